@@ -1,18 +1,18 @@
 -- Commands, one after the other, and the history that they make.
 use Rattle.std.proofs.Common.{◌≡◌, ◌≢◌, ◌∙◌, ◌⊎◌, Bool, true, false, true≢false, ℕ, List, [], ◌∷◌}
 use Rattle.std.proofs.Common.{◌++◌, Option, Result, Ok, Err, ap, inl, inr, refl, subst, sym}
+use Rattle.std.specs.Prelude.{IfOk}
 use Rattle.std.specs.Cmp.Lexicographic.{bytes_decides}
 use Rattle.std.specs.declared.alloc.AllocError.{AllocError}
 use Rattle.book_audit.specs.Copies.{IsCopied}
 use Rattle.book_model.specs.Records.{same_bytes}
 use Rattle.book_model.specs.declared.fault.LedgerFault.{LedgerFault}
-use Rattle.book_model.specs.Words.{Event, IsMadeByCalls, Naming, book_after, book_of}
+use Rattle.book_model.specs.Words.{Book, Event, IsMadeByCalls, Naming, book_after, book_of}
 use Rattle.book_model.proofs.StepLemmas.{books_follow_history}
 use Rattle.book_core.specs.Follow.{MakesAnswered}
 use Rattle.book_core.specs.Transition.{Transition, NoEvent}
 use Rattle.book_reports.specs.declared.fault.ReportFault.{ReportFault}
-use Rattle.book_reports.specs.BookTexts.{ruling_text}
-use Rattle.book_reports.specs.StreamedRulings.{WritesRulings, WritesSomeRulings}
+use Rattle.book_reports.specs.StreamedRulings.{WritesReport}
 use Rattle.book_reports.specs.Writing.{WritesPrefix}
 use Rattle.book_core.proofs.FollowLemmas.{none_answered}
 use Rattle.office.specs.declared.choosing.Chosen.{Chosen}
@@ -20,30 +20,38 @@ use Rattle.office.specs.declared.repository.RepositoryFault.{RepositoryFault}
 use Rattle.office.specs.declared.repository.RepositoryFault.TheVariants.{Unseen}
 use Rattle.office.specs.declared.request.Answer.{Answer}
 use Rattle.office.specs.declared.request.Asked.{Asked}
+use Rattle.office.specs.Outcomes.{is_hindered}
 use Rattle.office.specs.Requests.{Asks, response_by}
-use Rattle.office.specs.Shelves.{ComesBy, Shelf, HoldsMore, IsDoneTo, IsOpened, IsUntouched}
+use Rattle.office.specs.Shelves.{ComesBy, Shelf, HoldsMore, IsDoneTo, IsOpened, IsTried, IsUntouched}
 use Rattle.office.proofs.ChoiceLemmas.{choices_done}
 use Rattle.office.proofs.LawLemmas.{asks_done}
 use Rattle.command_line.specs.declared.request.BookRequest.{BookRequest}
 use Rattle.command_line.specs.declared.request.BookRequest.TheVariants as asks
 use Rattle.command_line.specs.declared.request.Request.{Request}
 use Rattle.command_line.specs.declared.request.Request.TheVariants as request
+use Rattle.command_line.specs.declared.request.Ruling.{Ruling}
 use Rattle.command_line.specs.declared.fault.ArgumentFault.{ArgumentFault}
+use Rattle.command_line.specs.Requests.{request_of}
 use Rattle.program_output.specs.declared.status.Status.{Status}
 use Rattle.chargectl.specs.declared.choices.ListAnswered.{ListAnswered}
 use Rattle.chargectl.specs.declared.command_fault.CommandFault.{CommandFault}
+use Rattle.chargectl.specs.declared.dated_rulings.DatedAnswer.{DatedAnswer}
 use Rattle.chargectl.specs.declared.ended.Answered.{Answered}
 use Rattle.chargectl.specs.declared.ended.Ended.{Ended}
+use Rattle.chargectl.specs.declared.streamed_lists.StreamedList.{StreamedList}
+use Rattle.chargectl.specs.declared.streamed_lists.StreamedList.TheVariants as list
 use Rattle.chargectl.specs.Choices.{ChoosesBy, ChoosesListed, ComesOfList, list_answered}
 use Rattle.chargectl.specs.Commands.{AsksAndTells, AsksOnceBy, ComesOf, once_answered}
 use Rattle.chargectl.specs.Audits.{AuditsBy}
 use Rattle.chargectl.specs.CommandLaws.{AreCommanded, AskedBy, AsksOfHistory, Commanded}
 use Rattle.chargectl.specs.CommandLaws.{ChoicesFollow, CommandsFollowHistory, DoesToHistory, Follows}
 use Rattle.chargectl.specs.CommandLaws.{IsListed, LeaveHistory, ListBy, ListOfHistory, ListsHistoryBy}
-use Rattle.chargectl.specs.CommandLaws.{OpenedSo, RunsOn}
-use Rattle.chargectl.specs.CommandLaws.{ServesOfHistory, place_after}
-use Rattle.chargectl.specs.Requests.{Does, DoesOrRefuses, ServesBy}
-use Rattle.chargectl.specs.RulingList.{ListsBy, listing_answered}
+use Rattle.chargectl.specs.CommandLaws.{ListsOfHistory, OpenedSo, RunsOn, ServesOfHistory}
+use Rattle.chargectl.specs.CommandLaws.{TriedBy, TriesOfHistory, place_after}
+use Rattle.chargectl.specs.DryRuns.{ComesOfDryRun, ShowsDry, TriesAndTells, TriesOnceBy}
+use Rattle.chargectl.specs.Requests.{Does, DoesOrRefuses, ServesBy, SettlesBy}
+use Rattle.chargectl.specs.StreamedLists.{ListsBy, WritesSomeOf, disputes_by, list_text}
+use Rattle.chargectl.specs.StreamedLists.{listing_answered}
 use Rattle.chargectl.specs.Sittings.{SomeSittings}
 use Rattle.chargectl.proofs.SittingLemmas.{sittings_answered}
 
@@ -157,23 +165,24 @@ module _ (naming : Naming) (history : List Event) (name : List ℕ) (old new : S
                 (books_follow_history history) once.made);
           }
 
-  -- the rulings were listed
-  listed_on : (book : List ℕ) (held_bytes holds : Option (List ℕ)) (told : Result (Unit {0}) ReportFault)
-      → IsDoneTo book (WritesRulings naming held_bytes holds told) old new
+  -- a list was written
+  listed_on : (text : Naming → Book → List ℕ) (book : List ℕ) (held_bytes holds : Option (List ℕ))
+      (told : Result (Unit {0}) ReportFault)
+      → IsDoneTo book (WritesReport text naming held_bytes holds told) old new
       → Step naming history name old new (λ made. (book ≡ name
-      → WritesPrefix (ruling_text naming (book_of history)) held_bytes holds told) × (made ≡ []))
-  listed_on book held_bytes holds told done = elim (one_or_apart book name) [
+      → WritesPrefix (text naming (book_of history)) held_bytes holds told) × (made ≡ []))
+  listed_on text book held_bytes holds told done = elim (one_or_apart book name) [
     | inl same ↦
-        let more = (subst (λ book. IsDoneTo book (WritesRulings naming held_bytes holds told) old new) same
+        let more = (subst (λ book. IsDoneTo book (WritesReport text naming held_bytes holds told) old new) same
         done).here history held in
         record {
           made = more.events;
           so = (
-            λ _. subst (λ book. WritesPrefix (ruling_text naming book) held_bytes holds told)
+            λ _. subst (λ book. WritesPrefix (text naming book) held_bytes holds told)
                 (books_follow_history history) more.made.written,
             more.made.none,
           );
-          answered = listing_answered naming held_bytes holds told history false more.events more.is
+          answered = listing_answered text naming held_bytes holds told history false more.events more.is
               more.made answered;
           held = more.now;
           named = done.naming;
@@ -307,6 +316,117 @@ module _ (history : List Event) (name : List ℕ) (old new : Shelf)
       step_as (λ made is. (λ _. is, λ _. is))
       (none_on old.naming history name old new answered held touched done)
 
+  -- a list was written, or why not
+  list_written : (list : StreamedList) (book : List ℕ) (has holds : Option (List ℕ)) (ended : Ended)
+      → SettlesBy (ListsBy list book old new has holds) ended
+      → Step old.naming history name old new
+      (Where book name (ListsOfHistory list old.naming history has holds ended))
+  list_written list book has holds ended does =
+      step_as (λ made so. (
+        λ same. record {
+          came = does.came;
+          lists = so.0 same;
+          ends = does.ends;
+          none = so.1;
+        },
+        λ _. so.1,
+      ))
+      (by_came does.came does.does)
+    where
+      by_told : (told : Result (Result (Unit {0}) ReportFault) RepositoryFault)
+          → IsOpened (WritesReport (list_text list) old.naming has holds) book old new told
+          → ComesBy (WritesSomeOf list has holds) (holds ≡ has) told
+          → Step old.naming history name old new
+          (λ made. (book ≡ name → IsListed list (list_text list old.naming (book_of history)) has holds told)
+          × (made ≡ []))
+      by_told (Ok written) done some =
+          listed_on old.naming history name old new answered held (list_text list) book has holds written done
+      by_told (Err Unseen) (inl seen) some =
+          step_as (λ made so. (λ _. some, so.1))
+          (listed_on old.naming history name old new answered held (list_text list) book has holds seen.0 seen.1)
+      by_told (Err Unseen) (inr none) some =
+          step_as (λ made is. (λ _. some, is))
+          (none_on old.naming history name old new answered held book none)
+      by_told (Err fault) none same =
+          step_as (λ made is. (λ _. same, is))
+          (none_on old.naming history name old new answered held book none)
+
+      by_came : (came : Result Ended CommandFault) → ListsBy list book old new has holds came
+          → Step old.naming history name old new
+          (λ made. (book ≡ name → ListsHistoryBy list old.naming history has holds came) × (made ≡ []))
+      by_came (Ok ended) it =
+          step_as (λ made so. (
+            λ same. record {
+              told = it.told;
+              flushed = it.flushed;
+              listed = so.0 same;
+              ends = it.ends;
+            },
+            so.1,
+          ))
+          (by_told it.told it.done it.some)
+      by_came (Err why) it =
+          step_as (λ made is. (λ _. (it.0, it.2), is))
+          (none_on old.naming history name old new answered held book it.1)
+
+  -- a ruling that was tried
+  tried_on : (book : List ℕ) (asked : Asked) (told : Result DatedAnswer RepositoryFault)
+      → IsTried (TriesOnceBy old.naming asked) book old new told
+      → Step old.naming history name old new (λ made. (book ≡ name
+      → IfOk told (λ dated. is_hindered (response_by dated.answer) ≡ false
+      → ShowsDry old.naming asked (book_of history) (response_by dated.answer) dated.notice))
+      × (made ≡ []))
+  tried_on book asked (Ok dated) tried =
+      step_as (λ made is. (λ same. follows same, is))
+      (none_on old.naming history name old new answered held book tried.0)
+    where
+      follows : book ≡ name → is_hindered (response_by dated.answer) ≡ false
+          → ShowsDry old.naming asked (book_of history) (response_by dated.answer) dated.notice
+      follows same free =
+          let found = tried.1 history (subst (λ name. old.holds name history) (sym same) held) in
+          subst (λ book. ShowsDry old.naming asked book (response_by dated.answer) dated.notice)
+          (books_follow_history history) (found.2.shows refl free)
+  tried_on book asked (Err fault) tried =
+      step_as (λ made is. (λ _. tt, is))
+      (none_on old.naming history name old new answered held book tried)
+
+  tries_on : (book : List ℕ) (ruling : Ruling) (has holds : Option (List ℕ)) (ended : Ended)
+      → TriesAndTells ruling book old new has holds ended
+      → Step old.naming history name old new
+      (Where book name (TriesOfHistory old.naming history ruling has holds ended))
+  tries_on book ruling has holds ended it =
+      step_as (λ made so. (
+        λ same. record {
+          came = it.answered;
+          tried = so.0 same;
+          tells = it.tells;
+          none = so.1;
+        },
+        λ _. so.1,
+      ))
+      (by_came it.answered it.comes)
+    where
+      by_came : (came : Result Answered CommandFault)
+          → ComesOfDryRun (request_of ruling) book old new came
+          → Step old.naming history name old new
+          (λ made. (book ≡ name → TriedBy old.naming history (request_of ruling) came) × (made ≡ []))
+      by_came (Ok answered) comes =
+          step_as (λ made so. (
+            λ same. record {
+              asked = comes.asked;
+              words = comes.words;
+              told = comes.came.told;
+              follows = so.0 same;
+              says = comes.came.says;
+              notice = comes.came.notice;
+            },
+            so.1,
+          ))
+          (tried_on book comes.asked comes.came.told comes.came.tried)
+      by_came (Err why) comes =
+          step_as (λ made is. (λ _. comes.0, is))
+          (none_on old.naming history name old new answered held book comes.1)
+
   does_on : (book : List ℕ) (request : BookRequest) (has holds : Option (List ℕ)) (ended : Ended)
       → Does request book old new has holds ended
       → Step old.naming history name old new
@@ -346,53 +466,11 @@ module _ (history : List Event) (name : List ℕ) (old new : Shelf)
           step_as (λ made is. (λ _. none_served old.naming history made is, λ _. is))
           (none_on old.naming history name old new answered held book it.1)
   does_on book asks.Rulings has holds ended does =
-      step_as (λ made so. (
-        λ same. record {
-          came = does.came;
-          lists = so.0 same;
-          ends = does.ends;
-          none = so.1;
-        },
-        λ _. so.1,
-      ))
-      (by_came does.came does.does)
-    where
-      by_told : (told : Result (Result (Unit {0}) ReportFault) RepositoryFault)
-          → IsOpened (WritesRulings old.naming has holds) book old new told
-          → ComesBy (WritesSomeRulings has holds) (holds ≡ has) told
-          → Step old.naming history name old new
-          (λ made. (book ≡ name → IsListed (ruling_text old.naming (book_of history)) has holds told)
-          × (made ≡ []))
-      by_told (Ok written) done some =
-          listed_on old.naming history name old new answered held book has holds written done
-      by_told (Err Unseen) (inl seen) some =
-          step_as (λ made so. (λ _. some, so.1))
-          (listed_on old.naming history name old new answered held book has holds seen.0 seen.1)
-      by_told (Err Unseen) (inr none) some =
-          step_as (λ made is. (λ _. some, is))
-          (none_on old.naming history name old new answered held book none)
-      by_told (Err fault) none same =
-          step_as (λ made is. (λ _. same, is))
-          (none_on old.naming history name old new answered held book none)
-
-      by_came : (came : Result Ended CommandFault) → ListsBy book old new has holds came
-          → Step old.naming history name old new
-          (λ made. (book ≡ name → ListsHistoryBy old.naming history has holds came) × (made ≡ []))
-      by_came (Ok ended) it =
-          step_as (λ made so. (
-            λ same. record {
-              told = it.told;
-              flushed = it.flushed;
-              listed = so.0 same;
-              ends = it.ends;
-            },
-            so.1,
-          ))
-          (by_told it.told it.done it.some)
-      by_came (Err why) it =
-          step_as (λ made is. (λ _. (it.0, it.2), is))
-          (none_on old.naming history name old new answered held book it.1)
+      list_written list.Rulings book has holds ended does
+  does_on book (asks.Disputes csv) has holds ended does =
+      list_written (disputes_by csv) book has holds ended does
   does_on book (asks.ChooseListed file) has holds ended does = list_on book has holds ended does
+  does_on book (asks.DryRun ruling) has holds ended does = tries_on book ruling has holds ended does
   does_on book request has holds ended does = asks_on book request has holds ended does
 
 -- the place of the books is as it was

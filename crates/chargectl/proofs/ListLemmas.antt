@@ -1,6 +1,6 @@
 -- Lists of names that a reader gives, choices by them, and the tariff of a text.
 use Rattle.std.proofs.Common.{◌≡◌, List, ℕ, Option, Result, Ok, Err, inl, inr, refl}
-use Rattle.std.proofs.Common.{subst, sym, take, true, true≢false}
+use Rattle.std.proofs.Common.{subst, sym, take, true≢false}
 use Rattle.std.specs.Prelude.{IfErr, IfOk, IsErr, IsErrAnd, OnErr}
 use Rattle.std.specs.declared.alloc.AllocError.{AllocError}
 use Rattle.std.specs.declared.io.ErrorKind.TheVariants.{OutOfMemory}

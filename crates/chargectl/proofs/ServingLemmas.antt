@@ -1,15 +1,13 @@
 -- How connections are served.
 use Rattle.std.proofs.Common.{◌≡◌, ◌∙◌, Bool, true, false, List, [], ◌∷◌, ◌++◌, ℕ, ◌+◌, refl, sym}
-use Rattle.std.proofs.Common.{subst, Option, Some, None, Result, Ok, Err}
-use Rattle.std.proofs.KnownBytes.{Appends-nil, Appends-trans}
+use Rattle.std.proofs.Common.{subst, Some, None, Result, Ok, Err}
 use Rattle.std.proofs.Common.{true≢false, length, add-zero, arith, Vec, ℤ, ◌<◌}
 use Rattle.std.specs.Prelude.{IsErr}
-use Rattle.std.specs.Io.KnownBytes.{Appends}
 use Rattle.std.specs.Global.{Global}
 use Rattle.std.specs.declared.io.Error.{Error}
 use Rattle.book_model.specs.declared.fault.LedgerFault.{LedgerFault}
 use Rattle.book_model.specs.Words.{Book, Event, Naming, periods_outcome}
-use Rattle.streams.specs.InputOutput.{Output}
+use Rattle.streams.specs.InputOutput.{Output, WriterSeen}
 use Rattle.book_core.specs.Calls.{Calls}
 use Rattle.book_core.specs.Ledgers.{Seen, Books}
 use Rattle.book_core.specs.Transition.{Transition, NoEvent, Then, IsTransition}
@@ -17,6 +15,8 @@ use Rattle.book_core.proofs.TransitionLemmas.{no_work, work_as, work_then}
 use Rattle.book_http.specs.declared.served.Served.{Served}
 use Rattle.book_http.specs.declared.served.Served.TheVariants as served
 use Rattle.book_http.specs.Served.{IsReplied, IsServed, is_unanswered}
+use Rattle.chargectl.specs.ServedLines.{Gains}
+use Rattle.chargectl.proofs.ServedLineLemmas.{gains_nil, gains_then}
 use Rattle.chargectl.specs.Serving.{ServesOne, Looks, Turn, GoesOn, MayTurn, SomeServed}
 use Rattle.chargectl.specs.Serving.{ServesEach, ServesUpTo, IsUnderway, IsSession, IsAccepted, IsNext}
 use Rattle.chargectl.specs.Serving.{IsTurn, IsServing, line_of, lines_of, may_have_failed, is_answered}
@@ -119,12 +119,12 @@ pub may_none : (old new : Seen) → IsTransition old new NoEvent → IsTransitio
 may_none old new work = work_as old new NoEvent (MayTurn old.naming)
     (λ was before events is made. record { what = None; made = made }) work
 
-pub next_failed : (old new : Seen) (held holds : Option (List ℕ)) (result : Result Served Error)
+pub next_failed : (old new : Seen) (held holds : WriterSeen) (result : Result Served Error)
     → IsErr result → IsTransition old new (MayTurn old.naming) → IsNext old new held holds result
 next_failed old new held holds (Ok what) bad work = absurd (true≢false (sym bad))
 next_failed old new held holds (Err error) bad work = work
 
-pub turn_failed : (old new : Seen) (held holds : Option (List ℕ)) (result : Result Bool Error)
+pub turn_failed : (old new : Seen) (held holds : WriterSeen) (result : Result Bool Error)
     → IsErr result → IsTransition old new (MayTurn old.naming) → IsTurn old new held holds result
 turn_failed old new held holds (Ok what) bad work = absurd (true≢false (sym bad))
 turn_failed old new held holds (Err error) bad work = work
@@ -155,9 +155,9 @@ turn_looked old between new what served look =
     work_then old between new (ServesOne old.naming what) Looks served look
 
 -- the turn, by what the look showed
-pub turn_by : (old new : Seen) (held holds : Option (List ℕ)) (what : Served) (must : Bool)
+pub turn_by : (old new : Seen) (held holds : WriterSeen) (what : Served) (must : Bool)
     → may_have_failed what ≡ true → IsTransition old new (Turn true old.naming what)
-    → Appends held holds (line_of what) → must ≡ new.must_reopen → IsTurn old new held holds (Ok must)
+    → Gains held holds (line_of what) → must ≡ new.must_reopen → IsTurn old new held holds (Ok must)
 turn_by old new held holds what true failed work line is = (what, work, line, sym is)
 turn_by old new held holds what false failed work line is = (
   what,
@@ -172,17 +172,17 @@ turn_by old new held holds what false failed work line is = (
 )
 
 -- nothing was served yet
-pub underway_none : (seen : Seen) (due : ℕ) (held : Option (List ℕ))
+pub underway_none : (seen : Seen) (due : ℕ) (held : WriterSeen)
     → IsUnderway seen seen due due held held
 underway_none seen due held = record {
   told = [];
   work = no_work seen;
   count = add-zero due;
-  lines = Appends-nil held;
+  lines = gains_nil held;
 }
 
 -- one more connection was served
-pub underway_more : (old between new : Seen) (due left less : ℕ) (held has holds : Option (List ℕ))
+pub underway_more : (old between new : Seen) (due left less : ℕ) (held has holds : WriterSeen)
     → IsUnderway old between due left held has
     → IsTurn between new has holds (Ok false)
     → less + 1 ≡ left → IsUnderway old new due less held holds
@@ -191,11 +191,11 @@ underway_more old between new due left less held has holds before turn one = rec
   work = then_named old between new (ServesEach old.naming before.told)
       (λ naming. GoesOn naming turn.0) before.work turn.1;
   count = let counted : left + length before.told ≡ due = before.count in omega arith;
-  lines = Appends-trans held has holds (lines_of before.told) (line_of turn.0) before.lines turn.2;
+  lines = gains_then held has holds (lines_of before.told) (line_of turn.0) before.lines turn.2;
 }
 
 -- no connection is left
-pub session_ended : (old new : Seen) (due left : ℕ) (held holds : Option (List ℕ))
+pub session_ended : (old new : Seen) (due left : ℕ) (held holds : WriterSeen)
     → IsUnderway old new due left held holds → left ≡ 0
     → IsSession false old new due left held holds
 session_ended old new due left held holds it none = record {
@@ -208,7 +208,7 @@ session_ended old new due left held holds it none = record {
 }
 
 -- the store of the books has failed
-pub session_failed : (old between new : Seen) (due left less : ℕ) (held has holds : Option (List ℕ))
+pub session_failed : (old between new : Seen) (due left less : ℕ) (held has holds : WriterSeen)
     → IsUnderway old between due left held has
     → IsTurn between new has holds (Ok true)
     → less + 1 ≡ left → IsSession true old new due less held holds
@@ -217,13 +217,13 @@ session_failed old between new due left less held has holds before turn one = re
   work = then_named old between new (ServesEach old.naming before.told)
       (λ naming. Turn true naming turn.0) before.work turn.1;
   count = let counted : left + length before.told ≡ due = before.count in omega arith;
-  lines = Appends-trans held has holds (lines_of before.told) (line_of turn.0) before.lines turn.2;
+  lines = gains_then held has holds (lines_of before.told) (line_of turn.0) before.lines turn.2;
   all = λ bad. absurd (true≢false bad);
   fails = λ _. turn.3;
 }
 
--- the listener or the output failed
-pub session_cut : (old between new : Seen) (due left : ℕ) (held has : Option (List ℕ))
+-- no connection came
+pub session_cut : (old between new : Seen) (due left : ℕ) (held has : WriterSeen)
     → IsUnderway old between due left held has
     → IsTransition between new (MayTurn between.naming)
     → IsTransition old new (SomeServed old.naming)
@@ -233,12 +233,12 @@ session_cut old between new due left held has before turn =
     (λ was stood events is made. record { told = before.told; made = made })
     (then_named old between new (ServesEach old.naming before.told) MayTurn before.work turn)
 
-turn_cut : (old new : Seen) (held holds : Option (List ℕ)) (result : Result Bool Error)
+turn_cut : (old new : Seen) (held holds : WriterSeen) (result : Result Bool Error)
     → IsErr result → IsTurn old new held holds result → IsTransition old new (MayTurn old.naming)
 turn_cut old new held holds (Ok what) bad turn = absurd (true≢false (sym bad))
 turn_cut old new held holds (Err error) bad turn = turn
 
-pub serving_failed : (old between new : Seen) (due left less : ℕ) (held has holds : Option (List ℕ))
+pub serving_failed : (old between new : Seen) (due left less : ℕ) (held has holds : WriterSeen)
     (turned : Result Bool Error) (result : Result Bool Error) → IsErr turned → IsErr result
     → IsUnderway old between due left held has → IsTurn between new has holds turned
     → IsServing old new due less held holds result
@@ -283,7 +283,7 @@ up_to old new failed told work =
     (up_to_some failed old.naming told) work
 
 -- what a session did, whatever it came to
-pub session_some : (old new : Seen) (due left : ℕ) (held holds : Option (List ℕ))
+pub session_some : (old new : Seen) (due left : ℕ) (held holds : WriterSeen)
     (result : Result Bool Error) → IsServing old new due left held holds result
     → IsTransition old new (SomeServed old.naming)
 session_some old new due left held holds (Err error) it = it
@@ -303,7 +303,7 @@ status_of served.ReadFault is = absurd (true≢false (sym is))
 status_of served.WriteFault is = absurd (true≢false (sym is))
 
 -- a session, by what is left
-pub session_one : (old new : Seen) (due left : ℕ) (held holds : Option (List ℕ)) (failed : Bool)
+pub session_one : (old new : Seen) (due left : ℕ) (held holds : WriterSeen) (failed : Bool)
     → IsServing old new due left held holds (Ok failed)
     → IsTransition old new (OneSession old.naming [] due left held holds)
 session_one old new due left held holds failed it =
@@ -318,39 +318,39 @@ session_one old new due left held holds failed it =
     })
     it.work
 
-pub says_one : (old new : Seen) (due left : ℕ) (held holds : Option (List ℕ)) (failed : Bool)
+pub says_one : (old new : Seen) (due left : ℕ) (held holds : WriterSeen) (failed : Bool)
     → IsServing old new due left held holds (Ok failed) → (0 < due → left < due)
     → SaysBy [] due held holds (Ok left)
 says_one old new due left held holds failed it fewer =
     (record { told = it.told; count = it.count; lines = it.lines }, fewer)
 
--- the listener or the output failed
-pub session_cut_by : (old new : Seen) (first : List ℕ) (due : ℕ) (held holds : Option (List ℕ))
+-- no connection came
+pub session_cut_by : (old new : Seen) (first : List ℕ) (due : ℕ) (held holds : WriterSeen)
     (told : Result ℕ Error) → IsErr told → IsTransition old new (SomeServed old.naming)
     → IsTransition old new (SessionBy old.naming first due held holds told)
 session_cut_by old new first due held holds (Ok left) bad work = absurd (true≢false (sym bad))
 session_cut_by old new first due held holds (Err error) bad work = work
 
-pub says_cut_by : (first : List ℕ) (due : ℕ) (held holds : Option (List ℕ)) (told : Result ℕ Error)
+pub says_cut_by : (first : List ℕ) (due : ℕ) (held holds : WriterSeen) (told : Result ℕ Error)
     → IsErr told → SaysBy first due held holds told
 says_cut_by first due held holds (Ok left) bad = absurd (true≢false (sym bad))
 says_cut_by first due held holds (Err error) bad = tt
 
 -- or the port was not taken
-pub taken_failed : (old new : Seen) (first : List ℕ) (due : ℕ) (held holds : Option (List ℕ))
+pub taken_failed : (old new : Seen) (first : List ℕ) (due : ℕ) (held holds : WriterSeen)
     (answer : Result Taken Error) → IsErr answer → IsTransition old new (SomeServed old.naming)
     → IsTransition old new (SessionBy old.naming first due held holds (left_by answer))
 taken_failed old new first due held holds (Ok taken) bad work = absurd (true≢false (sym bad))
 taken_failed old new first due held holds (Err error) bad work = work
 
-pub taken_cut : (first : List ℕ) (due : ℕ) (held holds : Option (List ℕ)) (answer : Result Taken Error)
+pub taken_cut : (first : List ℕ) (due : ℕ) (held holds : WriterSeen) (answer : Result Taken Error)
     → IsErr answer → SaysBy first due held holds (left_by answer)
 taken_cut first due held holds (Ok taken) bad = absurd (true≢false (sym bad))
 taken_cut first due held holds (Err error) bad = tt
 
 -- a session after what was written first
-pub session_after : (old new : Seen) (first : List ℕ) (due left : ℕ) (held has holds : Option (List ℕ))
-    → Appends held has first → IsTransition old new (OneSession old.naming [] due left has holds)
+pub session_after : (old new : Seen) (first : List ℕ) (due left : ℕ) (held has holds : WriterSeen)
+    → Gains held has first → IsTransition old new (OneSession old.naming [] due left has holds)
     → IsTransition old new (OneSession old.naming first due left held holds)
 session_after old new first due left held has holds said work =
     work_as old new (OneSession old.naming [] due left has holds)
@@ -360,18 +360,18 @@ session_after old new first due left held has holds said work =
       told = it.told;
       made = it.made;
       count = it.count;
-      lines = Appends-trans held has holds first (lines_of it.told) said it.lines;
+      lines = gains_then held has holds first (lines_of it.told) said it.lines;
     })
     work
 
-pub says_after : (first : List ℕ) (due left : ℕ) (held has holds : Option (List ℕ))
-    → Appends held has first → SaysBy [] due has holds (Ok left)
+pub says_after : (first : List ℕ) (due left : ℕ) (held has holds : WriterSeen)
+    → Gains held has first → SaysBy [] due has holds (Ok left)
     → SaysBy first due held holds (Ok left)
 says_after first due left held has holds said it = (
   record {
     told = it.0.told;
     count = it.0.count;
-    lines = Appends-trans held has holds first (lines_of it.0.told) said it.0.lines;
+    lines = gains_then held has holds first (lines_of it.0.told) said it.0.lines;
   },
   it.1,
 )

@@ -2,10 +2,9 @@
 use Rattle.std.proofs.Common.{◌≡◌, ◌∙◌, ◌+◌, ◌<◌, Bool, true, false, List, [], ◌∷◌, ◌++◌, ℕ, zero, suc, Option, None}
 use Rattle.std.proofs.Common.{inl, inr, Result, Ok, Err, append-nil, append_assoc, length, length-append, arith}
 use Rattle.std.proofs.Common.{ap, refl, sym, subst}
-use Rattle.std.proofs.KnownBytes.{Appends-trans}
+use Rattle.streams.specs.InputOutput.{WriterSeen}
 use Rattle.std.specs.Prelude.{IfOk}
 use Rattle.std.specs.declared.io.Error.{Error}
-use Rattle.std.specs.Io.KnownBytes.{Appends}
 use Rattle.book_model.specs.Words.{Book, Event, Naming}
 use Rattle.book_core.specs.Follow.{MakesAnswered}
 use Rattle.book_core.specs.Transition.{Transition, NoEvent, Then}
@@ -19,11 +18,13 @@ use Rattle.chargectl.proofs.ServingLemmas.{up_to_some}
 use Rattle.chargectl.specs.declared.command_fault.CommandFault.{CommandFault}
 use Rattle.chargectl.specs.declared.ended.Ended.{Ended}
 use Rattle.chargectl.specs.Requests.{ServesBy}
+use Rattle.chargectl.specs.ServedLines.{Gains, unfailed}
+use Rattle.chargectl.proofs.ServedLineLemmas.{gains_then}
 use Rattle.chargectl.specs.ServedEvents.{some_answered}
 use Rattle.chargectl.specs.Serving.{OneSession, Says, SaysBy, SessionBy, SomeServed}
 use Rattle.chargectl.specs.Serving.{line_of, lines_of, ready}
-use Rattle.chargectl.specs.Sittings.{IsLeftBy, OneSitting, ServesSoFar, SitSome}
-use Rattle.chargectl.specs.Sittings.{SomeSittings, all_served, away, served_in, session}
+use Rattle.chargectl.specs.Sittings.{IsLeftBy, OneSitting, SatSoFar, ServesAll, ServesSoFar, SitSome}
+use Rattle.chargectl.specs.Sittings.{SomeSittings, all_served, away, served_in, service_end, session}
 
 -- the lines of some connections after those of others
 lines_join : (next before : List Served)
@@ -33,14 +34,14 @@ lines_join (what ∷ next) before =
     ap (λ lines. lines ++ line_of what) (lines_join next before)
     ∙ append_assoc (lines_of before) (lines_of next) (line_of what)
 
-lines_then : (first : List ℕ) (next before : List Served) (held has holds : Option (List ℕ))
-    → Appends held has (first ++ lines_of before) → Appends has holds (lines_of next)
-    → Appends held holds (first ++ lines_of (next ++ before))
+lines_then : (first : List ℕ) (next before : List Served) (held has holds : WriterSeen)
+    → Gains held has (first ++ lines_of before) → Gains has holds (lines_of next)
+    → Gains held holds (first ++ lines_of (next ++ before))
 lines_then first next before held has holds early late =
-    subst (λ lines. Appends held holds lines)
+    subst (λ lines. Gains held holds lines)
     (append_assoc first (lines_of before) (lines_of next)
     ∙ ap (λ lines. first ++ lines) (sym (lines_join next before)))
-    (Appends-trans held has holds (first ++ lines_of before) (lines_of next) early late)
+    (gains_then held has holds (first ++ lines_of before) (lines_of next) early late)
 
 count_then : (next before : List Served) (due left less : ℕ) → left + length before ≡ due
     → less + length next ≡ left → less + length (next ++ before) ≡ due
@@ -50,7 +51,7 @@ count_then next before due left less early late =
     let two : less + length next ≡ left = late in
     omega arith
 
-pub says_more : (first : List ℕ) (due left less : ℕ) (held has holds : Option (List ℕ))
+pub says_more : (first : List ℕ) (due left less : ℕ) (held has holds : WriterSeen)
     → Says first due left held has → Says [] left less has holds → Says first due less held holds
 says_more first due left less held has holds before next = record {
   told = next.told ++ before.told;
@@ -59,7 +60,7 @@ says_more first due left less held has holds before next = record {
 }
 
 -- the first session
-pub so_far_first : (book : List ℕ) (old new : Shelf) (due left : ℕ) (held holds : Option (List ℕ))
+pub so_far_first : (book : List ℕ) (old new : Shelf) (due left : ℕ) (held holds : WriterSeen)
     → IsDoneTo book (OneSession old.naming ready due left held holds) old new
     → IsDoneTo book (ServesSoFar old.naming due left held holds) old new
 so_far_first book old new due left held holds done =
@@ -76,14 +77,14 @@ so_far_first book old new due left held holds done =
         all = sym (append-nil events);
       };
       count = subst (λ told. left + length told ≡ due) (sym (append-nil it.told)) it.count;
-      lines = subst (λ told. Appends held holds (ready ++ lines_of told)) (sym (append-nil it.told))
+      lines = subst (λ told. Gains held holds (ready ++ lines_of told)) (sym (append-nil it.told))
           it.lines;
     })
     done
 
 -- one more sitting
 pub so_far_more : (book : List ℕ) (one two three : Shelf) (due left less : ℕ)
-    (held has holds : Option (List ℕ))
+    (held has holds : WriterSeen)
     → IsDoneTo book (ServesSoFar one.naming due left held has) one two
     → IsDoneTo book (OneSitting two.naming left less has holds) two three
     → IsDoneTo book (ServesSoFar one.naming due less held holds) one three
@@ -111,7 +112,7 @@ so_far_more book one two three due left less held has holds before sitting =
 
 -- a session is a sitting
 session_sits : (book : List ℕ) (naming : Naming) (old new : Shelf) (due left : ℕ)
-    (held holds : Option (List ℕ)) → IsDoneTo book (OneSession naming [] due left held holds) old new
+    (held holds : WriterSeen) → IsDoneTo book (OneSession naming [] due left held holds) old new
     → IsDoneTo book (OneSitting naming due left held holds) old new
 session_sits book naming old new due left held holds done =
     done_as book (OneSession naming [] due left held holds) (OneSitting naming due left held holds) old
@@ -126,7 +127,7 @@ session_sits book naming old new due left held holds done =
 
 -- so is a connection that was answered while the books could not be opened
 away_sits : (book : List ℕ) (naming : Naming) (old new : Shelf) (due left : ℕ)
-    (held holds : Option (List ℕ)) (what : Served) → Appends held holds (line_of what)
+    (held holds : WriterSeen) (what : Served) → Gains held holds (line_of what)
     → left + 1 ≡ due → IsUntouched book old new
     → IsDoneTo book (OneSitting naming due left held holds) old new
 away_sits book naming old new due left held holds what line one done =
@@ -134,7 +135,7 @@ away_sits book naming old new due left held holds what line one done =
     (λ before events is none. record { sitting = away what; made = none; count = one; lines = line })
     done
 
-module _ (book : List ℕ) (old new : Shelf) (due : ℕ) (held has holds : Option (List ℕ))
+module _ (book : List ℕ) (old new : Shelf) (due : ℕ) (held has holds : WriterSeen)
     (Same : Type 0) (same : Same → has ≡ held) where
   sits_by : (answer : Result (Result ℕ Error) RepositoryFault) (left : ℕ)
       → IsOpened (λ told. SessionBy old.naming [] due held has told) book old new answer
@@ -149,7 +150,7 @@ module _ (book : List ℕ) (old new : Shelf) (due : ℕ) (held has holds : Optio
   sits_by (Err Unseen) left opened came never = absurd never
   sits_by (Err fault) left opened came is =
       away_sits book old.naming old new due left held holds is.0
-      (subst (λ held. Appends held holds (line_of is.0)) (same came) is.1) is.2 opened
+      (subst (λ held. Gains held holds (line_of is.0)) (same came) is.1) is.2 opened
 
   says_by : (answer : Result (Result ℕ Error) RepositoryFault) (left : ℕ)
       → ComesBy (λ told. SaysBy [] due held has told) Same answer
@@ -162,7 +163,7 @@ module _ (book : List ℕ) (old new : Shelf) (due : ℕ) (held has holds : Optio
   says_by (Err fault) left came is = record {
     told = is.0 ∷ [];
     count = is.2;
-    lines = subst (λ held. Appends held holds (line_of is.0)) (same came) is.1;
+    lines = subst (λ held. Gains held holds (line_of is.0)) (same came) is.1;
   }
 
   fewer_by : (answer : Result (Result ℕ Error) RepositoryFault) (left : ℕ)
@@ -223,7 +224,7 @@ none_served naming was before events is none = record {
 }
 
 -- a session is some connections
-session_some : (naming : Naming) (first : List ℕ) (due : ℕ) (held holds : Option (List ℕ))
+session_some : (naming : Naming) (first : List ℕ) (due : ℕ) (held holds : WriterSeen)
     (told : Result ℕ Error) (was : Bool) (before : Book) (events : List Event) (is : Bool)
     → SessionBy naming first due held holds told was before events is
     → SomeServed naming was before events is
@@ -233,7 +234,7 @@ session_some naming first due held holds (Err error) was before events is it = i
 
 -- whatever came of opening the books, some connections were answered
 pub opened_some : {A : Type 0} (by : A → Result ℕ Error) (book first : List ℕ) (due : ℕ)
-    (held holds : Option (List ℕ)) (old new : Shelf) (answer : Result A RepositoryFault)
+    (held holds : WriterSeen) (old new : Shelf) (answer : Result A RepositoryFault)
     → IsOpened (λ told. SessionBy old.naming first due held holds (by told)) book old new answer
     → IsDoneTo book (SomeServed old.naming) old new
 opened_some by book first due held holds old new (Ok told) done =
@@ -308,9 +309,45 @@ sittings_answered naming history was events is it answered =
 -- a service that ended with a fault
 pub serves_cut : (book : List ℕ) (old new : Shelf) (requests : ℕ) (held holds : Option (List ℕ))
     (ended : Ended) (fault : CommandFault) (has_log : Bool)
-    → ended ≡ record { came = Err fault; has_log = has_log; is_change = true }
+    → ended ≡ record { came = Err fault; has_log = has_log; is_change = true; notice = None }
     → IsDoneTo book (SomeSittings old.naming) old new → new.has_log book has_log
     → ServesBy requests book old new held holds (Ok ended)
 serves_cut book old new requests held holds ended fault has_log is some log =
     subst (λ ended. ServesBy requests book old new held holds (Ok ended)) (sym is)
-    (record { some = some; all = tt; log = log; change = refl })
+    (record {
+      served = Err fault;
+      some = some;
+      all = tt;
+      ends = refl;
+      log = log;
+      change = refl;
+      notice = refl;
+    })
+
+-- a service of all connections, whose lines were written, or lost from one on
+pub serves_all : (book : List ℕ) (old new : Shelf) (requests left : ℕ) (held holds : Option (List ℕ))
+    (lines : WriterSeen) (failed : Bool) (ended : Ended) (has_log : Bool)
+    → SatSoFar requests left book old new (unfailed held) lines has_log → left ≡ 0
+    → holds ≡ lines.holds → failed ≡ lines.has_failed
+    → ended ≡ record {
+      came = service_end (Ok failed);
+      has_log = has_log;
+      is_change = true;
+      notice = None;
+    }
+    → ServesBy requests book old new held holds (Ok ended)
+serves_all book old new requests left held holds lines failed ended has_log sat none bytes flag is =
+    subst (λ ended. ServesBy requests book old new held holds (Ok ended)) (sym is)
+    (record {
+      served = Ok failed;
+      some = sat.some;
+      all = subst (λ failed. ServesAll requests 0 book old new (unfailed held)
+          (record { holds = holds; has_failed = failed })) (sym flag)
+          (subst (λ holds. ServesAll requests 0 book old new (unfailed held)
+          (record { holds = holds; has_failed = lines.has_failed })) (sym bytes)
+          (subst (λ left. ServesAll requests left book old new (unfailed held) lines) none sat.served));
+      ends = refl;
+      log = sat.log;
+      change = refl;
+      notice = refl;
+    })

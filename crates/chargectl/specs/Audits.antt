@@ -1,5 +1,5 @@
 -- How an audit ends, of books or of a copy of them.
-use Rattle.std.specs.Prelude.{◌≡◌, ◌⊎◌, Bool, false, ℕ, List, OnOk, Option, Result, Ok, Err}
+use Rattle.std.specs.Prelude.{◌≡◌, ◌⊎◌, Bool, false, ℕ, List, OnOk, Option, None, Result, Ok, Err}
 use Rattle.std.specs.Io.KnownBytes.{Appends}
 use Rattle.book_model.specs.declared.fault.LedgerFault.TheVariants as ledger
 use Rattle.book_audit.specs.declared.audited.Audited.{Audited}
@@ -29,6 +29,7 @@ pub record Audits (IsDone : Result Audited RepositoryFault → Type 0) (HasLog :
   pub ends : EndsAudit audited held holds ended.came
   pub log : HasLog ended.has_log
   pub change : ended.is_change ≡ false
+  pub notice : ended.notice ≡ None
 
 -- or there was nothing of that name
 abbrev pub AuditsBy : (Result Audited RepositoryFault → Type 0) → (Bool → Type 0) → Type 0

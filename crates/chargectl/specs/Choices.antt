@@ -111,6 +111,7 @@ pub record TellsListAnswered (answered : ListAnswered) (held holds : Option (Lis
   pub told : TellsChoices answered.chosen held holds ended.came
   pub log : ended.has_log ≡ answered.has_log
   pub change : ended.is_change ≡ true
+  pub notice : ended.notice ≡ None
 
 -- and where nothing was chosen
 abbrev pub TellsList : Result ListAnswered CommandFault → Option (List ℕ) → Option (List ℕ) → Ended

@@ -1,15 +1,13 @@
 -- Commands, one after the other, on books that are kept by their names: each tells what the definitions
 -- give for the whole history before it.
 use Rattle.std.specs.Prelude.{◌≡◌, ◌≢◌, Bool, false, ℕ, List, [], ◌∷◌, ◌++◌, Option}
-use Rattle.std.specs.Prelude.{Result, Ok, Err}
+use Rattle.std.specs.Prelude.{IfOk, Result, Ok, Err}
 use Rattle.std.specs.declared.alloc.AllocError.{AllocError}
 use Rattle.streams.specs.InputOutput.{Input}
 use Rattle.tariff_rules.specs.Limits.{most_rate}
 use Rattle.book_model.specs.declared.fault.LedgerFault.{LedgerFault}
 use Rattle.book_model.specs.Words.{Event, IsMadeByCalls, Naming, book_after, book_of}
 use Rattle.book_reports.specs.declared.fault.ReportFault.{ReportFault}
-use Rattle.book_reports.specs.BookTexts.{ruling_text}
-use Rattle.book_reports.specs.StreamedRulings.{WritesSomeRulings}
 use Rattle.book_reports.specs.Writing.{WritesPrefix}
 use Rattle.office.specs.declared.choosing.Chosen.{Chosen}
 use Rattle.office.specs.declared.repository.RepositoryFault.{RepositoryFault}
@@ -23,20 +21,26 @@ use Rattle.command_line.specs.declared.request.BookRequest.{BookRequest}
 use Rattle.command_line.specs.declared.request.BookRequest.TheVariants as book
 use Rattle.command_line.specs.declared.request.Request.{Request}
 use Rattle.command_line.specs.declared.request.Request.TheVariants as request
+use Rattle.command_line.specs.declared.request.Ruling.{Ruling}
 use Rattle.command_line.specs.declared.fault.ArgumentFault.{ArgumentFault}
 use Rattle.command_line.specs.Known.{AreReadAs}
+use Rattle.command_line.specs.Requests.{request_of}
 use Rattle.program_output.specs.declared.status.Status.{Status}
 use Rattle.program_output.specs.Messages.{program_name}
 use Rattle.chargectl.specs.declared.choices.ListAnswered.{ListAnswered}
 use Rattle.chargectl.specs.declared.command_fault.CommandFault.{CommandFault}
+use Rattle.chargectl.specs.declared.dated_rulings.DatedAnswer.{DatedAnswer}
 use Rattle.chargectl.specs.declared.ended.Answered.{Answered}
 use Rattle.chargectl.specs.declared.ended.Ended.{Ended}
+use Rattle.chargectl.specs.declared.streamed_lists.StreamedList.{StreamedList}
+use Rattle.chargectl.specs.declared.streamed_lists.StreamedList.TheVariants as list
 use Rattle.chargectl.specs.Choices.{AreListed, ChoosesNothing, TellsList, chosen_of}
 use Rattle.chargectl.specs.Commands.{AsksNothing, IsAskedBy, IsShelfFault, Tells, answer_of}
-use Rattle.chargectl.specs.Commands.{first_fault}
+use Rattle.chargectl.specs.Commands.{answer_told, first_fault, notice_of}
+use Rattle.chargectl.specs.DryRuns.{ShowsDry}
 use Rattle.chargectl.specs.Faults.{settled_as, status_by}
 use Rattle.chargectl.specs.Requests.{CommandsBy}
-use Rattle.chargectl.specs.RulingList.{list_end}
+use Rattle.chargectl.specs.StreamedLists.{WritesSomeOf, disputes_by, list_end, list_text}
 use Rattle.chargectl.specs.Sittings.{SomeSittings}
 
 -- a command: its words, its input, its output and standard error before and after it, its status, and
@@ -106,6 +110,31 @@ pub record AsksOfHistory (naming : Naming) (history : List Event) (request : Boo
   pub asked : AskedBy naming history request came made
   pub tells : Tells came held holds ended
 
+-- What the words ask was tried on the books of a history, and so it was told and noticed: unless a lack of
+-- memory or the store hindered it, that is what the definitions say of the history.
+pub record TriedOn (naming : Naming) (history : List Event) (request : BookRequest) (answered : Answered)
+    : Type 0 where
+  pub asked : Asked
+  pub words : IsAskedBy request asked
+  pub told : Result DatedAnswer RepositoryFault
+  pub follows : IfOk told (λ dated. is_hindered (response_by dated.answer) ≡ false
+      → ShowsDry naming asked (book_of history) (response_by dated.answer) dated.notice)
+  pub says : answered.answer ≡ answer_of (answer_told told)
+  pub notice : answered.notice ≡ notice_of told
+
+-- or nothing was tried
+abbrev pub TriedBy : Naming → List Event → BookRequest → Result Answered CommandFault → Type 0
+TriedBy naming history request (Ok answered) = TriedOn naming history request answered
+TriedBy naming history request (Err why) = AsksNothing request why
+
+-- that was written, and no event was made
+pub record TriesOfHistory (naming : Naming) (history : List Event) (ruling : Ruling)
+    (held holds : Option (List ℕ)) (ended : Ended) (made : List Event) : Type 0 where
+  pub came : Result Answered CommandFault
+  pub tried : TriedBy naming history (request_of ruling) came
+  pub tells : Tells came held holds ended
+  pub none : made ≡ []
+
 -- After a history the records of these names were chosen, one after the other, which made these events.
 -- Unless a lack of memory or the store hindered one, that is what the definitions say of the history,
 -- looked at as a whole; without memory for the answers none was chosen.
@@ -146,32 +175,33 @@ pub record ServesOfHistory (naming : Naming) (history made : List Event) : Type 
   pub made_so : SomeSittings naming false (book_after history) made is
 
 -- This text was written, whole or up to a fault. Where the books were not opened none was; where it was
--- not seen that their closed files hold them, it may be the list of other rulings.
-abbrev pub IsListed : List ℕ → Option (List ℕ) → Option (List ℕ)
+-- not seen that their closed files hold them, it may be the list of other books.
+abbrev pub IsListed : StreamedList → List ℕ → Option (List ℕ) → Option (List ℕ)
     → Result (Result (Unit {0}) ReportFault) RepositoryFault → Type 0
-IsListed text held holds (Ok written) = WritesPrefix text held holds written
-IsListed text held holds (Err fault) =
-    WhereUnopened ((written : _) × WritesSomeRulings held holds written) (holds ≡ held) fault
+IsListed list text held holds (Ok written) = WritesPrefix text held holds written
+IsListed list text held holds (Err fault) =
+    WhereUnopened ((written : _) × WritesSomeOf list held holds written) (holds ≡ held) fault
 
--- The list of the rulings of a history was written while the books were open.
-pub record ListsHistory (naming : Naming) (history : List Event) (held holds : Option (List ℕ))
+-- A list of the books of a history was written while they were open.
+pub record ListsHistory (list : StreamedList) (naming : Naming) (history : List Event) (held holds : Option (List ℕ))
     (ended : Ended) : Type 0 where
   pub told : Result (Result (Unit {0}) ReportFault) RepositoryFault
   pub flushed : Result (Unit {0}) CommandFault
-  pub listed : IsListed (ruling_text naming (book_of history)) held holds told
+  pub listed : IsListed list (list_text list naming (book_of history)) held holds told
   pub ends : ended.came ≡ first_fault (list_end told) flushed
 
 -- or there was nothing of that name
-abbrev pub ListsHistoryBy : Naming → List Event → Option (List ℕ) → Option (List ℕ)
+abbrev pub ListsHistoryBy : StreamedList → Naming → List Event → Option (List ℕ) → Option (List ℕ)
     → Result Ended CommandFault → Type 0
-ListsHistoryBy naming history held holds (Ok ended) = ListsHistory naming history held holds ended
-ListsHistoryBy naming history held holds (Err why) = IsShelfFault why × (holds ≡ held)
+ListsHistoryBy list naming history held holds (Ok ended) =
+    ListsHistory list naming history held holds ended
+ListsHistoryBy list naming history held holds (Err why) = IsShelfFault why × (holds ≡ held)
 
 -- and no event was made
-pub record ListsOfHistory (naming : Naming) (history : List Event) (held holds : Option (List ℕ))
+pub record ListsOfHistory (list : StreamedList) (naming : Naming) (history : List Event) (held holds : Option (List ℕ))
     (ended : Ended) (made : List Event) : Type 0 where
   pub came : Result Ended CommandFault
-  pub lists : ListsHistoryBy naming history held holds came
+  pub lists : ListsHistoryBy list naming history held holds came
   pub ends : ended ≡ settled_as came
   pub none : made ≡ []
 
@@ -184,9 +214,13 @@ DoesToHistory naming history (book.BackUp copy quiet) held holds ended made = ma
 DoesToHistory naming history (book.Serve port requests) held holds ended made =
     ServesOfHistory naming history made
 DoesToHistory naming history book.Rulings held holds ended made =
-    ListsOfHistory naming history held holds ended made
+    ListsOfHistory list.Rulings naming history held holds ended made
+DoesToHistory naming history (book.Disputes csv) held holds ended made =
+    ListsOfHistory (disputes_by csv) naming history held holds ended made
 DoesToHistory naming history (book.ChooseListed file) held holds ended made =
     ListOfHistory naming history held holds ended made
+DoesToHistory naming history (book.DryRun ruling) held holds ended made =
+    TriesOfHistory naming history ruling held holds ended made
 DoesToHistory naming history asked held holds ended made =
     AsksOfHistory naming history asked held holds ended made
 

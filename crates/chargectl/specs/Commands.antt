@@ -1,6 +1,6 @@
 -- What each command on books asks of the office, what is written, and how it ends.
 use Rattle.std.specs.Prelude.{◌≡◌, ◌⊎◌, ⊤, Bool, true, false, ℕ, List, Option, Some, None, Result, Ok, Err}
-use Rattle.std.specs.Prelude.{take, if◌then◌else◌}
+use Rattle.std.specs.Prelude.{take}
 use Rattle.std.specs.Borrow.{Bor}
 use Rattle.std.specs.Option.{option_map}
 use Rattle.std.specs.Io.KnownBytes.{Appends}
@@ -12,7 +12,6 @@ use Rattle.book_core.specs.Follow.{MakesAnswered}
 use Rattle.book_core.specs.Transition.{Transition}
 use Rattle.book_reports.specs.declared.report.PeriodReport.{PeriodReport}
 use Rattle.book_reports.specs.declared.report.Report.{Report}
-use Rattle.book_reports.specs.declared.report.Report.TheVariants.{DisputeList, DisputeTable}
 use Rattle.book_reports.specs.declared.report.Report.TheVariants.{OfCentre, PeriodList, TariffText}
 use Rattle.book_reports.specs.declared.what_if.StatementForm.{StatementForm}
 use Rattle.book_reports.specs.declared.what_if.WhatIf.{WhatIf}
@@ -31,10 +30,14 @@ use Rattle.command_line.specs.declared.request.BookRequest.TheVariants as book
 use Rattle.program_output.specs.Names.{name_in}
 use Rattle.chargectl.specs.declared.command_fault.CommandFault.{CommandFault}
 use Rattle.chargectl.specs.declared.command_fault.CommandFault.TheVariants as fault
+use Rattle.chargectl.specs.declared.dated_rulings.DatedAnswer.{DatedAnswer}
 use Rattle.chargectl.specs.declared.ended.Answered.{Answered}
 use Rattle.chargectl.specs.declared.ended.Ended.{Ended}
+use Rattle.chargectl.specs.declared.notice.Notice.{Notice}
+use Rattle.chargectl.specs.Far.{far_notice}
 pub use Rattle.chargectl.specs.Faults.{IsFileFault, IsTextFault}
 use Rattle.chargectl.specs.Faults.{end_of, shelf_fault, without_log}
+use Rattle.chargectl.specs.FirstBytes.{IsLookedAt, layout_notice}
 
 -- what a period has of the whole office, or of the centre that is named, if that is a name
 abbrev pub period_report : PeriodReport → ℕ → Option (Bor (List ℕ)) → Option Report
@@ -52,10 +55,6 @@ what_if_of form period None = Some (what_if_for form period None)
 what_if_of form period (Some centre) =
     option_map (λ named. what_if_for form period (Some named)) (centre_named centre.now)
 
--- the disputes, as a list or as a table
-abbrev pub dispute_report : Bool → Report
-dispute_report csv = if csv then DisputeTable else DisputeList
-
 -- The table: what a command asks of the office. The text of a tariff is what its file gave.
 abbrev pub IsAskedBy : BookRequest → Asked → Type 0
 IsAskedBy (book.Tariff file) (asks.Tariff text) = ⊤
@@ -68,7 +67,6 @@ IsAskedBy (book.OfPeriod report period centre) (asks.Report printed) =
     period_report report period centre ≡ Some printed
 IsAskedBy (book.WhatIf form period centre file) (asks.WhatIf report text) =
     what_if_of form period centre ≡ Some report
-IsAskedBy (book.Disputes csv) (asks.Report printed) = printed ≡ dispute_report csv
 IsAskedBy (book.TariffText date) (asks.Report printed) =
     option_map TariffText (day_of_text_of date.now) ≡ Some printed
 IsAskedBy book.Periods (asks.Report printed) = printed ≡ PeriodList
@@ -97,6 +95,36 @@ once_answered naming asked told history was events is once =
 -- what a visit to the books did that asked this once, by its answer
 abbrev pub AsksOnceBy : Naming → Asked → Result Answer LedgerFault → Transition
 AsksOnceBy naming asked told = AsksOnce naming asked (response_by told)
+
+-- The office was asked for a ruling once, and answered this; and this was noticed of its day, by the book
+-- before it.
+pub record AsksDated (naming : Naming) (asked : Asked) (told : Result Response LedgerFault)
+    (noticed : Option Notice) (was : Bool) (before : Book) (events : List Event) (is : Bool) : Type 0
+  where
+    pub once : AsksOnce naming asked told was before events is
+    pub notice : noticed ≡ far_notice asked before told
+
+-- what a visit to the books did that asked for it, by what came of it
+abbrev pub AsksDatedBy : Naming → Asked → DatedAnswer → Transition
+AsksDatedBy naming asked dated =
+    AsksDated naming asked (response_by dated.answer) dated.notice
+
+-- it makes events that the books answered
+pub dated_answered : (naming : Naming) (asked : Asked) (dated : DatedAnswer)
+    → MakesAnswered naming (AsksDatedBy naming asked dated)
+dated_answered naming asked dated history was events is made =
+    once_answered naming asked (response_by dated.answer) history was events is made.once
+
+-- the answer to a ruling of a day
+abbrev pub answer_told : Result DatedAnswer RepositoryFault
+    → Result (Result Answer LedgerFault) RepositoryFault
+answer_told (Ok dated) = Ok dated.answer
+answer_told (Err shelf) = Err shelf
+
+-- what was noticed of it: nothing, where the books were not opened
+abbrev pub notice_of : Result DatedAnswer RepositoryFault → Option Notice
+notice_of (Ok dated) = dated.notice
+notice_of (Err shelf) = None
 
 -- what came of a request: its answer, its refusal, or why the books were not opened
 abbrev pub answer_of : Result (Result Answer LedgerFault) RepositoryFault → Result Answer CommandFault
@@ -139,12 +167,37 @@ AsksNothing (book.WhatIf form period centre file) why =
 AsksNothing (book.TariffText date) why = IsWordFault (day_of_text_of date.now) IsShelfFault why
 AsksNothing request why = IsShelfFault why
 
+-- what an import notices of a dump that looked misread or not
+abbrev pub answer_notice : Bool → Result Answer CommandFault → Option Notice
+answer_notice looked (Ok (answers.Receipt receipt)) = layout_notice looked receipt.stop
+answer_notice looked told = None
+
+-- The books of a name were opened and the office was asked for a ruling of a day, and this was answered
+-- and noticed.
+pub record IsDated (asked : Asked) (book : List ℕ) (old new : Shelf) (answered : Answered) : Type 0
+  where
+    pub told : Result DatedAnswer RepositoryFault
+    pub done : IsOpened (AsksDatedBy old.naming asked) book old new told
+    pub says : answered.answer ≡ answer_of (answer_told told)
+    pub notice : answered.notice ≡ notice_of told
+
+-- What a command noticed beside its answer: of a tariff and a close whether the day is far, of an import
+-- the layout, of others nothing. No contract says what the file of a dump holds.
+abbrev pub IsNoticedBy : BookRequest → Asked → List ℕ → Shelf → Shelf → Answered → Type 0
+IsNoticedBy (book.Tariff file) asked name old new answered = IsDated asked name old new answered
+IsNoticedBy (book.Close period date) asked name old new answered =
+    IsDated asked name old new answered
+IsNoticedBy (book.Import dump) asked name old new answered = (looked : Bool)
+    × IsLookedAt dump.layout None looked × (answered.notice ≡ answer_notice looked answered.answer)
+IsNoticedBy request asked name old new answered = answered.notice ≡ None
+
 -- a command asked what its words ask
 pub record Asking (request : BookRequest) (book : List ℕ) (old new : Shelf) (answered : Answered)
     : Type 0 where
   pub asked : Asked
   pub words : IsAskedBy request asked
   pub came : IsAnswered asked book old new answered
+  pub notice : IsNoticedBy request asked book old new answered
 
 -- What came of a command: the office was asked just what its words ask, once; or nothing was asked.
 abbrev pub ComesOf : BookRequest → List ℕ → Shelf → Shelf → Result Answered CommandFault → Type 0
@@ -175,12 +228,13 @@ IsTold (Ok answer) held holds came = (written : Result (Unit {0}) CommandFault)
     × IsPrinted (answer_text (response_of answer)) held holds written × (came ≡ ends_by answer written)
 IsTold (Err fault) held holds came = (holds ≡ held) × (came ≡ Err fault)
 
--- with what the books left, and whether they may have changed
+-- with what the books left, whether they may have changed, and what was noticed
 pub record TellsAnswered (answered : Answered) (held holds : Option (List ℕ)) (ended : Ended) : Type 0
   where
     pub told : IsTold answered.answer held holds ended.came
     pub log : ended.has_log ≡ answered.has_log
     pub change : ended.is_change ≡ answered.is_change
+    pub notice : ended.notice ≡ answered.notice
 
 -- and where nothing was asked
 abbrev pub Tells : Result Answered CommandFault → Option (List ℕ) → Option (List ℕ) → Ended → Type 0

@@ -1,6 +1,7 @@
--- Why a command did not do what it was asked, and the exit status and the lines on standard error
--- that say so.
-use Rattle.std.specs.Prelude.{◌≡◌, ◌⊎◌, if◌then◌else◌, false, ℕ, List, [], ◌∷◌, ◌++◌, codes, Result, Ok, Err}
+-- Why a command did not do what it was asked, what it noticed beside that, and the exit status and the
+-- lines on standard error that say so.
+use Rattle.std.specs.Prelude.{◌≡◌, ◌⊎◌, if◌then◌else◌, false, ℕ, List, [], ◌∷◌, ◌++◌, codes}
+use Rattle.std.specs.Prelude.{Option, Some, None, Result, Ok, Err}
 use Rattle.std.specs.declared.io.ErrorKind.{ErrorKind}
 use Rattle.std.specs.declared.io.ErrorKind.TheVariants.{OutOfMemory}
 use Rattle.tariff_rules.specs.declared.fault.TariffFault.{TariffFault}
@@ -15,13 +16,15 @@ use Rattle.program_output.specs.declared.names.NamesFault.{NamesFault}
 use Rattle.program_output.specs.declared.names.NamesFault.TheVariants as names
 use Rattle.program_output.specs.declared.status.Status.{Status}
 use Rattle.program_output.specs.declared.status.Status.TheVariants as status
-use Rattle.program_output.specs.Messages.{busy_line, io_line, ledger_line, ledger_message, line_at}
-use Rattle.program_output.specs.Messages.{line_of, log_line}
+use Rattle.program_output.specs.Messages.{busy_line, far_line, io_line, layout_line, ledger_line}
+use Rattle.program_output.specs.Messages.{ledger_message, line_at, line_of, log_line}
 use Rattle.program_output.specs.Messages.{no_number_line, report_line, stop_lines, unsound_line}
 use Rattle.program_output.specs.Statuses.{ledger_status, log_status, report_status, stop_status}
 use Rattle.chargectl.specs.declared.command_fault.CommandFault.{CommandFault}
 use Rattle.chargectl.specs.declared.command_fault.CommandFault.TheVariants as fault
 use Rattle.chargectl.specs.declared.ended.Ended.{Ended}
+use Rattle.chargectl.specs.declared.notice.Notice.{Notice}
+use Rattle.chargectl.specs.declared.notice.Notice.TheVariants as notice
 
 -- the exit status of a fault
 abbrev pub fault_status : CommandFault → Status
@@ -55,6 +58,7 @@ abbrev pub unclear_line : Unclear → List ℕ
 unclear_line unclear.Choice = codes "error: choose takes either SHA256 or --from FILE\n"
 unclear_line unclear.Prices = codes "error: trial takes either rates or --tariff FILE\n"
 unclear_line unclear.Period = codes "error: PERIOD is a number without a sign or a leading 0\n"
+unclear_line unclear.DryRun = codes "error: choose --dry-run takes SHA256, not --from FILE\n"
 
 -- What is said of a fault: one line. Of a rate outside its limits nothing is said.
 abbrev pub fault_lines : CommandFault → List (List ℕ)
@@ -77,14 +81,29 @@ abbrev pub came_lines : Result (Unit {0}) CommandFault → List (List ℕ)
 came_lines (Ok done) = []
 came_lines (Err fault) = fault_lines fault
 
+-- What a command noticed beside what it was asked. No exit status comes of it.
+abbrev pub notice_line : Notice → List ℕ
+notice_line notice.Layout = layout_line
+notice_line notice.Far = far_line
+
+-- nothing is said where it noticed nothing
+abbrev pub notice_lines : Option Notice → List (List ℕ)
+notice_lines None = []
+notice_lines (Some noticed) = notice_line noticed ∷ []
+
+-- a fault comes before a notice
+abbrev pub told_lines : Result (Unit {0}) CommandFault → Option Notice → List (List ℕ)
+told_lines came noticed = came_lines came ++ notice_lines noticed
+
 -- what a command says on standard error, which may have left a log beside the books
 abbrev pub error_lines : Ended → List (List ℕ)
 error_lines ended =
-    if ended.has_log then came_lines ended.came ++ log_line ∷ [] else came_lines ended.came
+    if ended.has_log then told_lines ended.came ended.notice ++ log_line ∷ []
+    else told_lines ended.came ended.notice
 
--- a command that left no log
+-- a command that left no log and noticed nothing
 abbrev pub without_log : Result (Unit {0}) CommandFault → Ended
-without_log came = record { came = came; has_log = false; is_change = false }
+without_log came = record { came = came; has_log = false; is_change = false; notice = None }
 
 -- a command that may have found a fault before it opened any books
 abbrev pub settled_as : Result Ended CommandFault → Ended

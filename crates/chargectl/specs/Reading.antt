@@ -1,7 +1,7 @@
 -- What the commands do that ask no books: trials, checks and explanations.
-use Rattle.std.specs.Prelude.{◌≡◌, ◌↔◌, ◌⊎◌, ℕ, List, ◌++◌, codes, Option, Some, None, Result, Ok, Err}
-use Rattle.std.specs.Prelude.{IsSome, IfSome, OnOk}
-use Rattle.std.specs.Io.KnownBytes.{Appends}
+use Rattle.std.specs.Prelude.{◌≡◌, ◌↔◌, ◌⊎◌, Bool, ℕ, List, ◌++◌, codes, Option, Some, None, Result}
+use Rattle.std.specs.Prelude.{Ok, Err, IsSome, IfSome, OnOk}
+use Rattle.std.specs.Io.KnownBytes.{Appends, Keeps}
 use Rattle.std.specs.declared.io.ErrorKind.{ErrorKind}
 use Rattle.smf_frames.specs.declared.dump.Layout.{Layout}
 use Rattle.tariff_rules.specs.declared.fault.TariffFault.{TariffFault}
@@ -20,38 +20,43 @@ use Rattle.command_line.specs.declared.request.NumberKind.TheVariants as number
 use Rattle.program_output.specs.declared.explanations.Explanation.{Explanation}
 use Rattle.program_output.specs.declared.explanations.FaultKind.{FaultKind}
 use Rattle.program_output.specs.declared.explanations.FaultKind.TheVariants as kind
+use Rattle.program_output.specs.declared.words.WordKind.TheVariants as word
 use Rattle.program_output.specs.Checks.{IsCheck}
 use Rattle.program_output.specs.Explanations.{Explains}
 use Rattle.program_output.specs.Readings.{reading}
 use Rattle.program_output.specs.Trials.{IsTrial}
 use Rattle.chargectl.specs.declared.command_fault.CommandFault.{CommandFault}
 use Rattle.chargectl.specs.declared.command_fault.CommandFault.TheVariants as fault
-use Rattle.chargectl.specs.Faults.{IsTextFault, end_of, io_fault}
+use Rattle.chargectl.specs.declared.ended.Ended.{Ended}
+use Rattle.chargectl.specs.Faults.{IsTextFault, io_fault, without_log}
+use Rattle.chargectl.specs.FirstBytes.{IsLookedAt, dump_end}
 
--- how a trial ends
-abbrev pub trial_end : Result Receipt ReportFault → Result (Unit {0}) CommandFault
-trial_end (Ok receipt) = end_of receipt.stop
-trial_end (Err refused) = Err (fault.Report refused)
+-- how a trial ends of a dump that looked misread or not
+abbrev pub trial_end : Bool → Result Receipt ReportFault → Ended
+trial_end looked (Ok receipt) = dump_end looked receipt.stop
+trial_end looked (Err refused) = without_log (Err (fault.Report refused))
 
 -- how a check ends
-abbrev pub check_end : Result Stop ReportFault → Result (Unit {0}) CommandFault
-check_end (Ok stop) = end_of stop
-check_end (Err refused) = Err (fault.Report refused)
+abbrev pub check_end : Bool → Result Stop ReportFault → Ended
+check_end looked (Ok stop) = dump_end looked stop
+check_end looked (Err refused) = without_log (Err (fault.Report refused))
 
--- A trial of standard input, with as many reads as an import has.
-pub record Tries (layout : Layout) (terms : Terms) (had held holds : Option (List ℕ))
-    (ended : Result (Unit {0}) CommandFault) : Type 0 where
+-- A trial of standard input, with as many reads as an import has, once its first bytes were looked at.
+pub record Tries (layout : Layout) (terms : Terms) (had held holds : Option (List ℕ)) (ended : Ended)
+    : Type 0 where
+  pub looked : Bool
+  pub look : IsLookedAt layout had looked
   pub input : Input
   pub answer : Result Receipt ReportFault
-  pub begun : input.old.left ≡ had
+  pub begun : Keeps had input.old.left
   pub trial : IsTrial terms (reading layout (cut_by input.new) most_reads input) held holds answer
-  pub ends : ended ≡ trial_end answer
+  pub ends : ended ≡ trial_end looked answer
 
 -- none is made where a rate is outside its limits
 abbrev pub TriesBy : Layout → Option Terms → Option (List ℕ) → Option (List ℕ) → Option (List ℕ)
-    → Result (Unit {0}) CommandFault → Type 0
+    → Ended → Type 0
 TriesBy layout (Some terms) had held holds ended = Tries layout terms had held holds ended
-TriesBy layout None had held holds ended = (holds ≡ held) × (ended ≡ Err fault.Usage)
+TriesBy layout None had held holds ended = (holds ≡ held) × (ended ≡ without_log (Err fault.Usage))
 
 -- one tariff with these rates for all records, if they are within their limits
 abbrev pub IsFlatTariff : ℕ → ℕ → ℕ → Option Terms → Type 0
@@ -60,7 +65,7 @@ IsFlatTariff cpu excp fee tariff = (IsSome tariff ↔ AreRates (rates_of cpu exc
 
 -- a trial at these rates
 pub record TriesAt (layout : Layout) (cpu excp fee : ℕ) (had held holds : Option (List ℕ))
-    (ended : Result (Unit {0}) CommandFault) : Type 0 where
+    (ended : Ended) : Type 0 where
   pub tariff : Option Terms
   pub flat : IsFlatTariff cpu excp fee tariff
   pub tries : TriesBy layout tariff had held holds ended
@@ -77,43 +82,51 @@ IsTariffRead (Err why) = IsTextFault why
 
 -- none is made where there is no tariff
 abbrev pub TriesWith : Layout → Result Terms CommandFault → Option (List ℕ) → Option (List ℕ)
-    → Option (List ℕ) → Result (Unit {0}) CommandFault → Type 0
+    → Option (List ℕ) → Ended → Type 0
 TriesWith layout (Ok terms) had held holds ended = Tries layout terms had held holds ended
-TriesWith layout (Err why) had held holds ended = (holds ≡ held) × (ended ≡ Err why)
+TriesWith layout (Err why) had held holds ended = (holds ≡ held) × (ended ≡ without_log (Err why))
 
 -- a trial under the tariff of a file
-pub record TriesUnder (layout : Layout) (had held holds : Option (List ℕ))
-    (ended : Result (Unit {0}) CommandFault) : Type 0 where
-  pub tariff : Result Terms CommandFault
-  pub read : IsTariffRead tariff
-  pub tries : TriesWith layout tariff had held holds ended
+pub record TriesUnder (layout : Layout) (had held holds : Option (List ℕ)) (ended : Ended) : Type 0
+  where
+    pub tariff : Result Terms CommandFault
+    pub read : IsTariffRead tariff
+    pub tries : TriesWith layout tariff had held holds ended
 
--- A check of a file, with as many reads as an import has. No contract says what the file holds.
-pub record Lists (layout : Layout) (held holds : Option (List ℕ))
-    (ended : Result (Unit {0}) CommandFault) : Type 0 where
+-- A check of what a reader had, with as many reads as an import has, once its first bytes were looked at.
+pub record Lists (layout : Layout) (had held holds : Option (List ℕ)) (ended : Ended) : Type 0 where
+  pub looked : Bool
+  pub look : IsLookedAt layout had looked
   pub input : Input
   pub answer : Result Stop ReportFault
+  pub begun : Keeps had input.old.left
   pub list : IsCheck (reading layout (cut_by input.new) most_reads input) held holds answer
-  pub ends : ended ≡ check_end answer
+  pub ends : ended ≡ check_end looked answer
 
 -- the file was not opened, and nothing was written
-pub record IsUnopened (held holds : Option (List ℕ)) (ended : Result (Unit {0}) CommandFault)
-    : Type 0 where
+pub record IsUnopened (held holds : Option (List ℕ)) (ended : Ended) : Type 0 where
   pub why : ErrorKind
   pub none : holds ≡ held
-  pub ends : ended ≡ Err (io_fault why)
+  pub ends : ended ≡ without_log (Err (io_fault why))
 
-abbrev pub Checks : Layout → Option (List ℕ) → Option (List ℕ) → Result (Unit {0}) CommandFault
-    → Type 0
-Checks layout held holds ended = Lists layout held holds ended ⊎ IsUnopened held holds ended
+-- A check of a file. No contract says what the file holds.
+abbrev pub Checks : Layout → Option (List ℕ) → Option (List ℕ) → Ended → Type 0
+Checks layout held holds ended = Lists layout None held holds ended ⊎ IsUnopened held holds ended
 
--- what a number stands for, by its word
+-- what a number stands for, by its word, or a word that has none
 abbrev pub kind_of : NumberKind → FaultKind
 kind_of number.Frame = kind.Frame
 kind_of number.Ledger = kind.Ledger
 kind_of number.Tariff = kind.Tariff
 kind_of number.Damaged = kind.Damage
-kind_of number.Log = kind.Log
+kind_of number.Io = kind.Word word.Io
+kind_of number.Busy = kind.Word word.Busy
+kind_of number.Exists = kind.Word word.Exists
+kind_of number.Word = kind.Word word.Word
+kind_of number.Unsound = kind.Word word.Unsound
+kind_of number.Log = kind.Word word.Log
+kind_of number.Layout = kind.Word word.Layout
+kind_of number.Far = kind.Word word.Far
 
 -- what is told of a number: what it means and what to do, a line each; or that nothing has it
 abbrev pub TellsNumber : Option Explanation → Option (List ℕ) → Option (List ℕ)

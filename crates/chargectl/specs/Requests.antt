@@ -1,5 +1,5 @@
 -- What the program does: for each request, and for words that are none.
-use Rattle.std.specs.Prelude.{◌≡◌, ◌⊎◌, true, ℕ, List, [], ◌∷◌, Option, Result, Ok, Err, OnOk}
+use Rattle.std.specs.Prelude.{◌≡◌, ◌⊎◌, Bool, true, ℕ, List, [], ◌∷◌, Option, None, Result, Ok, Err, IfOk}
 use Rattle.std.specs.Prelude.{string_bytes}
 use Rattle.std.specs.Io.KnownBytes.{Appends}
 use Rattle.tariff_rules.specs.Limits.{most_rate}
@@ -23,10 +23,13 @@ use Rattle.chargectl.specs.declared.ended.Ended.{Ended}
 use Rattle.chargectl.specs.Audits.{AuditsBy}
 use Rattle.chargectl.specs.Choices.{ChoosesListed}
 use Rattle.chargectl.specs.Commands.{AsksAndTells, IsShelfFault}
+use Rattle.chargectl.specs.DryRuns.{TriesAndTells}
 use Rattle.chargectl.specs.Faults.{error_lines, settled_as, shelf_end, status_by, without_log}
 use Rattle.chargectl.specs.Reading.{Checks, TellsOf, TriesAt, TriesUnder, kind_of}
-use Rattle.chargectl.specs.RulingList.{ListsBy}
-use Rattle.chargectl.specs.Sittings.{ServesAll, SomeSittings}
+use Rattle.chargectl.specs.declared.streamed_lists.StreamedList.TheVariants as list
+use Rattle.chargectl.specs.StreamedLists.{ListsBy, disputes_by}
+use Rattle.chargectl.specs.ServedLines.{unfailed}
+use Rattle.chargectl.specs.Sittings.{ServesAll, SomeSittings, service_end}
 
 -- new books were made, or not, and nothing was written
 pub record Makes (book : List ℕ) (old new : Shelf) (held holds : Option (List ℕ)) (ended : Ended)
@@ -36,14 +39,19 @@ pub record Makes (book : List ℕ) (old new : Shelf) (held holds : Option (List 
   pub ends : ended ≡ without_log (shelf_end made)
   pub none : holds ≡ held
 
--- What a service came to: some connections were answered, and where nothing went wrong all, with
--- their lines; and whether a log is left.
+-- What a service came to: some connections were answered; and all, with their lines, unless one did not
+-- come or the books were in the way. A write of a line that failed is told at the end, and ends nothing
+-- before. And whether a log is left.
 pub record Serves (requests : ℕ) (book : List ℕ) (old new : Shelf) (held holds : Option (List ℕ))
     (ended : Ended) : Type 0 where
+  pub served : Result Bool CommandFault
   pub some : IsDoneTo book (SomeSittings old.naming) old new
-  pub all : OnOk ended.came (ServesAll requests 0 book old new held holds)
+  pub all : IfOk served (λ failed. ServesAll requests 0 book old new (unfailed held)
+      (record { holds = holds; has_failed = failed }))
+  pub ends : ended.came ≡ service_end served
   pub log : new.has_log book ended.has_log
   pub change : ended.is_change ≡ true
+  pub notice : ended.notice ≡ None
 
 -- or there was nothing of that name
 abbrev pub ServesBy : ℕ → List ℕ → Shelf → Shelf → Option (List ℕ) → Option (List ℕ)
@@ -71,12 +79,16 @@ Does (book.BackUp copy quiet) name old new held holds ended =
 Does (book.Serve port requests) name old new held holds ended =
     SettlesBy (ServesBy requests name old new held holds) ended
 Does book.Rulings name old new held holds ended =
-    SettlesBy (ListsBy name old new held holds) ended
+    SettlesBy (ListsBy list.Rulings name old new held holds) ended
+Does (book.Disputes csv) name old new held holds ended =
+    SettlesBy (ListsBy (disputes_by csv) name old new held holds) ended
 Does (book.ChooseListed file) name old new held holds ended =
     ChoosesListed name old new held holds ended
+Does (book.DryRun ruling) name old new held holds ended =
+    TriesAndTells ruling name old new held holds ended
 Does asked name old new held holds ended = AsksAndTells asked name old new held holds ended
 
--- a command that opens no books, and leaves no log
+-- a command that opens no books and reads no dump
 pub record EndsAt (Does : Result (Unit {0}) CommandFault → Type 0) (ended : Ended) : Type 0 where
   pub came : Result (Unit {0}) CommandFault
   pub does : Does came
@@ -86,11 +98,11 @@ pub record EndsAt (Does : Result (Unit {0}) CommandFault → Type 0) (ended : En
 abbrev pub Runs : {S : Type 0} → (S → Shelf) → S → S → Request → Option (List ℕ) → Option (List ℕ)
     → Option (List ℕ) → Ended → Type 0
 Runs shelf old new (request.Trial layout cpu excp fee) had held holds ended =
-    (new ≡ old) × EndsAt (TriesAt layout cpu excp fee had held holds) ended
+    (new ≡ old) × TriesAt layout cpu excp fee had held holds ended
 Runs shelf old new (request.TrialUnder layout file) had held holds ended =
-    (new ≡ old) × EndsAt (TriesUnder layout had held holds) ended
+    (new ≡ old) × TriesUnder layout had held holds ended
 Runs shelf old new (request.Check dump) had held holds ended =
-    (new ≡ old) × EndsAt (Checks dump.layout held holds) ended
+    (new ≡ old) × Checks dump.layout held holds ended
 Runs shelf old new (request.Explain kind number) had held holds ended =
     (new ≡ old) × EndsAt (TellsOf (kind_of kind) number held holds) ended
 Runs shelf old new (request.OfBooks name asked) had held holds ended =

@@ -9,6 +9,7 @@ use Rattle.book_http.specs.declared.served.Served.TheVariants as served
 use Rattle.chargectl.specs.Serving.{ServesOne, Looks, Turn, GoesOn, ServesEach, MayTurnOf, MayTurn}
 use Rattle.chargectl.specs.Serving.{SomeServed, ServesUpTo, SessionBy, may_have_failed}
 use Rattle.std.specs.declared.io.Error.{Error}
+use Rattle.streams.specs.InputOutput.{WriterSeen}
 use Rattle.std.proofs.Common.{ℕ, Result, Ok, Err}
 
 one_answered : (naming : Naming) (what : Served) → MakesAnswered naming (ServesOne naming what)
@@ -64,7 +65,7 @@ up_to_answered true naming (what ∷ before) =
     (each_answered naming before) (turn_answered true naming what)
 
 -- a session
-pub session_answered : (naming : Naming) (first : List ℕ) (due : ℕ) (held holds : Option (List ℕ))
+pub session_answered : (naming : Naming) (first : List ℕ) (due : ℕ) (held holds : WriterSeen)
     (left : Result ℕ Error) → MakesAnswered naming (SessionBy naming first due held holds left)
 session_answered naming first due held holds (Ok left) = λ history was events is it answered.
     up_to_answered it.failed naming it.told history was events is it.made answered

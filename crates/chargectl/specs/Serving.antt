@@ -1,10 +1,11 @@
--- How connections are served: each in turn, with one line for each.
+-- How connections are served: each in turn, with one line for each. A line that can't be written is
+-- lost, and so are those after it; the connections are served all the same.
 use Rattle.std.specs.Prelude.{◌≡◌, ◌+◌, ◌==◌, Bool, true, false, ℕ, List, [], ◌∷◌, ◌++◌, codes, length}
 use Rattle.std.specs.Prelude.{◌<◌, ⊤, Option, Some, None, Result, Ok, Err, Vec, ℤ}
 use Rattle.std.specs.Global.{Global}
 use Rattle.std.specs.declared.io.Error.{Error}
 use Rattle.std.specs.Fmt.{decimal}
-use Rattle.std.specs.Io.KnownBytes.{Appends}
+use Rattle.streams.specs.InputOutput.{WriterSeen}
 use Rattle.std.specs.Net.Addr.{IsLoopbackV4, MatchIp}
 use Rattle.std.specs.Net.Socket.{socket_ip}
 use Rattle.std.specs.declared.net.socket_addr.SocketAddr.{SocketAddr}
@@ -19,6 +20,7 @@ use Rattle.book_http.specs.declared.served.Served.TheVariants as served
 use Rattle.book_http.specs.Answer.{Answers}
 use Rattle.book_http.specs.Replies.{Reply}
 use Rattle.book_http.specs.Statuses.{status_code}
+use Rattle.chargectl.specs.ServedLines.{Gains}
 
 -- an address of this machine alone
 abbrev pub IsLoopback : SocketAddr → Type 0
@@ -111,20 +113,21 @@ lines_of [] = []
 lines_of (what ∷ before) = lines_of before ++ line_of what
 
 -- a session so far
-pub record IsUnderway (old new : Seen) (due left : ℕ) (held holds : Option (List ℕ)) : Type 0 where
+pub record IsUnderway (old new : Seen) (due left : ℕ) (held holds : WriterSeen) : Type 0 where
   pub told : List Served
   pub work : IsTransition old new (ServesEach old.naming told)
   pub count : left + length told ≡ due
-  pub lines : Appends held holds (lines_of told)
+  pub lines : Gains held holds (lines_of told)
 
--- What a session came to: each connection was served in turn, and has its line; so many are left as
--- were not served. It ended where none was left, or where the store of the books had failed.
-pub record IsSession (failed : Bool) (old new : Seen) (due left : ℕ) (held holds : Option (List ℕ))
+-- What a session came to: each connection was served in turn, and has its line, unless a write failed;
+-- so many are left as were not served. It ended where none was left, or where the store of the books had
+-- failed.
+pub record IsSession (failed : Bool) (old new : Seen) (due left : ℕ) (held holds : WriterSeen)
     : Type 0 where
   pub told : List Served
   pub work : IsTransition old new (ServesUpTo failed old.naming told)
   pub count : left + length told ≡ due
-  pub lines : Appends held holds (lines_of told)
+  pub lines : Gains held holds (lines_of told)
   pub all : failed ≡ false → left ≡ 0
   pub fails : failed ≡ true → new.must_reopen ≡ true
 
@@ -133,25 +136,29 @@ abbrev pub IsAccepted : Seen → Seen → Result Served Error → Type 0
 IsAccepted old new (Ok what) = IsTransition old new (ServesOne old.naming what)
 IsAccepted old new (Err error) = IsTransition old new NoEvent
 
--- and its line was written
-abbrev pub IsNext : Seen → Seen → Option (List ℕ) → Option (List ℕ) → Result Served Error → Type 0
+-- and its line was written, unless a write failed
+abbrev pub IsNext : Seen → Seen → WriterSeen → WriterSeen → Result Served Error → Type 0
 IsNext old new held holds (Ok what) =
-    IsTransition old new (ServesOne old.naming what) × Appends held holds (line_of what)
+    IsTransition old new (ServesOne old.naming what) × Gains held holds (line_of what)
 IsNext old new held holds (Err error) = IsTransition old new (MayTurn old.naming)
 
 -- and the books were looked at, if they may have failed: they are to be opened again, or not
-abbrev pub IsTurn : Seen → Seen → Option (List ℕ) → Option (List ℕ) → Result Bool Error → Type 0
+abbrev pub IsTurn : Seen → Seen → WriterSeen → WriterSeen → Result Bool Error → Type 0
 IsTurn old new held holds (Ok true) = (what : Served) × IsTransition old new (Turn true old.naming what)
-    × Appends held holds (line_of what) × (new.must_reopen ≡ true)
+    × Gains held holds (line_of what) × (new.must_reopen ≡ true)
 IsTurn old new held holds (Ok false) = (what : Served) × IsTransition old new (GoesOn old.naming what)
-    × Appends held holds (line_of what)
+    × Gains held holds (line_of what)
 IsTurn old new held holds (Err error) = IsTransition old new (MayTurn old.naming)
 
 -- all of a session, or what there was of it
-abbrev pub IsServing : Seen → Seen → ℕ → ℕ → Option (List ℕ) → Option (List ℕ) → Result Bool Error
+abbrev pub IsServing : Seen → Seen → ℕ → ℕ → WriterSeen → WriterSeen → Result Bool Error
     → Type 0
 IsServing old new due left held holds (Ok failed) = IsSession failed old new due left held holds
 IsServing old new due left held holds (Err error) = IsTransition old new (SomeServed old.naming)
+
+-- Nothing but a connection that did not come, for this reason, ended a session early.
+abbrev pub NoneCame : {C : Type 0} → (C → Error → C → Type 0) → Error → C → Type 0
+NoneCame {C} may_fail error after = (before : C) × may_fail before error after
 
 abbrev pub is_answered : Served → Bool
 is_answered (served.Answered status) = true
@@ -162,28 +169,28 @@ abbrev pub ready : List ℕ
 ready = codes "READY\n"
 
 -- So many connections were due, and so many are left: the lines of the others were written, in order,
--- after this.
-pub record Says (first : List ℕ) (due left : ℕ) (held holds : Option (List ℕ)) : Type 0 where
+-- after this, up to a write that failed, if one did.
+pub record Says (first : List ℕ) (due left : ℕ) (held holds : WriterSeen) : Type 0 where
   pub told : List Served
   pub count : left + length told ≡ due
-  pub lines : Appends held holds (first ++ lines_of told)
+  pub lines : Gains held holds (first ++ lines_of told)
 
 -- so it is where a session went well; and at least one was answered, if any was due
-abbrev pub SaysBy : List ℕ → ℕ → Option (List ℕ) → Option (List ℕ) → Result ℕ Error → Type 0
+abbrev pub SaysBy : List ℕ → ℕ → WriterSeen → WriterSeen → Result ℕ Error → Type 0
 SaysBy first due held holds (Ok left) = Says first due left held holds × (0 < due → left < due)
 SaysBy first due held holds (Err error) = ⊤
 
 -- One session of so many connections, of which so many are left, and their lines.
-pub record OneSession (naming : Naming) (first : List ℕ) (due left : ℕ) (held holds : Option (List ℕ))
+pub record OneSession (naming : Naming) (first : List ℕ) (due left : ℕ) (held holds : WriterSeen)
     (was : Bool) (before : Book) (events : List Event) (is : Bool) : Type 0 where
   pub failed : Bool
   pub told : List Served
   pub made : ServesUpTo failed naming told was before events is
   pub count : left + length told ≡ due
-  pub lines : Appends held holds (first ++ lines_of told)
+  pub lines : Gains held holds (first ++ lines_of told)
 
--- a session, by what is left; or one that the listener or the output ended
-abbrev pub SessionBy : Naming → List ℕ → ℕ → Option (List ℕ) → Option (List ℕ) → Result ℕ Error
+-- a session, by what is left; or one that the listener ended
+abbrev pub SessionBy : Naming → List ℕ → ℕ → WriterSeen → WriterSeen → Result ℕ Error
     → Transition
 SessionBy naming first due held holds (Ok left) = OneSession naming first due left held holds
 SessionBy naming first due held holds (Err error) = SomeServed naming

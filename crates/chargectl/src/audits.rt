@@ -36,6 +36,7 @@ pub(crate) fn audit<S: AuditedRepository, O: Write + Drop>(
         came: show_audited(rt.alloc(), answer, output),
         has_log,
         is_change: false,
+        notice: None,
     })
 }
 
@@ -62,6 +63,7 @@ pub(crate) fn back_up<S: AuditedRepository, O: Write + Drop>(
         came: show_audited(rt.alloc(), answer, output),
         has_log,
         is_change: false,
+        notice: None,
     })
 }
 

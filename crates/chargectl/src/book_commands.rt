@@ -2,7 +2,7 @@
 //! what the books say, or the stop of an import, and then the output. The books are closed before
 //! their answer is written. `report_commands` has the reports.
 
-ghost use Rattle.std.specs.Prelude.{◌≡◌, IfErr};
+ghost use Rattle.std.specs.Prelude.{◌≡◌, IfErr, None};
 ghost use Rattle.book_core.specs.Transition.{IsTransition};
 ghost use Rattle.office.specs.Answers.{answer_text};
 ghost use Rattle.office.specs.Requests.{IsAskableUnread, response_by, response_of};
@@ -12,21 +12,20 @@ ghost use Rattle.chargectl.specs.Commands.{AsksOnce, once_answered, ComesOf, IsA
 ghost use Rattle.chargectl.specs.Commands.{IsTextFault, IsTold, Tells, TellsAnswered, answer_of};
 ghost use Rattle.chargectl.specs.Commands.{ends_by};
 
+use crate::asked_rulings::{asked_adoption, asked_choice, asked_close, asked_tariff};
 use crate::command_fault::{CommandFault, ended};
+use crate::dated_rulings::rule_on_day;
 use crate::ended::{Answered, Ended};
+use crate::first_bytes::{LookedAt, look_at};
+use crate::notice::{Notice, layout_notice};
 use crate::progress::{WatchedReader, clear_line};
 use book_core::{Ledger, LedgerFault, Sink, Source};
 use command_line::{BookRequest, DumpFile};
 use office::{Answer, Asked, Opened, Repository, RepositoryFault, Visit, ask, write_answer};
-use program_output::name_of_text;
-use smf_text::day_of_text;
 use std::alloc::Global;
 use std::io::{IsTerminal, Read, Write};
 use std::{fs, io};
 use tariff_rules::{MAX_TEXT, TariffFault};
-
-/// The rule of identity that can be adopted: books begin under the other one.
-const LATER_RULE: u8 = 2;
 
 /// A request to the office, with the reader of its dump.
 #[derive(Drop)]
@@ -58,7 +57,7 @@ impl<R: Read + Drop> Visit for OfficeRequest<R> {
 }
 
 /// Asks the books, with a reader that was not asked yet.
-fn ask_with<L: Ledger, R: Read + Drop>(
+pub(crate) fn ask_with<L: Ledger, R: Read + Drop>(
     alloc: Global,
     books: &mut L,
     asked: &Asked,
@@ -73,7 +72,7 @@ fn ask_with<L: Ledger, R: Read + Drop>(
 }
 
 /// It may change the books.
-fn may_change(asked: &Asked) -> bool
+pub(crate) fn may_change(asked: &Asked) -> bool
     ensures { result ≡ spec.may_change asked.now }
 {
     match asked {
@@ -84,7 +83,7 @@ fn may_change(asked: &Asked) -> bool
 }
 
 /// What came of a request: its answer, its refusal, or why the books were not opened.
-fn answer_in(
+pub(crate) fn answer_in(
     told: Result<Result<Answer, LedgerFault>, RepositoryFault>,
 ) -> Result<Answer, CommandFault>
     ensures { result ≡ answer_of told }
@@ -105,7 +104,9 @@ pub(crate) fn ask_books<S: Repository, R: Read + Drop>(
     input: R,
 ) -> Answered
     requires { IsAskableUnread asked }
-    ensures { IsAnswered asked book.now (S.shelf repository.old) (S.shelf repository.new) result }
+    ensures answered { IsAnswered asked book.now (S.shelf repository.old) (S.shelf repository.new)
+        result }
+    ensures notice { result.notice ≡ None }
 {
     let is_change = may_change(&asked);
     let mut office_request = OfficeRequest {
@@ -118,6 +119,7 @@ pub(crate) fn ask_books<S: Repository, R: Read + Drop>(
         answer: answer_in(answer),
         has_log,
         is_change,
+        notice: None,
     }
 }
 
@@ -142,12 +144,14 @@ fn tell_answered<O: Write + Drop>(answered: Answered, output: O) -> (Ended, O)
         answer,
         has_log,
         is_change,
+        notice,
     } = answered;
     let (came, output) = tell_answer(answer, output);
     let ended = Ended {
         came,
         has_log,
         is_change,
+        notice,
     };
     (ended, output)
 }
@@ -204,9 +208,8 @@ pub(crate) fn tariff<'a, S: Repository>(
     ensures { ComesOf (BookRequest.Tariff file.entry) book.now
         (S.shelf repository.old) (S.shelf repository.new) result }
 {
-    repository.expect(book)?;
-    let asked = Asked::Tariff(tariff_text(rt, file)?);
-    Ok(ask_books(rt, repository, book, asked, io::empty()))
+    let asked = asked_tariff(rt, repository, book, file)?;
+    Ok(rule_on_day(rt.alloc(), repository, book, asked))
 }
 
 /// The text of a tariff file.
@@ -237,16 +240,12 @@ pub(crate) fn close<S: Repository>(
     ensures { ComesOf (BookRequest.Close period date.entry) book.now
         (S.shelf repository.old) (S.shelf repository.new) result }
 {
-    let through = match day_of_text(date) {
-        Some(through) => through,
-        None => return Err(CommandFault::Argument),
-    };
-    repository.expect(book)?;
-    let asked = Asked::Close { period, through };
-    Ok(ask_books(rt, repository, book, asked, io::empty()))
+    let asked = asked_close(repository, book, period, date)?;
+    Ok(rule_on_day(rt.alloc(), repository, book, asked))
 }
 
 /// Chooses the record of a name.
+#[tactic(auto, using(crate::proofs::FarLemmas::ruling_unread))]
 pub(crate) fn choose<S: Repository>(
     rt: &HostRuntime,
     repository: &mut S,
@@ -256,16 +255,12 @@ pub(crate) fn choose<S: Repository>(
     ensures { ComesOf (BookRequest.Choose name.entry) book.now
         (S.shelf repository.old) (S.shelf repository.new) result }
 {
-    let chosen = match name_of_text(name) {
-        Some(chosen) => chosen,
-        None => return Err(CommandFault::Argument),
-    };
-    repository.expect(book)?;
-    let asked = Asked::Choose(chosen);
+    let asked = asked_choice(repository, book, name)?;
     Ok(ask_books(rt, repository, book, asked, io::empty()))
 }
 
 /// Adopts the later rule of identity.
+#[tactic(auto, using(crate::proofs::FarLemmas::ruling_unread))]
 pub(crate) fn adopt<S: Repository>(
     rt: &HostRuntime,
     repository: &mut S,
@@ -274,8 +269,7 @@ pub(crate) fn adopt<S: Repository>(
     ensures { ComesOf BookRequest.Adopt book.now
         (S.shelf repository.old) (S.shelf repository.new) result }
 {
-    repository.expect(book)?;
-    let asked = Asked::Adopt(LATER_RULE);
+    let asked = asked_adoption(repository, book)?;
     Ok(ask_books(rt, repository, book, asked, io::empty()))
 }
 
@@ -293,7 +287,19 @@ pub(crate) fn import_dump<S: Repository>(
     let asked = Asked::Import(dump.layout);
     let is_shown = !dump.quiet && rt.stderr().is_terminal();
     let input = WatchedReader::open(rt, dump.file, is_shown)?;
-    let answered = ask_books(rt, repository, book, asked, input);
+    let LookedAt { reader, is_misread } = look_at(rt.alloc(), dump.layout, input);
+    let mut answered = ask_books(rt, repository, book, asked, reader);
     clear_line(rt, is_shown);
+    answered.notice = answer_notice(is_misread, &answered.answer);
     Ok(answered)
+}
+
+/// What an import notices of its dump.
+fn answer_notice(is_misread: bool, answer: &Result<Answer, CommandFault>) -> Option<Notice>
+    ensures { result ≡ spec.answer_notice is_misread answer.now }
+{
+    match answer {
+        Ok(Answer::Receipt(receipt)) => layout_notice(is_misread, receipt.stop),
+        _ => None,
+    }
 }

@@ -153,6 +153,7 @@ fn tell_list<O: Write + Drop>(
                 came,
                 has_log,
                 is_change: true,
+                notice: None,
             };
             (ended, output)
         }

@@ -2,10 +2,13 @@
 
 ghost use Rattle.std.specs.Prelude.{◌≡◌};
 ghost use Rattle.program_output.specs.Messages.{AreSaid};
-ghost use Rattle.chargectl.specs.Faults.{came_lines, came_status, error_lines, settled_as};
-ghost use Rattle.chargectl.specs.Faults.{status_by, without_log};
+ghost use Rattle.chargectl.specs.Faults.{came_lines, came_status, error_lines, notice_lines};
+ghost use Rattle.chargectl.specs.Faults.{settled_as, status_by, told_lines, without_log};
+ghost use Rattle.chargectl.specs.FirstBytes.{dump_end};
 
-use crate::command_fault::CommandFault;
+use crate::command_fault::{CommandFault, ended};
+use crate::notice::{Notice, layout_notice};
+use book_import::Stop;
 use office::Answer;
 use program_output::{Status, log_left};
 use streams::Writer;
@@ -19,6 +22,8 @@ pub(crate) struct Answered {
     pub(crate) has_log: bool,
     /// It may have changed the books.
     pub(crate) is_change: bool,
+    /// What was noticed of its dump or of its day.
+    pub(crate) notice: Option<Notice>,
 }
 
 /// How a command ended.
@@ -30,10 +35,12 @@ pub(crate) struct Ended {
     pub(crate) has_log: bool,
     /// It may have changed the books.
     pub(crate) is_change: bool,
+    /// What it noticed of a dump or of a day.
+    pub(crate) notice: Option<Notice>,
 }
 
 impl Ended {
-    /// How a command ended that left no log.
+    /// How a command ended that left no log and noticed nothing.
     pub(crate) fn without_log(came: Result<(), CommandFault>) -> Ended
         ensures { result ≡ without_log came }
     {
@@ -41,6 +48,19 @@ impl Ended {
             came,
             has_log: false,
             is_change: false,
+            notice: None,
+        }
+    }
+
+    /// How a command ended that read a dump up to a stop, and opened no books.
+    pub(crate) fn at_stop(stop: Stop, is_misread: bool) -> Ended
+        ensures { result ≡ dump_end is_misread stop }
+    {
+        Ended {
+            came: ended(stop),
+            has_log: false,
+            is_change: false,
+            notice: layout_notice(is_misread, stop),
         }
     }
 
@@ -54,18 +74,43 @@ impl Ended {
         }
     }
 
-    /// Says on standard error why it was not done, and where the books are in two files.
+    /// Says on standard error why it was not done, what it noticed, and where the books are in two
+    /// files.
     #[tactic(auto, using(program_output::proofs::MessageLemmas::said_then))]
     pub(crate) fn write_to<E: Writer>(self, errors: &mut E) -> Status
         ensures status { result ≡ status_by self }
         ensures said { AreSaid E.contents E.may_answer (error_lines self) errors.old errors.new }
     {
-        let status = say_fault(self.came, errors);
+        let status = say_told(self.came, self.notice, errors);
         if self.has_log {
             log_left(errors, status, self.is_change)
         } else {
             status
         }
+    }
+}
+
+/// Says why a command was not done, if it was not, and what it noticed.
+#[tactic(auto, using(program_output::proofs::MessageLemmas::said_then))]
+fn say_told<E: Writer>(
+    came: Result<(), CommandFault>,
+    notice: Option<Notice>,
+    errors: &mut E,
+) -> Status
+    ensures status { result ≡ came_status came }
+    ensures said { AreSaid E.contents E.may_answer (told_lines came notice) errors.old errors.new }
+{
+    let status = say_fault(came, errors);
+    say_notice(notice, errors);
+    status
+}
+
+/// Says what a command noticed, if it did.
+fn say_notice<E: Writer>(notice: Option<Notice>, errors: &mut E)
+    ensures { AreSaid E.contents E.may_answer (notice_lines notice) errors.old errors.new }
+{
+    if let Some(notice) = notice {
+        notice.write_to(errors);
     }
 }
 

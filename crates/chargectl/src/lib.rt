@@ -1,19 +1,29 @@
 //! What the program of the chargeback office does with its words and streams.
 #![tactic(auto)]
 
+mod asked_rulings;
 mod audits;
 mod book_commands;
+mod causes;
 mod choices;
 mod command_fault;
 mod connection;
+mod dated_rulings;
+mod dry_runs;
 mod ended;
+mod far;
+mod first_bytes;
+mod help_lines;
 mod laws;
+mod notice;
+mod places;
 mod port;
 mod program;
 mod progress;
 mod report_commands;
-mod ruling_list;
 mod serve;
+mod served_lines;
+mod streamed_lists;
 
 pub use laws::commands_follow_history;
 pub use port::{Connections, Peer, answer_peer};
@@ -22,3 +32,4 @@ pub use program_output::{
     Status, arguments_failed, check_list, report_failed, same_records_same_texts, stopped, trial,
 };
 pub use serve::serve_while_open;
+pub use served_lines::ServedLines;

@@ -14,11 +14,16 @@ use std::net::{IpAddr, Ipv4Addr, SocketAddr, TcpListener, TcpStream};
 
 /// A given number of connections, one after the other: those to a port, or any others.
 pub trait Connections {
-    ghost use Rattle.std.specs.Prelude.{ℕ, ◌≡◌, ◌<◌, ◌+◌, ◌==◌};
+    ghost use Rattle.std.specs.Prelude.{ℕ, ◌≡◌, ◌<◌, ◌+◌, ◌==◌, IfErr};
+    ghost use Rattle.std.specs.declared.io.Error.{Error};
     ghost use Rattle.chargectl.specs.Serving.{IsAccepted};
 
     /// How many are left to be answered.
     ghost left: { Self → ℕ };
+
+    /// The next one may not come, for this reason, and leave such connections. Only a wait shows it, so
+    /// a clause can say that nothing else ended a service.
+    ghost may_fail: { Self → Error → Self → Type 0 };
 
     /// None is left.
     fn is_over(&self) -> bool
@@ -29,7 +34,8 @@ pub trait Connections {
     fn next<L: Ledger>(&mut self, books: &mut L) -> io::Result<Served>
         requires { 0 < left self.old }
         ensures left { left self.new + 1 ≡ left self.old }
-        ensures accepted { IsAccepted (L.seen books.old) (L.seen books.new) result };
+        ensures accepted { IsAccepted (L.seen books.old) (L.seen books.new) result }
+        ensures failed { IfErr result (λ error. may_fail self.old error self.new) };
 }
 
 /// One client, whose connection ends in bounded time. Each copy of it is the same connection, so one
@@ -80,7 +86,12 @@ impl<'a> Port<'a> {
 }
 
 impl Connections for Port<'_> {
+    ghost use Rattle.std.specs.Prelude.{⊤};
+
     ghost left = { λ port. port.left };
+
+    // Of the sockets of the machine nothing is known.
+    ghost may_fail = { λ _ _ _. ⊤ };
 
     fn is_over(&self) -> bool {
         self.left == 0

@@ -5,21 +5,22 @@ ghost use Rattle.tariff_rules.specs.TariffFile.{terms_in};
 ghost use Rattle.program_output.specs.Messages.{AreSaid};
 ghost use Rattle.chargectl.specs.Faults.{IsFaultIn, shelf_end, status_by};
 ghost use Rattle.chargectl.specs.Reading as spec;
-ghost use Rattle.chargectl.specs.Reading.{Checks, IsTariffRead, TellsOf, TriesBy, TriesUnder};
+ghost use Rattle.chargectl.specs.Reading.{Checks, IsTariffRead, Lists, TellsOf, TriesBy, TriesUnder};
 ghost use Rattle.chargectl.specs.Reading.{check_end, lasting, trial_end};
 ghost use Rattle.chargectl.specs.Requests.{CommandsBy, Does, IsRefusedFor, Runs};
 
 use crate::audits::{audit, back_up};
 use crate::book_commands::{adopt, choose, close, import_dump, tariff, tariff_text, tell};
 use crate::choices::choose_listed;
-use crate::command_fault::{CommandFault, ended};
+use crate::command_fault::CommandFault;
+use crate::dry_runs::dry_run;
 use crate::ended::Ended;
-use crate::progress::WatchedReader;
-use crate::report_commands::{
-    report_disputes, report_period, report_periods, report_tariff, what_if,
-};
-use crate::ruling_list::list_rulings;
+use crate::first_bytes::{LookedAt, look_at};
+use crate::help_lines::{Said, help};
+use crate::progress::{WatchedReader, clear_line};
+use crate::report_commands::{report_period, report_periods, report_tariff, what_if};
 use crate::serve::serve;
+use crate::streamed_lists::{StreamedList, disputes_by, write_list};
 use book_audit::AuditedRepository;
 use book_core::{LedgerFault, Sink, Source};
 use book_import::{MAX_READS, Receipt, Stop};
@@ -27,8 +28,8 @@ use book_reports::ReportFault;
 use command_line::{ArgumentFault, BookRequest, DumpFile, NumberKind, Request, requested_by};
 use office::RepositoryFault;
 use program_output::{
-    Explanation, FaultKind, PROGRAM, Status, check_list, explained, io_failed, out_of_memory, say,
-    trial,
+    Explanation, FaultKind, PROGRAM, Status, WordKind, check_list, explained, io_failed,
+    out_of_memory, say, trial,
 };
 use smf_frames::Layout;
 use std::alloc::Global;
@@ -37,7 +38,7 @@ use streams::Writer;
 use tariff_rules::{MAX_RATE, Tariff, TariffFault};
 
 /// Does what the words ask for, the first of which is the program's name. Books are kept on a
-/// shelf. Why it was not done is said on standard error.
+/// shelf. Why it was not done is said on standard error; where that is a terminal, a person is told more.
 pub fn command<S: AuditedRepository, I: Read + Drop, O: Write + Drop, E: Writer>(
     rt: &HostRuntime,
     repository: &mut S,
@@ -53,7 +54,10 @@ pub fn command<S: AuditedRepository, I: Read + Drop, O: Write + Drop, E: Writer>
     match requested_by(rt.alloc(), PROGRAM, words, MAX_RATE as u32) {
         Ok(request) => {
             let (ended, output) = run(rt, repository, request, input, output);
-            (ended.write_to(errors), output)
+            let said = Said::by(&ended);
+            let status = ended.write_to(errors);
+            help(rt, request, said);
+            (status, output)
         }
         Err(fault) => refuse(&fault, output, errors),
     }
@@ -78,17 +82,10 @@ fn run<S: AuditedRepository, I: Read + Drop, O: Write + Drop>(
             record,
         } => {
             let tariff = Tariff::flat(rt.alloc(), cpu, excp, record);
-            let (came, output) = run_trial(rt.alloc(), layout, tariff, input, output);
-            (Ended::without_log(came), output)
+            run_trial(rt.alloc(), layout, tariff, input, output)
         }
-        Request::TrialUnder { layout, file } => {
-            let (came, output) = run_trial_under(rt, layout, file, input, output);
-            (Ended::without_log(came), output)
-        }
-        Request::Check(dump) => {
-            let (came, output) = check(rt, dump, output);
-            (Ended::without_log(came), output)
-        }
+        Request::TrialUnder { layout, file } => run_trial_under(rt, layout, file, input, output),
+        Request::Check(dump) => check(rt, dump, output),
         Request::Explain { kind, number } => {
             let came = explain(kind, number, &mut output);
             (Ended::without_log(came), output)
@@ -122,6 +119,7 @@ fn run_on_books<S: AuditedRepository, O: Write + Drop>(
         BookRequest::Choose { name } => tell(choose(rt, repository, book, name), output),
         BookRequest::ChooseListed { file } => choose_listed(rt, repository, book, file, output),
         BookRequest::Adopt => tell(adopt(rt, repository, book), output),
+        BookRequest::DryRun(ruling) => tell(dry_run(rt, repository, book, ruling), output),
         BookRequest::OfPeriod {
             report,
             period,
@@ -140,11 +138,12 @@ fn run_on_books<S: AuditedRepository, O: Write + Drop>(
             output,
         ),
         BookRequest::Disputes { csv } => {
-            tell(report_disputes(rt, repository, book, csv), output)
+            let (listed, output) = write_list(rt, repository, book, disputes_by(csv), output);
+            (Ended::settled(listed), output)
         }
         BookRequest::Periods => tell(report_periods(rt, repository, book), output),
         BookRequest::Rulings => {
-            let (listed, output) = list_rulings(rt, repository, book, output);
+            let (listed, output) = write_list(rt, repository, book, StreamedList::Rulings, output);
             (Ended::settled(listed), output)
         }
         BookRequest::TariffText { date } => {
@@ -197,7 +196,7 @@ fn refuse<O: Write + Drop, E: Writer>(
     }
 }
 
-/// Says what a number means.
+/// Says what a number or a word means.
 fn explain<O: Write + Drop>(
     kind: NumberKind,
     number: u16,
@@ -221,7 +220,14 @@ fn numbered(kind: NumberKind) -> FaultKind
         NumberKind::Ledger => FaultKind::Ledger,
         NumberKind::Tariff => FaultKind::Tariff,
         NumberKind::Damaged => FaultKind::Damage,
-        NumberKind::Log => FaultKind::Log,
+        NumberKind::Io => FaultKind::Word(WordKind::Io),
+        NumberKind::Busy => FaultKind::Word(WordKind::Busy),
+        NumberKind::Exists => FaultKind::Word(WordKind::Exists),
+        NumberKind::Word => FaultKind::Word(WordKind::Word),
+        NumberKind::Unsound => FaultKind::Word(WordKind::Unsound),
+        NumberKind::Log => FaultKind::Word(WordKind::Log),
+        NumberKind::Layout => FaultKind::Word(WordKind::Layout),
+        NumberKind::Far => FaultKind::Word(WordKind::Far),
     }
 }
 
@@ -232,17 +238,18 @@ fn run_trial<I: Read + Drop, O: Write + Drop>(
     tariff: Option<Tariff>,
     input: I,
     output: O,
-) -> (Result<(), CommandFault>, O)
+) -> (Ended, O)
     ensures { TriesBy layout tariff (I.remaining input) (O.contents output) (O.contents result.1)
         result.0 }
 {
     let Some(tariff) = tariff else {
-        return (Err(CommandFault::Usage), output);
+        return (Ended::without_log(Err(CommandFault::Usage)), output);
     };
-    let mut source = Source::new(input);
+    let LookedAt { reader, is_misread } = look_at(alloc, layout, input);
+    let mut source = Source::new(reader);
     let mut sink = Sink::new(output);
     let told = trial(alloc, &mut source, layout, MAX_READS, tariff, &mut sink);
-    (trial_ended(told), sink.into_inner())
+    (trial_ended(is_misread, told), sink.into_inner())
 }
 
 /// Prices the records of the input under the tariff of a file, whatever its first day is.
@@ -252,13 +259,13 @@ fn run_trial_under<I: Read + Drop, O: Write + Drop>(
     file: &str,
     input: I,
     output: O,
-) -> (Result<(), CommandFault>, O)
+) -> (Ended, O)
     ensures { TriesUnder layout (I.remaining input) (O.contents output) (O.contents result.1)
         result.0 }
 {
     match read_tariff(rt, file) {
         Ok(tariff) => run_trial(rt.alloc(), layout, Some(tariff), input, output),
-        Err(fault) => (Err(fault), output),
+        Err(fault) => (Ended::without_log(Err(fault)), output),
     }
 }
 
@@ -282,38 +289,54 @@ fn lasting_tariff(alloc: Global, text: &str) -> Result<Tariff, CommandFault>
     }
 }
 
-/// How a trial ends.
-fn trial_ended(told: Result<Receipt, ReportFault>) -> Result<(), CommandFault>
-    ensures { result ≡ trial_end told }
+/// How a trial ends of a dump that looks misread or not.
+fn trial_ended(is_misread: bool, told: Result<Receipt, ReportFault>) -> Ended
+    ensures { result ≡ trial_end is_misread told }
 {
-    ended(told?.stop)
+    match told {
+        Ok(receipt) => Ended::at_stop(receipt.stop, is_misread),
+        Err(fault) => Ended::without_log(Err(CommandFault::from(fault))),
+    }
 }
 
 /// Says what each record of a file is. Where the list goes to a terminal, the list itself shows how
 /// far it is.
-fn check<O: Write + Drop>(
-    rt: &HostRuntime,
-    dump: DumpFile<'_>,
-    output: O,
-) -> (Result<(), CommandFault>, O)
+fn check<O: Write + Drop>(rt: &HostRuntime, dump: DumpFile<'_>, output: O) -> (Ended, O)
     ensures { Checks dump.entry.layout (O.contents output) (O.contents result.1) result.0 }
 {
     let layout = dump.layout;
     let is_shown = !dump.quiet && rt.stderr().is_terminal() && !rt.stdout().is_terminal();
     let reader = match WatchedReader::open(rt, dump.file, is_shown) {
         Ok(reader) => reader,
-        Err(error) => return (Err(CommandFault::from(error)), output),
+        Err(error) => return (Ended::without_log(Err(CommandFault::from(error))), output),
     };
-    let mut source = Source::new(reader);
-    let mut sink = Sink::new(output);
-    let answer = check_list(rt.alloc(), &mut source, layout, MAX_READS, &mut sink);
-    source.into_inner().clear();
-    (check_ended(answer), sink.into_inner())
+    let (ended, output) = list_dump(rt.alloc(), layout, reader, output);
+    clear_line(rt, is_shown);
+    (ended, output)
 }
 
-/// How a check ends.
-fn check_ended(told: Result<Stop, ReportFault>) -> Result<(), CommandFault>
-    ensures { result ≡ check_end told }
+/// Says what each record is that a reader gives.
+fn list_dump<R: Read + Drop, O: Write + Drop>(
+    alloc: Global,
+    layout: Layout,
+    reader: R,
+    output: O,
+) -> (Ended, O)
+    ensures { Lists layout (R.remaining reader) (O.contents output) (O.contents result.1) result.0 }
 {
-    ended(told?)
+    let LookedAt { reader, is_misread } = look_at(alloc, layout, reader);
+    let mut source = Source::new(reader);
+    let mut sink = Sink::new(output);
+    let told = check_list(alloc, &mut source, layout, MAX_READS, &mut sink);
+    (check_ended(is_misread, told), sink.into_inner())
+}
+
+/// How a check ends of a dump that looks misread or not.
+fn check_ended(is_misread: bool, told: Result<Stop, ReportFault>) -> Ended
+    ensures { result ≡ check_end is_misread told }
+{
+    match told {
+        Ok(stop) => Ended::at_stop(stop, is_misread),
+        Err(fault) => Ended::without_log(Err(CommandFault::from(fault))),
+    }
 }

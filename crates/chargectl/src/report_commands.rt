@@ -15,32 +15,6 @@ use office::{
 use smf_text::day_of_text;
 use std::io;
 
-/// The disputes, as a list or as a table.
-fn dispute_report(csv: bool) -> Report
-    ensures { result ≡ spec.dispute_report csv }
-{
-    if csv {
-        Report::DisputeTable
-    } else {
-        Report::DisputeList
-    }
-}
-
-/// Makes the list of disputes, or their table.
-pub(crate) fn report_disputes<S: Repository>(
-    rt: &HostRuntime,
-    repository: &mut S,
-    book: &str,
-    csv: bool,
-) -> Result<Answered, CommandFault>
-    ensures { ComesOf (BookRequest.Disputes csv) book.now
-        (S.shelf repository.old) (S.shelf repository.new) result }
-{
-    repository.expect(book)?;
-    let asked = Asked::Report(dispute_report(csv));
-    Ok(ask_books(rt, repository, book, asked, io::empty()))
-}
-
 /// Makes the list of periods.
 pub(crate) fn report_periods<S: Repository>(
     rt: &HostRuntime,

@@ -19,4 +19,5 @@ returns g c = record {
   ends = c.show_audited.ensures;
   log = c.audit-answer.ensures;
   change = refl;
+  notice = refl;
 }

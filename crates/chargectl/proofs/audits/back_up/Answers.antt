@@ -20,4 +20,5 @@ returns g c = record {
   ends = c.show_audited.ensures;
   log = c.back_up-answer.ensures.log;
   change = refl;
+  notice = refl;
 }

@@ -1,7 +1,7 @@
 use Rattle.chargectl.proofs.book_commands.ask_books.Goals as goal
 
-pub returns : goal.returns
-returns g c = record {
+pub returns-clause-answered : goal.returns-clause-answered
+returns-clause-answered g c = record {
   told = c.open-answer.result.answer;
   done = c.open-answer.ensures.opened;
   says = c.answer_in.ensures;

@@ -1,23 +1,20 @@
-use Rattle.std.proofs.Common.{◌∙◌, refl, sym}
 use Rattle.command_line.specs.declared.request.BookRequest.TheVariants as book
-use Rattle.chargectl.specs.Commands.{AsksNothing, IsShelfFault}
-use Rattle.chargectl.specs.Faults.{shelf_fault}
-use Rattle.chargectl.proofs.CommandLemmas.{not_asked, of_kind, word_gone, word_there}
-use Rattle.office.proofs.ShelfLemmas.{untouched}
+use Rattle.chargectl.specs.Commands.{AsksNothing}
+use Rattle.chargectl.proofs.CommandLemmas.{not_asked, of_kind}
 use Rattle.chargectl.proofs.book_commands.close.Goals as goal
 
-pub returns-in-None : goal.returns-in-None
-returns-in-None g c = (
-  word_gone _ IsShelfFault (sym c.day_of_text.ensures.value ∙ c.in-None.is),
-  untouched c.args.book.now (g.S.Repository.shelf c.args.repository.now),
-)
-
-pub returns-in_err-expect : goal.returns-in_err-expect
-returns-in_err-expect g c =
+pub returns-in_err-asked : goal.returns-in_err-asked
+returns-in_err-asked g c =
     let request = book.Close c.args.period c.args.date in
     not_asked request c.args.book.now (g.S.Repository.shelf c.args.repository.now)
     c.from_residual.result c.from_residual.ensures.0
-    (of_kind c.from_residual.result (shelf_fault c.in_err-expect.field-0.0) (AsksNothing request)
-    c.from_residual.ensures.1
-    (word_there _ c.in-Some.through IsShelfFault (shelf_fault c.in_err-expect.field-0.0)
-    (sym c.day_of_text.ensures.value ∙ c.in-Some.is) (c.in_err-expect.field-0.0, refl)))
+    (of_kind c.from_residual.result c.in_err-asked.field-0.0 (AsksNothing request)
+    c.from_residual.ensures.1 c.in_err-asked.ensures)
+
+pub returns : goal.returns
+returns g c = record {
+  asked = c.in_ok-asked.asked;
+  words = c.in_ok-asked.ensures.0;
+  came = c.rule_on_day.ensures.answered;
+  notice = c.rule_on_day.ensures.dated;
+}

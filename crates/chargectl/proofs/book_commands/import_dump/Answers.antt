@@ -26,4 +26,19 @@ returns-in_err-input g c =
     (inr (error_kind c.in_err-input.field-0.0, refl)))
 
 pub returns : goal.returns
-returns g c = record { asked = asks.Import c.args.dump.layout; words = refl; came = c.ask_books-answered.ensures }
+returns g c = record {
+  asked = asks.Import c.args.dump.layout;
+  words = refl;
+  came = record {
+    told = c.ask_books-answered.ensures.answered.told;
+    done = c.ask_books-answered.ensures.answered.done;
+    says = c.ask_books-answered.ensures.answered.says;
+    log = c.ask_books-answered.ensures.answered.log;
+    change = c.ask_books-answered.ensures.answered.change;
+  };
+  notice = (
+    c.look_at-reader.result.is_misread,
+    c.look_at-reader.ensures.looked,
+    c.answer_notice-answered.ensures,
+  );
+}

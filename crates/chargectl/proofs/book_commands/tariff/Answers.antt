@@ -1,27 +1,20 @@
-use Rattle.std.proofs.Common.{inl, inr, refl}
 use Rattle.command_line.specs.declared.request.BookRequest.TheVariants as book
 use Rattle.chargectl.specs.Commands.{AsksNothing}
-use Rattle.chargectl.specs.Faults.{shelf_fault}
 use Rattle.chargectl.proofs.CommandLemmas.{not_asked, of_kind}
-use Rattle.office.specs.declared.request.Asked.TheVariants as asks
 use Rattle.chargectl.proofs.book_commands.tariff.Goals as goal
 
-pub returns-in_err-expect : goal.returns-in_err-expect
-returns-in_err-expect g c =
+pub returns-in_err-asked : goal.returns-in_err-asked
+returns-in_err-asked g c =
     let request = book.Tariff c.args.file in
     not_asked request c.args.book.now (g.S.Repository.shelf c.args.repository.now)
     c.from_residual.result c.from_residual.ensures.0
-    (of_kind c.from_residual.result (shelf_fault c.in_err-expect.field-0.0) (AsksNothing request)
-    c.from_residual.ensures.1 (inl (c.in_err-expect.field-0.0, refl)))
-
-pub returns-in_err-tariff_text : goal.returns-in_err-tariff_text
-returns-in_err-tariff_text g c =
-    let request = book.Tariff c.args.file in
-    not_asked request c.args.book.now (g.S.Repository.shelf c.args.repository.now)
-    c.from_residual-in_err-tariff_text.result c.from_residual-in_err-tariff_text.ensures.0
-    (of_kind c.from_residual-in_err-tariff_text.result c.in_err-tariff_text.field-0.0
-    (AsksNothing request) c.from_residual-in_err-tariff_text.ensures.1
-    (inr c.in_err-tariff_text.ensures))
+    (of_kind c.from_residual.result c.in_err-asked.field-0.0 (AsksNothing request)
+    c.from_residual.ensures.1 c.in_err-asked.ensures)
 
 pub returns : goal.returns
-returns g c = record { asked = asks.Tariff c.in_ok-tariff_text.field-0; words = tt; came = c.ask_books.ensures }
+returns g c = record {
+  asked = c.in_ok-asked.asked;
+  words = c.in_ok-asked.ensures.0;
+  came = c.rule_on_day.ensures.answered;
+  notice = c.rule_on_day.ensures.dated;
+}

@@ -27,5 +27,6 @@ pub returns : goal.returns
 returns g c = record {
   asked = asks.Report c.in-Some.made;
   words = sym c.period_report.ensures ∙ c.in-Some.is;
-  came = c.ask_books.ensures;
+  came = c.ask_books.ensures.answered;
+  notice = c.ask_books.ensures.notice;
 }

@@ -16,4 +16,9 @@ returns-in_err-expect g c =
     c.from_residual.ensures.1 (c.in_err-expect.field-0.0, refl))
 
 pub returns : goal.returns
-returns g c = record { asked = asks.Report PeriodList; words = refl; came = c.ask_books.ensures }
+returns g c = record {
+  asked = asks.Report PeriodList;
+  words = refl;
+  came = c.ask_books.ensures.answered;
+  notice = c.ask_books.ensures.notice;
+}

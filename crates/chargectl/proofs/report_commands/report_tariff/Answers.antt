@@ -37,5 +37,6 @@ returns g c =
       words = ap (option_map TariffText) (sym c.day_of_text.ensures.value ∙ c.in-Some.is);
       came = subst (λ day. IsAnswered (asks.Report (TariffText day)) c.args.book.now
           (g.S.Repository.shelf c.args.repository.now) (g.S.Repository.shelf c.ask_books.new.repository)
-          c.ask_books.result) (day_kept day is_day) c.ask_books.ensures;
+          c.ask_books.result) (day_kept day is_day) c.ask_books.ensures.answered;
+      notice = c.ask_books.ensures.notice;
     }

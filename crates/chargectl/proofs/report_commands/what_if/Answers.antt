@@ -37,5 +37,6 @@ pub returns : goal.returns
 returns g c = record {
   asked = asks.WhatIf c.in-Some.report c.in_ok-tariff.tariff;
   words = sym c.what_if_of.ensures ∙ c.in-Some.is;
-  came = c.ask_books.ensures;
+  came = c.ask_books.ensures.answered;
+  notice = c.ask_books.ensures.notice;
 }

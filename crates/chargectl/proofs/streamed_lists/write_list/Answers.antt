@@ -1,12 +1,12 @@
-use Rattle.std.proofs.Common.{◌∙◌, Ok, false, ap, refl, subst, sym}
+use Rattle.std.proofs.Common.{◌∙◌, None, Ok, false, ap, refl, subst, sym}
 use Rattle.std.specs.Prelude.{IsErr}
 use Rattle.std.specs.Io.KnownBytes.{Keeps}
 use Rattle.streams.specs.Sinks.{writer_of}
 use Rattle.office.proofs.ShelfLemmas.{untouched}
 use Rattle.chargectl.specs.Commands.{first_fault}
-use Rattle.chargectl.specs.RulingList.{ListsBy}
-use Rattle.chargectl.proofs.RulingListLemmas.{came_kept, opened_kept}
-use Rattle.chargectl.proofs.ruling_list.list_rulings.Goals as goal
+use Rattle.chargectl.specs.StreamedLists.{ListsBy}
+use Rattle.chargectl.proofs.StreamedListLemmas.{came_kept, opened_kept}
+use Rattle.chargectl.proofs.streamed_lists.write_list.Goals as goal
 
 pub returns-in-Err : goal.returns-in-Err
 returns-in-Err g c = (
@@ -18,6 +18,7 @@ returns-in-Err g c = (
 pub returns : goal.returns
 returns g c =
     let contents = g.O.Write.contents in
+    let list = c.args.list in
     let book = c.args.book.now in
     let old = g.S.Repository.shelf c.args.repository.now in
     let new = g.S.Repository.shelf c.open-answer.new.self in
@@ -27,17 +28,18 @@ returns g c =
     let told = c.open-answer.result.answer in
     let kept : Keeps has holds =
     subst (λ output. Keeps (contents output) holds) c.into_inner-output.ensures c.flushed.ensures.kept in
-    subst (λ held. ListsBy book old new held holds (Ok (record {
+    subst (λ held. ListsBy list book old new held holds (Ok (record {
       came = c.flushed.result;
       has_log = c.open-answer.result.has_log;
       is_change = false;
+      notice = None;
     })))
     (ap contents c.new.ensures.writer)
     (record {
       told = told;
       flushed = c.flushed.result;
-      done = opened_kept book old new held has holds kept told c.open-answer.ensures.opened;
-      some = came_kept book old new held has holds kept _ told
+      done = opened_kept list book old new held has holds kept told c.open-answer.ensures.opened;
+      some = came_kept list book old new held has holds kept _ told
           (λ same. ap (λ listing. contents (writer_of listing.sink)) same)
           (λ bad. ap contents (c.flushed.ensures.same (subst (λ came. IsErr came) (sym c.list_end.ensures) bad)
           ∙ c.into_inner-output.ensures))
@@ -46,4 +48,5 @@ returns g c =
           ∙ ap (λ came. first_fault came c.flushed.result) c.list_end.ensures;
       log = c.open-answer.ensures.log;
       change = refl;
+      notice = refl;
     })

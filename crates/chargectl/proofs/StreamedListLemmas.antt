@@ -1,17 +1,19 @@
--- The list of rulings, and the output after it was flushed.
-use Rattle.std.proofs.Common.{◌≡◌, ◌∙◌, false, true, true≢false, ℕ, List, Option, Result, Ok, Err}
+-- A list that was written, and the output after it was flushed.
+use Rattle.std.proofs.Common.{◌≡◌, ◌∙◌, true≢false, ℕ, List, Option, Result, Ok, Err}
 use Rattle.std.proofs.Common.{inl, inr, refl, sym, take}
 use Rattle.std.specs.Prelude.{IsErr}
-use Rattle.std.specs.Io.KnownBytes.{Appends, Keeps}
+use Rattle.std.specs.Io.KnownBytes.{Keeps}
 use Rattle.std.proofs.KnownBytes.{Appends-kept}
 use Rattle.book_reports.specs.declared.fault.ReportFault.{ReportFault}
-use Rattle.book_reports.specs.StreamedRulings.{WritesRulings, WritesSomeRulings}
+use Rattle.book_reports.specs.StreamedRulings.{WritesReport}
 use Rattle.book_reports.specs.Writing.{WritesPrefix}
 use Rattle.office.specs.declared.repository.RepositoryFault.{RepositoryFault}
 use Rattle.office.specs.declared.repository.RepositoryFault.TheVariants.{Unseen}
 use Rattle.office.specs.Shelves.{ComesBy, IsDoneTo, IsOpened, Shelf}
 use Rattle.office.proofs.ShelfLemmas.{done_as}
-use Rattle.chargectl.specs.RulingList.{list_end}
+use Rattle.chargectl.specs.declared.streamed_lists.StreamedList.{StreamedList}
+use Rattle.chargectl.specs.declared.streamed_lists.StreamedList.TheVariants as list
+use Rattle.chargectl.specs.StreamedLists.{WritesSomeOf, list_end, list_text}
 
 -- a prefix stays written
 prefix_kept : (text : List ℕ) (held has holds : Option (List ℕ)) (told : Result (Unit {0}) ReportFault)
@@ -20,18 +22,21 @@ prefix_kept text held has holds (Ok done) kept grown = Appends-kept held has hol
 prefix_kept text held has holds (Err fault) kept cut =
     (cut.0, Appends-kept held has holds (take cut.0 text) cut.1 kept)
 
-some_kept : (held has holds : Option (List ℕ)) (told : Result (Unit {0}) ReportFault)
-    → Keeps has holds → WritesSomeRulings held has told → WritesSomeRulings held holds told
-some_kept held has holds told kept some =
+some_kept : (list : StreamedList) (held has holds : Option (List ℕ))
+    (told : Result (Unit {0}) ReportFault)
+    → Keeps has holds → WritesSomeOf list held has told → WritesSomeOf list held holds told
+some_kept list.Rulings held has holds told kept some =
+    (some.0, prefix_kept _ held has holds told kept some.1)
+some_kept (list.Disputes form) held has holds told kept some =
     (some.0, prefix_kept _ held has holds told kept some.1)
 
-module _ (book : List ℕ) (old new : Shelf) (held has holds : Option (List ℕ)) (kept : Keeps has holds)
+module _ (list : StreamedList) (book : List ℕ) (old new : Shelf) (held has holds : Option (List ℕ)) (kept : Keeps has holds)
   where
     done_kept : (told : Result (Unit {0}) ReportFault)
-        → IsDoneTo book (WritesRulings old.naming held has told) old new
-        → IsDoneTo book (WritesRulings old.naming held holds told) old new
+        → IsDoneTo book (WritesReport (list_text list) old.naming held has told) old new
+        → IsDoneTo book (WritesReport (list_text list) old.naming held holds told) old new
     done_kept told done =
-        done_as book (WritesRulings old.naming held has told) (WritesRulings old.naming held holds told)
+        done_as book (WritesReport (list_text list) old.naming held has told) (WritesReport (list_text list) old.naming held holds told)
         old new
         (λ before events is it. record {
           none = it.none;
@@ -43,8 +48,8 @@ module _ (book : List ℕ) (old new : Shelf) (held has holds : Option (List ℕ)
         done
 
     pub opened_kept : (told : Result (Result (Unit {0}) ReportFault) RepositoryFault)
-        → IsOpened (WritesRulings old.naming held has) book old new told
-        → IsOpened (WritesRulings old.naming held holds) book old new told
+        → IsOpened (WritesReport (list_text list) old.naming held has) book old new told
+        → IsOpened (WritesReport (list_text list) old.naming held holds) book old new told
     opened_kept (Ok written) done = done_kept written done
     opened_kept (Err Unseen) (inl seen) = inl (seen.0, done_kept seen.0 seen.1)
     opened_kept (Err Unseen) (inr none) = inr none
@@ -53,10 +58,10 @@ module _ (book : List ℕ) (old new : Shelf) (held has holds : Option (List ℕ)
     -- of a list that was not begun nothing is flushed
     pub came_kept : (Same : Type 0) (told : Result (Result (Unit {0}) ReportFault) RepositoryFault)
         → (Same → has ≡ held) → (IsErr (list_end told) → holds ≡ has)
-        → ComesBy (WritesSomeRulings held has) Same told
-        → ComesBy (WritesSomeRulings held holds) (holds ≡ held) told
-    came_kept Same (Ok written) still same some = some_kept held has holds written kept some
+        → ComesBy (WritesSomeOf list held has) Same told
+        → ComesBy (WritesSomeOf list held holds) (holds ≡ held) told
+    came_kept Same (Ok written) still same some = some_kept list held has holds written kept some
     came_kept Same (Err Unseen) still same (inl seen) =
-        inl (seen.0, some_kept held has holds seen.0 kept seen.1)
+        inl (seen.0, some_kept list held has holds seen.0 kept seen.1)
     came_kept Same (Err Unseen) still same (inr none) = inr (same refl ∙ still none)
     came_kept Same (Err fault) still same none = same refl ∙ still none

@@ -1,0 +1,212 @@
+-- Rulings of a day: the newest day is read, and then the ruling is asked for.
+use Rattle.std.proofs.Common.{◌≡◌, ◌∙◌, Bool, false, List, [], ◌++◌, append-nil, refl, sym, ap, subst}
+use Rattle.std.proofs.Common.{Option, None, Result, Ok, Err, ◌⊎◌, inl, inr, ℕ, ℤ}
+use Rattle.std.specs.Result.{IsErrAnd}
+use Rattle.std.proofs.lemmas.Result.{err_from_is_err_and}
+use Rattle.streams.specs.InputOutput.{Input, ReaderSeen}
+use Rattle.book_model.specs.declared.fault.LedgerFault.{LedgerFault}
+use Rattle.book_model.specs.declared.fault.LedgerFault.TheVariants.{Memory, Store, Reopen}
+use Rattle.book_model.specs.Words.{Book, Event, Naming, Outcome, after_all}
+use Rattle.book_core.specs.Calls.{Calls, IsCall}
+use Rattle.book_core.specs.Ledgers.{Seen}
+use Rattle.book_core.specs.Transition.{IsTransition, Then}
+use Rattle.book_core.proofs.TransitionLemmas.{work_as, work_then}
+use Rattle.book_reports.specs.declared.figures.OpenPeriod.{OpenPeriod}
+use Rattle.book_reports.specs.Figures.{open_outcome}
+use Rattle.book_reports.proofs.ReadingLemmas.{IsReading, Tells, goes_on, read_as, read_then}
+use Rattle.book_reports.proofs.WritingLemmas.{same_value}
+use Rattle.office.specs.declared.repository.RepositoryFault.{RepositoryFault}
+use Rattle.office.specs.declared.repository.RepositoryFault.TheVariants.{Unseen}
+use Rattle.office.specs.declared.request.Answer.{Answer}
+use Rattle.office.specs.declared.request.Asked.{Asked}
+use Rattle.office.specs.declared.request.Asked.TheVariants.{Tariff, Close, Choose, Adopt, Import}
+use Rattle.office.specs.declared.request.Asked.TheVariants.{ImportBytes, Report, WhatIf}
+use Rattle.office.specs.Requests.{IsAskableRuling, IsAskableUnread, no_dump, response_by}
+use Rattle.office.specs.Shelves.{IsDoneTo, IsOpened, Shelf}
+use Rattle.office.proofs.ShelfLemmas.{done_as}
+use Rattle.chargectl.specs.declared.dated_rulings.DatedAnswer.{DatedAnswer}
+use Rattle.chargectl.specs.Commands.{AsksDated, AsksDatedBy, AsksOnceBy, answer_told}
+use Rattle.chargectl.specs.Far.{day_asked, far_on_outcome, far_outcome, is_far_asked, is_far_on}
+use Rattle.chargectl.specs.Far.{notice_by}
+
+-- a ruling may be asked for with any reader
+pub ruling_unread : (asked : Asked) → IsAskableRuling asked → IsAskableUnread asked
+ruling_unread (Tariff text) may = tt
+ruling_unread (Close period through) may = may
+ruling_unread (Choose name) may = tt
+ruling_unread (Adopt rule) may = tt
+ruling_unread (Import layout) may = absurd may
+ruling_unread (ImportBytes layout bytes) may = absurd may
+ruling_unread (Report report) may = absurd may
+ruling_unread (WhatIf report tariff) may = absurd may
+
+-- ---- what is read
+
+-- without memory for what is made of it, a call that was answered is one without memory
+pub memory_gone : {V A U B : Type 0} {view : V → A} {show : U → B} {old new : Seen} {value : V}
+    {outcome : Book → Outcome A} {other : Book → Outcome B} (result : Result U LedgerFault)
+    (fault : LedgerFault) → IsErrAnd result (λ given. given ≡ fault) → fault ≡ Memory
+    → IsReading outcome → IsReading other → IsCall view old new (Ok value) outcome
+    → IsCall show old new result other
+memory_gone result fault is memory none no_other call =
+    let failed = err_from_is_err_and result is in
+    rw (failed.1, failed.2, memory)
+    (read_as none no_other (record { reopen = refl; store = refl }) (λ book said. tt) call)
+
+-- the day is far from the book whose open period was read
+far_at : (asked : Asked) (day : Option ℤ) (period : OpenPeriod) (book : Book)
+    → day ≡ day_asked asked → (open_outcome book).answer ≡ Ok period
+    → is_far_on period day book ≡ is_far_asked asked book
+far_at asked day period book is early =
+    ap (λ day. is_far_on period day book) is
+    ∙ ap (λ period. is_far_on period (day_asked asked) book) (sym (same_value early))
+
+-- the open period was read, and then its rows
+pub far_read : {old mid new : Seen} (asked : Asked) (day : Option ℤ) (period : OpenPeriod)
+    (result : Result Bool LedgerFault) → day ≡ day_asked asked
+    → IsCall (λ (found : OpenPeriod). found) old mid (Ok period) open_outcome
+    → IsCall (λ (far : Bool). far) mid new result (far_on_outcome period day)
+    → IsCall (λ (far : Bool). far) old new result (far_outcome asked)
+far_read asked day period result is one next =
+    read_then (λ book. refl) (λ book. refl) (λ book. refl) (record { reopen = refl; store = refl })
+    (λ book early. subst (Tells (λ (far : Bool). far) result)
+    (ap Ok (far_at asked day period book is early))) one next
+
+-- ---- what is asked for
+
+-- the newest day was read, which is no event, and then the ruling was asked for
+dated_of : (naming : Naming) (asked : Asked) (far : Bool) (told : Result Answer LedgerFault)
+    (was : Bool) (before : Book) (events : List Event) (is : Bool)
+    → Then (Calls (λ (far : Bool). far) (far_outcome asked) (Ok far)) (AsksOnceBy naming asked told) was
+    before events is
+    → AsksDated naming asked (response_by told) (notice_by far (response_by told)) was before events is
+dated_of naming asked far told was before events is both =
+    let early : both.early ≡ [] = both.first.makes.1 in
+    let open_still : both.between ≡ was = goes_on far was both.between both.first.reopens in
+    let same : is_far_asked asked before ≡ far = same_value both.first.makes.0 in
+    let all : events ≡ both.late = both.all ∙ ap (λ early. both.late ++ early) early
+    ∙ append-nil both.late in
+    let next : AsksOnceBy naming asked told was before both.late is =
+    subst (λ between. AsksOnceBy naming asked told between before both.late is) open_still
+    (subst (λ early. AsksOnceBy naming asked told both.between (after_all early before) both.late is)
+    early both.next) in
+    record {
+      once = subst (λ events. AsksOnceBy naming asked told was before events is) (sym all) next;
+      notice = ap (λ far. notice_by far (response_by told)) (sym same);
+    }
+
+pub asked_dated : (old mid new : Seen) (asked : Asked) (far : Bool) (told : Result Answer LedgerFault)
+    → IsCall (λ (far : Bool). far) old mid (Ok far) (far_outcome asked)
+    → IsTransition mid new (AsksOnceBy mid.naming asked told)
+    → IsTransition old new
+    (AsksDated old.naming asked (response_by told) (notice_by far (response_by told)))
+asked_dated old mid new asked far told one next =
+    work_as old new
+    (Then (Calls (λ (far : Bool). far) (far_outcome asked) (Ok far)) (AsksOnceBy old.naming asked told))
+    (AsksDated old.naming asked (response_by told) (notice_by far (response_by told)))
+    (dated_of old.naming asked far told)
+    (work_then old mid new (Calls (λ (far : Bool). far) (far_outcome asked) (Ok far))
+    (AsksOnceBy old.naming asked told) one.work
+    (subst (λ naming. IsTransition mid new (AsksOnceBy naming asked told)) one.work.naming next))
+
+-- where the newest day could not be read, no call of the ledger can be answered
+unread : {A : Type 0} (outcome : Book → Outcome A) (asked : Asked) (fault : LedgerFault) (was : Bool)
+    (before : Book) (events : List Event) (is : Bool)
+    → Calls (λ (far : Bool). far) (far_outcome asked) (Err fault) was before events is
+    → Calls (λ (told : A). told) outcome (Err fault) was before events is
+unread outcome asked Memory was before events is called = record {
+  makes = called.makes;
+  reopens = record { reopen = called.reopens.reopen; store = called.reopens.store };
+}
+unread outcome asked Store was before events is called = record {
+  makes = inl (either_way called.makes);
+  reopens = record { reopen = called.reopens.reopen; store = called.reopens.store };
+}
+  where
+    either_way : {events : List Event} → (events ≡ []) ⊎ (events ≡ []) → events ≡ []
+    either_way (inl is) = is
+    either_way (inr is) = is
+unread outcome asked Reopen was before events is called = record {
+  makes = called.makes;
+  reopens = record { reopen = called.reopens.reopen; store = called.reopens.store };
+}
+unread outcome asked fault was before events is called = cc called.makes.0
+
+-- a reader that nobody asks
+abbrev no_reader : ReaderSeen
+no_reader = record { left = None; reads = 0; has_failed = false; has_ended = false }
+
+abbrev no_input : Input
+no_input = record { old = no_reader; new = no_reader }
+
+-- nothing was asked for, since the newest day could not be read
+failed_of : (naming : Naming) (asked : Asked) (fault : LedgerFault) → IsAskableRuling asked
+    → (was : Bool) (before : Book) (events : List Event) (is : Bool)
+    → Calls (λ (far : Bool). far) (far_outcome asked) (Err fault) was before events is
+    → AsksDated naming asked (Err fault) None was before events is
+failed_of naming (Tariff text) fault may was before events is called = record {
+  once = record {
+    dump = no_dump;
+    input = no_input;
+    given = record { is = refl; same = refl };
+    made = unread _ (Tariff text) fault was before events is called;
+  };
+  notice = refl;
+}
+failed_of naming (Close period through) fault may was before events is called = record {
+  once = record {
+    dump = no_dump;
+    input = no_input;
+    given = record { is = refl; same = refl };
+    made = unread _ (Close period through) fault was before events is called;
+  };
+  notice = refl;
+}
+failed_of naming (Choose name) fault may was before events is called = record {
+  once = record {
+    dump = no_dump;
+    input = no_input;
+    given = record { is = refl; same = refl };
+    made = unread _ (Choose name) fault was before events is called;
+  };
+  notice = refl;
+}
+failed_of naming (Adopt rule) fault may was before events is called = record {
+  once = record {
+    dump = no_dump;
+    input = no_input;
+    given = record { is = refl; same = refl };
+    made = unread _ (Adopt rule) fault was before events is called;
+  };
+  notice = refl;
+}
+failed_of naming (Import layout) fault may was before events is called = absurd may
+failed_of naming (ImportBytes layout bytes) fault may was before events is called = absurd may
+failed_of naming (Report report) fault may was before events is called = absurd may
+failed_of naming (WhatIf report tariff) fault may was before events is called = absurd may
+
+pub failed_dated : (old new : Seen) (asked : Asked) (fault : LedgerFault) → IsAskableRuling asked
+    → IsCall (λ (far : Bool). far) old new (Err fault) (far_outcome asked)
+    → IsTransition old new (AsksDated old.naming asked (Err fault) None)
+failed_dated old new asked fault may call =
+    work_as old new (Calls (λ (far : Bool). far) (far_outcome asked) (Err fault))
+    (AsksDated old.naming asked (Err fault) None) (failed_of old.naming asked fault may) call.work
+
+-- what was done to books to ask for a ruling of a day is that it was asked for
+once_done : (asked : Asked) (book : List ℕ) (old new : Shelf) (dated : DatedAnswer)
+    → IsDoneTo book (AsksDatedBy old.naming asked dated) old new
+    → IsDoneTo book (AsksOnceBy old.naming asked dated.answer) old new
+once_done asked book old new dated done =
+    done_as book (AsksDatedBy old.naming asked dated) (AsksOnceBy old.naming asked dated.answer) old new
+    (λ before events is made. made.once) done
+
+-- books that were opened for a ruling of a day were opened to ask for it
+pub once_opened : (asked : Asked) (book : List ℕ) (old new : Shelf)
+    (told : Result DatedAnswer RepositoryFault)
+    → IsOpened (AsksDatedBy old.naming asked) book old new told
+    → IsOpened (AsksOnceBy old.naming asked) book old new (answer_told told)
+once_opened asked book old new (Ok dated) done = once_done asked book old new dated done
+once_opened asked book old new (Err Unseen) (inl seen) =
+    inl (seen.0.answer, once_done asked book old new seen.0 seen.1)
+once_opened asked book old new (Err Unseen) (inr none) = inr none
+once_opened asked book old new (Err fault) none = none

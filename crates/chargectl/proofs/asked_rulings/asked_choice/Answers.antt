@@ -1,0 +1,20 @@
+use Rattle.std.proofs.Common.{◌∙◌, refl, sym}
+use Rattle.command_line.specs.declared.request.BookRequest.TheVariants as book
+use Rattle.chargectl.specs.Commands.{IsShelfFault}
+use Rattle.chargectl.specs.Faults.{shelf_fault}
+use Rattle.chargectl.proofs.CommandLemmas.{word_gone, word_there}
+use Rattle.chargectl.proofs.DryRunLemmas.{none_asked}
+use Rattle.chargectl.proofs.asked_rulings.asked_choice.Goals as goal
+
+pub returns-in-None : goal.returns-in-None
+returns-in-None g c = word_gone _ IsShelfFault (sym c.name_of_text.ensures.read ∙ c.in-None.is)
+
+pub returns-in_err-expect : goal.returns-in_err-expect
+returns-in_err-expect g c =
+    none_asked (book.Choose c.args.name) c.from_residual.result
+    (shelf_fault c.in_err-expect.field-0.0) c.from_residual.ensures.0 c.from_residual.ensures.1
+    (word_there _ c.in-Some.chosen IsShelfFault (shelf_fault c.in_err-expect.field-0.0)
+    (sym c.name_of_text.ensures.read ∙ c.in-Some.is) (c.in_err-expect.field-0.0, refl))
+
+pub returns : goal.returns
+returns g c = (sym c.name_of_text.ensures.read ∙ c.in-Some.is, tt)

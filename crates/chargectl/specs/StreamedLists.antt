@@ -1,0 +1,68 @@
+-- Lists that are written while the books are open: the rulings and the disputes. They are never held
+-- whole.
+use Rattle.std.specs.Prelude.{◌≡◌, Bool, false, if◌then◌else◌, ℕ, List, ◌++◌, Option, None, Result, Ok, Err}
+use Rattle.std.proofs.Common.{sym, subst}
+use Rattle.book_model.specs.Words.{Book, IsMadeByCalls, Naming}
+use Rattle.book_core.specs.Follow.{MakesAnswered}
+use Rattle.book_reports.specs.declared.fault.ReportFault.{ReportFault}
+use Rattle.book_reports.specs.declared.streamed_disputes.DisputeForm.TheVariants as form
+use Rattle.book_reports.specs.BookTexts.{ruling_text}
+use Rattle.book_reports.specs.StreamedDisputes.{WritesSomeDisputes, dispute_report}
+use Rattle.book_reports.specs.StreamedRulings.{WritesReport, WritesSomeRulings}
+use Rattle.office.specs.declared.repository.RepositoryFault.{RepositoryFault}
+use Rattle.office.specs.Shelves.{Shelf, ComesBy, IsOpened, IsUntouched}
+use Rattle.chargectl.specs.declared.command_fault.CommandFault.{CommandFault}
+use Rattle.chargectl.specs.declared.command_fault.CommandFault.TheVariants as fault
+use Rattle.chargectl.specs.declared.ended.Ended.{Ended}
+use Rattle.chargectl.specs.declared.streamed_lists.StreamedList.{StreamedList}
+use Rattle.chargectl.specs.declared.streamed_lists.StreamedList.TheVariants as list
+use Rattle.chargectl.specs.Commands.{IsShelfFault, first_fault}
+use Rattle.chargectl.specs.Faults.{shelf_fault}
+
+-- the text of a list
+abbrev pub list_text : StreamedList → Naming → Book → List ℕ
+list_text list.Rulings = ruling_text
+list_text (list.Disputes form) = dispute_report form
+
+-- whatever the books are, it is one of some rulings, or of some disputes
+abbrev pub WritesSomeOf : StreamedList → Option (List ℕ) → Option (List ℕ)
+    → Result (Unit {0}) ReportFault → Type 0
+WritesSomeOf list.Rulings = WritesSomeRulings
+WritesSomeOf (list.Disputes form) = WritesSomeDisputes form
+
+-- the disputes, as a table or as a list for people
+abbrev pub disputes_by : Bool → StreamedList
+disputes_by csv = list.Disputes (if csv then form.Table else form.List)
+
+-- a list makes events that the books answered, since it makes none
+pub listing_answered : (text : Naming → Book → List ℕ) (naming : Naming) (held holds : Option (List ℕ)) (told : Result (Unit {0}) ReportFault)
+    → MakesAnswered naming (WritesReport text naming held holds told)
+listing_answered text naming held holds told history was events is it answered =
+    subst (λ events. IsMadeByCalls naming (events ++ history)) (sym it.none) answered
+
+-- what came of the list: it was written whole, or not, or the books were not opened
+abbrev pub list_end : Result (Result (Unit {0}) ReportFault) RepositoryFault
+    → Result (Unit {0}) CommandFault
+list_end (Ok (Ok done)) = Ok done
+list_end (Ok (Err refused)) = Err (fault.Report refused)
+list_end (Err shelf) = Err (shelf_fault shelf)
+
+-- A list of the books was written while they were open, and then the output was flushed, where all
+-- went well so far.
+pub record Lists (list : StreamedList) (book : List ℕ) (old new : Shelf)
+    (held holds : Option (List ℕ)) (ended : Ended) : Type 0 where
+  pub told : Result (Result (Unit {0}) ReportFault) RepositoryFault
+  pub flushed : Result (Unit {0}) CommandFault
+  pub done : IsOpened (WritesReport (list_text list) old.naming held holds) book old new told
+  pub some : ComesBy (WritesSomeOf list held holds) (holds ≡ held) told
+  pub ends : ended.came ≡ first_fault (list_end told) flushed
+  pub log : new.has_log book ended.has_log
+  pub change : ended.is_change ≡ false
+  pub notice : ended.notice ≡ None
+
+-- or there was nothing of that name
+abbrev pub ListsBy : StreamedList → List ℕ → Shelf → Shelf → Option (List ℕ) → Option (List ℕ)
+    → Result Ended CommandFault → Type 0
+ListsBy list book old new held holds (Ok ended) = Lists list book old new held holds ended
+ListsBy list book old new held holds (Err why) =
+    IsShelfFault why × IsUntouched book old new × (holds ≡ held)

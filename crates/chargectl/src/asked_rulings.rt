@@ -1,0 +1,90 @@
+//! What the office is asked for a ruling. Faults are found in this order: a date or a name, the
+//! books, the file.
+
+ghost use Rattle.command_line.specs.Requests.{request_of};
+ghost use Rattle.chargectl.specs.DryRuns.{IsAskedFor};
+
+use crate::book_commands::tariff_text;
+use crate::command_fault::CommandFault;
+use command_line::{BookRequest, Ruling};
+use office::{Asked, Repository};
+use program_output::name_of_text;
+use smf_text::day_of_text;
+
+/// The rule of identity that can be adopted: books begin under the other one.
+const LATER_RULE: u8 = 2;
+
+/// What is asked for a ruling on the books of a name.
+pub(crate) fn asked_ruling<S: Repository>(
+    rt: &HostRuntime,
+    repository: &S,
+    book: &str,
+    ruling: Ruling<'_>,
+) -> Result<Asked, CommandFault>
+    ensures { IsAskedFor (request_of ruling.entry) result }
+{
+    match ruling {
+        Ruling::Tariff { file } => asked_tariff(rt, repository, book, file),
+        Ruling::Close { period, date } => asked_close(repository, book, period, date),
+        Ruling::Choose { name } => asked_choice(repository, book, name),
+        Ruling::Adopt => asked_adoption(repository, book),
+    }
+}
+
+/// What is asked for a tariff, by its file.
+pub(crate) fn asked_tariff<S: Repository>(
+    rt: &HostRuntime,
+    repository: &S,
+    book: &str,
+    file: &str,
+) -> Result<Asked, CommandFault>
+    ensures { IsAskedFor (BookRequest.Tariff file.entry) result }
+{
+    repository.expect(book)?;
+    let text = tariff_text(rt, file)?;
+    Ok(Asked::Tariff(text))
+}
+
+/// What is asked for a close.
+pub(crate) fn asked_close<S: Repository>(
+    repository: &S,
+    book: &str,
+    period: u16,
+    date: &str,
+) -> Result<Asked, CommandFault>
+    ensures { IsAskedFor (BookRequest.Close period date.entry) result }
+{
+    let through = match day_of_text(date) {
+        Some(through) => through,
+        None => return Err(CommandFault::Argument),
+    };
+    repository.expect(book)?;
+    Ok(Asked::Close { period, through })
+}
+
+/// What is asked for a choice.
+pub(crate) fn asked_choice<S: Repository>(
+    repository: &S,
+    book: &str,
+    name: &str,
+) -> Result<Asked, CommandFault>
+    ensures { IsAskedFor (BookRequest.Choose name.entry) result }
+{
+    let chosen = match name_of_text(name) {
+        Some(chosen) => chosen,
+        None => return Err(CommandFault::Argument),
+    };
+    repository.expect(book)?;
+    Ok(Asked::Choose(chosen))
+}
+
+/// What is asked for the adoption of the later rule of identity.
+pub(crate) fn asked_adoption<S: Repository>(
+    repository: &S,
+    book: &str,
+) -> Result<Asked, CommandFault>
+    ensures { IsAskedFor BookRequest.Adopt result }
+{
+    repository.expect(book)?;
+    Ok(Asked::Adopt(LATER_RULE))
+}

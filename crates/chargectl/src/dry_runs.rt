@@ -1,0 +1,178 @@
+//! Dry runs: a ruling is tried on a copy of the books, and what it would change is shown.
+
+ghost use Rattle.std.specs.Prelude.{◌≡◌, ◌⊎◌, IfErr, IfOk, Ok};
+ghost use Rattle.book_model.specs.declared.fault.LedgerFault.TheVariants.{Memory};
+ghost use Rattle.book_core.specs.Transition.{IsTransition};
+ghost use Rattle.report_texts.specs.DryRuns.{NamesDay};
+ghost use Rattle.office.specs.Requests as requests;
+ghost use Rattle.office.specs.Requests.{IsAskableRuling};
+ghost use Rattle.office.proofs.AskLemmas.{ruling_once};
+ghost use Rattle.command_line.specs.Requests.{request_of};
+ghost use Rattle.chargectl.specs.DryRuns.{ComesOfDryRun, IsNamedBy, IsShown, IsTriedOnce};
+ghost use Rattle.chargectl.specs.DryRuns.{IsUnnamed, TriesOnceBy, dated_by, tried_answered};
+ghost use Rattle.chargectl.specs.Far.{notice_by};
+
+use crate::asked_rulings::asked_ruling;
+use crate::command_fault::CommandFault;
+use crate::dated_rulings::{DatedAnswer, told_in};
+use crate::ended::Answered;
+use crate::far::is_far_asked;
+use crate::notice::Notice;
+use book_core::{Ledger, LedgerFault, Ruled, Tariff};
+use book_reports::{open_period, period_figures};
+use command_line::Ruling;
+use office::{Answer, Asked, Opened, Repository, Visit, ask_without_reader};
+use report_texts::{Figures, TriedRuling, dry_run_text};
+use std::alloc::Global;
+
+/// A ruling that is to be tried.
+#[derive(Drop)]
+struct DryRun {
+    alloc: Global,
+    asked: Asked,
+    ghost ruling: { IsAskableRuling asked } by { Prim.hlevel ruling_once },
+}
+
+impl Visit for DryRun {
+    /// The text of the dry run, or why there is none, and what was noticed.
+    type Answer = DatedAnswer;
+
+    ghost work = { λ naming run _ dated. TriesOnceBy naming run.asked dated };
+
+    ghost comes = { λ _ _ _. Unit {0} };
+
+    ghost answered = { λ naming run _ dated. tried_answered naming run.asked dated };
+
+    fn visit<L: Ledger>(&mut self, books: &mut L) -> DatedAnswer {
+        dated(try_ruling(self.alloc, books, &self.asked))
+    }
+}
+
+/// What is shown, and what is noticed; of a refusal nothing is.
+fn dated(shown: Result<(Answer, Option<Notice>), LedgerFault>) -> DatedAnswer
+    ensures { result ≡ dated_by shown }
+{
+    match shown {
+        Ok((text, notice)) => DatedAnswer {
+            answer: Ok(text),
+            notice,
+        },
+        Err(fault) => DatedAnswer {
+            answer: Err(fault),
+            notice: None,
+        },
+    }
+}
+
+/// Shows what a ruling would change. Faults are found in the order in which the ruling itself finds
+/// them.
+pub(crate) fn dry_run<S: Repository>(
+    rt: &HostRuntime,
+    repository: &mut S,
+    book: &str,
+    ruling: Ruling<'_>,
+) -> Result<Answered, CommandFault>
+    ensures { ComesOfDryRun (request_of ruling.entry) book.now
+        (S.shelf repository.old) (S.shelf repository.new) result }
+{
+    let asked = asked_ruling(rt, repository, book, ruling)?;
+    Ok(try_books(rt.alloc(), repository, book, asked))
+}
+
+/// Tries a ruling on a copy of the books of a name.
+fn try_books<S: Repository>(alloc: Global, repository: &mut S, book: &str, asked: Asked) -> Answered
+    requires { IsAskableRuling asked }
+    ensures { IsTriedOnce asked book.now (S.shelf repository.old) (S.shelf repository.new) result }
+{
+    let mut run = DryRun { alloc, asked };
+    let Opened { answer, has_log } = repository.try_out(book, &mut run);
+    let (answer, notice) = told_in(answer);
+    Answered {
+        answer,
+        has_log,
+        is_change: false,
+        notice,
+    }
+}
+
+/// Rules on open books, and shows the figures of the period that was open before it, and after it.
+#[tactic(auto, using(office::proofs::AskLemmas::ruling_alone))]
+fn try_ruling<L: Ledger>(
+    alloc: Global,
+    books: &mut L,
+    asked: &Asked,
+) -> Result<(Answer, Option<Notice>), LedgerFault>
+    requires { IsAskableRuling asked.now }
+    ensures { IsTransition (L.seen books.old) (L.seen books.new)
+        (TriesOnceBy (L.seen books.old).naming asked.now (dated_by result)) }
+{
+    let is_far = is_far_asked(alloc, books, asked)?;
+    let period = open_period(books)?;
+    let ruling = named(alloc, asked)?;
+    let before = period_figures(alloc, books, ruling, period.number)?;
+    let answer = ask_without_reader(alloc, books, asked)?;
+    let after = period_figures(alloc, books, ruling, period.number)?;
+    shown(
+        alloc,
+        ruling,
+        answer,
+        period.number,
+        &before,
+        &after,
+        is_far,
+    )
+}
+
+/// A ruling, as its dry run names it: a tariff by its first day, if its text is one.
+fn named(alloc: Global, asked: &Asked) -> Result<TriedRuling, LedgerFault>
+    requires { IsAskableRuling asked.now }
+    ensures named { IfOk result (IsNamedBy asked.now) }
+    ensures day { IfOk result NamesDay }
+    ensures refused { IfErr result (λ fault. (fault ≡ Memory) ⊎ IsUnnamed asked.now fault) }
+{
+    match asked {
+        Asked::Tariff(text) => Ok(TriedRuling::Tariff(Tariff::parse(alloc, text)?.effective())),
+        Asked::Close { period, through } => Ok(TriedRuling::Close {
+            period: *period,
+            through: *through,
+        }),
+        Asked::Choose(name) => Ok(TriedRuling::Choose(*name)),
+        Asked::Adopt(_) => Ok(TriedRuling::Adopt),
+        // Nothing else is a ruling.
+        _ => Err(LedgerFault::Memory),
+    }
+}
+
+/// The text of a dry run, by the answer to the ruling, and what is noticed.
+fn shown(
+    alloc: Global,
+    ruling: TriedRuling,
+    answer: Answer,
+    period: u16,
+    before: &Figures,
+    after: &Figures,
+    is_far: bool,
+) -> Result<(Answer, Option<Notice>), LedgerFault>
+    requires { NamesDay ruling }
+    ensures { IsShown ruling period before.now after.now is_far answer result }
+{
+    match answer {
+        Answer::Ruled(ruled) => {
+            let text = dry_run_text(alloc, ruling, ruled, period, before, after)?;
+            let notice = noticed(is_far, ruled);
+            Ok((Answer::Text(text.into_bytes()), notice))
+        }
+        // Nothing else is answered to a ruling.
+        _ => Err(LedgerFault::Memory),
+    }
+}
+
+/// What is noticed of a ruling, as if it were in force.
+fn noticed(is_far: bool, ruled: Ruled) -> Option<Notice>
+    ensures { result ≡ notice_by is_far (Ok (requests.Ruling ruled)) }
+{
+    match ruled {
+        Ruled::Done => { if is_far { Some(Notice::Far) } else { None } }
+        Ruled::Already => None,
+    }
+}

@@ -1,0 +1,132 @@
+//! Days that are far after what books hold, by calls that change nothing: what is asked of a ledger is as
+//! one call.
+
+ghost use Rattle.std.specs.Prelude.{◌≡◌, IfErr, IfOk, false};
+ghost use Rattle.std.specs.List.{list_all};
+ghost use Rattle.std.specs.Option.{option_map_or};
+ghost use Rattle.tariff_rules.specs.TariffFile.{terms_in};
+ghost use Rattle.book_core.specs.Calls.{IsCall};
+ghost use Rattle.office.specs.Requests.{response_by};
+ghost use Rattle.chargectl.specs.Far as spec;
+
+use crate::notice::Notice;
+use book_core::{ChargeRow, Ledger, LedgerFault, Ruled, Tariff};
+use book_reports::{OpenPeriod, open_period, rows_of_period};
+use office::{Answer, Asked};
+use std::alloc::Global;
+use tariff_rules::TariffFault;
+
+/// A day is far after another where it is later by more than so many days.
+const FAR_DAYS: i64 = 366;
+
+/// A day is far after another. Days are counted from 1970-01-01.
+fn is_far_after(day: i32, other: i32) -> bool
+    ensures { result ≡ spec.is_far_after day other }
+{
+    i64::from(other) + FAR_DAYS < i64::from(day)
+}
+
+/// A day is far after each of some charge rows.
+fn is_far_after_all(day: i32, rows: &[ChargeRow]) -> bool
+    ensures { result ≡ list_all (λ row. spec.is_far_after day row.day) rows.now }
+{
+    rows.iter().all(|row| is_far_after(day, row.day))
+}
+
+/// A day is far after the newest one of books: of the charge rows of their open period; or, where it
+/// has none, after the last close.
+fn is_far(day: i32, rows: &[ChargeRow], last_close: Option<i32>) -> bool
+    ensures { result ≡ spec.is_far day rows.now last_close }
+{
+    if !rows.is_empty() {
+        return is_far_after_all(day, rows);
+    }
+    match last_close {
+        Some(close) => is_far_after(day, close),
+        None => false,
+    }
+}
+
+/// The same of a day, if there is one.
+fn is_any_far(day: Option<i32>, rows: &[ChargeRow], last_close: Option<i32>) -> bool
+    ensures { result ≡ option_map_or (λ day. spec.is_far day rows.now last_close) day false }
+{
+    match day {
+        Some(day) => is_far(day, rows, last_close),
+        None => false,
+    }
+}
+
+/// The day of a ruling, where it has one. An error is a lack of memory.
+fn day_asked(alloc: Global, asked: &Asked) -> Result<Option<i32>, LedgerFault>
+    ensures day { IfOk result (λ day. day ≡ spec.day_asked asked.now) }
+    ensures memory { IfErr result (λ fault. fault ≡ LedgerFault.Memory) }
+{
+    match asked {
+        Asked::Close { through, .. } => Ok(Some(*through)),
+        Asked::Tariff(text) => first_day(alloc, text.as_str()),
+        _ => Ok(None),
+    }
+}
+
+/// The first day of a tariff. A text that is none has no day.
+fn first_day(alloc: Global, text: &str) -> Result<Option<i32>, LedgerFault>
+    ensures day { IfOk result (λ day. day ≡ spec.first_day (terms_in text.now)) }
+    ensures memory { IfErr result (λ fault. fault ≡ LedgerFault.Memory) }
+{
+    match Tariff::parse(alloc, text) {
+        Ok(tariff) => Ok(Some(tariff.effective())),
+        Err(TariffFault::Memory) => Err(LedgerFault::Memory),
+        Err(_) => Ok(None),
+    }
+}
+
+/// A day, if there is one, is far after the newest one of books whose open period this is.
+fn is_far_on<L: Ledger>(
+    alloc: Global,
+    books: &mut L,
+    period: OpenPeriod,
+    day: Option<i32>,
+) -> Result<bool, LedgerFault>
+    ensures { IsCall (λ far. far) (L.seen books.old) (L.seen books.new) result
+        (spec.far_on_outcome period day) }
+{
+    let rows = rows_of_period(alloc, books, period.number)?;
+    Ok(is_any_far(day, &rows, period.last_close))
+}
+
+/// The day of a ruling is far after the newest one of the books, before it is asked for.
+pub(crate) fn is_far_asked<L: Ledger>(
+    alloc: Global,
+    books: &mut L,
+    asked: &Asked,
+) -> Result<bool, LedgerFault>
+    ensures { IsCall (λ far. far) (L.seen books.old) (L.seen books.new) result
+        (spec.far_outcome asked.now) }
+{
+    // The books are asked before the tariff is read: those that are to be opened again say so.
+    let period = open_period(books)?;
+    let day = day_asked(alloc, asked)?;
+    is_far_on(alloc, books, period, day)
+}
+
+/// A ruling is in force from now on.
+fn is_done(told: &Result<Answer, LedgerFault>) -> bool
+    ensures { result ≡ spec.is_done (response_by told.now) }
+{
+    match told {
+        Ok(Answer::Ruled(Ruled::Done)) => true,
+        _ => false,
+    }
+}
+
+/// What is noticed of a ruling, by whether its day is far and by what was answered.
+pub(crate) fn notice_by(is_far: bool, told: &Result<Answer, LedgerFault>) -> Option<Notice>
+    ensures { result ≡ spec.notice_by is_far (response_by told.now) }
+{
+    if is_done(told) && is_far {
+        Some(Notice::Far)
+    } else {
+        None
+    }
+}

@@ -1,0 +1,231 @@
+//! Where a fault is, and why, as far as a second look shows it. The look comes after the command has
+//! ended, and may meet another state than the command met: it is advice, and no status rests on it.
+
+use crate::book_commands::tariff_text;
+use crate::causes::{cause_of_books, cause_of_new, cause_of_port, cause_of_read};
+use crate::command_fault::CommandFault;
+use book_core::LedgerFault;
+use book_import::Stop;
+use book_reports::ReportFault;
+use command_line::{BookRequest, Request, Ruling};
+use program_output::Cause;
+use tariff_rules::{Entry, Tariff};
+
+/// What a fault is about, in the words of the command.
+#[derive(Clone, Copy)]
+pub(crate) enum Place<'a> {
+    /// A file, by its path.
+    File(&'a str),
+    /// A port of this machine.
+    Port(u16),
+    /// Standard input.
+    Input,
+    /// Standard output.
+    Output,
+}
+
+/// Where a fault is, and why.
+#[derive(Clone, Copy)]
+pub(crate) struct Spot<'a> {
+    pub(crate) place: Place<'a>,
+    /// The entry of a tariff file.
+    pub(crate) within: Option<Entry>,
+    /// None where the fault's own line says it.
+    pub(crate) cause: Option<Cause>,
+}
+
+impl<'a> Spot<'a> {
+    fn at(place: Place<'a>, cause: Option<Cause>) -> Spot<'a> {
+        Spot {
+            place,
+            within: None,
+            cause,
+        }
+    }
+
+    fn of_file(path: Option<&'a str>, cause: Option<Cause>) -> Option<Spot<'a>> {
+        Some(Spot::at(Place::File(path?), cause))
+    }
+}
+
+/// The files and the port that the words of a command name.
+#[derive(Clone, Copy)]
+pub(crate) struct Places<'a> {
+    /// The books that have to be there.
+    books: Option<&'a str>,
+    /// The file that is read: a dump, a tariff or a list of names.
+    read: Option<&'a str>,
+    /// The file that is made: new books, or a copy of books.
+    new: Option<&'a str>,
+    port: Option<u16>,
+    /// Where a dump comes from.
+    dump: Place<'a>,
+}
+
+impl<'a> Places<'a> {
+    pub(crate) fn of(request: Request<'a>) -> Places<'a> {
+        match request {
+            Request::OfBooks { book, asked } => Places::of_books(book, asked),
+            Request::TrialUnder { file, .. } => Places::of_file(Some(file), Place::Input),
+            Request::Check(dump) => Places::of_file(Some(dump.file), Place::File(dump.file)),
+            Request::Trial { .. } | Request::Explain { .. } | Request::Unclear(_) => {
+                Places::of_file(None, Place::Input)
+            }
+        }
+    }
+
+    fn of_file(read: Option<&'a str>, dump: Place<'a>) -> Places<'a> {
+        Places {
+            books: None,
+            read,
+            new: None,
+            port: None,
+            dump,
+        }
+    }
+
+    fn of_books(book: &'a str, asked: BookRequest<'a>) -> Places<'a> {
+        let mut places = Places {
+            books: Some(book),
+            read: read_by(asked),
+            new: None,
+            port: None,
+            dump: Place::Input,
+        };
+        match asked {
+            BookRequest::Init => {
+                places.books = None;
+                places.new = Some(book);
+            }
+            BookRequest::BackUp { copy, .. } => places.new = Some(copy),
+            BookRequest::Serve { port, .. } => places.port = Some(port),
+            BookRequest::Import(dump) => places.dump = Place::File(dump.file),
+            _ => (),
+        }
+        places
+    }
+
+    /// Where a fault is. None where it is in no file, port or stream.
+    pub(crate) fn spot_of(self, rt: &HostRuntime, fault: CommandFault) -> Option<Spot<'a>> {
+        match fault {
+            CommandFault::Io => Some(self.failed(rt)),
+            CommandFault::Busy => { Spot::of_file(self.books.or(self.new), Some(Cause::Taken)) }
+            CommandFault::Exists | CommandFault::Unsound => {
+                Spot::of_file(self.new.or(self.books), None)
+            }
+            CommandFault::ArgumentAt(_) | CommandFault::LedgerAt(_, _) => {
+                Spot::of_file(self.read, None)
+            }
+            CommandFault::Ledger(refused) => self.refused(rt, refused),
+            CommandFault::Report(ReportFault::Ledger(refused)) => self.refused(rt, refused),
+            CommandFault::Report(ReportFault::Write) => Some(output_failed()),
+            CommandFault::Stopped(stop) => self.stopped(rt, stop),
+            _ => None,
+        }
+    }
+
+    /// The first of the places that a second look finds at fault. Where there is none, the file that
+    /// was to be made has failed, or else the output.
+    fn failed(self, rt: &HostRuntime) -> Spot<'a> {
+        if let Some(spot) = self.failed_books(rt) {
+            return spot;
+        }
+        if let Some(spot) = self.failed_read(rt) {
+            return spot;
+        }
+        if let Some(spot) = self.failed_port(rt) {
+            return spot;
+        }
+        match self.new {
+            Some(path) => {
+                let cause = cause_of_new(rt, path).unwrap_or(Cause::Failed);
+                Spot::at(Place::File(path), Some(cause))
+            }
+            None => output_failed(),
+        }
+    }
+
+    fn failed_books(self, rt: &HostRuntime) -> Option<Spot<'a>> {
+        let path = self.books?;
+        let cause = cause_of_books(rt, path)?;
+        Some(Spot::at(Place::File(path), Some(cause)))
+    }
+
+    fn failed_read(self, rt: &HostRuntime) -> Option<Spot<'a>> {
+        let path = self.read?;
+        let cause = cause_of_read(rt, path)?;
+        Some(Spot::at(Place::File(path), Some(cause)))
+    }
+
+    fn failed_port(self, rt: &HostRuntime) -> Option<Spot<'a>> {
+        let port = self.port?;
+        let cause = cause_of_port(rt, port)?;
+        Some(Spot::at(Place::Port(port), Some(cause)))
+    }
+
+    /// Where the books refused.
+    fn refused(self, rt: &HostRuntime, fault: LedgerFault) -> Option<Spot<'a>> {
+        match fault {
+            LedgerFault::TariffRefused(_) => {
+                let path = self.read?;
+                Some(Spot {
+                    place: Place::File(path),
+                    within: entry_in(rt, path),
+                    cause: None,
+                })
+            }
+            LedgerFault::Store | LedgerFault::Reopen | LedgerFault::NotBooks => {
+                Spot::of_file(self.books.or(self.new), None)
+            }
+            _ => None,
+        }
+    }
+
+    /// Where the reading of a dump stopped.
+    fn stopped(self, rt: &HostRuntime, stop: Stop) -> Option<Spot<'a>> {
+        match stop {
+            Stop::End => None,
+            Stop::Frame(_) => Some(Spot::at(self.dump, None)),
+            Stop::Read | Stop::ReadLimit => {
+                let cause = self.dump_cause(rt);
+                Some(Spot::at(self.dump, Some(cause)))
+            }
+            Stop::Ledger(fault) => self.refused(rt, fault),
+        }
+    }
+
+    fn dump_cause(self, rt: &HostRuntime) -> Cause {
+        match self.dump {
+            Place::File(path) => cause_of_read(rt, path).unwrap_or(Cause::Failed),
+            _ => Cause::Failed,
+        }
+    }
+}
+
+/// The file that a request to books reads.
+fn read_by<'a>(asked: BookRequest<'a>) -> Option<&'a str> {
+    match asked {
+        BookRequest::Tariff { file }
+        | BookRequest::DryRun(Ruling::Tariff { file })
+        | BookRequest::ChooseListed { file }
+        | BookRequest::WhatIf { file, .. } => Some(file),
+        BookRequest::Import(dump) => Some(dump.file),
+        _ => None,
+    }
+}
+
+fn output_failed<'a>() -> Spot<'a> {
+    Spot::at(Place::Output, Some(Cause::Failed))
+}
+
+/// The entry at which the text of a tariff file has its fault. None where no entry has it, and where
+/// the file can't be read again.
+fn entry_in(rt: &HostRuntime, path: &str) -> Option<Entry> {
+    if cause_of_read(rt, path).is_some() {
+        return None;
+    }
+    match tariff_text(rt, path) {
+        Ok(text) => Tariff::entry_at_fault(rt.alloc(), text.as_str()),
+        Err(_) => None,
+    }
+}

@@ -1,0 +1,141 @@
+//! Lists that are written while the books are open: the rulings and the disputes. With a million
+//! choices or records in dispute a list has 90 MB or more, and is never held whole.
+
+ghost use Rattle.std.specs.Prelude.{◌≡◌, Err, IsErr};
+ghost use Rattle.std.specs.Io.KnownBytes.{Keeps};
+ghost use Rattle.streams.specs.Sinks.{writer_of};
+ghost use Rattle.book_core.specs.Calls.{Reopens};
+ghost use Rattle.book_core.specs.Transition.{IsTransition};
+ghost use Rattle.book_reports.specs.StreamedRulings.{WritesReport, refusal_in};
+ghost use Rattle.chargectl.specs.Commands.{first_fault};
+ghost use Rattle.chargectl.specs.StreamedLists as spec;
+ghost use Rattle.chargectl.specs.StreamedLists.{ListsBy, WritesSomeOf, list_text};
+
+use crate::command_fault::CommandFault;
+use crate::ended::Ended;
+use book_core::{Ledger, Sink};
+use book_reports::{DisputeForm, ReportFault, write_disputes, write_rulings};
+use office::{Opened, Repository, RepositoryFault, Visit};
+use std::alloc::Global;
+use std::io::Write;
+
+/// A list that is written so.
+#[derive(Clone, Copy, Debug, PartialEq, Eq)]
+pub(crate) enum StreamedList {
+    Rulings,
+    Disputes(DisputeForm),
+}
+
+/// The disputes as a table of comma-separated values, or as a list for people.
+pub(crate) fn disputes_by(csv: bool) -> StreamedList
+    ensures { result ≡ spec.disputes_by csv }
+{
+    if csv {
+        StreamedList::Disputes(DisputeForm::Table)
+    } else {
+        StreamedList::Disputes(DisputeForm::List)
+    }
+}
+
+/// The list on its way to the output.
+#[derive(Drop)]
+struct Listing<O: Write + Drop> {
+    alloc: Global,
+    list: StreamedList,
+    sink: Sink<O>,
+}
+
+/// Writes the list of any books.
+fn write_of<L: Ledger, O: Write + Drop>(
+    alloc: Global,
+    books: &mut L,
+    list: StreamedList,
+    sink: &mut Sink<O>,
+) -> Result<(), ReportFault>
+    ensures written { IsTransition (L.seen books.old) (L.seen books.new)
+        (WritesReport (list_text list) (L.seen books.old).naming
+        (O.contents (writer_of sink.old)) (O.contents (writer_of sink.new)) result) }
+    ensures reopens { Reopens (refusal_in result)
+        (L.seen books.old).must_reopen (L.seen books.new).must_reopen }
+    ensures some { WritesSomeOf list
+        (O.contents (writer_of sink.old)) (O.contents (writer_of sink.new)) result }
+{
+    match list {
+        StreamedList::Rulings => write_rulings(alloc, books, sink),
+        StreamedList::Disputes(form) => write_disputes(alloc, books, form, sink),
+    }
+}
+
+impl<O: Write + Drop> Visit for Listing<O> {
+    ghost use Rattle.streams.specs.Sinks.{writer_of};
+    ghost use Rattle.book_reports.specs.StreamedRulings.{WritesReport};
+    ghost use Rattle.chargectl.specs.StreamedLists.{WritesSomeOf, list_text, listing_answered};
+
+    type Answer = Result<(), ReportFault>;
+
+    ghost work = { λ naming it after told. WritesReport (list_text it.list) naming
+        (O.contents (writer_of it.sink)) (O.contents (writer_of after.sink)) told };
+
+    ghost comes = { λ it after told. WritesSomeOf it.list
+        (O.contents (writer_of it.sink)) (O.contents (writer_of after.sink)) told };
+
+    ghost answered = { λ naming it after told. listing_answered (list_text it.list) naming
+        (O.contents (writer_of it.sink)) (O.contents (writer_of after.sink)) told };
+
+    fn visit<L: Ledger>(&mut self, books: &mut L) -> Result<(), ReportFault> {
+        write_of(self.alloc, books, self.list, &mut self.sink)
+    }
+}
+
+/// Writes a list of the books of a name.
+pub(crate) fn write_list<S: Repository, O: Write + Drop>(
+    rt: &HostRuntime,
+    repository: &mut S,
+    book: &str,
+    list: StreamedList,
+    output: O,
+) -> (Result<Ended, CommandFault>, O)
+    ensures { ListsBy list book.now (S.shelf repository.old) (S.shelf repository.new)
+        (O.contents output) (O.contents result.1) result.0 }
+{
+    if let Err(fault) = repository.expect(book) {
+        return (Err(CommandFault::from(fault)), output);
+    }
+    let mut listing = Listing {
+        alloc: rt.alloc(),
+        list,
+        sink: Sink::new(output),
+    };
+    let Opened { answer, has_log } = repository.open(book, &mut listing);
+    let Listing { sink, .. } = listing;
+    let mut output = sink.into_inner();
+    let ended = Ended {
+        came: flushed(list_end(answer), &mut output),
+        has_log,
+        is_change: false,
+        notice: None,
+    };
+    (Ok(ended), output)
+}
+
+/// What came of the list, before the output is flushed.
+fn list_end(told: Result<Result<(), ReportFault>, RepositoryFault>) -> Result<(), CommandFault>
+    ensures { result ≡ spec.list_end told }
+{
+    match told {
+        Ok(Ok(())) => Ok(()),
+        Ok(Err(fault)) => Err(CommandFault::from(fault)),
+        Err(fault) => Err(CommandFault::from(fault)),
+    }
+}
+
+/// Sees to it that what was written has left the program, where all went well so far.
+fn flushed<O: Write>(came: Result<(), CommandFault>, output: &mut O) -> Result<(), CommandFault>
+    // An earlier fault comes first.
+    ensures ends { result ≡ first_fault came result }
+    ensures kept { Keeps (O.contents output.old) (O.contents output.new) }
+    ensures same { IsErr came → output.new ≡ output.old }
+{
+    came?;
+    Ok(output.flush()?)
+}
