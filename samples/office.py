@@ -5,6 +5,7 @@ and the rows of their tables; `samples/recompute` recomputes the reports of any 
 dump is torn, no books are full, though by another tariff a period may cost more than they hold, and six faults of a
 tariff file are known."""
 import collections
+import copy
 import datetime
 import hashlib
 import re
@@ -28,6 +29,8 @@ MOST_COST = 4000000000000000000
 # The most bytes that a tariff file has.
 MOST_TARIFF = 1048576
 ACTIONS = {1: "PLUS", -1: "MINUS"}
+# A day is far after what books hold, where it is later than the newest day by more days than a leap year has.
+FAR_DAYS = 366
 # How many bytes say whose work a record measures, by the first rule of identity and by the second.
 IDENTITY_LENGTHS = {1: 24, 2: 32}
 # The bytes of code page 037 that are shown as characters: printable ASCII without the backslash.
@@ -237,6 +240,33 @@ def row_lines(rows):
     yield total_line("TOTAL", rows)
 
 
+def figure(name, before, after):
+    """A line of a dry run."""
+    return "%-16s %21s %21s" % (name, before, after)
+
+
+# A ruling: how a dry run names it, its day, if it has one, and what it does to books.
+Ruling = collections.namedtuple("Ruling", "words day rule")
+
+
+def ruling_of_tariff(file):
+    """A tariff. A text that is none has no day."""
+    day = None if fault_of(file) else Tariff(file).effective
+    return Ruling("TARIFF %s" % day, day, lambda books: books.tariff(file))
+
+
+def ruling_of_close(period, through):
+    return Ruling("CLOSE %d %s" % (period, through), through, lambda books: books.close(period, through))
+
+
+def ruling_of_choice(name):
+    return Ruling("CHOOSE " + name, None, lambda books: books.choose(name))
+
+
+def ruling_of_adoption():
+    return Ruling("ADOPT", None, lambda books: books.adopt(2))
+
+
 def row_table(period, rows, amount):
     """Charge rows as comma-separated values, of which the last has this name."""
     yield STATEMENT_COLUMNS + amount
@@ -404,6 +434,42 @@ class Books:
             return list(row_table(period, rows, "what_if"))
         return [self.title("WHAT-IF", period, centre), "TARIFF " + hashlib.sha256(file).hexdigest(), *row_lines(rows),
                 total_line("CHARGED", self.rows(period, centre))]
+
+    def is_far(self, day):
+        """A day is far after the newest one of the records that the open period counts; where it counts none, after the
+        last close. From books without either no day is far."""
+        newest = max([self.held[name].day for name in self.counted(self.open)] + self.closes[-1:], default=day)
+        return (day - newest).days > FAR_DAYS
+
+    def is_noticed(self, ruling, answer):
+        """A ruling that would be in force by this answer is noticed, where its day is far."""
+        return answer == ["DONE"] and ruling.day is not None and self.is_far(ruling.day)
+
+    def figures(self, period):
+        """What a dry run shows of a period: what its statement comes to, what its adjustments come to, and how many
+        records the statement counts."""
+        records, amount = self.counted(period), sum(sign * one.amount for sign, one in self.lines(period))
+        return (decimals(sum(self.held[name].amount for name in records), 4), decimals(amount, 4), len(records))
+
+    def dry_run(self, ruling):
+        """What a ruling would answer, and what it would change of the period that is open. The last line is of a tariff how
+        many records of that period it prices anew, of a close how many records the next period counts, and of others how
+        many disputes there are. Nothing is kept of it."""
+        after, period = copy.deepcopy(self), self.open
+        [answer] = ruling.rule(after)
+        if answer.startswith("chargectl: "):
+            return [answer]
+        names = ["%s %d" % (word, period) for word in ("STATEMENT", "ADJUSTMENTS", "RECORDS")]
+        lines = list(map(figure, names, self.figures(period), after.figures(period)))
+        if ruling.words.startswith("TARIFF "):
+            priced = [name for name in after.counted(period) if after.held[name].day >= ruling.day]
+            lines.append(figure("PRICED", 0, len(priced) if answer == "DONE" else 0))
+        elif ruling.words.startswith("CLOSE "):
+            lines.append(figure("RECORDS %d" % (period + 1), 0,
+                                len(after.counted(period + 1)) if after.open > period else 0))
+        else:
+            lines.append(figure("DISPUTES", len(self.disputed()), len(after.disputed())))
+        return ["DRY RUN %s %s" % (ruling.words, answer), figure("", "BEFORE", "AFTER")] + lines
 
     def posted(self):
         """At the last close."""

@@ -1,5 +1,6 @@
 """Worked rows answered by office.py, apart from the program: a script is read as the program's player reads it, and
 each answer is made anew. Tables are what they have to hold by the books as a whole, and not kept step by step."""
+import copy
 import datetime
 import hashlib
 import itertools
@@ -211,6 +212,8 @@ class Rows:
         self.books, self.shown, self.files, self.input = None, {}, {}, b""
         # How many calls of the books come before one that is refused for memory, if one is to be.
         self.calls_left, self.is_counted = None, False
+        # What the last command said on standard error beside a refusal.
+        self.notices = []
 
     def begin(self, kind):
         if kind not in (["new"], ["commands"]):
@@ -418,6 +421,7 @@ class Rows:
         if verb != "chargectl" and "chargectl" not in words:
             raise NotKnown
         at = words.index("chargectl") if verb != "chargectl" else -1
+        self.notices = []
         output = self.output(words[at + 1:])
         errors = []
         if not isinstance(output, bytes):
@@ -425,13 +429,22 @@ class Rows:
             output = bytes_of(line for line in output if line not in errors)
         refusal = ["! " + line for line in errors]
         refusal += ["STATUS %d" % (1 if line == "chargectl: io" else 3) for line in errors]
-        return output_shown(verb, words[:at + 1], output) + refusal
+        notices = ["! " + line for line in self.notices]
+        return output_shown(verb, words[:at + 1], output) + notices + refusal
+
+    def ruled(self, ruling, is_tried):
+        """What a command writes of a ruling, or of its dry run: and whether its day is noticed."""
+        books, after = self.books, copy.deepcopy(self.books)
+        if books.is_noticed(ruling, ruling.rule(after)):
+            self.notices.append("chargectl: far")
+        return books.dry_run(ruling) if is_tried else ruling.rule(books)
 
     def output(self, words):
         """What a command writes: bytes, or lines, of which the last may be that of a refusal."""
         if words[0] == "trial":
             return office.tried(self.files[dict(options(words[1:]))["--tariff"]], self.input)
-        verb, book, *words = words
+        is_tried = "--dry-run" in words
+        verb, book, *words = [word for word in words if word != "--dry-run"]
         if book != "@books":
             raise NotKnown
         books, given = self.books, dict(options(words))
@@ -459,10 +472,16 @@ class Rows:
             file = books.tariff_text(day_of(word))
             return office.refused(office.NO_SUCH_TARIFF) if file is None else file
 
+        def close(period, word):
+            """A close through a day. What is no day is a wrong word."""
+            if day_of(word) is None:
+                return ["chargectl: word"]
+            return self.ruled(office.ruling_of_close(int(period), day_of(word)), is_tried)
+
         def choose(name=None, *_):
             """One choice, or those of a file. What is no name in the file is a wrong word, before the first of them."""
             if "--from" not in given:
-                return self.command("choose", [name])
+                return self.ruled(office.ruling_of_choice(self.name_of(name)), is_tried)
             # A carriage return is a part of a line's end, and ends no line alone.
             *names, last = self.files[given["--from"]].decode("latin-1").split("\n")
             names = [name.removesuffix("\r") for name in names] + [last] * (last != "")
@@ -472,11 +491,12 @@ class Rows:
             return books.choose_each(name.lower() for name in names)
 
         return {"init": lambda: [],
-                "tariff": lambda file: books.tariff(self.file(file)),
+                "tariff": lambda file: self.ruled(office.ruling_of_tariff(self.file(file)), is_tried),
+                "close": close,
                 "tariff-text": tariff_text,
                 "import": lambda file: books.take(self.file(file)),
                 "choose": choose,
-                "adopt": lambda: books.adopt(2),
+                "adopt": lambda: self.ruled(office.ruling_of_adoption(), is_tried),
                 "rulings": lambda: list(books.rulings()),
                 "periods": lambda: list(books.periods()),
                 "disputes": lambda *_: list(books.dispute_table() if "--csv" in given else books.disputes()),

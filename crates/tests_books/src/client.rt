@@ -125,6 +125,9 @@ pub(crate) struct Queue<'c, 'a> {
 impl Connections for Queue<'_, '_> {
     ghost left = { λ queue. length queue.left.now };
 
+    // Each of them comes.
+    ghost may_fail = { λ _ _ _. ⊥ };
+
     fn is_over(&self) -> bool {
         self.left.is_empty()
     }

@@ -15,6 +15,7 @@
 //! |---|---|
 //! | `serve`, with a body of clients | the program's line of each that is served, and how many are left; then of each the first line that it got, and whether what it still sent was read |
 //! | `serve refused COUNT`, with such a body | the same, by books that refuse the call after so many for lack of memory |
+//! | `serve room SIZE`, with such a body | the same, by way of an output that takes so many bytes, and fails then |
 //!
 //! In a session every word that begins with `@` is a file
 //! of this row alone:

@@ -1,8 +1,9 @@
 //! Rows on books that may also be served to clients, one after the other.
 
 use crate::client::{Client, Queue};
+use crate::session_streams::Output;
 use book_core::Ledger;
-use chargectl::serve_while_open;
+use chargectl::{ServedLines, serve_while_open};
 use std::alloc::AllocError;
 use std::io::Write;
 use tests_ledgers::RefusingLedger;
@@ -62,13 +63,18 @@ impl AsksOpenBooks for Service<'_> {
 }
 
 impl Service<'_> {
-    /// Serves all books, or those that refuse the call after a given number for lack of memory.
+    /// Serves all books, or those that refuse the call after a given number for lack of memory; or writes
+    /// the lines to an output that takes so many bytes, and fails then.
     fn serve<L: Ledger>(self, named: &Named, ledger: &mut L, out: &mut Vec<u8>) -> LineResult {
         match *self.ask.words {
-            [] => self.serve_from(named, ledger, out),
+            [] => self.serve_from(named, ledger, usize::MAX, out),
             ["refused", calls] => {
                 let mut books = RefusingLedger::new(ledger, calls.parse::<u32>()?);
-                self.serve_from(named, &mut books, out)
+                self.serve_from(named, &mut books, usize::MAX, out)
+            }
+            ["room", size] => {
+                let room = size.parse::<u32>()? as usize;
+                self.serve_from(named, ledger, room, out)
             }
             _ => Err(LineFault::NotUnderstood),
         }
@@ -76,13 +82,19 @@ impl Service<'_> {
 
     /// Adds the line of each client that is served, how many are left, and what those got that were
     /// served.
-    fn serve_from<L: Ledger>(self, named: &Named, ledger: &mut L, out: &mut Vec<u8>) -> LineResult {
+    fn serve_from<L: Ledger>(
+        self,
+        named: &Named,
+        ledger: &mut L,
+        room: usize,
+        out: &mut Vec<u8>,
+    ) -> LineResult {
         let scripted = read_clients(named, self.ask.body)?;
         let mut clients = Vec::new(named.alloc());
         for client in &scripted {
             clients.push(Client::new(named.alloc(), client))?;
         }
-        let left = serve_clients(named, &clients, ledger, out)?;
+        let left = serve_clients(named, &clients, ledger, room, out)?;
         let served = clients.len().saturating_sub(left);
         for (number, client) in clients.iter().enumerate().take(served) {
             write!(out, "{} ", number.saturating_add(1))?;
@@ -98,16 +110,25 @@ fn serve_clients<L: Ledger>(
     named: &Named,
     clients: &[Client<'_>],
     ledger: &mut L,
+    room: usize,
     out: &mut Vec<u8>,
 ) -> LineResult<usize> {
     let mut queue = Queue {
         alloc: named.alloc(),
         left: clients,
     };
-    let has_failed = serve_while_open(&mut queue, ledger, out)?;
+    let mut lines = ServedLines::new(Output {
+        room,
+        taken: Vec::new(named.alloc()),
+    });
+    let has_failed = serve_while_open(&mut queue, ledger, &mut lines)?;
+    let are_lost = lines.has_failed();
+    out.extend_from_slice(&lines.into_inner().taken)?;
     let left = queue.left.len();
     if has_failed {
         writeln!(out, "LEFT {left}, BOOKS TO BE OPENED AGAIN")?;
+    } else if are_lost {
+        writeln!(out, "LEFT {left}, LINES LOST")?;
     } else {
         writeln!(out, "LEFT {left}")?;
     }

@@ -6,7 +6,8 @@ use crate::runs::{Expected, OfficeReport, Step, Steps, play};
 use crate::test_streams::{Page, has_lines};
 use book_core::{Ledger, PlainLedger, ShaNames, Sink};
 use book_reports::{
-    ReportFault, adjustment_list, dispute_list, period_list, statement, statement_csv, write_report,
+    DisputeForm, ReportFault, adjustment_list, period_list, statement, statement_csv,
+    write_disputes, write_report,
 };
 use std::alloc::Global;
 use std::process::Abort;
@@ -40,7 +41,7 @@ fn written<L: Ledger>(
         OfficeReport::Statement(period) => statement(alloc, ledger, period, &mut sink),
         OfficeReport::StatementTable(period) => statement_csv(alloc, ledger, period, &mut sink),
         OfficeReport::AdjustmentList(period) => adjustment_list(alloc, ledger, period, &mut sink),
-        OfficeReport::DisputeList => dispute_list(alloc, ledger, &mut sink),
+        OfficeReport::DisputeList => { write_disputes(alloc, ledger, DisputeForm::List, &mut sink) }
         OfficeReport::PeriodList => period_list(alloc, ledger, &mut sink),
     };
     (answer, sink.into_inner())

@@ -31,7 +31,7 @@ pub(crate) struct OneBook {
     pub(crate) alloc: Global,
 }
 
-#[tactic(auto, using(office::proofs::ShelfLemmas::unknown_made, office::proofs::ShelfLemmas::unknown_opened, office::proofs::ShelfLemmas::came_by, office::proofs::ShelfLemmas::same_by))]
+#[tactic(auto, using(office::proofs::ShelfLemmas::unknown_made, office::proofs::ShelfLemmas::unknown_opened, office::proofs::ShelfLemmas::unknown_tried, office::proofs::ShelfLemmas::came_by, office::proofs::ShelfLemmas::same_by))]
 impl Repository for OneBook {
     ghost use Rattle.std.specs.Prelude.{replicate};
     ghost use Rattle.office.specs.Shelves.{unknown};
@@ -54,6 +54,11 @@ impl Repository for OneBook {
             Ok(mut books) => without_log(Ok(visit.visit(&mut books))),
             Err(_refused) => without_log(Err(RepositoryFault::Ledger(LedgerFault::Memory))),
         }
+    }
+
+    /// Opens it: no book is left of an opening.
+    fn try_out<V: Visit>(&mut self, book: &str, visit: &mut V) -> Opened<V::Answer> {
+        self.open(book, visit)
     }
 }
 
@@ -86,7 +91,7 @@ pub(crate) struct AwayTwice {
     pub(crate) opened: u32,
 }
 
-#[tactic(auto, using(office::proofs::ShelfLemmas::unknown_made, office::proofs::ShelfLemmas::unknown_opened, office::proofs::ShelfLemmas::came_by, office::proofs::ShelfLemmas::same_by))]
+#[tactic(auto, using(office::proofs::ShelfLemmas::unknown_made, office::proofs::ShelfLemmas::unknown_opened, office::proofs::ShelfLemmas::unknown_tried, office::proofs::ShelfLemmas::came_by, office::proofs::ShelfLemmas::same_by))]
 impl Repository for AwayTwice {
     ghost use Rattle.std.specs.Prelude.{replicate};
     ghost use Rattle.office.specs.Shelves.{unknown};
@@ -109,6 +114,10 @@ impl Repository for AwayTwice {
             1 => without_log(Err(RepositoryFault::Ledger(LedgerFault::Store))),
             _ => self.book.open(book, visit),
         }
+    }
+
+    fn try_out<V: Visit>(&mut self, book: &str, visit: &mut V) -> Opened<V::Answer> {
+        self.book.try_out(book, visit)
     }
 }
 

@@ -7,7 +7,7 @@ use crate::sample::Record;
 use book_audit::AuditedRepository;
 use chargectl::{Status, command};
 use std::io;
-use std::io::Write;
+use std::io::{ErrorKind, Write};
 use std::net::{Shutdown, TcpListener, TcpStream};
 use std::test::Fail;
 use std::time::Duration;
@@ -194,6 +194,41 @@ impl Write for Clients<'_> {
     }
 }
 
+/// How many clients the closed output has.
+const CLIENTS_OF_A_CLOSED_OUTPUT: usize = 3;
+
+/// An output that takes the first line, and is closed from then on; and its clients, which all connect as it
+/// takes that line, and send a request each.
+#[derive(Drop)]
+struct ClosedOutput<'a> {
+    rt: &'a HostRuntime,
+    port: u16,
+    clients: Vec<TcpStream>,
+    is_closed: bool,
+}
+
+impl Write for ClosedOutput<'_> {
+    fn write(&mut self, bytes: &[u8]) -> io::Result<usize> {
+        if self.is_closed {
+            return Err(ErrorKind::BrokenPipe.into());
+        }
+        Ok(bytes.len())
+    }
+
+    /// The port was taken.
+    fn flush(&mut self) -> io::Result<()> {
+        for _ in 0..CLIENTS_OF_A_CLOSED_OUTPUT {
+            let mut stream = TcpStream::connect(self.rt, ("127.0.0.1", self.port))?;
+            stream.write_all(b"GET /periods HTTP/1.1\r\n\r\n")?;
+            stream.shutdown(Shutdown::Write)?;
+            stream.set_read_timeout(Some(Duration::from_secs(READ_TIMEOUT)))?;
+            self.clients.push(stream)?;
+        }
+        self.is_closed = true;
+        Ok(())
+    }
+}
+
 /// A port that nothing has taken.
 fn free_port(rt: &HostRuntime) -> io::Result<u16> {
     Ok(TcpListener::bind(rt, "127.0.0.1:0")?.local_addr()?.port())
@@ -259,5 +294,37 @@ fn clients_are_answered_while_the_books_are_away(rt: HostRuntime) -> Result<(), 
     let (is_done, seen) = seen_by(&rt, &mut repository, CLIENTS_OF_AWAY_BOOKS.as_slice())?;
     assert!(rt; is_done);
     assert_eq!(rt; String::from_utf8(seen)?.as_str(), SEEN_OF_AWAY_BOOKS);
+    Ok(())
+}
+
+#[test]
+fn a_closed_output_ends_no_service(rt: HostRuntime) -> Result<(), Fail> {
+    let port = free_port(&rt)?;
+    let words = serve_words(&rt, port, CLIENTS_OF_A_CLOSED_OUTPUT)?;
+    let mut errors = Vec::new(rt.alloc());
+    let output = ClosedOutput {
+        rt: &rt,
+        port,
+        clients: Vec::new(rt.alloc()),
+        is_closed: false,
+    };
+    let mut repository = OneBook { alloc: rt.alloc() };
+    let (status, output) = command(
+        &rt,
+        &mut repository,
+        &words,
+        io::empty(),
+        output,
+        &mut errors,
+    );
+    assert!(rt; status == Status::Io);
+    assert_eq!(rt; String::from_utf8(errors)?.as_str(), "chargectl: io\n");
+    for client in &output.clients {
+        let answer = io::read_to_string(rt.alloc(), client)?;
+        assert_eq!(rt;
+            answer.as_str().lines().next().unwrap_or("NO ANSWER"),
+            "HTTP/1.1 200 OK"
+        );
+    }
     Ok(())
 }

@@ -26,12 +26,14 @@
 //! | `split PARTS..` | how many records there are, the fault's number, and whether that stays |
 //! | `records PARTS..` | the same, and each record's descriptor and name |
 //! | `check PARTS..` | the check list |
+//! | `layout PARTS..` | `BLOCKS` where the dump looks to have blocks and is read without, else `AS READ` |
 //! | `trial CPU EXCP RECORD PARTS..` | the texts of a trial under these rates |
 //! | `price TEXT PARTS..` | of each usage record the day, centre, shift, CPU time, blocks, amount |
 //! | `plan TEXT CLOSE HELD.. new NEW..` | what each new record changes in kept tables |
 //! | `receipt COUNT.. STOP`, nine counts | the receipt line |
 //! | `write`, with a body | the body |
 //! | `say report FAULT`, `say stop STOP`, `say words ..` | what the program says, and its status |
+//! | `say layout`, `say far` | what the program says |
 //!
 //! From here on in the row dumps are read as `reader WORD..` says: `bdw`, at most `pieces:BYTES` a
 //! read, failing after `fails:READS`, with `reads:READS` allowed, `endless` copies of the dump, and
@@ -55,6 +57,7 @@ mod dumps;
 mod effect_lines;
 mod failing_reads;
 mod faults;
+mod layouts;
 mod lines;
 mod messages;
 mod names;

@@ -146,6 +146,13 @@ impl<L: Ledger> Ledger for RefusingLedger<'_, L> {
         self.inner.disputes()
     }
 
+    fn dispute_from(&mut self, from: &[u8]) -> Result<Option<Dispute>, LedgerFault> {
+        if is_due(&mut self.calls_left) {
+            return Err(refusal(&mut *self.inner));
+        }
+        self.inner.dispute_from(from)
+    }
+
     fn periods(&mut self) -> Result<Vec<i32>, LedgerFault> {
         if is_due(&mut self.calls_left) {
             return Err(refusal(&mut *self.inner));

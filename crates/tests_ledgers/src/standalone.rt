@@ -3,6 +3,7 @@
 use crate::dump_reading::Reading;
 use crate::dumps::push_split;
 use crate::effect_lines::answer_plan;
+use crate::layouts::push_layout;
 use crate::lines::BookLines;
 use crate::messages::push_message;
 use crate::prices::answer_price;
@@ -49,6 +50,7 @@ impl BookLines {
             "reader" => self.reading = Reading::of(words)?,
             "writer" => self.writing = Writing::of(words)?,
             "split" | "records" => return push_dump(named, self.reading.layout, ask, out),
+            "layout" => return push_layout(named, self.reading.layout, words, out),
             "price" => return answer_price(named, words, out),
             "plan" => return answer_plan(named, words, out),
             "say" => return push_message(words, out),
