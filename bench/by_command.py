@@ -23,7 +23,7 @@ def named(ran):
     if ran.status < 0:
         return "ended by signal %d" % -ran.status
     if ran.status == 0:
-        return None if ran.err in (b"", formats.LOG) else "status 0, and words on standard error"
+        return "status 0, and words on standard error" if formats.said_first(ran.err) else None
     if ran.status == 2:
         return None if ran.err and not ran.out else "status 2, and other words than of usage"
     return None if formats.status_of(ran.err) == ran.status else "status %d" % ran.status
@@ -92,10 +92,11 @@ class Commands:
         if ran != want:
             self.fault("%s: %r in place of %r" % (title, ran, want), given)
 
-    def end_of(self, stop, out):
+    def end_of(self, dump, layout, stop, out):
+        noticed = formats.LAYOUT if formats.is_misread(dump, layout) else b""
         if stop == "END":
-            return Ran(0, out, b"")
-        return Ran(3, out, b"chargectl: %s\n" % stop.lower().encode())
+            return Ran(0, out, noticed)
+        return Ran(3, out, b"chargectl: %s\n" % stop.lower().encode() + noticed)
 
     def dump(self, rng):
         layout, dump = inputs.dump(rng)
@@ -107,13 +108,14 @@ class Commands:
     def check(self, rng):
         dump, path, layout, words = self.dump(rng)
         out, stop = formats.check_list(dump, layout)
-        self.hold("check", dump, self.run(dump, "check", path, *words), self.end_of(stop, out))
+        ran = self.run(dump, "check", path, *words)
+        self.hold("check", dump, ran, self.end_of(dump, layout, stop, out))
 
     def import_dump(self, rng):
         dump, path, layout, words = self.dump(rng)
         line, stop, new = self.model.receipt(dump, layout)
         ran = self.run(dump, "import", self.book, path, *words)
-        self.hold("import", dump, ran, self.end_of(stop, line))
+        self.hold("import", dump, ran, self.end_of(dump, layout, stop, line))
         self.model.held |= new
 
     def trial(self, rng):
@@ -123,15 +125,20 @@ class Commands:
             if rng.random() < 0.5:
                 words += [name, rng.choice(("0", "1", "20000", "100000000"))]
         ran = self.run(dump, "trial", *words, stdin=path)
-        self.hold("trial", dump, ran, self.end_of(stop, ran.out))
+        self.hold("trial", dump, ran, self.end_of(dump, layout, stop, ran.out))
         if not ran.out.startswith(line) or not formats.OF_COMMANDS["trial"].fullmatch(ran.out):
             self.fault("trial: %r" % ran.out, dump)
 
     def tariff(self, rng):
         file, path = inputs.tariff(rng), self.folder / "tariff"
         path.write_bytes(file)
+        tried = self.try_out(file, "tariff", self.book, path) if rng.random() < 0.3 else None
         ran = self.run(file, "tariff", self.book, path)
         self.count("tariff", ran)
+        if tried is not None and not self.is_tried(tried, ran):
+            self.fault("dry run: %r and then %r" % (tried, ran), file)
+        if formats.FAR in ran.err and not (ran.out == b"DONE\n" and formats.may_be_far(file)):
+            self.fault("far: %r" % (ran,), file)
         answers = (b"DONE\n", b"ALREADY\n") if ran.status == 0 else (b"",)
         if ran.out not in answers or ran.status not in (0, 3):
             self.fault("tariff: %r" % (ran,), file)
@@ -139,6 +146,23 @@ class Commands:
             self.fault("no TOML: %r" % (ran,), file)
         if rng.random() < 0.5:
             self.what_if(rng, file, path)
+
+    def try_out(self, given, *words):
+        """A dry run of a ruling, of which nothing is kept."""
+        before, beside = self.book.read_bytes(), os.listdir(self.folder)
+        tried = self.run(given, *words, "--dry-run")
+        self.count("dry run", tried)
+        if self.book.read_bytes() != before or os.listdir(self.folder) != beside:
+            self.fault("a dry run left something: %r" % (tried,), given)
+        return tried
+
+    def is_tried(self, tried, ran):
+        """A dry run was answered as the ruling then was, and refused and noticed as it was."""
+        if ran.status != 0:
+            return tried == ran
+        answered = formats.OF_COMMANDS["dry-run"].fullmatch(tried.out)
+        return answered and tried.out.split(b"\n")[0].endswith(b" " + ran.out.rstrip(b"\n")) and (
+            tried.status, tried.err) == (ran.status, ran.err)
 
     def what_if(self, rng, file, path):
         """The same file is tried: what is refused then has no answer, and nothing is kept of it."""
@@ -160,6 +184,8 @@ class Commands:
         forms = formats.OF_COMMANDS.values()
         if ran.status == 0 and not any(form.fullmatch(ran.out) for form in forms):
             self.fault("words: %r: %r" % (words, ran.out), b"\0".join(words))
+        if [name for name in os.listdir(self.words_at) if name.endswith(formats.LOG_NAMES)]:
+            self.fault("words: %r made a log" % words, b"\0".join(words))
 
     def damaged_books(self, rng):
         """A command on books that are damaged, some with a log beside them."""
@@ -169,8 +195,10 @@ class Commands:
         file, log = (self.logged, self.log) if rng.random() < 0.3 else (self.file, None)
         if log is None or rng.random() < 0.3:
             file = inputs.book(rng, file)
-        if log is not None:
-            beside = rng.choice((log, inputs.book(rng, log), inputs.noise(rng)))
+        beside = log and rng.choice((log, inputs.book(rng, log), inputs.noise(rng)))
+        if rng.random() < 0.05:
+            beside = rng.choice((self.file, inputs.other_log(rng)))
+        if beside is not None:
             pathlib.Path(str(book) + "-wal").write_bytes(beside)
         book.write_bytes(file)
         if rng.random() < 0.1:
@@ -179,12 +207,31 @@ class Commands:
         title, form, *words = rng.choice(self.asked_of_books())
         ran = self.run(file, title, book, *words)
         self.count("damaged books", ran)
+        self.kept_logs(title, ran, file, book, beside)
         if ran.status not in (0, 3, 4):
             self.fault("damaged books: %s: %r" % (title, ran), file)
         if (ran.out or ran.status == 0) and not formats.OF_DAMAGED[form].fullmatch(ran.out):
             self.fault("damaged books: %s: %r" % (title, ran), file)
-        if log is None:
+        if beside is None:
             self.left_behind(title, ran, file, book)
+
+    def kept_logs(self, title, ran, file, book, beside):
+        """What became of the file at the log's name. One that holds nothing of the books is kept,
+        byte for byte, and told. Books are not touched, nor are those that they lie beside. A whole
+        log is not kept."""
+        there, kept = (pathlib.Path(str(book) + tail) for tail in ("-wal", "-wal-kept"))
+        if beside is None or not formats.may_be_books(file):
+            return
+        if formats.may_be_books(beside):
+            was_left = there.exists() and (there.read_bytes(), book.read_bytes()) == (beside, file)
+            if not was_left or (ran.out, ran.err) != (b"", b"chargectl: exists\n"):
+                self.fault("books as a log: %s: %r" % (title, ran), beside)
+        elif kept.exists():
+            is_whole = kept.read_bytes() == beside != self.log
+            if not is_whole or not ran.err.endswith(formats.LOG):
+                self.fault("a log was kept: %s: %r" % (title, ran), beside)
+        elif formats.is_no_log(beside):
+            self.fault("a log was not kept: %s: %r" % (title, ran), beside)
 
     def serve_damaged(self, book, file):
         """A server for damaged books gives answers of some status that the formats name, or none
@@ -218,6 +265,7 @@ class Commands:
                 ("statement", "what-if-csv", "2", "--csv", "--tariff", tariff),
                 ("adjustments", "adjustments", "2"),
                 ("adjustments", "adjustments-csv", "2", "--csv"), ("close", "ruling", "2", "2024-02-29"),
+                ("close", "dry-run", "2", "2024-02-29", "--dry-run"),
                 ("tariff", "ruling", tariff), ("import", "import", month),
                 ("import", "import", february))
 

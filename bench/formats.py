@@ -12,6 +12,8 @@ import tomllib
 COMPLETE, FIRST, LAST, BETWEEN = 0, 1, 2, 3
 DESCRIPTOR, MOST_DATA, EXTENDED = 4, 65_531, 0x8000
 MOST_HEAD, MOST_FIELDS, MOST_BODY = 16_384, 64, 16_777_216
+# So many bytes of a dump are looked at before it is read.
+MOST_FIRST = 65_535
 MOST_TARIFF = 1_048_576
 DAY_END = 8_640_000
 
@@ -62,6 +64,26 @@ def framed(dump, layout):
         yield "FRAME 4"
         return
     yield "FRAME 8" if left is not None or at < len(dump) else "FRAME 6" if parts else "END"
+
+
+def is_block(record):
+    """What was taken for a record has the form of a block: segments fill it, one or more, the last
+    of whose records may go on."""
+    at, size = DESCRIPTOR, None
+    while at < len(record) < EXTENDED:
+        length, kind = struct.unpack_from(">HB", record[at:at + DESCRIPTOR].ljust(DESCRIPTOR, b"\0"))
+        is_first = kind & 3 in (COMPLETE, FIRST)
+        size = (size or 0) + length - DESCRIPTOR if is_first == (size is None) else -1
+        if not (DESCRIPTOR <= length <= len(record) - at and 0 <= size <= MOST_DATA):
+            return False
+        at, size = at + length, size if kind & 3 in (FIRST, BETWEEN) else None
+    return DESCRIPTOR < at == len(record)
+
+
+def is_misread(dump, layout):
+    """The first record of a dump that is read as segments is a block."""
+    first = next(framed(dump[:MOST_FIRST], layout))
+    return layout == "rdw" and not isinstance(first, str) and is_block(first)
 
 
 def is_day(packed):
@@ -204,6 +226,17 @@ def is_toml(text):
 def is_no_tariff(text):
     """It is too long, or no TOML. Long texts are not read here: they take their time."""
     return len(text) > MOST_TARIFF or len(text) < 10_000 and not is_toml(text)
+
+
+def may_be_far(text):
+    """A tariff begins more than 366 days after the close of period 1. No other one is far: what the
+    books hold is that close, and records."""
+    newest = datetime.date.fromisoformat(CLOSED_THROUGH)
+    try:
+        first = tomllib.loads(text.decode())["effective"]
+        return datetime.date.fromisoformat(first) - newest > datetime.timedelta(366)
+    except (KeyError, TypeError, ValueError):
+        return False
 
 
 def is_text(target):
@@ -349,12 +382,22 @@ def report_form(name, period=0, centre=None):
     return form(WHOLE[name])
 
 
+# What a ruling would change: figures of the open period, before it and after it.
+FIGURES = ("%16s %21s %21s\n" % ("", "BEFORE", "AFTER")
+           + r"(?=.{60}\n)STATEMENT [0-9]+ +%s +%s\n" % (AMOUNT, AMOUNT)
+           + r"(?=.{60}\n)ADJUSTMENTS [0-9]+ +-?%s +-?%s\n" % (AMOUNT, AMOUNT)
+           + r"(?=.{60}\n)RECORDS [0-9]+ +[0-9]+ +[0-9]+\n(?=.{60}\n)%s +[0-9]+ +[0-9]+\n")
+DRY_RUN = r"DRY RUN (?:%s)" % "|".join(
+    words + " (?:DONE|ALREADY)\\n" + FIGURES % last for words, last in (
+        ("TARIFF " + DAY, "PRICED"), ("CLOSE [0-9]+ " + DAY, "RECORDS [0-9]+"),
+        ("CHOOSE [0-9a-f]{64}", "DISPUTES"), ("ADOPT", "DISPUTES")))
+
 OF_PERIODS = ("statement", "statement-csv", "what-if", "what-if-csv", "adjustments",
               "adjustments-csv")
 OF_COMMANDS = {name: report_form(name) for name in (*OF_PERIODS, *WHOLE)}
 OF_COMMANDS |= {
     "audit": form(SOUND + "|" + UNSOUND), "import": form(RECEIPT),
-    "ruling": form("DONE\n|ALREADY\n"), "listed": form("(?:(?:DONE|ALREADY)\n)*"),
+    "ruling": form("DONE\n|ALREADY\n"), "dry-run": form(DRY_RUN), "listed": form("(?:(?:DONE|ALREADY)\n)*"),
     "tariff-text": form(r"(?s:.*)\[rates\](?s:.*)"), "check": form(CHECKED), "init": form(""),
     "explain": form(r"[ -~]+\n[ -~]+\n"),
     "version": form(r"chargectl [0-9.]+\n"),
@@ -379,14 +422,51 @@ ERROR = re.compile(
     rb"|ledger (?:[5-7]|9 [0-9]+|1[01]|19))\n")
 
 
-# The last line of a command that leaves pages in the log of books, whatever it said before.
+# What a command notices, after what it says; and the last line of one that leaves pages in the log of
+# books, or keeps a log that holds none.
+LAYOUT, FAR = b"chargectl: layout\n", b"chargectl: far\n"
 LOG = b"chargectl: log\n"
+
+
+def said_first(lines):
+    """What is said on standard error before what is noticed."""
+    return lines.removesuffix(LOG).removesuffix(FAR).removesuffix(LAYOUT)
+
+
+# What a close leaves of a log, and the header of one and that of a page.
+CLOSED_LOG, LOG_HEADER, PAGE_HEADER = 41, 32, 24
+LOG_NAMES = "-wal", "-journal", "-shm"
+
+
+def may_be_books(file):
+    """A file begins as those of SQLite do."""
+    return file.startswith(b"SQLite format 3\0")
+
+
+def is_signed(log):
+    """The header of a log has its magic number, and the checksum of what stands before that."""
+    if log[:4] not in (b"\x37\x7f\x06\x82", b"\x37\x7f\x06\x83"):
+        return False
+    first = second = 0
+    words = struct.unpack_from((">" if log[3] & 1 else "<") + "6I", log)
+    for one, other in zip(words[::2], words[1::2]):
+        first = first + one + second & 0xffffffff
+        second = second + other + first & 0xffffffff
+    return struct.unpack_from(">2I", log, 24) == (first, second)
+
+
+def is_no_log(file):
+    """A file is longer than what a close leaves of a log, and is passed over as one: no page has
+    room in it, or its header is not signed."""
+    if len(file) <= CLOSED_LOG:
+        return False
+    return len(file) < LOG_HEADER + PAGE_HEADER or not is_signed(file)
 
 
 def status_of(lines):
     """The status that goes with what is said on standard error; None where that is no such line. A
     change that went well has status 4 where it left a log."""
-    if lines == LOG:
-        return 4
-    said = ERROR.fullmatch(lines.removesuffix(LOG))
+    if not said_first(lines):
+        return 4 if lines.endswith(LOG) else None
+    said = ERROR.fullmatch(said_first(lines))
     return said and (1 if said[1] else 4 if said[2] else 5 if said[3] else 3)

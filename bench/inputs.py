@@ -402,11 +402,17 @@ def book(rng, file):
     return bytes_turned(rng, file) if way < 0.9 else mutated(rng, file, file)
 
 
+def other_log(rng):
+    """What a command does not find at the name of a log, unless it is somebody's; of a length near
+    what a close leaves, or a longer one."""
+    return rng.choice((b"x", b"\0", b"\x37")) * rng.choice((1, 40, 41, 42, 55, 56, 57, 5_000))
+
+
 COMMANDS = ("init tariff import close choose adopt statement adjustments disputes periods rulings "
             "tariff-text audit trial check explain help serve --help -h --version -V").split()
 WORDS = ("books nothing tariff dump . .. books/ books-wal 0 1 2 3 65535 65536 -1 1e3 0x1 ١ "
          "2024-01-31 2024-02-30 2024-02-29 2024-1-1 --layout --layout=bdw --layout=xyz rdw bdw "
-         "--quiet --quiet=1 --csv --cpu --cpu=100000000 --cpu=100000001 --excp --record "
+         "--quiet --quiet=1 --dry-run --csv --cpu --cpu=100000000 --cpu=100000001 --excp --record "
          "--record=-1 -- - -q --help -h --port --requests --from --tariff "
          "--tariff=tariff --tariff=dump "
          "--centre --centre=LEDGER frame ledger tariff damaged").split()
@@ -421,13 +427,15 @@ PLACES = {
     "tariff-text": "BD", "audit": "B", "trial": "",
     "check": "F", "explain": "KP", "serve": "B"}
 PLACED = {
-    "B": ("books", "books", "books", "dump", "tariff", "nothing", "other", ".", "/dev/null/x", ""),
+    "B": ("books", "books", "books", "dump", "tariff", "nothing", "other", "books-wal", "other-shm",
+          ".", "/dev/null/x", ""),
     "F": ("dump", "dump", "tariff", "books", "nothing", ".", "/dev/zero", "/dev/null"),
     "P": ("0", "1", "2", "3", "17", "65535", "65536", "-1", "x"),
     "D": ("2024-01-01", "2024-01-31", "2024-02-29", "2023-02-29", "2099-12-31", "1899-12-31", "2024-1-31", ""),
     "N": ("0" * 64, "ab" * 32, "AB" * 32, "zz" * 32, "0" * 63, ""),
     "O": ("--csv", "--tariff=tariff", "--tariff=dump", "--tariff=nothing", "--centre=LEDGER"),
-    "K": ("frame", "ledger", "tariff", "damaged", "other")}
+    "K": ("frame", "ledger", "tariff", "damaged", "io", "busy", "exists", "word", "unsound", "log",
+          "layout", "far", "other")}
 
 
 def words(rng):
