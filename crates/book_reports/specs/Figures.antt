@@ -6,8 +6,8 @@ use Rattle.book_model.specs.declared.fault.LedgerFault.TheVariants.{NoSuchPeriod
 use Rattle.book_model.specs.declared.line.Line.{Line}
 use Rattle.book_model.specs.declared.row.ChargeRow.{ChargeRow}
 use Rattle.book_model.specs.Words.{Book, Naming, Outcome, no_event}
-use Rattle.report_texts.specs.Figures.{dispute_count, figures, figures_with, lines_in, number_after}
-use Rattle.report_texts.specs.Figures.{record_count, rows_in}
+use Rattle.report_texts.specs.Figures.{figures, figures_with, lines_in, number_after, record_count}
+use Rattle.report_texts.specs.Figures.{rows_in}
 use Rattle.report_texts.specs.declared.dry_runs.TriedRuling.{TriedRuling}
 use Rattle.report_texts.specs.declared.figures.Figures.{Figures}
 use Rattle.book_reports.specs.declared.figures.OpenPeriod.{OpenPeriod}
@@ -40,10 +40,6 @@ lines_outcome naming period book = no_event (Ok (lines_in naming period book))
 -- how many records a period counts
 abbrev pub count_outcome : ℕ → Book → Outcome ℕ
 count_outcome period book = no_event (Ok (record_count (rows_in period book)))
-
--- how many disputes there are
-abbrev pub dispute_count_outcome : Naming → Book → Outcome ℕ
-dispute_count_outcome naming book = no_event (Ok (dispute_count naming book))
 
 -- the figures of a period whose charge rows these are
 abbrev pub figures_with_outcome :

@@ -1,7 +1,8 @@
 -- The disputes of a ledger, as a list or as a table, which are written while they are read.
-use Rattle.std.specs.Prelude.{ℕ, List, Bool, Option, Result, Ok, length}
+use Rattle.std.specs.Prelude.{ℕ, List, Bool, Option, Result, Ok}
 use Rattle.book_model.specs.Words.{Book, Disputed, Event, Naming, Outcome, disputes_in, no_event}
 use Rattle.report_texts.specs.DisputeLists.{dispute_lines, dispute_list_head, dispute_list_text}
+use Rattle.report_texts.specs.Figures.{dispute_count}
 use Rattle.report_texts.specs.DisputeTables.{dispute_rows, dispute_table, member_heading}
 use Rattle.book_reports.specs.declared.fault.ReportFault.{ReportFault}
 use Rattle.book_reports.specs.declared.streamed_disputes.DisputeForm.{DisputeForm}
@@ -10,8 +11,7 @@ use Rattle.book_reports.specs.StreamedRulings.{WritesReport, WritesSome}
 
 -- how many disputes there are
 abbrev pub dispute_count_outcome : Naming → Book → Outcome ℕ
-dispute_count_outcome naming book =
-    no_event (Ok (length (disputes_in naming book.rulings book.held)))
+dispute_count_outcome naming book = no_event (Ok (dispute_count naming book))
 
 -- the text of some disputes
 abbrev pub disputes_text : DisputeForm → List Disputed → List ℕ

@@ -9,7 +9,8 @@ ghost use Rattle.report_texts.specs.Figures as figures;
 ghost use Rattle.book_reports.specs.BookTexts.{shown_by};
 ghost use Rattle.book_reports.specs.Figures as spec;
 
-use book_core::{ChargeRow, Dispute, LAST_PERIOD, Ledger, LedgerFault, Line};
+use crate::streamed_disputes::count_disputes;
+use book_core::{ChargeRow, LAST_PERIOD, Ledger, LedgerFault, Line};
 use report_texts::{Figures, TriedRuling, figures_of, record_count, record_count_from};
 use std::alloc::Global;
 
@@ -113,21 +114,6 @@ fn count_of_period<L: Ledger>(
     Ok(record_count(&rows))
 }
 
-fn number_of(disputes: &[Dispute]) -> u64
-    ensures { result ≡ length disputes.now }
-{
-    disputes.len() as u64
-}
-
-/// How many disputes there are.
-fn count_of_disputes<L: Ledger>(ledger: &mut L) -> Result<u64, LedgerFault>
-    ensures { IsCall (λ count. count) (L.seen ledger.old) (L.seen ledger.new) result
-        (spec.dispute_count_outcome (L.seen ledger.old).naming) }
-{
-    let disputes = ledger.disputes()?;
-    Ok(number_of(&disputes))
-}
-
 /// The figures of a period by its rows and lines, and the count that is shown for the ruling, if that
 /// was answered.
 fn figures_and(
@@ -167,8 +153,8 @@ fn figures_with<L: Ledger>(
         TriedRuling::Close { .. } => {
             figures_and(rows, &lines, count_of_period(alloc, ledger, period + 1))
         }
-        TriedRuling::Choose(_) => figures_and(rows, &lines, count_of_disputes(ledger)),
-        TriedRuling::Adopt => figures_and(rows, &lines, count_of_disputes(ledger)),
+        TriedRuling::Choose(_) => figures_and(rows, &lines, count_disputes(ledger)),
+        TriedRuling::Adopt => figures_and(rows, &lines, count_disputes(ledger)),
     }
 }
 

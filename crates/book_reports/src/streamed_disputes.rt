@@ -75,7 +75,7 @@ fn bytes_after(dispute: Dispute) -> Result<Vec<u8>, AllocError>
 }
 
 /// How many disputes there are. Each is read for it, one at a time.
-fn count_disputes<L: Ledger>(ledger: &mut L) -> Result<u64, LedgerFault>
+pub(crate) fn count_disputes<L: Ledger>(ledger: &mut L) -> Result<u64, LedgerFault>
     ensures { IsCall (λ count. count) (L.seen ledger.old) (L.seen ledger.new) result
         (dispute_count_outcome (L.seen ledger.old).naming) }
 {

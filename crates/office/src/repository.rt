@@ -36,7 +36,7 @@ pub trait Visit {
 pub struct Opened<T: Drop> {
     /// What was done with them, or why they were not opened.
     pub answer: Result<T, RepositoryFault>,
-    /// Their file does not hold them alone: a log beside it holds a part of them.
+    /// A log beside their file holds a part of them, or one that was no use was put aside.
     pub has_log: bool,
 }
 

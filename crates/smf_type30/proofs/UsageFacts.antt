@@ -312,6 +312,9 @@ pub ruleset usage = (
 -- what reading asks of them
 pub ruleset reading = (usage_long, usage_undamaged, undamaged_usage)
 
+-- and what testing and reading at once asks of them
+pub ruleset testing = (usage_long, usage_measures_work, usage_undamaged, undamaged_usage)
+
 -- where a section is there, what it says is known
 pub present : {A : Type 0} (count : ℕ) (absent told : A) → count ≢ 0
     → told ≡ cond (count == 0) absent told

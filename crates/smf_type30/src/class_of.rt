@@ -1,4 +1,4 @@
-ghost use Rattle.std.specs.Prelude.{◌≡◌, ◌≤◌, length, IsTrue, IfOk, IfErr, None, Ok, Some};
+ghost use Rattle.std.specs.Prelude.{◌≡◌, ◌≤◌, ◌↔◌, length, IsTrue, IfOk, IfErr, None, Ok, Some};
 ghost use Rattle.smf_text.specs.Day.{IsDay};
 ghost use Rattle.smf_text.specs.PackedDate.{packed_day_of};
 ghost use Rattle.smf_frames.specs.Header.{header_len};
@@ -65,6 +65,20 @@ pub fn undamaged(bytes: &[u8], header: &Header) -> Result<Moment, Damage>
         None => Ok(moment),
         Some(damage) => Err(damage),
     }
+}
+
+/// Whether a record has its triplets, is of type 30, ends a step or a job, and measures CPU time.
+#[tactic(auto, unfolding(crate::specs::Usage::subtype_of, crate::specs::Class::measures_work))]
+pub fn has_usage(bytes: &[u8], header: &Header) -> bool
+    requires header { header.now ≡ header_of bytes.now }
+    ensures { IsTrue result
+        ↔ (triplets_end ≤ length bytes.now) × IsTrue (spec.measures_work bytes.now) }
+{
+    if bytes.len() < TRIPLETS_END || header.kind != WORK {
+        return false;
+    }
+    let subtype = number2(bytes, SUBTYPE);
+    (subtype == STEP_END || subtype == JOB_END) && count(bytes, PROCESSOR) != 0
 }
 
 /// The class of a work record.

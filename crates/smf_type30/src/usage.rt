@@ -1,4 +1,4 @@
-ghost use Rattle.std.specs.Prelude.{◌≡◌, ◌≤◌, ◌<◌, ◌+◌, ◌-◌, ◌^◌, ◌↔◌, ◌⊎◌, ◌++◌, length, take, IsTrue, IsOk, IfOk, IfErr, Some, option_copied};
+ghost use Rattle.std.specs.Prelude.{◌≡◌, ◌≤◌, ◌<◌, ◌+◌, ◌-◌, ◌^◌, ◌↔◌, ◌⊎◌, ◌++◌, length, take, IsTrue, IsOk, IsSome, IfOk, IfErr, IfSome, Some, option_copied};
 ghost use Rattle.smf_text.specs.Day.{IsDay};
 ghost use Rattle.smf_type30.specs.Layout.{hundredths_per_day, identification, initiation, job_end, job_id, job_name, program_name, step_end, step_number, triplets_end};
 ghost use Rattle.smf_type30.specs.Accounts.{IsAccount};
@@ -7,7 +7,7 @@ ghost use Rattle.smf_type30.specs.Usage as spec;
 ghost use Rattle.smf_type30.specs.Class.{IsUsage, measures_work, read_fault};
 
 use crate::accounts;
-use crate::class_of::undamaged;
+use crate::class_of::{has_usage, undamaged};
 use crate::damage::Damage;
 use crate::layout::{
     BLOCKS, COMPLETION, Field, IDENTIFICATION, INITIATION, IO_ACTIVITY, JOB_END, JOB_ID, JOB_NAME,
@@ -74,6 +74,25 @@ impl<'a> Type30<'a> {
             system: header.system,
             moment: moment_in(&header).unwrap(),
         }
+    }
+
+    /// The fields of a record, its descriptor included, if its class is Usage: it is tested and read
+    /// in one go.
+    #[tactic(auto, using(crate::proofs::UsageFacts::testing))]
+    pub fn if_usage(bytes: &'a [u8]) -> Option<Type30<'a>>
+        ensures usage { IsSome result ↔ IsUsage bytes.now }
+        ensures value { IfSome result (λ usage. usage ≡ bytes.now) }
+    {
+        let header = Header::read(bytes)?;
+        if !has_usage(bytes, &header) {
+            return None;
+        }
+        let moment = undamaged(bytes, &header).ok()?;
+        Some(Type30 {
+            bytes,
+            system: header.system,
+            moment,
+        })
     }
 
     /// The subtype: 4 for a step, 5 for a job.

@@ -5,7 +5,8 @@ use Rattle.book_model.specs.declared.line.Line.{Line}
 use Rattle.report_texts.specs.declared.dry_runs.TriedRuling.TheVariants.{Tariff}
 use Rattle.report_texts.specs.DryRuns.{NamesDay}
 use Rattle.report_texts.specs.Figures.{figures_by, record_count_from}
-use Rattle.book_reports.specs.Figures.{count_outcome, dispute_count_outcome}
+use Rattle.book_reports.specs.Figures.{count_outcome}
+use Rattle.book_reports.specs.StreamedDisputes.{dispute_count_outcome}
 use Rattle.book_reports.proofs.FigureLemmas.{own_read}
 use Rattle.book_reports.proofs.ReadingLemmas.{call_failed, read_as}
 use Rattle.book_reports.proofs.WritingLemmas.{same_value}
@@ -46,8 +47,8 @@ returns-in-Choose g c =
     let naming = (g.L.Ledger.seen c.args.ledger.now).naming in
     rw c.in-Choose.is
     (own_read naming c.args.period c.args.rows.now (dispute_count_outcome naming)
-    c.count_of_disputes.result c.figures_and-in-Choose.result (λ book. refl) call
-    (rw call.work.naming at c.count_of_disputes.ensures)
+    c.count_disputes.result c.figures_and-in-Choose.result (λ book. refl) call
+    (rw call.work.naming at c.count_disputes.ensures)
     (rw c.deref-in-Choose.ensures.value at c.figures_and-in-Choose.ensures))
 
 pub returns : goal.returns
@@ -56,6 +57,6 @@ returns g c =
     let naming = (g.L.Ledger.seen c.args.ledger.now).naming in
     rw c.in-Adopt.is
     (own_read naming c.args.period c.args.rows.now (dispute_count_outcome naming)
-    c.count_of_disputes-in-Adopt.result c.figures_and-in-Adopt.result (λ book. refl) call
-    (rw call.work.naming at c.count_of_disputes-in-Adopt.ensures)
+    c.count_disputes-in-Adopt.result c.figures_and-in-Adopt.result (λ book. refl) call
+    (rw call.work.naming at c.count_disputes-in-Adopt.ensures)
     (rw c.deref-in-Adopt.ensures.value at c.figures_and-in-Adopt.ensures))
