@@ -33,7 +33,7 @@ use Rattle.book_files.proofs.NewParts.{opened_empty}
 use Rattle.book_files.proofs.SessionParts.{opened_stands}
 use Rattle.office.specs.declared.repository.RepositoryFault.{RepositoryFault}
 use Rattle.office.specs.declared.repository.RepositoryFault.TheVariants.{Io, Exists, Busy, Ledger}
-use Rattle.table_laws.specs.FromCalls.{IsFromCalls}
+use Rattle.table_model.specs.FromCalls.{IsFromCalls}
 use Rattle.table_ledger.specs.Commits.{Stores}
 use Rattle.table_ledger.specs.Loaded.{HasTexts, IsOpenCause, IsOpenFault, IsStoreFault}
 use Rattle.table_ledger.specs.Loaded.{IsToldBy}

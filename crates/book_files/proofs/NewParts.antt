@@ -21,10 +21,10 @@ use Rattle.book_trees.specs.Refusals.{IsAsFound, IsBegun, MayLeave}
 use Rattle.book_restarts.specs.FileBooks.{HoldsHistory}
 use Rattle.book_files.specs.NewBooks.{IsEmpty, LeavesNewBooks, MakesBooks, MayBeMade}
 use Rattle.book_files.specs.declared.session.Ended.TheVariants.{Refused}
-use Rattle.table_model.proofs.KeepingLemmas.{tables_follow}
+use Rattle.table_model.proofs.EventLemmas.{tables_follow}
 use Rattle.table_model.specs.TablesAfter.{new_tables}
 use Rattle.table_model.specs.TablesOf.{tables_of}
-use Rattle.table_laws.proofs.CallsLemmas.{calls_stay}
+use Rattle.table_model.proofs.CallsLemmas.{calls_stay}
 use Rattle.tree_tables.specs.Holds.{Holds}
 use Rattle.table_ledger.specs.LedgerState.{seen_of}
 use Rattle.table_ledger.specs.Ready.{IsStoredIn}

@@ -16,10 +16,11 @@ use Rattle.book_model.specs.Words.{PeriodClosed, RecordChosen, RecordKept, Secon
 use Rattle.book_model.specs.Words.{TariffAccepted, book_after, has, members, open_by}
 use Rattle.book_model.specs.Sound.{IsChoiceOf}
 use Rattle.book_trees.specs.LedgerFiles.{HoldsBooks, trees_held}
-use Rattle.table_laws.proofs.ReadableLemmas.{calls_read}
-use Rattle.table_laws.proofs.RulingsReading.{closes_kept, tariffs_kept}
-use Rattle.table_laws.specs.FromCalls.{IsFromCalls}
-use Rattle.table_laws.specs.Readable.{IsReadable}
+use Rattle.table_model.proofs.ReadableLemmas.{calls_read}
+use Rattle.table_model.proofs.RulingsReading.{tariffs_kept}
+use Rattle.table_model.proofs.UnderNumbers.{entries-numbers}
+use Rattle.table_model.specs.FromCalls.{IsFromCalls}
+use Rattle.table_model.specs.Readable.{IsReadable}
 use Rattle.table_model.specs.TablesOf.{close_entries, tables_of, tariff_entries}
 use Rattle.table_ledger.specs.Ready.{IsStoredIn}
 use Rattle.book_restarts.specs.FileBooks.{HoldsHistory}
@@ -93,7 +94,7 @@ module _ (naming : Naming) (book : Book) (calls : IsFromCalls naming book)
 
   no_closes : length book.rulings.closes ≡ 0
   no_closes =
-      sym (closes_many 1 book.rulings.closes) ∙ sym (ap length (closes_kept book.rulings.closes))
+      sym (closes_many 1 book.rulings.closes) ∙ sym (ap length (entries-numbers book.rulings.closes))
       ∙ none.closes_none
 
 -- so a history with an event is that of no such book

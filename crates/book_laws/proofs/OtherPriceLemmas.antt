@@ -27,8 +27,8 @@ use Rattle.report_texts.specs.Centres.{rows_of_centre}
 use Rattle.table_model.proofs.HeldPeriods.{all_held, one_of}
 use Rattle.table_model.proofs.PeriodPlaces.{at_place}
 use Rattle.table_model.proofs.TableParts.{what_is}
-use Rattle.table_laws.specs.Readable.{IsReadable, IsTexted}
-use Rattle.table_laws.proofs.PriceSums.{some_within}
+use Rattle.table_model.specs.Readable.{IsReadable, IsTexted}
+use Rattle.table_model.proofs.PriceSums.{some_within}
 use Rattle.book_laws.specs.OtherPriceLaws.{CostsAsSaid, GivesStatement}
 use Rattle.book_laws.proofs.RowSums.{sum_by-centre_rows, sum_by-rows_of}
 

@@ -14,9 +14,9 @@ use Rattle.book_model.specs.Words.{Book, IsPriced, Naming, Period, Terms, costs_
 use Rattle.book_model.specs.Words.{most_cost, period_of, price_by, prices, rows_if_room, rows_of}
 use Rattle.book_model.specs.Words.{what_if_answer, what_if_outcome}
 use Rattle.book_model.proofs.SumsAlike.{length-sum_by}
-use Rattle.table_laws.specs.Readable.{IsReadable}
-use Rattle.table_laws.proofs.PriceSums.{some_within}
-use Rattle.table_laws.proofs.ReadableLemmas.{calls_read}
+use Rattle.table_model.specs.Readable.{IsReadable}
+use Rattle.table_model.proofs.PriceSums.{some_within}
+use Rattle.table_model.proofs.ReadableLemmas.{calls_read}
 use Rattle.book_laws.specs.StatementWidths.{AreAligned, WhatIfsAreAligned}
 use Rattle.book_laws.proofs.OtherPriceLemmas.{answered_rows, counted_held}
 use Rattle.book_laws.proofs.OtherWorkLemmas.{IsWork, same_sums}

@@ -19,7 +19,7 @@ use Rattle.book_model.specs.Words.{rows_for, rows_of, same_bytes, what_if_answer
 use Rattle.book_model.proofs.RecordSets.{is, is_first}
 use Rattle.book_model.proofs.SumsAlike.{length-sum_by, sum_by-filter}
 use Rattle.report_texts.specs.Centres.{rows_of_centre}
-use Rattle.table_laws.specs.Readable.{IsReadable}
+use Rattle.table_model.specs.Readable.{IsReadable}
 use Rattle.book_laws.specs.OtherPriceLaws.{CountSameWork, KeepsWork, NamesSameCentres, WhatIf}
 use Rattle.book_laws.proofs.ClosedLemmas.{closed_stays}
 use Rattle.book_laws.proofs.OtherPriceLemmas.{answered_rows, costs_as_said, counted_priced}

@@ -37,9 +37,9 @@ use Rattle.report_texts.specs.Columns.{amount_text, digits_in, left_aligned, new
 use Rattle.report_texts.specs.Columns.{seconds_text}
 use Rattle.report_texts.specs.Statements.{heading, key_columns, number_columns, row_line}
 use Rattle.report_texts.specs.Statements.{sum_columns, total_line}
-use Rattle.table_laws.specs.Readable.{IsReadable}
-use Rattle.table_laws.proofs.PriceSums.{all_priced, part_within, some_within}
-use Rattle.table_laws.proofs.ReadableLemmas.{calls_read}
+use Rattle.table_model.specs.Readable.{IsReadable}
+use Rattle.table_model.proofs.PriceSums.{all_priced, part_within, some_within}
+use Rattle.table_model.proofs.ReadableLemmas.{calls_read}
 use Rattle.book_laws.specs.StatementWidths.{AreAligned, StatementsAreAligned}
 
 -- a text that fits fills its column

@@ -8,7 +8,7 @@ use Rattle.book_model.specs.Words.{Records, Terms, book_after, charges_outcome, 
 use Rattle.book_model.specs.Words.{has, in_force, members, no_event, period_of, price_by, price_in}
 use Rattle.book_model.specs.Words.{prices, rows_if_room, same_bytes, terms_in, what_if_outcome}
 use Rattle.report_texts.specs.Centres.{rows_of_centre}
-use Rattle.table_laws.specs.Readable.{IsReadable}
+use Rattle.table_model.specs.Readable.{IsReadable}
 use Rattle.book_laws.specs.ClosedPeriods.{IsClosed}
 
 -- Each record of a period costs what the tariff says. The rows are those of the same records at the

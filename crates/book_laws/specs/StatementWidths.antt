@@ -4,7 +4,7 @@ use Rattle.book_model.specs.Words.{Book, IsPriced, Naming, Period, Terms, charge
 use Rattle.book_model.specs.Words.{period_of, price_by, what_if_outcome}
 use Rattle.book_model.specs.declared.row.ChargeRow.{ChargeRow}
 use Rattle.report_texts.specs.Statements.{heading, row_line, total_line}
-use Rattle.table_laws.specs.FromCalls.{IsFromCalls}
+use Rattle.table_model.specs.FromCalls.{IsFromCalls}
 
 -- a line of a statement: 114 characters, and its end
 abbrev pub line_length : ℕ

@@ -5,7 +5,7 @@ use Rattle.sqlite_trees.specs.View.{View, IsClean}
 use Rattle.book_model.specs.Words.{Book, Naming}
 use Rattle.book_core.specs.Ledgers.{Seen, IsOpenAt, may_have}
 use Rattle.table_model.specs.TablesOf.{tables_of}
-use Rattle.table_laws.specs.FromCalls.{IsFromCalls}
+use Rattle.table_model.specs.FromCalls.{IsFromCalls}
 use Rattle.table_ledger.specs.Commits.{IsAtRest, Stores}
 use Rattle.table_ledger.specs.Ready.{IsStoredIn}
 use Rattle.table_ledger.specs.LedgerState.{AreBooks, seen_of}

@@ -8,11 +8,14 @@ use Rattle.book_model.specs.declared.fault.LedgerFault.{LedgerFault}
 use Rattle.book_model.specs.declared.fault.LedgerFault.TheVariants.{Memory, Store, Reopen}
 use Rattle.book_model.specs.Words.{Book, Naming, Outcome}
 use Rattle.book_core.specs.Calls.{Makes, is_reopen, is_store, listed}
+use Rattle.table_model.specs.Tables.{Tables}
+use Rattle.table_model.specs.TablesOf.{tables_of}
 use Rattle.tree_tables.specs.States.{State}
 use Rattle.table_ledger.specs.Attempts.{LeavesOpen}
+use Rattle.table_ledger.specs.Commits.{Saw}
 use Rattle.table_ledger.specs.Stages.{AttemptsOne, IsAt}
 use Rattle.table_ledger.specs.declared.summary.Summary.{Summary}
-use Rattle.table_ledger.proofs.TryLemmas.{saw_none, try_answered}
+use Rattle.table_ledger.proofs.TryLemmas.{try_answered}
 
 -- an answer that leaves the books open
 pub opens : {V : Type 0} {answer : Result V LedgerFault} → is_store answer ≡ false
@@ -39,7 +42,7 @@ pub makes_answer : {V A : Type 0} (view : V → A) (outcome : Outcome A) (value 
 makes_answer view outcome value is none = (is, sym (ap listed none))
 
 -- an answer to a ruling that is not Done makes no event
-pub ruled_makes : (outcome : Outcome Ruled) (answer : Result Ruled LedgerFault)
+ruled_makes : (outcome : Outcome Ruled) (answer : Result Ruled LedgerFault)
     → outcome.answer ≡ answer → answer ≢ Ok Done → (answer ≡ Ok Already → outcome.event ≡ None)
     → Makes (λ (ruled : Ruled). ruled) outcome answer []
 ruled_makes outcome (Ok Done) is other none = absurd (other refl)
@@ -48,14 +51,15 @@ ruled_makes outcome (Ok Already) is other none =
 ruled_makes outcome (Err fault) is other none =
     makes_refused (λ (ruled : Ruled). ruled) outcome fault is
 
--- A ruling that is not Done is answered without a look.
-pub ruled_other : {naming : Naming} {was : Summary} (outcome : Book → Outcome Ruled) {state : State}
-    {answer given : Result Ruled LedgerFault} → answer ≡ given → LeavesOpen given
-    → answer ≢ Ok Done
-    → ((book : Book) → IsAt naming was state.view book → (outcome book).answer ≡ given)
+-- A ruling that is not Done is answered by looks alone.
+pub ruled_other : {naming : Naming} {was : Summary} (outcome : Book → Outcome Ruled)
+    {old new : State} {Known : Tables → Type 0} {answer given : Result Ruled LedgerFault}
+    → answer ≡ given → LeavesOpen given → answer ≢ Ok Done → Saw old new Known
+    → ((book : Book) → IsAt naming was old.view book → Known (tables_of naming book)
+    → (outcome book).answer ≡ given)
     → ((book : Book) → (outcome book).answer ≡ Ok Already → (outcome book).event ≡ None)
-    → AttemptsOne (λ (ruled : Ruled). ruled) naming was was state state outcome (Ok answer)
-ruled_other outcome {answer = answer} is plain other says none =
-    try_answered outcome saw_none (subst LeavesOpen (sym is) plain) (λ book at known.
-    let said = says book at ∙ sym is in
+    → AttemptsOne (λ (ruled : Ruled). ruled) naming was was old new outcome (Ok answer)
+ruled_other outcome {answer = answer} is plain other saw says none =
+    try_answered outcome saw (subst LeavesOpen (sym is) plain) (λ book at known.
+    let said = says book at known ∙ sym is in
     ruled_makes (outcome book) answer said other (λ already. none book (said ∙ already)))

@@ -1,13 +1,11 @@
 -- Lists of books that calls made: what is read from their tables can be shown.
 use Rattle.std.proofs.Common.{◌≡◌, ◌∙◌, ℕ, Bool, List, [], ◌∷◌, Option, None, Some, map, sym, ap, subst}
 use Rattle.std.proofs.Common.{refl, true}
-use Rattle.std.specs.Prelude.{All}
 use Rattle.std.specs.FinMap.{get}
 use Rattle.std.specs.List.{AllByRecursion, cons_option}
 use Rattle.std.specs.Option.{option_map}
 use Rattle.std.specs.List.Sorted.{IsStrictlySortedBy}
 use Rattle.std.specs.declared.cmp.Ordering.TheVariants.{Less}
-use Rattle.std.proofs.lemmas.List.Elements.{All-from_recursion}
 use Rattle.sqlite_trees.specs.View.{View}
 use Rattle.sqlite_trees.proofs.ListLemmas.{map-map}
 use Rattle.book_model.specs.Words.{AreLines, AreRows, Book, Naming, by_bytes, by_line, members, set_of}
@@ -16,29 +14,27 @@ use Rattle.book_model.specs.declared.row.ChargeRow.{ChargeRow}
 use Rattle.table_model.specs.PeriodRows.{rows_under}
 use Rattle.table_model.specs.Tables.{RecordRow, RecordTable}
 use Rattle.table_model.specs.TablesOf.{tables_of}
-use Rattle.table_laws.specs.ListsRead.{is_period}
-use Rattle.table_laws.specs.Readable.{IsReadable}
-use Rattle.table_laws.proofs.CountedLemmas.{counted_follows}
-use Rattle.table_laws.proofs.ListOrder.{all_so}
-use Rattle.table_laws.proofs.ReadableLemmas.{calls_read}
-use Rattle.table_laws.proofs.ShownDisputes.{lists_show}
-use Rattle.table_laws.specs.DisputesRead.{IsNextDisputed}
+use Rattle.table_model.specs.ListsRead.{is_period}
+use Rattle.table_model.specs.Readable.{IsReadable}
+use Rattle.table_model.proofs.CountedLemmas.{counted_follows}
+use Rattle.table_model.proofs.ReadableLemmas.{calls_read}
+use Rattle.table_model.proofs.ShownDisputes.{lists_show}
+use Rattle.table_model.specs.DisputesRead.{IsNextDisputed}
 use Rattle.tree_tables.specs.Answers.{ListsDays, ListsLines, ListsSharing, ListsUncharged}
 use Rattle.tree_tables.specs.Fits.{DaysFit, LinesFit}
-use Rattle.tree_tables.specs.Stored.{signed_name, stored_entry}
+use Rattle.tree_tables.specs.Stored.{signed_name}
 use Rattle.tree_tables.specs.declared.line_rows.StoredLine.{StoredLine}
 use Rattle.tree_tables.specs.declared.stored_record.StoredRecord.{StoredRecord}
-use Rattle.table_ledger.specs.DisputeReads.{IsIdentity, IsShownRow}
+use Rattle.table_ledger.specs.DisputeReads.{IsIdentity}
 use Rattle.table_ledger.specs.LineReads.{NamesRise, lines_stored}
 use Rattle.table_ledger.specs.OtherPrices.{CanBeWalked}
 use Rattle.table_ledger.specs.Ready.{IsReadyAt}
 use Rattle.table_ledger.specs.RecordReads.{CanBeRead, HasWideNames}
-use Rattle.tree_tables.specs.UsageData.{IsUsageData}
 use Rattle.book_core.specs.OfficeRulings.{ruled_in}
 use Rattle.table_ledger.specs.declared.summary.Summary.{Summary}
 use Rattle.table_ledger.proofs.LineReadings.{line_with, lines_listed}
 use Rattle.table_ledger.proofs.Remembered.{rulings_are}
-use Rattle.table_ledger.proofs.BookRows.{IsTaken, can_be_read, days_fit, lines_fit, lines_rise}
+use Rattle.table_ledger.proofs.BookRows.{AreTaken, can_be_read, days_fit, lines_fit, lines_rise}
 use Rattle.table_ledger.proofs.BookRows.{row_taken, sharing_taken, uncharged_taken}
 
 -- ---- the names of lines that are read rise where those of the stored lines do
@@ -144,48 +140,19 @@ module _ {naming : Naming} {summary : Summary} {view : View} {book : Book}
         lists read refl)
         (lists_show.lines naming book number whole (there_is number is))
 
-  module _ (wide : HasWideNames naming) (rows : List StoredRecord)
-      (lists : ListsUncharged (tables_of naming book) rows) where
-    taken : AllByRecursion (λ (row : StoredRecord). IsTaken (stored_entry row)) rows
-    taken = uncharged_taken naming book whole wide rows lists
+  -- the rows of records that are not charged are taken,
+  pub own_uncharged : HasWideNames naming → (rows : List StoredRecord)
+      → ListsUncharged (tables_of naming book) rows → AreTaken rows
+  own_uncharged = uncharged_taken naming book whole
 
-    -- rows of records that are not charged can be shown
-    pub own_shown_rows : All (λ (row : StoredRecord). IsShownRow (stored_entry row)) rows
-    own_shown_rows =
-        All-from_recursion (λ (row : StoredRecord). IsShownRow (stored_entry row)) rows
-        (all_so (λ (row : StoredRecord). IsTaken (stored_entry row))
-        (λ row. IsShownRow (stored_entry row)) (λ row its. its.shown) rows taken)
+  -- and so are those of an identity
+  pub own_sharing : HasWideNames naming → (identity : List ℕ) (rows : List StoredRecord)
+      → ListsSharing identity (tables_of naming book) rows → AreTaken rows
+  own_sharing = sharing_taken naming book whole
 
-    -- and their data are those of usage records
-    pub own_usage : All (λ (row : StoredRecord). IsUsageData row.data_bytes.items) rows
-    own_usage =
-        All-from_recursion (λ (row : StoredRecord). IsUsageData row.data_bytes.items) rows
-        (all_so (λ (row : StoredRecord). IsTaken (stored_entry row))
-        (λ row. IsUsageData row.data_bytes.items) (λ row its. its.data_bytes) rows taken)
-
-  module _ (wide : HasWideNames naming) (from identity : List ℕ)
-      (next : IsNextDisputed from (tables_of naming book).records identity) where
-    -- the identity of a record is one
-    pub own_identity : IsIdentity identity
-    own_identity =
-        subst IsIdentity next.own
-        (row_taken naming book whole wide next.row.0 next.row.1 next.disputed.there).shown.identity
-
-  module _ (wide : HasWideNames naming) (identity : List ℕ) (rows : List StoredRecord)
-      (lists : ListsSharing identity (tables_of naming book) rows) where
-    its_taken : AllByRecursion (λ (row : StoredRecord). IsTaken (stored_entry row)) rows
-    its_taken = sharing_taken naming book whole wide identity rows lists
-
-    -- the records of an identity can be shown
-    pub own_sharing : All (λ (row : StoredRecord). IsShownRow (stored_entry row)) rows
-    own_sharing =
-        All-from_recursion (λ (row : StoredRecord). IsShownRow (stored_entry row)) rows
-        (all_so (λ (row : StoredRecord). IsTaken (stored_entry row))
-        (λ row. IsShownRow (stored_entry row)) (λ row its. its.shown) rows its_taken)
-
-    -- and their data are those of usage records
-    pub own_data : All (λ (row : StoredRecord). IsUsageData row.data_bytes.items) rows
-    own_data =
-        All-from_recursion (λ (row : StoredRecord). IsUsageData row.data_bytes.items) rows
-        (all_so (λ (row : StoredRecord). IsTaken (stored_entry row))
-        (λ row. IsUsageData row.data_bytes.items) (λ row its. its.data_bytes) rows its_taken)
+  -- the identity of a record is one
+  pub own_identity : HasWideNames naming → (from identity : List ℕ)
+      → IsNextDisputed from (tables_of naming book).records identity → IsIdentity identity
+  own_identity wide from identity next =
+      subst IsIdentity next.own
+      (row_taken naming book whole wide next.row.0 next.row.1 next.disputed.there).shown.identity

@@ -1,62 +1,59 @@
 -- The rows of books that calls made: they fit, they can be shown, and there are no more of them
 -- than can be listed at once.
 use Rattle.std.proofs.Common.{◌≡◌, ◌∙◌, ◌+◌, ◌*◌, ◌≤◌, ℕ, List, [], ◌∷◌, length, map}
-use Rattle.std.proofs.Common.{Bool, true, false, cond, ◌&&◌, Option, None, Some, refl, sym, ap, subst}
-use Rattle.std.proofs.Common.{arith}
-use Rattle.std.specs.Prelude.{◌==◌, filter}
+use Rattle.std.proofs.Common.{Bool, true, false, cond, Some, refl, sym, ap, subst, arith}
+use Rattle.std.specs.Prelude.{◌==◌, All, filter}
 use Rattle.std.specs.Cmp.{IsTotalOrder}
 use Rattle.std.specs.FinMap.{FinMap, contains_key, entries, entries_sorted, from_entries, get}
-use Rattle.std.specs.FinMap.{get-from_entries, insert, len, len-empty, len-entries, len-insert}
-use Rattle.std.specs.FinMap as fin
-use Rattle.std.specs.List.{AllByRecursion, cons_option, filter_map}
+use Rattle.std.specs.FinMap.{insert, len, len-empty, len-entries, len-insert}
+use Rattle.std.specs.List.{AllByRecursion}
 use Rattle.std.specs.List.Sorted.{IsStrictlySortedBy}
 use Rattle.std.specs.declared.cmp.Ordering.{Ordering}
 use Rattle.std.proofs.lemmas.Cmp.{nat_list_cmp_total}
 use Rattle.std.proofs.lemmas.List.{length-append, length-map}
+use Rattle.std.proofs.lemmas.List.Elements.{All-from_recursion}
 use Rattle.std.proofs.lemmas.List.Sorted.{IsPermutation-sym}
 use Rattle.std.proofs.lemmas.List.Sums.{count_by-le-length, length-filter}
 use Rattle.std.proofs.lemmas.Map.Lookups.{exact_bytes}
 use Rattle.sqlite_trees.proofs.ListLemmas.{all-filter, all-map, all-permutation, all_from_map}
 use Rattle.smf_frames.specs.Framed.{data_of}
 use Rattle.tariff_rules.specs.declared.priced.Priced.{Priced}
-use Rattle.book_model.specs.Words.{AreAmong, AreHeld, Book, IsUsage}
+use Rattle.book_model.specs.Words.{AreAmong, Book, IsUsage}
 use Rattle.book_model.specs.Words.{Naming, Period, Records, all_periods, by_bytes, by_key, has, key_of}
 use Rattle.book_model.specs.Words.{keys_of, members, most_held, name_of, price_in, row_at, rows_of}
-use Rattle.book_model.specs.Words.{same_bytes, set_of, those}
+use Rattle.book_model.specs.Words.{same_bytes, set_of}
 use Rattle.book_model.specs.Sets.{Set}
 use Rattle.book_model.specs.declared.row.ChargeRow.{ChargeRow}
 use Rattle.book_model.specs.declared.row.RowKey.{RowKey}
-use Rattle.book_model.proofs.RecordSets.{has_those, same_records}
-use Rattle.table_laws.proofs.IdentityLengths.{identity_by-long}
+use Rattle.table_model.proofs.IdentityLengths.{identity_by-long}
 use Rattle.book_model.proofs.RowLemmas.{by_key_total}
 use Rattle.book_model.proofs.SetLemmas.{members-those}
 use Rattle.book_model.proofs.SumsAlike.{length-sum_by}
 use Rattle.table_model.specs.PeriodRows.{rows_under, under}
 use Rattle.table_model.specs.Tables.{RecordRow}
 use Rattle.table_model.specs.TablesOf.{line_entries, signed_names, tables_of}
-use Rattle.table_model.proofs.HeldPeriods.{all_held, one_of}
 use Rattle.table_model.proofs.PeriodPlaces.{at_place, slice_get-map}
 use Rattle.table_model.proofs.PeriodReading.{read-period}
 use Rattle.table_model.proofs.RowReading.{rows_follow}
-use Rattle.table_laws.specs.Fits.{DayFits}
-use Rattle.table_laws.specs.ListsRead.{is_period}
-use Rattle.table_laws.specs.Readable.{IsReadable}
-use Rattle.table_laws.proofs.CountedLemmas.{counted_follows}
-use Rattle.table_laws.proofs.DisputedRows.{each_entry}
-use Rattle.table_laws.proofs.Finding.{find_one}
-use Rattle.table_laws.proofs.FitsLemmas.{numbers_fit}
-use Rattle.table_laws.proofs.ListLemmas.{period_there}
-use Rattle.table_laws.proofs.ListOrder.{all_joined}
-use Rattle.table_laws.proofs.PriceSums.{costs, some_within}
-use Rattle.table_laws.proofs.RecordReading.{all_entries, all_permuted, entry_at}
+use Rattle.table_model.proofs.RowsWhere.{those_among}
+use Rattle.table_model.specs.Fits.{DayFits}
+use Rattle.table_model.specs.ListsRead.{is_period}
+use Rattle.table_model.specs.Readable.{IsReadable}
+use Rattle.table_model.proofs.CountedLemmas.{counted_follows}
+use Rattle.table_model.proofs.FitsLemmas.{numbers_fit}
+use Rattle.table_model.proofs.Finding.{get_one}
+use Rattle.table_model.proofs.ListLemmas.{period_held}
+use Rattle.table_model.proofs.ListOrder.{all_joined}
+use Rattle.table_model.proofs.PriceSums.{costs, given_few, some_within}
+use Rattle.table_model.proofs.RecordReading.{entry_at, every_row}
 use Rattle.tree_tables.specs.Answers.{ListsSharing, ListsUncharged, is_uncharged}
 use Rattle.tree_tables.specs.Columns.{day_columns, line_columns, record_columns}
 use Rattle.tree_tables.specs.Fits.{ChargeFits, DaysFit, LineFits, LinesFit, RecordFits, RowsFit}
 use Rattle.tree_tables.specs.Stored.{stored_entry}
 use Rattle.tree_tables.specs.declared.stored_record.StoredRecord.{StoredRecord}
-use Rattle.tree_tables.proofs.Layouts.{day_layout}
+use Rattle.tree_tables.proofs.Layouts.{day_layout, record_layout}
 use Rattle.tree_tables.proofs.RecordLists.{keys_rise}
-use Rattle.tree_tables.proofs.RowsRead.{all_entries as each_of, nothing_asked}
+use Rattle.tree_tables.proofs.RowsRead.{all_entries as each_of}
 use Rattle.table_ledger.specs.DisputeReads.{IsShownRow}
 use Rattle.table_ledger.specs.RecordReads.{CanBeRead, HasWideNames}
 use Rattle.tree_tables.specs.UsageData.{IsUsageData}
@@ -101,20 +98,6 @@ rows_few priced =
     let all = length-map priced key_of in
     omega (arith, rows, keys, few, all)
 
--- what is given for one element is at most one more
-one_given : {Y : Type 0} (given : Option Y) (others : List Y) (n : ℕ) → length others ≤ n
-    → length (cons_option given others) ≤ n + 1
-one_given None others n few = omega (arith, few)
-one_given (Some given) others n few = omega (arith, few)
-
--- no more are given than there are elements
-given_few : {X Y : Type 0} (give : X → Option Y) (xs : List X)
-    → length (filter_map give xs) ≤ length xs
-given_few give [] = omega arith
-given_few give (x ∷ xs) =
-    let one = one_given (give x) (filter_map give xs) (length xs) (given_few give xs) in
-    omega (arith, one)
-
 -- ---- records
 
 -- what is required of a record's row: it fits, its data are those of a usage record, and it can be
@@ -124,24 +107,31 @@ pub record IsTaken (row : List ℕ × RecordRow) : Type 0 where
   pub data_bytes : IsUsageData row.1.data_bytes
   pub shown : IsShownRow row
 
+-- the rows of records that are read are taken
+abbrev pub AreTaken : List StoredRecord → Type 0
+AreTaken list = All (λ row. IsTaken (stored_entry row)) list
+
+-- so they can be shown,
+pub taken_shown : (list : List StoredRecord) → AreTaken list
+    → All (λ (row : StoredRecord). IsShownRow (stored_entry row)) list
+taken_shown list all k any within = (all k any within).shown
+
+-- and their data are those of usage records
+pub taken_usage : (list : List StoredRecord) → AreTaken list
+    → All (λ (row : StoredRecord). IsUsageData row.data_bytes.items) list
+taken_usage list all k any within = (all k any within).data_bytes
+
 module _ (naming : Naming) (book : Book) (whole : IsReadable naming book) where
   -- there are no more records among those that are held than these,
   few_among : (some : Records) → AreAmong some book.held
       → length (members some) ≤ length (members book.held)
   few_among some among =
-      let own : those (has some) book.held ≡ some =
-      same_records (those (has some) book.held) some (λ q.
-      has_those (has some) book.held q ∙ both (has some q) (has book.held q) (among q)) in
-      let same = ap (λ (s : Records). length (members s)) own in
+      let same = ap (λ (s : Records). length (members s)) (those_among some book.held among) in
       let listed =
       ap length (members-those nat_list_cmp_total exact_bytes (has some) book.held) in
       let passed = length-filter (has some) (members book.held) in
       let few = count_by-le-length (has some) (members book.held) in
       omega (arith, same, listed, passed, few)
-    where
-      both : (a b : Bool) → (a ≡ true → b ≡ true) → (a && b) ≡ a
-      both true b there = there refl
-      both false b there = refl
 
   -- and no more prices
   few_prices : (some : Records) → AreAmong some book.held
@@ -188,22 +178,17 @@ module _ (naming : Naming) (book : Book) (whole : IsReadable naming book) where
         };
       }
 
-  -- so are all rows of records,
-  all_taken : HasWideNames naming → AllByRecursion IsTaken (all_entries naming book whole.sound)
-  all_taken wide =
-      each_entry naming book whole.sound IsTaken (λ bytes. Unit {0})
-      (λ bytes priced there price nothing. held_taken wide bytes priced there price)
-      (members book.held) (λ bytes there. fin.contains_key-keys book.held bytes ∙ there)
-      (nothing_asked (members book.held))
-
-  -- and each that the table has
+  -- so is each that the table has,
   pub row_taken : HasWideNames naming → (name : List ℕ) (row : RecordRow)
       → get (tables_of naming book).records name ≡ Some row → IsTaken (name, row)
-  row_taken wide name row there =
-      find_one by_bytes exact_bytes (λ name row. IsTaken (name, row)) name row
-      (all_entries naming book whole.sound) (all_taken wide)
-      (sym (get-from_entries nat_list_cmp_total (all_entries naming book whole.sound) name)
-      ∙ there)
+  row_taken wide = every_row naming book whole.sound IsTaken (held_taken wide)
+
+  -- and all of them are
+  rows_taken : HasWideNames naming
+      → AllByRecursion IsTaken (entries (tables_of naming book).records)
+  rows_taken wide =
+      each_of record_layout.total record_layout.exact IsTaken (tables_of naming book).records
+      (row_taken wide)
 
   -- so records can be read
   pub can_be_read : HasWideNames naming → CanBeRead (tables_of naming book)
@@ -217,31 +202,24 @@ module _ (naming : Naming) (book : Book) (whole : IsReadable naming book) where
 
   -- and those that are not charged are taken
   pub uncharged_taken : HasWideNames naming → (list : List StoredRecord)
-      → ListsUncharged (tables_of naming book) list
-      → AllByRecursion (λ (row : StoredRecord). IsTaken (stored_entry row)) list
+      → ListsUncharged (tables_of naming book) list → AreTaken list
   uncharged_taken wide list lists =
       let rows = entries (tables_of naming book).records in
-      let all = all-permutation IsTaken (all_entries naming book whole.sound) rows
-      (IsPermutation-sym rows (all_entries naming book whole.sound)
-      (all_permuted naming book whole.sound)) (all_taken wide) in
-      all_from_map IsTaken stored_entry list
+      All-from_recursion (λ row. IsTaken (stored_entry row)) list
+      (all_from_map IsTaken stored_entry list
       (all-permutation IsTaken (filter is_uncharged rows) (map stored_entry list)
       (IsPermutation-sym (map stored_entry list) (filter is_uncharged rows) lists.same)
-      (all-filter IsTaken is_uncharged rows all))
+      (all-filter IsTaken is_uncharged rows (rows_taken wide))))
 
   -- so are those of an identity
   pub sharing_taken : HasWideNames naming → (identity : List ℕ) (list : List StoredRecord)
-      → ListsSharing identity (tables_of naming book) list
-      → AllByRecursion (λ (row : StoredRecord). IsTaken (stored_entry row)) list
+      → ListsSharing identity (tables_of naming book) list → AreTaken list
   sharing_taken wide identity list lists =
-      let rows = entries (tables_of naming book).records in
-      let all = all-permutation IsTaken (all_entries naming book whole.sound) rows
-      (IsPermutation-sym rows (all_entries naming book whole.sound)
-      (all_permuted naming book whole.sound)) (all_taken wide) in
-      all_from_map IsTaken stored_entry list
+      All-from_recursion (λ row. IsTaken (stored_entry row)) list
+      (all_from_map IsTaken stored_entry list
       (subst (AllByRecursion IsTaken) (sym lists)
-      (all-filter IsTaken (λ (row : List ℕ × RecordRow). same_bytes row.1.identity identity) rows
-      all))
+      (all-filter IsTaken (λ (row : List ℕ × RecordRow). same_bytes row.1.identity identity)
+      (entries (tables_of naming book).records) (rows_taken wide))))
 
 -- ---- charge rows
 
@@ -291,28 +269,20 @@ signed_wide naming wide plus (k ∷ ks) = (wide (data_of k), signed_wide naming 
 
 module _ (naming : Naming) (book : Book) (whole : IsReadable naming book) (number : ℕ)
     (is : is_period number book.rulings ≡ true) where
-  -- the period of this number refers to records that are held
-  period_held : (period : Period) × AreHeld book.held period
-  period_held =
-      let period = period_there book whole.sound.closed number is in
-      let place = at_place naming book whole.sound number period.0 period.1 in (
-        period.0,
-        one_of (AreHeld book.held) (all_periods book) place.0 period.0
-            (all_held naming book whole.sound) place.2,
-      )
+  -- the period of this number
+  abbrev its_period : Period
+  its_period = (period_held naming book whole.sound number is).0
 
   -- there are no more charge rows than records may be held,
   few_days : length (rows_under number (tables_of naming book).days) ≤ most_held
-  unfolding period_held
   few_days =
       let days = (tables_of naming book).days in
-      let period = period_there book whole.sound.closed number is in
-      let held = period_held.1 in
+      let period = period_held naming book whole.sound number is in
       let same = ap length (rows_follow naming book number period.0 whole.sound period.1) in
       let read = length-map (rows_under number days)
       (λ (row : (ℕ × RowKey) × ChargeRow). row.1) in
       let few = rows_few (costs naming book whole period.0.counted) in
-      let most = few_prices naming book whole period.0.counted held.counted in
+      let most = few_prices naming book whole period.0.counted period.2.counted in
       omega (arith, same, read, few, most)
 
   -- so they fit
@@ -334,14 +304,13 @@ module _ (naming : Naming) (book : Book) (whole : IsReadable naming book) (numbe
 
   -- the entries of its lines
   abbrev its_lines : List (List ℕ × Bool)
-  its_lines = line_entries naming period_held.0
+  its_lines = line_entries naming its_period
 
   -- its lines are stored under its number
   lines_under : rows_under number (tables_of naming book).lines
       ≡ under number (entries (from_entries {R = by_bytes} its_lines))
-  unfolding period_held
   lines_under =
-      let period = period_there book whole.sound.closed number is in
+      let period = period_held naming book whole.sound number is in
       let place = at_place naming book whole.sound number period.0 period.1 in
       read-period by_bytes nat_list_cmp_total exact_bytes 1 place.0 number
       (map (line_entries naming) (all_periods book)) its_lines
@@ -350,8 +319,8 @@ module _ (naming : Naming) (book : Book) (whole : IsReadable naming book) (numbe
   -- there are at most twice as many as records may be held,
   few_lines : length (entries (from_entries {R = by_bytes} its_lines)) ≤ 2 * most_held
   few_lines =
-      let period = period_held.0 in
-      let held = period_held.1 in
+      let period = its_period in
+      let held = (period_held naming book whole.sound number is).2 in
       let made = entries_few {V = Bool} nat_list_cmp_total its_lines in
       let same = len-entries (from_entries {R = by_bytes} its_lines) in
       let both = length-append (signed_names naming true period.added)
@@ -368,7 +337,7 @@ module _ (naming : Naming) (book : Book) (whole : IsReadable naming book) (numbe
   -- so they fit
   pub lines_fit : HasWideNames naming → LinesFit number (tables_of naming book)
   lines_fit wide =
-      let period = period_held.0 in
+      let period = its_period in
       let Wide : List ℕ × Bool → Type 0 = λ e. length e.0 ≡ 32 in
       let made : AllByRecursion Wide its_lines =
       all_joined Wide (signed_names naming true period.added)
@@ -377,8 +346,8 @@ module _ (naming : Naming) (book : Book) (whole : IsReadable naming book) (numbe
       (signed_wide naming wide false (members period.taken)) in
       let alone = from_entries {R = by_bytes} its_lines in
       let all = each_of nat_list_cmp_total exact_bytes Wide alone (λ name plus there.
-      find_one by_bytes exact_bytes (λ name plus. Wide (name, plus)) name plus its_lines made
-      (sym (get-from_entries nat_list_cmp_total its_lines name) ∙ there)) in
+      get_one nat_list_cmp_total exact_bytes (λ name plus. Wide (name, plus)) its_lines made name
+      plus there) in
       let few = few_lines in
       let many = under_len number (entries alone) in
       subst (λ (rows : List ((ℕ × List ℕ) × Bool)). RowsFit LineFits (map line_columns rows))

@@ -1,5 +1,5 @@
 -- What was staged in a transaction is committed, or not.
-use Rattle.std.proofs.Common.{List, Result, Ok, Err, sym, ap, subst, true≢false}
+use Rattle.std.proofs.Common.{List, Result, Ok, Err, sym, ap, subst}
 use Rattle.std.specs.Prelude.{IsErr}
 use Rattle.sqlite_trees.specs.View.{View}
 use Rattle.sqlite_trees.specs.declared.error.StoreError.{StoreError}
@@ -14,7 +14,7 @@ use Rattle.table_ledger.specs.Stages.{StagesBy, MayKeepBy, AttemptsBy}
 use Rattle.table_ledger.specs.declared.summary.Summary.{Summary}
 use Rattle.table_ledger.proofs.StepLemmas.{rests, stands_only}
 use Rattle.table_ledger.proofs.SurvivalLemmas.{clean_before, survives_both, survives_so}
-use Rattle.table_ledger.proofs.TryLemmas.{at_ready, stored_in}
+use Rattle.table_ledger.proofs.TryLemmas.{at_ready, stored_in, untried}
 use Rattle.table_ledger.proofs.UnchangedStores.{stands_then}
 
 module _ {S V T : Type 0} {answered : T → Result V LedgerFault}
@@ -72,25 +72,13 @@ module _ {S V T : Type 0} {answered : T → Result V LedgerFault}
       → CommitsWritten ghosts written (Err error) middle last
       → ((book : Book) → Remembers was book → Remembers is book)
       → AttemptsBy Made Leaves naming was is first (state ghosts last) tried
-  uncommitted (Ok value) (Err other) failed stages commits same = record {
-    plain = tt;
-    survives = may_keep stages commits.survives;
-    found = λ clean book ready.
-        let staged = stages.found (clean_before commits.survives clean) book (at_ready ready) in
-        record {
-          stands = stands_then (stands_only first.view (ghosts.view middle) staged.only)
-              (commits.refused clean).stands;
-          remembers = same book ready.remembers;
-        };
-  }
-  uncommitted {is = is} (Err stopped) (Err other) failed stages commits same =
-      subst (λ (store : S). AttemptsBy Made Leaves naming was is first (state ghosts store)
-      (Err other)) (sym commits.left.1) (record {
-        plain = tt;
-        survives = survives_so stages.survives (λ clean trees none. absurd none);
-        found = λ clean book ready. record {
-          stands = stages.found clean book (at_ready ready);
-          remembers = same book ready.remembers;
-        };
-      })
-  uncommitted written (Ok answer) failed stages commits same = absurd (true≢false (sym failed))
+  uncommitted (Ok value) tried failed stages commits same =
+      untried tried failed (may_keep stages commits.survives) (λ clean book ready.
+      let staged = stages.found (clean_before commits.survives clean) book (at_ready ready) in
+      stands_then (stands_only first.view (ghosts.view middle) staged.only)
+      (commits.refused clean).stands) same
+  uncommitted {is = is} (Err stopped) tried failed stages commits same =
+      subst (λ (store : S). AttemptsBy Made Leaves naming was is first (state ghosts store) tried)
+      (sym commits.left.1)
+      (untried tried failed (survives_so stages.survives (λ clean trees none. absurd none))
+      (λ clean book ready. stages.found clean book (at_ready ready)) same)

@@ -19,8 +19,8 @@ use Rattle.book_model.specs.Words.{Rulings, by_bytes, open_by}
 use Rattle.book_model.specs.RulingAnswers.{through_of}
 use Rattle.table_model.specs.PeriodRows.{by_period}
 use Rattle.table_model.specs.Tables.{LineTable, Tables}
-use Rattle.table_laws.specs.CountedRead.{charged_before_lines, first_line, is_day_between}
-use Rattle.table_laws.specs.ListsRead.{is_period}
+use Rattle.table_model.specs.CountedRead.{charged_before_lines, first_line, is_day_between}
+use Rattle.table_model.specs.ListsRead.{is_period}
 use Rattle.tree_tables.specs.Answers.{ListsLines}
 use Rattle.tree_tables.specs.Stored.{signed_name}
 use Rattle.tree_tables.specs.declared.line_rows.StoredLine.{StoredLine}

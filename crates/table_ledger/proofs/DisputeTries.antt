@@ -1,11 +1,11 @@
 -- The next identity in dispute, where identities that were settled are passed over, and its dispute.
-use Rattle.std.proofs.Common.{◌≡◌, ◌∙◌, ◌+◌, ◌<◌, ℕ, List, [], ◌∷◌, ◌++◌, Bool, true, false, not}
-use Rattle.std.proofs.Common.{true≢false, None, Some, Ok, length, map, refl, sym, ap, subst, take}
+use Rattle.std.proofs.Common.{◌≡◌, ◌∙◌, ◌+◌, ◌<◌, ℕ, List, [], ◌∷◌, ◌++◌, true, false, not}
+use Rattle.std.proofs.Common.{true≢false, None, Some, Ok, length, map, sym, ap, subst, take}
 use Rattle.std.proofs.Common.{slice_index_or}
 use Rattle.std.specs.Prelude.{All, Err, IsErrAnd, Option, Result}
-use Rattle.std.specs.List.{AllByRecursion, list_any}
+use Rattle.std.specs.List.{list_any}
 use Rattle.std.proofs.lemmas.List.{map-append, take_more}
-use Rattle.std.proofs.lemmas.List.Elements.{All-from_recursion, recursion_from_All}
+use Rattle.std.proofs.lemmas.List.Elements.{All-map}
 use Rattle.sqlite_trees.specs.View.{View}
 use Rattle.sqlite_trees.specs.declared.error.StoreError.{StoreError}
 use Rattle.sqlite_trees.specs.declared.error.StoreError.TheVariants.{OutOfMemory}
@@ -13,16 +13,16 @@ use Rattle.book_model.specs.declared.dispute.Dispute.{Dispute}
 use Rattle.book_model.specs.declared.fault.LedgerFault.{LedgerFault}
 use Rattle.book_model.specs.declared.dispute.Variant.{Variant}
 use Rattle.book_model.specs.Words.{Book, Disputed, IsDay, IsDispute, Naming, Outcome, dispute_outcome}
-use Rattle.book_model.specs.Words.{dispute_shown, is_from, same_bytes}
+use Rattle.book_model.specs.Words.{dispute_shown, is_from}
 use Rattle.book_model.proofs.FromLemmas.{after_others, from_then, longer_from, next_from, same_from}
 use Rattle.table_model.specs.Tables.{Tables}
 use Rattle.table_model.specs.TablesOf.{tables_of}
 use Rattle.table_model.specs.Views.{rows_with}
-use Rattle.table_laws.specs.DisputesRead.{FindsDisputed, IsDisputedFrom, IsNextDisputed, NamedRow}
-use Rattle.table_laws.specs.DisputesRead.{dispute_with, variant_read}
-use Rattle.table_laws.specs.Readable.{IsReadable}
-use Rattle.table_laws.proofs.DisputeLemmas.{disputes_follow}
-use Rattle.table_laws.proofs.ReadableLemmas.{calls_read}
+use Rattle.table_model.specs.DisputesRead.{FindsDisputed, IsDisputedFrom, IsNextDisputed, NamedRow}
+use Rattle.table_model.specs.DisputesRead.{variant_read}
+use Rattle.table_model.specs.Readable.{IsReadable}
+use Rattle.table_model.proofs.DisputeLemmas.{disputes_follow}
+use Rattle.table_model.proofs.ReadableLemmas.{calls_read}
 use Rattle.tree_tables.specs.Answers.{IsNextUncharged, IsUnchargedFrom, ListsSharing, is_charged}
 use Rattle.tree_tables.specs.Stored.{stored_entry}
 use Rattle.tree_tables.specs.declared.stored_record.StoredRecord.{StoredRecord}
@@ -115,14 +115,7 @@ variants_more rows at one read olds news within is told more before =
     ∙ ap (λ (last : StoredRecord). map stored_entry (take at rows ++ last ∷ [])) is
     ∙ ap (map stored_entry) (sym (take_more rows at one within)))
 
--- records that can be shown are dated on days
-days_shown : (rows : List StoredRecord)
-    → AllByRecursion (λ (row : StoredRecord). IsShownRow (stored_entry row)) rows
-    → AllByRecursion (λ (member : Variant). IsDay member.priced.day) (variants rows)
-days_shown [] shown = tt
-days_shown (row ∷ rows) shown = (shown.0.day, days_shown rows shown.1)
-
--- so a dispute of an identity and of records that can be shown can be shown
+-- a dispute of an identity and of records that can be shown can be shown
 pub made_shows : (made : Dispute) (identity : List ℕ) (rows : List StoredRecord)
     → dispute_shown made ≡ dispute_made identity rows → IsIdentity identity
     → All (λ (row : StoredRecord). IsShownRow (stored_entry row)) rows
@@ -130,9 +123,9 @@ pub made_shows : (made : Dispute) (identity : List ℕ) (rows : List StoredRecor
 made_shows made identity rows is long shown =
     subst IsDispute (sym is) (record {
       identity = long;
-      days = All-from_recursion (λ (member : Variant). IsDay member.priced.day) (variants rows)
-          (days_shown rows
-          (recursion_from_All (λ (row : StoredRecord). IsShownRow (stored_entry row)) rows shown));
+      days = All-map (λ (member : Variant). IsDay member.priced.day) variant_read
+          (map stored_entry rows) (All-map (λ (row : NamedRow). IsDay row.1.priced.day) stored_entry
+          rows (λ k any within. (shown k any within).day));
     })
 
 -- ---- the answer

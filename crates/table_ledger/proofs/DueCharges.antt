@@ -5,18 +5,18 @@ use Rattle.std.specs.Prelude.{ℤ, ◌==◌, filter, if◌then◌else◌}
 use Rattle.std.specs.FinMap.{entries, get}
 use Rattle.std.specs.List.{last_or}
 use Rattle.std.specs.Option.{option_map_or}
-use Rattle.std.proofs.Math.Bool.{and-false, or-true}
+use Rattle.std.proofs.Math.Bool.{and-false, or-false, or-true}
+use Rattle.std.proofs.lemmas.Cmp.{nat_list_eq_equiv}
 use Rattle.std.proofs.lemmas.List.{length-map}
+use Rattle.std.proofs.lemmas.Simd.{map-map}
 use Rattle.book_model.specs.Words.{same_bytes}
 use Rattle.book_core.specs.Effects.{charge_held}
-use Rattle.table_model.specs.TableChanges.{charge_in, charge_due_row, charge_due_step}
+use Rattle.table_model.specs.TableChanges.{charge_in, charge_due_step}
 use Rattle.table_model.specs.Tables.{ChoiceRow, RecordRow, RecordTable, Tables}
 use Rattle.table_model.specs.Views.{name_has_identity, is_due_at, is_due_in, member_at}
 use Rattle.table_model.specs.Views.{rows_with}
 use Rattle.table_model.proofs.DueStays.{due_stays, last_pushed, last_stays}
-use Rattle.book_model.proofs.SetChanges.{is_back}
-use Rattle.table_laws.proofs.ChoiceLemmas.{choices_follow}
-use Rattle.table_laws.proofs.Texts.{same_is}
+use Rattle.table_model.proofs.ChoiceLemmas.{choices_follow}
 use Rattle.tree_tables.specs.Answers.{FindsRecord, FindsSharing}
 use Rattle.tree_tables.specs.Stored.{IsAsRead, choice_entry, stored_entry}
 use Rattle.tree_tables.specs.declared.choice_rows.StoredChoice.{StoredChoice}
@@ -45,10 +45,7 @@ joins_found chosen more name stored tables found puts identity =
     let row = (found_row name stored (get tables.records name) found).0 in
     puts identity
     ∙ ap (λ (is : Bool). if is then Some name else last_chosen chosen identity)
-    (turned identity stored.identity.items ∙ sym (ap (has_row identity) row))
-  where
-    turned : (one other : List ℕ) → same_bytes one other ≡ same_bytes other one
-    turned one other = same_is one other ∙ is_back one other ∙ sym (same_is other one)
+    (nat_list_eq_equiv.symm identity stored.identity.items ∙ sym (ap (has_row identity) row))
 
 -- a choice for which no record was found changes nothing
 pub joins_none : (chosen : Chosen) (name : List ℕ) (tables : Tables)
@@ -79,20 +76,10 @@ pub last_listed : (choices : List StoredChoice) (chosen : Chosen) (tables : Tabl
 last_listed choices chosen tables lists lasts identity =
     lasts identity
     ∙ ap (λ names. last_or None (filter (name_has_identity tables.records identity) names))
-    (names_of choices ∙ ap (map (λ (entry : ℕ × ChoiceRow). entry.1.name)) lists
-    ∙ sym (entry_names (entries tables.choices)))
-  where
-    names_of : (choices : List StoredChoice)
-        → map (λ (choice : StoredChoice). choice.name) choices
-        ≡ map (λ (entry : ℕ × ChoiceRow). entry.1.name) (map choice_entry choices)
-    names_of [] = refl
-    names_of (choice ∷ choices) = ap (λ rest. choice.name ∷ rest) (names_of choices)
-
-    entry_names : (es : List (ℕ × ChoiceRow))
-        → map (λ (choice : ChoiceRow). choice.name) (map (λ (entry : ℕ × ChoiceRow). entry.1) es)
-        ≡ map (λ (entry : ℕ × ChoiceRow). entry.1.name) es
-    entry_names [] = refl
-    entry_names (entry ∷ es) = ap (λ rest. entry.1.name ∷ rest) (entry_names es)
+    (sym (map-map (λ (entry : ℕ × ChoiceRow). entry.1.name) choice_entry choices)
+    ∙ ap (map (λ (entry : ℕ × ChoiceRow). entry.1.name)) lists
+    ∙ sym (map-map (λ (choice : ChoiceRow). choice.name) (λ (entry : ℕ × ChoiceRow). entry.1)
+    (entries tables.choices)))
 
 -- ---- what is due
 
@@ -130,58 +117,29 @@ due_alone stored tables chosen sharing alone is shared told stands lasts =
     ∙ ap (λ n. n == 1) (sym (length-map sharing stored_entry) ∙ ap length shared)
     ∙ sym (choices_follow.lone tables.records (stored_entry stored).1)
     ∙ sym (due_by stored tables chosen stands lasts ∙ ap (λ b. lone || b) is ∙ or-false lone)
-  where
-    or-false : (b : Bool) → (b || false) ≡ b
-    or-false true = refl
-    or-false false = refl
 
 -- ---- the step
 
 module _ (period : ℕ) (last : Option ℤ) (stored : StoredRecord) (tables : Tables)
     (stands : IsAsRead stored tables) where
-  -- the step by the row that was read
-  abbrev settled : Bool → Tables
-  settled due =
-      cond (due && not stored.charged)
-      (charge_in period stored.name (charge_held last (member_at (stored_entry stored))) tables)
-      tables
+  -- the tables with it charged
+  abbrev charged : Tables
+  charged = charge_in period stored.name (charge_held last (member_at (stored_entry stored))) tables
 
-  settled_is : (due : Bool) → due ≡ is_due_in tables stored.name
-      → settled due ≡ charge_due_step period last (is_due_in tables) stored.name tables
-  settled_is due is =
-      ap settled is
-      ∙ sym (ap (λ found. charge_due_row period last (is_due_in tables stored.name) stored.name found
-      tables) stands)
+  -- it is charged by the step if it is due and is not charged
+  pub settles : (due is_charged : Bool) → due ≡ is_due_in tables stored.name
+      → is_charged ≡ stored.charged
+      → cond (due && not is_charged) charged tables
+      ≡ charge_due_step period last (is_due_in tables) stored.name tables
+  settles due is_charged is same =
+      (λ i. cond (is i && not (same i)) charged tables) ∙ sym (rw stands)
 
-  -- a record that is charged stays
+  -- so one that is charged stays
   pub settles_charged : stored.charged ≡ true
       → tables ≡ charge_due_step period last (is_due_in tables) stored.name tables
-  settles_charged charged =
-      let due : Bool = is_due_in tables stored.name in
-      sym (ap (λ b. cond (due && not b)
-      (charge_in period stored.name (charge_held last (member_at (stored_entry stored))) tables)
-      tables) charged
-      ∙ ap (λ b. cond b
-      (charge_in period stored.name (charge_held last (member_at (stored_entry stored))) tables)
-      tables) (and-false due))
-      ∙ settled_is due refl
-
-  -- so does one that is not due
-  pub settles_undue : (due : Bool) → due ≡ false → due ≡ is_due_in tables stored.name
-      → tables ≡ charge_due_step period last (is_due_in tables) stored.name tables
-  settles_undue due not_due is = sym (ap settled not_due) ∙ settled_is due is
-
-  -- the others are charged
-  pub settles_due : (due : Bool) → due ≡ true → stored.charged ≡ false
-      → due ≡ is_due_in tables stored.name
-      → charge_in period stored.name (charge_held last (member_at (stored_entry stored))) tables
-      ≡ charge_due_step period last (is_due_in tables) stored.name tables
-  settles_due due is_due uncharged is =
-      sym (ap settled is_due
-      ∙ ap (λ b. cond (not b)
-      (charge_in period stored.name (charge_held last (member_at (stored_entry stored))) tables)
-      tables) uncharged)
-      ∙ settled_is due is
+  settles_charged is_charged =
+      ap (λ b. cond b charged tables) (sym (and-false (is_due_in tables stored.name)))
+      ∙ settles (is_due_in tables stored.name) true refl (sym is_charged)
 
 -- ---- the walk
 
@@ -217,4 +175,4 @@ pub settles_still : (period : ℕ) (last : Option ℤ) (chosen : Chosen) (before
     (name : List ℕ) → IsStill chosen before now
     → charge_due_step period last (is_due_in now) name now ≡ settle_of period last before name now
 settles_still period last chosen before now name still =
-    ap (λ due. charge_due_row period last due name (get now.records name) now) (still.due name)
+    ap (λ due. charge_due_step period last (λ one. due) name now) (still.due name)

@@ -11,9 +11,9 @@ use Rattle.book_model.specs.Words.{IsDay, Disputed, IsDispute, AreDisputes, disp
 use Rattle.book_model.specs.Words.{same_bytes}
 use Rattle.book_model.specs.declared.dispute.Dispute.{Dispute}
 use Rattle.book_model.specs.declared.dispute.Variant.{Variant}
-use Rattle.table_laws.specs.DisputesRead.{NamedRow, grouped, join_last, dispute_of_one}
-use Rattle.table_laws.specs.DisputesRead.{variant_read}
-use Rattle.table_laws.proofs.GroupingLemmas.{grouped-push}
+use Rattle.table_model.specs.DisputesRead.{NamedRow, grouped, join_last, dispute_of_one}
+use Rattle.table_model.specs.DisputesRead.{variant_read}
+use Rattle.table_model.proofs.GroupingLemmas.{grouped-push}
 use Rattle.tree_tables.specs.Stored.{stored_entry}
 use Rattle.tree_tables.specs.declared.stored_record.StoredRecord.{StoredRecord}
 use Rattle.table_ledger.specs.DisputeReads.{IsShownRow}

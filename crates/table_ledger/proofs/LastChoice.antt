@@ -2,9 +2,9 @@
 use Rattle.std.proofs.Common.{◌≡◌, ◌∙◌, length}
 use Rattle.book_model.specs.Words.{Book, Naming}
 use Rattle.table_model.specs.TablesOf.{tables_of}
-use Rattle.table_laws.specs.Readable.{IsReadable}
-use Rattle.table_laws.proofs.ChoiceLemmas.{choices_follow}
-use Rattle.table_laws.proofs.ChoiceReading.{choices_count}
+use Rattle.table_model.specs.Readable.{IsReadable}
+use Rattle.table_model.proofs.ChoiceLemmas.{choices_follow}
+use Rattle.table_model.proofs.ChoiceReading.{choices_count}
 use Rattle.tree_tables.specs.Answers.{last_number}
 
 -- in the tables of a book it is the number of its choices

@@ -15,7 +15,6 @@ mod ServedWork
 mod OneCall
 mod LastChoice
 mod RowsTaken
-mod CodeDays
 mod TariffTries
 mod CloseTries
 mod ChoiceTries
@@ -23,6 +22,7 @@ mod KeptNames
 mod WalksOf
 mod DueCharges
 mod AdoptTries
+mod DaySteps
 mod DayLooks
 mod Repriced
 mod NewEntries

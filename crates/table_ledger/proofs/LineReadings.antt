@@ -1,7 +1,6 @@
 -- Adjustment lines as they are found in the tables.
 use Rattle.std.proofs.Common.{◌≡◌, ◌∙◌, ℕ, Bool, List, [], ◌∷◌, ◌++◌, ◌+◌, ◌<◌, length, take}
 use Rattle.std.proofs.Common.{slice_index_or, Option, Some, None, option_map, refl, sym, ap}
-use Rattle.std.proofs.Common.{map}
 use Rattle.std.specs.FinMap.{get}
 use Rattle.std.specs.List.{cons_option, filter_map}
 use Rattle.std.proofs.lemmas.List.{take_more}
@@ -11,13 +10,13 @@ use Rattle.book_model.specs.declared.line.Line.{Line}
 use Rattle.table_model.specs.PeriodRows.{rows_under}
 use Rattle.table_model.specs.PeriodLists.{line_read, lines_read}
 use Rattle.table_model.specs.Tables.{RecordRow, RecordTable, Tables}
-use Rattle.tree_tables.specs.Answers.{ListsLines}
-use Rattle.tree_tables.specs.Answers.{FindsRecord}
+use Rattle.tree_tables.specs.Answers.{ListsLines, FindsRecord}
 use Rattle.tree_tables.specs.Stored.{signed_name, stored_entry}
 use Rattle.tree_tables.specs.declared.line_rows.StoredLine.{StoredLine}
 use Rattle.tree_tables.specs.declared.stored_record.StoredRecord.{StoredRecord}
-use Rattle.table_laws.specs.DisputesRead.{NamedRow}
+use Rattle.table_model.specs.DisputesRead.{NamedRow}
 use Rattle.table_ledger.specs.LineReads.{line_stored, lines_stored}
+use Rattle.book_model.proofs.ListLemmas.{filter_map-map}
 
 -- the line of a stored line, with a row of a record
 abbrev pub line_with : StoredLine → NamedRow → Line
@@ -72,13 +71,6 @@ line_more period records stored at any one olds news line within is more before 
     ∙ ap (λ (last : StoredLine). reads (take at stored ++ last ∷ [])) is
     ∙ ap reads (sym (take_more stored at any within))
 
--- what a list of names gives, it gives after what they name
-listed_through : {X Y Z : Type 0} (make : Y → Option Z) (name : X → Y) (all : List X)
-    → filter_map (λ one. make (name one)) all ≡ filter_map make (map name all)
-listed_through make name [] = refl
-listed_through make name (one ∷ others) =
-    ap (cons_option (make (name one))) (listed_through make name others)
-
 -- a line is read by its name and its sign
 abbrev line_named : RecordTable → List ℕ × Bool → Option Line
 line_named records named = line_read records ((0, named.0), named.1)
@@ -94,7 +86,7 @@ lines_listed period tables stored lines sorted lists read made =
     let rows = rows_under period tables.lines in
     let same : lines ≡ filter_map (line_read tables.records) rows =
     read
-    ∙ listed_through named signed_name stored
+    ∙ sym (filter_map-map named signed_name stored)
     ∙ ap (filter_map named) lists
-    ∙ sym (listed_through named told rows) in
+    ∙ filter_map-map named told rows in
     ap (λ (some : List Line). members (set_of by_line some)) (sym same) ∙ sym made

@@ -8,9 +8,9 @@ use Rattle.book_model.specs.Words.{Book, Outcome, no_event, Naming, Rulings}
 use Rattle.book_core.specs.Calls.{Makes, listed}
 use Rattle.table_model.specs.Tables.{Tables}
 use Rattle.table_model.specs.TablesOf.{tables_of}
-use Rattle.table_laws.specs.ListsRead.{is_period, of_period}
-use Rattle.table_laws.specs.Readable.{IsReadable}
-use Rattle.table_laws.proofs.ReadableLemmas.{calls_read}
+use Rattle.table_model.specs.ListsRead.{is_period, of_period}
+use Rattle.table_model.specs.Readable.{IsReadable}
+use Rattle.table_model.proofs.ReadableLemmas.{calls_read}
 use Rattle.table_ledger.specs.Commits.{Saw}
 use Rattle.table_ledger.specs.Ready.{Remembers}
 use Rattle.book_core.specs.OfficeRulings.{ruled_in}

@@ -3,9 +3,9 @@ use Rattle.std.proofs.Common.{◌≡◌, ◌∙◌, ℕ, ℤ, zero, suc, List, [
 use Rattle.std.proofs.Common.{subst, sym, None, Option, Some, slice_index_or, take, ◌<◌, inl, inr}
 use Rattle.std.proofs.Common.{Err, Ok, Result, false, length}
 use Rattle.std.specs.Prelude.{All, IfErr, IfOk, ◌==◌, if◌then◌else◌}
-use Rattle.std.specs.FinMap.{entries}
 use Rattle.std.specs.List.{AllZip, cons_option, filter_map}
 use Rattle.std.specs.Option.{option_map}
+use Rattle.std.proofs.lemmas.List.{get_or_default}
 use Rattle.std.proofs.lemmas.List.Elements.{All-cons}
 use Rattle.tree_tables.specs.States.{State, HasCleanDisk, Survives}
 use Rattle.sqlite_trees.specs.declared.error.StoreError.{StoreError}
@@ -16,11 +16,10 @@ use Rattle.book_model.specs.declared.fault.LedgerFault.TheVariants.{NotBooks, St
 use Rattle.book_core.specs.Ledgers.{IsOpenAt}
 use Rattle.table_model.specs.Tables.{BookRow, Tables}
 use Rattle.table_model.specs.TablesOf.{tables_of}
-use Rattle.table_laws.specs.BookIn.{adopted_read, tariff_read}
-use Rattle.table_laws.specs.FromCalls.{IsFromCalls}
-use Rattle.table_laws.proofs.BookLemmas.{book_follows}
-use Rattle.table_laws.proofs.ReadableLemmas.{calls_read}
-use Rattle.tree_tables.specs.Answers.{last_number}
+use Rattle.table_model.specs.BookIn.{adopted_read, tariff_read}
+use Rattle.table_model.specs.FromCalls.{IsFromCalls}
+use Rattle.table_model.proofs.BookLemmas.{book_follows}
+use Rattle.table_model.proofs.ReadableLemmas.{calls_read}
 use Rattle.tree_tables.specs.Steps.{Looks}
 use Rattle.tree_tables.specs.Stored.{book_entry, close_entry, tariff_of}
 use Rattle.tree_tables.specs.declared.book_row.StoredBook.{StoredBook as Stored}
@@ -36,7 +35,7 @@ use Rattle.book_core.specs.OfficeRulings.{ruled_in}
 use Rattle.table_ledger.specs.declared.summary.Summary.{Summary}
 use Rattle.table_ledger.proofs.OpenLemmas.{opened}
 use Rattle.table_ledger.proofs.LastChoice.{last_counts}
-use Rattle.table_ledger.proofs.RowsTaken.{index_again, rows_of}
+use Rattle.table_ledger.proofs.RowsTaken.{AreRowsIn, rows_of}
 use Rattle.table_ledger.proofs.SurvivalLemmas.{survives_then}
 use Rattle.table_ledger.proofs.UnchangedStores.{holds_on, rest_on}
 
@@ -61,7 +60,7 @@ pub zip_at : {A B : Type 0} (Says : A → B → Type 0) (rows : List A) (at : �
     → AllZip Says (take (suc at) rows) (values ++ value ∷ [])
 zip_at Says rows at values row value so_far below says =
     zip_next Says rows at values (slice_index_or rows at row) value so_far below
-    (index_again rows at row (slice_index_or rows at row) below) says
+    (get_or_default rows at row (slice_index_or rows at row) below) says
 
 -- tariffs that rows give are those that are read from them
 pub tariffs_said : (rows : List StoredTariff) (tariffs : List AcceptedTerms)
@@ -102,25 +101,23 @@ said_rule row closes (Some period) says =
 -- a summary that rows show is that of the tables that have these rows,
 pub recalled : (summary : Summary) (tables : Tables) (row : Stored) (tariffs : List StoredTariff)
     (closes : List Close) (choices : ℕ) → SummarizesRows row tariffs closes choices summary
-    → book_entry row ≡ tables.book
-    → map tariff_of tariffs ≡ entries tables.tariffs → map close_entry closes ≡ entries tables.closes
-    → choices ≡ last_number tables.choices → SummarizesTables summary tables
-recalled summary tables row tariffs closes choices shows book texts days last =
+    → AreRowsIn tables row tariffs closes choices → SummarizesTables summary tables
+recalled summary tables row tariffs closes choices shows are =
     let ruled = sym (tariffs_said tariffs (ruled_in summary.rulings).tariffs shows.tariffs)
-    ∙ ap (filter_map tariff_read) texts in
+    ∙ ap (filter_map tariff_read) are.tariffs in
     let closed = sym (days_had closes (ruled_in summary.rulings).closes shows.closes)
-    ∙ ap (map (λ (close : ℕ × ℤ). close.1)) days in
+    ∙ ap (map (λ (close : ℕ × ℤ). close.1)) are.closes in
     let adopted = said_rule row (length (ruled_in summary.rulings).closes) (ruled_in summary.rulings).adopted
-    shows.adopted ∙ ap adopted_read book in
+    shows.adopted ∙ ap adopted_read are.book in
     record {
       rulings = λ i. record no_rulings {
         tariffs = ruled i;
         closes = closed i;
         adopted = adopted i;
       };
-      choices = shows.made ∙ last;
-      held = shows.held ∙ ap (λ (kept : BookRow). kept.held) book;
-      total = shows.total ∙ ap (λ (kept : BookRow). kept.amount) book;
+      choices = shows.made ∙ are.made;
+      held = shows.held ∙ ap (λ (kept : BookRow). kept.held) are.book;
+      total = shows.total ∙ ap (λ (kept : BookRow). kept.amount) are.book;
     }
 
 -- so is what is answered from the rows
@@ -129,19 +126,15 @@ pub recalled_by : (answer : Result Summary LedgerFault) (tables : Tables) (row :
     → IfOk answer (SummarizesRows row texts days choices)
     → IfErr answer IsStoreFault
     → IfErr answer (λ fault. fault ≡ Store → (rulings : Rulings)
-    → AreRowsOf row texts days choices rulings → ⊥) → book_entry row ≡ tables.book
-    → map tariff_of texts ≡ entries tables.tariffs → map close_entry days ≡ entries tables.closes
-    → choices ≡ last_number tables.choices → IsLoaded tables answer
-recalled_by (Ok summary) tables row texts days choices shows kinds refused book said had last =
-    recalled summary tables row texts days choices shows book said had last
-recalled_by (Err fault) tables row texts days choices shows kinds refused book said had last = (
+    → AreRowsOf row texts days choices rulings → ⊥)
+    → AreRowsIn tables row texts days choices → IsLoaded tables answer
+recalled_by (Ok summary) tables row texts days choices shows kinds refused are =
+    recalled summary tables row texts days choices shows are
+recalled_by (Err fault) tables row texts days choices shows kinds refused are = (
   kinds,
-  λ store naming of calls are.
+  λ store naming of calls same.
       refused store of.rulings (rows_of naming of row texts days choices calls
-      (book ∙ ap (λ (tables : Tables). tables.book) are)
-      (said ∙ ap (λ (tables : Tables). entries tables.tariffs) are)
-      (had ∙ ap (λ (tables : Tables). entries tables.closes) are)
-      (last ∙ ap (λ (tables : Tables). last_number tables.choices) are)),
+      (subst (λ tables. AreRowsIn tables row texts days choices) same are)),
 )
 
 -- a summary of the tables of a book is one of the book

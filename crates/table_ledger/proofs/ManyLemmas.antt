@@ -1,7 +1,7 @@
 -- Records that are staged one after another.
 use Rattle.std.proofs.Common.{◌≡◌, ◌∙◌, ◌<◌, ◌+◌, ℕ, List, [], ◌∷◌, ◌++◌, Result, Ok, Err}
 use Rattle.std.proofs.Common.{refl, sym, ap, subst, false, true, true≢false, Vec, Global, drop}
-use Rattle.std.proofs.Common.{get_or, length, append-nil, append_assoc, arith, add-one, drop-cons}
+use Rattle.std.proofs.Common.{get_or, length, append-nil, append_assoc, add-one, drop-cons}
 use Rattle.std.proofs.lemmas.Bool.{eqb-true}
 use Rattle.std.specs.Prelude.{◌==◌, IsErr}
 use Rattle.sqlite_trees.specs.View.{View, OnlyWrites}
@@ -19,14 +19,15 @@ use Rattle.table_model.specs.Tables.{Tables}
 use Rattle.tree_tables.specs.States.{State, HasCleanDisk, Survives}
 use Rattle.tree_tables.proofs.Looking.{only_both}
 use Rattle.table_ledger.specs.Attempts.{LeavesOpen}
-use Rattle.table_ledger.specs.Stages.{AnswersFirst, IsAtAs, IsStaged, LeavesFirst, LeavesOne, MakesOf}
-use Rattle.table_ledger.specs.Stages.{RefusesNext, StagesAs, StagesFirst, StagesMany}
+use Rattle.table_ledger.specs.Stages.{AnswersFirst, IsAtAs, IsStaged, LeavesFirst, LeavesOne}
+use Rattle.table_ledger.specs.Stages.{MakesOf, RefusesNext, StagesAs, StagesFirst, StagesMany}
 use Rattle.table_ledger.specs.declared.summary.Summary.{Summary}
 use Rattle.table_ledger.proofs.Remembered.{remembers_as}
 use Rattle.table_ledger.proofs.StageLemmas.{unstaged}
 use Rattle.table_ledger.proofs.StepLemmas.{stands_only}
 use Rattle.table_ledger.proofs.SurvivalLemmas.{clean_before, survives_then}
 use Rattle.table_ledger.proofs.UnchangedStores.{stands_then}
+use Rattle.book_model.proofs.FilterLemmas.{no_length}
 
 -- a refusal that leaves the books open makes no event
 refused_none : {V A : Type 0} (view : V → A) (outcome : Outcome A) (fault : LedgerFault)
@@ -303,8 +304,4 @@ none_staged {naming} {records} fault {answers} empty some stages = record {
 -- a list of length 0 has no element
 pub none_left : (answers : List Accepted) (n : ℕ) → n ≡ length answers → (n == 0) ≡ true
     → answers ≡ []
-none_left answers n long is = empty answers (sym long ∙ eqb-true n 0 is)
-  where
-    empty : (answers : List Accepted) → length answers ≡ 0 → answers ≡ []
-    empty [] none = refl
-    empty (answer ∷ rest) none = absurd (omega (arith, none))
+none_left answers n long is = no_length answers (sym long ∙ eqb-true n 0 is)

@@ -7,9 +7,9 @@ use Rattle.book_core.specs.Ledgers.{IsOpenAt}
 use Rattle.table_model.specs.TablesAfter.{new_tables}
 use Rattle.table_model.specs.Tables.{Tables}
 use Rattle.table_model.specs.TablesOf.{tables_of}
-use Rattle.table_model.proofs.KeepingLemmas.{tables_follow}
-use Rattle.table_laws.specs.FromCalls.{IsFromCalls}
-use Rattle.table_laws.proofs.CallsLemmas.{calls_stay}
+use Rattle.table_model.proofs.EventLemmas.{tables_follow}
+use Rattle.table_model.specs.FromCalls.{IsFromCalls}
+use Rattle.table_model.proofs.CallsLemmas.{calls_stay}
 use Rattle.table_ledger.specs.Commits.{Stores}
 use Rattle.table_ledger.specs.Ready.{IsStoredIn, IsReadyAt, Remembers}
 use Rattle.table_ledger.specs.LedgerState.{seen_on}

@@ -2,17 +2,16 @@
 use Rattle.std.proofs.Common.{◌≡◌, ◌∙◌, ℕ, ◌+◌, ◌<◌, ◌≤◌, List, [], ◌∷◌, ◌++◌, map, refl, sym, ap}
 use Rattle.std.proofs.Common.{subst, true, false, cond, Some, None, unwrap_or, arith, length}
 use Rattle.std.proofs.Common.{append-nil, append_assoc, length-append}
-use Rattle.std.specs.Prelude.{All, filter, sum_by, nat_lt, Vec, Ok, Err, if◌then◌else◌}
+use Rattle.std.specs.Prelude.{All, filter, sum_by, Vec, Ok, Err, if◌then◌else◌}
 use Rattle.std.specs.BTreeMap.{insert_entry, is_at}
 use Rattle.std.specs.FinMap.{entries, get}
 use Rattle.std.specs.Global.{Global}
 use Rattle.std.specs.Map.{lookup}
-use Rattle.std.proofs.lemmas.Bool.Decides.{nat_tests}
-use Rattle.std.proofs.lemmas.List.{length-map, map-append}
+use Rattle.std.proofs.lemmas.Bool.{le-ltb, lt-ltb}
+use Rattle.std.proofs.lemmas.List.{map-append}
 use Rattle.std.proofs.lemmas.List.Elements.{All-head, All-push, All-tail, filter-append}
-use Rattle.std.proofs.lemmas.List.Sums.{count_by-le-length, length-filter, sum_by-append}
+use Rattle.std.proofs.lemmas.List.Sums.{sum_by-append}
 use Rattle.std.proofs.lemmas.List.Sums.{sum_by_push}
-use Rattle.std.proofs.lemmas.Cmp.{nat_list_cmp_total}
 use Rattle.std.proofs.lemmas.Simd.{map-map}
 use Rattle.sqlite_trees.specs.View.{View}
 use Rattle.sqlite_value.specs.Order.{Row}
@@ -27,9 +26,10 @@ use Rattle.book_core.proofs.KeyedRowLemmas.{sum_by-charged_at-le}
 use Rattle.book_core.proofs.ListLimits.{priced_fit}
 use Rattle.table_model.specs.RowChanges.{with_price}
 use Rattle.table_model.specs.Tables.{Tables}
-use Rattle.table_laws.specs.BookIn.{row_record}
-use Rattle.table_laws.specs.CountedRead.{row_costs}
-use Rattle.table_laws.specs.DisputesRead.{NamedRow}
+use Rattle.table_model.proofs.CountedLemmas.{few_costs}
+use Rattle.table_model.specs.BookIn.{row_record}
+use Rattle.table_model.specs.CountedRead.{row_costs}
+use Rattle.table_model.specs.DisputesRead.{NamedRow}
 use Rattle.tree_tables.specs.Columns.{record_columns}
 use Rattle.tree_tables.specs.Passes.{HasRecordsLeft, TakesFirst, TakesNext}
 use Rattle.tree_tables.proofs.FoundNames.{entries_had}
@@ -105,14 +105,7 @@ rows_under_keys costs =
     map-map (λ (entry : RowKey × ChargeRow). entry.1) (λ key. (key, row_at costs key))
     (keys_of costs)
 
--- costs that the books hold have room
-has_room : (most n : ℕ) → n ≤ most → nat_lt most n ≡ false
-has_room most n small = grind (arith, nat_tests, small)
-
-too_dear : (most n : ℕ) → most < n → nat_lt most n ≡ true
-too_dear most n more = grind (arith, nat_tests, more)
-
--- so their rows are answered
+-- the rows of costs that the books hold are answered
 pub rows_summed : {sums : RowSums} (costs : List Priced) (rows : Vec ChargeRow Global)
     → AreSumsOf sums costs
     → rows.items ≡ map (λ (entry : RowKey × ChargeRow). entry.1) sums.rows.entries
@@ -120,7 +113,7 @@ pub rows_summed : {sums : RowSums} (costs : List Priced) (rows : Vec ChargeRow G
 rows_summed {sums} costs rows are is =
     let small = are.small in
     let cost = are.cost in
-    let room = has_room most_cost (sum_by (λ one. one.amount) costs) (omega arith) in (
+    let room = le-ltb most_cost (sum_by (λ one. one.amount) costs) (omega arith) in (
       ap (λ dear. if dear then Err Full else Ok (rows_of costs)) room
           ∙ ap Ok (sym (is ∙ ap (map (λ (entry : RowKey × ChargeRow). entry.1)) are.rows
           ∙ rows_under_keys costs)),
@@ -155,12 +148,7 @@ module _ (terms : Terms) (test : CountTest) where
 
   -- there are no more costs than rows
   pub costs_few : (passed : List NamedRow) → length (costs_of terms test passed) ≤ length passed
-  costs_few passed =
-      let mapped = length-map (filter (passes test) passed)
-      (λ (row : NamedRow). price_by terms (row_record row.1)) in
-      let counted = length-filter (passes test) passed in
-      let some = count_by-le-length (passes test) passed in
-      omega (arith, mapped, counted, some)
+  costs_few = few_costs terms (passes test)
 
   -- what rows cost together is no more with others
   costs_within : (passed others : List NamedRow)
@@ -227,7 +215,7 @@ module _ (terms : Terms) (test : CountTest) where
     entry_there =
         all_within (λ (one : NamedRow). get tables.records one.0 ≡ Some one.1) so_far.passed entry
         others (subst (All (λ (one : NamedRow). get tables.records one.0 ≡ Some one.1)) (sym whole)
-        (entries_had nat_list_cmp_total tables.records))
+        (entries_had tables.records))
 
     -- and fewer are passed than there are
     pub passed_with : length so_far.passed < length (entries tables.records)
@@ -266,7 +254,7 @@ module _ (terms : Terms) (test : CountTest) where
           let all = ap (λ rows. sum_by (λ (one : Priced). one.amount) (costs_of terms test rows))
           with_it in
           let costs : List Priced = costs_of terms test (entries tables.records) in
-          let dear = too_dear most_cost (sum_by (λ (one : Priced). one.amount) costs)
+          let dear = lt-ltb most_cost (sum_by (λ (one : Priced). one.amount) costs)
           (omega (arith, some, within, all)) in
           ap (λ dear. if dear then Err Full else Ok (rows_of costs)) dear
 

@@ -19,10 +19,11 @@ use Rattle.book_model.specs.declared.fault.LedgerFault.{LedgerFault}
 use Rattle.book_model.specs.declared.fault.LedgerFault.TheVariants.{Memory, Store}
 use Rattle.table_model.specs.Tables.{Tables}
 use Rattle.table_model.specs.TablesOf.{close_entries, tables_of, tariff_entries}
-use Rattle.table_laws.specs.FromCalls.{IsFromCalls}
-use Rattle.table_laws.specs.Readable.{IsTexted}
-use Rattle.table_laws.proofs.ReadableLemmas.{calls_read}
-use Rattle.table_laws.proofs.RulingsReading.{closes_kept, tariffs_kept}
+use Rattle.table_model.specs.FromCalls.{IsFromCalls}
+use Rattle.table_model.specs.Readable.{IsTexted}
+use Rattle.table_model.proofs.ReadableLemmas.{calls_read}
+use Rattle.table_model.proofs.RulingsReading.{tariffs_kept}
+use Rattle.table_model.proofs.UnderNumbers.{entries-numbers}
 use Rattle.tree_rows.proofs.Failing.{caused_after}
 use Rattle.tree_tables.specs.Columns.{closed_columns, tariff_columns, tariff_value}
 use Rattle.tree_tables.specs.Fits.{CloseFits, HasText, TariffFits}
@@ -171,7 +172,7 @@ can_be_listed naming book calls texts =
     let texted = whole.texts in
     let few = whole.limits.closes in
     let rows = ap (map tariff_columns) (sym (tariffs_kept tariffs whole.rising)) in
-    let days = ap (map closed_columns) (sym (closes_kept closes)) in
+    let days = ap (map closed_columns) (sym (entries-numbers closes)) in
     let many = tariffs_few tariffs whole.rising texted in
     record {
       tariffs = record {

@@ -11,17 +11,21 @@ use Rattle.std.specs.Option.{option_map_or}
 use Rattle.std.specs.Ordering.{int_cmp}
 use Rattle.std.specs.declared.cmp.Ordering.TheVariants.{Less}
 use Rattle.std.proofs.lemmas.Int.{ints}
+use Rattle.std.proofs.lemmas.List.{get_or_default}
 use Rattle.std.proofs.lemmas.List.Elements.{All-head, All-tail}
-use Rattle.book_model.specs.Words.{IsDay, AcceptedTerms, are_rising, Book, Naming, members, total_of}
-use Rattle.book_model.specs.Words.{most_choices, most_cost, most_held, first_rule, second_rule}
+use Rattle.std.proofs.lemmas.Option.{same_Some}
+use Rattle.book_model.specs.Words.{IsDay, AcceptedTerms, are_rising, Book, Naming, members}
+use Rattle.book_model.specs.Words.{total_of, most_choices, most_cost, most_held, first_rule}
+use Rattle.book_model.specs.Words.{second_rule}
 use Rattle.book_model.proofs.RecordSets.{first_of, second_of}
-use Rattle.table_model.specs.Tables.{BookRow, never_adopted}
+use Rattle.table_model.specs.Tables.{BookRow, Tables, never_adopted}
 use Rattle.table_model.specs.TablesOf.{close_entries, tables_of, tariff_entries}
-use Rattle.table_laws.specs.BookIn.{tariff_read}
-use Rattle.table_laws.specs.FromCalls.{IsFromCalls}
-use Rattle.table_laws.specs.Readable.{IsTexted}
-use Rattle.table_laws.proofs.ReadableLemmas.{calls_read}
-use Rattle.table_laws.proofs.RulingsReading.{closes_kept, one_read, tariffs_kept}
+use Rattle.table_model.specs.BookIn.{tariff_read}
+use Rattle.table_model.specs.FromCalls.{IsFromCalls}
+use Rattle.table_model.specs.Readable.{IsTexted}
+use Rattle.table_model.proofs.ReadableLemmas.{calls_read}
+use Rattle.table_model.proofs.RulingsReading.{one_read, tariffs_kept}
+use Rattle.table_model.proofs.UnderNumbers.{entries-numbers}
 use Rattle.tree_tables.specs.Answers.{last_number}
 use Rattle.tree_tables.specs.Stored.{book_entry, close_entry, tariff_of}
 use Rattle.tree_tables.specs.declared.book_row.StoredBook.{StoredBook as Stored}
@@ -30,15 +34,7 @@ use Rattle.tree_tables.specs.declared.tariff_rows.StoredTariff.{StoredTariff}
 use Rattle.table_ledger.proofs.LastChoice.{last_counts}
 use Rattle.table_ledger.specs.Loaded.{AreCloses, AreRowsOf, IsCloseDay, IsNextClose, SaysRule}
 use Rattle.table_ledger.specs.Loaded.{SaysTariff, TellsTariff}
-
--- a place within a list has its element, whatever is returned otherwise
-pub index_again : {A : Type 0} (rows : List A) (at : ℕ) (row other : A) → at < length rows
-    → slice_index_or rows at row ≡ slice_index_or rows at other
-index_again [] at row other below = absurd (omega (arith, below))
-index_again (first ∷ rows) zero row other below = refl
-index_again (first ∷ rows) (suc at) row other below =
-    let rest : at < length rows = omega (arith, below) in
-    index_again rows at row other rest
+use Rattle.book_model.proofs.LatestLemmas.{precedes}
 
 -- of rows that give values, the row at a place gives one
 pub zip_found : {A B : Type 0} (Says : A → B → Type 0) (rows : List A) (at : ℕ) (values : List B)
@@ -55,8 +51,7 @@ zip_found Says (first ∷ rows) (suc at) (value ∷ values) row says below is =
 -- a row gives just one tariff
 one_tariff : (row : StoredTariff) (one other : AcceptedTerms) → SaysTariff row one
     → SaysTariff row other → one ≡ other
-one_tariff row one other says too =
-    let both : Some one ≡ Some other = sym says ∙ too in cc
+one_tariff row one other says too = same_Some one other (sym says ∙ too)
 
 -- if all tariffs pass a test, so does that of a row
 passes_at : (test : AcceptedTerms → Bool) (rows : List StoredTariff) (at : ℕ) (tariffs : List AcceptedTerms)
@@ -73,10 +68,6 @@ passes_at test (first ∷ rows) (suc at) (other ∷ tariffs) row tariff tells al
     let rest : at < length rows = omega (arith, below) in
     passes_at test rows at tariffs row tariff tells.1
     (second_of (test other) (list_all test tariffs) all) rest is says
-
--- the first tariff begins before the other
-abbrev precedes : AcceptedTerms → AcceptedTerms → Bool
-precedes one other = int_lt one.terms.effective other.terms.effective
 
 -- the tariffs of the rows before one begin before its own, where those of all rows rise
 pub before_at : (rows : List StoredTariff) (at : ℕ) (so_far tariffs : List AcceptedTerms)
@@ -169,7 +160,7 @@ pub next_at : (at : ℕ) (rows : List Close) (so_far days : List ℤ) (other : C
 next_at at rows so_far days other had closes below =
     let row = slice_index_or rows at other in
     let next = next_from 1 at None rows so_far days row had closes.numbered closes.days closes.in_order
-    tt below (index_again rows at other row below) in
+    tt below (get_or_default rows at other row below) in
     record { period = next.0; later = next.1; day = next.2 }
 
 -- there are as many closes as rows, and as days
@@ -222,38 +213,43 @@ rule_said row (Some period) closes rule since begun =
     let bounds = begun period refl in
     (rule, since, bounds.0, bounds.1)
 
+-- rows are those of tables: of the book, of the tariffs and the closes, and of the last choice
+pub record AreRowsIn (tables : Tables) (row : Stored) (texts : List StoredTariff)
+    (days : List Close) (choices : ℕ) : Type 0 where
+  pub book : book_entry row ≡ tables.book
+  pub tariffs : map tariff_of texts ≡ entries tables.tariffs
+  pub closes : map close_entry days ≡ entries tables.closes
+  pub made : choices ≡ last_number tables.choices
+
 -- rows of the tables of a book that calls made are those of its rulings, within the limits
 pub rows_of : (naming : Naming) (book : Book) (row : Stored) (texts : List StoredTariff)
     (days : List Close) (choices : ℕ) → IsFromCalls naming book
-    → book_entry row ≡ (tables_of naming book).book
-    → map tariff_of texts ≡ entries (tables_of naming book).tariffs
-    → map close_entry days ≡ entries (tables_of naming book).closes
-    → choices ≡ last_number (tables_of naming book).choices
+    → AreRowsIn (tables_of naming book) row texts days choices
     → AreRowsOf row texts days choices book.rulings
-rows_of naming book row texts days choices calls kept said had last =
+rows_of naming book row texts days choices calls are =
     let whole = calls_read naming book calls in
     let rulings = book.rulings in
-    let held : row.held ≡ length (members book.held) = ap (λ (it : BookRow). it.held) kept in
-    let cost : row.amount ≡ total_of rulings book.held = ap (λ (it : BookRow). it.amount) kept in
+    let held : row.held ≡ length (members book.held) = ap (λ (it : BookRow). it.held) are.book in
+    let cost : row.amount ≡ total_of rulings book.held = ap (λ (it : BookRow). it.amount) are.book in
     record {
       book = record {
         held = subst (λ n. n ≤ most_held) (sym held) whole.limits.held;
         amount = subst (λ n. n ≤ most_cost) (sym cost) whole.limits.cost;
       };
       tariffs = texts_tell texts rulings.tariffs whole.texts
-          (said ∙ tariffs_kept rulings.tariffs whole.rising);
+          (are.tariffs ∙ tariffs_kept rulings.tariffs whole.rising);
       rising = whole.rising;
       closes = record {
-        numbered = had ∙ closes_kept rulings.closes;
+        numbered = are.closes ∙ entries-numbers rulings.closes;
         days = whole.days;
         in_order = whole.in_order;
       };
       few = whole.limits.closes;
       adopted = rule_said row rulings.adopted (length rulings.closes)
-          (ap (λ (it : BookRow). it.rule) kept) (ap (λ (it : BookRow). it.adopted) kept)
+          (ap (λ (it : BookRow). it.rule) are.book) (ap (λ (it : BookRow). it.adopted) are.book)
           (λ period is.
           let begun = whole.adopted period is in
           (begun.numbered, begun.begun));
-      chosen = subst (λ n. n ≤ most_choices) (sym (last ∙ last_counts naming book whole))
+      chosen = subst (λ n. n ≤ most_choices) (sym (are.made ∙ last_counts naming book whole))
           whole.limits.choices;
     }

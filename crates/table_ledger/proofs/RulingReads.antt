@@ -16,11 +16,11 @@ use Rattle.book_core.specs.declared.listed_rulings.ListedAt.TheVariants as liste
 use Rattle.book_core.specs.OfficeRulings.{ruled_in}
 use Rattle.table_model.specs.Tables.{ChoiceRow, ChoiceTable}
 use Rattle.table_model.specs.TablesOf.{tables_of}
-use Rattle.table_laws.specs.ListsRead.{choice_read_at, choice_shown}
-use Rattle.table_laws.specs.Readable.{IsReadable}
-use Rattle.table_laws.proofs.FitsLemmas.{numbers_fit}
-use Rattle.table_laws.proofs.ListedChoices.{choice_listed, choice_row_at}
-use Rattle.table_laws.proofs.ReadableLemmas.{calls_read}
+use Rattle.table_model.specs.ListsRead.{choice_read_at, choice_shown}
+use Rattle.table_model.specs.Readable.{IsReadable}
+use Rattle.table_model.proofs.FitsLemmas.{numbers_fit}
+use Rattle.table_model.proofs.ListedChoices.{choice_listed, choice_row_at}
+use Rattle.table_model.proofs.ReadableLemmas.{calls_read}
 use Rattle.tree_tables.specs.Fits.{IsNumbered}
 use Rattle.tree_tables.specs.Stored.{choice_entry}
 use Rattle.tree_tables.specs.declared.choice_rows.StoredChoice.{StoredChoice}

@@ -1,19 +1,23 @@
 -- A call that is tried inside a transaction: looks at the tables, and then an answer or steps.
-use Rattle.std.proofs.Common.{◌≡◌, inl, inr, List, Result, Ok, Err, Some, [], ◌∷◌, refl, sym, ap}
-use Rattle.std.proofs.Common.{subst, true≢false}
+use Rattle.std.proofs.Common.{◌≡◌, ◌∙◌, inl, inr, List, Result, Ok, Err, Some, [], ◌∷◌, refl, sym}
+use Rattle.std.proofs.Common.{ap, subst, true≢false}
 use Rattle.std.specs.Prelude.{IsErr}
 use Rattle.sqlite_trees.specs.declared.error.StoreError.{StoreError}
 use Rattle.book_model.specs.declared.fault.LedgerFault.{LedgerFault}
 use Rattle.book_model.specs.Words.{Book, Event, after, Outcome, Naming}
 use Rattle.book_core.specs.Calls.{Makes, listed}
+use Rattle.table_model.specs.Changed.{changed, IsAnswered}
 use Rattle.table_model.specs.Tables.{Tables}
 use Rattle.table_model.specs.TablesOf.{tables_of}
-use Rattle.table_laws.specs.FromCalls.{IsFromCalls}
+use Rattle.table_model.proofs.EventLemmas.{event_follows}
+use Rattle.table_model.specs.FromCalls.{IsSubmittedTo}
+use Rattle.table_model.proofs.CallsLemmas.{calls_stay}
+use Rattle.table_model.proofs.ReadableLemmas.{calls_read}
 use Rattle.tree_rows.proofs.Calls.{only_looks, kept_after_look}
 use Rattle.tree_tables.specs.Holds.{Holds}
 use Rattle.tree_tables.specs.States.{State, HasCleanDisk, Survives}
 use Rattle.tree_tables.specs.Steps.{Does, KeepsLastCommit, Looks}
-use Rattle.tree_tables.proofs.Looking.{only_both}
+use Rattle.tree_tables.proofs.Looking.{does_err, only_both}
 use Rattle.table_ledger.specs.Attempts.{LeavesOpen}
 use Rattle.table_ledger.specs.Commits.{Saw}
 use Rattle.table_ledger.specs.Ready.{Remembers}
@@ -21,7 +25,7 @@ use Rattle.table_ledger.specs.Stages.{IsAtAs, IsStoredAs, LeavesOne, MakesOf, St
 use Rattle.table_ledger.specs.declared.summary.Summary.{Summary}
 use Rattle.table_ledger.proofs.Remembered.{remembers_as}
 use Rattle.table_ledger.proofs.SurvivalLemmas.{clean_before, survives_then}
-use Rattle.table_ledger.proofs.UnchangedStores.{holds_on, stands_kept, stands_same, stands_then, trees_same}
+use Rattle.table_ledger.proofs.UnchangedStores.{holds_on, stands_kept, trees_same}
 
 -- looks, and then steps, which may rest on what was seen
 pub does_seen : {T : Type 0} {old middle new : State} {Known When : Tables → Type 0}
@@ -41,25 +45,27 @@ does_seen {old = old} {middle = middle} {new = new} (Ok value) saw does = record
       };
   refused = λ clean. tt;
 }
-does_seen {old = old} {middle = middle} {new = new} (Err error) saw does = record {
-  survives = survives_then saw.survives does.survives;
-  done = λ clean. tt;
-  refused = λ clean.
-      kept_after_look (saw.seen (clean_before does.survives clean)).same (does.refused clean);
-}
+does_seen (Err error) saw does =
+    does_err (Err error) refl (survives_then saw.survives does.survives) (λ clean.
+    kept_after_look (saw.seen (clean_before does.survives clean)).same (does.refused clean))
 
--- What steps make of a book: an event of the outcome, with this answer, the tables that it leaves,
--- and the summaries that then remember the book.
+-- What steps make of a book: an event of the outcome that was submitted, with this answer, which
+-- the book gives; the change that this event is; and, by the tables that it leaves, the summaries
+-- that then remember the book.
 pub record IsEventAs {V A : Type 0} (written : Tables → Tables) (view : V → A) (naming : Naming)
     (outcome : Book → Outcome A) (value : V) (Is : Summary → Type 0) (When : Tables → Type 0)
     (change : Tables → Tables) (book : Book) : Type 0 where
   pub event : Event
   pub is : (outcome book).event ≡ Some event
   pub answer : (outcome book).answer ≡ Ok (view value)
+  pub submitted : IsSubmittedTo book event
+  pub answered : IsAnswered naming event book
   pub when : When (written (tables_of naming book))
-  pub calls : IsFromCalls naming (after event book)
-  pub tables : change (written (tables_of naming book)) ≡ written (tables_of naming (after event book))
-  pub remembers : (summary : Summary) → Is summary → Remembers summary (after event book)
+  pub changes : change (written (tables_of naming book))
+      ≡ written (changed naming book.rulings event (tables_of naming book))
+  pub remembers :
+      tables_of naming (after event book) ≡ changed naming book.rulings event (tables_of naming book)
+      → (summary : Summary) → Is summary → Remembers summary (after event book)
 
 -- where all of it is written
 abbrev pub IsEvent : {V A : Type 0} → (V → A) → Naming → (Book → Outcome A) → V
@@ -86,20 +92,20 @@ module _ {V T : Type 0} {answered : T → Result V LedgerFault}
       {Answers : Tables → B → Type 0} {error : StoreError} (staged : Result T StoreError)
       → IsErr staged → Saw old middle Known → Looks {A = B} (Err error) middle new Answers
       → StagesBy written answered Made Leaves naming was Is old new staged
-  stage_refused {old = old} {middle = middle} staged failed saw looks =
+  stage_refused staged failed saw looks =
       unstaged staged failed (survives_then saw.survives looks.survives) (λ clean book at.
-      stands_then (stands_same old.view middle.view
-      (saw.seen (clean_before looks.survives clean)).same) (stands_kept (looks.refused clean)))
+      stands_kept (kept_after_look (saw.seen (clean_before looks.survives clean)).same
+      (looks.refused clean)))
 
   -- or the steps after looks.
   pub stage_undone : {U : Type 0} {old middle new : State} {Known When : Tables → Type 0}
       {change : Tables → Tables} {error : StoreError} (staged : Result T StoreError)
       → IsErr staged → Saw old middle Known → Does {T = U} (Err error) middle new When change
       → StagesBy written answered Made Leaves naming was Is old new staged
-  stage_undone {old = old} {middle = middle} staged failed saw does =
+  stage_undone staged failed saw does =
       unstaged staged failed (survives_then saw.survives does.survives) (λ clean book at.
-      stands_then (stands_same old.view middle.view
-      (saw.seen (clean_before does.survives clean)).same) (stands_kept (does.refused clean)))
+      stands_kept (kept_after_look (saw.seen (clean_before does.survives clean)).same
+      (does.refused clean)))
 
   -- What was staged is answered, and this summary remembers the book.
   pub staged_so : {old new : State} {done : T} (is : Summary) → Is is
@@ -164,18 +170,22 @@ stage_steps {naming = naming} {first = first} {middle = middle} {last = last} {w
       let seen = saw.seen (clean_before does.survives clean) in
       let event = events book at (seen.known tables at.kept.holds) in
       let changes = does.done clean in
+      let whole = calls_read naming book at.kept.calls in
+      let follows =
+      event_follows naming book event.event whole.sound whole.usage event.answered in
       record {
         events = event.event ∷ [];
         made = (event.answer, ap listed (sym event.is));
         leaves = inr (ap listed (sym event.is));
         only = only_both first.view (only_looks first.view seen.same) changes.only;
         kept = record {
-          calls = event.calls;
-          holds = subst (Holds last.view.trees) event.tables
+          calls = calls_stay.stay naming book event.event at.kept.calls event.submitted
+              event.answered;
+          holds = subst (Holds last.view.trees) (event.changes ∙ ap written (sym follows))
               (changes.made tables
               (holds_on first.view middle.view tables seen.same at.kept.holds) event.when);
         };
-        remembers = event.remembers;
+        remembers = event.remembers follows;
       };
 }
 stage_steps (Err error) saw does events = stage_undone (Err error) refl saw does

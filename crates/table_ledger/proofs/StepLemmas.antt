@@ -11,7 +11,7 @@ use Rattle.tree_tables.specs.Holds.{Holds, has_book}
 use Rattle.tree_tables.specs.States.{State, HasCleanDisk, Survives}
 use Rattle.tree_tables.specs.Steps.{Always, Changes, Does, HasNoRows, KeepsLastCommit, Makes}
 use Rattle.tree_tables.specs.Steps.{MayCommit}
-use Rattle.tree_tables.proofs.Looking.{kept_after}
+use Rattle.tree_tables.proofs.Looking.{does_err, kept_after}
 use Rattle.table_ledger.specs.Commits.{IsAtRest, Saw, Stores}
 use Rattle.table_ledger.specs.NewBooks.{MakesNew}
 use Rattle.table_ledger.proofs.UnchangedStores.{rest_on, trees_same}
@@ -43,12 +43,9 @@ does_then {first = first} {middle = middle} {last = last} (Ok value) early late 
       (early.done (clean_before late.survives clean)) (late.done clean) so;
   refused = λ clean. tt;
 }
-does_then {first = first} {middle = middle} {last = last} (Err error) early late so = record {
-  survives = survives_then early.survives late.survives;
-  done = λ clean. tt;
-  refused = λ clean.
-      kept_after (early.done (clean_before late.survives clean)).only (late.refused clean);
-}
+does_then (Err error) early late so =
+    does_err (Err error) refl (survives_then early.survives late.survives) (λ clean.
+    kept_after (early.done (clean_before late.survives clean)).only (late.refused clean))
 
 -- two steps, each of any tables
 pub does_both : {T U : Type 0} {first middle last : State} {one other : Tables → Tables} {done : T}
@@ -58,13 +55,14 @@ pub does_both : {T U : Type 0} {first middle last : State} {one other : Tables �
 does_both {result = result} early late = does_then result early late (λ tables always. (tt, tt))
 
 -- no step
-pub does_nothing : {T : Type 0} {state : State} {change : Tables → Tables} {done : T}
-    → ((tables : Tables) → change tables ≡ tables) → Does (Ok done) state state Always change
+pub does_nothing : {T : Type 0} {state : State} {When : Tables → Type 0} {change : Tables → Tables}
+    {done : T} → ((tables : Tables) → When tables → tables ≡ change tables)
+    → Does (Ok done) state state When change
 does_nothing {state = state} same = record {
   survives = survives_none;
   done = λ clean. record {
     only = refl;
-    made = λ tables holds when. subst (Holds state.view.trees) (sym (same tables)) holds;
+    made = λ tables holds when. subst (Holds state.view.trees) (same tables when) holds;
   };
   refused = λ clean. tt;
 }
@@ -85,11 +83,7 @@ does_so {last = last} (Ok value) does so = record {
   };
   refused = λ clean. tt;
 }
-does_so (Err error) does so = record {
-  survives = does.survives;
-  done = λ clean. tt;
-  refused = does.refused;
-}
+does_so (Err error) does so = does_err (Err error) refl does.survives does.refused
 
 -- ---- the commit
 

@@ -12,7 +12,7 @@ use Rattle.tree_tables.specs.Holds.{Holds}
 use Rattle.tree_tables.specs.States.{State}
 use Rattle.tree_tables.specs.Steps.{Changes, Does}
 use Rattle.tree_tables.proofs.Looking.{only_both}
-use Rattle.table_ledger.specs.RecordWrites.{HaveSums}
+use Rattle.table_ledger.specs.Premises.{HaveSums}
 use Rattle.table_ledger.specs.Stages.{IsAt, IsAtAs, StagesBy}
 use Rattle.table_ledger.specs.declared.summary.Summary.{Summary}
 use Rattle.table_ledger.proofs.Remembered.{remembers_as}

@@ -1,5 +1,5 @@
 -- A call that is tried: looks at the tables, and then an answer or a refusal.
-use Rattle.std.proofs.Common.{List, Result, Ok, Err, [], sym, subst, true≢false}
+use Rattle.std.proofs.Common.{List, Result, Ok, Err, [], refl, sym, subst, true≢false}
 use Rattle.std.specs.Prelude.{IsErr}
 use Rattle.sqlite_trees.specs.Tree.{Trees}
 use Rattle.sqlite_trees.specs.View.{View}
@@ -10,18 +10,18 @@ use Rattle.book_core.specs.Calls.{Makes}
 use Rattle.table_model.specs.Tables.{Tables}
 use Rattle.table_model.specs.TablesOf.{tables_of}
 use Rattle.tree_rows.specs.Rows.{IsUnchanged}
-use Rattle.tree_tables.specs.States.{State}
-use Rattle.tree_tables.specs.Steps.{Looks}
-use Rattle.tree_rows.proofs.Calls.{kept_same, unchanged_both}
+use Rattle.tree_tables.specs.States.{HasCleanDisk, State, Survives}
+use Rattle.tree_tables.specs.Steps.{KeepsLastCommit, Looks}
+use Rattle.tree_rows.proofs.Calls.{kept_after_look, unchanged_both}
 use Rattle.table_ledger.specs.Commits.{Saw}
 use Rattle.table_ledger.specs.Ready.{IsReadyAt, IsStoredIn, Remembers}
 use Rattle.table_ledger.specs.Attempts.{LeavesOpen}
-use Rattle.table_ledger.specs.Stages.{AttemptsBy, AttemptsOne, IsAt, IsStoredAs}
+use Rattle.table_ledger.specs.Stages.{AttemptsBy, AttemptsOne, IsAt, IsStoredAs, MayKeepBy}
 use Rattle.table_ledger.specs.declared.summary.Summary.{Summary}
 use Rattle.table_ledger.proofs.UnchangedStores.{holds_on, rest_on, stands_kept, stands_same}
-use Rattle.table_ledger.proofs.UnchangedStores.{stands_then, trees_same, unchanged_none}
+use Rattle.table_ledger.proofs.UnchangedStores.{trees_same}
 use Rattle.table_ledger.proofs.SurvivalLemmas.{clean_before, survives_both, survives_none}
-use Rattle.table_ledger.proofs.SurvivalLemmas.{survives_so}
+use Rattle.table_ledger.proofs.SurvivalLemmas.{survives_so, survives_then}
 
 -- ---- looks
 
@@ -29,7 +29,7 @@ use Rattle.table_ledger.proofs.SurvivalLemmas.{survives_so}
 pub saw_none : {state : State} → Saw state state (λ tables. Unit {0})
 saw_none {state} = record {
   survives = survives_none;
-  seen = λ clean. record { same = unchanged_none state.view; known = λ tables holds. tt };
+  seen = λ clean. record { same = refl; known = λ tables holds. tt };
 }
 
 -- a look that was answered
@@ -41,8 +41,7 @@ saw_found looks = record { survives = looks.survives; seen = looks.found }
 pub saw_then : {first middle last : State} {One Other : Tables → Type 0} → Saw first middle One
     → Saw middle last Other → Saw first last (λ tables. One tables × Other tables)
 saw_then {first} {middle} {last} {One} {Other} one other = record {
-  survives = survives_both one.survives other.survives (λ clean trees none. none)
-      (λ clean trees none. none);
+  survives = survives_then one.survives other.survives;
   seen = λ clean.
       let early = one.seen (clean_before other.survives clean) in
       let late = other.seen clean in
@@ -74,16 +73,6 @@ looks_known saw answers = record {
       let seen = saw.seen clean in
       record { same = seen.same; known = λ tables holds. answers tables (seen.known tables holds) };
   refused = λ clean. tt;
-}
-
--- looks after which there is no answer
-pub looks_stopped : {A : Type 0} {old new : State} {Known : Tables → Type 0}
-    {Answers : Tables → A → Type 0} {error : StoreError} → Saw old new Known
-    → Looks {A = A} (Err error) old new Answers
-looks_stopped {old = old} {new = new} saw = record {
-  survives = saw.survives;
-  found = λ clean. tt;
-  refused = λ clean. kept_same (saw.seen clean).same;
 }
 
 -- ---- calls
@@ -131,36 +120,40 @@ try_answered {naming = naming} outcome {old = old} {new = new} saw plain makes =
 
 module _ {V : Type 0} {Made : Result V LedgerFault → Book → List Event → Type 0}
     {Leaves : Book → List Event → Type 0} {naming : Naming} {was : Summary} where
-  -- The call stops after looks, because memory ran out or a row is ill-formed.
+  -- A call has no answer where the last commit stays.
+  pub untried : {is : Summary} {old new : State} (tried : Result (Result V LedgerFault) StoreError)
+      → IsErr tried → Survives old new (MayKeepBy naming was old.view Leaves)
+      → (HasCleanDisk new → (book : Book) → IsReadyAt naming was old.view book
+      → KeepsLastCommit old.view new.view)
+      → ((book : Book) → Remembers was book → Remembers is book)
+      → AttemptsBy Made Leaves naming was is old new tried
+  untried (Err error) failed survives stands same = record {
+    plain = tt;
+    survives = survives;
+    found = λ clean book ready.
+        record { stands = stands clean book ready; remembers = same book ready.remembers };
+  }
+  untried (Ok answer) failed survives stands same = absurd (true≢false (sym failed))
+
+  -- So it stops after looks, because memory ran out or a row is ill-formed,
   pub try_stopped : {is : Summary} {old new : State} {Known : Tables → Type 0}
       (tried : Result (Result V LedgerFault) StoreError) → IsErr tried → Saw old new Known
       → ((book : Book) → Remembers was book → Remembers is book)
       → AttemptsBy Made Leaves naming was is old new tried
-  try_stopped {old = old} {new = new} (Err error) failed saw same = record {
-    plain = tt;
-    survives = survives_so saw.survives (λ clean trees none. absurd none);
-    found = λ clean book ready. record {
-      stands = stands_same old.view new.view (saw.seen clean).same;
-      remembers = same book ready.remembers;
-    };
-  }
-  try_stopped (Ok answer) failed saw same = absurd (true≢false (sym failed))
+  try_stopped {old = old} {new = new} tried failed saw same =
+      untried tried failed (survives_so saw.survives (λ clean trees none. absurd none))
+      (λ clean book ready. stands_same old.view new.view (saw.seen clean).same) same
 
-  -- The last look is refused.
+  -- or because the last look is refused.
   pub try_refused : {B : Type 0} {old middle new : State} {Known : Tables → Type 0}
       {Answers : Tables → B → Type 0} {error : StoreError}
       (tried : Result (Result V LedgerFault) StoreError) → IsErr tried → Saw old middle Known
       → Looks {A = B} (Err error) middle new Answers
       → AttemptsBy Made Leaves naming was was old new tried
-  try_refused {old = old} {middle = middle} (Err other) failed saw looks = record {
-    plain = tt;
-    survives = survives_both saw.survives looks.survives (λ clean trees none. absurd none)
-        (λ clean trees none. absurd none);
-    found = λ clean book ready. record {
-      stands = stands_then (stands_same old.view middle.view
-          (saw.seen (clean_before looks.survives clean)).same)
-          (stands_kept (looks.refused clean));
-      remembers = ready.remembers;
-    };
-  }
-  try_refused (Ok answer) failed saw looks = absurd (true≢false (sym failed))
+  try_refused tried failed saw looks =
+      untried tried failed
+      (survives_both saw.survives looks.survives (λ clean trees none. absurd none)
+      (λ clean trees none. absurd none))
+      (λ clean book ready. stands_kept (kept_after_look
+      (saw.seen (clean_before looks.survives clean)).same (looks.refused clean)))
+      (λ book same. same)

@@ -3,25 +3,14 @@ use Rattle.std.proofs.Common.{◌≡◌, ◌∙◌, refl, sym, ap, subst}
 use Rattle.sqlite_trees.specs.View.{View, KeepsCommitted}
 use Rattle.table_model.specs.Tables.{Tables}
 use Rattle.tree_rows.specs.Rows.{IsUnchanged}
+use Rattle.tree_rows.proofs.Calls.{kept_same}
 use Rattle.tree_tables.specs.Holds.{Holds}
 use Rattle.tree_tables.specs.Steps.{KeepsLastCommit}
 use Rattle.table_ledger.specs.Commits.{IsAtRest}
 
--- the trees are those from before,
+-- the trees are those from before
 pub trees_same : (old new : View) → IsUnchanged old new → new.trees ≡ old.trees
 trees_same old new same = ap (λ (v : View). v.trees) same
-
--- and so is the last commit
-pub committed_same : (old new : View) → IsUnchanged old new → new.committed ≡ old.committed
-committed_same old new same = ap (λ (v : View). v.committed) same
-
--- it is open where it was
-pub open_same : (old new : View) → IsUnchanged old new → new.is_open ≡ old.is_open
-open_same old new same = ap (λ (v : View). v.is_open) same
-
--- no call changes nothing
-pub unchanged_none : (view : View) → IsUnchanged view view
-unchanged_none view = refl
 
 -- trees that hold the tables still hold them
 pub holds_on : (old new : View) (tables : Tables) → IsUnchanged old new → Holds old.trees tables
@@ -32,25 +21,22 @@ holds_on old new tables same holds =
 -- a store at rest is still at rest
 pub rest_on : (old new : View) → IsUnchanged old new → IsAtRest old → IsAtRest new
 rest_on old new same rest = record {
-  is_open = open_same old new same ∙ rest.is_open;
+  is_open = ap (λ (v : View). v.is_open) same ∙ rest.is_open;
   sound = ap (λ (v : View). v.is_broken) same ∙ rest.sound;
-  settled = trees_same old new same ∙ rest.settled ∙ sym (committed_same old new same);
+  settled = trees_same old new same ∙ rest.settled ∙ sym (ap (λ (v : View). v.committed) same);
 }
 
--- the last commit stays if nothing is changed,
+-- the last commit stays if a call says so,
+pub stands_kept : {old new : View} → KeepsCommitted old new → KeepsLastCommit old new
+stands_kept kept = record { was_open = kept.was_open; committed = kept.committed }
+
+-- if nothing is changed,
 pub stands_same : (old new : View) → IsUnchanged old new → KeepsLastCommit old new
-stands_same old new same = record {
-  was_open = λ is_open. sym (open_same old new same) ∙ is_open;
-  committed = λ is_open. committed_same old new same;
-}
+stands_same old new same = stands_kept (kept_same same)
 
 -- also if nothing is done,
 pub stands_still : (view : View) → KeepsLastCommit view view
-stands_still view = stands_same view view (unchanged_none view)
-
--- if a call says so,
-pub stands_kept : {old new : View} → KeepsCommitted old new → KeepsLastCommit old new
-stands_kept kept = record { was_open = kept.was_open; committed = kept.committed }
+stands_still view = stands_same view view refl
 
 -- and after one call after another
 pub stands_then : {first middle last : View} → KeepsLastCommit first middle → KeepsLastCommit middle last

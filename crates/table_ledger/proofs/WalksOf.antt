@@ -1,7 +1,7 @@
--- Walks over all records whose steps depend on the tables before the first one, as calls on a store
--- make them.
+-- Walks over all records, a step at each, as calls on a store make them: the steps may depend on
+-- the tables before the first one.
 use Rattle.std.proofs.Common.{◌≡◌, ℕ, List, Option, Some, None, Result, Ok, Err, refl, sym, subst}
-use Rattle.std.proofs.Common.{true≢false, ap, ◌∙◌}
+use Rattle.std.proofs.Common.{ap, ◌∙◌}
 use Rattle.std.specs.Prelude.{IsErr}
 use Rattle.std.specs.FinMap.{keys}
 use Rattle.sqlite_trees.specs.View.{OnlyWrites}
@@ -11,18 +11,16 @@ use Rattle.table_model.specs.Tables.{Tables}
 use Rattle.tree_tables.specs.Answers.{FindsNext}
 use Rattle.tree_tables.specs.Holds.{Holds}
 use Rattle.tree_tables.specs.States.{HasCleanDisk, State, Survives}
-use Rattle.tree_tables.specs.Steps.{Always, Does, Looks}
+use Rattle.tree_tables.specs.Steps.{Does, Looks}
 use Rattle.tree_tables.specs.declared.stored_record.StoredRecord.{StoredRecord}
-use Rattle.tree_tables.proofs.Looking.{held_after_look, kept_by}
-use Rattle.tree_tables.proofs.Looking.{only_both, only_looks, survives_both, was_clean}
+use Rattle.tree_tables.proofs.Looking.{does_err, held_after_look, kept_after, kept_by, only_both}
+use Rattle.tree_tables.proofs.Looking.{only_looks, survives_both, was_clean}
 use Rattle.tree_tables.proofs.WalkNames.{IsWalking, KeepsNames, names_stay}
 use Rattle.tree_tables.proofs.WalkNames.{next_names, walking_ends}
-use Rattle.table_ledger.proofs.Refusals.{does_failed_next, does_unseen}
 use Rattle.table_ledger.proofs.SurvivalLemmas.{survives_none}
-use Rattle.table_ledger.proofs.TryLemmas.{saw_none}
 
--- A walk has reached a name. Nothing is committed; and of the tables as they are now this still holds,
--- by those before the walk.
+-- A walk has reached a name. Nothing is committed; and of the tables as they are now this still
+-- holds, by those before the walk.
 pub record WalksOf (When : Tables → Type 0) (Still : Tables → Tables → Type 0)
     (step : Tables → List ℕ → Tables → Tables) (old new : State) (last : Option (List ℕ)) : Type 0
   where
@@ -31,8 +29,8 @@ pub record WalksOf (When : Tables → Type 0) (Still : Tables → Tables → Typ
     pub walking : HasCleanDisk new → (tables : Tables) → Holds old.view.trees tables → When tables
         → (so_far : IsWalking (step tables) tables new.view.trees last) × Still tables so_far.now
 
-module _ (When : Tables → Type 0) (Still : Tables → Tables → Type 0)
-    (step : Tables → List ℕ → Tables → Tables) where
+module _ {When : Tables → Type 0} {Still : Tables → Tables → Type 0}
+    {step : Tables → List ℕ → Tables → Tables} where
   -- before the first look
   pub of_none : (state : State) → ((tables : Tables) → When tables → Still tables tables)
       → WalksOf When Still step state state None
@@ -121,41 +119,31 @@ module _ (When : Tables → Type 0) (Still : Tables → Tables → Type 0)
             let so_far = both.0 in
             let look = looks.found clean in
             held_after_look mid.view look.same
-            (walking_ends (step tables) tables last so_far (look.known so_far.now so_far.holds));
+            (walking_ends last so_far (look.known so_far.now so_far.holds));
       };
-      refused = λ clean. tt;
-    }
-
-    -- what was walked is a step, of which nothing is said but that it only wrote
-    walked : Does {T = Unit {0}} (Ok tt) old mid (λ tables. ⊥) (λ tables. tables)
-    walked = record {
-      survives = walks.survives;
-      done = λ clean. record { only = walks.only clean; made = λ tables holds none. absurd none };
       refused = λ clean. tt;
     }
 
     -- it is given up
     pub of_no_more : {T : Type 0} {Then : Tables → Type 0} {change : Tables → Tables}
         (result : Result T StoreError) → IsErr result → Does result old mid Then change
-    of_no_more (Err error) failed = record {
-      survives = walks.survives;
-      done = λ clean. tt;
-      refused = λ clean. kept_by (walks.only clean);
-    }
-    of_no_more (Ok value) failed = absurd (true≢false (sym failed))
+    of_no_more result failed =
+        does_err result failed walks.survives (λ clean. kept_by (walks.only clean))
 
     -- a step in it fails
     pub of_fail : {T U : Type 0} {new : State} {Then Other : Tables → Type 0}
         {change other : Tables → Tables} {why : StoreError} (result : Result T StoreError)
         → IsErr result → Does {T = U} (Err why) mid new Other other
         → Does result old new Then change
-    of_fail result failed does = does_failed_next result failed walked does
+    of_fail result failed does =
+        does_err result failed (survives_both walks.survives does.survives) (λ clean.
+        kept_after (walks.only (was_clean does.survives clean)) (does.refused clean))
 
     -- a look in it fails
     pub of_blind : {A T : Type 0} {new : State} {Answers : Tables → A → Type 0}
         {Then : Tables → Type 0} {change : Tables → Tables} {why : StoreError}
         (result : Result T StoreError) → IsErr result → Looks {A = A} (Err why) mid new Answers
         → Does result old new Then change
-    of_blind {change = change} {why = why} result failed looks =
-        does_failed_next result failed walked
-        (does_unseen {U = Unit {0}} {When = Always} {change = change} (Err why) refl saw_none looks)
+    of_blind result failed looks =
+        does_err result failed (survives_both walks.survives looks.survives) (λ clean.
+        kept_after (walks.only (was_clean looks.survives clean)) (looks.refused clean))

@@ -12,10 +12,10 @@ use Rattle.book_core.specs.OfficeRulings.{ruled_in}
 use Rattle.sqlite_trees.specs.View.{View}
 use Rattle.table_model.specs.Tables.{Tables}
 use Rattle.table_model.specs.TablesOf.{tables_of}
-use Rattle.table_laws.specs.CountedRead.{counted_rows, row_costs, what_if_read}
-use Rattle.table_laws.specs.ListsRead.{is_period}
-use Rattle.table_laws.proofs.CountedLemmas.{counted_follows}
-use Rattle.table_laws.proofs.ReadableLemmas.{calls_read}
+use Rattle.table_model.specs.CountedRead.{counted_rows, row_costs, what_if_read}
+use Rattle.table_model.specs.ListsRead.{is_period}
+use Rattle.table_model.proofs.CountedLemmas.{counted_follows}
+use Rattle.table_model.proofs.ReadableLemmas.{calls_read}
 use Rattle.tree_tables.specs.States.{State}
 use Rattle.table_ledger.specs.Commits.{Saw}
 use Rattle.table_ledger.specs.Ready.{IsReadyAt, Remembers}

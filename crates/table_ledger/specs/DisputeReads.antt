@@ -4,7 +4,7 @@ use Rattle.std.specs.Global.{Global}
 use Rattle.std.specs.Option.{option_map}
 use Rattle.book_model.specs.Words.{Disputed, IsDay, identity_length, identity2_length}
 use Rattle.table_model.specs.Tables.{Tables}
-use Rattle.table_laws.specs.DisputesRead.{FindsDisputed, NamedRow, variant_read}
+use Rattle.table_model.specs.DisputesRead.{FindsDisputed, NamedRow, variant_read}
 use Rattle.tree_tables.specs.Stored.{stored_entry}
 use Rattle.tree_tables.specs.declared.stored_record.StoredRecord.{StoredRecord}
 

@@ -4,7 +4,7 @@ use Rattle.sqlite_trees.specs.Tree.{Trees}
 use Rattle.sqlite_trees.specs.View.{View, IsClean}
 use Rattle.book_model.specs.Words.{Book, Naming}
 use Rattle.book_core.specs.Ledgers.{Seen}
-use Rattle.table_laws.specs.BookIn.{book_in}
+use Rattle.table_model.specs.BookIn.{book_in}
 use Rattle.sqlite_trees.specs.declared.store.Store.{Ghosts}
 use Rattle.tree_tables.specs.States.{State, state}
 use Rattle.table_ledger.specs.TablesIn.{tables_in}

@@ -15,8 +15,8 @@ use Rattle.book_model.specs.declared.fault.LedgerFault.{LedgerFault}
 use Rattle.book_model.specs.declared.fault.LedgerFault.TheVariants.{Memory, NotBooks, Store}
 use Rattle.table_model.specs.Tables.{Tables, first_rule, never_adopted}
 use Rattle.table_model.specs.TablesOf.{close_entries, tables_of}
-use Rattle.table_laws.specs.BookIn.{rulings_of_tables, tariff_read}
-use Rattle.table_laws.specs.FromCalls.{IsFromCalls}
+use Rattle.table_model.specs.BookIn.{rulings_of_tables, tariff_read}
+use Rattle.table_model.specs.FromCalls.{IsFromCalls}
 use Rattle.tree_tables.specs.Answers.{last_number}
 use Rattle.tree_tables.specs.Columns.{closed_columns, tariff_columns}
 use Rattle.tree_tables.specs.Fits.{CloseFits, RowsFit, TariffFits}

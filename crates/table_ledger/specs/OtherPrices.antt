@@ -12,10 +12,10 @@ use Rattle.book_model.specs.declared.row.RowKey.{RowKey}
 use Rattle.book_model.specs.Words.{FitSums, IsPriced, Rulings, Terms, by_bytes, keys_of, most_cost}
 use Rattle.book_model.specs.Words.{most_held, row_at, rows_if_room}
 use Rattle.table_model.specs.Tables.{Tables}
-use Rattle.table_laws.specs.CountedRead.{charged_before_lines, is_day_between, is_row_counted}
-use Rattle.table_laws.specs.CountedRead.{row_costs}
-use Rattle.table_laws.specs.DisputesRead.{NamedRow}
-use Rattle.table_laws.specs.ListsRead.{is_period}
+use Rattle.table_model.specs.CountedRead.{charged_before_lines, is_day_between, is_row_counted}
+use Rattle.table_model.specs.CountedRead.{row_costs}
+use Rattle.table_model.specs.DisputesRead.{NamedRow}
+use Rattle.table_model.specs.ListsRead.{is_period}
 use Rattle.tree_tables.specs.Fits.{LinesFit}
 use Rattle.tree_tables.specs.Stored.{mark_of}
 use Rattle.tree_tables.specs.declared.stored_record.RecordMark.{RecordMark}

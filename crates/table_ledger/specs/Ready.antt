@@ -5,7 +5,7 @@ use Rattle.sqlite_trees.specs.Tree.{Trees}
 use Rattle.sqlite_trees.specs.View.{View}
 use Rattle.book_model.specs.Words.{total_of, Book, Naming, members}
 use Rattle.table_model.specs.TablesOf.{tables_of}
-use Rattle.table_laws.specs.FromCalls.{IsFromCalls}
+use Rattle.table_model.specs.FromCalls.{IsFromCalls}
 use Rattle.tree_tables.specs.Holds.{Holds}
 use Rattle.table_ledger.specs.Commits.{IsAtRest}
 use Rattle.book_core.specs.OfficeRulings.{ruled_in}

@@ -5,9 +5,9 @@ use Rattle.sqlite_trees.specs.View.{View, IsClean}
 use Rattle.book_model.specs.Words.{Book, Naming}
 use Rattle.book_core.specs.Ledgers.{StopIsHarmless}
 use Rattle.table_model.specs.TablesOf.{tables_of}
-use Rattle.table_laws.specs.BookIn.{book_in}
-use Rattle.table_laws.proofs.BookLemmas.{book_follows}
-use Rattle.table_laws.proofs.ReadableLemmas.{calls_read}
+use Rattle.table_model.specs.BookIn.{book_in}
+use Rattle.table_model.proofs.BookLemmas.{book_follows}
+use Rattle.table_model.proofs.ReadableLemmas.{calls_read}
 use Rattle.table_ledger.specs.Ready.{IsReadyAt, IsStoredIn}
 use Rattle.table_ledger.specs.LedgerState.{book_of_trees, AreBooks, seen_of}
 use Rattle.table_ledger.specs.TablesRead.{tables_read}

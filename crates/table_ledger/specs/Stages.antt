@@ -6,13 +6,15 @@ use Rattle.sqlite_trees.specs.View.{View, OnlyWrites}
 use Rattle.sqlite_trees.specs.declared.error.StoreError.{StoreError}
 use Rattle.book_model.specs.declared.answer.Accepted.{Accepted}
 use Rattle.book_model.specs.declared.fault.LedgerFault.{LedgerFault}
-use Rattle.book_model.specs.Words.{Book, Event, after_all, accept_outcome, Outcome, Naming}
+use Rattle.tariff_rules.specs.declared.priced.Priced.{Priced}
+use Rattle.book_model.specs.Words.{Book, Event, after_all, accept_outcome, Outcome, Naming, Rulings}
 use Rattle.book_core.specs.Calls.{Calls, Makes, is_store, is_reopen, listed}
 use Rattle.book_core.specs.OfficeRulings.{ruled_in}
 use Rattle.book_core.specs.Submissions.{Accepts, Takes, first_of}
+use Rattle.table_model.specs.Changed.{kept_at}
 use Rattle.table_model.specs.Tables.{Tables}
 use Rattle.table_model.specs.TablesOf.{tables_of}
-use Rattle.table_laws.specs.FromCalls.{IsFromCalls}
+use Rattle.table_model.specs.FromCalls.{IsFromCalls}
 use Rattle.tree_tables.specs.Holds.{Holds}
 use Rattle.tree_tables.specs.States.{State, HasCleanDisk, Survives}
 use Rattle.tree_tables.specs.Steps.{KeepsLastCommit}
@@ -76,6 +78,12 @@ pub record StagesBy {V T : Type 0} (written : Tables → Tables) (answered : T �
       → StagedOrRefused written answered Made Leaves naming Is old.view new.view book staged
 
 -- ---- records, one after another
+
+-- The tables with a record that is kept, but for the sums in the row of the book: these are written
+-- after the last record.
+abbrev pub staged_at : Rulings → List ℕ → List ℕ → Priced → Tables → Tables
+staged_at ruled name bytes priced tables =
+    record (kept_at ruled name bytes priced tables) { book = tables.book }
 
 -- the first of these records was refused with this fault, if any was
 abbrev pub RefusesNext : Naming → List (List ℕ) → Book → Result (Unit {0}) LedgerFault → Type 0

@@ -2,19 +2,17 @@
 
 ghost use Rattle.std.specs.Prelude.{◌≡◌, ◌<◌, Ok, Err, [], false, if◌then◌else◌, All, IfOk, length, ℕ};
 ghost use Rattle.tree_tables.specs.States.{state};
-ghost use Rattle.book_model.specs.Words.{data_of, IsPriced, accept_outcome, IsUsageRecord};
-ghost use Rattle.book_model.specs.Words.{same_bytes};
+ghost use Rattle.book_model.specs.Words.{data_of, accept_outcome, IsUsageRecord, same_bytes};
 ghost use Rattle.book_core.specs.Identities.{identity_in};
+ghost use Rattle.book_core.specs.OfficeRulings.{ruled_in};
 ghost use Rattle.book_core.specs.Submissions.{records_in};
 ghost use Rattle.table_model.specs.Steps.{set_sums};
 ghost use Rattle.tree_tables.specs.Steps.{Does};
-ghost use Rattle.table_ledger.specs.RecordWrites.{AreRemembered, IsNew};
-ghost use Rattle.table_ledger.specs.NewRecords.{with_unsummed};
+ghost use Rattle.table_ledger.specs.Premises.{AreRemembered, IsNew};
 ghost use Rattle.table_ledger.specs.Stages.{AttemptsMany, AttemptsOne, KeepsRulings, Stages};
-ghost use Rattle.table_ledger.specs.Stages.{StagesAs, StagesFirst, StagesMany};
+ghost use Rattle.table_ledger.specs.Stages.{StagesAs, StagesFirst, StagesMany, staged_at};
 
-use crate::commits::{Entry, commit_written, write_entry, write_sums};
-use crate::day_write::look_for_day;
+use crate::commits::{commit_written, write_effects, write_sums};
 use crate::disputes::IDENTITY_LENGTH;
 use crate::effects::look_for_effects;
 use crate::summary::Summary;
@@ -64,32 +62,24 @@ fn write_new<S: Store>(
 ) -> Result<(), StoreError>
     requires same { usage.now ≡ bytes.now }
     requires usage { IsUsageRecord bytes.now }
-    requires priced { IsPriced priced.now }
     ensures does { Does result (state S.Store tables.old.store) (state S.Store tables.new.store)
         (λ tables. AreRemembered summary.now tables × IsNew name tables)
-        (with_unsummed summary.now name bytes.now priced.now) }
+        (staged_at (ruled_in summary.now.rulings) name bytes.now priced.now) }
 {
     let second = usage.identity2();
     let identity = identity_in_force(summary.rulings.adopted(), &second);
-    let period = summary.rulings.open_number();
     let last_close = summary.rulings.last_close();
     let effects = look_for_effects(tables, alloc, last_close, identity, name, priced)?;
-    let day = look_for_day(tables, period, &effects.day)?;
+    write_effects(tables, summary.rulings.open_number(), &effects)?;
     let (_, data) = bytes.split_at(4);
-    let entry = Entry {
-        record: NewRecord {
-            name: &name,
-            identity,
-            data_bytes: data,
-            priced: *priced,
-            charged: effects.charged,
-            posted: false,
-        },
-        period,
-        effects,
-        day,
-    };
-    write_entry(tables, &entry)
+    tables.insert_record(&NewRecord {
+        name: &name,
+        identity,
+        data_bytes: data,
+        priced: *priced,
+        charged: effects.charged,
+        posted: false,
+    })
 }
 
 /// Answers a record, and writes it inside the transaction if it is new, a tariff is in force on

@@ -3,7 +3,7 @@
 ghost use Rattle.std.specs.Prelude.{◌≡◌};
 ghost use Rattle.std.specs.FinMap.{keys};
 ghost use Rattle.book_model.specs.Words.{Naming, adopt_outcome};
-ghost use Rattle.table_model.specs.Steps as step;
+ghost use Rattle.table_model.specs.Changed.{adopted_at};
 ghost use Rattle.table_model.specs.TableChanges as change;
 ghost use Rattle.table_model.specs.Views.{is_due_in};
 ghost use Rattle.tree_tables.specs.States.{state};
@@ -118,7 +118,7 @@ fn write_adoption<S: Store>(
     through: Option<i32>,
 ) -> Result<(), StoreError>
     ensures { Does result (state S.Store tables.old.store) (state S.Store tables.new.store)
-        Always (step.adoption_by_steps period through is_due_in) }
+        Always (adopted_at period through) }
 {
     tables.rename_records(alloc)?;
     charge_due(tables, alloc, period, through)?;

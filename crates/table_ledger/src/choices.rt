@@ -1,23 +1,23 @@
 //! Choices among the records of an identity.
 
-ghost use Rattle.std.specs.Prelude.{◌≡◌, slice_get};
+ghost use Rattle.std.specs.Prelude.{◌≡◌, ◌<◌, ◌==◌, Ok, nat_le, slice_get};
 ghost use Rattle.std.specs.Option.{option_map, option_map_or};
 ghost use Rattle.book_core.specs.Effects.{choice_effects};
-ghost use Rattle.book_model.specs.Words.{choose_outcome, Naming};
+ghost use Rattle.book_model.specs.Words.{choose_outcome, most_choices, Naming};
 ghost use Rattle.table_model.specs.TableChanges as change;
 ghost use Rattle.table_model.specs.Views.{member_at};
+ghost use Rattle.table_model.specs.RulingsRead.{chosen_by};
 ghost use Rattle.tree_tables.specs.Answers.{charged_with};
 ghost use Rattle.tree_tables.specs.States.{state};
 ghost use Rattle.tree_tables.specs.Steps.{Always, Does, Looks};
 ghost use Rattle.tree_tables.specs.Stored.{stored_entry};
-ghost use Rattle.table_ledger.specs.RecordWrites.{IsNext};
+ghost use Rattle.table_ledger.specs.Premises.{IsNext};
 ghost use Rattle.table_ledger.specs.Stages.{AttemptsOne};
 
 use crate::commits::{commit_written, write_effects};
-use crate::day_write::look_for_day;
 use crate::effects::member_of;
 use crate::summary::Summary;
-use book_core::{ChoiceEffects, Effects, LedgerFault, MAX_CHOICES, Ruled, plan_choice};
+use book_core::{ChoiceEffects, Effects, LedgerFault, MAX_CHOICES, Ruled, is_done, plan_choice};
 use sqlite_trees::error::StoreError;
 use sqlite_trees::store::Store;
 use std::alloc::Global;
@@ -53,19 +53,6 @@ fn look_for_choice<S: Store>(
     Ok(plan_choice(through, current, &member_of(stored)))
 }
 
-/// Writes what changes in the open period when a record becomes charged, or is no longer charged.
-fn write_change<S: Store>(
-    tables: &mut TreeTables<S>,
-    period: u16,
-    effects: &Effects,
-) -> Result<(), StoreError>
-    ensures { Does result (state S.Store tables.old.store) (state S.Store tables.new.store)
-        Always (change.apply period effects.now) }
-{
-    let day = look_for_day(tables, period, &effects.day)?;
-    write_effects(tables, period, &day, effects)
-}
-
 /// The record that was charged until now, if there was one, is no longer charged.
 fn withdraw<S: Store>(
     tables: &mut TreeTables<S>,
@@ -77,7 +64,7 @@ fn withdraw<S: Store>(
         tables) }
 {
     match withdrawn {
-        Some(gone) => write_change(tables, period, gone),
+        Some(gone) => write_effects(tables, period, gone),
         None => Ok(()),
     }
 }
@@ -92,7 +79,7 @@ pub(crate) fn charge<S: Store>(
     ensures does { Does result (state S.Store tables.old.store) (state S.Store tables.new.store)
         Always (change.charge_in period name.now effects.now) }
 {
-    write_change(tables, period, effects)?;
+    write_effects(tables, period, effects)?;
     tables.mark_record(name)
 }
 
@@ -105,6 +92,26 @@ fn write_choice<S: Store>(tables: &mut TreeTables<S>, choice: &Choice) -> Result
     withdraw(tables, choice.period, &choice.effects.withdrawn)?;
     charge(tables, choice.period, &choice.name, &choice.effects.chosen)?;
     tables.put_choice(choice.number, &choice.name, choice.period)
+}
+
+/// The answer to the choice of a record, by how many were found of its identity, and how many
+/// choices were made: of two or more records of one identity, the one that is charged is the choice
+/// now.
+fn choice_answer(stored: &StoredRecord, sharing: usize, made: u32) -> Result<Ruled, LedgerFault>
+    ensures answer { result ≡ chosen_by (sharing == 1) stored.now.charged
+        (nat_le most_choices made) }
+    ensures room { result ≡ Ok Ruled.Done → made < most_choices }
+{
+    if sharing == 1 {
+        return Err(LedgerFault::NotDisputed);
+    }
+    if stored.charged {
+        return Ok(Ruled::Already);
+    }
+    if made as usize >= MAX_CHOICES {
+        return Err(LedgerFault::Full);
+    }
+    Ok(Ruled::Done)
 }
 
 /// Answers the choice of a record by its name, and keeps it if the record is one of two or more
@@ -123,15 +130,9 @@ pub(crate) fn try_choose<S: Store>(
         return Ok(Err(LedgerFault::NoSuchRecord));
     };
     let sharing = tables.find_sharing(alloc, &stored.identity)?;
-    if sharing.len() < 2 {
-        return Ok(Err(LedgerFault::NotDisputed));
-    }
-    // Of two or more records of one identity, the one that is charged is the choice now.
-    if stored.charged {
-        return Ok(Ok(Ruled::Already));
-    }
-    if summary.choices as usize >= MAX_CHOICES {
-        return Ok(Err(LedgerFault::Full));
+    let answer = choice_answer(&stored, sharing.len(), summary.choices);
+    if !is_done(&answer) {
+        return Ok(answer);
     }
     let effects = look_for_choice(tables, alloc, summary.rulings.last_close(), &stored)?;
     let choice = Choice {

@@ -4,7 +4,7 @@ ghost use Rattle.book_model.specs.Words.{IsDay, close_outcome, Naming};
 ghost use Rattle.tree_tables.specs.Days.{NoneNext};
 ghost use Rattle.tree_tables.specs.States.{state};
 ghost use Rattle.tree_tables.specs.Steps.{Does};
-ghost use Rattle.table_model.specs.Steps.{close_by_steps};
+ghost use Rattle.table_model.specs.Changed.{closed_at};
 ghost use Rattle.table_ledger.specs.Stages.{AttemptsOne};
 
 use crate::commits::commit_written;
@@ -19,7 +19,7 @@ use tree_tables::{Close, TreeTables};
 fn write_close<S: Store>(tables: &mut TreeTables<S>, close: &Close) -> Result<(), StoreError>
     requires { IsDay close.now.through }
     ensures { Does result (state S.Store tables.old.store) (state S.Store tables.new.store)
-        (NoneNext close.now.period) (close_by_steps close.now.period close.now.through) }
+        (NoneNext close.now.period) (closed_at close.now.period close.now.through) }
 {
     tables.put_close(close)?;
     tables.post_records(close.through)?;

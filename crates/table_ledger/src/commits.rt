@@ -1,58 +1,19 @@
-//! What a new record writes, the parts of it that other changes write too, and the commit.
+//! What effects write, the sums, and the commit.
 
-ghost use Rattle.table_model.specs.Steps as step;
+ghost use Rattle.table_model.specs.RowChanges.{change_line, change_mark};
+ghost use Rattle.table_model.specs.Steps.{set_sums};
+ghost use Rattle.table_model.specs.TableChanges.{apply};
 ghost use Rattle.tree_tables.specs.States.{state};
 ghost use Rattle.tree_tables.specs.Steps.{Always, Does};
 ghost use Rattle.table_ledger.specs.Commits.{CommitsWritten};
-ghost use Rattle.table_ledger.specs.DayWrites.{WriteFits};
-ghost use Rattle.table_ledger.specs.RecordWrites as entry_spec;
-ghost use Rattle.table_ledger.specs.RecordWrites.{HaveSums, IsNew};
+ghost use Rattle.table_ledger.specs.Premises.{HaveSums};
 
-use crate::day_write::{DayWrite, look_for_day};
+use crate::day_write::change_day;
 use crate::summary::Summary;
-use book_core::{DayChange, Effects, LineChange};
+use book_core::{Effects, LineChange};
 use sqlite_trees::error::StoreError;
 use sqlite_trees::store::Store;
-use tree_tables::{DayKey, DayRow, LineKey, NewRecord, Sums, TreeTables};
-
-/// A new record, and what it changes in the open period.
-#[derive(Clone, Copy)]
-pub(crate) struct Entry<'a> {
-    pub(crate) record: NewRecord<'a>,
-    pub(crate) period: u16,
-    pub(crate) effects: Effects,
-    pub(crate) day: DayWrite,
-}
-
-/// Writes a charge row, or deletes it.
-pub(crate) fn write_day<S: Store>(
-    tables: &mut TreeTables<S>,
-    period: u16,
-    write: &DayWrite,
-) -> Result<(), StoreError>
-    requires { WriteFits write.now }
-    ensures does { Does result (state S.Store tables.old.store) (state S.Store tables.new.store)
-        Always (entry_spec.write_days period write.now) }
-{
-    match *write {
-        DayWrite::Leave => Ok(()),
-        DayWrite::Put(row) => tables.put_day(&DayRow { period, row }),
-        DayWrite::Drop(place) => tables.drop_day(&DayKey { period, place }),
-    }
-}
-
-/// A price joins the charge rows of a period, or leaves them.
-pub(crate) fn change_day<S: Store>(
-    tables: &mut TreeTables<S>,
-    period: u16,
-    change: &Option<DayChange>,
-) -> Result<(), StoreError>
-    ensures does { Does result (state S.Store tables.old.store) (state S.Store tables.new.store)
-        Always (step.change_day_row period change.now) }
-{
-    let write = look_for_day(tables, period, change)?;
-    write_day(tables, period, &write)
-}
+use tree_tables::{LineKey, Sums, TreeTables};
 
 /// Writes a line, or deletes it.
 fn write_line<S: Store>(
@@ -61,7 +22,7 @@ fn write_line<S: Store>(
     change: &Option<LineChange>,
 ) -> Result<(), StoreError>
     ensures does { Does result (state S.Store tables.old.store) (state S.Store tables.new.store)
-        Always (entry_spec.write_line period change.now) }
+        Always (λ tables. record tables { lines = change_line period change.now tables.lines }) }
 {
     match change {
         None => Ok(()),
@@ -79,7 +40,7 @@ fn write_mark<S: Store>(
     unmark: &Option<[u8; 32]>,
 ) -> Result<(), StoreError>
     ensures does { Does result (state S.Store tables.old.store) (state S.Store tables.new.store)
-        Always (entry_spec.write_mark unmark.now) }
+        Always (λ tables. record tables { records = change_mark unmark.now tables.records }) }
 {
     match unmark {
         None => Ok(()),
@@ -95,7 +56,7 @@ pub(crate) fn write_sums<S: Store>(
     summary: &Summary,
 ) -> Result<(), StoreError>
     ensures does { Does result (state S.Store tables.old.store) (state S.Store tables.new.store)
-        (HaveSums held total) (step.set_sums summary.now.held summary.now.total) }
+        (HaveSums held total) (set_sums summary.now.held summary.now.total) }
 {
     if summary.held == held && summary.total == total {
         return Ok(());
@@ -106,35 +67,18 @@ pub(crate) fn write_sums<S: Store>(
     })
 }
 
-/// Writes what effects change in a period: the charge row that was made of them, the line and the
-/// mark.
+/// Writes what effects change in a period: a charge row, a line and a mark.
 pub(crate) fn write_effects<S: Store>(
     tables: &mut TreeTables<S>,
     period: u16,
-    day: &DayWrite,
     effects: &Effects,
 ) -> Result<(), StoreError>
-    requires { WriteFits day.now }
     ensures { Does result (state S.Store tables.old.store) (state S.Store tables.new.store)
-        Always (λ tables. entry_spec.write_mark effects.now.unmark (entry_spec.write_line period
-        effects.now.line (entry_spec.write_days period day.now tables))) }
+        Always (apply period effects.now) }
 {
-    write_day(tables, period, day)?;
+    change_day(tables, period, &effects.day)?;
     write_line(tables, period, &effects.line)?;
     write_mark(tables, &effects.unmark)
-}
-
-/// Writes a record whose name is new, and all that it changes but the sums.
-pub(crate) fn write_entry<S: Store>(
-    tables: &mut TreeTables<S>,
-    entry: &Entry<'_>,
-) -> Result<(), StoreError>
-    requires { WriteFits entry.now.day }
-    ensures { Does result (state S.Store tables.old.store) (state S.Store tables.new.store)
-        (IsNew entry.now.record.name.now) (entry_spec.write_entry entry.now) }
-{
-    write_effects(tables, entry.period, &entry.day, &entry.effects)?;
-    tables.insert_record(&entry.record)
 }
 
 /// Commits what was written, if all of it was. So what a call writes is one commit.

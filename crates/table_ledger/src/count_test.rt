@@ -6,7 +6,7 @@ ghost use Rattle.std.specs.BTreeMap.{get};
 ghost use Rattle.std.specs.FinMap.{find};
 ghost use Rattle.std.specs.Option.{option_or};
 ghost use Rattle.book_model.specs.Words.{by_bytes};
-ghost use Rattle.table_laws.specs.CountedRead.{first_line};
+ghost use Rattle.table_model.specs.CountedRead.{first_line};
 ghost use Rattle.tree_tables.specs.Fits.{LinesFit};
 ghost use Rattle.tree_tables.specs.States.{state};
 ghost use Rattle.tree_tables.specs.Steps.{FailsByStore, Looks};
@@ -72,7 +72,7 @@ fn first_lines<S: Store>(
 impl CountTest {
     ghost use Rattle.std.specs.Prelude.{◌≡◌, true};
     ghost use Rattle.book_core.specs.OfficeRulings.{ruled_in};
-    ghost use Rattle.table_laws.specs.ListsRead.{is_period};
+    ghost use Rattle.table_model.specs.ListsRead.{is_period};
     ghost use Rattle.tree_tables.specs.States.{state};
     ghost use Rattle.tree_tables.specs.Steps.{FailsByStore, Looks};
     ghost use Rattle.table_ledger.specs.OtherPrices.{AllLinesFit, IsTestOf, passes_mark};

@@ -1,33 +1,21 @@
-//! How a new record changes the charge rows of the open period.
+//! How prices join the charge rows of a period, and how they leave them.
 
-ghost use Rattle.std.specs.Prelude.{◌≡◌, ◌<◌, ◌^◌, [], IfSome, IsTrue, IfOk, None, false};
-ghost use Rattle.std.specs.FinMap.{get};
-ghost use Rattle.tree_tables.specs.States.{state};
+ghost use Rattle.std.specs.Prelude.{◌≡◌, ◌<◌, ◌==◌, [], if◌then◌else◌, IfSome, IsTrue, None, Some};
+ghost use Rattle.std.specs.Option.{option_map_or};
+ghost use Rattle.book_core.specs.declared.effects.DayChange.TheVariants.{Add, Take};
 ghost use Rattle.book_model.specs.Rows as rows;
 ghost use Rattle.table_model.specs.RowChanges as changed;
-ghost use Rattle.table_model.specs.TablesOf.{row_key};
-ghost use Rattle.tree_tables.specs.Steps.{Looks};
+ghost use Rattle.table_model.specs.Steps as step;
 ghost use Rattle.tree_tables.specs.Days.{RowFits};
-ghost use Rattle.table_ledger.specs.DayWrites.{ReplacesPrice, WritesDayRows, WriteFits};
-ghost use Rattle.table_ledger.specs.DayRows.{IsAdded, IsTaken, IsPriceReplaced};
+ghost use Rattle.tree_tables.specs.States.{state};
+ghost use Rattle.tree_tables.specs.Steps.{Always, Does};
 ghost use Rattle.table_ledger.specs.TotalsFit.{FitsPrice};
-ghost use Rattle.table_ledger.specs.declared.day_write.DayWrite.TheVariants.{Put};
 
-use book_core::{ChargeRow, DayChange, RowKey};
+use book_core::{ChargeRow, DayChange, RowKey, empty_row};
 use sqlite_trees::error::StoreError;
 use sqlite_trees::store::Store;
 use tariff_rules::Priced;
-use tree_tables::{DayKey, TreeTables};
-
-/// What is written to the charge rows.
-#[derive(Clone, Copy)]
-pub(crate) enum DayWrite {
-    Leave,
-    /// A row at its place, replacing one that was there.
-    Put(ChargeRow),
-    /// No row at a place any more.
-    Drop(RowKey),
-}
+use tree_tables::{DayKey, DayRow, TreeTables};
 
 /// The first number that signed 64-bit integers do not hold.
 const SIGNED_END: u64 = 1 << 63;
@@ -54,7 +42,7 @@ fn fits(row: &ChargeRow) -> bool
 }
 
 /// The row of a price that is alone at its place.
-fn first_row(priced: &Priced) -> ChargeRow
+pub(crate) fn first_row(priced: &Priced) -> ChargeRow
     ensures { result ≡ changed.with_price (rows.row_at [] (rows.key_of priced.now)) priced.now }
 {
     ChargeRow {
@@ -68,20 +56,25 @@ fn first_row(priced: &Priced) -> ChargeRow
     }
 }
 
-/// The row with one more price, if 64 bits hold its sums.
-pub(crate) fn with_price(row: &ChargeRow, priced: &Priced) -> Option<ChargeRow>
-    ensures more { IfSome result (λ more. more ≡ changed.with_price row.now priced.now) }
-    ensures full { result ≡ None → ¬ FitsPrice row.now priced.now }
+/// A price joins a row, if 64 bits hold its sums. If they do not, the row is of no use any more.
+pub(crate) fn join_price(row: &mut ChargeRow, priced: &Priced) -> Option<()>
+    ensures more { IfSome result (λ done. row.new ≡ changed.with_price row.old priced.now) }
+    ensures full { result ≡ None → ¬ FitsPrice row.old priced.now }
 {
-    Some(ChargeRow {
-        day: row.day,
-        centre: row.centre,
-        shift: row.shift,
-        count: row.count.checked_add(1)?,
-        cpu: row.cpu.checked_add(priced.cpu)?,
-        blocks: row.blocks.checked_add(priced.excp)?,
-        amount: row.amount.checked_add(priced.amount)?,
-    })
+    row.count = row.count.checked_add(1)?;
+    row.cpu = row.cpu.checked_add(priced.cpu)?;
+    row.blocks = row.blocks.checked_add(priced.excp)?;
+    row.amount = row.amount.checked_add(priced.amount)?;
+    Some(())
+}
+
+/// The row with one more price, if 64 bits hold its sums.
+fn with_price(row: &ChargeRow, priced: &Priced) -> Option<ChargeRow>
+    ensures { IfSome result (λ more. more ≡ changed.with_price row.now priced.now) }
+{
+    let mut more = *row;
+    join_price(&mut more, priced)?;
+    Some(more)
 }
 
 /// The row with one price less.
@@ -99,114 +92,114 @@ fn less_price(row: &ChargeRow, priced: &Priced) -> ChargeRow
     }
 }
 
-/// The row is written, if its numbers can be stored.
-fn fitting(row: ChargeRow) -> Option<DayWrite>
-    ensures same { IfSome result (λ write. write ≡ Put row) }
-    ensures fits { IfSome result WriteFits }
-{
-    if fits(&row) {
-        Some(DayWrite::Put(row))
-    } else {
-        None
-    }
-}
-
-/// A price joins the row of its place, if there is one, provided that the row can be stored.
-fn added(found: Option<ChargeRow>, priced: &Priced) -> Option<DayWrite>
-    ensures added { IfSome result (IsAdded found priced.now) }
-    ensures fits { IfSome result WriteFits }
+/// What a price leaves of the row of its place, if there is one: an empty row, if it is the last.
+fn rest_of(found: Option<ChargeRow>, priced: &Priced) -> ChargeRow
+    ensures { result ≡ option_map_or (λ row. if row.count == 1
+        then rows.row_at [] (rows.key_of priced.now) else changed.less_price row priced.now)
+        found (rows.row_at [] (rows.key_of priced.now)) }
 {
     match &found {
-        None => fitting(first_row(priced)),
-        Some(row) => fitting(with_price(row, priced)?),
+        None => empty_row(key_of(priced)),
+        Some(row) if row.count == 1 => empty_row(key_of(priced)),
+        Some(row) => less_price(row, priced),
     }
 }
 
-/// A price leaves the row of its place.
-fn taken(found: Option<ChargeRow>, priced: &Priced) -> Option<DayWrite>
-    ensures taken { IfSome result (IsTaken found priced.now) }
-    ensures fits { IfSome result WriteFits }
-{
-    match &found {
-        None => Some(DayWrite::Leave),
-        Some(row) if row.count == 1 => Some(DayWrite::Drop(key_of(priced))),
-        Some(row) => fitting(less_price(row, priced)),
-    }
-}
-
-/// A price leaves the row of its place, and another one joins it.
-fn turned(found: Option<ChargeRow>, old: &Priced, new: &Priced) -> Option<DayWrite>
-    ensures turned { IfSome result (IsPriceReplaced found old.now new.now) }
-    ensures fits { IfSome result WriteFits }
-{
-    match &found {
-        None => fitting(first_row(new)),
-        Some(row) if row.count == 1 => fitting(first_row(new)),
-        Some(row) => fitting(with_price(&less_price(row, old), new)?),
-    }
-}
-
-/// The row of a place, if there is one.
-fn find_row<S: Store>(
+/// Writes a row, if its numbers can be stored.
+fn put_row<S: Store>(
     tables: &mut TreeTables<S>,
     period: u16,
-    place: RowKey,
-) -> Result<Option<ChargeRow>, StoreError>
-    ensures looks { Looks result (state S.Store tables.old.store) (state S.Store tables.new.store)
-        (λ tables found. found ≡ get tables.days (period, place)) }
-    ensures placed { IfOk result (λ found. IfSome found (λ row. row_key row ≡ place)) }
+    row: &ChargeRow,
+) -> Result<(), StoreError>
+    ensures does { Does result (state S.Store tables.old.store) (state S.Store tables.new.store)
+        Always (step.put_day_row period row.now) }
 {
-    let found = tables.find_day(&DayKey { period, place })?;
-    if let Some(row) = &found
-        && key_at(row) != place
-    {
+    if !fits(row) {
         return Err(StoreError::Corrupt);
     }
-    Ok(found)
+    tables.put_day(&DayRow { period, row: *row })
 }
 
-/// Where a row is stored.
-fn key_at(row: &ChargeRow) -> RowKey
-    ensures { result ≡ row_key row.now }
-{
-    RowKey {
-        day: row.day,
-        centre: row.centre,
-        shift: row.shift,
-    }
-}
-
-/// What a change writes, by the row that is at its place.
-pub(crate) fn look_for_day<S: Store>(
+/// Writes a row with one more price, if its numbers can be stored.
+fn put_with<S: Store>(
     tables: &mut TreeTables<S>,
     period: u16,
-    change: &Option<DayChange>,
-) -> Result<DayWrite, StoreError>
-    ensures looks { Looks result (state S.Store tables.old.store) (state S.Store tables.new.store)
-        (WritesDayRows period change.now) }
-    ensures fits { IfOk result WriteFits }
+    row: &ChargeRow,
+    priced: &Priced,
+) -> Result<(), StoreError>
+    ensures does { Does result (state S.Store tables.old.store) (state S.Store tables.new.store)
+        Always (step.put_day_row period (changed.with_price row.now priced.now)) }
 {
-    let write = match change {
-        None => Some(DayWrite::Leave),
-        Some(DayChange::Add(priced)) => added(find_row(tables, period, key_of(priced))?, priced),
-        Some(DayChange::Take(priced)) => taken(find_row(tables, period, key_of(priced))?, priced),
+    let Some(more) = with_price(row, priced) else {
+        return Err(StoreError::Corrupt);
     };
-    write.ok_or(StoreError::Corrupt)
+    put_row(tables, period, &more)
 }
 
-/// What replacing one price by another writes, if both are charged in one row.
-pub(crate) fn look_for_replacement<S: Store>(
+/// A price joins the row of its place; if there is none, it makes one.
+pub(crate) fn add_price<S: Store>(
+    tables: &mut TreeTables<S>,
+    period: u16,
+    priced: &Priced,
+) -> Result<(), StoreError>
+    ensures does { Does result (state S.Store tables.old.store) (state S.Store tables.new.store)
+        Always (step.change_day_row period (Some (Add priced.now))) }
+{
+    let place = key_of(priced);
+    let found = tables.find_day(&DayKey { period, place })?;
+    let row = found.unwrap_or(empty_row(key_of(priced)));
+    put_with(tables, period, &row, priced)
+}
+
+/// A price leaves the row of its place; its last price deletes it.
+pub(crate) fn take_price<S: Store>(
+    tables: &mut TreeTables<S>,
+    period: u16,
+    priced: &Priced,
+) -> Result<(), StoreError>
+    ensures does { Does result (state S.Store tables.old.store) (state S.Store tables.new.store)
+        Always (step.change_day_row period (Some (Take priced.now))) }
+{
+    let place = key_of(priced);
+    let Some(row) = tables.find_day(&DayKey { period, place })? else {
+        return Ok(());
+    };
+    if row.count == 1 {
+        let place = key_of(priced);
+        return tables.drop_day(&DayKey { period, place });
+    }
+    put_row(tables, period, &less_price(&row, priced))
+}
+
+/// A price leaves the row of its place, and another one joins it: the row is read and written once.
+pub(crate) fn replace_price<S: Store>(
     tables: &mut TreeTables<S>,
     period: u16,
     old: &Priced,
     new: &Priced,
-) -> Result<DayWrite, StoreError>
+) -> Result<(), StoreError>
     requires { rows.key_of old.now ≡ rows.key_of new.now }
-    ensures looks { Looks result (state S.Store tables.old.store) (state S.Store tables.new.store)
-        (ReplacesPrice period old.now new.now) }
-    ensures fits { IfOk result WriteFits }
+    ensures does { Does result (state S.Store tables.old.store) (state S.Store tables.new.store)
+        Always (λ tables. step.change_day_row period (Some (Add new.now))
+        (step.change_day_row period (Some (Take old.now)) tables)) }
 {
-    let found = find_row(tables, period, key_of(new))?;
-    let write = turned(found, old, new);
-    write.ok_or(StoreError::Corrupt)
+    let place = key_of(old);
+    let found = tables.find_day(&DayKey { period, place })?;
+    put_with(tables, period, &rest_of(found, old), new)
+}
+
+/// A price joins the charge rows of a period, or leaves them.
+pub(crate) fn change_day<S: Store>(
+    tables: &mut TreeTables<S>,
+    period: u16,
+    change: &Option<DayChange>,
+) -> Result<(), StoreError>
+    ensures does { Does result (state S.Store tables.old.store) (state S.Store tables.new.store)
+        Always (step.change_day_row period change.now) }
+{
+    match change {
+        None => Ok(()),
+        Some(DayChange::Add(priced)) => add_price(tables, period, priced),
+        Some(DayChange::Take(priced)) => take_price(tables, period, priced),
+    }
 }

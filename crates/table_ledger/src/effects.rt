@@ -5,7 +5,7 @@ ghost use Rattle.tree_tables.specs.States.{state};
 ghost use Rattle.book_core.specs.Effects.{HasOnly, effects_of};
 ghost use Rattle.tree_tables.specs.Stored.{stored_entry};
 ghost use Rattle.table_model.specs.Views.{member_at, rows_with};
-ghost use Rattle.table_laws.specs.AcceptRead.{view_with};
+ghost use Rattle.table_model.specs.AcceptRead.{view_with};
 ghost use Rattle.tree_tables.specs.Steps.{Looks};
 
 use book_core::{Effects, Member, View, plan};

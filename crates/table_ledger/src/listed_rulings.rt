@@ -3,7 +3,7 @@
 ghost use Rattle.std.specs.Prelude.{◌≡◌, ◌<◌, ◌+◌, IfOk, Some, option_map};
 ghost use Rattle.book_model.specs.Words.{Naming, ShowsDays, HasDays, most_choices, ruling_outcome};
 ghost use Rattle.book_model.specs.Words.{ruling_shown};
-ghost use Rattle.table_laws.specs.ListsRead.{choice_read_at};
+ghost use Rattle.table_model.specs.ListsRead.{choice_read_at};
 ghost use Rattle.tree_tables.specs.Fits.{IsNumbered};
 ghost use Rattle.tree_tables.specs.States.{state};
 ghost use Rattle.tree_tables.specs.Steps.{FailsByStore, Looks};

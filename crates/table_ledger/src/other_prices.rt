@@ -2,7 +2,7 @@
 
 ghost use Rattle.std.specs.Prelude.{◌≡◌, ◌<◌, ◌++◌, ◌∷◌, [], List, IfErr, IfOk, OnOk, length, true};
 ghost use Rattle.book_model.specs.Words.{AreRows, Naming, most_held, what_if_outcome};
-ghost use Rattle.table_laws.specs.DisputesRead.{NamedRow};
+ghost use Rattle.table_model.specs.DisputesRead.{NamedRow};
 ghost use Rattle.tree_tables.specs.Columns.{record_columns};
 ghost use Rattle.tree_tables.specs.Fits.{RecordFits};
 ghost use Rattle.tree_tables.specs.States.{state};
@@ -16,17 +16,17 @@ ghost use Rattle.table_ledger.specs.Stages.{AttemptsOne};
 
 use crate::charges::can_show;
 use crate::count_test::CountTest;
-use crate::day_write::{key_of, with_price};
+use crate::day_write::{first_row, join_price, key_of};
 use crate::summary::Summary;
-use book_core::{ChargeRow, LedgerFault, MAX_COST, RowKey, empty_row};
-use smf_type30::Type30;
+use book_core::{ChargeRow, LedgerFault, MAX_COST, RowKey};
 use sqlite_trees::error::StoreError;
 use sqlite_trees::store::Store;
 use sqlite_value::row::Row;
 use std::alloc::{AllocError, Global};
 use std::collections::BTreeMap;
+use std::collections::btree_map::Entry;
 use tariff_rules::{Priced, Tariff, price};
-use tree_tables::{TreeTables, data_of, put_usage, read_mark};
+use tree_tables::{TreeTables, data_of, put_data, read_mark, usage_in};
 
 /// The most records that are walked over: more than any tree of a sound store has.
 const MOST_STEPS: u64 = 1 << 32;
@@ -46,11 +46,16 @@ fn add_price(rows: &mut BTreeMap<RowKey, ChargeRow>, priced: &Priced) -> Result<
         → CostsFit (costs ++ priced.now ∷ []) → error ≡ StoreError.OutOfMemory) }
 {
     let key = key_of(priced);
-    let row = rows.entry(key)?.or_insert(empty_row(key));
-    let Some(more) = with_price(row, priced) else {
-        return Err(StoreError::Corrupt);
-    };
-    *row = more;
+    match rows.entry(key)? {
+        Entry::Occupied(found) => {
+            let Some(_) = join_price(found.into_mut(), priced) else {
+                return Err(StoreError::Corrupt);
+            };
+        }
+        Entry::Vacant(place) => {
+            place.insert(first_row(priced));
+        }
+    }
     Ok(())
 }
 
@@ -122,8 +127,8 @@ fn add_counted(
     if !test.counts(&mark) {
         return Ok(true);
     }
-    put_usage(bytes, data_of(row)?)?;
-    sums.add(&price(tariff, &Type30::of_usage(bytes)))
+    put_data(bytes, data_of(row)?)?;
+    sums.add(&price(tariff, &usage_in(bytes)?))
 }
 
 /// The charge rows of all records that are counted, each by a tariff, unless they cost more than

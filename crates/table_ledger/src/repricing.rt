@@ -11,9 +11,8 @@ ghost use Rattle.tree_tables.specs.Steps.{Always, Does, Looks};
 ghost use Rattle.tree_tables.specs.Stored.{IsAsRead, stored_entry};
 ghost use Rattle.table_ledger.specs.Repricing.{CanCost, CostUnder, tariff_price};
 
-use crate::commits::{change_day, write_day};
-use crate::day_write::{key_of, look_for_replacement};
-use book_core::{DayChange, MAX_COST};
+use crate::day_write::{add_price, key_of, replace_price, take_price};
+use book_core::MAX_COST;
 use smf_type30::Type30;
 use sqlite_trees::error::StoreError;
 use sqlite_trees::store::Store;
@@ -97,11 +96,10 @@ fn change_price<S: Store>(
         (step.change_day_row period (Some (Take old.now)) tables)) }
 {
     if key_of(old) == key_of(new) {
-        let write = look_for_replacement(tables, period, old, new)?;
-        return write_day(tables, period, &write);
+        return replace_price(tables, period, old, new);
     }
-    change_day(tables, period, &Some(DayChange::Take(*old)))?;
-    change_day(tables, period, &Some(DayChange::Add(*new)))
+    take_price(tables, period, old)?;
+    add_price(tables, period, new)
 }
 
 /// Changes the price of a record; if it is charged, the charge rows of the open period too.

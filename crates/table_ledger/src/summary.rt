@@ -23,7 +23,7 @@ pub(crate) struct Summary {
 
 impl Summary {
     ghost use Rattle.std.specs.Prelude.{◌≡◌};
-    ghost use Rattle.table_laws.specs.ListsRead.{is_period};
+    ghost use Rattle.table_model.specs.ListsRead.{is_period};
     ghost use Rattle.book_core.specs.OfficeRulings.{ruled_in};
 
     /// There is a period of this number, closed or open.

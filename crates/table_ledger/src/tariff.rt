@@ -1,11 +1,11 @@
 //! Tariffs that are submitted.
 
-ghost use Rattle.std.specs.Prelude.{◌≡◌, ◌<◌, ◌^◌, false, IfErr, IfOk, Ok, OnOk, string_bytes};
+ghost use Rattle.std.specs.Prelude.{◌≡◌, ◌<◌, ◌^◌, false, IfErr, IfOk, Ok, OnOk, Some, string_bytes};
 ghost use Rattle.tree_tables.specs.States.{state};
 ghost use Rattle.book_model.specs.RulingAnswers.{terms_ruled};
 ghost use Rattle.book_model.specs.Words.{terms_in, tariff_outcome, Naming};
 ghost use Rattle.book_core.specs.OfficeRulings.{HasTariffRoom, ruled_in};
-ghost use Rattle.table_model.specs.Steps.{tariff_by_steps};
+ghost use Rattle.table_model.specs.Changed.{tariff_at};
 ghost use Rattle.tree_tables.specs.Steps.{Does};
 ghost use Rattle.table_ledger.specs.Repricing.{CountsRecords};
 ghost use Rattle.table_ledger.specs.TariffRefusals.{IsNoTariff};
@@ -35,7 +35,7 @@ fn write_tariff<S: Store>(
     requires amount { sums.now.amount < 2 ^ 63 }
     ensures { Does result (state S.Store tables.old.store) (state S.Store tables.new.store)
         (CountsRecords sums.now.held)
-        (tariff_by_steps period text.now tariff.now sums.now.amount) }
+        (tariff_at period (Some text.now) tariff.now sums.now.amount) }
 {
     reprice_all(tables, alloc, period, tariff)?;
     tables.put_tariff(&TariffText {

@@ -1,25 +1,16 @@
 -- The days of closes in their order, the periods that they end and open, and what they post.
-use Rattle.std.proofs.Common.{◌≡◌, ℕ, suc, ◌+◌, ◌≤◌, List, [], ◌∷◌, ◌++◌, length, refl, ap, ◌∙◌}
-use Rattle.std.proofs.Common.{true, false, true≢false, Bool, cond, not, Option, Some, None, Ok, Err}
-use Rattle.std.proofs.Common.{Result, arith}
-use Rattle.std.specs.Prelude.{ℤ, int_lt, ◌<ℤ◌, ◌==◌, MatchOption, if◌then◌else◌}
-use Rattle.std.specs.FinMap.{find}
-use Rattle.std.specs.Option.{option_map_or}
-use Rattle.std.specs.Ordering.{nat_cmp}
+use Rattle.std.proofs.Common.{◌≡◌, ℕ, List, [], ◌∷◌, ◌++◌, refl, ap}
+use Rattle.std.proofs.Common.{true, false, true≢false, Bool, Option, Some, None, Ok, arith}
+use Rattle.std.specs.Prelude.{ℤ, int_lt, ◌<ℤ◌, ◌==◌, MatchOption}
 use Rattle.std.proofs.lemmas.Bool.{eqb-true}
 use Rattle.std.proofs.lemmas.Int.{ints}
-use Rattle.book_model.specs.declared.answer.Ruled.{Ruled}
-use Rattle.book_model.specs.declared.answer.Ruled.TheVariants.{Done, Already}
-use Rattle.book_model.specs.declared.fault.LedgerFault.{LedgerFault}
-use Rattle.book_model.specs.declared.fault.LedgerFault.TheVariants.{WrongPeriod, NotLater, Full}
+use Rattle.book_model.specs.declared.answer.Ruled.TheVariants.{Done}
 use Rattle.book_model.specs.Words.{Book, open_number, all_periods, close, last_period, is_closed}
 use Rattle.book_model.specs.Words.{close_answer, last_close, Records, Period, period_by, charged_of}
-use Rattle.book_model.specs.Words.{charged_through, is_dated_after}
+use Rattle.book_model.specs.Words.{charged_through, is_dated_after, is_early}
+use Rattle.book_model.proofs.CallLemmas.{close_by}
 use Rattle.book_model.proofs.ListLemmas.{last_or-behind}
-use Rattle.book_model.proofs.RecordSets.{is}
 use Rattle.book_core.specs.Effects.{is_after}
-use Rattle.table_model.specs.TablesOf.{close_entries}
-use Rattle.table_model.proofs.MoveLemmas.{not_number}
 
 -- a record is current: it is dated after the last close of a book
 abbrev pub is_current : Book → List ℕ → Bool
@@ -59,35 +50,14 @@ pub not_after_both : (last : Option ℤ) (close day : ℤ)
 not_after_both None close day forward early = absurd (true≢false early)
 not_after_both (Some before) close day forward early = grind (arith, ints)
 
--- the number of a period after all that are closed is free
-pub close_free : (n number : ℕ) (days : List ℤ) → n + length days ≤ number
-    → find nat_cmp number (close_entries n days) ≡ None
-close_free n number [] behind = refl
-close_free n number (day ∷ days) behind =
-    let later : suc n + length days ≤ number = omega arith in
-    ap (λ b. cond b (Some day) (find nat_cmp number (close_entries (suc n) days)))
-    (not_number number n (λ same. absurd (omega arith)))
-    ∙ close_free (suc n) number days later
-
--- one more close comes after the others
-pub close_more : (n : ℕ) (days : List ℤ) (day : ℤ) (number : ℕ) → number ≡ n + length days
-    → close_entries n (days ++ day ∷ []) ≡ close_entries n days ++ (number, day) ∷ []
-close_more n [] day number is =
-    let same : n ≡ number = omega arith in
-    ap {B = List (ℕ × ℤ)} (λ k. (k, day) ∷ []) same
-close_more n (first ∷ days) day number is =
-    ap (λ es. (n, first) ∷ es) (close_more (suc n) days day number (omega arith))
-
--- a close that is done closed the open period
-ended_open : (open_one : ℕ) (closed is_open early full : Bool)
-    → ◌≡◌ {A = Result Ruled LedgerFault} (if closed then Ok Already
-    else if not is_open then Err (WrongPeriod open_one)
-    else if early then Err NotLater
-    else if full then Err Full
-    else Ok Done) (Ok Done) → is_open ≡ true
+-- a close that is done closed the open period, and left room for another
+pub ended_open : (open_one : ℕ) (closed is_open early full : Bool)
+    → close_by open_one closed is_open early full ≡ Ok Done → (is_open ≡ true) × (full ≡ false)
 ended_open open_one true is_open early full done = cc
-ended_open open_one false true early full done = refl
 ended_open open_one false false early full done = cc
+ended_open open_one false true true full done = cc
+ended_open open_one false true false true done = cc
+ended_open open_one false true false false done = (refl, refl)
 
 -- so its number is that of the open period
 pub closed_open : (book : Book) (number : ℕ) (day : ℤ) → close_answer book number day ≡ Ok Done
@@ -95,5 +65,4 @@ pub closed_open : (book : Book) (number : ℕ) (day : ℤ) → close_answer book
 closed_open book number day done =
     eqb-true number (open_number book)
     (ended_open (open_number book) (is_closed number day book.rulings) (number == open_number book)
-    (option_map_or (λ close. not (int_lt close day)) (last_close book.rulings) false)
-    (number == last_period) done)
+    (is_early day book.rulings) (number == last_period) done).0

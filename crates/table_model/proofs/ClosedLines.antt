@@ -1,31 +1,25 @@
 -- The lines after a close: those of the open period stay with it, and the next has none.
-use Rattle.std.proofs.Common.{◌≡◌, ℕ, suc, List, [], ◌∷◌, ◌++◌, map, refl, sym, ap, ◌∙◌, true}
-use Rattle.std.proofs.Common.{false, Bool, not, ◌&&◌, Option, Some, is_some}
+use Rattle.std.proofs.Common.{◌≡◌, ℕ, List, [], ◌∷◌, ◌++◌, map, refl, sym, ap, ◌∙◌, true}
+use Rattle.std.proofs.Common.{false, Bool, not, ◌&&◌, Some, is_some}
 use Rattle.std.specs.Prelude.{ℤ, int_lt}
 use Rattle.std.specs.FinMap.{from_entries}
 use Rattle.std.specs.FinMap as fin
 use Rattle.std.proofs.lemmas.List.{map-append}
 use Rattle.book_model.specs.Words.{day_of, Book, open_period, all_periods, charged_of, is_dated_through}
-use Rattle.book_model.specs.Words.{is_dated_after, close, IsAfterLastClose, Period, Records, Naming}
-use Rattle.book_model.specs.Words.{name_of, by_bytes, last_close, set_of, members, has, those}
+use Rattle.book_model.specs.Words.{close, IsAfterLastClose, Period, Records, Naming}
+use Rattle.book_model.specs.Words.{name_of, by_bytes, last_close, set_of, members, has}
 use Rattle.book_model.specs.Words.{IsSound}
 use Rattle.book_model.proofs.RecordSets.{same_records, has_those}
 use Rattle.book_model.proofs.SetChanges.{those-agree}
 use Rattle.book_model.proofs.SetLemmas.{members-empty}
-use Rattle.table_model.specs.PeriodRows.{by_period, under, numbered}
+use Rattle.table_model.specs.PeriodRows.{by_period, numbered}
 use Rattle.table_model.specs.TablesOf.{line_entries, signed_names}
 use Rattle.table_model.proofs.CloseDays.{is_current, posted_by, ended_by, opened_by, periods_closed}
 use Rattle.table_model.proofs.CloseDays.{not_after_both}
 use Rattle.table_model.proofs.CostLemmas.{dated-after}
-use Rattle.table_model.proofs.LineChanges.{added}
+use Rattle.table_model.proofs.LineChanges.{has_added}
+use Rattle.table_model.proofs.NumberedLemmas.{numbered-nothing}
 use Rattle.table_model.proofs.PostedSets.{posted_is}
-
--- a period without rows adds none
-numbered-nothing : {K V : Type 0} (n : ℕ) (periods : List (List (K × V)))
-    → numbered n (periods ++ [] ∷ []) ≡ numbered n periods
-numbered-nothing n [] = refl
-numbered-nothing n (rows ∷ periods) =
-    ap (λ es. under n rows ++ es) (numbered-nothing (suc n) periods)
 
 -- a set that has no record has no members
 pub no_members : (records : Records) → ((bytes : List ℕ) → has records bytes ≡ false)
@@ -36,18 +30,10 @@ no_members records none =
     (λ bytes. none bytes ∙ sym (ap is_some (fin.get-empty by_bytes bytes))))
     ∙ members-empty by_bytes
 
--- which records are added, out of those charged at an end
-has_added : (close : Option ℤ) (before at_end : Records) (q : List ℕ)
-    → has (added close before at_end) q
-    ≡ (not (is_dated_after close q) && (not (has before q) && has at_end q))
-has_added close before at_end q =
-    has_those (λ b. not (is_dated_after close b)) (those (λ b. not (has before b)) at_end) q
-    ∙ ap (λ b. not (is_dated_after close q) && b) (has_those (λ b. not (has before b)) at_end q)
-
 module _ (naming : Naming) (book : Book) (sound : IsSound naming book) (day : ℤ)
     (forward : IsAfterLastClose book.rulings day) where
   -- a record that is not after the last close is dated on or before the day
-  is_late : (q : List ℕ) → is_current book q ≡ false → int_lt day (day_of q) ≡ false
+  pub is_late : (q : List ℕ) → is_current book q ≡ false → int_lt day (day_of q) ≡ false
   is_late q late =
       let last = last_close book.rulings in
       not_after_both last day (day_of q) forward (sym (dated-after last q) ∙ late)

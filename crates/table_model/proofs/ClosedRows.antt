@@ -13,7 +13,7 @@ use Rattle.book_model.specs.declared.row.RowKey.{RowKey}
 use Rattle.book_model.proofs.RecordSets.{same_records, has_those}
 use Rattle.table_model.specs.MapChanges.{moved}
 use Rattle.table_model.specs.PeriodRows.{by_period, numbered}
-use Rattle.table_model.specs.TableChanges.{move_on}
+use Rattle.table_model.specs.RowChanges.{move_on}
 use Rattle.table_model.specs.TablesOf.{day_entries}
 use Rattle.table_model.proofs.CloseDays.{is_current, posted_by, ended_by, opened_by, periods_closed}
 use Rattle.table_model.proofs.CloseDays.{after_both}

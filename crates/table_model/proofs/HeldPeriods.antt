@@ -1,10 +1,11 @@
 -- All periods of a book, including the open one: the records in them are held, and none reverses
 -- what it adds.
-use Rattle.std.proofs.Common.{◌≡◌, ℕ, List, [], ◌∷◌, refl, sym, ◌∙◌, subst, true, false, true≢false}
-use Rattle.std.proofs.Common.{not, Option, Some, get_or}
+use Rattle.std.proofs.Common.{◌≡◌, ℕ, List, [], ◌∷◌, sym, ◌∙◌, subst, true≢false}
+use Rattle.std.proofs.Common.{not, Option, Some}
 use Rattle.std.specs.Prelude.{ℤ, All, slice_get}
+use Rattle.std.proofs.lemmas.Bool.{false_from_ne_true}
 use Rattle.std.proofs.lemmas.List.Elements.{All-append, All-cons, All-nil}
-use Rattle.std.proofs.lemmas.Option.{slice_get_within, slice_get-get_or}
+use Rattle.std.proofs.lemmas.Option.{get_or_from_slice_get, slice_get_within}
 use Rattle.book_model.specs.Words.{Book, open_period, all_periods, charged_of, is_dated_after}
 use Rattle.book_model.specs.Words.{is_undisputed, Period, period_by, Records, Naming, last_close}
 use Rattle.book_model.specs.Words.{has, without, IsSound, AreHeld}
@@ -17,12 +18,7 @@ pub one_of : {X : Type 0} (P : X → Type 0) (xs : List X) (k : ℕ) (x : X) →
     → slice_get xs k ≡ Some x → P x
 one_of P xs k x all there =
     let within = slice_get_within xs k x there in
-    let same : get_or xs k x ≡ x =
-    some_same (get_or xs k x) x (sym (slice_get-get_or xs k x within) ∙ there) in
-    subst P same (all k x within)
-  where
-    some_same : {X : Type 0} (a b : X) → Some a ≡ Some b → a ≡ b
-    some_same a b same = cc
+    subst P (get_or_from_slice_get xs k x x there) (all k x within)
 
 -- the records of the open period are held
 open_held : (naming : Naming) (book : Book) → IsSound naming book
@@ -44,16 +40,12 @@ all_held naming book sound =
 pub period_apart : (last : Option ℤ) (before charged : Records)
     → IsApart (period_by last before charged)
 period_apart last before charged bytes added =
-    elim (has (without before charged) bytes)
-    as (λ b. has (without before charged) bytes ≡ b → b ≡ false) [
-      | true ↦ λ taken.
-          let now = in_those (λ k. not (has before k)) charged bytes
-          (in_those (λ k. not (is_dated_after last k)) (without charged before) bytes added) in
-          let gone = not_true (has charged bytes)
-          (passes_those (λ k. not (has charged k)) before bytes taken) in
-          absurd (true≢false (sym now ∙ gone))
-      | false ↦ λ other. refl
-    ] refl
+    false_from_ne_true (has (without before charged) bytes) (λ taken.
+    let now = in_those (λ k. not (has before k)) charged bytes
+    (in_those (λ k. not (is_dated_after last k)) (without charged before) bytes added) in
+    let gone = not_true (has charged bytes)
+    (passes_those (λ k. not (has charged k)) before bytes taken) in
+    true≢false (sym now ∙ gone))
 
 -- so neither does a period of a book if its closed periods do not
 pub all_apart : (book : Book) → HasLines book → All IsApart (all_periods book)

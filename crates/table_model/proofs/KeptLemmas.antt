@@ -1,5 +1,5 @@
 -- The tables of a book with one more record are those without it, changed by its effects.
-use Rattle.std.proofs.Common.{◌≡◌, ℕ, List, [], ◌∷◌, refl, sym, ap, ◌∙◌, true, false, true≢false}
+use Rattle.std.proofs.Common.{◌≡◌, ℕ, List, [], ◌∷◌, refl, sym, ap, ◌∙◌, true, false}
 use Rattle.std.proofs.Common.{Bool, ◌&&◌, Option, Some, None, Ok, Err, Result, subst}
 use Rattle.std.specs.Prelude.{ℤ, if◌then◌else◌}
 use Rattle.std.specs.List.{list_any}
@@ -14,59 +14,43 @@ use Rattle.book_model.specs.declared.answer.Accepted.{Accepted}
 use Rattle.book_model.specs.declared.answer.Accepted.TheVariants.{Kept, Known}
 use Rattle.book_model.specs.declared.fault.LedgerFault.{LedgerFault}
 use Rattle.book_model.specs.declared.fault.LedgerFault.TheVariants.{DigestClash}
-use Rattle.book_model.specs.Words.{clashes, accept_priced, Book, charged_of, share_identity}
-use Rattle.book_model.specs.Words.{charged_now, is_chosen, keep, Records, Naming, name_of, by_bytes}
-use Rattle.book_model.specs.Words.{same_bytes, price_in, last_close, has, with, those, IsSound}
+use Rattle.book_model.specs.Words.{clashes, accept_priced, Book, share_identity}
+use Rattle.book_model.specs.Words.{is_chosen, keep, Naming, name_of, by_bytes}
+use Rattle.book_model.specs.Words.{same_bytes, price_in, last_close, has, those, IsSound}
 use Rattle.book_model.proofs.ChargedChanges.{charged-new, charged-alone, charged-only}
 use Rattle.book_model.proofs.ChargedChanges.{charged-stays, charged-chosen}
 use Rattle.book_model.proofs.ChosenLemmas.{new_unchosen}
 use Rattle.book_model.proofs.RecordSets.{is, has_those, first_of, second_of, is_first, is_second}
-use Rattle.book_model.proofs.SetChanges.{except, IsUnnamed, is_back}
+use Rattle.book_model.proofs.SetChanges.{IsUnnamed, is_back}
 use Rattle.book_model.proofs.SetLemmas.{fails_too, members_rise, same_bytes-by_cmp}
-use Rattle.book_core.specs.declared.effects.DayChange.TheVariants.{Add, Take}
-use Rattle.book_core.specs.declared.effects.LineChange.TheVariants.{AddPlus, DropPlus}
-use Rattle.book_core.specs.declared.effects.LineChange.TheVariants.{AddMinus}
-use Rattle.book_core.specs.Effects.{is_after, charge, withdraw, effects_by, charges, unmarks}
+use Rattle.book_model.proofs.SoundLemmas.{steps_stay_sound}
+use Rattle.book_core.specs.Effects.{effects_by}
 use Rattle.table_model.specs.Laws.{KeptFollows}
+use Rattle.table_model.specs.TableChanges.{put_new}
 use Rattle.table_model.specs.Tables.{Tables}
 use Rattle.table_model.specs.TablesOf.{tables_of}
 use Rattle.table_model.specs.Views.{member_by, member_of, sharing, members_of, only_by}
 use Rattle.table_model.specs.Views.{lone_members}
-use Rattle.table_model.proofs.CostLemmas.{day-price, dated-after}
-use Rattle.table_model.proofs.KeptCases.{put_with, kept-current, kept-late, kept-disputed}
-use Rattle.table_model.proofs.KeptCases.{kept-posted, kept-taken, kept-dropped}
+use Rattle.table_model.proofs.KeptCases.{kept-charged, kept-disputed, kept-withdrawn}
 use Rattle.table_model.proofs.TableParts.{what_is}
+use Rattle.table_model.proofs.ViewLemmas.{held_too}
 use Rattle.std.specs.FinMap as fin
 
--- a record that is kept was not held, and did not have the name of one that is
+-- a record that is kept was not held, did not have the name of one that is, and passed the rest
 pub kept_tests : (known clash : Bool) (rest : Result Accepted LedgerFault)
     → (if known then Ok Known else if clash then Err DigestClash else rest) ≡ Ok Kept
-    → (known ≡ false) × (clash ≡ false)
+    → (known ≡ false) × (clash ≡ false) × (rest ≡ Ok Kept)
 kept_tests true clash rest kept = cc
 kept_tests false true rest kept = cc
-kept_tests false false rest kept = (refl, refl)
-
--- if a record is held, tests of it and of what is held are tests of it
-held_too : (a held c : Bool) → held ≡ true → (a && held) ≡ c → a ≡ c
-held_too true true c there both = both
-held_too false held c there both = both
-held_too true false c there both = absurd (true≢false (sym there))
+kept_tests false false rest kept = (refl, refl, kept)
 
 module _ (naming : Naming) (book : Book) (sound : IsSound naming book) (bytes : List ℕ)
-    (priced : Priced) (new : has book.held bytes ≡ false)
-    (unnamed : IsUnnamed naming bytes book.held)
+    (priced : Priced) (still : IsSound naming (keep bytes book))
+    (new : has book.held bytes ≡ false) (unnamed : IsUnnamed naming bytes book.held)
     (price : price_in book.rulings bytes ≡ Some priced) where
   -- the last close's day
   abbrev last : Option ℤ
   last = last_close book.rulings
-
-  -- what was charged before
-  abbrev before : Records
-  before = charged_of book
-
-  -- what is charged now
-  abbrev now : Records
-  now = charged_now book.rulings (with book.held bytes)
 
   -- the tables with the record
   abbrev tables_now : Tables
@@ -75,63 +59,6 @@ module _ (naming : Naming) (book : Book) (sound : IsSound naming book) (bytes : 
   -- the tables without it
   abbrev tables_before : Tables
   tables_before = tables_of naming book
-
-  -- if one record had its identity
-  module _ (one : List ℕ) (there : has book.held one ≡ true) (cost : Priced)
-      (its_price : price_in book.rulings one ≡ Some cost)
-      (was : has before one ≡ true) (charged : now ≡ except one before) where
-    -- so the effects are those of a record that was alone
-    kept-withdrawn : tables_now
-        ≡ put_with naming book bytes priced (withdraw last (record {
-          name = name_of naming one;
-          priced = cost;
-          charged = has before one;
-          posted = has book.posted one;
-        })) tables_before
-    kept-withdrawn =
-        let name : List ℕ = name_of naming one in
-        let day = dated-after last one
-        ∙ ap (is_after last) (sym (day-price book.rulings one cost its_price)) in
-        elim (has book.posted one) as (λ p. has book.posted one ≡ p → tables_now
-        ≡ put_with naming book bytes priced (if p
-        then unmarks name None (Some (AddMinus name))
-        else if is_after last cost.day
-        then unmarks name (Some (Take cost)) None
-        else unmarks name None (Some (DropPlus name))) tables_before) [
-          | true ↦ λ posted. kept-posted naming book sound bytes priced new unnamed price one there
-              cost its_price
-              was charged posted
-          | false ↦ λ fresh. elim (is_after last cost.day) as (λ b. is_after last cost.day ≡ b
-              → tables_now
-              ≡ put_with naming book bytes priced (if b
-              then unmarks name (Some (Take cost)) None
-              else unmarks name None (Some (DropPlus name))) tables_before) [
-                | true ↦ λ e. kept-taken naming book sound bytes priced new unnamed price one there
-                    cost its_price
-                    was charged fresh (day ∙ e)
-                | false ↦ λ e. kept-dropped naming book sound bytes priced new unnamed price one
-                    there cost its_price
-                    was charged fresh (day ∙ e)
-              ] refl
-        ] refl
-
-  -- the effects of a record whose identity is new
-  kept-charged : now ≡ with before bytes
-      → tables_now
-      ≡ put_with naming book bytes priced (charge last (name_of naming bytes) priced) tables_before
-  kept-charged charged =
-      let name : List ℕ = name_of naming bytes in
-      let day = dated-after last bytes
-      ∙ ap (is_after last) (sym (day-price book.rulings bytes priced price)) in
-      elim (is_after last priced.day) as (λ b. is_after last priced.day ≡ b
-      → tables_now
-      ≡ put_with naming book bytes priced (if b
-      then charges (Some (Add priced)) None
-      else charges None (Some (AddPlus name))) tables_before) [
-        | true ↦ λ e. kept-current naming book sound bytes priced new unnamed price charged
-            (day ∙ e)
-        | false ↦ λ e. kept-late naming book sound bytes priced new unnamed price charged (day ∙ e)
-      ] refl
 
   -- the records that share the identity are those of the list
   among : (shared : List (List ℕ)) → sharing book bytes ≡ shared → (q : List ℕ)
@@ -159,12 +86,13 @@ module _ (naming : Naming) (book : Book) (sound : IsSound naming book) (bytes : 
   -- by how many records have the identity
   pub kept-as : (shared : List (List ℕ)) → sharing book bytes ≡ shared
       → tables_now
-      ≡ put_with naming book bytes priced
+      ≡ put_new book.rulings (name_of naming bytes) bytes priced
       (effects_by last (members_of book.rulings shared) (only_by naming book shared)
       (name_of naming bytes) priced)
       tables_before
   kept-as [] listed =
-      kept-charged (charged-new book.rulings book.held bytes new (λ q there.
+      kept-charged naming book sound bytes priced still new unnamed price
+      (charged-new book.rulings book.held bytes new (λ q there.
       held_too (share_identity book.rulings bytes q) (has book.held q) false there
       (among [] listed q)))
   kept-as (one ∷ []) listed =
@@ -174,15 +102,16 @@ module _ (naming : Naming) (book : Book) (sound : IsSound naming book) (bytes : 
       (among (one ∷ []) listed q ∙ or-false (is q one)) in
       let cost = what_is (price_in book.rulings one) (sound.priced one its.1) in
       elim (is_chosen book.rulings one) as (λ c. is_chosen book.rulings one ≡ c → tables_now
-      ≡ put_with naming book bytes priced
+      ≡ put_new book.rulings (name_of naming bytes) bytes priced
       (effects_by last (lone_members c) (if c then None else member_of naming book one)
       (name_of naming bytes) priced) tables_before) [
-        | true ↦ λ it. kept-disputed naming book sound bytes priced new unnamed price
+        | true ↦ λ it. kept-disputed naming book sound bytes priced still new unnamed price
             (charged-chosen book.rulings book.held bytes new one its.1 its.0 only plain it)
-        | false ↦ λ not_it. kept-withdrawn one its.1 cost.0 cost.1
+        | false ↦ λ not_it. kept-withdrawn naming book sound bytes priced still new unnamed
+            price one its.1 cost.0 cost.1
             (charged-alone book.rulings book.held bytes new one its.1 its.0 only)
             (charged-only book.rulings book.held bytes new one its.1 its.0 only plain not_it)
-            ∙ ap (λ member. put_with naming book bytes priced
+            ∙ ap (λ member. put_new book.rulings (name_of naming bytes) bytes priced
             (effects_by last 1 member (name_of naming bytes) priced) tables_before)
             (ap (member_by naming book one) (sym cost.1))
       ] refl
@@ -193,7 +122,7 @@ module _ (naming : Naming) (book : Book) (sound : IsSound naming book) (bytes : 
       subst (IsStrictlySortedBy by_bytes) listed
       (members_rise nat_list_cmp_total (those (share_identity book.rulings bytes) book.held)) in
       let less = sorted_head by_bytes a (b ∷ rest) rising in
-      kept-disputed naming book sound bytes priced new unnamed price
+      kept-disputed naming book sound bytes priced still new unnamed price
       (charged-stays book.rulings book.held bytes new a b its_a.1 its_b.1 its_a.0 its_b.0
       (ap is_eq less.0) plain)
 
@@ -209,4 +138,5 @@ kept_follows naming book bytes priced sound kept price =
     is_back (name_of naming bytes) (name_of naming other)
     ∙ (λ i. sym same_bytes-by_cmp i (name_of naming other) (name_of naming bytes))
     ∙ fails_too nat_list_cmp_total exact_bytes same_name book.held other tests.1 there in
-    kept-as naming book sound bytes priced tests.0 unnamed price (sharing book bytes) refl
+    kept-as naming book sound bytes priced (steps_stay_sound.keep naming book bytes sound kept)
+    tests.0 unnamed price (sharing book bytes) refl

@@ -1,6 +1,6 @@
 -- The lines of a period are stored under different names.
 use Rattle.std.proofs.Common.{◌≡◌, ℕ, List, [], ◌∷◌, ◌++◌, map, refl, ap, ◌∙◌, true, false, Bool}
-use Rattle.std.proofs.Common.{◌||◌, Some, None, subst}
+use Rattle.std.proofs.Common.{◌||◌, Some, None, append-nil, subst}
 use Rattle.std.specs.FinMap.{find}
 use Rattle.std.specs.FinMap as fin
 use Rattle.std.specs.List.{list_any}
@@ -67,14 +67,6 @@ lines_apart naming book sound period held apart =
     names_differ naming book sound bytes other (held.added bytes (added bytes among))
     (held.taken other in_it)
     (not_new period.taken other bytes in_it (apart bytes (added bytes among)))))
-    (back (names_apart naming book sound false [] (members period.taken)
+    (subst (Apart by_bytes) (append-nil minus)
+    (names_apart naming book sound false [] (members period.taken)
     (members_rise nat_list_cmp_total period.taken) taken (λ bytes among. refl) tt))
-  where
-    none_behind : (es : List (List ℕ × Bool)) → es ++ [] ≡ es
-    none_behind [] = refl
-    none_behind (e ∷ es) = ap (λ es. e ∷ es) (none_behind es)
-
-    back : Apart by_bytes (signed_names naming false period.taken ++ [])
-        → Apart by_bytes (signed_names naming false period.taken)
-    back apart =
-        subst (Apart by_bytes) (none_behind (signed_names naming false period.taken)) apart

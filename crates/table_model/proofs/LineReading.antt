@@ -27,8 +27,7 @@ use Rattle.table_model.proofs.LineNames.{lines_apart}
 use Rattle.book_model.proofs.LineOrder.{by_line_total, name_ties}
 use Rattle.table_model.proofs.PeriodPlaces.{at_place, slice_get-map}
 use Rattle.table_model.proofs.PeriodReading.{read-period}
-use Rattle.table_model.proofs.RecordChanges.{record_table}
-use Rattle.table_model.proofs.StatusSteps.{row-found}
+use Rattle.table_model.proofs.Restated.{row-found}
 use Rattle.table_model.proofs.TableParts.{what_is}
 
 -- a line as it is read, by the row of its record
@@ -62,24 +61,27 @@ tells_names records a b y z of_a of_b tied =
     (plus_first y.plus z.plus) tied)
     ∙ its_name b (get records b.0) z of_b
 
+-- a record that is held has a price, and its row is stored under its name
+pub held_row : (naming : Naming) (book : Book) → IsSound naming book → (bytes : List ℕ)
+    → has book.held bytes ≡ true
+    → (cost : Priced) × (price_in book.rulings bytes ≡ Some cost)
+    × (get (tables_of naming book).records (name_of naming bytes)
+    ≡ Some (record_row book.rulings (charged_of book) book.posted bytes cost))
+held_row naming book sound bytes there =
+    let cost = what_is (price_in book.rulings bytes) (sound.priced bytes there) in (
+      cost.0,
+      cost.1,
+      row-found naming book sound (price_in book.rulings) (identity_by book.rulings)
+          (charged_of book) bytes there cost.0 cost.1,
+    )
+
 module _ (naming : Naming) (book : Book) (sound : IsSound naming book)
     (framed : AreFramed book.held) where
   -- the records' rows
   abbrev records : RecordTable
-  records =
-      record_table naming (price_in book.rulings) (identity_by book.rulings) book.posted book.held
-      (charged_of book)
+  records = (tables_of naming book).records
 
-  -- the row of a record that is held is stored under its name
-  pub found_row : (bytes : List ℕ) (cost : Priced) → has book.held bytes ≡ true
-      → price_in book.rulings bytes ≡ Some cost
-      → get records (name_of naming bytes)
-      ≡ Some (record_row book.rulings (charged_of book) book.posted bytes cost)
-  found_row bytes cost there price =
-      row-found naming book sound (price_in book.rulings) (identity_by book.rulings)
-      (charged_of book) bytes there cost price
-
-  -- so its line is read back
+  -- the line of a record that is held is read back
   one_line : (plus : Bool) (bytes : List ℕ) → has book.held bytes ≡ true
       → read_from records (name_of naming bytes, plus)
       ≡ option_map {T = Priced} {U = Line} (λ priced. record {
@@ -89,16 +91,16 @@ module _ (naming : Naming) (book : Book) (sound : IsSound naming book)
         priced = priced;
       }) (price_in book.rulings bytes)
   one_line plus bytes there =
-      let cost = what_is (price_in book.rulings bytes) (sound.priced bytes there) in
+      let row = held_row naming book sound bytes there in
       let line : List ℕ → Priced → Line = λ its priced. record {
         plus = plus;
         name = name_of naming bytes;
         job = job_of its;
         priced = priced;
       } in
-      ap (line_from (name_of naming bytes, plus)) (found_row bytes cost.0 there cost.1)
-      ∙ ap (λ its. Some (line its cost.0)) (sym (framed bytes there).is)
-      ∙ ap (option_map {T = Priced} {U = Line} (line bytes)) (sym cost.1)
+      ap (line_from (name_of naming bytes, plus)) row.2
+      ∙ ap (λ its. Some (line its row.0)) (sym (framed bytes there).is)
+      ∙ ap (option_map {T = Priced} {U = Line} (line bytes)) (sym row.1)
 
   -- so are those of some records that are held,
   some_lines : (plus : Bool) (some : Records) → AreAmong some book.held

@@ -1,117 +1,102 @@
 -- A close moves the rows of the open period that are dated after its day to the next period.
-use Rattle.std.proofs.Common.{◌≡◌, ℕ, suc, ◌+◌, ◌≤◌, List, [], ◌∷◌, ◌++◌, length, refl, sym, ap}
-use Rattle.std.proofs.Common.{◌∙◌, true, false, true≢false, Bool, cond, ◌&&◌, None, arith, is_some}
+use Rattle.std.proofs.Common.{◌≡◌, ℕ, suc, ◌+◌, List, [], ◌∷◌, ◌++◌, length, refl, sym, ap, ◌∙◌}
+use Rattle.std.proofs.Common.{true, false, true≢false, Bool, cond, ◌&&◌, Option, Some, None, arith}
+use Rattle.std.proofs.Common.{is_some, subst}
 use Rattle.std.specs.Prelude.{ℤ, int_lt, ◌==◌, if◌then◌else◌}
-use Rattle.std.specs.Cmp.{tied_itself, nat_cmp_total}
+use Rattle.std.specs.Cmp.{both_ways, IsTotalOrder, nat_cmp_total, unsigned_tied}
 use Rattle.std.specs.FinMap.{find, get, from_entries, same_map, get-from_entries, contains_key}
-use Rattle.std.specs.FinMap.{nat_cmp-IsAntisymmetric}
-use Rattle.std.specs.Ordering.{eq_by_cmp, is_eq, nat_cmp, ordering_then}
-use Rattle.std.proofs.lemmas.Bool.{eqb-true, eq-eqb}
+use Rattle.std.specs.FinMap.{IsAntisymmetric, nat_cmp-IsAntisymmetric}
+use Rattle.std.specs.Option.{option_and_then, option_map_or}
+use Rattle.std.specs.Ordering.{eq_by_cmp}
+use Rattle.std.proofs.lemmas.Bool.{eqb-true, eq-eqb, false_from_ne_true}
+use Rattle.std.proofs.lemmas.Cmp.{eq_by_cmp_equiv}
 use Rattle.std.proofs.lemmas.List.{length-append}
+use Rattle.std.proofs.lemmas.Map.Views.{tells_apart}
 use Rattle.book_model.specs.declared.row.ChargeRow.{ChargeRow}
 use Rattle.book_model.specs.declared.row.RowKey.{RowKey}
 use Rattle.book_model.specs.Words.{by_key}
-use Rattle.book_model.proofs.MapLemmas.{by_tie, not_tied, else_find, find-both}
-use Rattle.book_model.proofs.RecordSets.{first_of, second_of}
+use Rattle.book_model.proofs.MapLemmas.{not_tied}
 use Rattle.book_model.proofs.RowLemmas.{by_key_total, by_key_exact}
 use Rattle.table_model.specs.MapChanges.{moved}
-use Rattle.table_model.specs.PeriodRows.{by_period, under, numbered}
-use Rattle.table_model.specs.TableChanges.{move_on}
+use Rattle.table_model.specs.PeriodRows.{by_period, numbered}
+use Rattle.table_model.specs.RowChanges.{move_on}
 use Rattle.table_model.specs.Tables.{DayTable}
-use Rattle.table_model.proofs.MovedLemmas.{get-moved, get-moved_none}
-use Rattle.table_model.proofs.NumberedLemmas.{by_period_total, by_period_exact, is_number}
-use Rattle.table_model.proofs.NumberedLemmas.{find-under, find-last}
+use Rattle.table_model.proofs.MovedLemmas.{get-moved}
+use Rattle.table_model.proofs.NumberedLemmas.{by_period_total, by_period_exact, find-last}
+use Rattle.table_model.proofs.NumberedLemmas.{is_number, numbered-nothing}
 
 -- where rows are kept, and how
-abbrev places_total : Rattle.std.specs.Cmp.IsTotalOrder (by_period by_key)
+abbrev places_total : IsTotalOrder (by_period by_key)
 places_total = by_period_total by_key by_key_total
+
+abbrev places_exact : IsAntisymmetric (by_period by_key)
+places_exact = by_period_exact by_key by_key_exact
+
+-- two places are one
+abbrev ties : ℕ × RowKey → ℕ × RowKey → Bool
+ties = eq_by_cmp (by_period by_key)
 
 -- numbers that differ are not the same
 pub not_number : (a b : ℕ) → (a ≡ b → ⊥) → is_number a b ≡ false
 not_number a b differ = not_tied nat_cmp_total nat_cmp-IsAntisymmetric a b differ
 
--- keys of one period tie as they do without it
-tie-within : (n m : ℕ) (x y : RowKey) → n ≡ m → eq_by_cmp (by_period by_key) (n, x) (m, y)
-    ≡ eq_by_cmp by_key x y
-tie-within n m x y same =
-    ap (λ m. is_eq (ordering_then (nat_cmp n m) (by_key x y))) (sym same)
-    ∙ ap (λ r. is_eq (ordering_then r (by_key x y))) (tied_itself nat_cmp_total n)
-
 module _ (number : ℕ) (day : ℤ) where
-  -- the rows that move
-  abbrev pub moves : ℕ × RowKey → Bool
-  moves place = (place.0 == number) && int_lt day place.1.day
+  -- The place from which a place has its row after the move, if there is one: by whether it is in
+  -- the next period, in the open one, and dated after the day.
+  abbrev source_by : Bool → Bool → Bool → ℕ × RowKey → Option (ℕ × RowKey)
+  source_by next own late q =
+      if next then (if late then Some (number, q.1) else None)
+      else if own && late then None
+      else Some q
 
-  -- where a row is after the move, by whether it moves
-  abbrev put_by : Bool → ℕ × RowKey → ℕ × RowKey
-  put_by b place = if b then (suc number, place.1) else place
+  abbrev source : ℕ × RowKey → Option (ℕ × RowKey)
+  source q = source_by (q.0 == suc number) (q.0 == number) (int_lt day q.1.day) q
 
-  -- a row of the open period that is dated after the day is then in the next period
-  tie-later : (x : RowKey) (k : ℕ × RowKey) → int_lt day x.day ≡ true → (k.0 ≡ suc number → ⊥)
-      → eq_by_cmp (by_period by_key) (suc number, x) (move_on number day k)
-      ≡ eq_by_cmp (by_period by_key) (number, x) k
-  tie-later x k after below =
-      elim (moves k) as (λ b. moves k ≡ b
-      → eq_by_cmp (by_period by_key) (suc number, x) (put_by b k)
-      ≡ eq_by_cmp (by_period by_key) (number, x) k) [
-        | true ↦ λ e. tie-within (suc number) (suc number) x k.1 refl
-            ∙ sym (tie-within number k.0 x k.1 (sym (in_open e)))
-        | false ↦ λ e.
-            not_tied places_total (by_period_exact by_key by_key_exact) (suc number, x) k
-            (λ same. below (sym (ap (λ (p : ℕ × RowKey). p.0) same)))
-            ∙ sym (not_tied places_total (by_period_exact by_key by_key_exact) (number, x) k
-            (λ same. true≢false (sym (moved_too same) ∙ e)))
-      ] refl
+  -- where no row was in the next period, a row is at a place if it was at the place's source
+  tie : (q k : ℕ × RowKey) → (k.0 == suc number) ≡ false
+      → ties q (move_on number day k) ≡ option_map_or (λ s. ties s k) (source q) false
+  tie q k below =
+      both_ways (ties q (move_on number day k)) (option_map_or (λ s. ties s k) (source q) false)
+      (λ one. subst (λ q. option_map_or (λ s. ties s k) (source q) false ≡ true)
+      (sym (tells_apart places_exact q (move_on number day k) one))
+      (lands (k.0 == number) (int_lt day k.1.day) refl refl))
+      (comes (q.0 == suc number) (q.0 == number) (int_lt day q.1.day) refl refl refl)
     where
-      in_open : moves k ≡ true → k.0 ≡ number
-      in_open e = eqb-true k.0 number (first_of (k.0 == number) (int_lt day k.1.day) e)
+      itself : (place : ℕ × RowKey) → ties place place ≡ true
+      itself = (eq_by_cmp_equiv places_total).refl
 
-      moved_too : (number, x) ≡ k → moves k ≡ true
-      moved_too same = sym (ap moves same)
-          ∙ ap (λ b. b && int_lt day x.day) (eq-eqb number number refl) ∙ after
+      lands : (own late : Bool) → (k.0 == number) ≡ own → int_lt day k.1.day ≡ late
+          → option_map_or (λ s. ties s k)
+          (source (if own && late then (suc number, k.1) else k)) false ≡ true
+      lands true true its after =
+          (λ i. option_map_or (λ s. ties s k) (source_by (eq-eqb (suc number) (suc number) refl i)
+          (suc number == number) (after i) (suc number, k.1)) false)
+          ∙ ap (λ n. ties (n, k.1) k) (sym (eqb-true k.0 number its)) ∙ itself k
+      lands true false its after =
+          (λ i. option_map_or (λ s. ties s k) (source_by (below i) (its i) (after i) k) false)
+          ∙ itself k
+      lands false late its after =
+          (λ i. option_map_or (λ s. ties s k) (source_by (below i) (its i) (after i) k) false)
+          ∙ itself k
 
-  -- no other row is
-  tie-none : (x : RowKey) (k : ℕ × RowKey) → int_lt day x.day ≡ false → (k.0 ≡ suc number → ⊥)
-      → eq_by_cmp (by_period by_key) (suc number, x) (move_on number day k) ≡ false
-  tie-none x k not_after below =
-      elim (moves k) as
-      (λ b. moves k ≡ b → eq_by_cmp (by_period by_key) (suc number, x) (put_by b k) ≡ false) [
-        | true ↦ λ e.
-            not_tied places_total (by_period_exact by_key by_key_exact) (suc number, x)
-            (suc number, k.1) (λ same.
-            true≢false
-            (sym (second_of (k.0 == number) (int_lt day k.1.day) e)
-            ∙ sym (ap (λ (p : ℕ × RowKey). int_lt day p.1.day) same) ∙ not_after))
-        | false ↦ λ e.
-            not_tied places_total (by_period_exact by_key by_key_exact) (suc number, x) k
-            (λ same. below (sym (ap (λ (p : ℕ × RowKey). p.0) same)))
-      ] refl
-
-  -- a place of another period loses the rows that move
-  tie-left : (q k : ℕ × RowKey) → (q.0 ≡ suc number → ⊥) → moves q ≡ true
-      → eq_by_cmp (by_period by_key) q (move_on number day k) ≡ false
-  tie-left q k below goes =
-      elim (moves k) as (λ b. moves k ≡ b → eq_by_cmp (by_period by_key) q (put_by b k) ≡ false) [
-        | true ↦ λ e. not_tied places_total (by_period_exact by_key by_key_exact) q
-            (suc number, k.1) (λ same. below (ap (λ (p : ℕ × RowKey). p.0) same))
-        | false ↦ λ e. not_tied places_total (by_period_exact by_key by_key_exact) q k
-            (λ same. true≢false (sym goes ∙ ap moves same ∙ e))
-      ] refl
-
-  -- and keeps the others
-  tie-kept : (q k : ℕ × RowKey) → (q.0 ≡ suc number → ⊥) → moves q ≡ false
-      → eq_by_cmp (by_period by_key) q (move_on number day k) ≡ eq_by_cmp (by_period by_key) q k
-  tie-kept q k below stays =
-      elim (moves k) as
-      (λ b. moves k ≡ b → eq_by_cmp (by_period by_key) q (put_by b k)
-      ≡ eq_by_cmp (by_period by_key) q k) [
-        | true ↦ λ e.
-            not_tied places_total (by_period_exact by_key by_key_exact) q (suc number, k.1)
-            (λ same. below (ap (λ (p : ℕ × RowKey). p.0) same))
-            ∙ sym (not_tied places_total (by_period_exact by_key by_key_exact) q k
-            (λ same. true≢false (sym e ∙ sym (ap moves same) ∙ stays)))
-        | false ↦ λ e. refl
-      ] refl
+      comes : (next own late : Bool) → (q.0 == suc number) ≡ next → (q.0 == number) ≡ own
+          → int_lt day q.1.day ≡ late
+          → option_map_or (λ s. ties s k) (source_by next own late q) false ≡ true
+          → ties q (move_on number day k) ≡ true
+      comes true own true here its after one =
+          ap (λ k. ties q (move_on number day k))
+          (sym (tells_apart places_exact (number, q.1) k one))
+          ∙ (λ i. ties q (if eq-eqb number number refl i && after i then (suc number, q.1)
+          else (number, q.1)))
+          ∙ ap (λ n. ties q (n, q.1)) (sym (eqb-true q.0 (suc number) here)) ∙ itself q
+      comes true own false here its after one = absurd (true≢false (sym one))
+      comes false true true here its after one = absurd (true≢false (sym one))
+      comes false true false here its after one =
+          ap (λ k. ties q (move_on number day k)) (sym (tells_apart places_exact q k one))
+          ∙ (λ i. ties q (if its i && after i then (suc number, q.1) else q)) ∙ itself q
+      comes false false late here its after one =
+          ap (λ k. ties q (move_on number day k)) (sym (tells_apart places_exact q k one))
+          ∙ (λ i. ties q (if its i && after i then (suc number, q.1) else q)) ∙ itself q
 
   -- The rows of the closed periods, of the open one, and of the one that it becomes and the next:
   -- what is dated after the day is in the next one, and the rest stays.
@@ -124,135 +109,70 @@ module _ (number : ℕ) (day : ℤ) where
       (gone : (k : RowKey) → int_lt day k.day ≡ true → find by_key k closed_rows ≡ None)
       (stays : (k : RowKey) → int_lt day k.day ≡ false → find by_key k closed_rows
       ≡ find by_key k open_rows) where
-    -- the table before
+    -- the table before, and what it has of closed periods
     abbrev before : DayTable
     before = from_entries (numbered 1 (past ++ open_rows ∷ []))
 
-    -- what it has
-    get-before : (q : ℕ × RowKey)
-        → get before q
-        ≡ cond (is_number q.0 number) (find by_key q.1 open_rows)
-        (find (by_period by_key) q (numbered 1 past))
-    get-before q = get-from_entries places_total (numbered 1 (past ++ open_rows ∷ [])) q
-        ∙ find-last by_key q 1 number past open_rows is
+    abbrev in_past : ℕ × RowKey → Option ChargeRow
+    in_past q = find (by_period by_key) q (numbered 1 past)
 
-    -- it has nothing after the open period
-    find-behind : (n : ℕ) (rows : List (List (RowKey × ChargeRow))) (q : ℕ × RowKey)
-        → n + length rows ≤ q.0
-        → find (by_period by_key) q (numbered n rows) ≡ None
-    find-behind n [] q behind = refl
-    find-behind n (one ∷ rows) q behind =
-        let later : suc n + length rows ≤ q.0 = omega arith in
-        let apart = not_number q.0 n (λ same. absurd (omega arith)) in
-        find-both (by_period by_key) q (under n one) (numbered (suc n) rows)
-        ∙ (λ i. else_find
-        ((find-under by_key q n one ∙ ap (λ b. cond b (find by_key q.1 one) None) apart) i)
-        (find-behind (suc n) rows q later i))
+    -- what the closed periods have with one more
+    found : (rows : List (RowKey × ChargeRow)) (q : ℕ × RowKey)
+        → find (by_period by_key) q (numbered 1 (past ++ rows ∷ []))
+        ≡ cond (q.0 == number) (find by_key q.1 rows) (in_past q)
+    found rows q =
+        find-last by_key q 1 number past rows is
+        ∙ ap (λ b. cond b (find by_key q.1 rows) (in_past q)) (unsigned_tied q.0 number)
 
-    -- so no row that it has is in the next period
-    below : (k : ℕ × RowKey) → contains_key before k ≡ true → k.0 ≡ suc number → ⊥
-    below k there same =
-        let last : 1 + length past ≤ k.0 = omega arith in
-        let apart = not_number k.0 number (λ one. absurd (omega arith)) in
-        let nothing = get-before k
-        ∙ ap (λ b. cond b (find by_key k.1 open_rows) (find (by_period by_key) k (numbered 1 past)))
-        apart ∙ find-behind 1 past k last in
-        true≢false (sym there ∙ ap is_some nothing)
+    one_more : (rows : List (RowKey × ChargeRow)) → suc number ≡ 1 + length (past ++ rows ∷ [])
+    one_more rows =
+        let longer = length-append past (rows ∷ []) in
+        let one : length (rows ∷ []) ≡ 1 = refl in
+        omega arith
 
-    -- what the table has after
-    get-after : (q : ℕ × RowKey)
-        → get (from_entries {R = by_period by_key}
-        (numbered 1 ((past ++ closed_rows ∷ []) ++ next_rows ∷ []))) q
-        ≡ cond (is_number q.0 (suc number)) (find by_key q.1 next_rows)
-        (cond (is_number q.0 number) (find by_key q.1 closed_rows)
-        (find (by_period by_key) q (numbered 1 past)))
-    get-after q =
-        let longer = length-append past (closed_rows ∷ []) in
-        let one : length (closed_rows ∷ []) ≡ 1 = refl in
-        let next : suc number ≡ 1 + length (past ++ closed_rows ∷ []) = omega arith in
-        get-from_entries places_total (numbered 1 ((past ++ closed_rows ∷ []) ++ next_rows ∷ [])) q
-        ∙ find-last by_key q 1 (suc number) (past ++ closed_rows ∷ []) next_rows next
-        ∙ ap (cond (is_number q.0 (suc number)) (find by_key q.1 next_rows))
-        (find-last by_key q 1 number past closed_rows is)
+    -- what the table before has,
+    get-before : (q : ℕ × RowKey) (own : Bool) → (q.0 == number) ≡ own
+        → cond own (find by_key q.1 open_rows) (in_past q) ≡ get before q
+    get-before q own its =
+        sym (get-from_entries places_total (numbered 1 (past ++ open_rows ∷ [])) q
+        ∙ found open_rows q ∙ ap (λ b. cond b (find by_key q.1 open_rows) (in_past q)) its)
 
-    -- in the next period
-    same-next : (x : RowKey) → find by_key x next_rows
-        ≡ get (moved (move_on number day) before) (suc number, x)
-    same-next x =
-        elim (int_lt day x.day) as
-        (λ b. int_lt day x.day ≡ b → find by_key x next_rows
-        ≡ get (moved (move_on number day) before) (suc number, x)) [
-          | true ↦ λ e.
-              later x e
-              ∙ sym (get-moved places_total (by_period_exact by_key by_key_exact)
-              (move_on number day) (suc number, x) (number, x) before
-              (λ k there. tie-later x k e (below k there))
-              ∙ get-before (number, x)
-              ∙ ap (λ r. cond (is_eq r) (find by_key x open_rows)
-              (find (by_period by_key) (number, x) (numbered 1 past)))
-              (tied_itself nat_cmp_total number))
-          | false ↦ λ e.
-              none x e
-              ∙ sym (get-moved_none places_total (by_period_exact by_key by_key_exact)
-              (move_on number day) (suc number, x) before
-              (λ k there. tie-none x k e (below k there)))
-        ] refl
-
-    -- in the others
-    same-other : (q : ℕ × RowKey) → (q.0 ≡ suc number → ⊥)
-        → cond (is_number q.0 number) (find by_key q.1 closed_rows)
-        (find (by_period by_key) q (numbered 1 past))
-        ≡ get (moved (move_on number day) before) q
-    same-other q below_it =
-        elim (moves q) as (λ b. moves q ≡ b
-        → cond (is_number q.0 number) (find by_key q.1 closed_rows)
-        (find (by_period by_key) q (numbered 1 past))
-        ≡ get (moved (move_on number day) before) q) [
-          | true ↦ λ e.
-              let here =
-              ap (is_number q.0)
-              (sym (eqb-true q.0 number (first_of (q.0 == number) (int_lt day q.1.day) e)))
-              ∙ ap is_eq (tied_itself nat_cmp_total q.0) in
-              ap (λ b. cond b (find by_key q.1 closed_rows)
-              (find (by_period by_key) q (numbered 1 past))) here
-              ∙ gone q.1 (second_of (q.0 == number) (int_lt day q.1.day) e)
-              ∙ sym (get-moved_none places_total (by_period_exact by_key by_key_exact)
-              (move_on number day) q before (λ k there. tie-left q k below_it e))
-          | false ↦ λ e.
-              by_tie nat_cmp_total nat_cmp-IsAntisymmetric q.0 number
-              (λ b. cond b (find by_key q.1 closed_rows)
-              (find (by_period by_key) q (numbered 1 past)))
-              (λ b. cond b (find by_key q.1 open_rows)
-              (find (by_period by_key) q (numbered 1 past)))
-              (λ same. stays q.1
-              (not_both (q.0 == number) (int_lt day q.1.day) (eq-eqb q.0 number same) e))
-              (λ apart. refl)
-              ∙ sym (get-moved places_total (by_period_exact by_key by_key_exact)
-              (move_on number day) q q before (λ k there. tie-kept q k below_it e)
-              ∙ get-before q)
-        ] refl
-      where
-        not_both : (a b : Bool) → a ≡ true → (a && b) ≡ false → b ≡ false
-        not_both true b is_true both = both
-        not_both false b is_true both = absurd (true≢false (sym is_true))
+    -- of the next period nothing
+    below : (k : ℕ × RowKey) → contains_key before k ≡ true → (k.0 == suc number) ≡ false
+    below k there =
+        let rows = numbered 1 (past ++ open_rows ∷ []) in
+        false_from_ne_true (k.0 == suc number) (λ same. true≢false (sym there ∙ ap is_some
+        (get-from_entries places_total rows k
+        ∙ ap (find (by_period by_key) k) (sym (numbered-nothing 1 (past ++ open_rows ∷ [])))
+        ∙ find-last by_key k 1 (suc number) (past ++ open_rows ∷ []) [] (one_more open_rows)
+        ∙ ap (λ b. cond b None (find (by_period by_key) k rows))
+        (unsigned_tied k.0 (suc number) ∙ same))))
 
     -- the law of the move
     pub rows-moved : from_entries {R = by_period by_key}
         (numbered 1 ((past ++ closed_rows ∷ []) ++ next_rows ∷ []))
         ≡ moved (move_on number day) before
     rows-moved =
-        let after : DayTable =
-        from_entries (numbered 1 ((past ++ closed_rows ∷ []) ++ next_rows ∷ [])) in
-        same_map places_total (by_period_exact by_key by_key_exact) after
-        (moved (move_on number day) before) (λ q.
-        get-after q
-        ∙ by_tie nat_cmp_total nat_cmp-IsAntisymmetric q.0 (suc number)
-        (λ b. cond b (find by_key q.1 next_rows)
-        (cond (is_number q.0 number) (find by_key q.1 closed_rows)
-        (find (by_period by_key) q (numbered 1 past))))
-        (λ b. get (moved (move_on number day) before) q)
-        (λ same. same-next q.1
-        ∙ ap (λ n. get (moved (move_on number day) before) (n, q.1)) (sym same))
-        (λ apart. same-other q (λ same.
-        true≢false
-        (sym (ap (is_number q.0) (sym same) ∙ ap is_eq (tied_itself nat_cmp_total q.0)) ∙ apart))))
+        let rows = numbered 1 ((past ++ closed_rows ∷ []) ++ next_rows ∷ []) in
+        same_map places_total places_exact (from_entries rows) (moved (move_on number day) before)
+        (λ q.
+        get-from_entries places_total rows q
+        ∙ find-last by_key q 1 (suc number) (past ++ closed_rows ∷ []) next_rows
+        (one_more closed_rows)
+        ∙ (λ i. cond (unsigned_tied q.0 (suc number) i) (find by_key q.1 next_rows)
+        (found closed_rows q i))
+        ∙ by_tests q (q.0 == suc number) (q.0 == number) (int_lt day q.1.day) refl refl
+        ∙ sym (get-moved places_total places_exact (move_on number day) q (source q) before
+        (λ k there. tie q k (below k there))))
+      where
+        by_tests : (q : ℕ × RowKey) (next own late : Bool) → (q.0 == number) ≡ own
+            → int_lt day q.1.day ≡ late
+            → cond next (find by_key q.1 next_rows)
+            (cond own (find by_key q.1 closed_rows) (in_past q))
+            ≡ option_and_then (get before) (source_by next own late q)
+        by_tests q true own true its after =
+            later q.1 after ∙ get-before (number, q.1) true (eq-eqb number number refl)
+        by_tests q true own false its after = none q.1 after
+        by_tests q false true true its after = gone q.1 after
+        by_tests q false true false its after = stays q.1 after ∙ get-before q true its
+        by_tests q false false late its after = get-before q false its

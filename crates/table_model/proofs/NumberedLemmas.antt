@@ -10,12 +10,19 @@ use Rattle.std.specs.declared.cmp.Ordering.TheVariants.{Less, Equal, Greater}
 use Rattle.std.proofs.lemmas.Cmp.{then_total, on_total}
 use Rattle.std.proofs.lemmas.Map.Lookups.{exact_pairs}
 use Rattle.book_model.proofs.MapLemmas.{else_find, find-both, else_none, from_entries-insert}
-use Rattle.book_model.proofs.MapLemmas.{from_entries-remove}
+use Rattle.book_model.proofs.MapLemmas.{from_entries-remove, not_tied}
 use Rattle.table_model.specs.PeriodRows.{by_period, under, numbered}
 
 -- two numbers are equal
 abbrev pub is_number : ℕ → ℕ → Bool
 is_number a b = is_eq (nat_cmp a b)
+
+-- a period without rows adds none
+pub numbered-nothing : {K V : Type 0} (n : ℕ) (periods : List (List (K × V)))
+    → numbered n (periods ++ [] ∷ []) ≡ numbered n periods
+numbered-nothing n [] = refl
+numbered-nothing n (rows ∷ periods) =
+    ap (λ es. under n rows ++ es) (numbered-nothing (suc n) periods)
 
 module _ {K : Type 0} (R : K → K → Ordering) where
   -- the order by period and key is total,
@@ -73,12 +80,7 @@ module _ {K : Type 0} (R : K → K → Ordering) where
       where
         apart : q.0 ≡ n → is_number q.0 number ≡ false
         apart same =
-            elim (nat_cmp q.0 number) as (λ r. nat_cmp q.0 number ≡ r → is_eq r ≡ false) [
-              | Less ↦ λ e. refl
-              | Equal ↦ λ e. let also : q.0 ≡ number = nat_cmp-IsAntisymmetric q.0 number e in
-                  absurd (omega arith)
-              | Greater ↦ λ e. refl
-            ] refl
+            not_tied nat_cmp_total nat_cmp-IsAntisymmetric q.0 number (λ also. absurd (omega arith))
 
         one_number : (r : Ordering) → nat_cmp q.0 n ≡ r
             → else_find (cond (is_eq r) (find R q.1 rows) None)
@@ -111,46 +113,38 @@ module _ {K : Type 0} (R : K → K → Ordering) where
           ∙ ap (λ r. cond (is_eq r) (find R k last)
           (find (by_period R) (number, k) (numbered n periods))) (tied_itself nat_cmp_total number)
 
-      -- one more entry in the open period
+      -- another entry in the open period, or none, at one key
+      open-find : (old new : List (K × V)) (k : K) (v : Option V)
+          → ((q : K) → find R q new ≡ cond (eq_by_cmp R q k) v (find R q old)) → (q : ℕ × K)
+          → find (by_period R) q (numbered n (periods ++ new ∷ []))
+          ≡ cond (eq_by_cmp (by_period R) q (number, k)) v
+          (find (by_period R) q (numbered n (periods ++ old ∷ [])))
+      open-find old new k v differ q =
+          let past : Option V = find (by_period R) q (numbered n periods) in
+          find-last q n number periods new is
+          ∙ ap (λ found. cond (is_number q.0 number) found past) (differ q.1)
+          ∙ elim (nat_cmp q.0 number) as (λ r.
+          cond (is_eq r) (cond (eq_by_cmp R q.1 k) v (find R q.1 old)) past
+          ≡ cond (is_eq (ordering_then r (R q.1 k))) v (cond (is_eq r) (find R q.1 old) past)) [
+            | Less ↦ refl
+            | Equal ↦ refl
+            | Greater ↦ refl
+          ]
+          ∙ ap (cond (eq_by_cmp (by_period R) q (number, k)) v)
+          (sym (find-last q n number periods old is))
+
       pub open-insert : (old new : List (K × V)) (k : K) (v : V)
           → ((q : K) → find R q new ≡ cond (eq_by_cmp R q k) (Some v) (find R q old))
           → table_with new ≡ insert (table_with old) (number, k) v
-      open-insert old new k v more =
+      open-insert old new k v differ =
           from_entries-insert (by_period_total o) (by_period_exact exact)
-          (numbered n (periods ++ old ∷ [])) (numbered n (periods ++ new ∷ [])) (number, k) v (λ q.
-          find-last q n number periods new is
-          ∙ ap (λ found. cond (is_number q.0 number) found
-          (find (by_period R) q (numbered n periods))) (more q.1)
-          ∙ elim (nat_cmp q.0 number) as (λ r.
-          cond (is_eq r) (cond (eq_by_cmp R q.1 k) (Some v) (find R q.1 old))
-          (find (by_period R) q (numbered n periods))
-          ≡ cond (is_eq (ordering_then r (R q.1 k))) (Some v)
-          (cond (is_eq r) (find R q.1 old) (find (by_period R) q (numbered n periods)))) [
-            | Less ↦ refl
-            | Equal ↦ refl
-            | Greater ↦ refl
-          ]
-          ∙ ap (cond (eq_by_cmp (by_period R) q (number, k)) (Some v))
-          (sym (find-last q n number periods old is)))
+          (numbered n (periods ++ old ∷ [])) (numbered n (periods ++ new ∷ [])) (number, k) v
+          (open-find old new k (Some v) differ)
 
-      -- one entry less
       pub open-remove : (old new : List (K × V)) (k : K)
           → ((q : K) → find R q new ≡ cond (eq_by_cmp R q k) None (find R q old))
           → table_with new ≡ remove (table_with old) (number, k)
-      open-remove old new k less =
+      open-remove old new k differ =
           from_entries-remove (by_period_total o) (by_period_exact exact)
-          (numbered n (periods ++ old ∷ [])) (numbered n (periods ++ new ∷ [])) (number, k) (λ q.
-          find-last q n number periods new is
-          ∙ ap (λ found. cond (is_number q.0 number) found
-          (find (by_period R) q (numbered n periods))) (less q.1)
-          ∙ elim (nat_cmp q.0 number) as (λ r.
-          cond (is_eq r) (cond (eq_by_cmp R q.1 k) None (find R q.1 old))
-          (find (by_period R) q (numbered n periods))
-          ≡ cond (is_eq (ordering_then r (R q.1 k))) None
-          (cond (is_eq r) (find R q.1 old) (find (by_period R) q (numbered n periods)))) [
-            | Less ↦ refl
-            | Equal ↦ refl
-            | Greater ↦ refl
-          ]
-          ∙ ap (cond (eq_by_cmp (by_period R) q (number, k)) None)
-          (sym (find-last q n number periods old is)))
+          (numbered n (periods ++ old ∷ [])) (numbered n (periods ++ new ∷ [])) (number, k)
+          (open-find old new k None differ)

@@ -1,8 +1,8 @@
 -- The rows of a period are those that a table of all periods has under its number.
 use Rattle.std.proofs.Common.{◌≡◌, ℕ, zero, suc, ◌+◌, ◌<◌, List, [], ◌∷◌, refl, sym, ap, ◌∙◌, subst}
-use Rattle.std.proofs.Common.{Bool, cond, ◌&&◌, Option, Some, None, T, arith}
+use Rattle.std.proofs.Common.{Bool, cond, ◌&&◌, Some, None, T, arith}
 use Rattle.std.specs.Prelude.{slice_get, ◌==◌}
-use Rattle.std.specs.Cmp.{IsTotalOrder, nat_cmp_total, tied_itself}
+use Rattle.std.specs.Cmp.{IsTotalOrder, nat_cmp_total, tied_itself, unsigned_tied}
 use Rattle.std.specs.FinMap.{FinMap, IsAntisymmetric, find, entries, from_entries, entries_sorted}
 use Rattle.std.specs.FinMap.{get-entries, get-from_entries, nat_cmp-IsAntisymmetric}
 use Rattle.std.specs.FinMap.Entries.{below_all, is_sorted, where_key, is_sorted-where_key}
@@ -10,16 +10,11 @@ use Rattle.std.specs.FinMap.Entries.{find-where_key, same_entries}
 use Rattle.std.specs.Ordering.{is_eq, is_lt, nat_cmp, ordering_then}
 use Rattle.std.specs.declared.cmp.Ordering.{Ordering}
 use Rattle.std.specs.declared.cmp.Ordering.TheVariants.{Less, Equal, Greater}
-use Rattle.std.proofs.lemmas.Bool.Decides.{nat_tests}
-use Rattle.book_model.proofs.MapLemmas.{else_find, find-both}
+use Rattle.book_model.proofs.MapLemmas.{else_find, find-both, else_none}
 use Rattle.table_model.specs.PeriodRows.{by_period, under, numbered, rows_under}
 use Rattle.table_model.proofs.MoveLemmas.{not_number}
 use Rattle.table_model.proofs.NumberedLemmas.{by_period_total, by_period_exact, is_number}
 use Rattle.table_model.proofs.NumberedLemmas.{find-under}
-
--- two ways to say that numbers are equal
-number-eq : (a b : ℕ) → (a == b) ≡ is_number a b
-number-eq a b = grind (arith, nat_tests)
 
 module _ {K V : Type 0} (R : K → K → Ordering) where
   -- rows under a number that are in order are so without it
@@ -58,15 +53,11 @@ module _ {K V : Type 0} (R : K → K → Ordering) where
       let own : first ≡ rows = cc in
       find-both (by_period R) q (under n first) (numbered (suc n) periods)
       ∙ ap (else_find (find (by_period R) q (under n first))) (find-before q (suc n) periods before)
-      ∙ else_nothing (find (by_period R) q (under n first))
+      ∙ else_none (find (by_period R) q (under n first))
       ∙ find-under R q n first
       ∙ ap (λ r. cond (is_eq r) (find R q.1 first) None)
       (ap (λ m. nat_cmp m n) same ∙ tied_itself nat_cmp_total n)
       ∙ ap (find R q.1) own
-    where
-      else_nothing : (found : Option V) → else_find found None ≡ found
-      else_nothing None = refl
-      else_nothing (Some v) = refl
   find-at q n (suc k) (first ∷ periods) rows there is =
       let next : q.0 ≡ suc n + k = omega arith in
       let apart = not_number q.0 n (λ same. absurd (omega arith)) in
@@ -93,7 +84,7 @@ module _ {K V : Type 0} (R : K → K → Ordering) where
         (λ x tied. ap own (sym (by_period_exact R exact q x tied))) (entries table)
         ∙ ap (λ found. cond (q.0 == number) found None)
         (sym (get-entries table q) ∙ get-from_entries (by_period_total R o) (numbered n periods) q)
-        ∙ ap (λ b. cond b (find (by_period R) q (numbered n periods)) None) (number-eq q.0 number)
+        ∙ ap (λ b. cond b (find (by_period R) q (numbered n periods)) None) (sym (unsigned_tied q.0 number))
         ∙ own_number q (nat_cmp q.0 number) refl
         ∙ ap (λ found. cond (is_number q.0 number) found None)
         (sym (get-from_entries o rows q.1) ∙ get-entries alone q.1)

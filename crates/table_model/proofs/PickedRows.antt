@@ -1,9 +1,9 @@
 -- Charge rows at a place, of those records of a set that pass a test.
-use Rattle.std.proofs.Common.{◌≡◌, ℕ, List, [], ◌∷◌, refl, sym, ap, ◌∙◌, true, false, Bool, cond}
-use Rattle.std.proofs.Common.{Option, Some, None}
+use Rattle.std.proofs.Common.{◌≡◌, ℕ, List, [], ◌∷◌, refl, sym, ap, ◌∙◌, true, false, Bool}
+use Rattle.std.proofs.Common.{Option, Some, None, ◌&&◌}
 use Rattle.std.specs.Prelude.{filter}
 use Rattle.std.specs.FinMap.{find}
-use Rattle.std.specs.List.{filter_map, cons_option}
+use Rattle.std.specs.List.{filter_map}
 use Rattle.std.proofs.lemmas.Cmp.{nat_list_cmp_total}
 use Rattle.std.proofs.lemmas.Map.Lookups.{exact_bytes}
 use Rattle.std.proofs.lemmas.Map.Views.{tells_apart}
@@ -15,71 +15,48 @@ use Rattle.book_model.proofs.RowLemmas.{same_key_ties, by_key_exact}
 use Rattle.book_model.proofs.SetLemmas.{members-those}
 use Rattle.table_model.proofs.CostLemmas.{day-price}
 use Rattle.table_model.proofs.DayChanges.{days_at, days-found, found_at}
-
--- what is given, if it passes a test
-abbrev kept : {Y : Type 0} → (Y → Bool) → Option Y → Option Y
-kept test None = None
-kept test (Some y) = cond (test y) (Some y) None
+use Rattle.std.specs.Option.{option_map_or}
+use Rattle.std.proofs.lemmas.List.Elements.{filter_agree}
+use Rattle.book_model.proofs.FilterLemmas.{filter-filter_map}
+use Rattle.book_model.proofs.ListLemmas.{filter-filter}
 
 module _ {X Y : Type 0} (give : X → Option Y) (test : Y → Bool) where
-  -- two filters and a partial function in one
+  -- an element gives what passes
+  abbrev passes : X → Bool
+  passes x = option_map_or test (give x) false
+
+  -- what passes is given by the elements that give it
   filter-picked : (p : X → Bool) (xs : List X)
       → filter test (filter_map give (filter p xs))
-      ≡ filter_map (λ x. cond (p x) (kept test (give x)) None) xs
-  filter-picked p [] = refl
-  filter-picked p (x ∷ xs) =
-      let rest = filter-picked p xs in
-      elim (p x) as (λ b. filter test (filter_map give (cond b (x ∷ filter p xs) (filter p xs)))
-      ≡ cons_option (cond b (kept test (give x)) None)
-      (filter_map (λ x. cond (p x) (kept test (give x)) None) xs)) [
-        | true ↦ elim (give x) as
-            (λ given. filter test (cons_option given (filter_map give (filter p xs)))
-            ≡ cons_option (kept test given)
-            (filter_map (λ x. cond (p x) (kept test (give x)) None) xs)) [
-              | None ↦ rest
-              | Some y ↦ elim (test y) as
-                  (λ b. cond b (y ∷ filter test (filter_map give (filter p xs)))
-                  (filter test (filter_map give (filter p xs)))
-                  ≡ cons_option (cond b (Some y) None)
-                  (filter_map (λ x. cond (p x) (kept test (give x)) None) xs)) [
-                    | true ↦ ap (λ ys. y ∷ ys) rest
-                    | false ↦ rest
-                  ]
-            ]
-        | false ↦ rest
-      ]
+      ≡ filter_map give (filter (λ x. passes x && p x) xs)
+  filter-picked p xs =
+      filter-filter_map give test passes
+      (λ x y given. ap (λ o. option_map_or test o false) (sym given)) (filter p xs)
+      ∙ ap (filter_map give) (filter-filter passes p xs)
 
-  -- nothing is given, either way
-  nothing : (b c : Bool) → ◌≡◌ {A = Option Y} (cond b None None) (cond c None None)
-  nothing true true = refl
-  nothing true false = refl
-  nothing false true = refl
-  nothing false false = refl
-
-  -- tests that agree wherever something that passes is given
-  one_picked : (a b : Bool) (given : Option Y) → ((y : Y) → given ≡ Some y → test y ≡ true → a ≡ b)
-      → cond a (kept test given) None ≡ cond b (kept test given) None
-  one_picked a b None agree = nothing a b
-  one_picked a b (Some y) agree =
-      elim (test y) as
-      (λ t. test y ≡ t → cond a (cond t (Some y) None) None ≡ cond b (cond t (Some y) None) None) [
-        | true ↦ λ e. ap (λ c. cond c (Some y) None) (agree y refl e)
-        | false ↦ λ e. nothing a b
-      ] refl
-
-  -- they give the same
+  -- so tests that agree wherever something that passes is given leave the same
   filter-far : (p q : X → Bool) (xs : List X)
       → ((x : X) (y : Y) → give x ≡ Some y → test y ≡ true → p x ≡ q x)
       → filter test (filter_map give (filter p xs)) ≡ filter test (filter_map give (filter q xs))
   filter-far p q xs agree =
       filter-picked p xs
-      ∙ (λ i. filter_map (λ x. one_picked (p x) (q x) (give x) (agree x) i) xs)
+      ∙ ap (filter_map give) (filter_agree (λ x. passes x && p x) (λ x. passes x && q x)
+      (λ x. alike x (give x) (agree x)) xs)
       ∙ sym (filter-picked q xs)
+    where
+      alike : (x : X) (given : Option Y) → ((y : Y) → given ≡ Some y → test y ≡ true → p x ≡ q x)
+          → (option_map_or test given false && p x) ≡ (option_map_or test given false && q x)
+      alike x None agree = refl
+      alike x (Some y) agree =
+          elim (test y) as (λ b. test y ≡ b → (b && p x) ≡ (b && q x)) [
+            | true ↦ λ is. agree y refl is
+            | false ↦ λ is. refl
+          ] refl
 
-  -- nothing passes a test that always fails
-  filter-nothing : (xs : List X) → filter (λ x. false) xs ≡ []
-  filter-nothing [] = refl
-  filter-nothing (x ∷ xs) = filter-nothing xs
+-- nothing passes a test that always fails
+filter-nothing : {X : Type 0} (xs : List X) → filter (λ (x : X). false) xs ≡ []
+filter-nothing [] = refl
+filter-nothing (x ∷ xs) = filter-nothing xs
 
 module _ (rulings : Rulings) (records : Records) (key : RowKey) where
   -- a record that costs something at a place is dated on the place's day
@@ -114,12 +91,9 @@ module _ (rulings : Rulings) (records : Records) (key : RowKey) where
       → ((bytes : List ℕ) → day_of bytes ≡ key.day → p bytes ≡ false)
       → find by_key key (days_at (prices rulings (those p records))) ≡ None
   rows-nowhere p fails =
-      let here : Priced → Bool = λ one. same_key (key_of one) key in
-      days-found (prices rulings (those p records)) key
-      ∙ ap (found_at key)
-      (ap (λ ks. filter here (filter_map (price_in rulings) ks))
-      (members-those nat_list_cmp_total exact_bytes p records)
-      ∙ filter-far (price_in rulings) here p (λ x. false) (members records)
-      (λ bytes priced price at. fails bytes (dated_there bytes priced price at))
-      ∙ ap (λ ks. filter here (filter_map (price_in rulings) ks))
-      (filter-nothing (price_in rulings) here (members records)))
+      let nothing : List ℕ → Bool = λ bytes. false in
+      rows-where p nothing fails ∙ days-found (prices rulings (those nothing records)) key
+      ∙ ap (λ ks. found_at key (filter (λ one. same_key (key_of one) key)
+      (filter_map (price_in rulings) ks)))
+      (members-those nat_list_cmp_total exact_bytes nothing records
+      ∙ filter-nothing (members records))

@@ -1,98 +1,61 @@
 -- A walk over the rows of the records, by their names: it meets each record that is held once.
-use Rattle.std.proofs.Common.{◌≡◌, ℕ, List, [], ◌∷◌, refl, sym, ap, ◌∙◌, true, false, Bool, cond}
-use Rattle.std.proofs.Common.{◌||◌, Option, Some, None, is_some}
+use Rattle.std.proofs.Common.{◌≡◌, ◌⊎◌, inl, inr, ℕ, List, [], ◌∷◌, refl, sym, ap, ◌∙◌, true}
+use Rattle.std.proofs.Common.{false, Bool, cond, ◌&&◌, ◌||◌, Some, subst}
 use Rattle.std.specs.Prelude.{IsSome}
-use Rattle.std.specs.FinMap.{find, get, keys, contains_key-keys, get-from_entries, entries}
-use Rattle.std.specs.FinMap.{entries_sorted}
-use Rattle.std.specs.List.{list_any, filter_map, cons_option}
+use Rattle.std.specs.FinMap.{get, keys, entries, entries_sorted}
+use Rattle.std.specs.List.{list_any}
 use Rattle.std.specs.List.Sorted.{IsStrictlySortedBy}
-use Rattle.std.specs.Option.{option_map}
-use Rattle.std.proofs.Math.Bool.{or-true}
-use Rattle.std.proofs.lemmas.Cmp.{nat_list_cmp_total}
+use Rattle.std.proofs.Math.Bool.{and-true, or-true}
 use Rattle.std.proofs.lemmas.Map.Keys.{sorted_tail}
 use Rattle.std.proofs.lemmas.Map.Lookups.{exact_bytes}
 use Rattle.std.proofs.lemmas.Map.Views.{tells_apart}
 use Rattle.tariff_rules.specs.declared.priced.Priced.{Priced}
-use Rattle.book_model.specs.Words.{Book, Records, Naming, name_of, by_bytes, members, has, IsSound}
-use Rattle.book_model.proofs.RecordSets.{is, is_first}
-use Rattle.book_model.proofs.SetChanges.{not_first}
+use Rattle.book_model.specs.Words.{day_of, Book, open_number, is_dated_after, Naming}
+use Rattle.book_model.specs.Words.{name_of, by_bytes, last_close, members, has, those, IsSound}
+use Rattle.book_model.specs.Words.{AreAmong}
+use Rattle.book_model.proofs.ListLemmas.{list_any-map}
+use Rattle.book_model.proofs.RecordSets.{is, is_first, is_itself, has_those, in_those}
+use Rattle.book_model.proofs.SetChanges.{is_back, not_first}
 use Rattle.book_model.proofs.SetLemmas.{keys_rise}
+use Rattle.table_model.proofs.RestatedRows.{restate}
 use Rattle.table_model.specs.TableChanges.{walk}
 use Rattle.table_model.specs.Tables.{RecordRow, RecordTable, Tables}
-use Rattle.table_model.specs.TablesOf.{entry_by, row_by}
-use Rattle.table_model.proofs.RecordChanges.{record_table}
-use Rattle.table_model.proofs.StatusSteps.{row-found}
+use Rattle.table_model.specs.TablesOf.{RecordStatus, tables_at}
+use Rattle.table_model.proofs.OpenNames.{names_differ}
+use Rattle.table_model.proofs.Restated.{IsStatus, StatusAt, restated, row-found, row_for, status_at}
+use Rattle.table_model.proofs.Restated.{tables-alike}
+use Rattle.table_model.proofs.RowsWhere.{any_row, one_passes, some_passes}
 use Rattle.table_model.proofs.TableParts.{what_is}
-use Rattle.std.specs.FinMap as fin
 
-module _ (naming : Naming) (book : Book) (sound : IsSound naming book)
-    (price : List ℕ → Option Priced) (identity : List ℕ → List ℕ) (charged : Records)
-    (priced : (bytes : List ℕ) → has book.held bytes ≡ true → IsSome (price bytes)) where
+module _ (naming : Naming) (book : Book) (sound : IsSound naming book) (standing : RecordStatus)
+    (status : IsStatus book standing) where
   -- the table of the records
   abbrev table : RecordTable
-  table = record_table naming price identity book.posted book.held charged
+  table = (tables_at naming book standing).records
 
-  abbrev entry : List ℕ → Option (List ℕ × RecordRow)
-  entry = entry_by naming (record { price = price; identity = identity; charged = charged })
-      book.posted
+  -- a name is a key if it is that of a record that is held
+  keys_where : (name : List ℕ) → list_any (is name) (keys table)
+      ≡ list_any (λ one. is name (name_of naming one)) (members book.held)
+  keys_where name =
+      list_any-map (is name) (λ (entry : List ℕ × RecordRow). entry.0) (entries table)
+      ∙ any_row naming book sound standing status.priced (λ entry. is name entry.0)
+      (λ one. is name (name_of naming one)) (λ one cost costs. refl)
 
-  -- the name is that of a record of the list
-  abbrev IsNameIn : List ℕ → List (List ℕ) → Type 0
-  IsNameIn name list =
-      (one : List ℕ) × (list_any (is one) list ≡ true) × (name_of naming one ≡ name)
-
-  -- a name that is found is that of a record of the list
-  found_named : (name : List ℕ) (row : RecordRow) (list : List (List ℕ))
-      → find by_bytes name (filter_map entry list) ≡ Some row
-      → IsNameIn name list
-  found_named name row [] found = cc
-  found_named name row (first ∷ list) found =
-      by_price (price first) (λ found. later (found_named name row list found)) found
-    where
-      later : IsNameIn name list → IsNameIn name (first ∷ list)
-      later one = (
-        one.0,
-        ap (λ b. is one.0 first || b) one.1 ∙ or-true (is one.0 first),
-        one.2,
-      )
-
-      by_price : (costs : Option Priced)
-          → (find by_bytes name (filter_map entry list) ≡ Some row → IsNameIn name (first ∷ list))
-          → find by_bytes name (cons_option (option_map {T = Priced} {U = List ℕ × RecordRow}
-          (λ priced. (name_of naming first, row_by identity charged book.posted first priced)) costs)
-          (filter_map entry list)) ≡ Some row
-          → IsNameIn name (first ∷ list)
-      by_price None rest found = rest found
-      by_price (Some cost) rest found =
-          elim (is name (name_of naming first)) as (λ t. is name (name_of naming first) ≡ t
-          → cond t (Some (row_by identity charged book.posted first cost))
-          (find by_bytes name (filter_map entry list)) ≡ Some row
-          → IsNameIn name (first ∷ list)) [
-            | true ↦ λ same found. (
-              first,
-              is_first first list,
-              sym (tells_apart exact_bytes name (name_of naming first) same),
-            )
-            | false ↦ λ apart found. rest found
-          ] refl found
-
-  -- so each key is the name of a record that is held
+  -- so each key is the name of one,
   pub key_named : (name : List ℕ) → list_any (is name) (keys table) ≡ true
       → (one : List ℕ) × (has book.held one ≡ true) × (name_of naming one ≡ name)
   key_named name on =
-      let some = what_is (get table name) (contains_key-keys table name ∙ on) in
-      let found = found_named name some.0 (members book.held)
-      (sym (get-from_entries nat_list_cmp_total (filter_map entry (members book.held)) name)
-      ∙ some.1) in
-      (found.0, fin.contains_key-keys book.held found.0 ∙ found.1, found.2)
+      let found = one_passes (λ one. is name (name_of naming one)) book.held
+      (sym (keys_where name) ∙ on) in
+      (found.0, found.1, sym (tells_apart exact_bytes name (name_of naming found.0) found.2))
 
-  -- and the name of each record that is held is a key
+  -- and the name of each is a key
   pub key_there : (one : List ℕ) → has book.held one ≡ true
       → list_any (is (name_of naming one)) (keys table) ≡ true
   key_there one there =
-      let cost = what_is (price one) (priced one there) in
-      sym (contains_key-keys table (name_of naming one))
-      ∙ ap is_some (row-found naming book sound price identity charged one there cost.0 cost.1)
+      keys_where (name_of naming one)
+      ∙ some_passes (λ other. is (name_of naming one) (name_of naming other)) book.held one there
+      (is_itself (name_of naming one))
 
   -- keys are in order
   keys_in_order : IsStrictlySortedBy by_bytes (keys table)
@@ -140,3 +103,142 @@ module _ (naming : Naming) (book : Book) (sound : IsSound naming book)
       pub walk_all : walk step (keys table) (T (λ name. false))
           ≡ T (λ name. list_any (is name) (keys table) || false)
       walk_all = walk_on (keys table) (λ name. false) keys_in_order key_named (λ name among. refl)
+
+-- Each record that is held goes from one status to another, where what closed periods count keeps
+-- its price.
+module _ (naming : Naming) (book : Book) (sound : IsSound naming book) (from to : RecordStatus)
+    (was : IsStatus book from) (becomes : IsStatus book to)
+    (settled : (q : List ℕ) → has book.held q ≡ true
+    → is_dated_after (last_close book.rulings) q ≡ false → from.price q ≡ to.price q) where
+  -- a record's row, by what is said of it
+  abbrev row : List ℕ → StatusAt → Priced → RecordRow
+  row = row_for book
+
+  abbrev tables : RecordStatus → Tables
+  tables = tables_at naming book
+
+  -- a step of a walk restates a record, or leaves one that has the same status in both
+  abbrev pub StepsOne : (List ℕ → Tables → Tables) → Tables → List ℕ → Priced → Priced → Type 0
+  StepsOne step tables one cost costs =
+      (step (name_of naming one) tables
+      ≡ restate (open_number book) (last_close book.rulings) (name_of naming one)
+      (row one (status_at from one) cost) (row one (status_at to one) costs) tables)
+      ⊎ ((status_at from one ≡ status_at to one) × (step (name_of naming one) tables ≡ tables))
+
+  abbrev pub Restates : (List ℕ → Tables → Tables) → Type 0
+  Restates step =
+      (one : List ℕ) → has book.held one ≡ true → (cost costs : Priced)
+      → from.price one ≡ Some cost → to.price one ≡ Some costs → (tables : Tables)
+      → get tables.records (name_of naming one) ≡ Some (row one (status_at from one) cost)
+      → StepsOne step tables one cost costs
+
+  -- the status while a walk is on, of one record and of all
+  abbrev its : (List ℕ → Bool) → List ℕ → StatusAt
+  its done q = cond (done (name_of naming q)) (status_at to q) (status_at from q)
+
+  abbrev between : (List ℕ → Bool) → RecordStatus
+  between done = record {
+    price = λ q. (its done q).price;
+    identity = λ q. (its done q).identity;
+    charged = those (λ q. (its done q).charged) book.held;
+  }
+
+  is_between : (done : List ℕ → Bool) (q : List ℕ) → has book.held q ≡ true
+      → status_at (between done) q ≡ its done q
+  is_between done q held = λ i. record (its done q) {
+    charged = (has_those (λ q. (its done q).charged) book.held q
+        ∙ ap (λ h. (its done q).charged && h) held ∙ and-true (its done q).charged) i;
+  }
+
+  among : (done : List ℕ → Bool) → AreAmong (between done).charged book.held
+  among done q on = in_those (λ q. (its done q).charged) book.held q on
+
+  status : (done : List ℕ → Bool) → IsStatus book (between done)
+  status done = record {
+    charged = among done;
+    priced = λ q held. elim (done (name_of naming q)) as (λ b.
+        IsSome (cond b (status_at to q) (status_at from q)).price) [
+          | true ↦ becomes.priced q held
+          | false ↦ was.priced q held
+        ];
+    dated = λ q cost. elim (done (name_of naming q)) as (λ b.
+        (cond b (status_at to q) (status_at from q)).price ≡ Some cost → cost.day ≡ day_of q) [
+          | true ↦ becomes.dated q cost
+          | false ↦ was.dated q cost
+        ];
+  }
+
+  module _ (step : List ℕ → Tables → Tables) (restates : Restates step) (done : List ℕ → Bool)
+      (one : List ℕ) (there : has book.held one ≡ true)
+      (fresh : done (name_of naming one) ≡ false) where
+    abbrev name : List ℕ
+    name = name_of naming one
+
+    abbrev next : List ℕ → Bool
+    next n = is n name || done n
+
+    -- the record before the step and after it, and the others
+    before : status_at (between done) one ≡ status_at from one
+    before = is_between done one there ∙ ap (λ b. cond b (status_at to one) (status_at from one)) fresh
+
+    after : status_at (between next) one ≡ status_at to one
+    after = is_between next one there
+        ∙ ap (λ b. cond (b || done name) (status_at to one) (status_at from one)) (is_itself name)
+
+    others : (q : List ℕ) → has book.held q ≡ true → is q one ≡ false
+        → status_at (between done) q ≡ status_at (between next) q
+    others q held apart =
+        is_between done q held
+        ∙ ap (λ b. cond (b || done (name_of naming q)) (status_at to q) (status_at from q))
+        (sym (names_differ naming book sound q one held there (is_back one q ∙ apart)))
+        ∙ sym (is_between next q held)
+
+    one_step : step name (tables (between done)) ≡ tables (between next)
+    one_step =
+        let cost = what_is (from.price one) (was.priced one there) in
+        let costs = what_is (to.price one) (becomes.priced one there) in
+        let its_cost = ap (λ its. its.price) before ∙ cost.1 in
+        by_case cost.0 costs.0
+        (restated naming book sound (between done) (between next) (status done) (status next) one
+        there others (λ late. ap (λ its. its.price) before ∙ settled one there late
+        ∙ sym (ap (λ its. its.price) after)) cost.0 costs.0 its_cost
+        (ap (λ its. its.price) after ∙ costs.1)
+        ∙ (λ i. restate (open_number book) (last_close book.rulings) name
+        (row one (before i) cost.0) (row one (after i) costs.0) (tables (between done))))
+        (restates one there cost.0 costs.0 cost.1 costs.1 (tables (between done))
+        (row-found naming book sound (between done).price (between done).identity
+        (between done).charged one there cost.0 its_cost
+        ∙ ap (λ its. Some (row one its cost.0)) before))
+      where
+        by_case : (cost costs : Priced)
+            → tables (between next)
+            ≡ restate (open_number book) (last_close book.rulings) name
+            (row one (status_at from one) cost) (row one (status_at to one) costs)
+            (tables (between done))
+            → StepsOne step (tables (between done)) one cost costs
+            → step name (tables (between done)) ≡ tables (between next)
+        by_case cost costs made (inl steps) = steps ∙ sym made
+        by_case cost costs made (inr stays) =
+            stays.1 ∙ tables-alike naming book sound (between done) (between next) (among done)
+            (among next) (λ q held. elim (is q one) as (λ t. is q one ≡ t
+            → status_at (between done) q ≡ status_at (between next) q) [
+              | true ↦ λ same. subst (λ q. status_at (between done) q ≡ status_at (between next) q)
+                  (sym (tells_apart exact_bytes q one same)) (before ∙ stays.0 ∙ sym after)
+              | false ↦ λ apart. others q held apart
+            ] refl)
+
+  -- so a walk restates all of them
+  pub restated_all : (step : List ℕ → Tables → Tables) → Restates step
+      → walk step (keys (tables from).records) (tables from) ≡ tables to
+  restated_all step restates =
+      let all : List (List ℕ) = keys (tables from).records in
+      let none : List ℕ → Bool = λ name. false in
+      let passed : List ℕ → Bool = λ name. list_any (is name) all || false in
+      ap (walk step all) (tables-alike naming book sound from (between none) was.charged (among none)
+      (λ q held. sym (is_between none q held)))
+      ∙ walk_all naming book sound from was (λ done. tables (between done)) step
+      (λ done one there fresh. one_step step restates done one there fresh)
+      ∙ tables-alike naming book sound (between passed) to (among passed) becomes.charged
+      (λ q held. is_between passed q held
+      ∙ ap (λ b. cond (b || false) (status_at to q) (status_at from q))
+      (key_there naming book sound from was q held))

@@ -1,11 +1,13 @@
--- How rows change by the effects of a new record, and of a choice.
-use Rattle.std.specs.Prelude.{ℕ, ◌+◌, ◌-◌, ◌==◌, Bool, true, false, if◌then◌else◌, List, [], Option}
-use Rattle.std.specs.Prelude.{Some, None, unwrap_or}
+-- What happens to one row, and so to the table that it stands in: to a charge row, which a price
+-- joins or leaves, and which a close may move; to a line; and to a record's row, where the record
+-- becomes charged or is so no more, costs something else, is posted, or gets another identity.
+use Rattle.std.specs.Prelude.{ℕ, ℤ, suc, ◌+◌, ◌-◌, ◌==◌, int_lt, Bool, true, false, ◌&&◌}
+use Rattle.std.specs.Prelude.{if◌then◌else◌, List, [], Option, Some, None, unwrap_or}
 use Rattle.std.specs.FinMap.{get, insert, remove}
 use Rattle.tariff_rules.specs.declared.priced.Priced.{Priced}
 use Rattle.book_model.specs.declared.row.ChargeRow.{ChargeRow}
 use Rattle.book_model.specs.declared.row.RowKey.{RowKey}
-use Rattle.book_model.specs.Words.{key_of, row_at}
+use Rattle.book_model.specs.Words.{identity2_of, key_of, record_with, row_at}
 use Rattle.book_core.specs.declared.effects.DayChange.{DayChange}
 use Rattle.book_core.specs.declared.effects.DayChange.TheVariants.{Add, Take}
 use Rattle.book_core.specs.declared.effects.LineChange.{LineChange}
@@ -13,7 +15,7 @@ use Rattle.book_core.specs.declared.effects.LineChange.TheVariants.{AddPlus, Dro
 use Rattle.book_core.specs.declared.effects.LineChange.TheVariants.{AddMinus, DropMinus}
 use Rattle.table_model.specs.Tables.{RecordRow, RecordTable, DayTable, LineTable}
 
--- the row with one more price
+-- the charge row with one more price
 abbrev pub with_price : ChargeRow → Priced → ChargeRow
 with_price row one = record row {
   count = row.count + 1;
@@ -22,7 +24,7 @@ with_price row one = record row {
   amount = row.amount + one.amount;
 }
 
--- the row with one price less
+-- the charge row with one price less
 abbrev pub less_price : ChargeRow → Priced → ChargeRow
 less_price row one = record row {
   count = row.count - 1;
@@ -55,6 +57,11 @@ change_day period None days = days
 change_day period (Some (Add priced)) days = add_price period priced days
 change_day period (Some (Take priced)) days = take_price period priced days
 
+-- a charge row of the open period that is dated after the day belongs to the next period
+abbrev pub move_on : ℕ → ℤ → ℕ × RowKey → ℕ × RowKey
+move_on number day place =
+    if (place.0 == number) && int_lt day place.1.day then (suc number, place.1) else place
+
 -- the lines after a change in the open period
 abbrev pub change_line : ℕ → Option LineChange → LineTable → LineTable
 change_line period None lines = lines
@@ -63,24 +70,26 @@ change_line period (Some (DropPlus name)) lines = remove lines (period, name)
 change_line period (Some (AddMinus name)) lines = insert lines (period, name) false
 change_line period (Some (DropMinus name)) lines = remove lines (period, name)
 
--- a record's row is marked as charged, or loses its mark
+-- a record's row, if there is one, is marked as charged, or loses its mark
 abbrev pub mark_at : Bool → List ℕ → Option RecordRow → RecordTable → RecordTable
 mark_at mark name None records = records
 mark_at mark name (Some row) records = insert records name (record row { charged = mark })
 
-abbrev pub unmark_at : List ℕ → Option RecordRow → RecordTable → RecordTable
-unmark_at = mark_at false
+-- the records after one of them, if any, is no longer charged
+abbrev pub change_mark : Option (List ℕ) → RecordTable → RecordTable
+change_mark None records = records
+change_mark (Some name) records = mark_at false name (get records name) records
 
--- a record's row has another price
+-- a record's row, if there is one, has another price
 abbrev pub price_at : Priced → List ℕ → Option RecordRow → RecordTable → RecordTable
 price_at priced name None records = records
 price_at priced name (Some row) records = insert records name (record row { priced = priced })
 
--- the records after one of them, if any, is no longer charged
-abbrev pub change_mark : Option (List ℕ) → RecordTable → RecordTable
-change_mark None records = records
-change_mark (Some name) records = unmark_at name (get records name) records
+-- a record that is dated on or before the day is posted if it is charged; the others are unchanged
+abbrev pub post_by : ℤ → RecordRow → RecordRow
+post_by day row =
+    if int_lt day row.priced.day then row else record row { posted = row.charged }
 
--- the records after one of them becomes charged
-abbrev pub put_mark : List ℕ → RecordTable → RecordTable
-put_mark name records = mark_at true name (get records name) records
+-- a record's row with its identity by the second rule
+abbrev pub by_second_rule : RecordRow → RecordRow
+by_second_rule row = record row { identity = identity2_of (record_with row.data_bytes) }

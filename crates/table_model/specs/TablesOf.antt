@@ -103,17 +103,22 @@ abbrev pub line_entries : Naming → Period → List (List ℕ × Bool)
 line_entries naming period =
     signed_names naming true period.added ++ signed_names naming false period.taken
 
--- the closes under the numbers of their periods, from this one on
-abbrev pub close_entries : ℕ → List ℤ → List (ℕ × ℤ)
-close_entries number [] = []
-close_entries number (day ∷ later) = (number, day) ∷ close_entries (suc number) later
+-- values under numbers, from this one on
+abbrev pub under_numbers : {V : Type 0} → ℕ → List V → List (ℕ × V)
+under_numbers number [] = []
+under_numbers number (value ∷ later) = (number, value) ∷ under_numbers (suc number) later
 
--- the choices under their numbers, from this one on
+-- the closes under the numbers of their periods
+abbrev pub close_entries : ℕ → List ℤ → List (ℕ × ℤ)
+close_entries number days = under_numbers number days
+
+-- the rows of choices under their numbers
+abbrev pub choice_row : Naming → Choice → ChoiceRow
+choice_row naming choice =
+    record { name = name_of naming choice.chosen; period = choice.period }
+
 abbrev pub choice_entries : Naming → ℕ → List Choice → List (ℕ × ChoiceRow)
-choice_entries naming number [] = []
-choice_entries naming number (choice ∷ later) =
-    (number, record { name = name_of naming choice.chosen; period = choice.period })
-    ∷ choice_entries naming (suc number) later
+choice_entries naming number choices = under_numbers number (map (choice_row naming) choices)
 
 -- the tariffs' texts under their days
 abbrev pub tariff_entries : List AcceptedTerms → List (ℤ × Option (List ℕ))

@@ -1,12 +1,18 @@
-//! Kept tables: the rows that a ledger keeps of its books, how each event changes them, and laws
-//! that follow from the definitions alone.
+//! Kept tables: the rows that a ledger keeps of its books, how each event changes them, and how the
+//! book and each answer of a ledger are read back from them, by laws that follow from the definitions
+//! alone.
 #![tactic(auto)]
 
 mod laws;
+mod readings;
 
 pub use laws::{
-    adoption_follows, adoption_is_steps, at_most_five_differ, at_most_four_differ, choice_follows,
-    choice_reads, close_follows, due_stays, kept_follows, lines_follow, lines_stay, past_stays,
-    reprice_is_steps, rows_follow, sum_is_read, tables_follow, tariff_follows, tariff_is_steps,
-    view_fits, view_follows,
+    adoption_follows, at_most_five_differ, at_most_four_differ, choice_follows, choice_reads,
+    close_follows, due_stays, event_follows, kept_follows, lines_follow, lines_stay, past_stays,
+    rows_follow, sum_is_read, tables_follow, tariff_follows, view_fits, view_follows,
+};
+pub use readings::{
+    accept_follows, adoptions_follow, book_follows, calls_read, calls_stay, choices_follow,
+    counted_follows, disputes_follow, lists_follow, lists_show, numbers_fit, tables_determine,
+    terms_follow, two_are_enough, view_is_determined,
 };

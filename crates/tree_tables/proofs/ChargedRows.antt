@@ -1,18 +1,18 @@
 -- The charged records of an identity, as the tree of marks has them.
-use Rattle.std.proofs.Common.{◌≡◌, ◌∙◌, ℕ, ◌&&◌, ◌||◌, List, [], ◌∷◌, Bool, true, false, cond}
+use Rattle.std.proofs.Common.{◌≡◌, ◌∙◌, ℕ, ◌&&◌, List, [], ◌∷◌, Bool, true, false}
 use Rattle.std.proofs.Common.{Some, None, Result, Ok, Err, map, pos}
 use Rattle.std.proofs.Common.{refl, sym, ap, ap₂, subst}
 use Rattle.std.specs.Prelude.{IfOk, filter, slice_get}
 use Rattle.std.specs.Cmp.{IsTotalOrder, nat_cmp_total}
 use Rattle.std.specs.Cmp.Lexicographic.{nat_list_cmp_total}
 use Rattle.std.specs.FinMap.{entries, get, nat_cmp-IsAntisymmetric}
-use Rattle.std.specs.List.{AllByRecursion, list_any}
+use Rattle.std.specs.List.{AllByRecursion}
 use Rattle.std.specs.Option.{option_map}
 use Rattle.std.specs.Ordering.{eq_by_cmp, is_eq, nat_cmp, ordering_then}
 use Rattle.std.specs.declared.cmp.Ordering.{Ordering}
-use Rattle.std.proofs.lemmas.List.Elements.{All-filter, filter_agree, recursion_from_All}
+use Rattle.std.proofs.lemmas.List.Elements.{filter_agree}
 use Rattle.std.proofs.lemmas.Map.Views.{tells_apart}
-use Rattle.sqlite_trees.proofs.ListLemmas.{map-map}
+use Rattle.sqlite_trees.proofs.ListLemmas.{all-filter, map-map}
 use Rattle.sqlite_trees.specs.View.{IsClean}
 use Rattle.sqlite_trees.specs.declared.error.StoreError.{StoreError}
 use Rattle.sqlite_trees.specs.declared.store.Store.{Ghosts}
@@ -20,6 +20,7 @@ use Rattle.sqlite_value.proofs.OrderLemmas.{then-Equal, value_cmp-Blob, value_cm
 use Rattle.sqlite_value.specs.Order.{Row, column, row_cmp}
 use Rattle.sqlite_value.specs.declared.value.Value.TheVariants.{Blob, Int}
 use Rattle.book_model.specs.Words.{same_bytes}
+use Rattle.book_model.proofs.ListLemmas.{filter-filter}
 use Rattle.book_model.proofs.SetLemmas.{same_bytes-by_cmp}
 use Rattle.table_model.specs.Tables.{RecordRow, RecordTable, Tables}
 use Rattle.table_model.specs.Views.{rows_with}
@@ -37,12 +38,13 @@ use Rattle.tree_tables.specs.Holds.{mark_key, marks}
 use Rattle.tree_tables.specs.States.{state}
 use Rattle.tree_tables.specs.Steps.{Looks}
 use Rattle.tree_tables.specs.declared.stored_record.StoredRecord.{StoredRecord}
-use Rattle.tree_tables.proofs.FoundNames.{Entry, entries_had}
+use Rattle.tree_tables.proofs.FoundNames.{Entry, some_had}
 use Rattle.tree_tables.proofs.Layouts.{mark_layout, numbers}
 use Rattle.tree_rows.proofs.Calls.{Quiet}
 use Rattle.tree_tables.proofs.Looking.{looks_found}
 use Rattle.tree_tables.proofs.RecordIndexes.{mark_named}
 use Rattle.tree_tables.proofs.RecordLists.{mark_rows}
+use Rattle.tree_tables.proofs.RowsRead.{any_is, first_has, made_has, same_blob}
 
 -- a key of the tree of marks, and its prefix: the mark and the identity
 abbrev pub Key : Type 0
@@ -99,39 +101,6 @@ module _ (given : Front) where
       ∙ ap (map mark_columns) (index_in_order mark_named by_front_total front_of
       (λ e f. fronts_first (mark_key e) (mark_key f)) given has_front only_given records)
 
--- two tests, one after the other
-module _ {X : Type 0} (p q : X → Bool) where
-  -- what one test keeps of a list, where the other has decided on the prefix
-  again : (b c : Bool) (x : X) (both : List X) (rest : List X) → p x ≡ b → both ≡ filter p rest
-      → cond (b && c) (x ∷ both) both ≡ filter p (cond c (x ∷ rest) rest)
-  again true true x both rest one same =
-      ap (λ more. x ∷ more) same
-      ∙ sym (ap (λ b. cond b (x ∷ filter p rest) (filter p rest)) one)
-  again false true x both rest one same =
-      same ∙ sym (ap (λ b. cond b (x ∷ filter p rest) (filter p rest)) one)
-  again true false x both rest one same = same
-  again false false x both rest one same = same
-
-  filter_again : (xs : List X) → filter (λ x. p x && q x) xs ≡ filter p (filter q xs)
-  filter_again [] = refl
-  filter_again (x ∷ xs) =
-      again (p x) (q x) x (filter (λ x. p x && q x) xs) (filter q xs) refl (filter_again xs)
-
--- whether a list has an element
-abbrev has_one : {X : Type 0} → List X → Bool
-has_one [] = false
-has_one (x ∷ xs) = true
-
--- a test is passed where something is left of it
-any_is : {X : Type 0} (p : X → Bool) (xs : List X) → list_any p xs ≡ has_one (filter p xs)
-any_is p [] = refl
-any_is p (x ∷ xs) =
-    elim (p x) as (λ b. (b || list_any p xs)
-    ≡ has_one (cond b (x ∷ filter p xs) (filter p xs))) [
-      | true ↦ refl
-      | false ↦ any_is p xs
-    ]
-
 module _ (records : RecordTable) (identity : List ℕ) where
   -- a key has the mark of charged records, and the identity
   front_is : (e : Entry) → has_front (flag true, identity) (mark_key e)
@@ -162,7 +131,7 @@ module _ (records : RecordTable) (identity : List ℕ) where
       ∙ ap (map mark_row)
       (filter_agree (λ e. has_front (flag true, identity) (mark_key e))
       (λ e. is_charged e && same_bytes e.1.identity identity) front_is (entries records)
-      ∙ filter_again is_charged (λ e. same_bytes e.1.identity identity) (entries records))
+      ∙ sym (filter-filter is_charged (λ e. same_bytes e.1.identity identity) (entries records)))
 
 -- what the first mark of a charged record that has the identity says of the tables
 pub record NamesCharged (identity : List ℕ) (tables : Tables) (name : List ℕ) : Type 0 where
@@ -198,13 +167,10 @@ module _ (tables : Tables) (identity : List ℕ) (row : Row) {rows : List Row}
   pub has_charged_is : (there : Bool) → IsFirst (run_of (charged_part identity) rows) row there
       → HasCharged identity tables there
   has_charged_is there begins =
-      by there (one_of (charged_with identity tables.records) there (found_of there begins))
+      let all = charged_with identity tables.records in
+      first_has (map (mark_row tables.records identity) all) row there (found_of there begins)
+      ∙ made_has (mark_row tables.records identity) all
       ∙ sym (any_is is_charged (rows_with identity tables.records))
-    where
-      by : (there : Bool) → OneOf (charged_with identity tables.records) there
-          → there ≡ has_one (charged_with identity tables.records)
-      by true one = ap has_one (sym one.2)
-      by false none = ap has_one (sym none)
 
   -- where no mark is found, no record of the identity is charged
   pub charged_none : IsFirst (run_of (charged_part identity) rows) row false
@@ -217,12 +183,9 @@ module _ (tables : Tables) (identity : List ℕ) (row : Row) {rows : List Row}
   charged_had : AllByRecursion (λ (e : Entry). get tables.records e.0 ≡ Some e.1)
       (charged_with identity tables.records)
   charged_had =
-      let Had : Entry → Type 0 = λ e. get tables.records e.0 ≡ Some e.1 in
       let same : Entry → Bool = λ e. same_bytes e.1.identity identity in
-      recursion_from_All Had (filter is_charged (filter same (entries tables.records)))
-      (All-filter is_charged Had (filter same (entries tables.records))
-      (All-filter same Had (entries tables.records)
-      (entries_had nat_list_cmp_total tables.records)))
+      all-filter (λ (e : Entry). get tables.records e.0 ≡ Some e.1) is_charged
+      (filter same (entries tables.records)) (some_had tables.records same)
 
   -- the mark that is found ends in the name of the first
   pub charged_names : IsFirst (run_of (charged_part identity) rows) row true
@@ -250,10 +213,7 @@ module _ (tables : Tables) (identity : List ℕ) (row : Row) {rows : List Row}
       → column row 2 ≡ Blob name → NamesCharged identity tables name
   charged_named name begins says =
       let it = charged_names begins in
-      subst (NamesCharged identity tables) (same_name it.0.0 (sym it.2 ∙ says)) it.1
-    where
-      same_name : (other : List ℕ) → Blob other ≡ Blob name → other ≡ name
-      same_name other same = cc
+      subst (NamesCharged identity tables) (same_blob it.0.0 name (sym it.2 ∙ says)) it.1
 
 module _ (tables : Tables) (identity name : List ℕ) (names : NamesCharged identity tables name)
   where

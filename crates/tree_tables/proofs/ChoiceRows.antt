@@ -1,11 +1,9 @@
--- Choices: how one is written into the two trees, what the last row of their own shows, and which
--- number the last of a book's has.
+-- Choices: how one is written into the two trees, and what the last row of their own shows.
 use Rattle.std.proofs.Common.{◌≡◌, ◌∙◌, ◌<◌, ◌^◌, ℕ, pos, List, [], ◌∷◌, ◌++◌, Option, Some, None}
-use Rattle.std.proofs.Common.{◌+◌, false, true, suc, length, map, refl, reverse, sym, ap, ap₂}
-use Rattle.std.proofs.Common.{arith}
+use Rattle.std.proofs.Common.{false, true, map, refl, reverse, sym, ap, ap₂}
 use Rattle.std.specs.Prelude.{unwrap_or}
 use Rattle.std.specs.Cmp.{nat_cmp_total}
-use Rattle.std.specs.FinMap.{entries, from_entries, get, insert, keys, nat_cmp-IsAntisymmetric}
+use Rattle.std.specs.FinMap.{entries, get, keys, nat_cmp-IsAntisymmetric}
 use Rattle.std.specs.List.{last_or}
 use Rattle.std.specs.Ordering.{nat_cmp}
 use Rattle.std.specs.Option.{option_map}
@@ -17,13 +15,9 @@ use Rattle.sqlite_value.specs.Keys.{plain}
 use Rattle.sqlite_value.specs.Order.{Row, column}
 use Rattle.sqlite_value.specs.declared.value.Value.{Value}
 use Rattle.sqlite_value.specs.declared.value.Value.TheVariants.{Int}
-use Rattle.book_model.specs.Words.{Choice, Naming}
-use Rattle.book_model.proofs.FilterLemmas.{entries-sorted}
 use Rattle.book_model.proofs.ListLemmas.{last_or-behind}
 use Rattle.table_model.specs.Steps.{put_choice_row}
 use Rattle.table_model.specs.Tables.{ChoiceRow, ChoiceTable, Tables}
-use Rattle.table_model.specs.TablesOf.{choice_entries}
-use Rattle.table_model.proofs.ViewLemmas.{choices_rise}
 use Rattle.tree_rows.specs.Indexes.{IsIndexKey}
 use Rattle.tree_rows.specs.Rows.{IsFirst, Rewrites}
 use Rattle.tree_rows.proofs.Maps.{inserted}
@@ -31,10 +25,12 @@ use Rattle.tree_tables.specs.Answers.{last_number}
 use Rattle.tree_tables.specs.Columns.{choice_columns, choice_name_columns}
 use Rattle.tree_tables.specs.Fits.{HasChoiceNumber}
 use Rattle.tree_tables.specs.Holds.{Holds, by_chosen, choice_name_key}
-use Rattle.tree_tables.proofs.Holding.{apart, with_choices}
+use Rattle.tree_tables.proofs.Holding.{apart, has_rows, have_but, holds_rows}
 use Rattle.tree_tables.proofs.Layouts.{by_chosen_exact, by_chosen_total}
 use Rattle.tree_tables.proofs.Layouts.{choice_layout, choice_name_layout}
 use Rattle.tree_tables.proofs.RecordIndexes.{index_row_added}
+use Rattle.tree_tables.proofs.RowsRead.{same_count}
+use Rattle.table_model.proofs.DueLemmas.{last_map}
 
 -- the index key of a choice by the name of its record
 pub chosen_named :
@@ -59,28 +55,17 @@ pub choice_added : {old mid new : View} {tables : Tables} (number : ℕ) (name :
 choice_added {old} {mid} {new} {tables} number name period first second made_is found_is holds
     none =
     let choice : ChoiceRow = record { name = name; period = period } in
-    with_choices holds (insert tables.choices number choice)
-    (λ other choices names. second.others other names ∙ first.others other choices)
-    (second.others 8 (apart 8 9 refl) ∙ first.rows_now
-    ∙ ap₂ (insert_entry plain) made_is holds.choices
-    ∙ inserted choice_layout tables.choices number choice none)
+    holds_rows holds.placed (have_but 9 second.others
     (second.rows_now
-    ∙ ap₂ (insert_entry plain) found_is (first.others 9 (apart 9 8 refl) ∙ holds.choice_name_index)
-    ∙ index_row_added chosen_named choice_name_layout tables.choices number choice none)
-
--- what is made of the last is the last of what is made
-last_made : {X Y : Type 0} (f : X → Y) (was : Option X) (xs : List X)
-    → last_or (option_map f was) (map f xs) ≡ option_map f (last_or was xs)
-last_made f was [] = refl
-last_made f was (x ∷ xs) = last_made f (Some x) xs
+    ∙ index_row_added chosen_named choice_name_layout tables.choices number choice found_is
+    (first.others 9 (apart 9 8 refl) ∙ holds.choice_name_index) none)
+    (have_but 8 first.others
+    (first.rows_now ∙ ap₂ (insert_entry plain) made_is holds.choices
+    ∙ inserted choice_layout tables.choices number choice none) (has_rows holds) refl) refl)
 
 -- a number as it is in a column
 abbrev in_column : ℕ → Value
 in_column n = Int (pos n)
-
--- numbers are kept apart by their columns
-same_number : (m n : ℕ) → Int (pos m) ≡ Int (pos n) → m ≡ n
-same_number m n same = cc
 
 -- a list that ends in a row, by its rows from the last on
 ends_in : (rows more : List Row) (row : Row) → reverse rows ≡ row ∷ more
@@ -102,7 +87,7 @@ module _ (choices : ChoiceTable) (rows : List Row) (row : Row)
   last_is : IsFirst (reverse rows) row true
       → option_map in_column (last_or None (keys choices)) ≡ Some (column row 0)
   last_is first =
-      sym (last_made in_column None (keys choices))
+      sym (last_map in_column (keys choices) None)
       ∙ ap (last_or None) (sym numbers_are
       ∙ ap (map (λ (r : Row). column r 0)) (ends_in rows first.0 row first.1)
       ∙ map-append (λ (r : Row). column r 0) (reverse first.0) (row ∷ []))
@@ -122,7 +107,7 @@ module _ (choices : ChoiceTable) (rows : List Row) (row : Row)
   pub number_read : (n : ℕ) → IsFirst (reverse rows) row true → column row 0 ≡ Int (pos n)
       → n ≡ last_number choices
   number_read n first says =
-      same_number n (last_number choices) (sym says ∙ number_shown first)
+      same_count n (last_number choices) (sym says ∙ number_shown first)
 
   -- and where that is small it can be read
   pub number_fits : IsFirst (reverse rows) row true → last_number choices < 2 ^ 32
@@ -139,21 +124,3 @@ module _ (choices : ChoiceTable) (rows : List Row) (row : Row)
           → 0 ≡ unwrap_or (last_or None numbers) 0
       by [] is = refl
       by (n ∷ numbers) is = absurd (let e = is in cc)
-
--- the last of numbers that go on from one is it and as many more as there are
-numbers_end : (naming : Naming) (n : ℕ) (choices : List Choice) (was : Option ℕ)
-    → unwrap_or was 0 ≡ n
-    → unwrap_or (last_or was (map (λ (e : ℕ × ChoiceRow). e.0)
-    (choice_entries naming (suc n) choices))) 0 ≡ n + length choices
-numbers_end naming n [] was is = is ∙ omega arith
-numbers_end naming n (choice ∷ choices) was is =
-    numbers_end naming (suc n) choices (Some (suc n)) refl ∙ omega arith
-
--- So where the choices are under their numbers from 1 on, the last number is how many they are.
-pub last_is_count : (naming : Naming) (choices : List Choice)
-    → last_number (from_entries (choice_entries naming 1 choices)) ≡ length choices
-last_is_count naming choices =
-    ap (λ es. unwrap_or (last_or None (map (λ (e : ℕ × ChoiceRow). e.0) es)) 0)
-    (entries-sorted nat_cmp_total nat_cmp-IsAntisymmetric (choice_entries naming 1 choices)
-    (choices_rise naming 1 choices))
-    ∙ numbers_end naming 0 choices None refl ∙ omega arith

@@ -1,6 +1,6 @@
 -- Whether a choice names a record, as the tree of chosen names shows it; and the choices as they
 -- are looked up and listed.
-use Rattle.std.proofs.Common.{◌≡◌, ◌∙◌, ℕ, ◌||◌, List, [], ◌∷◌, Bool, true, false, cond, map, pos}
+use Rattle.std.proofs.Common.{◌≡◌, ◌∙◌, ℕ, List, [], ◌∷◌, Bool, true, false, map, pos}
 use Rattle.std.proofs.Common.{Some, None, refl, sym, ap, subst}
 use Rattle.std.specs.Prelude.{filter}
 use Rattle.std.specs.Cmp.Lexicographic.{nat_list_cmp_total}
@@ -9,6 +9,7 @@ use Rattle.std.specs.List.{AllZip, list_any}
 use Rattle.std.specs.Option.{option_map}
 use Rattle.std.specs.Ordering.{eq_by_cmp, is_eq, nat_cmp}
 use Rattle.std.proofs.lemmas.Map.Views.{tells_apart}
+use Rattle.sqlite_trees.proofs.ListLemmas.{filter-map}
 use Rattle.sqlite_value.specs.Order.{Row}
 use Rattle.sqlite_value.specs.declared.value.Value.TheVariants.{Blob, Int}
 use Rattle.book_model.proofs.SetLemmas.{same_bytes-by_cmp}
@@ -21,7 +22,9 @@ use Rattle.tree_rows.specs.Runs.{run_of}
 use Rattle.tree_rows.proofs.IndexLists.{index_in_order}
 use Rattle.tree_rows.proofs.IndexOrders.{by_bytes_exact}
 use Rattle.tree_rows.proofs.Keyed.{row_found}
+use Rattle.tree_rows.proofs.Maps.{not_none}
 use Rattle.tree_rows.proofs.Runs.{finds_run, run_named}
+use Rattle.tree_rows.proofs.Taking.{some_is}
 use Rattle.tree_tables.specs.Answers.{FindsChoice, HasChoice}
 use Rattle.tree_tables.specs.Columns.{choice_columns, choice_name_columns}
 use Rattle.tree_tables.specs.Fits.{ChoiceFits, IsNumbered, NumberedFits}
@@ -29,6 +32,7 @@ use Rattle.tree_tables.specs.Holds.{choice_name_key, choice_name_index}
 use Rattle.tree_tables.specs.Stored.{SaysChoice, choice_entry}
 use Rattle.tree_tables.specs.declared.choice_rows.StoredChoice.{StoredChoice}
 use Rattle.tree_tables.proofs.ChoiceRows.{chosen_named}
+use Rattle.tree_tables.proofs.RowsRead.{any_is, first_has, has_one, made_has, same_blob, same_count}
 use Rattle.tree_tables.proofs.RowsRead.{told_of_each}
 use Rattle.tree_tables.proofs.Layouts.{choice_layout, choice_name_layout}
 
@@ -43,38 +47,6 @@ Key = List ℕ × ℕ
 -- the rows of the tree
 abbrev name_rows : ChoiceTable → List Row
 name_rows choices = map choice_name_columns (entries (choice_name_index choices))
-
--- whether a list has an element
-abbrev has_one : {X : Type 0} → List X → Bool
-has_one [] = false
-has_one (x ∷ xs) = true
-
--- what is made of each element is as many
-made_has : {X Y : Type 0} (f : X → Y) (xs : List X) → has_one (map f xs) ≡ has_one xs
-made_has f [] = refl
-made_has f (x ∷ xs) = refl
-
--- a first row is there where there is a row
-first_has : (rows : List Row) (row : Row) (there : Bool) → IsFirst rows row there
-    → there ≡ has_one rows
-first_has [] row true begins = absurd (let e = begins.1 in cc)
-first_has [] row false begins = refl
-first_has (one ∷ rows) row true begins = refl
-first_has (one ∷ rows) row false begins = absurd (let e = begins in cc)
-
--- the name of a choice passes a test where one is left of those that do
-any_named : (test : List ℕ → Bool) (es : List Entry)
-    → list_any (λ (choice : ChoiceRow). test choice.name) (map (λ (e : Entry). e.1) es)
-    ≡ has_one (filter (λ (e : Entry). test e.1.name) es)
-any_named test [] = refl
-any_named test (e ∷ es) =
-    elim (test e.1.name) as (λ b.
-    (b || list_any (λ (choice : ChoiceRow). test choice.name) (map (λ (e : Entry). e.1) es))
-    ≡ has_one (cond b (e ∷ filter (λ (e : Entry). test e.1.name) es)
-    (filter (λ (e : Entry). test e.1.name) es))) [
-      | true ↦ refl
-      | false ↦ any_named test es
-    ]
 
 -- Choices of one name are in the tree of names in the order of their numbers.
 module _ (name : List ℕ) where
@@ -109,7 +81,10 @@ module _ (name : List ℕ) where
       ap (λ (same : List ℕ → List ℕ → Bool).
       list_any (λ (choice : ChoiceRow). same choice.name name) (values choices))
       same_bytes-by_cmp
-      ∙ any_named (λ one. eq_by_cmp by_bytes one name) (entries choices)
+      ∙ any_is (λ (choice : ChoiceRow). eq_by_cmp by_bytes choice.name name) (values choices)
+      ∙ ap has_one (filter-map (λ (choice : ChoiceRow). eq_by_cmp by_bytes choice.name name)
+      (λ (e : Entry). e.1) (entries choices))
+      ∙ made_has (λ (e : Entry). e.1) (with_name (entries choices))
 
   -- So a look-up of the name in the tree shows whether a choice names the record.
   pub named_found : (tables : Tables) {rows : List Row} {key row : Row} (hit : Bool)
@@ -124,20 +99,13 @@ module _ (name : List ℕ) where
       ∙ made_has choice_name_columns (keys_with (entries tables.choices))
       ∙ made_has (indexed_by choice_name_key) es ∙ sym (named_has tables.choices)
 
--- numbers and names are known by their columns
-same_number : (m n : ℕ) → Int (pos m) ≡ Int (pos n) → n ≡ m
-same_number m n e = cc
-
-same_name : (one other : List ℕ) → Blob one ≡ Blob other → other ≡ one
-same_name one other e = cc
-
 -- a choice that a row says is the one that the row is made of
 choice_said : (choice : Entry) (stored : StoredChoice) → SaysChoice (choice_columns choice) stored
     → choice_entry stored ≡ choice
 choice_said choice stored says =
-    let number = same_number choice.0 stored.number says.number in
-    let name = same_name choice.1.name stored.name says.name in
-    let period = same_number choice.1.period stored.period says.period in
+    let number = same_count stored.number choice.0 (sym says.number) in
+    let name = same_blob stored.name choice.1.name (sym says.name) in
+    let period = same_count stored.period choice.1.period (sym says.period) in
     λ i. (number i, record { name = name i; period = period i })
 
 -- so the choices that are read of all rows are those of the table
@@ -178,14 +146,10 @@ pub numbered_fits : (number : ℕ) (tables : Tables) → IsNumbered number table
     → NumberedFits number tables
 numbered_fits number tables numbered row there =
     subst (λ (row : ChoiceRow). ChoiceFits (choice_columns (number, row)))
-    (same_some numbered.0 row (sym numbered.1 ∙ there)) numbered.2
-  where
-    same_some : (one other : ChoiceRow) → Some one ≡ Some other → one ≡ other
-    same_some one other same = cc
+    (some_is numbered.0 row (sym numbered.1 ∙ there)) numbered.2
 
 -- and is not missed
 pub choice_stays : (number : ℕ) (tables : Tables) → IsNumbered number tables
     → FindsChoice number tables None → ⊥
 choice_stays number tables numbered missed =
-    let both = missed ∙ ap (option_map (λ (row : ChoiceRow). (number, row))) numbered.1 in
-    absurd (let e = both in cc)
+    not_none _ (sym (missed ∙ ap (option_map (λ (row : ChoiceRow). (number, row))) numbered.1))

@@ -1,6 +1,6 @@
 -- Charge rows: how they are written, and what is read of them.
-use Rattle.std.proofs.Common.{◌≡◌, ◌∷◌, [], ℕ, ℤ, pos, true, false, cond, List, Bool, map}
-use Rattle.std.proofs.Common.{Some, None, refl, sym, ap, ◌∙◌, true≢false}
+use Rattle.std.proofs.Common.{◌≡◌, ◌∷◌, [], ℕ, pos, true, false, cond, List, Bool, map}
+use Rattle.std.proofs.Common.{Some, None, refl, sym, ap, subst, ◌∙◌}
 use Rattle.std.specs.FinMap.{entries, get, get-insert, get-remove, insert, remove}
 use Rattle.std.specs.List.{AllZip}
 use Rattle.std.specs.Ordering.{eq_by_cmp}
@@ -31,9 +31,9 @@ use Rattle.tree_tables.specs.Days.{SaysDay}
 use Rattle.tree_tables.specs.Holds.{AreUnderOwnKeys}
 use Rattle.tree_tables.specs.Steps.{Always, Changes}
 use Rattle.tree_tables.specs.declared.day_rows.StoredDay.{StoredDay}
-use Rattle.tree_tables.proofs.Holding.{table_put, with_days}
+use Rattle.tree_tables.proofs.Holding.{has_rows, have_but, holds_rows, table_put}
 use Rattle.tree_tables.proofs.Layouts.{day_layout}
-use Rattle.tree_tables.proofs.RowsRead.{all_entries, told_of_all}
+use Rattle.tree_tables.proofs.RowsRead.{all_entries, same_count, same_int, same_text, told_of_all}
 
 -- the order of charge rows
 abbrev by_spot : ℕ × RowKey → ℕ × RowKey → Ordering
@@ -69,8 +69,7 @@ pub day_put : {old new : View} {key columns : Row} (period : ℕ) (row : ChargeR
 day_put period row puts key_is row_is =
     table_put day_layout (λ (tables : Tables). tables.days) (period, row_key row) row
     (put_day_row period row) puts key_is row_is (λ tables holds. holds.days)
-    (λ tables holds. with_days holds _
-    (placed_put tables.days (period, row_key row) row refl holds.placed))
+    (λ tables. refl) (λ tables. placed_put tables.days (period, row_key row) row refl)
 
 -- a row that is dropped by its place is gone from the table
 pub day_dropped : {old new : View} {key : Row} (period : ℕ) (place : RowKey)
@@ -79,20 +78,11 @@ pub day_dropped : {old new : View} {key : Row} (period : ℕ) (place : RowKey)
 day_dropped period place drops key_is = record {
   only = drops.rewrites.only;
   made = λ tables holds when.
-      with_days holds (remove tables.days (period, place))
-      (placed_drop tables.days (period, place) holds.placed) drops.rewrites.others
-      (rows_dropped day_layout tables.days (period, place) drops holds.days key_is);
+      holds_rows (placed_drop tables.days (period, place) holds.placed)
+      (have_but 4 drops.rewrites.others
+      (rows_dropped day_layout tables.days (period, place) drops holds.days key_is) (has_rows holds)
+      refl);
 }
-
--- numbers and texts are kept apart by their columns
-same_int : (one other : ℤ) → Int one ≡ Int other → one ≡ other
-same_int one other same = cc
-
-same_count : (one other : ℕ) → Int (pos one) ≡ Int (pos other) → one ≡ other
-same_count one other same = cc
-
-same_text : (one other : List ℕ) → Text one ≡ Text other → one ≡ other
-same_text one other same = cc
 
 -- what is read of the row of a charge row at its place is the charge row
 pub day_said : (charge : ChargeRow) (entry : (ℕ × RowKey) × ChargeRow) (columns : Row)
@@ -133,27 +123,17 @@ module _ (period : ℕ) (place : RowKey) (tables : Tables) {rows : List Row} {ke
   -- where no row has the place, the table has none
   pub day_missing : hit ≡ false → FindsDay period place tables None
   day_missing missed =
-      by_answer hit missed (row_found day_layout tables.days (period, place) finds held key_is)
-    where
-      by_answer : (hit : Bool) → hit ≡ false
-          → Answers day_layout tables.days (period, place) columns hit
-          → FindsDay period place tables None
-      by_answer true missed answer = absurd (true≢false missed)
-      by_answer false missed answer = sym answer
+      sym (subst (Answers day_layout tables.days (period, place) columns) missed
+      (row_found day_layout tables.days (period, place) finds held key_is))
 
   -- and where one has, what is read of it is the table's
   pub day_found : (charge : ChargeRow) → AreUnderOwnKeys tables.days → hit ≡ true
       → SaysDay columns charge → FindsDay period place tables (Some charge)
   day_found charge placed found says =
-      by_answer hit found (row_found day_layout tables.days (period, place) finds held key_is)
-    where
-      by_answer : (hit : Bool) → hit ≡ true
-          → Answers day_layout tables.days (period, place) columns hit
-          → FindsDay period place tables (Some charge)
-      by_answer true found answer =
-          ap (λ row. Some row) (day_said charge ((period, place), answer.0) columns
-          (placed (period, place) answer.0 answer.1) answer.2 says) ∙ sym answer.1
-      by_answer false found answer = absurd (true≢false (sym found))
+      let answer = subst (Answers day_layout tables.days (period, place) columns) found
+      (row_found day_layout tables.days (period, place) finds held key_is) in
+      ap (λ row. Some row) (day_said charge ((period, place), answer.0) columns
+      (placed (period, place) answer.0 answer.1) answer.2 says) ∙ sym answer.1
 
 -- the run of a period's number is that of its charge rows
 pub days_run : (period : ℕ) (tables : Tables) (rows : List Row) (key : Row)

@@ -1,29 +1,29 @@
 -- Records that are found by the names that an index gives.
 use Rattle.std.proofs.Common.{◌≡◌, ◌∙◌, ℕ, ◌+◌, ◌-◌, ◌<◌, List, [], ◌∷◌, ◌++◌, Option, None, Some}
-use Rattle.std.proofs.Common.{map, take, get_or, length, refl, sym, ap, subst, cond}
-use Rattle.std.specs.Prelude.{T}
-use Rattle.std.specs.Cmp.{IsTotalOrder, tied_itself}
-use Rattle.std.specs.FinMap.{FinMap, entries, entries_sorted, find, get, get-entries, is_sorted}
-use Rattle.std.specs.FinMap.Entries.{below_all}
+use Rattle.std.proofs.Common.{Bool, map, take, get_or, length, refl, sym, ap, subst}
+use Rattle.std.specs.Prelude.{filter}
+use Rattle.std.specs.Cmp.Lexicographic.{nat_list_cmp_total}
+use Rattle.std.specs.FinMap.{entries, get}
 use Rattle.std.specs.List.{All, AllByRecursion, AllZip, flat_map}
 use Rattle.std.specs.Option.{option_map, option_to_list}
-use Rattle.std.specs.Ordering.{is_eq, ordering_reverse}
-use Rattle.std.specs.declared.cmp.Ordering.{Ordering}
 use Rattle.std.proofs.lemmas.List.{take_more}
-use Rattle.std.proofs.lemmas.List.Elements.{All-from_recursion}
+use Rattle.std.proofs.lemmas.List.Elements.{All-filter, All-from_recursion, recursion_from_All}
 use Rattle.std.proofs.lemmas.Slice.Zip.{all_zipped_more}
 use Rattle.sqlite_trees.proofs.ListLemmas.{all-get_or}
 use Rattle.sqlite_value.specs.Order.{Row, column}
 use Rattle.sqlite_value.specs.declared.value.Value.TheVariants.{Blob}
 use Rattle.table_model.specs.Tables.{RecordRow, RecordTable, Tables}
 use Rattle.tree_rows.specs.Indexes.{IsKeyOf}
-use Rattle.tree_rows.proofs.Maps.{first, second, less}
+use Rattle.tree_rows.proofs.IndexOrders.{by_bytes_exact}
+use Rattle.tree_rows.proofs.Maps.{not_none}
+use Rattle.tree_rows.proofs.Taking.{some_is}
 use Rattle.tree_tables.specs.Answers.{FindsNamed, FindsRecord}
 use Rattle.tree_tables.specs.Columns.{record_columns}
-use Rattle.tree_tables.specs.Fits.{AllNamed, IsNamed, NamedFits, RecordFits}
+use Rattle.tree_tables.specs.Fits.{AllNamed, EachFits, IsNamed, NamedFits, RecordFits}
 use Rattle.tree_tables.specs.Stored.{stored_entry}
 use Rattle.tree_tables.specs.declared.found_names.FoundName.{FoundName}
 use Rattle.tree_tables.specs.declared.stored_record.StoredRecord.{StoredRecord}
+use Rattle.tree_tables.proofs.RowsRead.{all_entries, same_blob}
 
 -- a record under its name
 abbrev pub Entry : Type 0
@@ -61,17 +61,13 @@ one_named tables names i default within all =
 pub named_fits : (tables : Tables) (name : List ℕ) → IsNamed name tables → NamedFits name tables
 named_fits tables name named row there =
     subst (λ (row : RecordRow). RecordFits (record_columns (name, row)))
-    (same_some named.0 row (sym named.1 ∙ there)) named.2
-  where
-    same_some : (one other : RecordRow) → Some one ≡ Some other → one ≡ other
-    same_some one other same = cc
+    (some_is named.0 row (sym named.1 ∙ there)) named.2
 
 -- and is not missed
 pub never_missed : (tables : Tables) (name : List ℕ) → IsNamed name tables
     → FindsRecord name tables None → ⊥
 never_missed tables name named missed =
-    let both = missed ∙ ap (option_map (λ (row : RecordRow). (name, row))) named.1 in
-    absurd (let e = both in cc)
+    not_none _ (sym (missed ∙ ap (option_map (λ (row : RecordRow). (name, row))) named.1))
 
 -- the records that were found are those of the names
 pub named_found : (names : List FoundName) (tables : Tables) (found : List StoredRecord)
@@ -96,12 +92,8 @@ names_read row name is [] [] says = refl
 names_read row name is [] (one ∷ names) says = absurd says
 names_read row name is (q ∷ qs) [] says = absurd says
 names_read row name is (q ∷ qs) (one ∷ names) says =
-    let here : one.name ≡ name q = (let a = says.0 in let b = is q in same_blob a b) in
+    let here : one.name ≡ name q = same_blob one.name (name q) (sym says.0 ∙ is q) in
     λ i. here i ∷ names_read row name is qs names says.1 i
-  where
-    same_blob : column (row q) (length (row q) - 1) ≡ Blob one.name
-        → column (row q) (length (row q) - 1) ≡ Blob (name q) → one.name ≡ name q
-    same_blob a b = cc
 
 -- entries of the table are found by their names
 pub entries_named : (records : RecordTable) (es : List Entry)
@@ -124,34 +116,36 @@ keys_named key name records (q ∷ qs) each =
     ++ flat_map (at_name records) (map name qs))) here.1
     ∙ (λ i. here.2 i ∷ keys_named key name records qs each.1 i)
 
-module _ {K V : Type 0} {R : K → K → Ordering} (total : IsTotalOrder R) where
-  -- entries that are found after one that is below them are found among all
-  found_behind : (e : K × V) (es xs : List (K × V)) → T (below_all R e.0 xs)
-      → AllByRecursion (λ x. find R x.0 es ≡ Some x.1) xs
-      → AllByRecursion (λ x. find R x.0 (e ∷ es) ≡ Some x.1) xs
-  found_behind e es [] below each = tt
-  found_behind e es (x ∷ xs) below each = (
-    ap (λ o. cond (is_eq o) (Some e.1) (find R x.0 es))
-        (total.antisymm x.0 e.0 ∙ ap ordering_reverse (less _ (first _ _ below))) ∙ each.0,
-    found_behind e es xs (second _ _ below) each.1,
-  )
+-- the table has each of its entries,
+pub entries_had : (records : RecordTable)
+    → All (λ (e : Entry). get records e.0 ≡ Some e.1) (entries records)
+entries_had records =
+    let Had : Entry → Type 0 = λ e. get records e.0 ≡ Some e.1 in
+    All-from_recursion Had (entries records)
+    (all_entries nat_list_cmp_total by_bytes_exact Had records (λ k v there. there))
 
-  -- each of sorted entries is found by its key
-  each_found : (es : List (K × V)) → T (is_sorted R es)
-      → AllByRecursion (λ e. find R e.0 es ≡ Some e.1) es
-  each_found [] sorted = tt
-  each_found (e ∷ es) sorted = (
-    ap (λ o. cond (is_eq o) (Some e.1) (find R e.0 es)) (tied_itself total e.0),
-    found_behind e es es (first _ _ sorted) (each_found es (second _ _ sorted)),
-  )
+-- and so each of those that pass a test
+pub some_had : (records : RecordTable) (test : Entry → Bool)
+    → AllByRecursion (λ (e : Entry). get records e.0 ≡ Some e.1) (filter test (entries records))
+some_had records test =
+    let Had : Entry → Type 0 = λ e. get records e.0 ≡ Some e.1 in
+    recursion_from_All Had (filter test (entries records))
+    (All-filter test Had (entries records) (entries_had records))
 
-  -- so a map has each of its entries
-  pub entries_had : (m : FinMap R V) → All (λ (e : K × V). get m e.0 ≡ Some e.1) (entries m)
-  entries_had m =
-      All-from_recursion (λ (e : K × V). get m e.0 ≡ Some e.1) (entries m)
-      (had (entries m) (each_found (entries m) (entries_sorted m)))
-    where
-      had : (xs : List (K × V)) → AllByRecursion (λ x. find R x.0 (entries m) ≡ Some x.1) xs
-          → AllByRecursion (λ x. get m x.0 ≡ Some x.1) xs
-      had [] each = tt
-      had (x ∷ xs) each = (get-entries m x.0 ∙ each.0, had xs each.1)
+-- names that are read of records of the tables are those of records that fit
+pub named_fit : {Q : Type 0} (tables : Tables) (name : Q → List ℕ) (There : Q → Type 0)
+    → ((q : Q) → There q → (row : RecordRow) × (get tables.records (name q) ≡ Some row))
+    → EachFits tables → (qs : List Q) (names : List FoundName) → names_of names ≡ map name qs
+    → AllByRecursion There qs → AllNamed names tables
+named_fit tables name There its fits [] [] same there = tt
+named_fit tables name There its fits [] (one ∷ names) same there =
+    absurd (let e = same in cc)
+named_fit tables name There its fits (q ∷ qs) [] same there = absurd (let e = same in cc)
+named_fit tables name There its fits (q ∷ qs) (one ∷ names) same there =
+    let here = its q there.0 in
+    let is : one.name ≡ name q = (let e = same in cc) in
+    let rest : names_of names ≡ map name qs = (let e = same in cc) in
+    let found : get tables.records one.name ≡ Some here.0 = ap (get tables.records) is ∙ here.1 in (
+      (here.0, found, fits one.name here.0 found),
+      named_fit tables name There its fits qs names rest there.1,
+    )

@@ -1,17 +1,16 @@
 -- The next identity of a record that is not charged, as the tree of marks shows it, and all records
 -- of an identity, as the tree of identities lists them.
-use Rattle.std.proofs.Common.{◌≡◌, ◌∙◌, ℕ, ◌-◌, List, [], ◌∷◌, Bool, true, false, true≢false, not}
-use Rattle.std.proofs.Common.{Some, None, map, pos, length, refl, sym, ap, subst, arith}
+use Rattle.std.proofs.Common.{◌≡◌, ◌∙◌, ℕ, List, [], ◌∷◌, Bool, true, false, true≢false, not}
+use Rattle.std.proofs.Common.{Some, None, map, pos, take, refl, sym, ap, subst, arith}
 use Rattle.std.specs.Prelude.{Option, Vec, filter}
-use Rattle.std.specs.Cmp.Lexicographic.{nat_list_cmp_total}
 use Rattle.std.specs.FinMap.{entries, get, get-entries}
 use Rattle.std.specs.Global.{Global}
 use Rattle.std.specs.List.{AllByRecursion, flat_map}
 use Rattle.std.specs.Ordering.{eq_by_cmp, is_lt, nat_cmp, ordering_then}
 use Rattle.std.specs.declared.cmp.Ordering.{Ordering}
 use Rattle.std.specs.declared.cmp.Ordering.TheVariants.{Less, Equal, Greater}
-use Rattle.std.proofs.lemmas.List.{length-map}
-use Rattle.std.proofs.lemmas.List.Elements.{All-filter, recursion_from_All}
+use Rattle.std.proofs.lemmas.List.{length-map, take-map}
+use Rattle.std.proofs.lemmas.List.Elements.{All-from_recursion, All-take, recursion_from_All}
 use Rattle.std.proofs.lemmas.List.Sums.{count_by-le-length, length-filter}
 use Rattle.std.proofs.lemmas.Map.Views.{tells_apart}
 use Rattle.sqlite_trees.proofs.ListLemmas.{map-map}
@@ -19,7 +18,7 @@ use Rattle.sqlite_trees.specs.Tree.{from_key}
 use Rattle.sqlite_value.specs.Keys.{plain, prefix_cmp}
 use Rattle.sqlite_value.specs.Order.{Row, column}
 use Rattle.sqlite_value.specs.declared.value.Value.TheVariants.{Blob, Int}
-use Rattle.book_model.specs.Words.{is_from, same_bytes}
+use Rattle.book_model.specs.Words.{same_bytes}
 use Rattle.book_model.proofs.RecordSets.{not_true}
 use Rattle.book_model.proofs.SetLemmas.{same_bytes-by_cmp}
 use Rattle.table_model.specs.Tables.{RecordRow, RecordTable, Tables}
@@ -35,19 +34,20 @@ use Rattle.tree_rows.proofs.Maps.{prefix_of}
 use Rattle.tree_rows.proofs.PartIndexes.{part_in_order}
 use Rattle.tree_rows.proofs.Runs.{run_named}
 use Rattle.tree_tables.specs.Answers.{FindsNamed, FindsUncharged, IsNextUncharged, IsUnchargedFrom}
-use Rattle.tree_tables.specs.Answers.{ListsSharing}
-use Rattle.tree_tables.specs.Columns.{flag, identity_columns, mark_columns, uncharged_part}
+use Rattle.tree_tables.specs.Answers.{FindsSharing, ListsSharing}
+use Rattle.tree_tables.specs.Columns.{flag, identity_columns, uncharged_part}
 use Rattle.tree_tables.specs.Fits.{AllNamed, EndsInName, MarkFits, RecordsFit, RowsFit}
 use Rattle.tree_tables.specs.Holds.{identity_index, identity_key, mark_key, marks}
-use Rattle.tree_tables.specs.Stored.{SaysUncharged, stored_entry}
+use Rattle.tree_tables.specs.Stored.{SaysUncharged}
 use Rattle.tree_tables.specs.declared.found_names.FoundName.{FoundName}
 use Rattle.tree_tables.specs.declared.stored_record.StoredRecord.{StoredRecord}
 use Rattle.tree_tables.proofs.ChargedRows.{Key, by_front, front_of, fronts_compare}
-use Rattle.tree_tables.proofs.FoundNames.{Entry, at_name, entries_had, entries_named, named_found}
-use Rattle.tree_tables.proofs.FoundNames.{names_of, names_read}
+use Rattle.tree_tables.proofs.FoundNames.{Entry, at_name, entries_named, named_fit, named_found}
+use Rattle.tree_tables.proofs.FoundNames.{names_of, names_read, some_had}
 use Rattle.tree_tables.proofs.Layouts.{identity_layout, mark_layout}
 use Rattle.tree_tables.proofs.RecordIndexes.{mark_named}
 use Rattle.tree_tables.proofs.RecordLists.{EndIn, identity_rows, mark_rows}
+use Rattle.tree_tables.proofs.RowsRead.{same_blob, same_count}
 
 -- a mark of 0 is that of what is not charged
 unflagged : (charged : Bool) → flag charged ≡ flag false → charged ≡ false
@@ -135,16 +135,10 @@ module _ (from : List ℕ) where
 
       -- what the row says of the mark
       same_mark : (mark : ℕ) → column row 0 ≡ Int (pos mark) → key.0 ≡ mark
-      same_mark mark says = by (sym (ap (λ r. column r 0) found.3) ∙ says)
-        where
-          by : Int (pos key.0) ≡ Int (pos mark) → key.0 ≡ mark
-          by same = cc
+      same_mark mark says = same_count key.0 mark (sym (ap (λ r. column r 0) found.3) ∙ says)
 
       same_identity : (bytes : List ℕ) → column row 1 ≡ Blob bytes → key.1.0 ≡ bytes
-      same_identity bytes says = by (sym (ap (λ r. column r 1) found.3) ∙ says)
-        where
-          by : Blob key.1.0 ≡ Blob bytes → key.1.0 ≡ bytes
-          by same = cc
+      same_identity bytes says = same_blob key.1.0 bytes (sym (ap (λ r. column r 1) found.3) ∙ says)
 
       -- the keys of such records are not below it
       key_least : (e : Entry) → IsUnchargedFrom from tables e
@@ -222,10 +216,7 @@ module _ (tables : Tables) (identity : List ℕ) (part : Row) (part_is : part �
   Had e = get tables.records e.0 ≡ Some e.1
 
   sharing_had : AllByRecursion Had sharing
-  sharing_had =
-      let test : Entry → Bool = λ e. same_bytes e.1.identity identity in
-      recursion_from_All Had (filter test (entries tables.records))
-      (All-filter test Had (entries tables.records) (entries_had nat_list_cmp_total tables.records))
+  sharing_had = some_had tables.records (λ e. same_bytes e.1.identity identity)
 
   -- the names that are read are theirs
   sharing_names : (names : List FoundName)
@@ -243,6 +234,19 @@ module _ (tables : Tables) (identity : List ℕ) (part : Row) (part_is : part �
       named_found names tables found all
       ∙ ap (flat_map (at_name tables.records)) (sharing_names names ends)
       ∙ entries_named tables.records sharing sharing_had
+
+  -- and the first two of the names are those of the first two
+  pub sharing_found : (names : List FoundName) (found : List StoredRecord)
+      → EndIn (take 2 (run_of part (identity_rows tables.records))) names
+      → FindsNamed names tables found → FindsSharing identity tables found
+  sharing_found names found ends all =
+      let two = take 2 sharing in
+      named_found names tables found all
+      ∙ ap (flat_map (at_name tables.records)) (names_read found_by (λ e. e.0) (λ e. refl) two names
+      (subst (λ some. EndIn some names) (ap (take 2) sharing_run ∙ take-map found_by 2 sharing)
+      ends))
+      ∙ entries_named tables.records two (recursion_from_All Had two (All-take Had 2 sharing
+      (All-from_recursion Had sharing sharing_had)))
 
   module _ (fit : RecordsFit tables) where
     -- rows of records that are there end in names
@@ -265,19 +269,8 @@ module _ (tables : Tables) (identity : List ℕ) (part : Row) (part_is : part �
         })
 
     -- and its names are those of records that fit
-    named_fit : (es : List Entry) (names : List FoundName)
-        → names_of names ≡ map (λ (e : Entry). e.0) es → AllByRecursion Had es
-        → AllNamed names tables
-    named_fit [] [] same had = tt
-    named_fit [] (one ∷ names) same had = absurd (let e = same in cc)
-    named_fit (e ∷ es) [] same had = absurd (let e = same in cc)
-    named_fit (e ∷ es) (one ∷ names) same had =
-        let name : one.name ≡ e.0 = (let e = same in cc) in
-        let rest : names_of names ≡ map (λ (e : Entry). e.0) es = (let e = same in cc) in
-        let there : get tables.records one.name ≡ Some e.1 =
-        ap (get tables.records) name ∙ had.0 in
-        ((e.1, there, fit.each one.name e.1 there), named_fit es names rest had.1)
-
     pub sharing_named : (names : List FoundName)
         → EndIn (run_of part (identity_rows tables.records)) names → AllNamed names tables
-    sharing_named names ends = named_fit sharing names (sharing_names names ends) sharing_had
+    sharing_named names ends =
+        named_fit tables (λ (e : Entry). e.0) Had (λ e had. (e.1, had)) fit.each sharing names
+        (sharing_names names ends) sharing_had

@@ -1,6 +1,6 @@
 -- Records that are found by the identities that their rows say by the second rule: the two trees that
 -- find them are changed one entry at a time, in a walk over the entries of the first.
-use Rattle.std.proofs.Common.{◌≡◌, ◌≢◌, ℕ, List, [], ◌∷◌, map, Bool, true, false, cond}
+use Rattle.std.proofs.Common.{◌≡◌, ℕ, List, [], ◌∷◌, map, Bool, true, false, cond}
 use Rattle.std.proofs.Common.{Option, Some, None, inl, inr, refl, sym, ap, ap₂, subst, ◌∙◌}
 use Rattle.std.proofs.Common.{true≢false, arith}
 use Rattle.std.specs.Prelude.{◌==◌}
@@ -17,7 +17,7 @@ use Rattle.sqlite_value.specs.declared.value.Value.{Value}
 use Rattle.sqlite_value.specs.declared.value.Value.TheVariants.{Blob}
 use Rattle.book_model.specs.Words.{by_bytes}
 use Rattle.table_model.specs.Steps.{rename_rows}
-use Rattle.table_model.specs.TableChanges.{by_second_rule}
+use Rattle.table_model.specs.RowChanges.{by_second_rule}
 use Rattle.table_model.specs.Tables.{RecordRow, RecordTable, Tables}
 use Rattle.tree_rows.specs.Changes.{above, is_above, FindsAbove}
 use Rattle.tree_rows.specs.Indexes.{by_both}
@@ -26,14 +26,14 @@ use Rattle.tree_rows.proofs.Indexes.{index_has, index_names}
 use Rattle.tree_rows.proofs.Passing.{all_passed, first_there, passed_with, walk_start, walk_step}
 use Rattle.tree_rows.proofs.Taking.{some_is}
 use Rattle.tree_rows.proofs.Updating.{get_updated, updated_done, updated_step}
-use Rattle.tree_tables.proofs.Holding.{SameButRecords, apart, with_records}
+use Rattle.tree_tables.proofs.Holding.{SameBut, apart, has_rows, have_but, holds_rows}
 use Rattle.tree_tables.proofs.Layouts.{identity_layout, mark_layout, record_layout}
 use Rattle.tree_tables.proofs.Looking.{only_both, only_looks, rewrites_after_look}
 use Rattle.tree_tables.proofs.RecordIndexes.{identity_named, index_row_changed, mark_named}
 use Rattle.tree_tables.proofs.Records.{record_there}
-use Rattle.tree_tables.proofs.Renewing.{held_by_same}
+use Rattle.tree_tables.proofs.Renewing.{held_by_same, same_beside}
 use Rattle.tree_tables.specs.Columns.{identity_columns, mark_columns, record_columns}
-use Rattle.tree_tables.specs.Holds.{Holds, identity_index, identity_key, mark_key, marks}
+use Rattle.tree_tables.specs.Holds.{Holds, identity_index, identity_key, marks}
 use Rattle.tree_tables.specs.Walks.{HoldsFoundBy, IsKeying, KeysNext, MovesKeys, entry_key}
 use Rattle.tree_tables.specs.Walks.{rows_past, with_rows_of}
 
@@ -68,15 +68,13 @@ next_entry (Some entry) m key rows row there place held begins =
     walk_step identity_layout (identity_index m) entry row there
     (subst (λ some. IsFirst some row there) (ap₂ rows_past place held) begins)
 
--- trees that differ in those of the records alone still do, where the records' own have other rows
-but_records : {old new : Trees} (keyed others : RecordTable)
-    → ((other : ℕ) → other ≢ 6 → other ≢ 7 → new other ≡ old other)
-    → SameButRecords (with_rows_of keyed old) (with_rows_of others new)
-but_records {old} {new} keyed others same other not_rows not_identities not_marks =
-    let is_other : (other == 3) ≡ false = grind (arith, nat_tests, not_rows) in
-    ap (λ b. cond b (map record_columns (entries others)) (new other)) is_other
-    ∙ same other not_identities not_marks
-    ∙ sym (ap (λ b. cond b (map record_columns (entries keyed)) (old other)) is_other)
+-- trees are the same with other rows of the records, but for these
+other_rows : (keyed others : RecordTable) (trees : Trees)
+    → SameBut (with_rows_of keyed trees) (with_rows_of others trees) 3
+other_rows keyed others trees other apart =
+    let is_other : (other == 3) ≡ false = grind (arith, nat_tests, apart) in
+    ap (λ b. cond b (map record_columns (entries others)) (trees other)) is_other
+    ∙ sym (ap (λ b. cond b (map record_columns (entries keyed)) (trees other)) is_other)
 
 -- A walk has come to a key, and looks at the first entry after it.
 module _ (tables : Tables) {old : Trees} {key : Row} (so_far : IsKeying tables old key) where
@@ -175,46 +173,41 @@ module _ (tables : Tables) {old : Trees} {key : Row} (so_far : IsKeying tables o
           }
 
       -- else it makes way for one with that identity, and so does the record's mark
-      keying_goes_on : {new : Trees} (next : Row) → next ≡ column entry 0 ∷ column entry 1 ∷ []
-          → ((other : ℕ) → other ≢ 6 → other ≢ 7 → new other ≡ old other)
-          → new 6 ≡ insert_entry plain (column row 1 ∷ column next 1 ∷ [])
-          (remove_entry plain next (old 6))
+      keying_goes_on : {mid new : Trees} (next : Row) → next ≡ column entry 0 ∷ column entry 1 ∷ []
+          → SameBut old mid 6
+          → mid 6 ≡ insert_entry plain (column row 1 ∷ column next 1 ∷ [])
+          (remove_entry plain next (old 6)) → SameBut mid new 7
           → new 7 ≡ insert_entry plain (column row 9 ∷ column row 1 ∷ column next 1 ∷ [])
-          (remove_entry plain (column row 9 ∷ column next 0 ∷ column next 1 ∷ []) (old 7))
+          (remove_entry plain (column row 9 ∷ column next 0 ∷ column next 1 ∷ []) (mid 7))
           → IsKeying tables new next
-      keying_goes_on {new} next is same identities_now marks_now =
+      keying_goes_on {mid} {new} next is one identities_now two marks_now =
           let keyed = insert so_far.keyed at.1 (by_second_rule was) in
           let place : next ≡ entry_key (Some at) = next_is next is in
           let id : at.0 ≡ was.identity = sym (ap (λ (p : List ℕ × List ℕ). p.0) names.2) in
-          let identity_rows : new 6 ≡ map identity_columns (entries (identity_index keyed)) =
+          let entry_is : next ≡ identity_columns (identity_key (at.1, was), tt) =
+          place ∙ ap (λ i. Blob i ∷ Blob at.1 ∷ []) id in
+          let identity_rows : mid 6 ≡ map identity_columns (entries (identity_index keyed)) =
           identities_now
-          ∙ ap₂ (λ one other. insert_entry plain (column one 1 ∷ column other 1 ∷ [])
-          (remove_entry plain other (old 6))) row_is (place ∙ ap (λ i. Blob i ∷ Blob at.1 ∷ []) id)
-          ∙ ap (λ rows. insert_entry plain
-          (identity_columns (identity_key (at.1, by_second_rule was), tt))
-          (remove_entry plain (identity_columns (identity_key (at.1, was), tt)) rows))
-          so_far.holds.rest.identity_index
           ∙ index_row_changed identity_named identity_layout so_far.keyed at.1 was
-          (by_second_rule was) names.1 in
+          (by_second_rule was) (λ i. column (row_is i) 1 ∷ column (entry_is i) 1 ∷ []) entry_is
+          so_far.holds.rest.identity_index names.1 in
           let mark_rows : new 7 ≡ map mark_columns (entries (marks keyed)) =
           marks_now
-          ∙ ap₂ (λ one other. insert_entry plain (column one 9 ∷ column one 1 ∷ column other 1 ∷ [])
-          (remove_entry plain (column one 9 ∷ column other 0 ∷ column other 1 ∷ []) (old 7)))
-          row_is (place ∙ ap (λ i. Blob i ∷ Blob at.1 ∷ []) id)
-          ∙ ap (λ rows. insert_entry plain
-          (mark_columns (mark_key (at.1, by_second_rule was), tt))
-          (remove_entry plain (mark_columns (mark_key (at.1, was), tt)) rows))
-          so_far.holds.rest.marks
-          ∙ index_row_changed mark_named mark_layout so_far.keyed at.1 was
-          (by_second_rule was) names.1 in
+          ∙ index_row_changed mark_named mark_layout so_far.keyed at.1 was (by_second_rule was)
+          (λ i. column (row_is i) 9 ∷ column (row_is i) 1 ∷ column (entry_is i) 1 ∷ [])
+          (λ i. column (row_is i) 9 ∷ column (entry_is i) 0 ∷ column (entry_is i) 1 ∷ [])
+          (one 7 (apart 7 6 refl) ∙ so_far.holds.rest.marks) names.1 in
           record {
             last = Some at;
             place = place;
             keyed = keyed;
             holds = record {
-              records = same 3 (apart 3 6 refl) (apart 3 7 refl) ∙ so_far.holds.records;
-              rest = with_records so_far.holds.rest keyed
-                  (but_records so_far.keyed keyed same) refl identity_rows mark_rows;
+              records = two 3 (apart 3 7 refl) ∙ one 3 (apart 3 6 refl) ∙ so_far.holds.records;
+              rest = holds_rows so_far.holds.rest.placed
+                  (have_but 7 (same_beside keyed 7 two) mark_rows
+                  (have_but 6 (same_beside keyed 6 one) identity_rows
+                  (have_but 3 (other_rows so_far.keyed keyed old) refl (has_rows so_far.holds.rest) refl)
+                  refl) refl);
             };
             whole = updated_step record_layout.total record_layout.exact by_second_rule
                 (λ one. refl) so_far.keyed at.1 was names.1 ∙ so_far.whole;
@@ -297,13 +290,8 @@ module _ (old mid : View) (key entry : Row) (looked : IsUnchanged old mid) where
             only = only_both old one.only two.only;
             keys = λ tables so_far.
                 keying_goes_on tables so_far entry begins named_is finds there next next_is
-                (λ other not_identities not_marks.
-                two.others other not_marks ∙ one.others other not_identities)
-                (two.others 6 (apart 6 7 refl) ∙ one.rows_now
+                one.others (one.rows_now
                 ∙ ap (λ trees. insert_entry plain (column row 1 ∷ column next 1 ∷ [])
                 (remove_entry plain next (trees 6))) same_trees)
-                (two.rows_now
-                ∙ ap (λ rows. insert_entry plain (column row 9 ∷ column row 1 ∷ column next 1 ∷ [])
-                (remove_entry plain (column row 9 ∷ column next 0 ∷ column next 1 ∷ []) rows))
-                (one.others 7 (apart 7 6 refl)));
+                two.others two.rows_now;
           }

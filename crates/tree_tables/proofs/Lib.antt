@@ -24,7 +24,6 @@ pub mod WalkNames
 pub mod Walked
 pub mod Passes
 pub mod DayRows
-pub mod DaySteps
 pub mod LineRows
 pub mod MoveDays
 pub mod MemoryTrees

@@ -1,7 +1,7 @@
 -- Adjustment lines: how they are written, and what is read of them.
 use Rattle.std.proofs.Common.{◌≡◌, ◌∷◌, [], ℕ, pos, true, false, List, Bool, map}
 use Rattle.std.proofs.Common.{refl, sym, ap, ◌∙◌}
-use Rattle.std.specs.FinMap.{entries, remove}
+use Rattle.std.specs.FinMap.{entries}
 use Rattle.std.specs.List.{AllZip}
 use Rattle.sqlite_trees.specs.View.{View}
 use Rattle.sqlite_value.specs.Order.{Row, column}
@@ -19,9 +19,9 @@ use Rattle.tree_tables.specs.Columns.{flag, line_columns}
 use Rattle.tree_tables.specs.Steps.{Always, Changes}
 use Rattle.tree_tables.specs.Stored.{SaysLine, signed_name}
 use Rattle.tree_tables.specs.declared.line_rows.StoredLine.{StoredLine}
-use Rattle.tree_tables.proofs.Holding.{table_put, with_lines}
+use Rattle.tree_tables.proofs.Holding.{has_rows, have_but, holds_rows, table_put}
 use Rattle.tree_tables.proofs.Layouts.{line_layout}
-use Rattle.tree_tables.proofs.RowsRead.{nothing_asked, told_of_all}
+use Rattle.tree_tables.proofs.RowsRead.{nothing_asked, same_blob, told_of_all}
 
 -- a line that is put under its key is put into the table
 pub line_put : {old new : View} {key row : Row} (period : ℕ) (name : List ℕ) (plus : Bool)
@@ -31,7 +31,7 @@ pub line_put : {old new : View} {key row : Row} (period : ℕ) (name : List ℕ)
 line_put period name plus puts key_is row_is =
     table_put line_layout (λ (tables : Tables). tables.lines) (period, name) plus
     (put_line_row period name plus) puts key_is row_is (λ tables holds. holds.lines)
-    (λ tables holds. with_lines holds _)
+    (λ tables. refl) (λ tables placed. placed)
 
 -- a line that is dropped by its key is gone from the table
 pub line_dropped : {old new : View} {key : Row} (period : ℕ) (name : List ℕ)
@@ -40,8 +40,9 @@ pub line_dropped : {old new : View} {key : Row} (period : ℕ) (name : List ℕ)
 line_dropped period name drops key_is = record {
   only = drops.rewrites.only;
   made = λ tables holds when.
-      with_lines holds (remove tables.lines (period, name)) drops.rewrites.others
-      (rows_dropped line_layout tables.lines (period, name) drops holds.lines key_is);
+      holds_rows holds.placed (have_but 5 drops.rewrites.others
+      (rows_dropped line_layout tables.lines (period, name) drops holds.lines key_is) (has_rows holds)
+      refl);
 }
 
 -- marks are kept apart by their numbers
@@ -60,9 +61,6 @@ line_said line entry row good is says =
     let plus : line.plus ≡ entry.1 =
     same_flag line.plus entry.1 (sym says.plus ∙ ap (λ r. column r 2) is) in
     λ i. (name i, plus i)
-  where
-    same_blob : (one other : List ℕ) → Blob one ≡ Blob other → one ≡ other
-    same_blob one other same = cc
 
 -- the run of a period's number is that of its lines
 pub lines_run : (period : ℕ) (tables : Tables) (rows : List Row) (key : Row)

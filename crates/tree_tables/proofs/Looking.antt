@@ -118,6 +118,22 @@ survives_both one two = record {
   ];
 }
 
+-- a step that fails
+pub does_err : {T : Type 0} {When : Tables → Type 0} {change : Tables → Tables} {old new : State}
+    (result : Result T StoreError) → IsErr result → Survives old new (λ trees. ⊥)
+    → (HasCleanDisk new → KeepsCommitted old.view new.view) → Does result old new When change
+does_err (Ok value) failed survives kept = absurd (true≢false (sym failed))
+does_err (Err error) failed survives kept =
+    record { survives = survives; done = λ clean. tt; refused = kept }
+
+-- and a look that does
+pub looks_err : {A : Type 0} {Answers : Tables → A → Type 0} {old new : State}
+    (result : Result A StoreError) → IsErr result → Survives old new (λ trees. ⊥)
+    → (HasCleanDisk new → KeepsCommitted old.view new.view) → Looks result old new Answers
+looks_err (Ok value) failed survives kept = absurd (true≢false (sym failed))
+looks_err (Err error) failed survives kept =
+    record { survives = survives; found = λ clean. tt; refused = kept }
+
 -- what fails after a look has a cause of the store as it was before it
 pub fails_after_look : {A : Type 0} {old mid new : State} {Answers : Tables → A → Type 0} {answer : A}
     {When : Tables → Type 0} (error : StoreError) → Looks (Ok answer) old mid Answers
@@ -132,32 +148,6 @@ fails_after_look {old = old} {mid = mid} {new = new} error looks survives cause 
     caused_after old.view mid.view old.faults mid.faults new.faults error seen.same
     looks.survives.counts
     (cause clean tables (held_after_look old.view seen.same holds) (seen.known tables holds) when)
-
--- a look after another, which says more by what the other has answered
-pub looks_after_look : {A B : Type 0} {First : Tables → A → Type 0} {Second Both : Tables → B → Type 0}
-    {first : A} {old mid new : State} (result : Result B StoreError)
-    → Looks (Ok first) old mid First → Looks result mid new Second
-    → ((tables : Tables) (second : B) → First tables first → Second tables second
-    → Both tables second)
-    → Looks result old new Both
-looks_after_look {old = old} (Ok second) one two both = record {
-  survives = survives_both one.survives two.survives;
-  found = λ clean.
-      let before = one.found (was_clean two.survives clean) in
-      let after = two.found clean in
-      record {
-        same = unchanged_both old.view before.same after.same;
-        known = λ tables holds. both tables second (before.known tables holds)
-            (after.known tables (held_after_look old.view before.same holds));
-      };
-  refused = λ clean. tt;
-}
-looks_after_look (Err error) one two both = record {
-  survives = survives_both one.survives two.survives;
-  found = λ clean. tt;
-  refused = λ clean. kept_after_look (one.found (was_clean two.survives clean)).same
-      (two.refused clean);
-}
 
 -- what two looks have answered, put together
 pub looks_also : {A B C : Type 0} {First : Tables → A → Type 0} {Second : Tables → B → Type 0}
@@ -177,6 +167,19 @@ looks_also {old = old} one two both = record {
       };
   refused = λ clean. tt;
 }
+
+-- a look after another, which says more by what the other has answered
+pub looks_after_look : {A B : Type 0} {First : Tables → A → Type 0} {Second Both : Tables → B → Type 0}
+    {first : A} {old mid new : State} (result : Result B StoreError)
+    → Looks (Ok first) old mid First → Looks result mid new Second
+    → ((tables : Tables) (second : B) → First tables first → Second tables second
+    → Both tables second)
+    → Looks result old new Both
+looks_after_look (Ok second) one two both =
+    looks_also one two (λ tables first_so second_so. both tables second first_so second_so)
+looks_after_look (Err error) one two both =
+    looks_err (Err error) refl (survives_both one.survives two.survives) (λ clean.
+    kept_after_look (one.found (was_clean two.survives clean)).same (two.refused clean))
 
 -- what a look has answered, in other words
 pub looks_so : {A B : Type 0} {First : Tables → A → Type 0} {Second : Tables → B → Type 0}
@@ -198,21 +201,14 @@ pub looks_told : {A : Type 0} {First Second : Tables → A → Type 0} {old new 
     → ((tables : Tables) (answer : A) → First tables answer → Second tables answer)
     → Looks result old new Second
 looks_told (Ok answer) one so = looks_so one (λ tables. so tables answer)
-looks_told (Err error) one so = record {
-  survives = one.survives;
-  found = λ clean. tt;
-  refused = one.refused;
-}
+looks_told (Err error) one so = looks_err (Err error) refl one.survives one.refused
 
 -- a look after which a call fails, since what it answers is not enough
 pub looks_damaged : {A B : Type 0} {First : Tables → A → Type 0} {Second : Tables → B → Type 0}
     {first : A} {error : StoreError} {old new : State} → Looks (Ok first) old new First
     → Looks (Err error) old new Second
-looks_damaged one = record {
-  survives = one.survives;
-  found = λ clean. tt;
-  refused = λ clean. kept_same (one.found clean).same;
-}
+looks_damaged {error = error} one =
+    looks_err (Err error) refl one.survives (λ clean. kept_same (one.found clean).same)
 
 module _ {S : Type 0} (ghosts : Ghosts S) where
   pub survives : {old new : S} → Quiet ghosts old new
@@ -238,28 +234,6 @@ module _ {S : Type 0} (ghosts : Ghosts S) where
     refused = λ clean. tt;
   }
 
-  -- a look that failed
-  pub looks_refused : {A : Type 0} {Answers : Tables → A → Type 0} {old new : S}
-      (result : Result A StoreError) → IsErr result → Quiet ghosts old new
-      → (IsClean (ghosts.view new) → KeepsCommitted (ghosts.view old) (ghosts.view new))
-      → Looks result (state ghosts old) (state ghosts new) Answers
-  looks_refused (Ok answer) failed call kept = absurd (cc)
-  looks_refused (Err error) failed call kept = record {
-    survives = survives call;
-    found = λ clean. tt;
-    refused = kept;
-  }
-
-  -- a step that was tried
-  pub does_so : {T : Type 0} {When : Tables → Type 0} {change : Tables → Tables} {old new : S}
-      (result : Result T StoreError) → Quiet ghosts old new
-      → (IsClean (ghosts.view new) → OnErr result
-      (KeepsCommitted (ghosts.view old) (ghosts.view new)))
-      → (IsClean (ghosts.view new) → OnOk result
-      (Changes (ghosts.view old) (ghosts.view new) When change))
-      → Does result (state ghosts old) (state ghosts new) When change
-  does_so result call kept done = record { survives = survives call; done = done; refused = kept }
-
   -- a step that is one call
   pub does_alone : {T Made : Type 0} {When : Tables → Type 0} {change : Tables → Tables}
       {old new : S} (result : Result T StoreError) → Quiet ghosts old new
@@ -274,11 +248,7 @@ module _ {S : Type 0} (ghosts : Ghosts S) where
     done = λ clean. changes clean (done clean);
     refused = λ clean. tt;
   }
-  does_alone (Err error) step kept done changes = record {
-    survives = survives step;
-    done = λ clean. tt;
-    refused = kept;
-  }
+  does_alone (Err error) step kept done changes = does_err (Err error) refl (survives step) kept
 
   -- a look that has its rows read into an answer, or that is refused
   pub looks_read : {A : Type 0} {Made : A → Type 0} {Answers : Tables → A → Type 0} {old new : S}
@@ -289,11 +259,8 @@ module _ {S : Type 0} (ghosts : Ghosts S) where
       → Holds (ghosts.view old).trees tables → Answers tables answer)
       → Looks result (state ghosts old) (state ghosts new) Answers
   looks_read (Ok answer) call same made known = looks_found call same (known answer made)
-  looks_read (Err error) call same made known = record {
-    survives = survives call;
-    found = λ clean. tt;
-    refused = λ clean. kept_same (same clean);
-  }
+  looks_read (Err error) call same made known =
+      looks_err (Err error) refl (survives call) (λ clean. kept_same (same clean))
 
   -- a look that is one call
   pub looks_alone : {A : Type 0} {Made : A → Type 0} {Answers : Tables → A → Type 0}
@@ -308,11 +275,8 @@ module _ {S : Type 0} (ghosts : Ghosts S) where
       → Looks result (state ghosts old) (state ghosts new) Answers
   looks_alone (Ok answer) call same kept made known =
       looks_found call same (λ clean. known answer (made clean) clean)
-  looks_alone (Err error) call same kept made known = record {
-    survives = survives call;
-    found = λ clean. tt;
-    refused = kept;
-  }
+  looks_alone (Err error) call same kept made known =
+      looks_err (Err error) refl (survives call) kept
 
   -- a step that rewrites one tree, after other steps
   pub does_after : {T : Type 0} {When : Tables → Type 0} {change : Tables → Tables}
@@ -337,11 +301,9 @@ module _ {S : Type 0} (ghosts : Ghosts S) where
         };
     refused = λ clean. tt;
   }
-  does_after (Err error) first only step kept done holds = record {
-    survives = survives (quiet_both ghosts first step);
-    done = λ clean. tt;
-    refused = λ clean. kept_after (only (clean_before ghosts step clean)) (kept clean);
-  }
+  does_after (Err error) first only step kept done holds =
+      does_err (Err error) refl (survives (quiet_both ghosts first step))
+      (λ clean. kept_after (only (clean_before ghosts step clean)) (kept clean))
 
   -- a step that has nothing to do, as a look has shown
   pub does_nothing : {T : Type 0} {When : Tables → Type 0} {change : Tables → Tables} {value : T}
@@ -355,10 +317,8 @@ module _ {S : Type 0} (ghosts : Ghosts S) where
     done = λ clean. record {
       only = only_looks (ghosts.view old) (same clean);
       made = λ tables holds when.
-          let there : Holds (ghosts.view new).trees tables =
-          subst (λ (trees : Trees). Holds trees tables)
-          (sym (ap (λ (v : View). v.trees) (same clean))) holds in
-          subst (Holds (ghosts.view new).trees) (sym (stays clean tables holds)) there;
+          subst (Holds (ghosts.view new).trees) (sym (stays clean tables holds))
+          (held_after_look (ghosts.view old) (same clean) holds);
     };
     refused = λ clean. tt;
   }
@@ -369,15 +329,3 @@ module _ {S : Type 0} (ghosts : Ghosts S) where
       → (IsClean (ghosts.view new) → Changes (ghosts.view old) (ghosts.view new) When change)
       → Does (Ok value) (state ghosts old) (state ghosts new) When change
   does_well call done = record { survives = survives call; done = done; refused = λ clean. tt }
-
-  -- a step that failed
-  pub does_fail : {T : Type 0} {When : Tables → Type 0} {change : Tables → Tables} {old new : S}
-      (result : Result T StoreError) → IsErr result → Quiet ghosts old new
-      → (IsClean (ghosts.view new) → KeepsCommitted (ghosts.view old) (ghosts.view new))
-      → Does result (state ghosts old) (state ghosts new) When change
-  does_fail (Ok value) fails call kept = absurd (true≢false (sym fails))
-  does_fail (Err error) fails call kept = record {
-    survives = survives call;
-    done = λ clean. tt;
-    refused = kept;
-  }

@@ -7,10 +7,10 @@ use Rattle.std.specs.FinMap.{contains_key, entries, get, insert, remove}
 use Rattle.std.specs.Ordering.{int_cmp, is_lt, nat_cmp, ordering_then}
 use Rattle.std.specs.declared.cmp.Ordering.{Ordering}
 use Rattle.std.specs.declared.cmp.Ordering.TheVariants.{Less, Equal}
-use Rattle.std.proofs.lemmas.Bool.{and_parts}
+use Rattle.std.proofs.lemmas.Bool.{and_parts, eqb-true, false_from_ne_true}
 use Rattle.std.proofs.lemmas.Bool.Decides.{nat_tests}
 use Rattle.std.proofs.lemmas.Int.{ints}
-use Rattle.sqlite_trees.specs.Tree.{Trees, from_key, insert_entry, remove_entry}
+use Rattle.sqlite_trees.specs.Tree.{from_key, insert_entry, remove_entry}
 use Rattle.sqlite_trees.specs.View.{View}
 use Rattle.sqlite_value.proofs.OrderLemmas.{then-Equal, value_cmp-Int}
 use Rattle.sqlite_value.specs.Keys.{plain, prefix_cmp}
@@ -22,7 +22,7 @@ use Rattle.book_model.specs.declared.row.RowKey.{RowKey}
 use Rattle.table_model.specs.MapChanges.{moved}
 use Rattle.table_model.specs.PeriodRows.{by_period}
 use Rattle.table_model.specs.Steps.{move_day_rows}
-use Rattle.table_model.specs.TableChanges.{move_on}
+use Rattle.table_model.specs.RowChanges.{move_on}
 use Rattle.table_model.specs.Tables.{DayTable, Tables}
 use Rattle.table_model.specs.TablesOf.{row_key}
 use Rattle.tree_rows.specs.Changes.{MovesApart}
@@ -37,13 +37,9 @@ use Rattle.tree_tables.specs.Days.{GoneOn, MovesSome, NoneLater, NoneNext, SaysD
 use Rattle.tree_tables.specs.Holds.{Holds}
 use Rattle.tree_tables.specs.Steps.{Changes}
 use Rattle.tree_tables.proofs.DayRows.{day_said, placed_drop, placed_put}
-use Rattle.tree_tables.proofs.Holding.{with_days}
+use Rattle.tree_tables.proofs.Holding.{has_rows, have_but, holds_rows}
 use Rattle.tree_tables.proofs.Layouts.{day_layout, numbers}
-use Rattle.tree_tables.proofs.Looking.{only_both, only_looks}
-
--- one number
-same_number : (m n : ℕ) → (m == n) ≡ true → m ≡ n
-same_number m n is = grind (arith, nat_tests, is)
+use Rattle.tree_tables.proofs.Looking.{held_after_look, only_both, only_looks}
 
 -- equal numbers compare so
 tied_number : (m n : ℕ) → (m == n) ≡ true → nat_cmp m n ≡ Equal
@@ -65,11 +61,6 @@ number_above m n o high other = grind (arith, nat_tests, high, other)
 -- a number is not the next one
 not_next : (n : ℕ) → (suc n == n) ≡ false
 not_next n = grind (arith, nat_tests)
-
--- a test that cannot be passed
-not_passed : (b : Bool) → (b ≡ true → ⊥) → b ≡ false
-not_passed true never = absurd (never refl)
-not_passed false never = refl
 
 module _ (n : ℕ) (day : ℤ) where
   -- the row at a place goes to the next period
@@ -131,7 +122,7 @@ module _ (n : ℕ) (day : ℤ) where
   goes_before k q high other is =
       let here = (and_parts (q.0 == n) (int_lt day q.1.day) is).0 in
       ap (λ o. is_lt (ordering_then o (by_key q.1 k.1)))
-      (ap (λ m. nat_cmp m k.0) (same_number q.0 n here)
+      (ap (λ m. nat_cmp m k.0) (eqb-true q.0 n here)
       ∙ number_above k.0 n (int_cmp k.1.day (day +ℤ pos 1)) high other)
 
   -- where no row goes any more, all went
@@ -143,7 +134,7 @@ module _ (n : ℕ) (day : ℤ) where
       elim (get days k) as (λ found. get days k ≡ found → is_some found ≡ true
       → change k ≡ k) [
         | None ↦ λ is no. absurd (true≢false (sym no))
-        | Some v ↦ λ is yes. stays k (not_passed (goes k) (none k v is))
+        | Some v ↦ λ is yes. stays k (false_from_ne_true (goes k) (none k v is))
       ] refl has)
 
   -- what the first row shows that is not below the columns
@@ -188,8 +179,8 @@ module _ (n : ℕ) (day : ℤ) where
           let place : one.1 ≡ other.1 =
           ap (λ k. k.1) (sym (goes_on one is) ∙ same ∙ goes_on other as_well) in
           let number : one.0 ≡ other.0 =
-          same_number one.0 n (and_parts (one.0 == n) (int_lt day one.1.day) is).0
-          ∙ sym (same_number other.0 n
+          eqb-true one.0 n (and_parts (one.0 == n) (int_lt day one.1.day) is).0
+          ∙ sym (eqb-true other.0 n
           (and_parts (other.0 == n) (int_lt day other.1.day) as_well).0) in
           λ i. (number i, place i)
       by_both true false is not_so = absurd (true≢false (sym has_other
@@ -245,7 +236,7 @@ module _ (n : ℕ) (day : ℤ) where
     only = only_looks old same;
     made = λ tables holds apart. (
       tables.days,
-      subst (λ (trees : Trees). Holds trees tables) (sym (ap (λ (v : View). v.trees) same)) holds,
+      held_after_look old same holds,
       record { apart = apart; same = refl },
     );
   }
@@ -314,11 +305,11 @@ module _ (n : ℕ) (day : ℤ) where
           ∙ ap (λ (c : ChargeRow). day_columns ((suc n, row_key c), c)) charge_is
           ∙ ap (λ (place : RowKey). day_columns ((suc n, place), it.1)) own in (
             after tables.days it.0 it.1 it.2 is apart,
-            with_days holds (after tables.days it.0 it.1 it.2 is apart)
-                (placed_put (remove tables.days it.0) (suc n, it.0.1) it.1 own
-                (placed_drop tables.days it.0 holds.placed)) rewrites.others
+            holds_rows (placed_put (remove tables.days it.0) (suc n, it.0.1) it.1 own
+                (placed_drop tables.days it.0 holds.placed))
+                (have_but 4 rewrites.others
                 (rewrites.rows_now ∙ rows_after tables.days it.0 it.1 it.2 is apart (mid.trees 4)
-                row columns holds.days it.3 put),
+                row columns holds.days it.3 put) (has_rows holds) refl),
             gone_on tables.days it.0 it.1 it.2 is apart,
           );
     }

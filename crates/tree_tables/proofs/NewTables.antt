@@ -1,9 +1,10 @@
 -- The tables of new books, in trees that had no rows.
-use Rattle.std.proofs.Common.{◌≡◌, ◌<◌, ◌∙◌, ℕ, List, [], ◌∷◌, Some, None, Result, Ok, Err}
-use Rattle.std.proofs.Common.{length, map, refl, sym, ap, arith}
-use Rattle.std.specs.Prelude.{IfErr, OnOk}
-use Rattle.std.specs.Cmp.{IsTotalOrder}
-use Rattle.std.specs.FinMap.{IsAntisymmetric, empty, entries, from_entries, get-empty}
+use Rattle.std.proofs.Common.{◌≡◌, ◌<◌, ◌∙◌, ℕ, suc, List, [], ◌∷◌, Result, Ok, Err}
+use Rattle.std.proofs.Common.{false, cond, length, map, refl, sym, ap, arith}
+use Rattle.std.proofs.lemmas.Bool.Decides.{nat_tests}
+use Rattle.std.specs.Prelude.{◌==◌, IfErr, OnOk}
+use Rattle.std.specs.List.{AllByRecursion}
+use Rattle.std.specs.FinMap.{empty, entries, from_entries, get-empty}
 use Rattle.std.specs.FinMap.{get-from_entries, len-empty, len-entries, same_map}
 use Rattle.std.specs.declared.cmp.Ordering.{Ordering}
 use Rattle.sqlite_trees.specs.Tree.{Trees, insert_entry, with_tree}
@@ -13,22 +14,19 @@ use Rattle.sqlite_trees.specs.declared.store.Store.{Ghosts}
 use Rattle.sqlite_value.specs.Order.{Row}
 use Rattle.sqlite_value.specs.declared.keys.Order.{Order}
 use Rattle.table_model.specs.TablesAfter.{new_tables}
-use Rattle.tree_rows.specs.Indexes.{index_of, indexed_by}
-use Rattle.tree_rows.proofs.IndexOrders.{by_both_total, by_both_exact, by_mark_total, by_mark_exact}
-use Rattle.tree_tables.specs.Columns.{book_columns, tariff_columns, closed_columns, record_columns}
-use Rattle.tree_tables.specs.Columns.{day_columns, line_columns, identity_columns, mark_columns}
-use Rattle.tree_tables.specs.Columns.{choice_columns, choice_name_columns}
-use Rattle.tree_tables.specs.Holds.{Holds, choice_name_key, identity_key, mark_key}
+use Rattle.tree_rows.specs.Indexes.{IsIndexKey, index_of, indexed_by}
+use Rattle.tree_tables.specs.Columns.{book_columns}
+use Rattle.tree_tables.specs.Holds.{Holds}
 use Rattle.tree_tables.specs.States.{state}
 use Rattle.tree_tables.specs.Steps.{HasNoRows, Makes}
-use Rattle.tree_tables.proofs.Layouts.{by_chosen_exact, by_chosen_total}
+use Rattle.tree_tables.proofs.Holding.{EachHas, SameBut, have_but, holds_rows, table_rows}
+use Rattle.tree_tables.proofs.Holding.{with_rows}
+use Rattle.tree_tables.proofs.ChoiceRows.{chosen_named}
+use Rattle.tree_tables.proofs.RecordIndexes.{identity_named, mark_named}
 use Rattle.tree_rows.proofs.Calls.{Quiet}
+use Rattle.tree_rows.proofs.Maps.{not_none}
 use Rattle.tree_tables.proofs.Looking.{survives}
-
--- a list of no length has nothing
-no_length : {X : Type 0} (xs : List X) → length xs ≡ 0 → xs ≡ []
-no_length [] none = refl
-no_length (x ∷ xs) none = absurd (omega (arith, none))
+use Rattle.book_model.proofs.FilterLemmas.{no_length}
 
 -- a map of nothing has no entries
 no_entries : {K V : Type 0} (R : K → K → Ordering) → entries (empty {X = V} {R = R}) ≡ []
@@ -41,50 +39,51 @@ no_rows : {K V : Type 0} (R : K → K → Ordering) (columns : K × V → Row)
     → map columns (entries (empty {X = V} {R = R})) ≡ []
 no_rows R columns = ap (map columns) (no_entries R)
 
--- an index of nothing has nothing
-no_index : {K V Q : Type 0} (R : K → K → Ordering) (P : Q → Q → Ordering) → IsTotalOrder P
-    → IsAntisymmetric P → (key : K × V → Q)
-    → index_of {P = P} key (empty {X = V} {R = R}) ≡ empty
+-- and none of an index of it
+no_index : {K V Q : Type 0} {R : K → K → Ordering} {P : Q → Q → Ordering} {key : K × V → Q}
+    {name : Q → K} → IsIndexKey R P key name → (columns : Q × Unit {0} → Row)
+    → map columns (entries (index_of {P = P} key (empty {X = V} {R = R}))) ≡ []
 unfolding index_of
-no_index {K} {V} {Q} R P total exact key =
-    ap (λ es. from_entries (map (indexed_by key) es)) (no_entries R)
-    ∙ same_map total exact (from_entries []) empty (λ q.
-    get-from_entries total [] q ∙ sym (get-empty P q))
+no_index {R = R} {P = P} {key = key} index columns =
+    ap (λ m. map columns (entries m))
+    (ap (λ es. from_entries (map (indexed_by key) es)) (no_entries R)
+    ∙ same_map index.index_total index.index_exact (from_entries []) empty (λ q.
+    get-from_entries index.index_total [] q ∙ sym (get-empty P q)))
+    ∙ no_rows P columns
+
+-- the tables of new books have no row but that of the book
+abbrev no_book : List (List Row)
+no_book = with_rows 0 [] (table_rows new_tables)
+
+only_book : AllByRecursion (λ rows. rows ≡ []) no_book
+only_book = search (no_rows, no_index, identity_named, mark_named, chosen_named) depth 20
+
+-- which trees without rows have
+have_none : {trees : Trees} (all : List (List Row)) → AllByRecursion (λ rows. rows ≡ []) all
+    → ((tree : ℕ) → tree < length all → trees tree ≡ []) → EachHas trees all
+have_none [] none empty = tt
+have_none (rows ∷ more) none empty = (
+  empty 0 (omega arith) ∙ sym none.0,
+  have_none more none.1 (λ tree within. empty (suc tree) (omega (arith, within))),
+)
 
 module _ {old new : Trees} (order : Order) (row : Row) (none : HasNoRows old)
     (now : new ≡ with_tree old 0 (insert_entry order row (old 0)))
     (is : row ≡ book_columns new_tables.book) where
-  -- each tree but that of the book has no rows still
-  still : (tree : ℕ) → tree < 10 → with_tree old 0 (insert_entry order row (old 0)) tree ≡ old tree
-      → new tree ≡ []
-  still tree within other = ap (λ (trees : Trees). trees tree) now ∙ other ∙ none.empty tree within
+  -- the other trees are as they were
+  others : SameBut old new 0
+  others other apart =
+      let is_other : (other == 0) ≡ false = grind (arith, nat_tests, apart) in
+      ap (λ (trees : Trees). trees other) now
+      ∙ ap (λ b. cond b (insert_entry order row (old 0)) (old other)) is_other
 
   -- The row of the book makes the tables of new books.
   pub holds_new : Holds new new_tables
-  holds_new = record {
-    book = ap (λ (trees : Trees). trees 0) now
-        ∙ ap (insert_entry order row) (none.empty 0 (omega arith)) ∙ ap (λ row. row ∷ []) is;
-    tariffs = still 1 (omega arith) refl ∙ sym (no_rows _ tariff_columns);
-    closes = still 2 (omega arith) refl ∙ sym (no_rows _ closed_columns);
-    records = still 3 (omega arith) refl ∙ sym (no_rows _ record_columns);
-    days = still 4 (omega arith) refl ∙ sym (no_rows _ day_columns);
-    placed = λ key row there. absurd (no_value row (sym there ∙ get-empty _ key));
-    lines = still 5 (omega arith) refl ∙ sym (no_rows _ line_columns);
-    identity_index = still 6 (omega arith) refl
-        ∙ sym (ap (λ m. map identity_columns (entries m))
-        (no_index _ _ by_both_total by_both_exact identity_key) ∙ no_rows _ identity_columns);
-    marks = still 7 (omega arith) refl
-        ∙ sym (ap (λ m. map mark_columns (entries m))
-        (no_index _ _ by_mark_total by_mark_exact mark_key) ∙ no_rows _ mark_columns);
-    choices = still 8 (omega arith) refl ∙ sym (no_rows _ choice_columns);
-    choice_name_index = still 9 (omega arith) refl
-        ∙ sym (ap (λ m. map choice_name_columns (entries m))
-        (no_index _ _ by_chosen_total by_chosen_exact choice_name_key)
-        ∙ no_rows _ choice_name_columns);
-  }
-    where
-      no_value : {V : Type 0} (value : V) → Some value ≡ None → ⊥
-      no_value value e = absurd (cc)
+  holds_new =
+      holds_rows (λ key row there. absurd (not_none row (sym there ∙ get-empty _ key)))
+      (have_but {all = no_book} 0 others (ap (λ (trees : Trees). trees 0) now
+      ∙ ap (insert_entry order row) (none.empty 0 (omega arith)) ∙ ap (λ row. row ∷ []) is)
+      (record { each = have_none no_book only_book none.empty }) refl)
 
 -- a call that puts the row makes new books
 pub makes_by : {S T : Type 0} (ghosts : Ghosts S) (old new : S) (order : Order) (row : Row)

@@ -1,6 +1,6 @@
 -- A walk over all records that reads them one at a time, and one that gets another price.
 use Rattle.std.proofs.Common.{◌≡◌, ◌∙◌, ℕ, List, true, false, Option, Some, None, map}
-use Rattle.std.proofs.Common.{refl, sym, ap, ap₂, subst}
+use Rattle.std.proofs.Common.{refl, sym, ap, subst}
 use Rattle.std.specs.Prelude.{slice_get}
 use Rattle.std.specs.FinMap.{entries, insert}
 use Rattle.sqlite_trees.specs.Tree.{insert_entry, remove_entry}
@@ -11,14 +11,13 @@ use Rattle.tariff_rules.specs.declared.priced.Priced.{Priced}
 use Rattle.table_model.specs.RowChanges.{price_at}
 use Rattle.table_model.specs.Steps.{put_price_row}
 use Rattle.table_model.specs.Tables.{RecordRow, Tables}
-use Rattle.tree_rows.specs.Layouts.{row_of, rows_of}
+use Rattle.tree_rows.specs.Layouts.{rows_of}
 use Rattle.tree_rows.specs.Rows.{IsFirst, Rewrites}
 use Rattle.tree_rows.proofs.Indexes.{index_same}
 use Rattle.tree_rows.proofs.Passing.{first_there}
-use Rattle.tree_rows.proofs.Taking.{changed}
 use Rattle.tree_tables.proofs.Layouts.{record_layout}
 use Rattle.tree_tables.proofs.Renewing.{finds_next, with_indexed}
-use Rattle.tree_tables.proofs.RecordIndexes.{identity_named, mark_named}
+use Rattle.tree_tables.proofs.RecordIndexes.{identity_named, mark_named, row_changed}
 use Rattle.tree_tables.specs.Answers.{FindsNext}
 use Rattle.tree_tables.specs.Columns.{record_columns}
 use Rattle.tree_tables.specs.Fits.{EachFits, RecordFits}
@@ -70,11 +69,7 @@ record_priced {old} {new} tables stored priced rewrites before_is made_is stands
     let now : RecordRow = record row { priced = priced } in
     let rows : new.trees 3 ≡ rows_of record_layout (insert records name now) =
     rewrites.rows_now
-    ∙ ap₂ (λ one other. insert_entry plain one (remove_entry plain other (old.trees 3))) made_is
-    before_is
-    ∙ ap (λ some. insert_entry plain (row_of record_layout (name, now))
-    (remove_entry plain (row_of record_layout (name, row)) some)) holds.records
-    ∙ changed record_layout records name row now stands in
+    ∙ row_changed record_layout records name row now made_is before_is holds.records stands in
     subst (λ found. Holds new.trees (record tables {
       records = price_at priced name found records;
     }))

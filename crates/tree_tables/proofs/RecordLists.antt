@@ -1,42 +1,35 @@
--- The records that have an identity, and those that are not charged, as the two trees list them.
-use Rattle.std.proofs.Common.{◌≡◌, ◌∙◌, ℕ, ◌==◌, ◌-◌, List, [], ◌∷◌, Bool, true, false, not, Some}
-use Rattle.std.proofs.Common.{map, take, pos, refl, sym, ap, subst, arith, length}
+-- The records that are not charged, as the tree of marks lists them.
+use Rattle.std.proofs.Common.{◌≡◌, ◌∙◌, ℕ, ◌==◌, ◌-◌, List, [], ◌∷◌, Bool, true, false, not}
+use Rattle.std.proofs.Common.{map, pos, refl, sym, ap, subst, arith, length}
 use Rattle.std.specs.Prelude.{◌≤◌, T, filter}
 use Rattle.std.specs.Cmp.{nat_cmp_total, tied_itself}
-use Rattle.std.specs.Cmp.Lexicographic.{nat_list_cmp_total}
-use Rattle.std.specs.FinMap.{entries, entries_sorted, get, is_sorted}
+use Rattle.std.specs.FinMap.{entries, entries_sorted, is_sorted}
 use Rattle.std.specs.FinMap.Entries.{below_all, is_sorted-where_key}
 use Rattle.std.specs.List.{AllByRecursion, AllZip, flat_map}
 use Rattle.std.specs.List.Sorted.{IsPermutation, IsStrictlySortedBy}
-use Rattle.std.specs.Ordering.{eq_by_cmp, nat_cmp, ordering_then}
+use Rattle.std.specs.Ordering.{nat_cmp, ordering_then}
 use Rattle.std.specs.declared.cmp.Ordering.{Ordering}
 use Rattle.std.specs.declared.cmp.Ordering.TheVariants.{Less}
 use Rattle.std.proofs.lemmas.Bool.Decides.{nat_tests}
-use Rattle.std.proofs.lemmas.List.{length-map, take-map}
-use Rattle.std.proofs.lemmas.List.Elements.{All-filter, All-take, filter_agree, filter_passes}
+use Rattle.std.proofs.lemmas.List.{length-map}
+use Rattle.std.proofs.lemmas.List.Elements.{All-filter, filter_agree, filter_passes}
 use Rattle.std.proofs.lemmas.List.Elements.{recursion_from_All}
 use Rattle.std.proofs.lemmas.List.Sorted.{IsPermutation-map, length_permutation}
 use Rattle.std.proofs.lemmas.List.Sums.{count_by-le-length, length-filter}
-use Rattle.std.proofs.lemmas.Map.Views.{tells_apart}
 use Rattle.sqlite_trees.proofs.ListLemmas.{IsPermutation-flat_map, filter-map, map-map}
 use Rattle.sqlite_value.specs.Order.{Row, column}
 use Rattle.sqlite_value.specs.declared.value.Value.TheVariants.{Blob, Int}
-use Rattle.book_model.specs.Words.{same_bytes}
-use Rattle.book_model.proofs.SetLemmas.{same_bytes-by_cmp}
-use Rattle.table_model.specs.Tables.{RecordRow, RecordTable, Tables}
-use Rattle.table_model.specs.Views.{rows_with}
-use Rattle.tree_rows.specs.Indexes.{IsKeyOf, by_both, by_bytes, by_mark}
+use Rattle.table_model.specs.Tables.{RecordTable, Tables}
+use Rattle.tree_rows.specs.Indexes.{IsKeyOf, by_both, by_mark}
 use Rattle.tree_rows.specs.Runs.{run_of}
 use Rattle.tree_rows.proofs.IndexLists.{index_names_all, index_permutes}
-use Rattle.tree_rows.proofs.IndexOrders.{by_bytes_exact}
 use Rattle.tree_rows.proofs.Maps.{first, second, less}
-use Rattle.tree_rows.proofs.PartIndexes.{part_names}
-use Rattle.tree_rows.proofs.Runs.{run_named, run_numbered}
-use Rattle.tree_tables.proofs.FoundNames.{Entry, at_name, entries_had, entries_named, keys_named}
-use Rattle.tree_tables.proofs.FoundNames.{named_found, names_of, names_read}
-use Rattle.tree_tables.proofs.Layouts.{identity_layout, mark_layout}
+use Rattle.tree_rows.proofs.Runs.{run_numbered}
+use Rattle.tree_tables.proofs.FoundNames.{Entry, at_name, entries_named, keys_named}
+use Rattle.tree_tables.proofs.FoundNames.{named_fit, named_found, names_of, names_read, some_had}
+use Rattle.tree_tables.proofs.Layouts.{mark_layout}
 use Rattle.tree_tables.proofs.RecordIndexes.{mark_named}
-use Rattle.tree_tables.specs.Answers.{FindsNamed, FindsSharing, ListsUncharged, by_identity}
+use Rattle.tree_tables.specs.Answers.{FindsNamed, ListsUncharged, by_identity}
 use Rattle.tree_tables.specs.Answers.{is_uncharged}
 use Rattle.tree_tables.specs.Columns.{flag, identity_columns, mark_columns}
 use Rattle.tree_tables.specs.Fits.{AllNamed, EndsInName, RecordsFit, RowsFit}
@@ -57,54 +50,6 @@ abbrev pub EndIn : List Row → List FoundName → Type 0
 EndIn rows names =
     AllZip (λ (one : Row) (found : FoundName). column one (length one - 1) ≡ Blob found.name)
     rows names
-
--- what holds of entries of the table holds of some of them
-had_with : (records : RecordTable) (identity : List ℕ)
-    → AllByRecursion (λ (e : Entry). get records e.0 ≡ Some e.1)
-    (take 2 (rows_with identity records))
-had_with records identity =
-    let Had : Entry → Type 0 = λ e. get records e.0 ≡ Some e.1 in
-    let test : Entry → Bool = λ e. same_bytes e.1.identity identity in
-    recursion_from_All Had (take 2 (filter test (entries records)))
-    (All-take Had 2 (filter test (entries records))
-    (All-filter test Had (entries records) (entries_had nat_list_cmp_total records)))
-
--- the names that the tree gives for an identity are those of the records that have it
-names_with : (records : RecordTable) (identity : List ℕ)
-    → map (λ e. e.0.1)
-    (filter (λ e. eq_by_cmp by_bytes e.0.0 identity) (entries (identity_index records)))
-    ≡ map (λ (e : Entry). e.0) (rows_with identity records)
-names_with records identity =
-    part_names (λ (row : RecordRow). row.identity) identity
-    (λ x. eq_by_cmp by_bytes x identity) (tells_apart' identity) records
-    ∙ ap (λ (same : List ℕ → List ℕ → Bool). map (λ (e : Entry). e.0)
-    (filter (λ (e : Entry). same e.1.identity identity) (entries records)))
-    (sym same_bytes-by_cmp)
-  where
-    tells_apart' : (identity x : List ℕ) → eq_by_cmp by_bytes x identity ≡ true → x ≡ identity
-    tells_apart' identity x same = tells_apart by_bytes_exact x identity same
-
--- The first two rows of an identity name the first two of the records that have it.
-pub sharing_found : (tables : Tables) (identity : List ℕ) (part : Row) (names : List FoundName)
-    (found : List StoredRecord) → part ≡ Blob identity ∷ []
-    → EndIn (take 2 (run_of part (identity_rows tables.records))) names
-    → FindsNamed names tables found → FindsSharing identity tables found
-sharing_found tables identity part names found part_is ends all =
-    let records = tables.records in
-    let keys = filter (λ e. eq_by_cmp by_bytes e.0.0 identity) (entries (identity_index records)) in
-    let run : take 2 (run_of part (identity_rows records)) ≡ map identity_columns (take 2 keys) =
-    ap (take 2) (ap (λ key. run_of key (identity_rows records)) part_is
-    ∙ run_named by_bytes identity_layout (λ name. Blob name ∷ []) (λ identity name. refl) identity
-    (identity_index records)) ∙ take-map identity_columns 2 keys in
-    let read : names_of names ≡ map (λ e. e.0.1) (take 2 keys) =
-    names_read identity_columns (λ e. e.0.1) (λ e. refl) (take 2 keys) names
-    (subst (λ some. EndIn some names) run ends) in
-    named_found names tables found all
-    ∙ ap (flat_map (at_name records)) (read
-    ∙ sym (take-map (λ (e : (List ℕ × List ℕ) × Unit {0}). e.0.1) 2 keys)
-    ∙ ap (take 2) (names_with records identity)
-    ∙ take-map (λ (e : Entry). e.0) 2 (rows_with identity records))
-    ∙ entries_named records (take 2 (rows_with identity records)) (had_with records identity)
 
 -- ---- the records that are not charged
 
@@ -231,13 +176,10 @@ module _ (records : RecordTable) where
       (filter is_uncharged (entries records))
   found_same =
       let test : Entry → Bool = λ e. has_none (mark_key e) in
-      let Had : Entry → Type 0 = λ e. get records e.0 ≡ Some e.1 in
       let some = filter test (entries records) in
-      let had : AllByRecursion Had some = recursion_from_All Had some
-      (All-filter test Had (entries records) (entries_had nat_list_cmp_total records)) in
       subst (IsPermutation (flat_map (at_name records) (map name_in keys)))
       (ap (flat_map (at_name records)) (map-map name_in mark_key some)
-      ∙ entries_named records some had
+      ∙ entries_named records some (some_had records test)
       ∙ filter_agree test is_uncharged mark_is (entries records))
       (IsPermutation-flat_map (at_name records) (map name_in keys)
       (map name_in (map mark_key some))
@@ -305,19 +247,6 @@ module _ (tables : Tables) (fit : RecordsFit tables) where
       })
 
   -- and the names that are read of them are those of records that fit
-  named_fit : (qs : List Key) (names : List FoundName)
-      → names_of names ≡ map (name_in tables.records) qs → AllByRecursion IsKey qs
-      → AllNamed names tables
-  named_fit [] [] same are = tt
-  named_fit [] (one ∷ names) same are = absurd (let e = same in cc)
-  named_fit (q ∷ qs) [] same are = absurd (let e = same in cc)
-  named_fit (q ∷ qs) (one ∷ names) same are =
-      let here = are.0 in
-      let name : one.name ≡ q.1.1 = (let e = same in cc) in
-      let rest : names_of names ≡ map (name_in tables.records) qs = (let e = same in cc) in
-      let there : get tables.records one.name ≡ Some here.0 = ap (get tables.records) name ∙ here.1 in
-      ((here.0, there, fit.each one.name here.0 there), named_fit qs names rest are.1)
-
   pub all_named : (part : Row) (names : List FoundName) → part ≡ Int (pos 0) ∷ []
       → EndIn (run_of part (mark_rows tables.records)) names → AllNamed names tables
   all_named part names part_is ends =
@@ -325,4 +254,5 @@ module _ (tables : Tables) (fit : RecordsFit tables) where
       let read : names_of names ≡ map (λ e. e.0.1.1) (listed records) =
       names_read mark_columns (λ e. e.0.1.1) (λ e. refl) (listed records) names
       (subst (λ some. EndIn some names) (marks_run records part part_is) ends) in
-      named_fit (keys records) names (read ∙ listed_names records) (keys_each records)
+      named_fit tables (name_in records) IsKey (λ q is. (is.0, is.1)) fit.each (keys records) names
+      (read ∙ listed_names records) (keys_each records)

@@ -1,7 +1,7 @@
 -- Records by name: what is found of them, and the three trees that hold them after a step.
 use Rattle.std.proofs.Common.{◌≡◌, ◌∙◌, ℕ, List, [], ◌∷◌, Bool, true, false, None, Some, pos}
 use Rattle.std.proofs.Common.{map, refl, sym, ap, ap₂, subst, slice_set}
-use Rattle.std.specs.FinMap.{entries, get, insert}
+use Rattle.std.specs.FinMap.{entries, get}
 use Rattle.std.specs.Option.{option_map}
 use Rattle.sqlite_trees.specs.Tree.{insert_entry, remove_entry}
 use Rattle.sqlite_trees.specs.View.{View}
@@ -16,15 +16,14 @@ use Rattle.tree_rows.specs.Rows.{Finds, IsUnchanged, Rewrites}
 use Rattle.tree_rows.proofs.Indexes.{index_same}
 use Rattle.tree_rows.proofs.Keyed.{row_found}
 use Rattle.tree_rows.proofs.Maps.{inserted}
-use Rattle.tree_rows.proofs.Taking.{changed}
-use Rattle.tree_tables.proofs.Holding.{apart, with_records}
+use Rattle.tree_tables.proofs.Holding.{apart, has_rows, have_but, holds_rows}
 use Rattle.tree_tables.proofs.Layouts.{record_layout, identity_layout, mark_layout}
 use Rattle.tree_tables.proofs.Looking.{rewrites_after_look}
 use Rattle.tree_tables.proofs.RecordIndexes.{identity_named, mark_named}
-use Rattle.tree_tables.proofs.RecordIndexes.{index_row_added, index_row_changed}
+use Rattle.tree_tables.proofs.RecordIndexes.{index_row_added, index_row_changed, row_changed}
 use Rattle.tree_tables.specs.Answers.{FindsRecord}
 use Rattle.tree_tables.specs.Columns.{flag, record_columns, identity_columns, mark_columns}
-use Rattle.tree_tables.specs.Holds.{Holds, identity_key, mark_key, marks}
+use Rattle.tree_tables.specs.Holds.{Holds, identity_key, mark_key}
 use Rattle.tree_tables.specs.Stored.{stored_entry}
 use Rattle.tree_tables.specs.declared.stored_record.StoredRecord.{StoredRecord}
 
@@ -75,19 +74,16 @@ pub record_added : {old one two new : View} {tables : Tables} (name : List ℕ) 
     → Holds new.trees (put_record_row name row tables)
 record_added {old} {one} {two} {new} {tables} name row first second third made_is identity_is
     mark_is holds none =
-    with_records holds (insert tables.records name row)
-    (λ other records identity_index marks.
-    third.others other marks ∙ second.others other identity_index ∙ first.others other records)
-    (third.others 3 (apart 3 7 refl) ∙ second.others 3 (apart 3 6 refl) ∙ first.rows_now
-    ∙ ap₂ (insert_entry plain) made_is holds.records
-    ∙ inserted record_layout tables.records name row none)
-    (third.others 6 (apart 6 7 refl) ∙ second.rows_now
-    ∙ ap₂ (insert_entry plain) identity_is (first.others 6 (apart 6 3 refl) ∙ holds.identity_index)
-    ∙ index_row_added identity_named identity_layout tables.records name row none)
-    (third.rows_now
-    ∙ ap₂ (insert_entry plain) mark_is (second.others 7 (apart 7 6 refl)
-    ∙ first.others 7 (apart 7 3 refl) ∙ holds.marks)
-    ∙ index_row_added mark_named mark_layout tables.records name row none)
+    holds_rows holds.placed (have_but 7 third.others
+    (third.rows_now ∙ index_row_added mark_named mark_layout tables.records name row mark_is
+    (second.others 7 (apart 7 6 refl) ∙ first.others 7 (apart 7 3 refl) ∙ holds.marks) none)
+    (have_but 6 second.others
+    (second.rows_now
+    ∙ index_row_added identity_named identity_layout tables.records name row identity_is
+    (first.others 6 (apart 6 3 refl) ∙ holds.identity_index) none)
+    (have_but 3 first.others
+    (first.rows_now ∙ ap₂ (insert_entry plain) made_is holds.records
+    ∙ inserted record_layout tables.records name row none) (has_rows holds) refl) refl) refl)
 
 -- the record with this mark
 abbrev marked : Bool → RecordRow → RecordRow
@@ -112,27 +108,18 @@ record_marked old {look} {mid} {new} tables name mark row {before} {made} {from}
     let now = marked mark row in
     let behind : Rewrites old mid 3 (insert_entry plain made (remove_entry plain before
     (look.trees 3))) = rewrites_after_look {old = old} same first in
-    let rows_are : look.trees 3 ≡ old.trees 3 = ap (λ (v : View). v.trees 3) same in
     subst (λ found. Holds new.trees (record tables { records = mark_at mark name found records }))
     (sym some)
-    (with_records holds (insert records name now)
-    (λ other apart_records apart_identities apart_marks.
-    second.others other apart_marks ∙ behind.others other apart_records)
-    (second.others 3 (apart 3 7 refl) ∙ behind.rows_now
-    ∙ ap₂ (λ one rows. insert_entry plain one (remove_entry plain before rows))
-    (made_is ∙ ap (λ one. slice_set one 9 value) before_is)
-    (rows_are ∙ holds.records)
-    ∙ ap (λ one. insert_entry plain (record_columns (name, now))
-    (remove_entry plain one (map record_columns (entries records)))) before_is
-    ∙ changed record_layout records name row now some)
-    (second.others 6 (apart 6 7 refl) ∙ behind.others 6 (apart 6 3 refl) ∙ holds.identity_index
+    (holds_rows holds.placed (have_but 7 second.others
+    (second.rows_now ∙ index_row_changed mark_named mark_layout records name row now
+    (to_is ∙ ap (λ one. value ∷ column one 1 ∷ column one 0 ∷ []) before_is)
+    (from_is ∙ ap (λ one. column one 9 ∷ column one 1 ∷ column one 0 ∷ []) before_is)
+    (behind.others 7 (apart 7 3 refl) ∙ holds.marks) some)
+    (have_but {old = mid.trees} 6 (λ other apart. refl)
+    (behind.others 6 (apart 6 3 refl) ∙ holds.identity_index
     ∙ ap (λ keys. map identity_columns (entries keys))
     (sym (index_same identity_named records name row now some refl)))
-    (second.rows_now
-    ∙ ap₂ (λ one rows. insert_entry plain one (remove_entry plain from rows))
-    (to_is ∙ ap (λ one. value ∷ column one 1 ∷ column one 0 ∷ []) before_is)
-    (behind.others 7 (apart 7 3 refl) ∙ holds.marks)
-    ∙ ap (λ one. insert_entry plain (mark_columns (mark_key (name, now), tt))
-    (remove_entry plain one (map mark_columns (entries (marks records)))))
-    (from_is ∙ ap (λ one. column one 9 ∷ column one 1 ∷ column one 0 ∷ []) before_is)
-    ∙ index_row_changed mark_named mark_layout records name row now some))
+    (have_but 3 behind.others
+    (behind.rows_now ∙ row_changed record_layout records name row now
+    (made_is ∙ ap (λ one. slice_set one 9 value) before_is) before_is
+    (ap (λ (v : View). v.trees 3) same ∙ holds.records) some) (has_rows holds) refl) refl) refl))

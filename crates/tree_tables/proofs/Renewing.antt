@@ -2,7 +2,7 @@
 -- records stay as they are.
 use Rattle.std.proofs.Common.{◌≡◌, ℕ, ℤ, List, [], ◌∷◌, map, Bool, true, false, cond, Option}
 use Rattle.std.proofs.Common.{Some, None, refl, sym, ap, ap₂, subst, ◌∙◌}
-use Rattle.std.specs.Prelude.{int_lt}
+use Rattle.std.specs.Prelude.{◌==◌, int_lt}
 use Rattle.std.specs.FinMap.{FinMap, entries, get, insert, same_map}
 use Rattle.std.specs.Option.{option_map}
 use Rattle.std.specs.Ordering.{eq_by_cmp}
@@ -11,85 +11,58 @@ use Rattle.sqlite_trees.specs.Tree.{Trees, from_key, insert_entry, remove_entry}
 use Rattle.sqlite_trees.specs.View.{View}
 use Rattle.sqlite_value.specs.Keys.{plain}
 use Rattle.sqlite_value.specs.Order.{Row, column}
-use Rattle.table_model.specs.Steps.{post_by, post_rows}
+use Rattle.table_model.specs.RowChanges.{post_by}
+use Rattle.table_model.specs.Steps.{post_rows}
 use Rattle.table_model.specs.Tables.{RecordRow, RecordTable, Tables}
 use Rattle.tree_rows.specs.Changes.{above, updated, FindsAbove}
 use Rattle.tree_rows.specs.Indexes.{IsIndexKey, index_answer, index_of}
-use Rattle.tree_rows.specs.Layouts.{row_of, rows_of}
+use Rattle.tree_rows.specs.Layouts.{rows_of}
 use Rattle.tree_rows.specs.Rows.{IsFirst, IsUnchanged, Rewrites}
 use Rattle.tree_rows.proofs.Indexes.{indexed}
 use Rattle.tree_rows.proofs.Passing.{first_there, walk_start, walk_step}
-use Rattle.tree_rows.proofs.Taking.{changed}
 use Rattle.tree_rows.proofs.Updating.{updated_step, done_step, done_start, done_kept, done_all}
 use Rattle.tree_rows.proofs.Updating.{get_updated}
-use Rattle.tree_tables.proofs.Holding.{SameBut, apart}
+use Rattle.tree_tables.proofs.Holding.{SameBut, has_rows, have_but, holds_rows}
 use Rattle.tree_tables.proofs.Layouts.{record_layout}
 use Rattle.tree_tables.proofs.Looking.{only_looks, rewrites_after_look}
-use Rattle.tree_tables.proofs.RecordIndexes.{identity_named, mark_named}
+use Rattle.tree_tables.proofs.RecordIndexes.{identity_named, mark_named, row_changed}
 use Rattle.tree_tables.specs.Columns.{record_columns, identity_columns, mark_columns}
 use Rattle.tree_tables.specs.Holds.{Holds, identity_key, identity_index, mark_key, marks}
 use Rattle.tree_tables.specs.Walks.{HoldsFoundBy, IsRenewing, RenewsNext, RenewsRow}
-use Rattle.tree_tables.specs.Walks.{last_name_key, renewed, rows_past}
+use Rattle.tree_tables.specs.Walks.{last_name_key, renewed, rows_past, with_rows_of}
 
 -- Trees that hold tables find their records by what these say,
 pub found_by_own : {trees : Trees} {tables : Tables} → Holds trees tables
     → HoldsFoundBy trees tables tables.records
-found_by_own holds = record {
-  records = holds.records;
-  rest = record {
-    book = holds.book;
-    tariffs = holds.tariffs;
-    closes = holds.closes;
-    records = refl;
-    days = holds.days;
-    placed = holds.placed;
-    lines = holds.lines;
-    identity_index = holds.identity_index;
-    marks = holds.marks;
-    choices = holds.choices;
-    choice_name_index = holds.choice_name_index;
-  };
-}
+found_by_own holds = assumption
 
 -- and trees hold tables where they find their records by others that have the same keys.
 pub held_by_same : {trees : Trees} {tables : Tables} {keyed : RecordTable}
     → HoldsFoundBy trees tables keyed → identity_index keyed ≡ identity_index tables.records
     → marks keyed ≡ marks tables.records → Holds trees tables
-held_by_same found same_identities same_marks = record {
-  book = found.rest.book;
-  tariffs = found.rest.tariffs;
-  closes = found.rest.closes;
-  records = found.records;
-  days = found.rest.days;
-  placed = found.rest.placed;
-  lines = found.rest.lines;
-  identity_index = found.rest.identity_index
-      ∙ ap (λ places. map identity_columns (entries places)) same_identities;
-  marks = found.rest.marks ∙ ap (λ places. map mark_columns (entries places)) same_marks;
-  choices = found.rest.choices;
-  choice_name_index = found.rest.choice_name_index;
-}
+held_by_same {trees} {tables} found same_identities same_marks =
+    let identities : trees 6 ≡ map identity_columns (entries (identity_index tables.records)) =
+    found.rest.identity_index
+    ∙ ap (λ places. map identity_columns (entries places)) same_identities in
+    let kept : trees 7 ≡ map mark_columns (entries (marks tables.records)) =
+    found.rest.marks ∙ ap (λ places. map mark_columns (entries places)) same_marks in
+    assumption (identities, kept)
+
+-- trees that are the same but for one still are, where the records' own has other rows
+pub same_beside : {old new : Trees} (keyed : RecordTable) (tree : ℕ) → SameBut old new tree
+    → SameBut (with_rows_of keyed old) (with_rows_of keyed new) tree
+same_beside keyed tree same other apart =
+    ap (cond (other == 3) (map record_columns (entries keyed))) (same other apart)
 
 -- other rows of the same records
 pub found_rows : {old new : Trees} {tables : Tables} {keyed : RecordTable} (records : RecordTable)
     → HoldsFoundBy old tables keyed → SameBut old new 3
     → new 3 ≡ map record_columns (entries records)
     → HoldsFoundBy new (record tables { records = records }) keyed
-found_rows records found same now = record {
+found_rows {old} {keyed = keyed} records found same now = record {
   records = now;
-  rest = record {
-    book = same 0 (apart 0 3 refl) ∙ found.rest.book;
-    tariffs = same 1 (apart 1 3 refl) ∙ found.rest.tariffs;
-    closes = same 2 (apart 2 3 refl) ∙ found.rest.closes;
-    records = refl;
-    days = same 4 (apart 4 3 refl) ∙ found.rest.days;
-    placed = found.rest.placed;
-    lines = same 5 (apart 5 3 refl) ∙ found.rest.lines;
-    identity_index = same 6 (apart 6 3 refl) ∙ found.rest.identity_index;
-    marks = same 7 (apart 7 3 refl) ∙ found.rest.marks;
-    choices = same 8 (apart 8 3 refl) ∙ found.rest.choices;
-    choice_name_index = same 9 (apart 9 3 refl) ∙ found.rest.choice_name_index;
-  };
+  rest = holds_rows found.rest.placed (have_but {old = with_rows_of keyed old} 3
+      (same_beside keyed 3 same) refl (has_rows found.rest) refl);
 }
 
 -- other rows of the same records, which have the same keys
@@ -188,11 +161,8 @@ module _ (change : RecordRow → RecordRow)
             it.2 it.3 in
             let rows : new 3 ≡ rows_of record_layout
             (insert so_far.records it.0 (change it.1)) =
-            now ∙ ap₂ (λ one other. insert_entry plain one (remove_entry plain other (old 3)))
-            (made_is (it.0, it.1) it.4) it.4
-            ∙ ap (λ some. insert_entry plain (row_of record_layout (it.0, change it.1))
-            (remove_entry plain (row_of record_layout (it.0, it.1)) some)) so_far.holds.records
-            ∙ changed record_layout so_far.records it.0 it.1 (change it.1) there in
+            now ∙ row_changed record_layout so_far.records it.0 it.1 (change it.1)
+            (made_is (it.0, it.1) it.4) it.4 so_far.holds.records there in
             record {
               last = Some it.0;
               place = named ∙ ap (λ one. column one 0 ∷ []) it.4;
@@ -259,20 +229,18 @@ post_again day row =
       | false ↦ λ is. ap (λ b. cond b posted posted) is
     ] refl
 
--- a record keeps its identity, and its mark, where it is posted
-posted_identity : (day : ℤ) (name : List ℕ) (row : RecordRow)
-    → identity_key (name, post_by day row) ≡ identity_key (name, row)
-posted_identity day name row =
+-- a record that is posted keeps a key that does not say so
+posted_stays : {Q : Type 0} (key : List ℕ × RecordRow → Q)
+    → ((name : List ℕ) (row : RecordRow)
+    → key (name, record row { posted = row.charged }) ≡ key (name, row))
+    → (day : ℤ) (name : List ℕ) (row : RecordRow)
+    → key (name, post_by day row) ≡ key (name, row)
+posted_stays key stays day name row =
     elim (int_lt day row.priced.day) as (λ b.
-    identity_key (name, cond b row (record row { posted = row.charged }))
-    ≡ identity_key (name, row)) [ true ↦ refl | false ↦ refl ]
-
-posted_mark : (day : ℤ) (name : List ℕ) (row : RecordRow)
-    → mark_key (name, post_by day row) ≡ mark_key (name, row)
-posted_mark day name row =
-    elim (int_lt day row.priced.day) as (λ b.
-    mark_key (name, cond b row (record row { posted = row.charged }))
-    ≡ mark_key (name, row)) [ true ↦ refl | false ↦ refl ]
+    key (name, cond b row (record row { posted = row.charged })) ≡ key (name, row)) [
+      | true ↦ refl
+      | false ↦ stays name row
+    ]
 
 -- an index of rows with keys that stay where they are changed is that of the changed rows
 module _ {K V Q : Type 0} {R : K → K → Ordering} {P : Q → Q → Ordering} {key : K × V → Q}
@@ -301,5 +269,7 @@ pub posted_held : (day : ℤ) {trees : Trees} {tables : Tables}
     → Holds trees (post_rows day tables)
 posted_held day {tables = tables} found =
     held_by_same found
-    (index_stays identity_named (post_by day) (posted_identity day) tables.records)
-    (index_stays mark_named (post_by day) (posted_mark day) tables.records)
+    (index_stays identity_named (post_by day) (posted_stays identity_key (λ name row. refl) day)
+    tables.records)
+    (index_stays mark_named (post_by day) (posted_stays mark_key (λ name row. refl) day)
+    tables.records)

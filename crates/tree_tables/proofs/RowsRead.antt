@@ -1,17 +1,61 @@
 -- What is read of the rows of entries, by what each row says.
-use Rattle.std.proofs.Common.{◌≡◌, List, [], ◌∷◌, map, Some, refl, subst}
+use Rattle.std.proofs.Common.{◌≡◌, ◌||◌, ℕ, ℤ, pos, List, [], ◌∷◌, Bool, true, false, cond, map, Some, refl}
+use Rattle.std.proofs.Common.{subst}
 use Rattle.std.specs.Cmp.{IsTotalOrder}
 use Rattle.std.specs.FinMap.{FinMap, IsAntisymmetric, entries, entries_sorted, find, get}
 use Rattle.std.specs.FinMap.{get-entries, is_sorted}
-use Rattle.std.specs.List.{AllByRecursion, AllZip}
-use Rattle.std.specs.Prelude.{T}
+use Rattle.std.specs.List.{AllByRecursion, AllZip, list_any}
+use Rattle.std.specs.Prelude.{T, filter}
 use Rattle.std.specs.declared.cmp.Ordering.{Ordering}
 use Rattle.std.proofs.lemmas.List.{map-id}
 use Rattle.std.proofs.Common.{◌∙◌}
 use Rattle.sqlite_value.specs.Order.{Row}
+use Rattle.sqlite_value.specs.declared.value.Value.TheVariants.{Blob, Int, Text}
+use Rattle.tree_rows.specs.Rows.{IsFirst}
 use Rattle.tree_rows.proofs.Maps.{second}
 use Rattle.tree_rows.proofs.Moving.{find_later}
 use Rattle.tree_rows.proofs.Passing.{find_front}
+
+-- numbers, texts and bytes are known by the values in columns
+pub same_int : (m n : ℤ) → Int m ≡ Int n → m ≡ n
+same_int m n same = cc
+
+pub same_count : (m n : ℕ) → Int (pos m) ≡ Int (pos n) → m ≡ n
+same_count m n same = cc
+
+pub same_text : (one other : List ℕ) → Text one ≡ Text other → one ≡ other
+same_text one other same = cc
+
+pub same_blob : (one other : List ℕ) → Blob one ≡ Blob other → one ≡ other
+same_blob one other same = cc
+
+-- whether a list has an element
+abbrev pub has_one : {X : Type 0} → List X → Bool
+has_one [] = false
+has_one (x ∷ xs) = true
+
+-- what is made of each element is as many
+pub made_has : {X Y : Type 0} (f : X → Y) (xs : List X) → has_one (map f xs) ≡ has_one xs
+made_has f [] = refl
+made_has f (x ∷ xs) = refl
+
+-- a first row is there where there is a row
+pub first_has : (rows : List Row) (row : Row) (there : Bool) → IsFirst rows row there
+    → there ≡ has_one rows
+first_has [] row true begins = absurd (let e = begins.1 in cc)
+first_has [] row false begins = refl
+first_has (one ∷ rows) row true begins = refl
+first_has (one ∷ rows) row false begins = absurd (let e = begins in cc)
+
+-- a test is passed where something is left of it
+pub any_is : {X : Type 0} (p : X → Bool) (xs : List X) → list_any p xs ≡ has_one (filter p xs)
+any_is p [] = refl
+any_is p (x ∷ xs) =
+    elim (p x) as (λ b. (b || list_any p xs)
+    ≡ has_one (cond b (x ∷ filter p xs) (filter p xs))) [
+      | true ↦ refl
+      | false ↦ any_is p xs
+    ]
 
 -- what asks nothing holds of all
 pub nothing_asked : {E : Type 0} (list : List E) → AllByRecursion (λ (entry : E). Unit {0}) list

@@ -1,5 +1,5 @@
 -- Tariffs and closes, as they are read of their rows.
-use Rattle.std.proofs.Common.{◌≡◌, ℕ, ℤ, pos, List, Option, Some, None, map}
+use Rattle.std.proofs.Common.{◌≡◌, ℕ, ℤ, pos, List, Option, Some, None, map, sym}
 use Rattle.std.specs.Prelude.{string_bytes}
 use Rattle.std.specs.List.{AllZip}
 use Rattle.sqlite_value.specs.Order.{Row, column}
@@ -8,20 +8,14 @@ use Rattle.tree_tables.specs.Columns.{closed_columns, tariff_columns, tariff_val
 use Rattle.tree_tables.specs.Stored.{close_entry, tariff_of}
 use Rattle.tree_tables.specs.declared.closed_rows.Close.{Close}
 use Rattle.tree_tables.specs.declared.tariff_rows.StoredTariff.{StoredTariff}
-use Rattle.tree_tables.proofs.RowsRead.{told_of_each}
+use Rattle.tree_tables.proofs.RowsRead.{same_count, same_int, told_of_each}
 
 -- what the columns of a tariff's row say
 abbrev SaysTariff : Row → StoredTariff → Type 0
 SaysTariff row tariff =
     (column row 0 ≡ Int tariff.day) × (column row 1 ≡ Text (string_bytes tariff.body))
 
--- a number and a text are known by their values
-same_day : (m n : ℤ) → Int m ≡ Int n → n ≡ m
-same_day m n e = cc
-
-same_number : (m n : ℕ) → Int (pos m) ≡ Int (pos n) → n ≡ m
-same_number m n e = cc
-
+-- a text is known by its value
 same_text : (found : Option (List ℕ)) (text : List ℕ) → tariff_value found ≡ Text text → Some text ≡ found
 same_text None text e = cc
 same_text (Some found) text e = cc
@@ -30,7 +24,7 @@ same_text (Some found) text e = cc
 tariff_said : (tariff : ℤ × Option (List ℕ)) (stored : StoredTariff)
     → SaysTariff (tariff_columns tariff) stored → tariff_of stored ≡ tariff
 tariff_said tariff stored says = λ i. (
-  same_day tariff.0 stored.day says.0 i,
+  same_int stored.day tariff.0 (sym says.0) i,
   same_text tariff.1 (string_bytes stored.body) says.1 i,
 )
 
@@ -48,6 +42,6 @@ SaysClose row close =
 pub closes_said : (closes : List (ℕ × ℤ)) (list : List Close)
     → AllZip SaysClose (map closed_columns closes) list → map close_entry list ≡ closes
 closes_said = told_of_each closed_columns SaysClose close_entry (λ close stored says i. (
-  same_number close.0 stored.period says.0 i,
-  same_day close.1 stored.through says.1 i,
+  same_count stored.period close.0 (sym says.0) i,
+  same_int stored.through close.1 (sym says.1) i,
 ))

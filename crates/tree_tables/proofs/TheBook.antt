@@ -1,5 +1,5 @@
 -- The one row of the book.
-use Rattle.std.proofs.Common.{◌≡◌, ℕ, List, [], ◌∷◌, Bool, true, false, not, cond, pos, arith}
+use Rattle.std.proofs.Common.{◌≡◌, List, [], ◌∷◌, Bool, true, false, not, cond, pos, arith}
 use Rattle.std.proofs.Common.{refl, sym, ap, ap₂, ◌&&◌, subst, ◌∙◌, Result}
 use Rattle.std.specs.Prelude.{OnErr, OnOk}
 use Rattle.std.specs.Cmp.{tied_itself}
@@ -18,8 +18,9 @@ use Rattle.table_model.specs.Tables.{BookRow, Tables}
 use Rattle.tree_rows.specs.Rows.{Finds, IsFirst, IsUnchanged, Rewrites}
 use Rattle.tree_rows.proofs.Calls.{Quiet, clean_before}
 use Rattle.tree_rows.proofs.Maps.{begins_with, prefix_of}
-use Rattle.tree_tables.proofs.Holding.{with_book}
+use Rattle.tree_tables.proofs.Holding.{has_rows, have_but, holds_rows}
 use Rattle.tree_tables.proofs.Looking.{does_after, only_looks, rewrites_after_look}
+use Rattle.tree_tables.proofs.RowsRead.{same_count}
 use Rattle.tree_tables.specs.Columns.{book_columns}
 use Rattle.tree_tables.specs.Fits.{BookFits}
 use Rattle.tree_tables.specs.Holds.{Holds, begin_with_book, has_book}
@@ -101,20 +102,16 @@ book_changed rows book row is =
     ∙ ap (λ b. insert_entry plain row (cond b (book_columns book ∷ []) []))
     (ap (λ o. not (is_eq o)) (tied_itself (entry_cmp_total plain) (book_columns book)))
 
--- numbers that one column says are one
-same_number : (m n : ℕ) → Int (pos m) ≡ Int (pos n) → m ≡ n
-same_number m n e = cc
-
 -- columns of the book's row say the book
 book_said : (row : Row) (book : BookRow) (stored : StoredBook) → row ≡ book_columns book
     → column row 1 ≡ Int (pos stored.rule) → column row 2 ≡ Int (pos stored.adopted)
     → column row 3 ≡ Int (pos stored.held) → column row 4 ≡ Int (pos stored.amount)
     → book_entry stored ≡ book
 book_said row book stored is rule_is adopted_is held_is amount_is =
-    let rule = same_number _ book.rule (sym rule_is ∙ ap (λ r. column r 1) is) in
-    let adopted = same_number _ book.adopted (sym adopted_is ∙ ap (λ r. column r 2) is) in
-    let held = same_number _ book.held (sym held_is ∙ ap (λ r. column r 3) is) in
-    let amount = same_number _ book.amount (sym amount_is ∙ ap (λ r. column r 4) is) in
+    let rule = same_count _ book.rule (sym rule_is ∙ ap (λ r. column r 1) is) in
+    let adopted = same_count _ book.adopted (sym adopted_is ∙ ap (λ r. column r 2) is) in
+    let held = same_count _ book.held (sym held_is ∙ ap (λ r. column r 3) is) in
+    let amount = same_count _ book.amount (sym amount_is ∙ ap (λ r. column r 4) is) in
     λ i. record { rule = rule i; adopted = adopted i; held = held i; amount = amount i }
 
 -- after a look, the row of the book makes way for that of the book as a change makes it
@@ -142,10 +139,11 @@ book_changes ghosts change stored written {old = old} {key = key} {found = found
     let before = clean_before ghosts step clean in
     let there = book_there _ tables.book key found hit holds.book key_is (finds before) in
     let said = book_said found tables.book stored there.1 rule adopted held amount in
-    with_book holds (change tables.book)
-    (rewrites_after_look {old = ghosts.view old} (same before) rewritten).others
+    holds_rows holds.placed
+    (have_but 0 (rewrites_after_look {old = ghosts.view old} (same before) rewritten).others
     (rewritten.rows_now
     ∙ ap₂ (λ one rows. insert_entry plain made (remove_entry plain one rows)) there.1
     (ap (λ (v : View). v.trees 0) (same before))
     ∙ book_changed ((ghosts.view old).trees 0) tables.book made holds.book
-    ∙ ap (λ row. row ∷ []) (made_is ∙ ap book_columns (changed tables.book said))))
+    ∙ ap (λ row. row ∷ []) (made_is ∙ ap book_columns (changed tables.book said)))
+    (has_rows holds) refl))

@@ -9,7 +9,7 @@ use Rattle.sqlite_value.specs.declared.value.Value.TheVariants.{Int, Text}
 use Rattle.book_model.specs.declared.row.ChargeRow.{ChargeRow}
 use Rattle.book_model.specs.declared.row.RowKey.{RowKey}
 use Rattle.table_model.specs.MapChanges.{moved}
-use Rattle.table_model.specs.TableChanges.{move_on}
+use Rattle.table_model.specs.RowChanges.{move_on}
 use Rattle.table_model.specs.Tables.{DayTable, Tables}
 use Rattle.tree_rows.specs.Changes.{MovesApart}
 use Rattle.tree_tables.specs.Holds.{Holds}

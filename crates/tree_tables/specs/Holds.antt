@@ -52,6 +52,10 @@ abbrev pub AreUnderOwnKeys : DayTable → Type 0
 AreUnderOwnKeys days =
     (key : ℕ × RowKey) (row : ChargeRow) → get days key ≡ Some row → row_key row ≡ key.1
 
+-- how many trees there are
+abbrev pub tree_count : ℕ
+tree_count = 10
+
 -- The rows of the trees are those of the tables.
 pub record Holds (trees : Trees) (tables : Tables) : Type 0 where
   pub book : trees 0 ≡ book_columns tables.book ∷ []

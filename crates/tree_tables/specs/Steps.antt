@@ -8,7 +8,7 @@ use Rattle.sqlite_value.specs.Order.{Row}
 use Rattle.table_model.specs.TablesAfter.{new_tables}
 use Rattle.table_model.specs.Tables.{Tables}
 use Rattle.tree_rows.specs.Rows.{IsUnchanged}
-use Rattle.tree_tables.specs.Holds.{Holds}
+use Rattle.tree_tables.specs.Holds.{Holds, tree_count}
 use Rattle.tree_tables.specs.States.{State, HasCleanDisk, Survives}
 
 -- this is said of the tables, which are left alone
@@ -63,7 +63,7 @@ Always tables = Unit {0}
 
 -- none of the trees has a row
 pub record HasNoRows (trees : Trees) : Type 0 where
-  pub empty : (tree : ℕ) → tree < 10 → trees tree ≡ []
+  pub empty : (tree : ℕ) → tree < tree_count → trees tree ≡ []
 
 -- New books are made where there are no rows; where the store fails, its last commit stays.
 pub record Makes {T : Type 0} (result : Result T StoreError) (old new : State) : Type 0 where

@@ -5,11 +5,8 @@ use Rattle.std.specs.FinMap.{get}
 use Rattle.std.specs.Global.{Global}
 use Rattle.sqlite_value.specs.Order.{Row, column}
 use Rattle.sqlite_value.specs.declared.value.Value.TheVariants.{Blob, Int}
-use Rattle.book_model.specs.declared.row.ChargeRow.{ChargeRow}
-use Rattle.book_model.specs.declared.row.RowKey.{RowKey}
 use Rattle.tariff_rules.specs.declared.priced.Priced.{Priced}
 use Rattle.table_model.specs.Tables.{BookRow, ChoiceRow, RecordRow, Tables}
-use Rattle.table_model.specs.TablesOf.{row_key}
 use Rattle.tree_tables.specs.Columns.{flag}
 use Rattle.tree_tables.specs.declared.book_row.StoredBook.{StoredBook}
 use Rattle.tree_tables.specs.declared.choice_rows.StoredChoice.{StoredChoice}
@@ -92,10 +89,6 @@ abbrev pub SaysUncharged : Row → Option (Vec ℕ Global) → Type 0
 SaysUncharged row None = column row 0 ≡ Int (pos (flag true))
 SaysUncharged row (Some identity) =
     (column row 0 ≡ Int (pos (flag false))) × (column row 1 ≡ Blob identity.items)
-
--- a charge row of a period as an entry of its table
-abbrev pub day_entry : ℕ → ChargeRow → (ℕ × RowKey) × ChargeRow
-day_entry period row = ((period, row_key row), row)
 
 -- the name of a line's record, and whether it adds the record
 abbrev pub signed_name : StoredLine → List ℕ × Bool

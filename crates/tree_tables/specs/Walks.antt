@@ -9,7 +9,7 @@ use Rattle.sqlite_value.specs.Keys.{plain}
 use Rattle.sqlite_value.specs.Order.{Row, column}
 use Rattle.sqlite_value.specs.declared.value.Value.TheVariants.{Blob}
 use Rattle.table_model.specs.Steps.{rename_rows}
-use Rattle.table_model.specs.TableChanges.{by_second_rule}
+use Rattle.table_model.specs.RowChanges.{by_second_rule}
 use Rattle.table_model.specs.Tables.{RecordRow, RecordTable, Tables}
 use Rattle.tree_rows.specs.Changes.{is_above, updated, DoneTo}
 use Rattle.tree_rows.specs.Indexes.{by_both}

@@ -4,7 +4,7 @@
 
 ghost use Rattle.std.specs.Prelude.{◌≡◌, IfOk, OnOk, true};
 ghost use Rattle.sqlite_value.specs.Order.{column};
-ghost use Rattle.table_model.specs.TableChanges.{by_second_rule};
+ghost use Rattle.table_model.specs.RowChanges.{by_second_rule};
 ghost use Rattle.tree_tables.specs.Walks.{RenewsRow};
 
 use crate::column_values::{blob_at, make_row, with_column};
@@ -48,8 +48,8 @@ impl<S: Store> TreeTables<S> {
     ghost use Rattle.std.specs.Prelude.{IfOk, OnErr, OnOk};
     ghost use Rattle.sqlite_trees.specs.View.{IsClean};
     ghost use Rattle.tree_rows.specs.Calls.{CommitsNothing, LeavesCommitted};
+    ghost use Rattle.table_model.specs.RowChanges.{by_second_rule};
     ghost use Rattle.table_model.specs.Steps as step;
-    ghost use Rattle.table_model.specs.TableChanges.{by_second_rule};
     ghost use Rattle.tree_tables.specs.States.{state};
     ghost use Rattle.tree_tables.specs.Steps.{Always, Does};
     ghost use Rattle.tree_tables.specs.Walks.{KeysNext, KeysRecords, MovesKeys, RenamesRows};

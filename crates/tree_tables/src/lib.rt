@@ -33,6 +33,6 @@ pub use line_rows::{LineKey, StoredLine};
 pub use memory::trees_in_memory;
 pub use record_rows::NewRecord;
 pub use stored_record::{RecordMark, StoredRecord, data_of, read_mark, read_record};
-pub use stored_usage::{put_usage, record_with, usage_bytes};
+pub use stored_usage::{put_data, record_with, usage_bytes, usage_in};
 pub use tables::TreeTables;
 pub use tariff_rows::{StoredTariff, TariffText};

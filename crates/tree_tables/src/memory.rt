@@ -12,6 +12,9 @@ use sqlite_trees::store::Shape;
 use sqlite_value::keys::Order;
 use std::alloc::{AllocError, Global};
 
+/// How many trees books have.
+const TREES: usize = 10;
+
 /// One tree of books. In memory nothing asks for its name.
 fn tree() -> Object<'static>
     ensures { result.shape ≡ Shape.Index plain }
@@ -34,6 +37,5 @@ pub fn trees_in_memory(alloc: Global) -> Result<MemStore, AllocError>
         (memory_view store).trees ≡ (memory_view store).committed) }
     ensures sound { IfOk result (λ store. (memory_view store).is_broken ≡ false) }
 {
-    let one = tree();
-    MemStore::new(alloc, &[one, one, one, one, one, one, one, one, one, one])
+    MemStore::new(alloc, &[tree(); TREES])
 }

@@ -147,7 +147,7 @@ fn marked_row(row: &mut Row, before: &Row, mark: bool) -> Result<(), StoreError>
 }
 
 impl<S: Store> TreeTables<S> {
-    ghost use Rattle.std.specs.Prelude.{◌≡◌, None};
+    ghost use Rattle.std.specs.Prelude.{◌≡◌, false, None, true};
     ghost use Rattle.std.specs.FinMap.{get};
     ghost use Rattle.table_model.specs.Steps as step;
     ghost use Rattle.tree_tables.specs.Answers.{FindsRecord, FindsSharing, ListsUncharged};
@@ -241,7 +241,7 @@ impl<S: Store> TreeTables<S> {
     /// The record of a name, if there is one, is charged from now on.
     pub fn mark_record(&mut self, name: &[u8]) -> Result<(), StoreError>
         ensures does { Does result (state S.Store self.old.store) (state S.Store self.new.store)
-            Always (step.mark_row name.now) }
+            Always (step.set_mark_row true name.now) }
     {
         self.set_mark(name, true)
     }
@@ -249,7 +249,7 @@ impl<S: Store> TreeTables<S> {
     /// The record of a name, if there is one, is charged no more.
     pub fn unmark_record(&mut self, name: &[u8]) -> Result<(), StoreError>
         ensures does { Does result (state S.Store self.old.store) (state S.Store self.new.store)
-            Always (step.unmark_row name.now) }
+            Always (step.set_mark_row false name.now) }
     {
         self.set_mark(name, false)
     }

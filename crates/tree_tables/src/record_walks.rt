@@ -4,7 +4,7 @@ ghost use Rattle.std.specs.Prelude.{◌≡◌, ◌∷◌, [], IfErr, IfOk, OnErr
 ghost use Rattle.std.specs.Prelude.{slice_set};
 ghost use Rattle.sqlite_trees.specs.View.{IsClean, KeepsSchema};
 ghost use Rattle.sqlite_value.specs.Order.{column};
-ghost use Rattle.table_model.specs.Steps.{post_by};
+ghost use Rattle.table_model.specs.RowChanges.{post_by};
 ghost use Rattle.tree_rows.specs.Calls.{CommitsNothing, IsCausedByStore, IsSorted, LeavesCommitted};
 ghost use Rattle.tree_rows.specs.Calls.{OnlyLooks};
 ghost use Rattle.tree_rows.specs.Rows.{IsFirst};
@@ -107,6 +107,7 @@ impl<S: Store> TreeTables<S> {
     ghost use Rattle.sqlite_trees.specs.View.{IsClean};
     ghost use Rattle.tree_rows.specs.Calls.{CommitsNothing, LeavesCommitted};
     ghost use Rattle.tree_rows.specs.Passes.{IsPassing};
+    ghost use Rattle.table_model.specs.RowChanges.{post_by};
     ghost use Rattle.table_model.specs.Steps as step;
     ghost use Rattle.tree_tables.specs.Answers.{FindsNext};
     ghost use Rattle.tree_tables.specs.Fits.{EachFits};
@@ -164,7 +165,7 @@ impl<S: Store> TreeTables<S> {
     /// answers that there is none.
     fn post_next(&mut self, through: i32) -> Result<bool, StoreError>
         ensures renews { IfOk result (λ more. IsClean (S.Store.view self.new.store)
-            → RenewsNext (step.post_by through) (S.Store.view self.old.store)
+            → RenewsNext (post_by through) (S.Store.view self.old.store)
             (S.Store.view self.new.store) self.old.key self.new.key more) }
         ensures kept { OnErr result (LeavesCommitted S.Store self.old.store self.new.store) }
         ensures quiet { CommitsNothing S.Store self.old.store self.new.store }

@@ -1,12 +1,12 @@
 //! The bytes of records that are stored.
 
-ghost use Rattle.std.specs.Prelude.{◌≡◌, ◌≤◌, IfErr, IfOk, OnOk, length};
+ghost use Rattle.std.specs.Prelude.{◌≡◌, ◌≤◌, ◌↔◌, IfErr, IfOk, IsOk, OnOk, length};
 ghost use Rattle.smf_frames.specs.Framed as framed;
 ghost use Rattle.book_model.specs.Words.{IsUsage};
 ghost use Rattle.tree_tables.specs.UsageData.{IsUsageData};
 
 use smf_frames::MAX_DATA;
-use smf_type30::{Class, class};
+use smf_type30::Type30;
 use sqlite_trees::error::StoreError;
 use std::alloc::{AllocError, Global};
 
@@ -32,11 +32,10 @@ pub fn record_with(alloc: Global, data_bytes: &[u8]) -> Result<Vec<u8>, AllocErr
     Ok(bytes)
 }
 
-/// Writes the usage record with that data over `bytes`, so that a walk over many needs memory once.
-/// Data that are those of no usage record are an ill-formed row.
-pub fn put_usage(bytes: &mut Vec<u8>, data_bytes: &[u8]) -> Result<(), StoreError>
+/// Writes the record with that data over `bytes`, so that a walk over many needs memory once. Data
+/// that are too long for a record are an ill-formed row.
+pub fn put_data(bytes: &mut Vec<u8>, data_bytes: &[u8]) -> Result<(), StoreError>
     ensures bytes { OnOk result (bytes.new.items ≡ framed.record_with data_bytes.now) }
-    ensures usage { OnOk result (IsUsage bytes.new.items) }
     ensures taken { IfErr result (λ error. IsUsageData data_bytes.now
         → error ≡ StoreError.OutOfMemory) }
 {
@@ -44,10 +43,18 @@ pub fn put_usage(bytes: &mut Vec<u8>, data_bytes: &[u8]) -> Result<(), StoreErro
         return Err(StoreError::Corrupt);
     }
     put_record(bytes, data_bytes)?;
-    if class(bytes) != Class::Usage {
-        return Err(StoreError::Corrupt);
-    }
     Ok(())
+}
+
+/// The fields of a stored record. One that is no usage record is an ill-formed row.
+pub fn usage_in(bytes: &[u8]) -> Result<Type30<'_>, StoreError>
+    ensures value { IfOk result (λ usage. usage ≡ bytes.now) }
+    ensures usage { IsOk result ↔ IsUsage bytes.now }
+{
+    match Type30::if_usage(bytes) {
+        Some(usage) => Ok(usage),
+        None => Err(StoreError::Corrupt),
+    }
 }
 
 /// The usage record with that data. Data that are those of no usage record are an ill-formed row.
@@ -58,6 +65,7 @@ pub fn usage_bytes(alloc: Global, data_bytes: &[u8]) -> Result<Vec<u8>, StoreErr
         → error ≡ StoreError.OutOfMemory) }
 {
     let mut bytes = Vec::new(alloc);
-    put_usage(&mut bytes, data_bytes)?;
+    put_data(&mut bytes, data_bytes)?;
+    usage_in(&bytes)?;
     Ok(bytes)
 }

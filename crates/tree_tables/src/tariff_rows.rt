@@ -68,14 +68,14 @@ impl<S: Store> TreeTables<S> {
     ghost use Rattle.tree_tables.specs.States.{state};
     ghost use Rattle.tree_tables.specs.Steps.{Always, Does, FailsByStore, Looks};
     ghost use Rattle.std.specs.FinMap.{entries};
-    ghost use Rattle.std.specs.Prelude.{map};
+    ghost use Rattle.std.specs.Prelude.{map, Some};
     ghost use Rattle.tree_tables.specs.Columns.{tariff_columns};
     ghost use Rattle.tree_tables.specs.Fits.{RowsFit, TariffFits};
 
     /// The text of a tariff is kept under its first day.
     pub fn put_tariff(&mut self, tariff: &TariffText<'_>) -> Result<(), StoreError>
         ensures does { Does result (state S.Store self.old.store) (state S.Store self.new.store)
-            Always (step.put_tariff_row tariff.now.day tariff.now.body.now) }
+            Always (step.put_tariff_row tariff.now.day (Some tariff.now.body.now)) }
     {
         day_key(&mut self.key, tariff.day)?;
         tariff_row(&mut self.row, tariff)?;

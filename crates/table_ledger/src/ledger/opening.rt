@@ -14,7 +14,7 @@ impl<S: Store, N: Naming + Drop> TableLedger<S, N> {
     ghost use Rattle.book_core.specs.Ledgers.{IsOpenAt};
     ghost use Rattle.table_model.specs.Tables.{Tables};
     ghost use Rattle.table_model.specs.TablesOf.{tables_of};
-    ghost use Rattle.table_laws.specs.FromCalls.{IsFromCalls};
+    ghost use Rattle.table_model.specs.FromCalls.{IsFromCalls};
     ghost use Rattle.tree_rows.specs.Rows.{IsUnchanged};
     ghost use Rattle.tree_tables.specs.Holds.{HasShapes, Holds, has_book};
     ghost use Rattle.tree_tables.specs.States.{HasCleanDisk, Survives, state};

@@ -1,8 +1,8 @@
 use Rattle.std.proofs.Common.{◌≡◌, ◌∙◌, ap, sym, true, false, refl}
 use Rattle.std.specs.Prelude.{List}
 use Rattle.table_model.specs.PeriodLists.{lines_read}
-use Rattle.table_laws.specs.ListsRead.{is_period}
-use Rattle.table_laws.proofs.ListLemmas.{lists_follow}
+use Rattle.table_model.specs.ListsRead.{is_period}
+use Rattle.table_model.proofs.ListLemmas.{lists_follow}
 use Rattle.tree_tables.specs.declared.line_rows.StoredLine.{StoredLine}
 use Rattle.table_ledger.specs.LineReads.{lines_stored}
 use Rattle.book_core.specs.OfficeRulings.{ruled_in}

@@ -3,49 +3,33 @@ use Rattle.sqlite_trees.specs.declared.error.StoreError.TheVariants.{Corrupt}
 use Rattle.table_model.specs.Views.{is_due_in}
 use Rattle.tree_tables.specs.States.{state}
 use Rattle.tree_tables.proofs.WalkNames.{next_stands}
-use Rattle.table_ledger.specs.Adoptions.{IsLast}
 use Rattle.table_ledger.proofs.KeptNames.{settle_keeps}
-use Rattle.table_ledger.proofs.DueCharges.{IsStill, settle_of, settles_still, still_first, still_next}
+use Rattle.table_ledger.proofs.DueCharges.{settles_still, still_first, still_next}
 use Rattle.table_ledger.proofs.WalksOf.{of_all, of_blind, of_fail, of_no_more, of_none, of_on, of_still}
 use Rattle.table_ledger.proofs.adoption.charge_all_due.Goals as goal
 
 pub records-init : goal.records-init
 records-init g c =
-    let chosen = c.args.chosen.now in
-    of_none (IsLast chosen) (IsStill chosen) (settle_of c.args.period c.args.through)
-    (state g.S.Store c.args.tables.now.store)
-    (still_first chosen)
+    of_none (state g.S.Store c.args.tables.now.store) (still_first c.args.chosen.now)
 
 -- the next record is not found, because the store failed
 pub returns-in_err-stored : goal.returns-in_err-stored
-returns-in_err-stored g c =
-    let chosen = c.args.chosen.now in
-    record {
-      does = of_blind (IsLast chosen) (IsStill chosen) (settle_of c.args.period c.args.through)
-          c.records.invariant _ c.from_residual.ensures.0
-          c.in_err-stored.ensures.looks;
-    }
+returns-in_err-stored g c = record {
+  does = of_blind c.records.invariant _ c.from_residual.ensures.0 c.in_err-stored.ensures.looks;
+}
 
 -- none is left
 pub returns-in_default : goal.returns-in_default
-returns-in_default g c =
-    let chosen = c.args.chosen.now in
-    record {
-      does = of_all (IsLast chosen) (IsStill chosen) (settle_of c.args.period c.args.through)
-          c.records.invariant (rw c.in_default.is at c.in_ok-stored.ensures.looks);
-    }
+returns-in_default g c = record {
+  does = of_all c.records.invariant (rw c.in_default.is at c.in_ok-stored.ensures.looks);
+}
 
 -- its step failed
 pub returns-in_err-charge_due_record : goal.returns-in_err-charge_due_record
-returns-in_err-charge_due_record g c =
-    let chosen = c.args.chosen.now in
-    let step = settle_of c.args.period c.args.through in
-    record {
-      does = of_fail (IsLast chosen) (IsStill chosen) step
-          (of_still (IsLast chosen) (IsStill chosen) step c.records.invariant
-          c.in_ok-stored.ensures.looks)
-          _ c.from_residual-in_err-charge_due_record.ensures.0 c.in_err-charge_due_record.ensures.does;
-    }
+returns-in_err-charge_due_record g c = record {
+  does = of_fail (of_still c.records.invariant c.in_ok-stored.ensures.looks) _
+      c.from_residual-in_err-charge_due_record.ensures.0 c.in_err-charge_due_record.ensures.does;
+}
 
 -- its step is done
 pub records-preserved : goal.records-preserved
@@ -54,21 +38,14 @@ records-preserved g c =
     let period = c.args.period in
     let through = c.args.through in
     let stored = c.in-Some.stored in
-    of_on (IsLast chosen) (IsStill chosen) (settle_of period through) c.records.invariant stored
-    (λ tables. settle_keeps period through (is_due_in tables))
+    of_on c.records.invariant stored (λ tables. settle_keeps period through (is_due_in tables))
     (rw c.in-Some.is at c.in_ok-stored.ensures.looks) c.in_ok-charge_due_record.ensures.does
     (λ tables now still found. (
       (next_stands c.records.last now stored found, still.lasts),
       settles_still period through chosen tables now stored.name still,
     ))
-    (λ tables now still.
-    still_next period through chosen tables now stored.name still)
+    (λ tables now still. still_next period through chosen tables now stored.name still)
 
 -- there are too many
 pub returns : goal.returns
-returns g c =
-    let chosen = c.args.chosen.now in
-    record {
-      does = of_no_more (IsLast chosen) (IsStill chosen) (settle_of c.args.period c.args.through)
-          c.records.invariant (Err Corrupt) refl;
-    }
+returns g c = record { does = of_no_more c.records.invariant (Err Corrupt) refl }

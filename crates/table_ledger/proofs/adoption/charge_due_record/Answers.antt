@@ -1,10 +1,9 @@
-use Rattle.std.proofs.Common.{◌∙◌, Ok, ap, refl}
-use Rattle.tree_tables.specs.States.{state}
+use Rattle.std.proofs.Common.{◌∙◌, Ok, ap, false, refl, sym, true}
 use Rattle.tree_tables.specs.Stored.{IsAsRead}
 use Rattle.book_core.specs.Effects.{charge_held}
 use Rattle.table_model.specs.TableChanges.{charge_in}
 use Rattle.table_ledger.specs.Adoptions.{IsLast}
-use Rattle.table_ledger.proofs.DueCharges.{settles_charged, settles_due, settles_undue}
+use Rattle.table_ledger.proofs.DueCharges.{settles, settles_charged}
 use Rattle.table_ledger.proofs.StageLemmas.{does_seen}
 use Rattle.table_ledger.proofs.StepLemmas.{does_nothing, does_so}
 use Rattle.table_ledger.proofs.TryLemmas.{saw_found, saw_none}
@@ -14,40 +13,26 @@ use Rattle.table_ledger.proofs.adoption.charge_due_record.Goals as goal
 -- a record that is charged stays
 pub returns-then-stored : goal.returns-then-stored
 returns-then-stored g c = record {
-  does = does_so (Ok tt)
-      (does_nothing {state = state g.S.Store c.args.tables.now.store} {change = λ tables. tables}
-      (λ tables. refl))
-      (λ tables when. (
-        tt,
-        settles_charged c.args.period c.args.through c.args.stored.now tables when.0
-            c.if-stored.true,
-      ));
+  does = does_nothing (λ tables when.
+      settles_charged c.args.period c.args.through c.args.stored.now tables when.0 c.if-stored.true);
 }
 
 -- so does one that is not due
 pub returns-then-not-branch : goal.returns-then-not-branch
 returns-then-not-branch g c = record {
   does =
-      let due = c.in_ok-is_due.field-0 in
-      let not_due = c.if-not-branch.true in
-      does_seen {When = λ tables. IsAsRead c.args.stored.now tables × IsLast c.args.chosen.now tables}
+      let stored = c.args.stored.now in
+      does_seen {When = λ tables. IsAsRead stored tables × IsLast c.args.chosen.now tables}
       (Ok tt) (saw_found c.in_ok-is_due.ensures.looks)
-      (does_so (Ok tt)
-      (does_nothing {state = state g.S.Store c.is_due.new.tables.store} {change = λ tables. tables}
-      (λ tables. refl))
-      (λ tables known. (
-        tt,
-        settles_undue c.args.period c.args.through c.args.stored.now tables known.0.0 due not_due
-            (known.1 known.0.0 known.0.1),
-      )));
+      (does_nothing (λ tables known.
+      settles c.args.period c.args.through stored tables known.0.0 false stored.charged
+      (sym c.if-not-branch.true ∙ known.1 known.0.0 known.0.1) refl));
 }
 
 -- the others are charged
 pub returns : goal.returns
 returns g c = record {
   does =
-      let due = c.in_ok-is_due.field-0 in
-      let is_due = c.if-not-branch.false in
       let stored = c.args.stored.now in
       does_seen {When = λ tables. IsAsRead stored tables × IsLast c.args.chosen.now tables}
       c.charge.result (saw_found c.in_ok-is_due.ensures.looks)
@@ -58,8 +43,8 @@ returns g c = record {
             c.plan_charge-effects.ensures.effects
             ∙ ap (λ member. charge_in c.args.period stored.name
             (charge_held c.args.through member) tables) c.member_of.ensures
-            ∙ settles_due c.args.period c.args.through stored tables known.0.0 due is_due
-            c.if-stored.false (known.1 known.0.0 known.0.1),
+            ∙ settles c.args.period c.args.through stored tables known.0.0 true false
+            (sym c.if-not-branch.false ∙ known.1 known.0.0 known.0.1) (sym c.if-stored.false),
       )));
 }
 

@@ -1,8 +1,8 @@
 use Rattle.std.proofs.Common.{◌∙◌, ap, refl, sym}
+use Rattle.book_model.specs.RulingAnswers.{adopt_ruled}
 use Rattle.book_model.specs.Words.{adopt_event}
-use Rattle.table_model.proofs.AdoptionSteps.{adoption_is_steps}
 use Rattle.book_core.specs.OfficeRulings.{ruled_in}
-use Rattle.table_ledger.proofs.AdoptTries.{adopt_is_event, adopt_plain, adopt_remembered}
+use Rattle.table_ledger.proofs.AdoptTries.{adopt_is_event, adopt_plain}
 use Rattle.table_ledger.proofs.Answering.{ruled_other}
 use Rattle.table_ledger.proofs.CommitLemmas.{committed, uncommitted}
 use Rattle.table_ledger.proofs.StageLemmas.{stage_steps}
@@ -14,10 +14,10 @@ pub returns-then-not-is_done : goal.returns-then-not-is_done
 returns-then-not-is_done g c = record {
   tries =
       λ naming.
-      let summary = c.args.summary.now in
-      ruled_other _ c.adopt_answer-answer.ensures (adopt_plain (ruled_in summary.rulings) c.args.rule)
-      (c.is_done.ensures.other c.if-not-is_done.true)
-      (λ book at. sym (adopt_remembered summary book c.args.rule at.remembers))
+      ruled_other _ c.adopt_answer-answer.ensures
+      (adopt_plain (ruled_in c.args.summary.now.rulings) c.args.rule)
+      (c.is_done.ensures.other c.if-not-is_done.true) saw_none
+      (λ book at known. ap (λ rulings. adopt_ruled rulings c.args.rule) (sym at.remembers.rulings))
       (λ book already. ap adopt_event already);
 }
 
@@ -30,7 +30,7 @@ returns-in_err-commit_written g c = record {
       ∙ c.is_done.ensures.done c.if-not-is_done.false in
       uncommitted g.S.Store _ _ c.from_residual.ensures.0
       (stage_steps _ saw_none c.write_adoption-written.ensures
-      (λ book at known. adopt_is_event adoption_is_steps c.args.summary.now c.args.rule done
+      (λ book at known. adopt_is_event c.args.summary.now c.args.rule done
       c.open_number-period.result c.last_close.result c.open_number-period.ensures.number
       c.last_close.ensures book at))
       c.in_err-commit_written.ensures (λ book same. same);
@@ -45,7 +45,7 @@ returns g c = record {
       ∙ c.is_done.ensures.done c.if-not-is_done.false in
       committed g.S.Store
       (stage_steps _ saw_none c.write_adoption-written.ensures
-      (λ book at known. adopt_is_event adoption_is_steps c.args.summary.now c.args.rule done
+      (λ book at known. adopt_is_event c.args.summary.now c.args.rule done
       c.open_number-period.result c.last_close.result c.open_number-period.ensures.number
       c.last_close.ensures book at))
       c.in_ok-commit_written.ensures

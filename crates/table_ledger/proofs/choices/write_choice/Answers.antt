@@ -1,5 +1,5 @@
 use Rattle.std.proofs.Common.{◌≡◌, ◌∙◌, ℕ, Option, Some, None, ap, refl}
-use Rattle.std.specs.FinMap.{get, insert}
+use Rattle.std.specs.FinMap.{get}
 use Rattle.std.specs.Option.{option_map_or}
 use Rattle.book_core.specs.declared.effects.Effects.{Effects}
 use Rattle.table_model.specs.Steps.{put_choice_row}
@@ -7,8 +7,8 @@ use Rattle.table_model.specs.TableChanges.{apply, charge_in}
 use Rattle.table_model.specs.Tables.{ChoiceTable, Tables}
 use Rattle.tree_tables.specs.States.{state}
 use Rattle.tree_tables.specs.Steps.{Does}
-use Rattle.table_ledger.specs.RecordWrites.{IsNext}
-use Rattle.table_ledger.proofs.StepLemmas.{does_so, does_then}
+use Rattle.table_ledger.specs.Premises.{IsNext}
+use Rattle.table_ledger.proofs.StepLemmas.{does_then}
 use Rattle.table_ledger.proofs.Refusals.{does_failed, does_failed_next}
 use Rattle.table_ledger.proofs.choices.write_choice.Goals as goal
 
@@ -28,25 +28,11 @@ returns g c =
     (charge_in choice.period choice.name choice.effects.chosen tables)) =
     does_then c.put_choice.result c.in_ok-charge.ensures.does c.put_choice.ensures.does
     (λ tables next. (tt, next)) in
-    does_so c.put_choice.result
-    (does_then {When = IsNext choice.number} c.put_choice.result c.in_ok-withdraw.ensures.does
-    rest
+    does_then {When = IsNext choice.number} c.put_choice.result c.in_ok-withdraw.ensures.does rest
     (λ tables next. (
       tt,
       ap (λ (choices : ChoiceTable). get choices choice.number)
           (same_choices choice.period choice.effects.withdrawn tables) ∙ next,
-    )))
-    (λ tables next. (
-      next,
-      λ i.
-          let charged : Tables = charge_in choice.period choice.name choice.effects.chosen
-          (option_map_or (λ gone. apply choice.period gone tables) choice.effects.withdrawn
-          tables) in
-          record charged {
-            choices = insert
-                (same_choices choice.period choice.effects.withdrawn tables i) choice.number
-                (record { name = choice.name; period = choice.period });
-          },
     ))
 
 pub returns-in_err-withdraw : goal.returns-in_err-withdraw

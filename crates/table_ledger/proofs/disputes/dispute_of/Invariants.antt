@@ -1,5 +1,5 @@
 use Rattle.std.proofs.Common.{◌≡◌, map, take}
-use Rattle.table_laws.specs.DisputesRead.{variant_read}
+use Rattle.table_model.specs.DisputesRead.{variant_read}
 use Rattle.tree_tables.specs.Stored.{stored_entry}
 use Rattle.table_ledger.proofs.disputes.dispute_of.Given as goal
 

@@ -5,7 +5,7 @@ use Rattle.std.specs.Prelude.{Bool, if◌then◌else◌}
 use Rattle.book_model.specs.Words.{AreDisputes, Disputed, dispute_shown}
 use Rattle.book_model.specs.declared.dispute.Dispute.{Dispute}
 use Rattle.table_model.specs.Views.{rows_with}
-use Rattle.table_laws.specs.DisputesRead.{has_none_charged, join_last}
+use Rattle.table_model.specs.DisputesRead.{has_none_charged, join_last}
 use Rattle.tree_tables.specs.Answers.{is_charged}
 use Rattle.tree_tables.specs.Stored.{stored_entry}
 use Rattle.tree_tables.specs.declared.stored_record.StoredRecord.{StoredRecord}

@@ -6,7 +6,8 @@ use Rattle.tree_tables.specs.Stored.{stored_entry}
 use Rattle.tree_tables.specs.UsageData.{IsUsageData}
 use Rattle.tree_tables.specs.declared.stored_record.StoredRecord.{StoredRecord}
 use Rattle.table_ledger.specs.DisputeReads.{IsIdentity, IsShownRow}
-use Rattle.table_ledger.proofs.BookLists.{own_data, own_identity, own_records, own_sharing}
+use Rattle.table_ledger.proofs.BookLists.{own_identity, own_records, own_sharing}
+use Rattle.table_ledger.proofs.BookRows.{taken_shown, taken_usage}
 use Rattle.table_ledger.proofs.DisputeTries.{made_shows, none_left, one_left, own_memory}
 use Rattle.table_ledger.proofs.OwnBooks.{own_failed}
 use Rattle.table_ledger.proofs.SurvivalLemmas.{clean_before}
@@ -76,7 +77,7 @@ returns-then-not-can_show-clause-own g c = λ naming wide clean book ready.
     absurd (c.can_show.ensures.refused c.if-not-can_show.true
     (subst (All (λ (row : StoredRecord). IsShownRow (stored_entry row)))
     (sym c.deref-3.ensures.value)
-    (own_sharing ready wide _ c.in_ok-rows.rows.items known.1)))
+    (taken_shown _ (own_sharing ready wide _ c.in_ok-rows.rows.items known.1))))
 
 -- the dispute is not made
 pub returns-in_err-dispute-clause-tries : goal.returns-in_err-dispute-clause-tries
@@ -95,7 +96,8 @@ returns-in_err-dispute-clause-own g c = λ naming wide.
     ready.kept.holds in
     c.in_err-dispute.ensures.taken
     (subst (All (λ (row : StoredRecord). IsUsageData row.data_bytes.items))
-    (sym c.deref-4.ensures.value) (own_data ready wide _ c.in_ok-rows.rows.items known.1)))
+    (sym c.deref-4.ensures.value)
+    (taken_usage _ (own_sharing ready wide _ c.in_ok-rows.rows.items known.1))))
 
 -- it is the first
 pub returns-clause-tries : goal.returns-clause-tries

@@ -2,8 +2,8 @@ use Rattle.std.proofs.Common.{◌∙◌, sym, ap, subst, List, map, refl}
 use Rattle.std.specs.Prelude.{All, filter}
 use Rattle.tree_tables.specs.Stored.{stored_entry}
 use Rattle.tree_tables.specs.declared.stored_record.StoredRecord.{StoredRecord}
-use Rattle.table_laws.specs.DisputesRead.{disputes_read, grouped, has_none_charged}
-use Rattle.table_laws.proofs.DisputeLemmas.{disputes_follow}
+use Rattle.table_model.specs.DisputesRead.{disputes_read, grouped, has_none_charged}
+use Rattle.table_model.proofs.DisputeLemmas.{disputes_follow}
 use Rattle.table_ledger.specs.DisputeReads.{IsShownRow}
 use Rattle.table_ledger.proofs.ListReadings.{list_read}
 use Rattle.table_ledger.proofs.OwnBooks.{own_failed}
@@ -11,7 +11,8 @@ use Rattle.table_ledger.proofs.SurvivalLemmas.{clean_before}
 use Rattle.table_ledger.proofs.TryLemmas.{saw_found, saw_none, saw_then, try_refused, try_stopped}
 use Rattle.table_model.specs.TablesOf.{tables_of}
 use Rattle.tree_tables.specs.UsageData.{IsUsageData}
-use Rattle.table_ledger.proofs.BookLists.{own_records, own_shown_rows, own_usage}
+use Rattle.table_ledger.proofs.BookLists.{own_records, own_uncharged}
+use Rattle.table_ledger.proofs.BookRows.{taken_shown, taken_usage}
 use Rattle.table_ledger.proofs.disputes.try_disputes.Goals as goal
 
 pub returns-in_err-rows-clause-tries : goal.returns-in_err-rows-clause-tries
@@ -53,7 +54,7 @@ returns-then-not-can_show-clause-own g c = λ naming wide clean book ready.
     let Shown : StoredRecord → Type 0 = λ row. IsShownRow (stored_entry row) in
     absurd (c.can_show.ensures.refused c.if-not-can_show.true
     (subst (All Shown) (sym c.deref.ensures.value)
-    (own_shown_rows ready wide c.in_ok-rows.rows.items lists)))
+    (taken_shown _ (own_uncharged ready wide c.in_ok-rows.rows.items lists))))
 
 -- why they were not grouped, after the look at them
 pub returns-in_err-grouped-clause-own : goal.returns-in_err-grouped-clause-own
@@ -65,4 +66,5 @@ returns-in_err-grouped-clause-own g c = λ naming wide.
     let lists = (c.in_ok-rows.ensures.looks.found (clean_before looks.survives clean)).known
     (tables_of naming book) ready.kept.holds in
     subst (All (λ (row : StoredRecord). IsUsageData row.data_bytes.items))
-    (sym c.deref-2.ensures.value) (own_usage ready wide c.in_ok-rows.rows.items lists))
+    (sym c.deref-2.ensures.value)
+    (taken_usage _ (own_uncharged ready wide c.in_ok-rows.rows.items lists)))

@@ -2,22 +2,10 @@ use Rattle.std.proofs.Common.{◌∙◌, ap, map}
 use Rattle.book_core.specs.Effects.{effects_of}
 use Rattle.tree_tables.specs.Stored.{stored_entry}
 use Rattle.table_model.specs.Views.{rows_with}
-use Rattle.table_laws.specs.AcceptRead.{view_with}
-use Rattle.table_laws.proofs.AcceptLemmas.{two_are_enough}
-use Rattle.table_ledger.proofs.Refusals.{looks_failed, looks_failed_next}
+use Rattle.table_model.specs.AcceptRead.{view_with}
+use Rattle.table_model.proofs.AcceptLemmas.{two_are_enough}
 use Rattle.table_ledger.proofs.TryLemmas.{looks_known, saw_found, saw_then}
 use Rattle.table_ledger.proofs.effects.look_for_effects.Goals as goal
-
-pub returns-in_err-sharing : goal.returns-in_err-sharing
-returns-in_err-sharing g c = record {
-  looks = looks_failed _ c.from_residual.ensures.0 c.in_err-sharing.ensures.looks;
-}
-
-pub returns-in_err-view : goal.returns-in_err-view
-returns-in_err-view g c = record {
-  looks = looks_failed_next _ c.from_residual-in_err-view.ensures.0
-      (saw_found c.in_ok-sharing.ensures.looks) c.in_err-view.ensures.looks;
-}
 
 pub returns : goal.returns
 returns g c = record {

@@ -54,8 +54,12 @@ returns-clause-looks g c =
     (λ (tables : Tables) known.
     let found = ap (option_map book_entry) (sym c.in-Some.is) ∙ known.0.0.0 in
     recalled_by c.summary_of.result tables c.in-Some.row texts days c.in_ok-choices.choices
-    c.summary_of.ensures.shows c.summary_of.ensures.kinds c.summary_of.ensures.refused (let e = found in cc)
-    (ap (map tariff_of) all_texts ∙ known.0.0.1) (ap (map close_entry) all_days ∙ known.0.1) known.1)
+    c.summary_of.ensures.shows c.summary_of.ensures.kinds c.summary_of.ensures.refused (record {
+      book = (let e = found in cc);
+      tariffs = ap (map tariff_of) all_texts ∙ known.0.0.1;
+      closes = ap (map close_entry) all_days ∙ known.0.1;
+      made = known.1;
+    }))
 
 -- why the tariffs were not listed, after the look at the row of the book
 pub returns-in_err-tariffs-clause-cause : goal.returns-in_err-tariffs-clause-cause

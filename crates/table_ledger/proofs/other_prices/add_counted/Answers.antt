@@ -3,8 +3,8 @@ use Rattle.std.proofs.lemmas.Result.{IfOk-weaker}
 use Rattle.tree_tables.specs.UsageData.{IsUsageData}
 use Rattle.tree_tables.proofs.Looking.{err_on, err_so}
 use Rattle.tariff_rules.specs.declared.priced.Priced.{Priced}
-use Rattle.book_model.specs.Words.{price_by, record_with}
-use Rattle.table_laws.specs.BookIn.{row_record}
+use Rattle.book_model.specs.Words.{IsUsage, price_by, record_with}
+use Rattle.table_model.specs.BookIn.{row_record}
 use Rattle.table_ledger.specs.OtherPrices.{AreSumsOf, Costs, SumsUp, costs_of, passes_mark}
 use Rattle.table_ledger.proofs.OtherPriceLemmas.{costs_few, costs_more, costs_same}
 use Rattle.table_ledger.proofs.other_prices.add_counted.Goals as goal
@@ -30,8 +30,8 @@ returns-clause-counted c =
     ∙ sym c.counts.ensures ∙ c.if-not-counts.false in
     let price : c.price.result ≡ price_by terms (row_record entry.1) =
     c.price.ensures.value
-    ∙ ap (price_by terms) (c.of_usage.ensures ∙ c.deref.ensures.value
-    ∙ c.in_ok-put_usage.ensures.bytes ∙ ap record_with (c.in_ok-data_of.ensures.read entry is)) in
+    ∙ ap (price_by terms) (c.in_ok-usage_in.ensures.value ∙ c.deref.ensures.value
+    ∙ c.in_ok-put_data.ensures.bytes ∙ ap record_with (c.in_ok-data_of.ensures.read entry is)) in
     subst (λ costs. SumsUp more costs room)
     (ap (λ (one : Priced). costs_of terms test passed ++ one ∷ []) price
     ∙ sym (costs_more terms test passed entry counted))
@@ -50,11 +50,21 @@ returns-in_err-data_of-clause-taken c =
     (λ passed entry is are few fits usage. absurd (c.in_err-data_of.ensures.taken fits))
 
 -- those of a usage record
-pub returns-in_err-put_usage-clause-taken : goal.returns-in_err-put_usage-clause-taken
-returns-in_err-put_usage-clause-taken c =
-    err_on _ c.from_residual-in_err-put_usage.result c.from_residual-in_err-put_usage.ensures.1
-    (λ passed entry is are few fits usage. c.in_err-put_usage.ensures.taken
+pub returns-in_err-put_data-clause-taken : goal.returns-in_err-put_data-clause-taken
+returns-in_err-put_data-clause-taken c =
+    err_on _ c.from_residual-in_err-put_data.result c.from_residual-in_err-put_data.ensures.1
+    (λ passed entry is are few fits usage. c.in_err-put_data.ensures.taken
     (subst IsUsageData (sym (c.in_ok-data_of.ensures.read entry is)) usage))
+
+pub returns-in_err-usage_in-clause-taken : goal.returns-in_err-usage_in-clause-taken
+returns-in_err-usage_in-clause-taken c =
+    err_on _ c.from_residual-in_err-usage_in.result c.from_residual-in_err-usage_in.ensures.1
+    (λ passed entry is are few fits usage.
+    let usage = subst IsUsageData (sym (c.in_ok-data_of.ensures.read entry is)) usage in
+    let read = subst IsUsage (sym (c.deref.ensures.value ∙ c.in_ok-put_data.ensures.bytes))
+    usage.usage in
+    let ok = c.in_err-usage_in.ensures.usage.1 read in
+    cc)
 
 -- and there are no more costs than records that were passed
 pub returns-clause-taken : goal.returns-clause-taken

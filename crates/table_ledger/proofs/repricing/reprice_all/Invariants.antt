@@ -1,10 +1,11 @@
 use Rattle.table_model.specs.TableChanges.{reprice_step}
 use Rattle.tree_tables.specs.States.{state}
-use Rattle.tree_tables.proofs.Walked.{WalksTo}
+use Rattle.tree_tables.specs.Steps.{Always}
+use Rattle.table_ledger.proofs.WalksOf.{WalksOf}
 use Rattle.table_ledger.proofs.repricing.reprice_all.Given as goal
 
 -- the records up to the last name have their new prices
 abbrev pub invariant-records : goal.invariant-records
 invariant-records g l =
-    WalksTo (reprice_step l.fn.period l.fn.tariff) (state g.S.Store l.fn.tables.store)
-    (state g.S.Store l.tables.store) l.last
+    WalksOf Always (λ tables now. Unit {0}) (λ tables. reprice_step l.fn.period l.fn.tariff)
+    (state g.S.Store l.fn.tables.store) (state g.S.Store l.tables.store) l.last

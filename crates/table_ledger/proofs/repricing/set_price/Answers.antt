@@ -1,9 +1,8 @@
-use Rattle.std.proofs.Common.{Ok}
-use Rattle.table_ledger.proofs.Repriced.{repriced_charged}
+use Rattle.std.proofs.Common.{Ok, false, sym, true}
+use Rattle.table_ledger.proofs.Repriced.{repriced}
 use Rattle.table_ledger.proofs.StepLemmas.{does_so, does_then}
 use Rattle.tree_tables.specs.Stored.{stored_entry}
 use Rattle.table_ledger.proofs.Refusals.{does_failed}
-use Rattle.table_ledger.proofs.Repriced.{repriced_uncharged}
 use Rattle.table_ledger.proofs.repricing.set_price.Goals as goal
 
 -- the row, and then the charge rows
@@ -14,9 +13,8 @@ returns g c = record {
       (λ tables stands. (stands, tt)))
       (λ tables stands. (
         stands,
-        repriced_charged c.args.period c.args.stored.now.name
-            (stored_entry c.args.stored.now).1 c.args.priced.now tables stands
-            c.if-not-stored.false,
+        repriced c.args.period c.args.stored.now.name (stored_entry c.args.stored.now).1
+            c.args.priced.now tables stands true (sym c.if-not-stored.false),
       ));
 }
 
@@ -31,8 +29,7 @@ returns-then-not-stored g c = record {
       does_so (Ok tt) c.in_ok-set_price.ensures.does
       (λ tables stands. (
         stands,
-        repriced_uncharged c.args.period c.args.stored.now.name
-            (stored_entry c.args.stored.now).1 c.args.priced.now tables stands
-            c.if-not-stored.true,
+        repriced c.args.period c.args.stored.now.name (stored_entry c.args.stored.now).1
+            c.args.priced.now tables stands false (sym c.if-not-stored.true),
       ));
 }

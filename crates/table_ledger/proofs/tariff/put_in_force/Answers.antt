@@ -33,14 +33,13 @@ pub returns-in_err-commit_written : goal.returns-in_err-commit_written
 returns-in_err-commit_written g c = record {
   tries =
       λ naming.
-      let summary = c.args.summary.now in
       let day = dated c.tariff.view_is c.tariff.invariant in
       uncommitted g.S.Store _ _ c.from_residual-in_err-commit_written.ensures.0
       (stage_steps _ (saw_found (rw c.in-Some.is at c.in_ok-amount.ensures.looks))
       c.write_tariff-written.ensures
-      (λ book at known. tariff_is_event summary c.args.text.now c.args.tariff c.requires.said naming _
-      book at c.requires.done c.in-Some.amount known day c.open_number-period.result summary.held
-      c.open_number-period.ensures.number refl))
+      (λ book at known. tariff_is_event c.args.summary.now c.args.text.now c.args.tariff
+      c.requires.said naming _ book at c.requires.done c.in-Some.amount known day
+      c.open_number-period.result c.open_number-period.ensures.number))
       c.in_err-commit_written.ensures
       (remembers_same c.in_ok-own.ensures.same refl refl refl);
 }
@@ -50,15 +49,14 @@ pub returns : goal.returns
 returns g c = record {
   tries =
       λ naming.
-      let summary = c.args.summary.now in
       let terms = c.args.tariff in
       let day = dated c.tariff.view_is c.tariff.invariant in
       committed g.S.Store
       (stage_steps _ (saw_found (rw c.in-Some.is at c.in_ok-amount.ensures.looks))
       c.write_tariff-written.ensures
-      (λ book at known. tariff_is_event summary c.args.text.now terms c.requires.said naming _
-      book at c.requires.done c.in-Some.amount known day c.open_number-period.result summary.held
-      c.open_number-period.ensures.number refl))
+      (λ book at known. tariff_is_event c.args.summary.now c.args.text.now terms
+      c.requires.said naming _ book at c.requires.done c.in-Some.amount known day
+      c.open_number-period.result c.open_number-period.ensures.number))
       c.in_ok-commit_written.ensures (record {
         rulings = c.put_tariff.ensures ∙ (λ i. with_tariff (Some (c.in_ok-own.ensures.own i)) terms
             (c.in_ok-own.ensures.same i));

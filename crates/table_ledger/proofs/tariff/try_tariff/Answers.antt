@@ -1,9 +1,9 @@
-use Rattle.std.proofs.Common.{◌≢◌, ◌∙◌, Ok, ap, refl, subst, sym}
+use Rattle.std.proofs.Common.{◌≢◌, ◌∙◌, Ok, ap, sym}
 use Rattle.book_model.specs.Words.{tariff_event, terms_in}
 use Rattle.book_model.specs.declared.answer.Ruled.TheVariants.{Already, Done}
-use Rattle.table_ledger.specs.Attempts.{LeavesOpen}
 use Rattle.table_ledger.proofs.Answering.{ruled_other}
 use Rattle.table_ledger.proofs.TariffTries.{tariff_other, tariff_plain, tariff_unread}
+use Rattle.table_ledger.proofs.TryLemmas.{saw_none}
 use Rattle.table_ledger.proofs.tariff.try_tariff.Goals as goal
 
 pub returns-in-Err : goal.returns-in-Err
@@ -19,11 +19,12 @@ returns-then-not-is_done g c = record {
       let text = c.args.text.now in
       let terms = c.in-Ok.tariff in
       let said = c.in-Ok.ensures.said in
-      let answer = c.tariff_answer-answer.result in
       let is = c.tariff_answer-answer.ensures in
-      let other : answer ≢ Ok Done = c.is_done.ensures.other c.if-not-is_done.true in
-      ruled_other _ refl (subst LeavesOpen (sym is) (tariff_plain summary text terms)) other
-      (λ book at. tariff_other summary text terms said naming _ book at answer (sym is) other)
+      let other : c.tariff_answer-answer.result ≢ Ok Done =
+      c.is_done.ensures.other c.if-not-is_done.true in
+      ruled_other _ is (tariff_plain summary text terms) other saw_none
+      (λ book at known.
+      tariff_other summary text terms said naming _ book at (λ done. other (is ∙ done)))
       (λ book already. ap (tariff_event text (terms_in text)) already
       ∙ ap (λ said. tariff_event text said (Ok Already)) said);
 }

@@ -1,17 +1,17 @@
-use Rattle.std.proofs.Common.{◌∙◌, sym}
+use Rattle.std.proofs.Common.{◌∙◌, Some, sym}
 use Rattle.std.specs.FinMap.{keys}
 use Rattle.table_model.specs.Steps.{put_tariff_row, set_sums}
 use Rattle.table_model.specs.TableChanges.{reprice_step, walk}
-use Rattle.table_ledger.proofs.CodeDays.{kept_day}
 use Rattle.table_ledger.proofs.StepLemmas.{does_both, does_so}
 use Rattle.table_ledger.proofs.Refusals.{does_failed, does_failed_next}
+use Rattle.book_model.proofs.DayLemmas.{day_kept}
 use Rattle.table_ledger.proofs.tariff.write_tariff.Goals as goal
 
 -- the prices, the tariff's row and the sums
 pub returns : goal.returns
 returns g c =
     let terms = c.args.tariff.now in
-    let day = kept_day c.effective.result c.effective.ensures.day ∙ c.effective.ensures.value in
+    let day = day_kept c.effective.result c.effective.ensures.day ∙ c.effective.ensures.value in
     does_so c.set_sums.result
     (does_both (does_both c.in_ok-reprice_all.ensures.does c.in_ok-put_tariff.ensures.does)
     c.set_sums.ensures.does)
@@ -19,7 +19,7 @@ returns g c =
       tt,
       λ i.
           set_sums (sym counts i) c.args.sums.now.amount
-          (put_tariff_row (day i) c.args.text.now
+          (put_tariff_row (day i) (Some c.args.text.now)
           (walk (reprice_step c.args.period terms) (keys tables.records) tables)),
     ))
 

@@ -1,4 +1,4 @@
-use Rattle.table_model.proofs.FiveDiffer.{at_most_five_differ}
+use Rattle.table_model.proofs.DifferLemmas.{at_most_five_differ}
 use Rattle.table_model.proofs.laws.at_most_five_differ.Goals as goal
 
 pub returns : goal.returns

@@ -1,6 +1,6 @@
 use Rattle.table_ledger.specs.LedgerState.{ledger_state}
-use Rattle.table_ledger.proofs.CodeDays.{kept_day}
 use Rattle.table_ledger.proofs.OneCall.{call_reopen, call_settled}
+use Rattle.book_model.proofs.DayLemmas.{day_kept}
 use Rattle.table_ledger.proofs.ledger.TableLedgerLedger.close.Goals as goal
 
 pub returns-then-self : goal.returns-then-self
@@ -10,6 +10,6 @@ returns-then-self g c =
 pub returns : goal.returns
 returns g c =
     let names = g.N.Naming.name_of c.args.self.now.naming in
-    let tries = rw (kept_day c.args.through c.requires) at c.try_close-tried.ensures.tries names in
+    let tries = rw (day_kept c.args.through c.requires) at c.try_close-tried.ensures.tries names in
     call_settled g.S.Store c.args.self.now.tables.store c.if-self.false g.met.S.Store.settled
     c.finish.ensures.settles tries

@@ -3,8 +3,9 @@ use Rattle.tree_rows.specs.Runs.{run_of}
 use Rattle.tree_tables.specs.Answers.{FindsNamed}
 use Rattle.tree_tables.specs.States.{state}
 use Rattle.tree_tables.specs.Steps.{Looks}
+use Rattle.tree_tables.proofs.IdentityLooks.{sharing_found}
 use Rattle.tree_tables.proofs.Looking.{looks_after_look, looks_found}
-use Rattle.tree_tables.proofs.RecordLists.{EndIn, identity_rows, sharing_found}
+use Rattle.tree_tables.proofs.RecordLists.{EndIn, identity_rows}
 use Rattle.tree_tables.proofs.tables.TreeTables.find_sharing.Goals as goal
 
 -- the names are those of the identity, and the records those of the names
@@ -21,7 +22,7 @@ returns g c = record {
       (λ clean tables holds. subst (λ rows. EndIn (take 2 (run_of key rows)) names.items)
       holds.identity_index (c.in_ok-names.ensures.found clean)) in
       looks_after_look c.read_named.result listed c.read_named.ensures.looks
-      (λ tables found ends all. sharing_found tables c.args.identity.now key names.items
-      found.items c.in_ok-bytes_key.ensures.made ends
+      (λ tables found ends all. sharing_found tables c.args.identity.now key
+      c.in_ok-bytes_key.ensures.made names.items found.items ends
       (subst (λ some. FindsNamed some tables found.items) c.deref.ensures.value all));
 }

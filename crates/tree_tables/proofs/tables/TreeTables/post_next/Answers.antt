@@ -1,6 +1,6 @@
 use Rattle.std.proofs.Common.{true, false, subst, w32}
 use Rattle.std.proofs.lemmas.Int.{to_z-of_z}
-use Rattle.table_model.specs.Steps.{post_by}
+use Rattle.table_model.specs.RowChanges.{post_by}
 use Rattle.tree_tables.specs.Walks.{RenewsRow}
 use Rattle.tree_rows.proofs.Calls.{clean_before}
 use Rattle.tree_tables.proofs.Renewing.{post_again, renews_kept, renews_none, renews_one}

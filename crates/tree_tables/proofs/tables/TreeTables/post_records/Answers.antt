@@ -1,6 +1,6 @@
 use Rattle.std.proofs.Common.{subst, w32}
 use Rattle.std.proofs.lemmas.Int.{to_z-of_z}
-use Rattle.table_model.specs.Steps.{post_by}
+use Rattle.table_model.specs.RowChanges.{post_by}
 use Rattle.tree_rows.proofs.Calls.{clean_before, quiet_both}
 use Rattle.tree_tables.proofs.Looking.{does_well, only_both}
 use Rattle.tree_tables.proofs.Renewing.{posted_held}

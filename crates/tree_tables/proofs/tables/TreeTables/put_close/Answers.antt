@@ -1,6 +1,7 @@
+use Rattle.std.proofs.Common.{refl}
 use Rattle.table_model.specs.Steps.{put_close_row}
 use Rattle.table_model.specs.Tables.{Tables}
-use Rattle.tree_tables.proofs.Holding.{table_put, with_closes}
+use Rattle.tree_tables.proofs.Holding.{table_put}
 use Rattle.tree_tables.proofs.Layouts.{closed_layout}
 use Rattle.tree_tables.proofs.Looking.{does_alone}
 use Rattle.tree_tables.proofs.tables.TreeTables.put_close.Goals as goal
@@ -14,5 +15,6 @@ returns g c =
           (λ (tables : Tables). tables.closes) close.period close.through
           (put_close_row close.period close.through) puts c.in_ok-period_key.ensures.made
           c.in_ok-close_row.ensures (λ tables holds. holds.closes)
-          (λ tables holds. with_closes holds _));
+          (λ tables. refl)
+          (λ tables placed. placed));
     }

@@ -1,8 +1,8 @@
-use Rattle.std.proofs.Common.{◌≡◌, ◌∷◌, [], Some, rules}
+use Rattle.std.proofs.Common.{◌≡◌, ◌∷◌, [], Some, refl, rules}
 use Rattle.sqlite_value.specs.declared.value.Value.TheVariants.{Int}
 use Rattle.table_model.specs.Steps.{put_tariff_row}
 use Rattle.table_model.specs.Tables.{Tables}
-use Rattle.tree_tables.proofs.Holding.{table_put, with_tariffs}
+use Rattle.tree_tables.proofs.Holding.{table_put}
 use Rattle.tree_tables.proofs.Layouts.{tariff_layout}
 use Rattle.tree_tables.proofs.Looking.{does_alone}
 use Rattle.tree_tables.proofs.tables.TreeTables.put_tariff.Goals as goal
@@ -15,6 +15,6 @@ returns g c =
       does = does_alone g.S.Store c.put_row.result c.put_row.ensures.quiet c.put_row.ensures.kept
           c.put_row.ensures.puts (λ clean puts. table_put tariff_layout
           (λ (tables : Tables). tables.tariffs) tariff.day (Some tariff.body.now)
-          (put_tariff_row tariff.day tariff.body.now) puts key c.in_ok-tariff_row.ensures
-          (λ tables holds. holds.tariffs) (λ tables holds. with_tariffs holds _));
+          (put_tariff_row tariff.day (Some tariff.body.now)) puts key c.in_ok-tariff_row.ensures
+          (λ tables holds. holds.tariffs) (λ tables. refl) (λ tables placed. placed));
     }

@@ -1,5 +1,5 @@
 use Rattle.std.proofs.Common.{refl}
-use Rattle.table_model.specs.TableChanges.{by_second_rule}
+use Rattle.table_model.specs.RowChanges.{by_second_rule}
 use Rattle.tree_rows.proofs.Calls.{clean_before}
 use Rattle.tree_tables.proofs.Renewing.{renews_none, renews_one}
 use Rattle.tree_tables.proofs.tables.TreeTables.rename_next.Goals as goal

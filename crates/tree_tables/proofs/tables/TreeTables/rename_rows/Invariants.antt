@@ -1,5 +1,5 @@
 use Rattle.sqlite_trees.specs.View.{IsClean, IsQuiet, OnlyWrites}
-use Rattle.table_model.specs.TableChanges.{by_second_rule}
+use Rattle.table_model.specs.RowChanges.{by_second_rule}
 use Rattle.table_model.specs.Tables.{Tables}
 use Rattle.tree_tables.specs.Holds.{Holds}
 use Rattle.tree_tables.specs.Walks.{IsRenewing}

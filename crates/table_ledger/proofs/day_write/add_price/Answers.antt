@@ -1,0 +1,25 @@
+use Rattle.std.proofs.Common.{◌≡◌, ◌∙◌, [], ap, sym}
+use Rattle.std.specs.Prelude.{unwrap_or}
+use Rattle.book_model.specs.Words.{key_of, row_at}
+use Rattle.table_model.specs.RowChanges.{with_price}
+use Rattle.table_model.specs.Steps.{put_day_row}
+use Rattle.table_ledger.proofs.DaySteps.{joins}
+use Rattle.table_ledger.proofs.DayLooks.{day_stepped}
+use Rattle.table_ledger.proofs.day_write.add_price.Goals as goal
+
+-- the row of the place, or an empty one, with the price
+pub returns : goal.returns
+returns g c = record {
+  does =
+      let period = c.args.period in
+      let priced = c.args.priced.now in
+      let found = c.in_ok-found.found in
+      let row : c.unwrap_or-row.result ≡ unwrap_or found (row_at [] (key_of priced)) =
+      c.unwrap_or-row.ensures
+      ∙ ap (unwrap_or found) (c.empty_row.ensures ∙ ap (row_at []) c.key_of.ensures) in
+      day_stepped period priced _ c.key_of-place.ensures c.in_ok-found.ensures.looks c.put_with.ensures.does
+      (λ tables placed is.
+      joins period priced tables placed
+      ∙ ap (λ row. put_day_row period (with_price row priced) tables)
+      (ap (λ found. unwrap_or found (row_at [] (key_of priced))) is ∙ sym row));
+}

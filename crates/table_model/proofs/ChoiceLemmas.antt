@@ -1,0 +1,200 @@
+-- A choice is answered by the rows of its record's identity.
+use Rattle.std.proofs.Common.{◌≡◌, ℕ, suc, ◌≤◌, List, [], ◌∷◌, length, refl, sym, ap, ◌∙◌, is_some}
+use Rattle.std.proofs.Common.{subst, true, false, true≢false, Bool, ◌||◌, ◌&&◌, Some, None, arith}
+use Rattle.std.specs.Prelude.{filter, nat_le, slice_get, take, ◌==◌}
+use Rattle.std.specs.FinMap.{entries, get, get-from_entries}
+use Rattle.std.specs.List.{list_any}
+use Rattle.std.specs.List.Sorted.{IsStrictlySortedBy}
+use Rattle.std.specs.Option.{option_map}
+use Rattle.std.specs.Ordering.{is_eq}
+use Rattle.std.proofs.Math.Bool.{and-true}
+use Rattle.std.proofs.lemmas.Bool.Decides.{nat_tests}
+use Rattle.std.proofs.lemmas.Cmp.{nat_list_cmp_total, nat_list_eq_equiv}
+use Rattle.std.proofs.lemmas.List.Kept.{IsStrictlySortedBy-filter}
+use Rattle.std.proofs.lemmas.Map.Keys.{sorted_head}
+use Rattle.std.proofs.lemmas.Map.Lookups.{exact_bytes}
+use Rattle.book_model.specs.Words.{Book, Naming, Records, by_bytes, charged_of, choose_answer}
+use Rattle.book_model.specs.Words.{chosen_answer, has, identity_by, is_chosen, is_undisputed}
+use Rattle.book_model.specs.Words.{is_unrivalled, members, most_choices, name_of, price_in}
+use Rattle.book_model.specs.Words.{record_named, same_bytes, share_identity}
+use Rattle.book_model.proofs.ChargedChanges.{do_conflict, rivalled_by, share_back}
+use Rattle.book_model.proofs.ChosenLemmas.{one_chosen}
+use Rattle.book_model.proofs.ListLemmas.{filter-filter}
+use Rattle.book_model.proofs.RecordSets.{is, is_itself, first_of, second_of, has_those, in_those}
+use Rattle.book_model.proofs.RecordSets.{is_first, is_second, passes_those}
+use Rattle.book_model.proofs.SetChanges.{is_back}
+use Rattle.book_model.proofs.SetLemmas.{fails_too, members_rise}
+use Rattle.book_model.proofs.SoundLemmas.{named_held}
+use Rattle.table_model.specs.Tables.{Tables}
+use Rattle.table_model.specs.TablesOf.{status_of, tables_of}
+use Rattle.table_model.specs.Views.{member_at, only_of, rows_with}
+use Rattle.table_model.proofs.LineReading.{held_row}
+use Rattle.table_model.proofs.RecordChanges.{no_entry}
+use Rattle.table_model.proofs.RowsWhere.{count_where, lone_where, members_held}
+use Rattle.table_model.specs.AnswerLaws.{ChoicesFollow}
+use Rattle.table_model.specs.DisputesRead.{NamedRow}
+use Rattle.table_model.specs.Readable.{IsReadable}
+use Rattle.table_model.specs.RulingsRead.{chosen_by, choose_read, choose_row}
+use Rattle.table_model.proofs.ChoiceReading.{choices_count, choices_numbered}
+use Rattle.table_model.proofs.RecordReading.{all_entries}
+use Rattle.table_model.proofs.Rivals.{having}
+use Rattle.table_model.proofs.SetReading.{among-filter}
+use Rattle.table_model.proofs.Texts.{same_is, same_text}
+use Rattle.book_core.proofs.NamedLemmas.{is_some-named, its_name}
+
+-- the answer is one if the record with a rival is chosen when it is charged
+same_tests : (lone chosen charged full : Bool) → (lone ≡ false → charged ≡ chosen)
+    → chosen_by lone chosen full ≡ chosen_by lone charged full
+same_tests true chosen charged full same = refl
+same_tests false chosen charged full same = ap (λ c. chosen_by false c full) (sym (same refl))
+
+-- the first two rows of an identity show whether one is alone
+lone_in_two : (rows : List NamedRow) → (length rows == 1) ≡ (length (take 2 rows) == 1)
+lone_in_two [] = refl
+lone_in_two (one ∷ []) = refl
+lone_in_two (one ∷ other ∷ rows) = two_or_more (length rows)
+  where
+    two_or_more : (n : ℕ) → (suc (suc n) == 1) ≡ false
+    two_or_more n = grind (arith, nat_tests)
+
+-- if there is at most one row, the first one is the only one
+first_only : (rows : List NamedRow) → length rows ≤ 1 → slice_get rows 0 ≡ only_of rows
+first_only [] few = refl
+first_only (one ∷ []) few = refl
+first_only (one ∷ other ∷ rows) few = absurd (omega arith)
+
+module _ (naming : Naming) (book : Book) (whole : IsReadable naming book) where
+  -- the book's tables
+  abbrev tables : Tables
+  tables = tables_of naming book
+
+  -- what is charged
+  abbrev charged : Records
+  charged = charged_of book
+
+  module _ (name : List ℕ) where
+    -- a record has the name
+    abbrev has_name : List ℕ → Bool
+    has_name bytes = same_bytes (name_of naming bytes) name
+
+    -- if no record of the name is held, the name has no row
+    row_absent : record_named naming book.held name ≡ None → get tables.records name ≡ None
+    row_absent unfound =
+        get-from_entries nat_list_cmp_total (all_entries naming book whole.sound) name
+        ∙ no_entry naming (price_in book.rulings) (identity_by book.rulings) book.posted name charged
+        (members book.held) (λ other among.
+        is_back name (name_of naming other) ∙ sym (same_is (name_of naming other) name)
+        ∙ fails_too nat_list_cmp_total exact_bytes has_name book.held other
+        (sym (is_some-named naming book.held name) ∙ ap is_some unfound) (members_held book.held other among))
+
+    module _ (bytes : List ℕ) (found : record_named naming book.held name ≡ Some bytes) where
+      -- the record is held
+      there : has book.held bytes ≡ true
+      there = named_held naming book.held name bytes found
+
+      -- it has the name
+      named : name_of naming bytes ≡ name
+      named = its_name naming book.held name bytes found
+
+      -- if it has a rival, it is charged if it is chosen
+      chosen_charged : is_unrivalled book.rulings book.held bytes ≡ false
+          → has charged bytes ≡ is_chosen book.rulings bytes
+      chosen_charged rivalled =
+          has_those (is_undisputed book.rulings book.held) book.held bytes
+          ∙ (λ i. (rivalled i || is_chosen book.rulings bytes) && there i)
+          ∙ and-true (is_chosen book.rulings bytes)
+
+      -- so the choice is answered by the row
+      by_row : chosen_answer book (Some bytes) ≡ choose_row tables (get tables.records name)
+      by_row =
+          let lone : Bool = is_unrivalled book.rulings book.held bytes in
+          let full : ℕ → Bool = nat_le most_choices in
+          same_tests lone (is_chosen book.rulings bytes) (has charged bytes)
+          (full (length book.rulings.choices)) chosen_charged
+          ∙ (λ i. chosen_by (sym (lone_where naming book whole.sound charged bytes there) i)
+          (has charged bytes) (full (sym (choices_count naming book) i)))
+          ∙ ap (choose_row tables) (sym (held_row naming book whole.sound bytes there).2
+          ∙ ap (get tables.records) named)
+
+    -- the answer
+    answered : choose_answer naming book name ≡ choose_read tables name
+    answered =
+        elim (record_named naming book.held name) as
+        (λ found. record_named naming book.held name ≡ found
+        → chosen_answer book found ≡ choose_row tables (get tables.records name)) [
+          | None ↦ λ unfound. sym (ap (choose_row tables) (row_absent unfound))
+          | Some bytes ↦ λ found. by_row bytes found
+        ] refl
+
+  -- of two records of one identity, at most one is charged
+  one_charged : (a b : List ℕ) → has charged a ≡ true → has charged b ≡ true
+      → share_identity book.rulings a b ≡ true → is a b ≡ false → ⊥
+  one_charged a b of_a of_b shared differ =
+      let undisputed : List ℕ → Bool = is_undisputed book.rulings book.held in
+      let chosen = λ (x y : List ℕ) (of_x : has charged x ≡ true) (of_y : has charged y ≡ true)
+      (apart : is x y ≡ false) (share : share_identity book.rulings x y ≡ true).
+      sym (ap (λ u. u || is_chosen book.rulings x)
+      (rivalled_by book.rulings book.held x y (in_those undisputed book.held y of_y)
+      (do_conflict book.rulings x y apart share)))
+      ∙ passes_those undisputed book.held x of_x in
+      let same = one_chosen book.rulings a b shared (chosen a b of_a of_b differ shared)
+      (chosen b a of_b of_a (is_back b a ∙ differ) (share_back book.rulings b a ∙ shared)) in
+      true≢false (sym (ap (is a) (sym same) ∙ is_itself a) ∙ differ)
+
+  module _ (id : List ℕ) where
+    -- a record of the identity is charged
+    abbrev both : List ℕ → Bool
+    both q = has charged q && having book.rulings book.held id q
+
+    -- the charged rows of the identity
+    abbrev marked : List NamedRow
+    marked = filter (λ row. row.1.charged) (rows_with id tables.records)
+
+    -- they are those of these records
+    marked_count : length marked ≡ length (filter both (members book.held))
+    marked_count =
+        let own : NamedRow → Bool = λ row. same_bytes row.1.identity id in
+        let mark : NamedRow → Bool = λ row. row.1.charged in
+        ap length (filter-filter mark own (entries tables.records))
+        ∙ count_where naming book whole.sound (status_of book) whole.sound.priced
+        (λ row. mark row && own row) both (λ bytes cost costs. refl)
+
+    -- so there is at most one
+    few_by : (ks : List (List ℕ)) → filter both (members book.held) ≡ ks → length marked ≤ 1
+    few_by [] listed = let count = marked_count ∙ ap length listed in omega arith
+    few_by (k ∷ []) listed = let count = marked_count ∙ ap length listed in omega arith
+    few_by (a ∷ b ∷ rest) listed =
+        let has_both = λ (q : List ℕ) (on : list_any (is q) (a ∷ b ∷ rest) ≡ true).
+        first_of (both q) (has book.held q)
+        (sym (among-filter both book.held q) ∙ ap (list_any (is q)) listed ∙ on) in
+        let of_a = has_both a (is_first a (b ∷ rest)) in
+        let of_b = has_both b (is_second a b rest) in
+        let rising =
+        subst (IsStrictlySortedBy by_bytes) listed
+        (IsStrictlySortedBy-filter by_bytes both (members book.held)
+        (members_rise nat_list_cmp_total book.held)) in
+        let less = sorted_head by_bytes a (b ∷ rest) rising in
+        let own = λ (q : List ℕ) (of_q : both q ≡ true).
+        same_text (identity_by book.rulings q) id
+        (second_of (has charged q) (having book.rulings book.held id q) of_q) in
+        absurd (one_charged a b
+        (first_of (has charged a) (having book.rulings book.held id a) of_a)
+        (first_of (has charged b) (having book.rulings book.held id b) of_b)
+        (ap (same_bytes (identity_by book.rulings a)) (own b of_b ∙ sym (own a of_a))
+        ∙ nat_list_eq_equiv.refl (identity_by book.rulings a))
+        (ap is_eq less.0))
+
+    few_marked : length marked ≤ 1
+    few_marked = few_by (filter both (members book.held)) refl
+
+-- the law
+pub choices_follow : ChoicesFollow
+choices_follow = record {
+  answer = λ naming book name whole. answered naming book whole name;
+  lone = λ records row. lone_in_two (rows_with row.identity records);
+  counted = λ naming book whole. choices_numbered naming book;
+  few = λ naming book identity whole. few_marked naming book whole identity;
+  current = λ naming book identity whole.
+      ap (option_map member_at)
+      (first_only (marked naming book whole identity) (few_marked naming book whole identity));
+}

@@ -1,0 +1,192 @@
+-- The tables after an event, and so those that are updated over a history, are those of the book.
+use Rattle.std.proofs.Common.{◌≡◌, ℕ, ◌+◌, List, [], ◌∷◌, ◌++◌, map, length, sym, ap, ◌∙◌, true}
+use Rattle.std.proofs.Common.{false, Bool, not, ◌||◌, Option, Some, None, subst}
+use Rattle.std.proofs.Math.Bool.{or-true}
+use Rattle.std.specs.Prelude.{sum_by}
+use Rattle.std.specs.FinMap.{from_entries}
+use Rattle.std.specs.List.{filter_map, list_any}
+use Rattle.std.specs.Option.{option_map_or}
+use Rattle.tariff_rules.specs.declared.priced.Priced.{Priced}
+use Rattle.book_model.specs.declared.row.ChargeRow.{ChargeRow}
+use Rattle.book_model.specs.declared.row.RowKey.{RowKey}
+use Rattle.book_model.specs.Words.{IsMadeByCalls, Book, open_number, new_book, is_undisputed}
+use Rattle.book_model.specs.Words.{is_dated_after, Event, TariffAccepted, PeriodClosed, RecordKept}
+use Rattle.book_model.specs.Words.{RecordChosen, SecondRuleAdopted, after, put_in_force, Terms}
+use Rattle.book_model.specs.Words.{charged_of, chosen_answer, book_after, Records, Naming, name_of}
+use Rattle.book_model.specs.Words.{has_text, is_effective, is_later, is_too_dear, with_tariff}
+use Rattle.book_model.specs.Words.{by_bytes, by_key, row_at, no_rulings, Rulings, price_in}
+use Rattle.book_model.specs.Words.{AcceptedTerms, identity_by, last_close, members, has, those}
+use Rattle.book_model.proofs.CallLemmas.{passes}
+use Rattle.book_model.proofs.MadeByCallsLemmas.{rulings_are, sound_after}
+use Rattle.book_model.proofs.FilterLemmas.{no_length}
+use Rattle.book_model.proofs.SetChanges.{not_those}
+use Rattle.book_model.proofs.SetLemmas.{members-empty}
+use Rattle.book_model.proofs.RecordSets.{is, has_with}
+use Rattle.book_model.proofs.SoundLemmas.{none_in, named_held}
+use Rattle.book_core.specs.Effects.{choice_effects, effects_of}
+use Rattle.table_model.specs.Changed.{changed, chosen_at, IsAnswered, kept_at, tariff_at}
+use Rattle.table_model.specs.Steps.{put_tariff_row, set_sums}
+use Rattle.table_model.specs.TablesAfter.{new_tables}
+use Rattle.table_model.specs.Laws.{EventFollows, TablesFollow}
+use Rattle.table_model.specs.PeriodRows.{under}
+use Rattle.table_model.specs.TableChanges.{amount_under, put_choice, put_new, walk}
+use Rattle.table_model.specs.TableChanges.{reprice_step}
+use Rattle.table_model.specs.Tables.{RecordRow, Tables}
+use Rattle.table_model.specs.Views.{member_at, member_by}
+use Rattle.table_model.specs.TablesOf.{row_key, record_entry, record_row, tables_of, tariff_entries}
+use Rattle.table_model.proofs.AdoptChanges.{adoption_follows}
+use Rattle.table_model.proofs.ChoiceChanges.{choice_follows}
+use Rattle.table_model.proofs.CloseLemmas.{close_follows}
+use Rattle.table_model.proofs.CurrentLemmas.{choice_reads}
+use Rattle.table_model.proofs.ClosedLines.{no_members}
+use Rattle.table_model.proofs.DayChanges.{days_at}
+use Rattle.table_model.proofs.KeptLemmas.{kept_follows}
+use Rattle.table_model.proofs.KeptPrice.{kept_cost}
+use Rattle.table_model.proofs.LineChanges.{added, taken}
+use Rattle.table_model.proofs.Restated.{row-found}
+use Rattle.table_model.proofs.SumRead.{sum_is_read}
+use Rattle.table_model.proofs.TableParts.{what_is}
+use Rattle.table_model.proofs.TariffChanges.{tariff_follows}
+use Rattle.table_model.proofs.ViewLemmas.{view_follows}
+use Rattle.std.specs.FinMap as fin
+
+-- new books under some tariffs have those tariffs alone in their tables
+new_under : (naming : Naming) (tariffs : List AcceptedTerms)
+    → tables_of naming (record new_book { rulings = record no_rulings { tariffs = tariffs } })
+    ≡ record new_tables { tariffs = from_entries (tariff_entries tariffs) }
+new_under naming tariffs =
+    let ruled : Rulings = record no_rulings { tariffs = tariffs } in
+    let held : Records = fin.empty in
+    let current : List ℕ → Bool = is_dated_after None in
+    let charged : Records = those (is_undisputed ruled held) held in
+    let price : List ℕ → Option Priced = price_in ruled in
+    let members_held : members held ≡ [] = members-empty by_bytes in
+    let none = λ (p : List ℕ → Bool) (s : Records) (out : (q : List ℕ) → has s q ≡ false)
+    (q : List ℕ). not_those p s q (out q) in
+    let no_charged = none (is_undisputed ruled held) held none_in in
+    let counted = no_members (those current charged) (none current charged no_charged) in
+    let plus = no_members (added None held charged) (none (λ b. not (current b))
+    (those (λ k. not (has held k)) charged) (none (λ k. not (has held k)) charged no_charged)) in
+    let minus =
+    no_members (taken held charged) (none (λ k. not (has charged k)) held none_in) in
+    let line : Bool → List (List ℕ) → List (List ℕ × Bool) =
+    λ sign. map (λ bytes. (name_of naming bytes, sign)) in
+    let days = ap (λ ks. from_entries (under 1 (days_at (filter_map price ks)) ++ [])) counted
+    ∙ ap (λ keys. from_entries (under 1 (map {B = RowKey × ChargeRow} (λ row. (row_key row, row))
+    (map (row_at []) keys)) ++ [])) (members-empty by_key) in
+    λ i. record new_tables {
+      book = record new_tables.book {
+        held = length (members_held i);
+        amount = sum_by (λ one. one.amount) (filter_map price (members_held i));
+      };
+      tariffs = from_entries (tariff_entries tariffs);
+      records = from_entries (filter_map (record_entry naming ruled charged held) (members_held i));
+      days = days i;
+      lines = from_entries (under 1 (line true (plus i) ++ line false (minus i)) ++ []);
+    }
+
+-- a table of no records has no entries
+no_entries : fin.entries (fin.empty {X = RecordRow} {R = by_bytes}) ≡ []
+no_entries =
+    no_length (fin.entries (fin.empty {X = RecordRow} {R = by_bytes}))
+    (sym (fin.len-entries (fin.empty {X = RecordRow} {R = by_bytes})) ∙ fin.len-empty by_bytes
+    RecordRow)
+
+-- the tariff that new books begin with
+begun : (naming : Naming) (terms : Terms)
+    → tables_of naming (put_in_force None terms new_book)
+    ≡ changed naming no_rulings (TariffAccepted None terms) (tables_of naming new_book)
+begun naming terms =
+    new_under naming (record { text = None; terms = terms } ∷ []) ∙ sym no_walk
+    ∙ ap (changed naming no_rulings (TariffAccepted None terms)) (sym (new_under naming []))
+  where
+    made : List (List ℕ × RecordRow) → Tables
+    made es =
+        set_sums 0 (sum_by (amount_under terms) (map (λ (e : List ℕ × RecordRow). e.1) es))
+        (put_tariff_row terms.effective None
+        (walk (reprice_step 1 terms) (map (λ (e : List ℕ × RecordRow). e.0) es) new_tables))
+
+    no_walk : changed naming no_rulings (TariffAccepted None terms) new_tables
+        ≡ record new_tables {
+          tariffs = from_entries
+              (tariff_entries (record { text = None; terms = terms } ∷ []));
+        }
+    no_walk = ap made no_entries
+
+-- the law of events
+pub event_follows : EventFollows
+event_follows naming book (RecordKept bytes) sound usage answered =
+    let cost = kept_cost naming book bytes sound answered in
+    let name : List ℕ = name_of naming bytes in
+    let tables : Tables = tables_of naming book in
+    kept_follows naming book bytes cost.0 sound answered cost.1
+    ∙ ap (λ view. put_new book.rulings name bytes cost.0 (effects_of view name cost.0) tables)
+    (sym (view_follows naming book bytes sound))
+    ∙ ap (λ price. option_map_or (λ priced. kept_at book.rulings name bytes priced tables) price
+    tables) (sym cost.1)
+event_follows naming book (TariffAccepted (Some text) terms) sound usage answered =
+    let framed = λ (q : List ℕ) (held : has book.held q ≡ true). (usage q held).framed in
+    let later = passes (list_any (has_text text) book.rulings.tariffs)
+    (list_any (is_effective terms.effective) book.rulings.tariffs)
+    (is_later terms.effective book.rulings)
+    (is_too_dear (with_tariff (Some text) terms book.rulings) book.held) answered in
+    tariff_follows naming book text terms sound framed answered
+    ∙ ap (λ amount. tariff_at (open_number book) (Some text) terms amount (tables_of naming book))
+    (sym (sum_is_read naming book text terms sound framed later))
+event_follows naming book (TariffAccepted None terms) sound usage answered =
+    subst (λ (book : Book). tables_of naming (put_in_force None terms book)
+    ≡ changed naming book.rulings (TariffAccepted None terms) (tables_of naming book)) (sym answered)
+    (begun naming terms)
+event_follows naming book (PeriodClosed day) sound usage answered =
+    close_follows naming book (open_number book) day sound answered
+event_follows naming book (RecordChosen bytes) sound usage answered =
+    let name : List ℕ = name_of naming bytes in
+    let tables : Tables = tables_of naming book in
+    let found = answered.1 in
+    let there = named_held naming book.held name bytes found in
+    let cost = what_is (price_in book.rulings bytes) (sound.priced bytes there) in
+    let row : RecordRow = record_row book.rulings (charged_of book) book.posted bytes cost.0 in
+    choice_follows naming book name bytes (member_at (name, row)) sound found
+    (sym (ap (chosen_answer book) found) ∙ answered.0) (ap (member_by naming book bytes) cost.1)
+    ∙ ap (λ current. put_choice (length book.rulings.choices + 1) (open_number book) name
+    (choice_effects (last_close book.rulings) current (member_at (name, row))) tables)
+    (sym (choice_reads naming book bytes sound there).current)
+    ∙ ap (λ found. option_map_or (λ row. chosen_at book.rulings name row tables) found tables)
+    (sym (row-found naming book sound (price_in book.rulings) (identity_by book.rulings)
+    (charged_of book) bytes there cost.0 cost.1))
+event_follows naming book SecondRuleAdopted sound usage answered =
+    adoption_follows naming book sound usage answered
+
+-- each event of a history that calls made is answered so
+pub answered_so : (naming : Naming) (event : Event) (older : List Event)
+    → IsMadeByCalls naming (event ∷ older)
+    → IsMadeByCalls naming older × IsAnswered naming event (book_after older)
+answered_so naming (RecordKept bytes) older made = (made.1, made.0)
+answered_so naming (TariffAccepted (Some text) terms) older made = (made.1, made.0)
+answered_so naming (TariffAccepted None terms) older made =
+    (subst (IsMadeByCalls naming) (sym made) tt, ap book_after made)
+answered_so naming (PeriodClosed day) older made = (made.1, made.0)
+answered_so naming (RecordChosen bytes) older made = (made.1, (made.0, made.2))
+answered_so naming SecondRuleAdopted older made = (made.1, made.0)
+
+-- what was held before an event is held
+held_before : (event : Event) (book : Book) (q : List ℕ) → has book.held q ≡ true
+    → has (after event book).held q ≡ true
+held_before (RecordKept bytes) book q held = has_with book.held bytes q
+    ∙ ap (λ b. is q bytes || b) held ∙ or-true (is q bytes)
+held_before (TariffAccepted text terms) book q held = held
+held_before (PeriodClosed day) book q held = held
+held_before (RecordChosen bytes) book q held = held
+held_before SecondRuleAdopted book q held = held
+
+-- so the tables follow a history
+pub tables_follow : TablesFollow
+tables_follow naming [] made usage = sym (new_under naming [])
+tables_follow naming (event ∷ older) made usage =
+    let answered = answered_so naming event older made in
+    let before = λ (q : List ℕ) (held : has (book_after older).held q ≡ true).
+    usage q (held_before event (book_after older) q held) in
+    (λ i. changed naming (sym (rulings_are older) i) event
+    (tables_follow naming older answered.0 before i))
+    ∙ sym (event_follows naming (book_after older) event (sound_after naming older answered.0) before
+    answered.1)

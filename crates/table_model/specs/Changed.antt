@@ -1,0 +1,84 @@
+-- What each event does to the tables, by the rulings before it; and which answer makes it an event.
+use Rattle.std.specs.Prelude.{◌≡◌, ℕ, ℤ, ◌+◌, List, length, Option, Some, None, Ok, sum_by}
+use Rattle.std.specs.FinMap.{get, keys, values}
+use Rattle.std.specs.Option.{option_map_or}
+use Rattle.tariff_rules.specs.declared.priced.Priced.{Priced}
+use Rattle.book_model.specs.Words.{Book, Event, RecordKept, TariffAccepted, PeriodClosed}
+use Rattle.book_model.specs.Words.{RecordChosen, SecondRuleAdopted, new_book, open_number, Naming}
+use Rattle.book_model.specs.Words.{name_of, Rulings, Terms, price_in, identity_by, last_close}
+use Rattle.book_model.specs.Words.{accept_answer, terms_answer, close_answer, choose_answer}
+use Rattle.book_model.specs.Words.{record_named, adopt_answer, second_rule, open_by}
+use Rattle.book_model.specs.declared.answer.Accepted.TheVariants.{Kept}
+use Rattle.book_model.specs.declared.answer.Ruled.TheVariants.{Done}
+use Rattle.book_core.specs.Effects.{effects_of, choice_effects}
+use Rattle.table_model.specs.Steps.{move_day_rows, post_rows, put_close_row, put_tariff_row}
+use Rattle.table_model.specs.Steps.{rename_rows, set_rule, set_sums}
+use Rattle.table_model.specs.TableChanges.{amount_under, charge_due_step, put_choice, put_new}
+use Rattle.table_model.specs.TableChanges.{reprice_step, walk}
+use Rattle.table_model.specs.Tables.{RecordRow, Tables}
+use Rattle.table_model.specs.Views.{current_in, is_due_in, member_at, view_in}
+
+-- The tables with a record that is kept under a name at a price: its row, counted in the row of the
+-- book, and its effects, by what the tables have of its identity.
+abbrev pub kept_at : Rulings → List ℕ → List ℕ → Priced → Tables → Tables
+kept_at ruled name bytes priced tables =
+    put_new ruled name bytes priced
+    (effects_of (view_in tables (identity_by ruled bytes)) name priced) tables
+
+-- The tables with one more tariff: each record that it is for gets its new price, in a walk by
+-- name; then the tariff's row, and what all records cost together now.
+abbrev pub tariff_at : ℕ → Option (List ℕ) → Terms → ℕ → Tables → Tables
+tariff_at period text terms amount tables =
+    set_sums tables.book.held amount
+    (put_tariff_row terms.effective text
+    (walk (reprice_step period terms) (keys tables.records) tables))
+
+-- The tables after a period is closed through a day: that day is stored, what is charged by then is
+-- posted, and later charge rows move on to the next period.
+abbrev pub closed_at : ℕ → ℤ → Tables → Tables
+closed_at period day tables =
+    move_day_rows period day (post_rows day (put_close_row period day tables))
+
+-- The tables with the choice of the record of a name, which has this row: the choice's row, and its
+-- effects, by which record of the identity is charged.
+abbrev pub chosen_at : Rulings → List ℕ → RecordRow → Tables → Tables
+chosen_at ruled name row tables =
+    put_choice (length ruled.choices + 1) (open_by ruled) name
+    (choice_effects (last_close ruled) (current_in tables row.identity) (member_at (name, row)))
+    tables
+
+-- The tables under the second rule of identity: each record has its new identity; then each that is
+-- due is charged, in a walk by name; then the row of the book has the rule.
+abbrev pub adopted_at : ℕ → Option ℤ → Tables → Tables
+adopted_at period last tables =
+    let named : Tables = rename_rows tables in
+    set_rule second_rule period
+    (walk (charge_due_step period last (is_due_in named)) (keys named.records) named)
+
+-- The tables after an event, by the rulings before it. A record is kept at the price that the
+-- rulings give it; what all records cost under a tariff is read from their rows; and a choice is of
+-- the row that is stored under the record's name.
+abbrev pub changed : Naming → Rulings → Event → Tables → Tables
+changed naming ruled (RecordKept bytes) tables =
+    option_map_or (λ priced. kept_at ruled (name_of naming bytes) bytes priced tables)
+    (price_in ruled bytes) tables
+changed naming ruled (TariffAccepted text terms) tables =
+    tariff_at (open_by ruled) text terms (sum_by (amount_under terms) (values tables.records))
+    tables
+changed naming ruled (PeriodClosed day) tables = closed_at (open_by ruled) day tables
+changed naming ruled (RecordChosen bytes) tables =
+    option_map_or (λ row. chosen_at ruled (name_of naming bytes) row tables)
+    (get tables.records (name_of naming bytes)) tables
+changed naming ruled SecondRuleAdopted tables = adopted_at (open_by ruled) (last_close ruled) tables
+
+-- The book answers the event Kept or Done. A tariff without a text is the one that new books begin
+-- with; a record that is chosen is the one that is held under its name.
+abbrev pub IsAnswered : Naming → Event → Book → Type 0
+IsAnswered naming (RecordKept bytes) book = accept_answer naming book bytes ≡ Ok Kept
+IsAnswered naming (TariffAccepted (Some text) terms) book = terms_answer book text terms ≡ Ok Done
+IsAnswered naming (TariffAccepted None terms) book = book ≡ new_book
+IsAnswered naming (PeriodClosed day) book = close_answer book (open_number book) day ≡ Ok Done
+IsAnswered naming (RecordChosen bytes) book =
+    (choose_answer naming book (name_of naming bytes) ≡ Ok Done)
+    × (record_named naming book.held (name_of naming bytes) ≡ Some bytes)
+IsAnswered naming SecondRuleAdopted book = adopt_answer book second_rule ≡ Ok Done
