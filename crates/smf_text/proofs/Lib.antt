@@ -4,6 +4,7 @@ pub mod DateTextLemmas
 pub mod DayOfTextLemmas
 pub mod EncodingLemmas
 pub mod NameLemmas
+pub mod NameOrder
 pub mod ShowLemmas
 pub mod InjectiveLemmas
 pub mod YearLemmas

@@ -1,5 +1,6 @@
 -- Names of centres and shifts.
-use Rattle.std.specs.Prelude.{◌≡◌, ℕ, ◌-◌, ◌==◌, ◌&&◌, ◌||◌, nat_le, Bool, IsTrue, List, ◌++◌, length, take, replicate}
+use Rattle.std.specs.Prelude.{◌≡◌, ℕ, zero, suc, ◌+◌, ◌-◌, ◌*◌, ◌^◌, ◌==◌, ◌&&◌, ◌||◌, nat_le, Bool}
+use Rattle.std.specs.Prelude.{IsTrue, List, [], ◌∷◌, ◌++◌, length, take, replicate}
 use Rattle.std.specs.List.{list_all}
 use Rattle.std.specs.Char.{is_ascii_uppercase, is_ascii_digit}
 
@@ -28,6 +29,12 @@ IsName text = IsTrue (is_name text)
 -- a text, and zeros up to the length of the longest name
 abbrev pub padded : List ℕ → List ℕ
 padded text = text ++ replicate (longest_name - length text) 0
+
+-- the number of a text of at most so many bytes, the first of them the highest
+abbrev pub digits_value : ℕ → List ℕ → ℕ
+digits_value zero digits = 0
+digits_value (suc n) [] = 0
+digits_value (suc n) (digit ∷ digits) = digit * 256 ^ n + digits_value n digits
 
 -- how a name is kept: sixteen bytes, first its text and then zeros
 pub record IsPadded (letters : List ℕ) (len : ℕ) : Type 0 where

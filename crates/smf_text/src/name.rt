@@ -1,12 +1,12 @@
 //! Names of centres and shifts.
 
-ghost use Rattle.std.specs.Prelude.{◌≡◌, ◌↔◌, Some, IsSome, IfSome, nat_eq, refl};
+ghost use Rattle.std.specs.Prelude.{◌≡◌, ◌↔◌, Some, IsSome, IfSome, nat_eq, refl, take};
 ghost use Rattle.std.specs.List.{list_all};
 ghost use Rattle.std.specs.Ordering.{nat_cmp};
 ghost use Rattle.std.specs.Cmp.{partial_equiv_from_equiv};
 ghost use Rattle.std.specs.Cmp.Lexicographic.{pointwise, slice_cmp, nat_list_eq_equiv, nat_list_cmp_total, texts_ties, texts_po};
 ghost use Rattle.smf_text.specs.Names as spec;
-ghost use Rattle.smf_text.specs.Names.{IsName};
+ghost use Rattle.smf_text.specs.Names.{IsName, IsPadded, digits_value, longest_name};
 
 use std::cmp::Ordering;
 use std::marker::Model;
@@ -81,6 +81,22 @@ impl Name {
         })
     }
 
+    /// The name of these letters, so many characters and then zeros.
+    pub fn of_letters(letters: [u8; MAX_NAME], len: u8) -> Name
+        requires { IsPadded letters len }
+        ensures { result ≡ take len letters }
+    {
+        Name { letters, len }
+    }
+
+    /// Its letters as a number, the first of them the highest: names are in the order of these.
+    fn as_number(&self) -> u128
+        ensures value { result ≡ digits_value longest_name self.now }
+        ensures name { IsName self.now }
+    {
+        u128::from_be_bytes(self.letters)
+    }
+
     /// The characters of its text.
     fn characters(&self) -> &[u8]
         ensures value { result.now ≡ self.now }
@@ -135,7 +151,7 @@ impl Ord for Name {
     ghost matches_eq = { texts_ties };
 
     fn cmp(&self, other: &Name) -> Ordering {
-        self.characters().cmp(other.characters())
+        self.as_number().cmp(&other.as_number())
     }
 }
 
