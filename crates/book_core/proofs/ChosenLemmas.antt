@@ -36,7 +36,7 @@ use Rattle.book_core.proofs.HeldLemmas.{bytes_of, has-found, named-held}
 use Rattle.book_core.proofs.NamedLemmas.{is_some-named, its_name, same_texts}
 
 -- what holds of each entry holds of the one that is found by a test that only its key passes
-found_holds : {K X : Type 0} (P : K × X → Type 0) (test : K → Bool) (key : K)
+pub found_holds : {K X : Type 0} (P : K × X → Type 0) (test : K → Bool) (key : K)
     → ((other : K) → test other ≡ true → key ≡ other)
     → (entries : List (K × X)) (x : X) → All P entries → lookup test entries ≡ Some x → P (key, x)
 found_holds P test key exact [] x all found = cc
@@ -88,7 +88,7 @@ module _ {naming : Naming} {rulings : Rulings} {entries : List Entry} {total : �
     (kept : AreBooked naming rulings entries total)
     (rising : IsStrictlySortedBy by_bytes (keys_of entries)) where
   -- no record is meant where none has the name
-  named-missing : (name : List ℕ) → under_name name entries ≡ None
+  pub named-missing : (name : List ℕ) → under_name name entries ≡ None
       → record_named naming (held_in entries) name ≡ None
   named-missing name missing =
       is_none (record_named naming (held_in entries) name)
@@ -99,7 +99,7 @@ module _ {naming : Naming} {rulings : Rulings} {entries : List Entry} {total : �
       is_none (Some one) none = absurd (true≢false none)
 
   -- else the one that does
-  named-found : (name : List ℕ) (h : HeldRecord) → under_name name entries ≡ Some h
+  pub named-found : (name : List ℕ) (h : HeldRecord) → under_name name entries ≡ Some h
       → record_named naming (held_in entries) name ≡ Some (record_of h)
   named-found name h found =
       elim (record_named naming (held_in entries) name) as (λ meant.

@@ -1,13 +1,16 @@
-//! Which record was chosen last of an identity.
+//! Which records were chosen of an identity, and which of them was chosen last.
 
-ghost use Rattle.std.specs.Prelude.{◌≡◌, [], IfOk, find, option_copied, reverse};
+ghost use Rattle.std.specs.Prelude.{◌≡◌, [], IfOk, filter, find, map, option_copied, reverse};
 ghost use Rattle.book_model.specs.Charged as spec;
-ghost use Rattle.book_core.specs.Choices.{AreLast, is_of};
+ghost use Rattle.book_model.specs.Words.{choice_named};
+ghost use Rattle.book_core.specs.Choices.{AreLast, choice_of, is_of};
 ghost use Rattle.book_core.specs.Plain.{record_of, rulings_of};
 
+use crate::acceptance::name_of;
 use crate::chosen::ChosenRecord;
 use crate::held::HeldRecord;
 use crate::identity::Identity;
+use book_model::{NamedChoice, Naming};
 use std::alloc::{AllocError, Global};
 use std::collections::BTreeMap;
 use std::rc::RcSlice;
@@ -50,4 +53,28 @@ pub(crate) fn last_chosen(
         records.insert(choice.identity_by(adopted), choice.bytes.clone()?)?;
     }
     Ok(records)
+}
+
+/// The choices of records of an identity, in the order in which they came.
+pub(crate) fn choices_with<N: Naming>(
+    alloc: Global,
+    naming: &N,
+    choices: &[ChosenRecord],
+    adopted: Option<u16>,
+    identity: &Identity,
+) -> Result<Vec<NamedChoice>, AllocError>
+    ensures { IfOk result (λ named. named.items
+        ≡ map (λ choice. choice_named (N.name_of naming.now) (choice_of choice))
+        (filter (is_of (rulings_of [] adopted) identity.now) choices.now)) }
+{
+    let mut named = Vec::new(alloc);
+    for choice in choices {
+        if *identity == choice.identity_by(adopted) {
+            named.push(NamedChoice {
+                period: choice.period,
+                name: name_of(naming, &choice.bytes),
+            })?;
+        }
+    }
+    Ok(named)
 }

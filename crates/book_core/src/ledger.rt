@@ -5,12 +5,14 @@ ghost use Rattle.book_model.specs.Words.{tariff_outcome, adjustments_outcome, ch
 ghost use Rattle.book_model.specs.Words.{choose_outcome, disputes_outcome, periods_outcome};
 ghost use Rattle.book_model.specs.Words.{adopt_outcome, ruling_outcome, ruling_shown, ShowsDays};
 ghost use Rattle.book_model.specs.Words.{ShowsDispute, dispute_outcome, what_if_outcome};
+ghost use Rattle.book_model.specs.Words.{IsTrail, trail_outcome, trail_shown};
 ghost use Rattle.book_core.specs.Ledgers.{StopIsHarmless, Seen};
 ghost use Rattle.book_core.specs.Calls.{IsCall};
 ghost use Rattle.book_core.specs.Submissions.{Takes, records_in};
 ghost use Rattle.book_core.specs.Transition.{IsTransition};
 
-use book_model::{Accepted, ChargeRow, Dispute, LedgerFault, Line, ListedRuling, Ruled};
+use book_model::{Accepted, ChargeRow, Dispute, LedgerFault, Line, ListedRuling, Ruled, Trail};
+use std::alloc::Global;
 use tariff_rules::Tariff;
 
 /// The books of an office, however they are kept. Each call is at most one change of them: it is
@@ -116,6 +118,13 @@ pub trait Ledger {
             (seen self.old) (seen self.new) result
             (ruling_outcome (seen self.old).naming number) }
         ensures shown { IfOk result ShowsDays };
+
+    /// The trail of the record that is held under a name: how its price came about, the other
+    /// records of its identity and the choices among them, and what each period did with it.
+    fn trail_of(&mut self, alloc: Global, name: &[u8; 32]) -> Result<Trail, LedgerFault>
+        ensures trail { IsCall trail_shown (seen self.old) (seen self.new) result
+            (trail_outcome (seen self.old).naming name.now) }
+        ensures shown { IfOk result (λ trail. IsTrail (trail_shown trail)) };
 
     /// While the books are open, a stop leaves them as they are.
     ghost settled: { (ledger : Self) → (seen ledger).is_honest → (seen ledger).is_books

@@ -12,6 +12,7 @@ mod held;
 mod identities;
 mod identity;
 mod ledger;
+mod life;
 mod limits;
 mod lines;
 mod listed_rulings;
@@ -26,8 +27,8 @@ mod treatment;
 mod variant;
 
 pub use book_model::{
-    Accepted, ChargeRow, Dispute, LedgerFault, Line, ListedRuling, Naming, RowKey, Ruled, ShaNames,
-    Variant,
+    Accepted, ChargeRow, Deed, Dispute, LedgerFault, Line, ListedRuling, NamedChoice, Naming,
+    RowKey, Ruled, ShaNames, Trail, Turn, Variant,
 };
 // What a ledger of another crate needs to keep the same books.
 pub use acceptance::{is_full, name_of};
@@ -42,7 +43,7 @@ pub use lines::sort_lines;
 pub use listed_rulings::ListedAt;
 pub use period_end::{is_after, is_through};
 pub use plain::PlainLedger;
-pub use pricing::price_in;
+pub use pricing::{price_in, reckon_in};
 pub use rulings::{Rulings, is_done};
 pub use streams::{Sink, Source};
 pub use tariff_rules::Tariff;

@@ -13,6 +13,7 @@ mod lists;
 mod records;
 mod ruling_list;
 mod rulings;
+mod trail;
 
 use crate::accepted_tariff::AcceptedTariff;
 use crate::chosen::ChosenRecord;
@@ -21,7 +22,9 @@ use crate::held::HeldRecord;
 use crate::ledger::Ledger;
 use crate::record_cache::RecordCache;
 use crate::rulings::Rulings;
-use book_model::{Accepted, ChargeRow, Dispute, LedgerFault, Line, ListedRuling, Naming, Ruled};
+use book_model::{
+    Accepted, ChargeRow, Dispute, LedgerFault, Line, ListedRuling, Naming, Ruled, Trail,
+};
 use std::alloc::{AllocError, Global};
 use std::collections::{BTreeMap, BTreeSet};
 use tariff_rules::Tariff;
@@ -157,6 +160,10 @@ impl<N: Naming + Drop> Ledger for PlainLedger<N> {
 
     fn ruling(&mut self, number: u64) -> Result<Option<ListedRuling>, LedgerFault> {
         self.ruling_listed(number)
+    }
+
+    fn trail_of(&mut self, alloc: Global, name: &[u8; 32]) -> Result<Trail, LedgerFault> {
+        self.trail_held(alloc, name)
     }
 
     ghost settled = { λ ledger honest books is_open book left. absurd left };

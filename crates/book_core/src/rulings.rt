@@ -1,7 +1,8 @@
 //! The rulings of an office, and what is answered by them to a tariff, a close and a rule of
 //! identity.
 
-ghost use Rattle.std.specs.Prelude.{◌≡◌, ◌≢◌, ◌<◌, All, Ok, false, length, true};
+ghost use Rattle.std.specs.Prelude.{◌≡◌, ◌≢◌, ◌≤◌, ◌<◌, All, Ok, false, filter, int_lt, length};
+ghost use Rattle.std.specs.Prelude.{true};
 ghost use Rattle.book_model.specs.Words.{IsDay, are_rising, last_period};
 ghost use Rattle.book_model.specs.RulingAnswers as spec;
 
@@ -29,6 +30,14 @@ pub fn is_done(answer: &Result<Ruled, LedgerFault>) -> bool
     }
 }
 
+/// How many closes come before a day.
+fn closes_before(closes: &[i32], day: &i32) -> usize
+    ensures before { result ≡ length (filter (λ close. int_lt close day.now) closes.now) }
+    ensures few { result ≤ length closes.now }
+{
+    closes.iter().filter(|close| **close < *day).count()
+}
+
 /// The rulings of the office: its tariffs, its closes and its rule of identity. Its choices are
 /// kept beside them.
 #[derive(Drop)]
@@ -48,7 +57,7 @@ impl Rulings {
     ghost use Rattle.std.specs.Prelude.{◌≡◌, ◌≤◌, ◌<◌, All, OnOk, Some, length};
     ghost use Rattle.std.specs.Prelude.{string_bytes, true};
     ghost use Rattle.book_model.specs.Words.{IsDay, are_rising, last_period, no_rulings, open_by};
-    ghost use Rattle.book_model.specs.Words.{with_close, with_second_rule, with_tariff};
+    ghost use Rattle.book_model.specs.Words.{period_on, with_close, with_second_rule, with_tariff};
     ghost use Rattle.book_model.specs.Rulings as ruling;
     ghost use Rattle.book_core.specs.OfficeRulings.{HasCloseRoom, HasTariffRoom, ruled_in};
 
@@ -117,6 +126,14 @@ impl Rulings {
         ensures few { result ≤ last_period }
     {
         self.closes.len() as u16 + 1
+    }
+
+    /// The number of the period that a day belongs to: each close before the day ended one.
+    pub fn period_of_day(&self, day: &i32) -> u16
+        ensures number { result ≡ period_on (ruled_in self.now).closes day.now }
+        ensures begun { result ≤ open_by (ruled_in self.now) }
+    {
+        closes_before(&self.closes, day) as u16 + 1
     }
 
     /// The day through which a period was closed, if it was.

@@ -12,6 +12,7 @@ pub mod UniqueAnswerLemmas
 pub mod PeriodLemmas
 pub mod PieceLemmas
 pub mod ReadLemmas
+pub mod RecordPathLemmas
 pub mod RouteLemmas
 pub mod RouterLemmas
 pub mod ServeLemmas

@@ -13,19 +13,19 @@ use Rattle.smf_text.proofs.DayOfTextLemmas.{day_found, day_named, day_text_begin
 use Rattle.book_http.specs.declared.route.Page.{Page}
 use Rattle.book_http.specs.declared.route.Page.TheVariants as page
 use Rattle.book_reports.specs.BookTexts.{report_of_all}
+use Rattle.book_reports.specs.RecordNames.{name_in}
 use Rattle.book_reports.specs.declared.report.PeriodReport.{PeriodReport}
 use Rattle.book_reports.specs.declared.report.PeriodReport.TheVariants as of_period
 use Rattle.book_reports.specs.declared.report.Report.TheVariants.{Statement, StatementTable}
 use Rattle.book_reports.specs.declared.report.Report.TheVariants.{AdjustmentList, AdjustmentTable}
 use Rattle.book_reports.specs.declared.report.Report.TheVariants.{DisputeList, DisputeTable}
 use Rattle.book_reports.specs.declared.report.Report.TheVariants.{OfCentre, PeriodList}
-use Rattle.book_reports.specs.declared.report.Report.TheVariants.{RulingList, TariffText}
+use Rattle.book_reports.specs.declared.report.Report.TheVariants.{Record, RulingList, TariffText}
 use Rattle.book_reports.specs.declared.what_if.StatementForm.{StatementForm}
 use Rattle.book_reports.specs.declared.what_if.StatementForm.TheVariants as shown_as
 use Rattle.book_http.specs.declared.route.Route.{Route}
 use Rattle.book_http.specs.declared.route.Route.TheVariants as route_to
-use Rattle.book_http.specs.Paths.{IsPathPeriod, IsPathOf, IsServedRoute, path_text, period_path}
-use Rattle.book_http.specs.Paths.{period_text, what_if_path}
+use Rattle.book_http.specs.Paths.{IsPathPeriod, IsPathOf, period_path, period_text, what_if_path}
 use Rattle.book_http.specs.Routes.{page_of, path_rest, period_after, report_after, report_on, route}
 use Rattle.book_http.specs.Routes.{route_at, route_on, route_rows, tariff_after, what_if_after}
 use Rattle.book_http.specs.Routes.{what_if_on}
@@ -33,6 +33,7 @@ use Rattle.book_http.proofs.NamedPeriodLemmas.{IsNamedAfter, after_found, after_
 use Rattle.book_http.proofs.NamedPeriodLemmas.{text_begins}
 use Rattle.book_http.proofs.ServedPathLemmas.{begun_found, is_plain_along, numbered_found, rows_along}
 use Rattle.book_http.proofs.PeriodLemmas.{decimal_digits, rest_found, rest_named}
+use Rattle.book_http.proofs.RecordPathLemmas.{name_found, name_page, record_served}
 use Rattle.book_http.proofs.RouterLemmas.{page_found, plain_path}
 
 -- ---- what is found is served
@@ -102,6 +103,7 @@ page_route page.Adjustments path h = after_served of_period.AdjustmentList path
 page_route page.AdjustmentsCsv path h = after_served of_period.AdjustmentTable path
 page_route page.Disputes path h = (tt, h)
 page_route page.DisputesCsv path h = (tt, h)
+page_route page.Record path h = record_served path
 page_route page.Rulings path h = (tt, h)
 page_route page.Tariff path h = tariff_served path
 page_route page.WhatIf path h = what_if_served shown_as.Text path
@@ -248,30 +250,40 @@ tariff_found day named =
     (option_and_then day_of_text_of rest)) (rest_found (codes "/tariff/") text)
     ∙ ap (option_map (λ day. route_to.Report (TariffText day))) (day_found day named))
 
--- what is served is found at its path
-pub served_found : (asked : Route) → IsServedRoute asked → route (path_text asked) ≡ Some asked
+-- digits that spell a name ask for its record
+record_found : (digits name : List ℕ) → name_in digits ≡ Some name
+    → route (codes "/record/" ++ digits) ≡ Some (route_to.Report (Record name))
 unfolding route_at
-served_found (route_to.Report PeriodList) served = on_page page.Periods _ _ periods_found refl
-served_found (route_to.Report (Statement n)) served =
-    report_found of_period.Statement n None served tt
-served_found (route_to.Report (StatementTable n)) served =
-    report_found of_period.StatementTable n None served tt
-served_found (route_to.Report (AdjustmentList n)) served =
-    report_found of_period.AdjustmentList n None served tt
-served_found (route_to.Report (AdjustmentTable n)) served =
-    report_found of_period.AdjustmentTable n None served tt
-served_found (route_to.Report (OfCentre asked n centre)) served =
-    report_found asked n (Some centre) served.0 served.1
-served_found (route_to.Report DisputeList) served = on_page page.Disputes _ _ disputes_found refl
-served_found (route_to.Report DisputeTable) served =
-    on_page page.DisputesCsv _ _ disputes_csv_found refl
-served_found (route_to.Report RulingList) served = on_page page.Rulings _ _ rulings_found refl
-served_found (route_to.Report (TariffText day)) served = tariff_found day served
-served_found (route_to.WhatIf what_if) served =
-    what_if_found what_if.form what_if.period what_if.centre served.0 served.1
-served_found (route_to.Import Rdw) served = on_page page.Import _ _ import_found refl
-served_found (route_to.Import Bdw) served = on_page page.ImportBdw _ _ import_bdw_found refl
+record_found digits name named =
+    on_page page.Record (codes "/record/" ++ digits) (route_to.Report (Record name))
+    (name_page digits name named) (name_found digits name named)
 
--- the same of a path that is its text
+-- what is served is found at its path
 pub path_found : (path : List ℕ) (asked : Route) → IsPathOf path asked → route path ≡ Some asked
-path_found path asked it = ap route it.1 ∙ served_found asked it.0
+unfolding route_at
+path_found path (route_to.Report PeriodList) it =
+    ap route it.1 ∙ on_page page.Periods _ _ periods_found refl
+path_found path (route_to.Report (Statement n)) it =
+    ap route it.1 ∙ report_found of_period.Statement n None it.0 tt
+path_found path (route_to.Report (StatementTable n)) it =
+    ap route it.1 ∙ report_found of_period.StatementTable n None it.0 tt
+path_found path (route_to.Report (AdjustmentList n)) it =
+    ap route it.1 ∙ report_found of_period.AdjustmentList n None it.0 tt
+path_found path (route_to.Report (AdjustmentTable n)) it =
+    ap route it.1 ∙ report_found of_period.AdjustmentTable n None it.0 tt
+path_found path (route_to.Report (OfCentre asked n centre)) it =
+    ap route it.1 ∙ report_found asked n (Some centre) it.0.0 it.0.1
+path_found path (route_to.Report DisputeList) it =
+    ap route it.1 ∙ on_page page.Disputes _ _ disputes_found refl
+path_found path (route_to.Report DisputeTable) it =
+    ap route it.1 ∙ on_page page.DisputesCsv _ _ disputes_csv_found refl
+path_found path (route_to.Report (Record name)) it =
+    ap route it.1.1 ∙ record_found it.1.0 name it.1.2
+path_found path (route_to.Report RulingList) it =
+    ap route it.1 ∙ on_page page.Rulings _ _ rulings_found refl
+path_found path (route_to.Report (TariffText day)) it = ap route it.1 ∙ tariff_found day it.0
+path_found path (route_to.WhatIf what_if) it =
+    ap route it.1 ∙ what_if_found what_if.form what_if.period what_if.centre it.0.0 it.0.1
+path_found path (route_to.Import Rdw) it = ap route it.1 ∙ on_page page.Import _ _ import_found refl
+path_found path (route_to.Import Bdw) it =
+    ap route it.1 ∙ on_page page.ImportBdw _ _ import_bdw_found refl

@@ -182,7 +182,7 @@ seek_at walked rows (b ∷ path) h =
     moved key (inl e) = inl (e ∙ append_assoc walked (b ∷ []) path)
     moved key (inr wild) = inr wild
 
--- the path of a page that names no period and no day
+-- the path of a page that names no period, no record and no day
 abbrev pub plain_path : Page → Option (List ℕ)
 plain_path page.Periods = Some (codes "/periods")
 plain_path page.Statement = None
@@ -191,6 +191,7 @@ plain_path page.Adjustments = None
 plain_path page.AdjustmentsCsv = None
 plain_path page.Disputes = Some (codes "/disputes")
 plain_path page.DisputesCsv = Some (codes "/disputes-csv")
+plain_path page.Record = None
 plain_path page.Rulings = Some (codes "/rulings")
 plain_path page.Tariff = None
 plain_path page.WhatIf = None
@@ -209,7 +210,7 @@ rows_are_plain = (
   tt,
   (
     tt,
-    ((refl, refl), ((refl, refl), ((refl, refl), ((refl, refl), ((refl, refl), ((refl, refl), (tt, (tt, (tt, (tt, (tt, tt))))))))))),
+    ((refl, refl), ((refl, refl), ((refl, refl), ((refl, refl), ((refl, refl), (tt, ((refl, refl), (tt, (tt, (tt, (tt, (tt, tt)))))))))))),
   ),
 )
 
@@ -219,7 +220,7 @@ rows_stand = (
   refl,
   (
     refl,
-    (refl, (refl, (refl, (refl, (refl, (refl, (refl, (refl, (refl, (refl, (refl, tt))))))))))),
+    (refl, (refl, (refl, (refl, (refl, (refl, (refl, (refl, (refl, (refl, (refl, (refl, tt)))))))))))),
   ),
 )
 

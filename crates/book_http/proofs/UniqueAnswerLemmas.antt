@@ -6,7 +6,7 @@ use Rattle.httparse.specs.Grammar.{RequestHead}
 use Rattle.smf_frames.specs.declared.dump.Layout.{Layout}
 use Rattle.book_model.specs.Words.{front, Book, Event, Outcome, Naming}
 use Rattle.book_model.specs.declared.fault.LedgerFault.{LedgerFault}
-use Rattle.book_model.specs.declared.fault.LedgerFault.TheVariants.{Full, NoSuchPeriod}
+use Rattle.book_model.specs.declared.fault.LedgerFault.TheVariants.{Full, NoSuchPeriod, NoSuchRecord}
 use Rattle.book_model.specs.declared.fault.LedgerFault.TheVariants.{NoSuchTariff, TariffRefused}
 use Rattle.book_core.specs.Calls.{Calls}
 use Rattle.book_core.specs.Transition.{Transition}
@@ -55,6 +55,7 @@ reply_tells : (kind : BodyKind) (outcome : Book → Outcome Response) (told : Re
 reply_tells kind outcome (Ok told) was before events is called served = called.makes.0
 reply_tells kind outcome (Err NoSuchPeriod) was before events is called served = called.makes.0
 reply_tells kind outcome (Err NoSuchTariff) was before events is called served = called.makes.0
+reply_tells kind outcome (Err NoSuchRecord) was before events is called served = called.makes.0
 reply_tells kind outcome (Err (TariffRefused why)) was before events is called served =
     called.makes.0
 reply_tells kind outcome (Err Full) was before events is called served = called.makes.0

@@ -6,7 +6,7 @@ use Rattle.std.specs.Str.{is_utf8}
 use Rattle.httparse.specs.Grammar.{RequestHead}
 use Rattle.smf_frames.specs.declared.dump.Layout.{Layout}
 use Rattle.book_model.specs.declared.fault.LedgerFault.{LedgerFault}
-use Rattle.book_model.specs.declared.fault.LedgerFault.TheVariants.{Full, NoSuchPeriod}
+use Rattle.book_model.specs.declared.fault.LedgerFault.TheVariants.{Full, NoSuchPeriod, NoSuchRecord}
 use Rattle.book_model.specs.declared.fault.LedgerFault.TheVariants.{NoSuchTariff, TariffRefused}
 use Rattle.book_model.specs.Words.{Naming, Book, Event}
 use Rattle.book_core.specs.Calls.{Calls}
@@ -50,6 +50,7 @@ office_reply kind (Ok (tells.Text text)) = success kind text
 office_reply kind (Ok (tells.Count receipt)) = receipt_reply receipt
 office_reply kind (Err NoSuchPeriod) = refusal NotFound
 office_reply kind (Err NoSuchTariff) = refusal NotFound
+office_reply kind (Err NoSuchRecord) = refusal NotFound
 office_reply kind (Err (TariffRefused why)) = refusal BadRequest
 office_reply kind (Err Full) = refusal BadRequest
 office_reply kind told = refusal Unavailable

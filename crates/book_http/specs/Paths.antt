@@ -3,13 +3,14 @@ use Rattle.std.specs.Prelude.{◌≡◌, ℕ, ◌≤◌, List, ◌++◌, codes, 
 use Rattle.std.specs.Prelude.{Option, Some, None, IfSome}
 use Rattle.smf_frames.specs.declared.dump.Layout.TheVariants.{Rdw, Bdw}
 use Rattle.book_model.specs.Words.{IsDay, IsName, day_text_of}
+use Rattle.book_reports.specs.RecordNames.{name_in}
 use Rattle.book_reports.specs.declared.report.PeriodReport.{PeriodReport}
 use Rattle.book_reports.specs.declared.report.PeriodReport.TheVariants as of_period
 use Rattle.book_reports.specs.declared.report.Report.TheVariants.{Statement, StatementTable}
 use Rattle.book_reports.specs.declared.report.Report.TheVariants.{AdjustmentList, AdjustmentTable}
 use Rattle.book_reports.specs.declared.report.Report.TheVariants.{DisputeList, DisputeTable}
 use Rattle.book_reports.specs.declared.report.Report.TheVariants.{OfCentre, PeriodList}
-use Rattle.book_reports.specs.declared.report.Report.TheVariants.{RulingList, TariffText}
+use Rattle.book_reports.specs.declared.report.Report.TheVariants.{Record, RulingList, TariffText}
 use Rattle.book_reports.specs.declared.what_if.StatementForm.{StatementForm}
 use Rattle.book_reports.specs.declared.what_if.StatementForm.TheVariants as shown_as
 use Rattle.book_http.specs.declared.route.Route.{Route}
@@ -19,8 +20,9 @@ use Rattle.book_http.specs.declared.route.Route.TheVariants as route_to
 abbrev pub IsPathPeriod : ℕ → Type 0
 IsPathPeriod n = (1 ≤ n) × (n ≤ 9999)
 
--- what is served: each report that names no period, the tariff of each day, and the other reports of
--- such a period, of the whole office and of each centre; what such a period would have cost; imports
+-- what is served: each report that names no period, each record, the tariff of each day, and the other
+-- reports of such a period, of the whole office and of each centre; what such a period would have
+-- cost; imports
 abbrev pub IsServedRoute : Route → Type 0
 IsServedRoute (route_to.Report PeriodList) = ⊤
 IsServedRoute (route_to.Report (Statement n)) = IsPathPeriod n
@@ -30,6 +32,7 @@ IsServedRoute (route_to.Report (AdjustmentTable n)) = IsPathPeriod n
 IsServedRoute (route_to.Report (OfCentre asked n centre)) = IsPathPeriod n × IsName centre
 IsServedRoute (route_to.Report DisputeList) = ⊤
 IsServedRoute (route_to.Report DisputeTable) = ⊤
+IsServedRoute (route_to.Report (Record name)) = ⊤
 IsServedRoute (route_to.Report RulingList) = ⊤
 IsServedRoute (route_to.Report (TariffText day)) = IsDay day
 IsServedRoute (route_to.WhatIf what_if) = IsPathPeriod what_if.period × IfSome what_if.centre IsName
@@ -52,24 +55,34 @@ abbrev pub period_text : ℕ → Option (List ℕ) → List ℕ
 period_text n None = decimal n
 period_text n (Some centre) = decimal n ++ codes "/" ++ centre
 
+-- a record is served where digits, of either case, spell its name
+abbrev pub IsPathOfRecord : List ℕ → List ℕ → Type 0
+IsPathOfRecord name path =
+    (digits : List ℕ) × (path ≡ codes "/record/" ++ digits) × (name_in digits ≡ Some name)
+
 -- the path of what is served
-abbrev pub path_text : Route → List ℕ
-path_text (route_to.Report PeriodList) = codes "/periods"
-path_text (route_to.Report (Statement n)) = period_path of_period.Statement ++ decimal n
-path_text (route_to.Report (StatementTable n)) = period_path of_period.StatementTable ++ decimal n
-path_text (route_to.Report (AdjustmentList n)) = period_path of_period.AdjustmentList ++ decimal n
-path_text (route_to.Report (AdjustmentTable n)) = period_path of_period.AdjustmentTable ++ decimal n
-path_text (route_to.Report (OfCentre asked n centre)) =
-    period_path asked ++ period_text n (Some centre)
-path_text (route_to.Report DisputeList) = codes "/disputes"
-path_text (route_to.Report DisputeTable) = codes "/disputes-csv"
-path_text (route_to.Report RulingList) = codes "/rulings"
-path_text (route_to.Report (TariffText day)) = codes "/tariff/" ++ day_text_of day
-path_text (route_to.WhatIf what_if) =
-    what_if_path what_if.form ++ period_text what_if.period what_if.centre
-path_text (route_to.Import Rdw) = codes "/import"
-path_text (route_to.Import Bdw) = codes "/import-bdw"
+abbrev pub HasPath : Route → List ℕ → Type 0
+HasPath (route_to.Report PeriodList) path = path ≡ codes "/periods"
+HasPath (route_to.Report (Statement n)) path =
+    path ≡ period_path of_period.Statement ++ decimal n
+HasPath (route_to.Report (StatementTable n)) path =
+    path ≡ period_path of_period.StatementTable ++ decimal n
+HasPath (route_to.Report (AdjustmentList n)) path =
+    path ≡ period_path of_period.AdjustmentList ++ decimal n
+HasPath (route_to.Report (AdjustmentTable n)) path =
+    path ≡ period_path of_period.AdjustmentTable ++ decimal n
+HasPath (route_to.Report (OfCentre asked n centre)) path =
+    path ≡ period_path asked ++ period_text n (Some centre)
+HasPath (route_to.Report DisputeList) path = path ≡ codes "/disputes"
+HasPath (route_to.Report DisputeTable) path = path ≡ codes "/disputes-csv"
+HasPath (route_to.Report (Record name)) path = IsPathOfRecord name path
+HasPath (route_to.Report RulingList) path = path ≡ codes "/rulings"
+HasPath (route_to.Report (TariffText day)) path = path ≡ codes "/tariff/" ++ day_text_of day
+HasPath (route_to.WhatIf what_if) path =
+    path ≡ what_if_path what_if.form ++ period_text what_if.period what_if.centre
+HasPath (route_to.Import Rdw) path = path ≡ codes "/import"
+HasPath (route_to.Import Bdw) path = path ≡ codes "/import-bdw"
 
 -- what a path is found to be for: it is served, and that is its path
 abbrev pub IsPathOf : List ℕ → Route → Type 0
-IsPathOf path route = IsServedRoute route × (path ≡ path_text route)
+IsPathOf path route = IsServedRoute route × HasPath route path

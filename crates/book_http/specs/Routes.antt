@@ -1,4 +1,4 @@
--- How the route of a path is looked up, by matchit's reading of the thirteen route texts. That this
+-- How the route of a path is looked up, by matchit's reading of the fourteen route texts. That this
 -- finds what Paths says, and nothing else, is a clause of the function that looks it up.
 use Rattle.std.specs.Prelude.{ℕ, Bool, if◌then◌else◌, List, [], ◌∷◌, ◌==◌, codes, length, drop, nat_eq}
 use Rattle.std.specs.Prelude.{Option, Some, None, option_and_then, option_map, Result, Ok, Err}
@@ -12,6 +12,7 @@ use Rattle.matchit.specs.declared.error.InsertError.{InsertError}
 use Rattle.smf_frames.specs.declared.dump.Layout.TheVariants.{Rdw, Bdw}
 use Rattle.smf_text.specs.Day.{day_of_text_of}
 use Rattle.book_reports.specs.BookTexts.{centre_named, report_of_all}
+use Rattle.book_reports.specs.RecordNames.{name_in}
 use Rattle.book_reports.specs.declared.report.PeriodReport.{PeriodReport}
 use Rattle.book_reports.specs.declared.report.PeriodReport.TheVariants as of_period
 use Rattle.book_reports.specs.declared.report.Report.{Report}
@@ -94,6 +95,12 @@ abbrev pub what_if_after : StatementForm → List ℕ → List ℕ → Option Ro
 what_if_after form prefix path =
     option_map (λ named. what_if_on form named.0 named.1) (period_after prefix path)
 
+-- the record whose name a path spells after its prefix
+abbrev pub record_after : List ℕ → List ℕ → Option Route
+record_after prefix path =
+    option_map (λ name. route_to.Report (report_of.Record name))
+    (option_and_then name_in (path_rest prefix path))
+
 -- the tariff of the day that a path names after its prefix
 abbrev pub tariff_after : List ℕ → List ℕ → Option Route
 tariff_after prefix path =
@@ -112,6 +119,7 @@ route_at page.AdjustmentsCsv path =
     report_after of_period.AdjustmentTable (codes "/adjustments-csv/") path
 route_at page.Disputes path = Some (route_to.Report report_of.DisputeList)
 route_at page.DisputesCsv path = Some (route_to.Report report_of.DisputeTable)
+route_at page.Record path = record_after (codes "/record/") path
 route_at page.Rulings path = Some (route_to.Report report_of.RulingList)
 route_at page.Tariff path = tariff_after (codes "/tariff/") path
 route_at page.WhatIf path = what_if_after shown_as.Text (codes "/what-if/") path
@@ -128,7 +136,7 @@ with_scan (Err error) value rows = rows
 abbrev pub with_route : List ℕ → Page → RowsOf (RouteOf Page) → RowsOf (RouteOf Page)
 with_route text value rows = with_scan (parse_route text) value rows
 
--- the thirteen routes
+-- the fourteen routes
 unfoldable pub route_rows : RowsOf (RouteOf Page)
 route_rows =
     with_route (codes "/import-bdw") page.ImportBdw
@@ -137,13 +145,14 @@ route_rows =
     (with_route (codes "/what-if/{*rest}") page.WhatIf
     (with_route (codes "/tariff/{*rest}") page.Tariff
     (with_route (codes "/rulings") page.Rulings
+    (with_route (codes "/record/{*rest}") page.Record
     (with_route (codes "/disputes-csv") page.DisputesCsv
     (with_route (codes "/disputes") page.Disputes
     (with_route (codes "/adjustments-csv/{*rest}") page.AdjustmentsCsv
     (with_route (codes "/adjustments/{*rest}") page.Adjustments
     (with_route (codes "/statement-csv/{*rest}") page.StatementCsv
     (with_route (codes "/statement/{*rest}") page.Statement
-    (with_route (codes "/periods") page.Periods []))))))))))))
+    (with_route (codes "/periods") page.Periods [])))))))))))))
 
 -- the page of a path
 unfoldable pub page_of : List ℕ → Option Page

@@ -7,6 +7,7 @@ ghost use Rattle.book_http.specs.Routes as spec;
 ghost use Rattle.book_http.specs.Routes.{route_rows};
 
 use crate::decimal_value::decimal_value;
+use book_reports::name_of_text;
 use matchit::{InsertError, Router};
 use office::{PeriodReport, Report, StatementForm, WhatIf, centre_named, report_of_all};
 use smf_frames::Layout;
@@ -25,7 +26,7 @@ pub enum Route {
     Import(Layout),
 }
 
-/// A path of the server, whatever period, centre and day it names.
+/// A path of the server, whatever period, centre, record and day it names.
 #[derive(Clone, Copy, Debug, PartialEq, Eq)]
 pub enum Page {
     /// The list of the periods.
@@ -42,6 +43,8 @@ pub enum Page {
     Disputes,
     /// The records in dispute as rows with commas.
     DisputesCsv,
+    /// A record, and what became of it.
+    Record,
     /// The list of the rulings.
     Rulings,
     /// The file of a tariff.
@@ -78,6 +81,7 @@ fn pages(alloc: Global) -> Result<Router<Page>, InsertError>
     let router = with_page(router, "/adjustments-csv/{*rest}", Page::AdjustmentsCsv)?;
     let router = with_page(router, "/disputes", Page::Disputes)?;
     let router = with_page(router, "/disputes-csv", Page::DisputesCsv)?;
+    let router = with_page(router, "/record/{*rest}", Page::Record)?;
     let router = with_page(router, "/rulings", Page::Rulings)?;
     let router = with_page(router, "/tariff/{*rest}", Page::Tariff)?;
     let router = with_page(router, "/what-if/{*rest}", Page::WhatIf)?;
@@ -191,6 +195,15 @@ fn what_if_after(form: StatementForm, prefix: &str, path: &str) -> Option<Route>
     }))
 }
 
+/// The record whose name a path spells after its prefix.
+fn record_after(prefix: &str, path: &str) -> Option<Route>
+    ensures { result ≡ spec.record_after prefix.now path.now }
+{
+    let rest = path_rest(prefix, path)?;
+    let name = name_of_text(rest)?;
+    Some(Route::Report(Report::Record(name)))
+}
+
 /// The tariff of the day that a path names after its prefix.
 fn tariff_after(prefix: &str, path: &str) -> Option<Route>
     ensures { result ≡ spec.tariff_after prefix.now path.now }
@@ -215,6 +228,7 @@ fn route_at(page: Page, path: &str) -> Option<Route>
         }
         Page::Disputes => Some(Route::Report(Report::DisputeList)),
         Page::DisputesCsv => Some(Route::Report(Report::DisputeTable)),
+        Page::Record => record_after("/record/", path),
         Page::Rulings => Some(Route::Report(Report::RulingList)),
         Page::Tariff => tariff_after("/tariff/", path),
         Page::WhatIf => what_if_after(StatementForm::Text, "/what-if/", path),

@@ -6,7 +6,8 @@ use Rattle.book_model.specs.Words.{accept_answer, IsMadeByCalls, Book, new_book,
 use Rattle.book_model.specs.Words.{Event, after_all}
 use Rattle.book_model.specs.Words.{book_after, Outcome, accept_outcome, charges_outcome}
 use Rattle.book_model.specs.Words.{adjustments_outcome, disputes_outcome, periods_outcome, Naming}
-use Rattle.book_model.specs.Words.{dispute_outcome, ruling_outcome, ruling_shown, what_if_outcome}
+use Rattle.book_model.specs.Words.{dispute_outcome, ruling_outcome, ruling_shown, trail_outcome}
+use Rattle.book_model.specs.Words.{trail_shown, what_if_outcome}
 use Rattle.book_model.specs.declared.fault.LedgerFault.{LedgerFault}
 use Rattle.book_core.specs.Calls.{Calls, listed}
 use Rattle.book_core.specs.Ledgers.{Seen, IsOpenAt}
@@ -23,7 +24,7 @@ use Rattle.book_http.proofs.LawLemmas.{requests_make_history}
 use Rattle.book_laws.specs.CallLaws.{CallsFollowHistory}
 use Rattle.book_laws.specs.Calls.{Call, Request, RunRequests, AcceptRecord, ReadCharges}
 use Rattle.book_laws.specs.Calls.{HttpRequest, ReadAdjustments, ReadDisputes, ReadPeriods}
-use Rattle.book_laws.specs.Calls.{ReadChargesUnder, ReadDispute, ReadRuling, Step}
+use Rattle.book_laws.specs.Calls.{ReadChargesUnder, ReadDispute, ReadRuling, ReadTrail, Step}
 use Rattle.book_laws.specs.Calls.{AreDone, SomeCalls, calls_of, ledger_after_calls, work_of, works_of}
 
 -- what is read makes none
@@ -64,6 +65,8 @@ call_answered naming (ReadPeriods answer) =
 call_answered naming (ReadRuling number answer) =
     readings_answered naming (λ found. option_map ruling_shown found) (ruling_outcome naming number)
     answer (λ book. refl)
+call_answered naming (ReadTrail name answer) =
+    readings_answered naming trail_shown (trail_outcome naming name) answer (λ book. refl)
 
 -- so do all of them
 pub calls_are_answered : (naming : Naming) (calls : List Call)

@@ -2,7 +2,8 @@
 -- they refuse; sums over rows and over a period's sets; the amounts of periods; the lines that are
 -- read; and closed periods. Runs, from these; calls one after another, and what they leave; the
 -- lists of all periods; the lines of a statement; single centres; rows by another tariff, and their
--- lines. Single answers: to calls, reports, imports, and lists of requests.
+-- lines. Single records: their lives, and how their prices came about. Single answers: to calls,
+-- reports, imports, and lists of requests.
 pub mod PeriodLemmas
 pub mod NetLemmas
 pub mod WrongPeriodLemmas
@@ -21,6 +22,8 @@ pub mod CentreLemmas
 pub mod OtherPriceLemmas
 pub mod OtherWorkLemmas
 pub mod OtherWidthLemmas
+pub mod LifeLemmas
+pub mod ReckoningLemmas
 pub mod AnswerLemmas
 pub mod ReportLemmas
 pub mod ImportLemmas

@@ -3,8 +3,8 @@
 -- definitions of a period, which the laws refuse. Runs: what a run is, and on which books; the
 -- statement of a period; and the laws. Then calls one after another and what they leave, the lists
 -- of all periods, how wide the lines of a statement are, the reports on single centres, and a
--- period's rows by another tariff. Single answers: to calls, reports, imports, and lists of
--- requests.
+-- period's rows by another tariff. Single records: their lives, and how their prices came about.
+-- Single answers: to calls, reports, imports, and lists of requests.
 pub mod NetCounts
 pub mod PeriodAmounts
 pub mod PeriodLines
@@ -20,6 +20,8 @@ pub mod ListLaws
 pub mod StatementWidths
 pub mod CentreLaws
 pub mod OtherPriceLaws
+pub mod LifeLaws
+pub mod ReckoningLaws
 pub mod AnswerLaws
 pub mod ReportLaws
 pub mod ImportLaws

@@ -5,6 +5,7 @@ mod calls;
 mod centres;
 mod histories;
 mod other_prices;
+mod records;
 mod runs;
 
 pub use calls::{
@@ -17,6 +18,7 @@ pub use histories::{
     posted_once, wrong_periods_fail,
 };
 pub use other_prices::{what_if, what_ifs_are_aligned};
+pub use records::{lives_net, lives_take_turns, prices_are_reckoned, trails_net};
 pub use runs::{
     calls_follow_history, closed_statements_stay, lists_conserve, open_statement_is_first,
     run_order_is_free, runs_charge_once, runs_conserve, runs_follow_history, runs_make_history,

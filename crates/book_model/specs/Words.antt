@@ -21,6 +21,7 @@ pub use Rattle.smf_type30.specs.Class.{IsUsage, class_of, type_of}
 pub use Rattle.smf_type30.specs.Damage.{damage_number}
 pub use Rattle.tariff_rules.specs.Terms.{Terms}
 pub use Rattle.tariff_rules.specs.Price.{IsPriced, most_amount, price_by}
+pub use Rattle.tariff_rules.specs.Reckoning.{reckoned, reckoning_by, rule_number, rule_numbered}
 pub use Rattle.tariff_rules.specs.TariffFile.{terms_in}
 pub use Rattle.book_model.specs.Sets.{Set, has, members, set_of, those, with, without}
 pub use Rattle.book_model.specs.Records.{IsUsageRecord, Naming, Records, by_bytes, name_of}
@@ -64,6 +65,11 @@ pub use Rattle.book_model.specs.Outcomes.{disputes_outcome}
 pub use Rattle.book_model.specs.Outcomes.{periods_outcome, no_event, ruling_outcome, tariff_event}
 pub use Rattle.book_model.specs.Outcomes.{tariff_outcome, what_if_outcome}
 pub use Rattle.book_model.specs.OtherPrices.{costs_under, rows_if_room, what_if_answer}
+pub use Rattle.book_model.specs.Lives.{charges_in, is_charge, life_from, life_of, net_of}
+pub use Rattle.book_model.specs.Lives.{reversals_in, turn_if, turns_in}
+pub use Rattle.book_model.specs.Trails.{IsTrail, TrailSeen, choice_named, choices_among, period_on}
+pub use Rattle.book_model.specs.Trails.{reckoning_in, trail_by, trail_of, trail_outcome}
+pub use Rattle.book_model.specs.Trails.{trail_shown}
 pub use Rattle.book_model.specs.History.{book_after, book_of, charged_in, closes, day_of_close}
 pub use Rattle.book_model.specs.History.{held_before, period_after, periods, rulings}
 pub use Rattle.book_model.specs.MadeByCalls.{IsMadeByCalls}

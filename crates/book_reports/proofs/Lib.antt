@@ -13,3 +13,4 @@ pub mod DisputeLemmas
 pub mod TariffLemmas
 pub mod WhatIfLemmas
 pub mod FigureLemmas
+pub mod RecordNameLemmas

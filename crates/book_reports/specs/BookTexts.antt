@@ -11,7 +11,7 @@ use Rattle.book_model.specs.declared.fault.LedgerFault.TheVariants.{Memory, NoSu
 use Rattle.book_model.specs.Words.{Book, open_period, disputes_in, Outcome, no_event}
 use Rattle.book_model.specs.Words.{charges_outcome, adjustments_outcome, disputes_outcome}
 use Rattle.book_model.specs.Words.{periods_outcome, Naming, rows_for}
-use Rattle.book_model.specs.Words.{rulings_listed, tariff_text_on}
+use Rattle.book_model.specs.Words.{rulings_listed, tariff_text_on, trail_outcome}
 use Rattle.report_texts.specs.Statements.{statement_text}
 use Rattle.report_texts.specs.StatementTables.{statement_table}
 use Rattle.report_texts.specs.AdjustmentLists.{adjustment_list_text}
@@ -22,6 +22,7 @@ use Rattle.report_texts.specs.DisputeLists.{dispute_list_text}
 use Rattle.report_texts.specs.DisputeTables.{dispute_table}
 use Rattle.report_texts.specs.PeriodLists.{period_list_text}
 use Rattle.report_texts.specs.RulingLists.{ruling_list_text}
+use Rattle.report_texts.specs.RecordTexts.{record_text}
 use Rattle.book_reports.specs.declared.report.PeriodReport.{PeriodReport}
 use Rattle.book_reports.specs.declared.report.PeriodReport.TheVariants as of_period
 use Rattle.book_reports.specs.declared.report.Report.{Report}
@@ -29,7 +30,7 @@ use Rattle.book_reports.specs.declared.report.Report.TheVariants.{Statement, Sta
 use Rattle.book_reports.specs.declared.report.Report.TheVariants.{AdjustmentList, AdjustmentTable}
 use Rattle.book_reports.specs.declared.report.Report.TheVariants.{DisputeList, DisputeTable}
 use Rattle.book_reports.specs.declared.report.Report.TheVariants.{OfCentre, PeriodList}
-use Rattle.book_reports.specs.declared.report.Report.TheVariants.{RulingList, TariffText}
+use Rattle.book_reports.specs.declared.report.Report.TheVariants.{Record, RulingList, TariffText}
 
 -- the answer with its value shown; a refusal stays one
 abbrev pub shown_by : {V A : Type 0} → (V → A) → Result V LedgerFault → Result A LedgerFault
@@ -72,8 +73,8 @@ centre_answer naming of_period.AdjustmentTable period centre book =
 abbrev pub ruling_text : Naming → Book → List ℕ
 ruling_text naming book = ruling_list_text (rulings_listed naming book.rulings)
 
--- what a book answers to a report: its text, or the refusal of a period or of a tariff that is not
--- there
+-- what a book answers to a report: its text, or the refusal of a period, a tariff or a record that is
+-- not there
 abbrev pub report_answer : Naming → Report → Book → Result (List ℕ) LedgerFault
 report_answer naming (Statement period) book =
     shown_by (statement_text period (closed_through book period)) (charges_outcome period book).answer
@@ -93,6 +94,8 @@ report_answer naming DisputeTable book =
 report_answer naming PeriodList book = shown_by period_list_text (periods_outcome book).answer
 report_answer naming RulingList book = Ok (ruling_text naming book)
 report_answer naming (TariffText day) book = ok_or (tariff_text_on day book.rulings) NoSuchTariff
+report_answer naming (Record name) book =
+    shown_by (record_text name) (trail_outcome naming name book).answer
 
 -- what a ledger is asked about one centre
 abbrev pub centre_outcome : Naming → PeriodReport → ℕ → List ℕ → Book → Outcome (List ℕ)

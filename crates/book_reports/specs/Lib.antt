@@ -1,8 +1,9 @@
--- Read in this order: the lines of receipts and of check lists, the texts that books answer, also
--- by another tariff, the figures of a period, the faults, what a writer gains, a report as a whole,
--- and lists that are written while they are read.
+-- Read in this order: the lines of receipts and of check lists, the names of records as they are
+-- spelled, the texts that books answer, also by another tariff, the figures of a period, the faults,
+-- what a writer gains, a report as a whole, and lists that are written while they are read.
 pub mod ReceiptLines
 pub mod CheckLists
+pub mod RecordNames
 pub mod BookTexts
 pub mod WhatIfTexts
 pub mod Figures

@@ -13,7 +13,7 @@ use book_core::{Ledger, LedgerFault};
 use report_texts::{
     adjustment_list_text, adjustment_table, centre_adjustment_table, centre_adjustments_text,
     centre_statement_table, centre_statement_text, dispute_list_text, dispute_table,
-    period_list_text, statement_table, statement_text,
+    period_list_text, record_text, statement_table, statement_text,
 };
 use smf_text::Name;
 use std::alloc::{AllocError, Global};
@@ -128,5 +128,9 @@ pub fn report_text<L: Ledger>(
         ),
         Report::RulingList => ruling_list(alloc, ledger),
         Report::TariffText(day) => tariff_text(ledger, day),
+        Report::Record(name) => made_of(
+            ledger.trail_of(alloc, &name),
+            |trail| Ok(record_text(alloc, &name, trail)?.into_bytes()),
+        ),
     }
 }

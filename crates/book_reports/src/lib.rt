@@ -8,6 +8,7 @@ mod fault;
 mod figures;
 mod output;
 mod receipt_lines;
+mod record_names;
 mod report;
 mod reports;
 mod ruling_texts;
@@ -21,6 +22,7 @@ pub use fault::ReportFault;
 pub use figures::{OpenPeriod, open_period, period_figures, rows_of_period};
 pub use output::{write_bytes, write_text};
 pub use receipt_lines::receipt_line_text;
+pub use record_names::name_of_text;
 pub use report::{PeriodReport, Report, centre_named, report_of_all};
 pub use report_texts::{
     adjustment_list_text, adjustment_table, centre_adjustment_table, centre_adjustments_text,

@@ -45,6 +45,8 @@ pub enum Report {
     RulingList,
     /// The text of the tariff that begins on a day, counted from 1970-01-01.
     TariffText(i32),
+    /// What stands behind the price of the record of a name, and what became of the record.
+    Record([u8; 32]),
 }
 
 /// What a period has of the whole office.

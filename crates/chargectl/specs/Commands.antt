@@ -13,6 +13,7 @@ use Rattle.book_core.specs.Transition.{Transition}
 use Rattle.book_reports.specs.declared.report.PeriodReport.{PeriodReport}
 use Rattle.book_reports.specs.declared.report.Report.{Report}
 use Rattle.book_reports.specs.declared.report.Report.TheVariants.{OfCentre, PeriodList, TariffText}
+use Rattle.book_reports.specs.declared.report.Report.TheVariants.{Record}
 use Rattle.book_reports.specs.declared.what_if.StatementForm.{StatementForm}
 use Rattle.book_reports.specs.declared.what_if.WhatIf.{WhatIf}
 use Rattle.book_reports.specs.BookTexts.{centre_named, report_of_all}
@@ -69,6 +70,8 @@ IsAskedBy (book.WhatIf form period centre file) (asks.WhatIf report text) =
     what_if_of form period centre ≡ Some report
 IsAskedBy (book.TariffText date) (asks.Report printed) =
     option_map TariffText (day_of_text_of date.now) ≡ Some printed
+IsAskedBy (book.Record name) (asks.Report printed) =
+    option_map Record (name_in name.now) ≡ Some printed
 IsAskedBy book.Periods (asks.Report printed) = printed ≡ PeriodList
 IsAskedBy request asked = ⊥
 
@@ -164,6 +167,7 @@ AsksNothing (book.OfPeriod report period centre) why =
     IsWordFault (period_report report period centre) IsShelfFault why
 AsksNothing (book.WhatIf form period centre file) why =
     IsWordFault (what_if_of form period centre) IsTariffFault why
+AsksNothing (book.Record name) why = IsWordFault (name_in name.now) IsShelfFault why
 AsksNothing (book.TariffText date) why = IsWordFault (day_of_text_of date.now) IsShelfFault why
 AsksNothing request why = IsShelfFault why
 

@@ -18,7 +18,9 @@ use crate::ended::Ended;
 use crate::first_bytes::{LookedAt, look_at};
 use crate::help_lines::{Said, help};
 use crate::progress::{WatchedReader, clear_line};
-use crate::report_commands::{report_period, report_periods, report_tariff, what_if};
+use crate::report_commands::{
+    report_period, report_periods, report_record, report_tariff, what_if,
+};
 use crate::serve::serve;
 use crate::streamed_lists::{StreamedList, disputes_by, write_list};
 use book_audit::AuditedRepository;
@@ -141,6 +143,7 @@ fn run_on_books<S: AuditedRepository, O: Write + Drop>(
             let (listed, output) = write_list(rt, repository, book, disputes_by(csv), output);
             (Ended::settled(listed), output)
         }
+        BookRequest::Record { name } => tell(report_record(rt, repository, book, name), output),
         BookRequest::Periods => tell(report_periods(rt, repository, book), output),
         BookRequest::Rulings => {
             let (listed, output) = write_list(rt, repository, book, StreamedList::Rulings, output);

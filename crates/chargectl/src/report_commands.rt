@@ -12,6 +12,7 @@ use command_line::BookRequest;
 use office::{
     Asked, PeriodReport, Report, Repository, StatementForm, WhatIf, centre_named, report_of_all,
 };
+use program_output::name_of_text;
 use smf_text::day_of_text;
 use std::io;
 
@@ -26,6 +27,25 @@ pub(crate) fn report_periods<S: Repository>(
 {
     repository.expect(book)?;
     let asked = Asked::Report(Report::PeriodList);
+    Ok(ask_books(rt, repository, book, asked, io::empty()))
+}
+
+/// Makes the report of the record of a name.
+pub(crate) fn report_record<S: Repository>(
+    rt: &HostRuntime,
+    repository: &mut S,
+    book: &str,
+    name: &str,
+) -> Result<Answered, CommandFault>
+    ensures { ComesOf (BookRequest.Record name.entry) book.now
+        (S.shelf repository.old) (S.shelf repository.new) result }
+{
+    let named = match name_of_text(name) {
+        Some(named) => named,
+        None => return Err(CommandFault::Argument),
+    };
+    repository.expect(book)?;
+    let asked = Asked::Report(Report::Record(named));
     Ok(ask_books(rt, repository, book, asked, io::empty()))
 }
 

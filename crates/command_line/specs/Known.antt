@@ -72,6 +72,9 @@ date = place (codes "date") any
 abbrev pub digest : WordSeen
 digest = maybe_last (codes "sha256") any
 
+abbrev pub record_name : WordSeen
+record_name = place (codes "sha256") any
+
 abbrev pub names : WordSeen
 names = maybe (codes "from") any
 
@@ -127,6 +130,7 @@ known_table = (
     (codes "statement", book ∷ period ∷ csv ∷ centre ∷ prices ∷ []) ∷
     (codes "adjustments", book ∷ period ∷ csv ∷ centre ∷ []) ∷
     (codes "disputes", book ∷ csv ∷ []) ∷
+    (codes "record", book ∷ record_name ∷ []) ∷
     (codes "periods", book ∷ []) ∷
     (codes "rulings", book ∷ []) ∷
     (codes "tariff-text", book ∷ date ∷ []) ∷

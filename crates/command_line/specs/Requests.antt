@@ -158,6 +158,8 @@ IsOfBooks name rows (book.WhatIf form period centre file) =
     × IsCentre rows centre × IsText rows (codes "tariff") file
 IsOfBooks name rows (book.Disputes csv) =
     (name ≡ codes "disputes") × IsFlag rows (codes "csv") csv
+IsOfBooks name rows (book.Record digest) =
+    (name ≡ codes "record") × IsText rows (codes "sha256") digest
 IsOfBooks name rows book.Periods = name ≡ codes "periods"
 IsOfBooks name rows book.Rulings = name ≡ codes "rulings"
 IsOfBooks name rows (book.TariffText date) =

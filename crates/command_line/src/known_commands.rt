@@ -113,6 +113,13 @@ const SHA256: Argument = Argument::MaybeLast(ValuedArgument {
     kind: ValueKind::Text,
 });
 
+const RECORD_NAME: Argument = Argument::InPlace(ValuedArgument {
+    name: "sha256",
+    shown: "SHA256",
+    help: "The record's name, as the lists of disputes and of adjustments show it",
+    kind: ValueKind::Text,
+});
+
 const NAMES: Argument = Argument::Maybe(ValuedArgument {
     name: "from",
     shown: "FILE",
@@ -236,7 +243,7 @@ const NUMBER: Argument = Argument::Last(
 );
 
 /// The commands in the order of the program's help.
-pub(crate) static KNOWN_COMMANDS: [KnownCommand; 18] = [
+pub(crate) static KNOWN_COMMANDS: [KnownCommand; 19] = [
     KnownCommand {
         name: "trial",
         about: "Prices a dump from standard input in new books, and prints their statement",
@@ -291,6 +298,11 @@ pub(crate) static KNOWN_COMMANDS: [KnownCommand; 18] = [
         name: "disputes",
         about: "Prints the records in dispute",
         words: &[BOOK, DISPUTE_CSV],
+    },
+    KnownCommand {
+        name: "record",
+        about: "Prints a record, how it was priced, and what became of it",
+        words: &[BOOK, RECORD_NAME],
     },
     KnownCommand {
         name: "periods",

@@ -98,7 +98,7 @@ fn service_in<'a>(name: &str, found: &ArgMatches<'a>) -> Option<Request<'a>>
     }
 }
 
-/// The periods, or what was ruled.
+/// What became of a record, the periods, or what was ruled.
 fn list_in<'a>(name: &str, found: &ArgMatches<'a>) -> Option<Request<'a>>
     ensures request { IfSome result (IsOfCommand name.now (rows_in found.now)) }
     ensures some { HasWordsOf name.now (rows_in found.now)
@@ -108,6 +108,7 @@ fn list_in<'a>(name: &str, found: &ArgMatches<'a>) -> Option<Request<'a>>
         ∷ codes "backup" ∷ codes "serve" ∷ []) name.now → IsSome result }
 {
     match name {
+        "record" => of_books_in(found, record_in(found)),
         "periods" => of_books_in(found, Some(BookRequest::Periods)),
         "rulings" => of_books_in(found, Some(BookRequest::Rulings)),
         "tariff-text" => of_books_in(found, tariff_text_in(found)),
@@ -389,6 +390,14 @@ fn disputes_in<'a>(found: &ArgMatches<'_>) -> Option<BookRequest<'a>>
 {
     let csv = flag_in(found, "csv")?;
     Some(BookRequest::Disputes { csv })
+}
+
+fn record_in<'a>(found: &ArgMatches<'a>) -> Option<BookRequest<'a>>
+    ensures asked { IfSome result (IsOfBooks (codes "record") (rows_in found.now)) }
+    ensures some { HasWord (rows_in found.now) known.record_name → IsSome result }
+{
+    let name = text_in(found, "sha256")?;
+    Some(BookRequest::Record { name })
 }
 
 fn tariff_text_in<'a>(found: &ArgMatches<'a>) -> Option<BookRequest<'a>>

@@ -152,6 +152,11 @@ pub enum BookRequest<'a> {
         /// As a table of comma-separated values.
         csv: bool,
     },
+    /// A record printed, with its price and what became of it.
+    Record {
+        /// Its name, as 64 hexadecimal digits.
+        name: &'a str,
+    },
     /// The list of periods printed.
     Periods,
     /// The list of rulings printed.

@@ -4,8 +4,9 @@
 ghost use Rattle.office.specs.Away.{away};
 
 use book_core::{
-    Accepted, ChargeRow, Dispute, Ledger, LedgerFault, Line, ListedRuling, Ruled, Tariff,
+    Accepted, ChargeRow, Dispute, Ledger, LedgerFault, Line, ListedRuling, Ruled, Tariff, Trail,
 };
+use std::alloc::Global;
 
 /// Answers to each call that the books are to be opened again.
 #[derive(Drop)]
@@ -68,6 +69,10 @@ impl Ledger for AwayBooks {
     }
 
     fn ruling(&mut self, _number: u64) -> Result<Option<ListedRuling>, LedgerFault> {
+        Err(LedgerFault::Reopen)
+    }
+
+    fn trail_of(&mut self, _alloc: Global, _name: &[u8; 32]) -> Result<Trail, LedgerFault> {
         Err(LedgerFault::Reopen)
     }
 

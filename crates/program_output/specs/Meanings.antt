@@ -126,7 +126,7 @@ ledger_texts =
     -- 12 NoSuchRecord
     (
       codes "No record of that name is held.",
-      codes "Take the name from the list of disputes.",
+      codes "Take the name from the list of disputes, or from that of adjustments.",
     ) ∷
     -- 13 NotDisputed
     (

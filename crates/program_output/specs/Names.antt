@@ -1,23 +1,13 @@
--- The name of a record, as a word gives it, and the names of a list.
+-- The names of a list.
 use Rattle.std.specs.Prelude.{◌≡◌, ◌==◌, ◌+◌, ◌<◌, ◌≤◌, ⊤, Bool, false, ℕ, nat_lt, if◌then◌else◌, List}
 use Rattle.std.specs.Prelude.{[], ◌∷◌, ◌++◌, length, Option, Some, None, Result, Ok, Err}
 use Rattle.std.specs.List.{All}
-use Rattle.std.specs.Result.{result_ok}
 use Rattle.std.specs.Str.Lines.{lines}
-use Rattle.hex.specs.Hex.{decode_sized}
 use Rattle.book_model.specs.Limits.{most_choices}
+pub use Rattle.book_reports.specs.RecordNames.{name_in}
 use Rattle.program_output.specs.declared.names.NameList.{NameList}
 use Rattle.program_output.specs.declared.names.NamesFault.{NamesFault}
 use Rattle.program_output.specs.declared.names.NamesFault.TheVariants as fault
-
--- how many bytes a name has
-abbrev pub name_length : ℕ
-name_length = 32
-
--- the name that a text spells: two hexadecimal digits for each byte, of either case, and nothing
--- else
-abbrev pub name_in : List ℕ → Option (List ℕ)
-name_in text = result_ok (decode_sized text name_length)
 
 abbrev pub Names : Type 0
 Names = Result (List (List ℕ)) NamesFault

@@ -95,7 +95,7 @@ fn explanation_of(fault: LedgerFault) -> Explanation
         },
         LedgerFault::NoSuchRecord => Explanation {
             meaning: "No record of that name is held.",
-            advice: "Take the name from the list of disputes.",
+            advice: "Take the name from the list of disputes, or from that of adjustments.",
         },
         LedgerFault::NotDisputed => Explanation {
             meaning: "No held record contradicts that one: it is charged already.",

@@ -21,6 +21,7 @@ mod tariff_faults;
 mod trials;
 mod words;
 
+pub use book_reports::name_of_text;
 pub use causes::{Cause, cause_text};
 pub use check::check_list;
 pub use error_line::{PROGRAM, say};
@@ -32,7 +33,7 @@ pub use message::{
     io_failed, layout_noticed, ledger_refused, ledger_refused_at, log_left, no_such_number,
     out_of_memory, report_failed, stopped, words_refused,
 };
-pub use names::{MAX_NAMES, NameList, NamesFault, name_of_text};
+pub use names::{MAX_NAMES, NameList, NamesFault};
 pub use status::Status;
 pub use trials::trial;
 pub use words::WordKind;

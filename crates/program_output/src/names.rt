@@ -1,10 +1,9 @@
-//! Names of records, as words give them, and lists of names.
+//! Lists of the names of records.
 
-ghost use Rattle.std.specs.Prelude.{◌≡◌, ◌++◌, [], ◌∷◌, ℕ, List, Ok, Some, IfErr, IfOk, OnOk, length};
+ghost use Rattle.std.specs.Prelude.{◌≡◌, ◌++◌, [], ◌∷◌, ℕ, List, Ok, IfErr, IfOk, OnOk};
 ghost use Rattle.std.specs.Str.Lines.{strip_carriage_return};
-ghost use Rattle.hex.specs.Hex.{IsBytes, encode_lower};
 ghost use Rattle.program_output.specs.Names.{HasRead, IsNamesFault, IsNoName, KeepsName, name_in};
-ghost use Rattle.program_output.specs.Names.{name_length, names_in};
+ghost use Rattle.program_output.specs.Names.{names_in};
 
 use hex::FromHex;
 use std::alloc::{AllocFailed, Global};
@@ -31,17 +30,6 @@ impl<T: Drop> From<AllocFailed<T>> for NamesFault {
     fn from(_: AllocFailed<T>) -> NamesFault {
         NamesFault::Memory
     }
-}
-
-/// The name that a text spells: the SHA-256 of a record's data, as 64 hexadecimal digits of either
-/// case.
-pub fn name_of_text(text: &str) -> Option<[u8; 32]>
-    ensures read { result ≡ name_in text.now }
-    // A name that is copied from a list is the name in that list.
-    ensures copied { (name : List ℕ) → length name ≡ name_length → IsBytes name
-        → text.now ≡ encode_lower name → result ≡ Some name }
-{
-    <[u8; 32] as FromHex>::from_hex(text).ok()
 }
 
 /// The name that a line spells, whose bytes may be no text.

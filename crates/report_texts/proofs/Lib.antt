@@ -5,3 +5,5 @@ pub mod RowLemmas
 pub mod AmountLemmas
 pub mod CentreLemmas
 pub mod FigureLemmas
+pub mod AccountLines
+pub mod DifferenceLemmas

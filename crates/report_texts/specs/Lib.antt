@@ -1,6 +1,7 @@
 -- Read in this order: columns and numbers, how a period is named, each text of a whole period, those
 -- of one centre, what-ifs, the disputes as a list and as a table, the lists of periods and of
--- rulings, and what a dry run of a ruling shows: its figures, and its text.
+-- rulings, the text of one record in its parts, and what a dry run of a ruling shows: its figures, and
+-- its text.
 pub mod Columns
 pub mod Periods
 pub mod Statements
@@ -15,5 +16,9 @@ pub mod Moments
 pub mod DisputeTables
 pub mod PeriodLists
 pub mod RulingLists
+pub mod UsageLines
+pub mod ReckoningLines
+pub mod LifeLines
+pub mod RecordTexts
 pub mod Figures
 pub mod DryRuns

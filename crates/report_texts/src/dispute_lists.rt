@@ -26,7 +26,7 @@ pub(crate) fn part(bytes: &[u8], at: usize, count: usize) -> &[u8]
 
 /// Appends the system and the job of an identity.
 #[tactic(auto, unfolding(crate::specs::DisputeLists::job_text))]
-fn push_job(alloc: Global, out: &mut String, identity: &[u8]) -> Result<(), AllocError>
+pub(crate) fn push_job(alloc: Global, out: &mut String, identity: &[u8]) -> Result<(), AllocError>
     requires { identity_length ≤ length identity.now }
     ensures { OnOk result (string_bytes out.new
         ≡ string_bytes out.old ++ spec.job_text identity.now) }
@@ -147,7 +147,11 @@ fn push_member(alloc: Global, out: &mut String, member: &Variant) -> Result<(), 
 
 /// Appends the lines of records.
 #[tactic(auto, using(std::proofs::lemmas::List::flat_map_more))]
-fn push_members(alloc: Global, out: &mut String, members: &[Variant]) -> Result<(), AllocError>
+pub(crate) fn push_members(
+    alloc: Global,
+    out: &mut String,
+    members: &[Variant],
+) -> Result<(), AllocError>
     requires { All (λ member. IsDay member.priced.day) members.now }
     ensures { OnOk result (string_bytes out.new
         ≡ string_bytes out.old ++ flat_map spec.member_line members.now) }

@@ -36,7 +36,7 @@ fn push_time(out: &mut String, time: u32) -> Result<(), AllocError>
 
 /// A day and a time of it.
 #[tactic(auto, unfolding(crate::specs::Moments::day_time_text))]
-fn day_time_text(alloc: Global, day: i32, time: u32) -> Result<String, AllocError>
+pub(crate) fn day_time_text(alloc: Global, day: i32, time: u32) -> Result<String, AllocError>
     requires { IsDay day }
     ensures { IfOk result (λ text. string_bytes text ≡ spec.day_time_text day time) }
 {

@@ -32,7 +32,7 @@ fn push_file(alloc: Global, out: &mut String, text: &str) -> Result<(), AllocErr
 
 /// Appends the number of the period that was open when something was ruled.
 #[tactic(auto, unfolding(crate::specs::RulingLists::period_column))]
-fn push_period(out: &mut String, period: u16) -> Result<(), AllocError>
+pub(crate) fn push_period(out: &mut String, period: u16) -> Result<(), AllocError>
     ensures { OnOk result (string_bytes out.new
         ≡ string_bytes out.old ++ spec.period_column period) }
 {

@@ -43,3 +43,6 @@ mod BookRows
 mod BookLists
 mod RulingReads
 mod FinishedLists
+mod TraceLemmas
+mod ChosenOrder
+mod TrailTries

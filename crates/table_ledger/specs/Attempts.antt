@@ -4,7 +4,7 @@ use Rattle.sqlite_trees.specs.View.{View, IsClean}
 use Rattle.sqlite_trees.specs.declared.error.StoreError.{StoreError}
 use Rattle.book_model.specs.declared.fault.LedgerFault.{LedgerFault}
 use Rattle.book_model.specs.declared.fault.LedgerFault.TheVariants.{Full, Memory, NoSuchPeriod}
-use Rattle.book_model.specs.declared.fault.LedgerFault.TheVariants.{Store}
+use Rattle.book_model.specs.declared.fault.LedgerFault.TheVariants.{NoSuchRecord, Store}
 use Rattle.book_model.specs.Words.{Book, Naming}
 use Rattle.book_core.specs.Calls.{is_store, is_reopen}
 use Rattle.sqlite_trees.specs.declared.store.Store.{Ghosts}
@@ -27,6 +27,10 @@ pub record IsRefused (summary : Summary) (old new : View) (book : Book) : Type 0
 -- a list is refused where there is no such period;
 abbrev pub IsNoPeriod : LedgerFault → Type 0
 IsNoPeriod fault = fault ≡ NoSuchPeriod
+
+-- a trail where no record of the name is held;
+abbrev pub IsNoRecord : LedgerFault → Type 0
+IsNoRecord fault = fault ≡ NoSuchRecord
 
 -- the rows by another tariff are refused also where the books cannot hold what they cost
 abbrev pub IsWhatIfRefusal : LedgerFault → Type 0

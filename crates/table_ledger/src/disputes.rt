@@ -49,7 +49,7 @@ fn is_shown(row: &StoredRecord) -> bool
 }
 
 /// All of the records can be shown.
-fn can_show(rows: &[StoredRecord]) -> bool
+pub(crate) fn can_show(rows: &[StoredRecord]) -> bool
     ensures shown { IsTrue result → All (λ row. IsShownRow (stored_entry row)) rows.now }
     ensures refused { result ≡ false → ¬ All (λ row. IsShownRow (stored_entry row)) rows.now }
 {
@@ -188,6 +188,20 @@ fn next_disputed<S: Store>(
     Err(StoreError::OutOfMemory)
 }
 
+/// Records as the list of disputes shows them.
+pub(crate) fn variants(alloc: Global, rows: &[StoredRecord]) -> Result<Vec<Variant>, StoreError>
+    ensures made { IfOk result (λ made. made.items ≡ map variant_read (map stored_entry rows.now)) }
+    ensures taken { IfErr result (λ error. All (λ row. IsUsageData row.data_bytes.items) rows.now
+        → error ≡ StoreError.OutOfMemory) }
+{
+    let mut members = Vec::new(alloc);
+    for stored in rows {
+        let member = variant(alloc, stored)?;
+        members.push(member)?;
+    }
+    Ok(members)
+}
+
 /// The dispute of an identity with these records.
 fn dispute_of(
     alloc: Global,
@@ -198,11 +212,7 @@ fn dispute_of(
     ensures taken { IfErr result (λ error. All (λ row. IsUsageData row.data_bytes.items) rows.now
         → error ≡ StoreError.OutOfMemory) }
 {
-    let mut members = Vec::new(alloc);
-    for stored in rows {
-        let member = variant(alloc, stored)?;
-        members.push(member)?;
-    }
+    let members = variants(alloc, rows)?;
     Ok(Dispute { identity, members })
 }
 

@@ -19,8 +19,9 @@ use crate::other_prices::try_charges_under;
 use crate::periods::try_periods;
 use crate::summary::Summary;
 use crate::tariff::try_tariff;
+use crate::trails::try_trail_of;
 use book_core::{
-    Accepted, ChargeRow, Dispute, Ledger, LedgerFault, Line, ListedRuling, Naming, Ruled,
+    Accepted, ChargeRow, Dispute, Ledger, LedgerFault, Line, ListedRuling, Naming, Ruled, Trail,
 };
 use sqlite_trees::store::Store;
 use std::alloc::Global;
@@ -60,10 +61,11 @@ impl<S: Store, N: Naming + Drop> Ledger for TableLedger<S, N> {
     ghost use Rattle.book_model.specs.Words.{disputes_outcome, periods_outcome, IsUsageRecord};
     ghost use Rattle.book_model.specs.Words.{ShowsDays, ruling_outcome, ruling_shown};
     ghost use Rattle.book_model.specs.Words.{ShowsDispute, dispute_outcome, what_if_outcome};
+    ghost use Rattle.book_model.specs.Words.{IsTrail, trail_outcome, trail_shown};
     ghost use Rattle.book_core.specs.Calls.{IsCall};
     ghost use Rattle.book_core.specs.Submissions.{Takes, records_in};
     ghost use Rattle.book_core.specs.Transition.{IsTransition};
-    ghost use Rattle.table_ledger.specs.Attempts.{IsWhatIfRefusal};
+    ghost use Rattle.table_ledger.specs.Attempts.{IsNoRecord, IsWhatIfRefusal};
     ghost use Rattle.table_ledger.specs.Loaded.{FailsAsItsOwn, FailsBut};
     ghost use Rattle.table_ledger.specs.LedgerState.{seen_in, ledger_state};
     ghost use Rattle.table_ledger.specs.ReadyBooks.{settled_on};
@@ -250,6 +252,21 @@ impl<S: Store, N: Naming + Drop> Ledger for TableLedger<S, N> {
             return Err(LedgerFault::Reopen);
         }
         let tried = try_ruling(&mut self.tables, &self.summary, self.alloc, number);
+        finish(&mut self.tables, &mut self.must_reopen, tried)
+    }
+
+    fn trail_of(&mut self, alloc: Global, name: &[u8; 32]) -> Result<Trail, LedgerFault>
+        ensures trail { IsCall trail_shown (seen_in S.Store N.name_of self.old)
+            (seen_in S.Store N.name_of self.new) result
+            (trail_outcome (N.name_of self.old.naming) name.now) }
+        ensures shown { IfOk result (λ trail. IsTrail (trail_shown trail)) }
+        ensures own { FailsBut IsNoRecord result (ledger_state S.Store N.name_of self.old)
+            (ledger_state S.Store N.name_of self.new) }
+    {
+        if self.must_reopen {
+            return Err(LedgerFault::Reopen);
+        }
+        let tried = try_trail_of(&mut self.tables, &self.summary, alloc, name);
         finish(&mut self.tables, &mut self.must_reopen, tried)
     }
 

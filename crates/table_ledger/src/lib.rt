@@ -24,5 +24,6 @@ mod periods;
 mod repricing;
 mod summary;
 mod tariff;
+mod trails;
 
 pub use ledger::TableLedger;

@@ -78,7 +78,7 @@ module _ (naming : Naming) (book : Book) (whole : IsReadable naming book) where
     has_name bytes = same_bytes (name_of naming bytes) name
 
     -- if no record of the name is held, the name has no row
-    row_absent : record_named naming book.held name ≡ None → get tables.records name ≡ None
+    pub row_absent : record_named naming book.held name ≡ None → get tables.records name ≡ None
     row_absent unfound =
         get-from_entries nat_list_cmp_total (all_entries naming book whole.sound) name
         ∙ no_entry naming (price_in book.rulings) (identity_by book.rulings) book.posted name charged

@@ -65,14 +65,14 @@ module _ (last : Option ℤ) (before now : Records) (bytes : List ℕ) where
   in_counted = has_those (is_dated_after last) now bytes
 
   -- whether it adds one that is dated no later than the close before
-  in_added : is_dated_after last bytes ≡ false → has (period_by last before now).added bytes
+  pub in_added : is_dated_after last bytes ≡ false → has (period_by last before now).added bytes
       ≡ (not (has before bytes) && has now bytes)
   in_added early =
       has_those (λ b. not (is_dated_after last b)) (without now before) bytes
       ∙ (λ i. not (early i) && has_those (λ b. not (has before b)) now bytes i)
 
   -- and whether it reverses it
-  in_taken : has (period_by last before now).taken bytes ≡ (not (has now bytes) && has before bytes)
+  pub in_taken : has (period_by last before now).taken bytes ≡ (not (has now bytes) && has before bytes)
   in_taken = has_those (λ b. not (has now b)) before bytes
 
 -- a record was charged before a period and is at its end, or not; by its line, or by those of later
@@ -132,14 +132,14 @@ module _ (naming : Naming) (book : Book) (whole : IsReadable naming book) where
   abbrev pub days : List ℤ
   days = book.rulings.closes
 
-  abbrev lines : LineTable
+  abbrev pub lines : LineTable
   lines = (tables_of naming book).lines
 
   -- what was charged after this many closes, and after the last is charged now
   abbrev pub sets : ℕ → Records
   sets k = if nat_le k (length days) then whole.past.charged k else charged_of book
 
-  sets_past : (k : ℕ) → k ≤ length days → sets k ≡ whole.past.charged k
+  pub sets_past : (k : ℕ) → k ≤ length days → sets k ≡ whole.past.charged k
   sets_past k within =
       let early : nat_le k (length days) ≡ true = grind (arith, nat_tests) in
       ap (λ b. if b then whole.past.charged k else charged_of book) early
@@ -189,7 +189,7 @@ module _ (naming : Naming) (book : Book) (whole : IsReadable naming book) where
     name = name_of naming bytes
 
     -- the line of a record in a period, where it is dated no later than the close before
-    line_there : (k : ℕ) → k ≤ length days → is_dated_after (close_after k days) bytes ≡ false
+    pub line_there : (k : ℕ) → k ≤ length days → is_dated_after (close_after k days) bytes ≡ false
         → get lines (suc k, name)
         ≡ else_find (cond (not (has (sets k) bytes) && has (sets (suc k)) bytes) (Some true) None)
         (cond (not (has (sets (suc k)) bytes) && has (sets k) bytes) (Some false) None)
@@ -207,14 +207,14 @@ module _ (naming : Naming) (book : Book) (whole : IsReadable naming book) where
         (cond (in_taken (close_after k days) (sets k) (sets (suc k)) bytes i) (Some false) None))
 
     -- it is dated no later than the next close either
-    next_early : (k : ℕ) → suc k ≤ length days → is_dated_after (close_after k days) bytes ≡ false
+    pub next_early : (k : ℕ) → suc k ≤ length days → is_dated_after (close_after k days) bytes ≡ false
         → is_dated_after (close_after (suc k) days) bytes ≡ false
     next_early zero within early = absurd (true≢false early)
     next_early (suc k) within early =
         stays_early days k bytes whole.in_order (omega arith) early
 
     -- so whether it was charged after some closes is told by the lines of the periods after them
-    charged_back : (later k : ℕ) → k + later ≡ suc (length days)
+    pub charged_back : (later k : ℕ) → k + later ≡ suc (length days)
         → (k ≤ length days → is_dated_after (close_after k days) bytes ≡ false)
         → charged_before_lines (first_line lines name (suc k) later) (has (charged_of book) bytes)
         ≡ has (sets k) bytes

@@ -44,7 +44,7 @@ module _ (naming : Naming) (book : Book) (sound : IsSound naming book) (charged 
   share = share_identity book.rulings one
 
   -- the record of a name has the identity if the record shares it
-  its_identity : (q : List ℕ) → has book.held q ≡ true
+  pub its_identity : (q : List ℕ) → has book.held q ≡ true
       → name_has_identity tables.records own (name_of naming q) ≡ share q
   its_identity q in_it =
       let cost = what_is (price_in book.rulings q) (sound.priced q in_it) in

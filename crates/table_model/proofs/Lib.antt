@@ -8,7 +8,8 @@
 -- rows of an identity; the answers to records, choices and other rulings, the lists of a period,
 -- and which records it counts; rows in groups and in order, the next dispute from some bytes on,
 -- and the disputes; the numbers that fit; the rows that a period would have by another tariff; how
--- long an identity is; the tables under the second rule of it; and the lists that can be shown.
+-- long an identity is; the tables under the second rule of it; the lists that can be shown; and the
+-- period that a day belongs to, the life of a record, and its trail.
 pub mod MovedLemmas
 pub mod NumberedLemmas
 pub mod LineChanges
@@ -88,3 +89,6 @@ pub mod IdentityLengths
 pub mod AdoptionLemmas
 pub mod ShownLemmas
 pub mod ShownDisputes
+pub mod DayPeriods
+pub mod LifeReading
+pub mod TrailLemmas

@@ -264,7 +264,7 @@ module _ (naming : Naming) (book : Book) (whole : IsReadable naming book) where
       (block_own naming book.rulings book.held id))))
 
   -- so its dispute is read from them
-  dispute_is : (id : List ℕ)
+  pub dispute_is : (id : List ℕ)
       → dispute_at naming book.rulings book.held id ≡ dispute_with records id
   dispute_is id =
       let members_are = ap (map variant_read) (rows_are id)

@@ -3,8 +3,9 @@
 -- one row; one table, a step at a time; the parts of what events do; each event; a history; what is
 -- read back from the tables; which rows may differ after a record; and the laws. Then the readings:
 -- the book that tables determine; books that calls made, and what reading them back rests on; the
--- answers to a record and to a ruling, the lists of a period, which records it counts, and the
--- disputes, by the tables; the numbers that fit; and the laws, with those of lists at the end.
+-- answers to a record and to a ruling, the lists of a period, which records it counts, the disputes,
+-- and the trail of a record, by the tables; the numbers that fit; and the laws, with those of lists
+-- at the end.
 pub mod PeriodRows
 pub mod Tables
 pub mod TablesOf
@@ -27,6 +28,7 @@ pub mod RulingsRead
 pub mod ListsRead
 pub mod CountedRead
 pub mod DisputesRead
+pub mod TrailRead
 pub mod Fits
 pub mod ReadingLaws
 pub mod AnswerLaws

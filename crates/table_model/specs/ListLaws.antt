@@ -1,5 +1,5 @@
--- The laws of lists: what is answered for a period, for rulings and for disputes is what the tables
--- say, and can be shown.
+-- The laws of lists: what is answered for a period, for rulings, for disputes and for a record is
+-- what the tables say, and can be shown.
 use Rattle.std.specs.Prelude.{◌≡◌, ◌+◌, ◌≤◌, ℕ, filter, map, List, [], ◌∷◌, ◌++◌, Ok, Some, length}
 use Rattle.std.specs.Prelude.{All, Option, slice_get, true}
 use Rattle.std.specs.FinMap.{entries, values}
@@ -10,7 +10,7 @@ use Rattle.book_model.specs.Words.{Book, charges_outcome, adjustments_outcome, d
 use Rattle.book_model.specs.Words.{periods_outcome, no_event, Naming, AreDisputes, AreLines}
 use Rattle.book_model.specs.Words.{AreRows, IsPriced, Period, Terms, by_bytes, choice_seen}
 use Rattle.book_model.specs.Words.{dispute_outcome, most_held, period_of, ruling_outcome, set_of}
-use Rattle.book_model.specs.Words.{what_if_outcome}
+use Rattle.book_model.specs.Words.{trail_outcome, what_if_outcome}
 use Rattle.table_model.specs.TablesOf.{tables_of}
 use Rattle.table_model.specs.DisputesRead.{FindsDisputed, NamedRow, by_identity, dispute_with}
 use Rattle.table_model.specs.DisputesRead.{disputed_among, disputed_rows, disputes_read, grouped}
@@ -21,6 +21,7 @@ use Rattle.table_model.specs.BookIn.{row_record}
 use Rattle.table_model.specs.CountedRead.{counted_rows, row_costs, what_if_read}
 use Rattle.table_model.specs.Readable.{IsReadable}
 use Rattle.table_model.specs.PeriodLists.{rows_read, lines_read}
+use Rattle.table_model.specs.TrailRead.{trail_read}
 
 -- The lists of a period, the days of the closes, and the list of rulings: its choices are those of
 -- the table, each under the number that is one more than its place.
@@ -97,6 +98,14 @@ pub record CountedFollows : Type 0 where
   pub few :
       (naming : Naming) (book : Book) → IsReadable naming book
       → length (entries (tables_of naming book).records) ≤ most_held
+
+-- The trail of the record of a name: its row, the rows of its identity, the choices that name one
+-- of these, and its life by its own lines alone.
+abbrev pub TrailsFollow : Type 0
+TrailsFollow =
+    (naming : Naming) (book : Book) (name : List ℕ) → IsReadable naming book
+    → trail_outcome naming name book
+    ≡ no_event (trail_read book.rulings (tables_of naming book) name)
 
 -- The charge rows and the adjustment lines of a period that exists, and the disputes, are lists
 -- that reports can print.

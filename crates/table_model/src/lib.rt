@@ -14,5 +14,5 @@ pub use laws::{
 pub use readings::{
     accept_follows, adoptions_follow, book_follows, calls_read, calls_stay, choices_follow,
     counted_follows, disputes_follow, lists_follow, lists_show, numbers_fit, tables_determine,
-    terms_follow, two_are_enough, view_is_determined,
+    terms_follow, trails_follow, two_are_enough, view_is_determined,
 };

@@ -6,7 +6,7 @@ ghost use Rattle.table_model.specs.AnswerLaws.{NumbersFit, TermsFollow};
 ghost use Rattle.table_model.specs.AnswerLaws.{TwoAreEnough, ViewIsDetermined};
 ghost use Rattle.table_model.specs.ReadingLaws.{BookFollows, CallsRead, CallsStay, TablesDetermine};
 ghost use Rattle.table_model.specs.ListLaws.{CountedFollows, DisputesFollow, ListsFollow};
-ghost use Rattle.table_model.specs.ListLaws.{ListsShow};
+ghost use Rattle.table_model.specs.ListLaws.{ListsShow, TrailsFollow};
 
 /// New books are made by calls, and each call that is an event leaves such books.
 pub fn calls_stay()
@@ -77,6 +77,12 @@ pub fn counted_follows()
 /// groups.
 pub fn disputes_follow()
     ensures { DisputesFollow }
+{}
+
+/// The trail of a record is answered by its row, by the rows of its identity and the choices that
+/// name one of these, and by the lines that it has itself.
+pub fn trails_follow()
+    ensures { TrailsFollow }
 {}
 
 /// Signed 64-bit integers hold the numbers of the tables.

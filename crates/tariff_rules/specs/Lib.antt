@@ -1,9 +1,10 @@
--- Read in this order: the office's limits, what a tariff says, and what a record costs by it. Then
--- the file: its faults and keys, what its tables have at a key, its shifts and its centres, the whole
--- of it, and the entry at which it has a fault.
+-- Read in this order: the office's limits, what a tariff says, what a record costs by it, and how that
+-- comes about. Then the file: its faults and keys, what its tables have at a key, its shifts and its
+-- centres, the whole of it, and the entry at which it has a fault.
 pub mod Limits
 pub mod Terms
 pub mod Price
+pub mod Reckoning
 pub mod Faults
 pub mod Document
 pub mod Clock

@@ -1,15 +1,19 @@
 //! Centres, and which records each pays for.
 
-ghost use Rattle.std.specs.Prelude.{◌≡◌, find};
+ghost use Rattle.std.specs.Prelude.{◌≡◌, ◌<◌, ◌^◌, IfSome, find, position};
 ghost use Rattle.std.specs.Option.{option_copied};
 ghost use Rattle.smf_text.specs.Names.{IsName};
 ghost use Rattle.tariff_rules.specs.Price as spec;
+ghost use Rattle.tariff_rules.specs.Reckoning.{rule_number};
 
 mod entry;
 
-use smf_text::Name;
+use smf_text::{MAX_NAME, Name};
 use smf_type30::Type30;
 use std::marker::Model;
+
+/// The name of the centre of the records that no rule applies to.
+const UNASSIGNED_LETTERS: [u8; MAX_NAME] = *b"UNASSIGNED\0\0\0\0\0\0";
 
 /// The field of a record that a centre rule looks at.
 #[derive(Clone, Copy, Debug)]
@@ -75,7 +79,7 @@ fn rule_for<'r>(rules: &'r [CentreRule], usage: &Type30<'_>) -> Option<&'r Centr
 fn unassigned() -> Name
     ensures { result ≡ spec.unassigned }
 {
-    Name::of("UNASSIGNED").unwrap()
+    Name::of_letters(UNASSIGNED_LETTERS, 10)
 }
 
 /// The centre that pays for the record: that of the first rule that applies.
@@ -86,5 +90,23 @@ pub(crate) fn centre_of(rules: &[CentreRule], usage: &Type30<'_>) -> Name
     match rule_for(rules, usage) {
         Some(rule) => rule.centre,
         None => unassigned(),
+    }
+}
+
+/// The place of the first rule that applies to the record.
+fn place_for(rules: &[CentreRule], usage: &Type30<'_>) -> Option<usize>
+    ensures place { result ≡ position (spec.applies_to usage.now) rules.now }
+    ensures within { IfSome result (λ place. place < 2 ^ 63) }
+{
+    rules.iter().position(|rule| rule.applies_to(usage))
+}
+
+/// The number, from 1, of the first rule that applies to the record.
+pub(crate) fn centre_rule(rules: &[CentreRule], usage: &Type30<'_>) -> Option<u64>
+    ensures { result ≡ rule_number (spec.applies_to usage.now) rules.now }
+{
+    match place_for(rules, usage) {
+        Some(place) => Some(place as u64 + 1),
+        None => None,
     }
 }

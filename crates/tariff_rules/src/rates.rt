@@ -61,6 +61,27 @@ impl Rates {
         })
     }
 
+    /// The rate of a CPU second.
+    pub(crate) fn cpu(self) -> u64
+        ensures { result ≡ self.cpu }
+    {
+        self.cpu
+    }
+
+    /// The rate of 1,000 blocks.
+    pub(crate) fn excp(self) -> u64
+        ensures { result ≡ self.excp }
+    {
+        self.excp
+    }
+
+    /// The rate of the record itself.
+    pub(crate) fn record_fee(self) -> u64
+        ensures { result ≡ self.record_fee }
+    {
+        self.record_fee
+    }
+
     /// What a record costs at a shift's percent, in ten-thousandths of the money unit. Its CPU time
     /// is in hundredths of a second.
     pub(crate) fn amount(self, percent: u16, cpu: u64, excp: u32) -> u64

@@ -1,16 +1,17 @@
 //! Shifts: what they charge, and when they are worked.
 
-ghost use Rattle.std.specs.Prelude.{◌≡◌, find};
+ghost use Rattle.std.specs.Prelude.{◌≡◌, ◌<◌, ◌^◌, IfSome, find, position};
 ghost use Rattle.std.specs.Option.{option_copied};
-ghost use Rattle.smf_text.specs.Day.{IsDay};
+ghost use Rattle.smf_text.specs.Day.{IsDay, weekday_of};
 ghost use Rattle.tariff_rules.specs.Price as spec;
+ghost use Rattle.tariff_rules.specs.Reckoning.{rule_number};
 ghost use Rattle.tariff_rules.specs.Terms.{IsShift};
 
 mod conflict;
 mod entry;
 
 pub(crate) use conflict::has_conflict;
-use smf_text::{Name, weekday};
+use smf_text::{MAX_NAME, Name, weekday};
 use smf_type30::Moment;
 use std::marker::Model;
 
@@ -19,6 +20,9 @@ pub const MAX_PERCENT: u16 = 1000;
 
 /// The percent that charges the rates as they are.
 const BASE_PERCENT: u16 = 100;
+
+/// The name of the shift of the moments that no rule has.
+const BASE_LETTERS: [u8; MAX_NAME] = *b"BASE\0\0\0\0\0\0\0\0\0\0\0\0";
 
 /// The hundredths of a second of a minute.
 const HUNDREDTHS_PER_MINUTE: u32 = 6000;
@@ -37,7 +41,7 @@ impl Shift {
         ensures { result ≡ spec.base_shift }
     {
         Shift {
-            name: Name::of("BASE").unwrap(),
+            name: Name::of_letters(BASE_LETTERS, 4),
             percent: BASE_PERCENT,
         }
     }
@@ -100,5 +104,28 @@ pub(crate) fn shift_at(rules: &[ShiftRule], moment: Moment) -> Shift
     match rule_at(rules, weekday(moment.day), minute) {
         Some(rule) => rule.shift,
         None => Shift::base(),
+    }
+}
+
+/// The place of the first rule that has the moment.
+fn place_at(rules: &[ShiftRule], weekday: u8, minute: u32) -> Option<usize>
+    ensures place { result ≡ position (spec.has_moment weekday minute) rules.now }
+    ensures within { IfSome result (λ place. place < 2 ^ 63) }
+{
+    rules
+        .iter()
+        .position(|rule| rule.has_moment(weekday, minute))
+}
+
+/// The number, from 1, of the first rule that has the moment.
+pub(crate) fn shift_rule(rules: &[ShiftRule], moment: Moment) -> Option<u64>
+    requires { IsDay moment.day }
+    ensures { result ≡ rule_number
+        (spec.has_moment (weekday_of moment.day) (spec.minute_of moment.time)) rules.now }
+{
+    let minute = moment.time / HUNDREDTHS_PER_MINUTE;
+    match place_at(rules, weekday(moment.day), minute) {
+        Some(place) => Some(place as u64 + 1),
+        None => None,
     }
 }

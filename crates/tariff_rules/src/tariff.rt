@@ -1,18 +1,19 @@
 //! Tariffs.
 
 ghost use Rattle.std.specs.Prelude.{◌≡◌, ◌↔◌, IsSome, IfSome};
-ghost use Rattle.smf_text.specs.Day.{IsDay};
+ghost use Rattle.smf_text.specs.Day.{IsDay, weekday_of};
 ghost use Rattle.smf_text.specs.Names.{IsName};
 ghost use Rattle.tariff_rules.specs.Price as spec;
+ghost use Rattle.tariff_rules.specs.Reckoning.{rule_number};
 ghost use Rattle.tariff_rules.specs.Terms.{AreRates, IsShift, flat_terms, rates_of};
 ghost use Rattle.tariff_rules.specs.Terms as terms;
 
 mod entry;
 mod file;
 
-use crate::centre::{CentreRule, centre_of};
+use crate::centre::{CentreRule, centre_of, centre_rule};
 use crate::rates::Rates;
-use crate::shift::{Shift, ShiftRule, shift_at};
+use crate::shift::{Shift, ShiftRule, shift_at, shift_rule};
 pub use entry::Entry;
 pub use file::{MAX_CENTRES, MAX_SHIFTS, MAX_TEXT};
 use smf_text::{FIRST_DAY, Name};
@@ -101,6 +102,23 @@ impl Tariff {
         ensures shift { IsShift result }
     {
         shift_at(&self.shifts, moment)
+    }
+
+    /// The number, from 1, of the shift rule that decides at a moment, if one does.
+    pub(crate) fn shift_rule(&self, moment: Moment) -> Option<u64>
+        requires { IsDay moment.day }
+        ensures { result ≡ rule_number
+            (spec.has_moment (weekday_of moment.day) (spec.minute_of moment.time))
+            self.now.shifts }
+    {
+        shift_rule(&self.shifts, moment)
+    }
+
+    /// The number, from 1, of the centre rule that decides for the record, if one does.
+    pub(crate) fn centre_rule(&self, usage: &Type30<'_>) -> Option<u64>
+        ensures { result ≡ rule_number (spec.applies_to usage.now) self.now.centres }
+    {
+        centre_rule(&self.centres, usage)
     }
 
     /// The centre that pays for the record.

@@ -9,7 +9,7 @@ use crate::lines::BookLines;
 use crate::names::name_in;
 use crate::request_lists::{push_answers, push_repeated};
 use crate::text_writing::push_text;
-use crate::texts::{BookText, TextOf};
+use crate::texts::{BookText, TextOf, trail_of};
 use crate::what_ifs::push_what_if;
 use book_core::{Ledger, Ruled, Source};
 use book_import::import;
@@ -163,10 +163,9 @@ impl BookLines {
         &self,
         alloc: Global,
         ledger: &mut L,
-        ask: Ask<'_>,
+        text: BookText,
         out: &mut Vec<u8>,
     ) -> LineResult {
-        let text = BookText::of(ask.verb, ask.words)?;
         push_text(alloc, &mut TextOf { ledger, text }, self.writing, out)
     }
 
@@ -191,7 +190,8 @@ impl BookLines {
             "list" => push_list(named, reading.layout, ledger, ask, out),
             "changes" => self.push_new_texts(alloc, ledger, words, out),
             "what-if" | "what-if-table" => push_what_if(named, ledger, ask, out),
-            _ => self.push_book_text(alloc, ledger, ask, out),
+            "record" => self.push_book_text(alloc, ledger, trail_of(named, words)?, out),
+            _ => self.push_book_text(alloc, ledger, BookText::of(ask.verb, words)?, out),
         }
     }
 }

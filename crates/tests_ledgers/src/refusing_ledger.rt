@@ -5,8 +5,9 @@ ghost use Rattle.book_model.specs.Words.{periods_outcome};
 ghost use Rattle.book_core.specs.Calls.{IsCall};
 
 use book_core::{
-    Accepted, ChargeRow, Dispute, Ledger, LedgerFault, Line, ListedRuling, Ruled, Tariff,
+    Accepted, ChargeRow, Dispute, Ledger, LedgerFault, Line, ListedRuling, Ruled, Tariff, Trail,
 };
+use std::alloc::Global;
 
 /// Passes a given number of calls on to a ledger, answers the next that memory ran out, with
 /// nothing done, and passes on all after that.
@@ -165,6 +166,13 @@ impl<L: Ledger> Ledger for RefusingLedger<'_, L> {
             return Err(refusal(&mut *self.inner));
         }
         self.inner.ruling(number)
+    }
+
+    fn trail_of(&mut self, alloc: Global, name: &[u8; 32]) -> Result<Trail, LedgerFault> {
+        if is_due(&mut self.calls_left) {
+            return Err(refusal(&mut *self.inner));
+        }
+        self.inner.trail_of(alloc, name)
     }
 
     ghost settled = { λ ledger. L.settled ledger.inner.now };

@@ -1,5 +1,6 @@
 //! Texts of books.
 
+use crate::names::name_in;
 use crate::text_writing::{Writes, Written};
 use book_core::{Ledger, Sink};
 use book_import::Stop;
@@ -8,7 +9,7 @@ use book_reports::{
     statement_csv, write_report,
 };
 use std::alloc::Global;
-use tests_scripts::{LimitedWriter, Limits, LineFault, LineResult};
+use tests_scripts::{LimitedWriter, Limits, LineFault, LineResult, Named};
 
 /// A text of books.
 #[derive(Clone, Copy)]
@@ -16,8 +17,8 @@ pub(crate) enum BookText {
     Statement(u16),
     Table(u16),
     Adjustments(u16),
-    /// What a period has of one centre.
-    OfCentre(Report),
+    /// What a period has of one centre, or the trail of a record.
+    Report(Report),
     Disputes,
     Periods,
 }
@@ -43,11 +44,19 @@ impl BookText {
 
 /// What a period has of a centre.
 fn of_centre(report: PeriodReport, period: &str, centre: &str) -> LineResult<BookText> {
-    Ok(BookText::OfCentre(Report::OfCentre {
+    Ok(BookText::Report(Report::OfCentre {
         report,
         period: period.parse::<u16>()?,
         centre: centre_named(centre).ok_or(LineFault::NotUnderstood)?,
     }))
+}
+
+/// The trail of the record that a word names.
+pub(crate) fn trail_of(named: &Named, words: &[&str]) -> LineResult<BookText> {
+    let [word] = words else {
+        return Err(LineFault::NotUnderstood);
+    };
+    Ok(BookText::Report(Report::Record(name_in(named, word)?)))
 }
 
 /// A text of these books.
@@ -65,7 +74,7 @@ impl<L: Ledger> Writes for TextOf<'_, L> {
             BookText::Statement(period) => statement(alloc, ledger, *period, &mut sink),
             BookText::Table(period) => statement_csv(alloc, ledger, *period, &mut sink),
             BookText::Adjustments(period) => adjustment_list(alloc, ledger, *period, &mut sink),
-            BookText::OfCentre(report) => write_report(alloc, ledger, *report, &mut sink),
+            BookText::Report(report) => write_report(alloc, ledger, *report, &mut sink),
             BookText::Disputes => dispute_list(alloc, ledger, &mut sink),
             BookText::Periods => period_list(alloc, ledger, &mut sink),
         };

@@ -45,7 +45,7 @@ abbrev Key : Type 0
 Key = List ℕ × ℕ
 
 -- the rows of the tree
-abbrev name_rows : ChoiceTable → List Row
+abbrev pub name_rows : ChoiceTable → List Row
 name_rows choices = map choice_name_columns (entries (choice_name_index choices))
 
 -- Choices of one name are in the tree of names in the order of their numbers.
@@ -66,7 +66,7 @@ module _ (name : List ℕ) where
   keys_with es = map (indexed_by choice_name_key) (with_name es)
 
   -- the rows that begin with the name are those of the choices that have it
-  name_run : (choices : ChoiceTable) → run_of (Blob name ∷ []) (name_rows choices)
+  pub name_run : (choices : ChoiceTable) → run_of (Blob name ∷ []) (name_rows choices)
       ≡ map choice_name_columns (keys_with (entries choices))
   name_run choices =
       run_named nat_cmp choice_name_layout (λ number. Int (pos number) ∷ [])

@@ -12,6 +12,7 @@ pub mod Rulings
 pub mod RecordIndexes
 pub mod ChoiceRows
 pub mod ChosenNames
+pub mod ChosenLists
 pub mod Records
 pub mod FoundNames
 pub mod RecordLists

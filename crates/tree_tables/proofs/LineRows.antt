@@ -1,7 +1,7 @@
 -- Adjustment lines: how they are written, and what is read of them.
 use Rattle.std.proofs.Common.{◌≡◌, ◌∷◌, [], ℕ, pos, true, false, List, Bool, map}
-use Rattle.std.proofs.Common.{refl, sym, ap, ◌∙◌}
-use Rattle.std.specs.FinMap.{entries}
+use Rattle.std.proofs.Common.{None, Some, refl, sym, ap, subst, ◌∙◌}
+use Rattle.std.specs.FinMap.{entries, get}
 use Rattle.std.specs.List.{AllZip}
 use Rattle.sqlite_trees.specs.View.{View}
 use Rattle.sqlite_value.specs.Order.{Row, column}
@@ -10,12 +10,14 @@ use Rattle.book_model.specs.Words.{by_bytes}
 use Rattle.table_model.specs.PeriodRows.{rows_under}
 use Rattle.table_model.specs.Steps.{drop_line_row, put_line_row}
 use Rattle.table_model.specs.Tables.{Tables}
-use Rattle.tree_rows.specs.Rows.{Drops, Puts}
+use Rattle.tree_rows.specs.Layouts.{Answers}
+use Rattle.tree_rows.specs.Rows.{Drops, Finds, Puts}
 use Rattle.tree_rows.specs.Runs.{run_of}
-use Rattle.tree_rows.proofs.Keyed.{rows_dropped}
+use Rattle.tree_rows.proofs.Keyed.{row_found, rows_dropped}
 use Rattle.tree_rows.proofs.Runs.{run_numbered}
-use Rattle.tree_tables.specs.Answers.{ListsLines}
+use Rattle.tree_tables.specs.Answers.{FindsLine, ListsLines}
 use Rattle.tree_tables.specs.Columns.{flag, line_columns}
+use Rattle.tree_tables.specs.Fits.{HasMark}
 use Rattle.tree_tables.specs.Steps.{Always, Changes}
 use Rattle.tree_tables.specs.Stored.{SaysLine, signed_name}
 use Rattle.tree_tables.specs.declared.line_rows.StoredLine.{StoredLine}
@@ -51,6 +53,37 @@ same_flag true true same = refl
 same_flag true false same = absurd (let e = same in cc)
 same_flag false true same = absurd (let e = same in cc)
 same_flag false false same = refl
+
+-- A line is looked up by its period and name.
+module _ (period : ℕ) (name : List ℕ) (tables : Tables) {rows : List Row} {key row : Row} {hit : Bool}
+    (held : rows ≡ map line_columns (entries tables.lines))
+    (key_is : key ≡ Int (pos period) ∷ Blob name ∷ []) (finds : Finds key rows row hit) where
+  -- one that is not found is not there,
+  pub line_missing : hit ≡ false → FindsLine period name tables None
+  line_missing missing =
+      sym (subst (Answers line_layout tables.lines (period, name) row) missing
+      (row_found line_layout tables.lines (period, name) finds held key_is))
+
+  -- one that is found is there, and the row is its own,
+  line_there : hit ≡ true
+      → (plus : Bool) × (get tables.lines (period, name) ≡ Some plus)
+      × (row ≡ line_columns ((period, name), plus))
+  line_there there =
+      subst (Answers line_layout tables.lines (period, name) row) there
+      (row_found line_layout tables.lines (period, name) finds held key_is)
+
+  -- which has a mark,
+  pub line_marked : hit ≡ true → HasMark (column row 2)
+  line_marked there =
+      let found = line_there there in
+      (found.0, ap (λ r. column r 2) found.2)
+
+  -- and what is read of the mark is the line's
+  pub line_found : (plus : Bool) → hit ≡ true → column row 2 ≡ Int (pos (flag plus))
+      → FindsLine period name tables (Some plus)
+  line_found plus there says =
+      let found = line_there there in
+      ap Some (same_flag plus found.0 (sym says ∙ ap (λ r. column r 2) found.2)) ∙ sym found.1
 
 -- what is read of a line's row is the line
 line_said : (line : StoredLine) (entry : (ℕ × List ℕ) × Bool) (row : Row) → Unit {0}

@@ -8,7 +8,7 @@ use Rattle.std.specs.List.Sorted.{IsPermutation, IsStrictlySortedBy}
 use Rattle.std.specs.Option.{option_map}
 use Rattle.std.specs.Ordering.{ordering_then}
 use Rattle.std.specs.declared.cmp.Ordering.{Ordering}
-use Rattle.book_model.specs.Words.{by_bytes, is_from}
+use Rattle.book_model.specs.Words.{by_bytes, is_from, same_bytes}
 use Rattle.book_model.specs.declared.row.ChargeRow.{ChargeRow}
 use Rattle.book_model.specs.declared.row.RowKey.{RowKey}
 use Rattle.table_model.specs.PeriodRows.{rows_under}
@@ -20,6 +20,7 @@ use Rattle.tree_tables.specs.Stored.{book_entry, choice_entry, close_entry, sign
 use Rattle.tree_tables.specs.Stored.{tariff_of}
 use Rattle.tree_tables.specs.declared.book_row.StoredBook.{StoredBook}
 use Rattle.tree_tables.specs.declared.choice_rows.StoredChoice.{StoredChoice}
+use Rattle.tree_tables.specs.declared.chosen_numbers.ChosenNumber.{ChosenNumber}
 use Rattle.tree_tables.specs.declared.closed_rows.Close.{Close}
 use Rattle.tree_tables.specs.declared.found_names.FoundName.{FoundName}
 use Rattle.tree_tables.specs.declared.line_rows.StoredLine.{StoredLine}
@@ -124,6 +125,20 @@ FindsChoice number tables found =
     option_map choice_entry found
     ≡ option_map (λ (row : ChoiceRow). (number, row)) (get tables.choices number)
 
+-- the choices of numbers that each have one
+abbrev pub FindsNumbered : List ChosenNumber → Tables → List StoredChoice → Type 0
+FindsNumbered numbers tables found =
+    AllZip (λ one stored. FindsChoice one.number tables (Some stored)) numbers found
+
+-- a choice names the record
+abbrev pub names_it : List ℕ → ℕ × ChoiceRow → Bool
+names_it name entry = same_bytes entry.1.name name
+
+-- the choices that name a record, by their numbers
+abbrev pub ListsChosen : List ℕ → Tables → List StoredChoice → Type 0
+ListsChosen name tables list =
+    map choice_entry list ≡ filter (names_it name) (entries tables.choices)
+
 -- whether some choice names the record
 abbrev pub HasChoice : List ℕ → Tables → Bool → Type 0
 HasChoice name tables found = found ≡ has_choice tables.choices name
@@ -139,6 +154,10 @@ FindsDay period place tables found = found ≡ get tables.days (period, place)
 -- the charge rows of a period, by day, then centre, then shift
 abbrev pub ListsDays : ℕ → Tables → List ChargeRow → Type 0
 ListsDays period tables list = list ≡ rows_read period tables.days
+
+-- whether a period's line for a record adds it, if there is one
+abbrev pub FindsLine : ℕ → List ℕ → Tables → Option Bool → Type 0
+FindsLine period name tables found = found ≡ get tables.lines (period, name)
 
 -- the lines of a period, by name
 abbrev pub ListsLines : ℕ → Tables → List StoredLine → Type 0

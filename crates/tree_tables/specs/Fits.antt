@@ -11,6 +11,7 @@ use Rattle.table_model.specs.PeriodRows.{rows_under}
 use Rattle.table_model.specs.Tables.{ChoiceRow, RecordRow, Tables}
 use Rattle.tree_tables.specs.Columns.{choice_columns, day_columns, flag, line_columns}
 use Rattle.tree_tables.specs.Columns.{record_columns}
+use Rattle.tree_tables.specs.declared.chosen_numbers.ChosenNumber.{ChosenNumber}
 use Rattle.tree_tables.specs.declared.found_names.FoundName.{FoundName}
 
 -- a column has a number that is not below 0
@@ -132,6 +133,19 @@ IsNumbered number tables =
 abbrev pub NumberedFits : ℕ → Tables → Type 0
 NumberedFits number tables =
     (row : ChoiceRow) → get tables.choices number ≡ Some row → ChoiceFits (choice_columns (number, row))
+
+-- a row has the number of a choice, after the name of its record
+abbrev pub HasNumber : Row → Type 0
+HasNumber row = HasChoiceNumber (column row 1)
+
+-- each of some numbers is that of a choice, which fits
+abbrev pub AllNumbered : List ChosenNumber → Tables → Type 0
+AllNumbered numbers tables = AllByRecursion (λ one. IsNumbered one.number tables) numbers
+
+-- each choice fits, and they are no more than are listed at once
+pub record ChosenFit (tables : Tables) : Type 0 where
+  pub each : (number : ℕ) → NumberedFits number tables
+  pub few : length (entries tables.choices) ≤ 2 ^ 32
 
 -- the charge rows of a period fit
 abbrev pub DaysFit : ℕ → Tables → Type 0

@@ -5,6 +5,7 @@ ghost use Rattle.tree_tables.specs.Columns.{choice_columns, choice_name_columns}
 ghost use Rattle.tree_tables.specs.Fits.{ChoiceFits};
 ghost use Rattle.tree_tables.specs.Stored.{SaysChoice};
 
+use crate::chosen_numbers::ChosenNumber;
 use crate::column_values::{hash_at, number_at, period_at};
 use crate::keys::{bytes_key, choice_key};
 use crate::tables::TreeTables;
@@ -13,7 +14,7 @@ use sqlite_trees::store::Store;
 use sqlite_value::row::Row;
 use sqlite_value::value::ValueRef;
 use std::alloc::Global;
-use tree_rows::{ReadRow, add_row, find_row, last_row};
+use tree_rows::{ReadRow, add_row, find_row, last_row, list_run};
 
 /// The tree of choices.
 const CHOICES: u32 = 8;
@@ -75,8 +76,11 @@ impl<S: Store> TreeTables<S> {
     ghost use Rattle.std.specs.Prelude.{◌≡◌, ◌<◌, ◌^◌, None};
     ghost use Rattle.std.specs.FinMap.{get};
     ghost use Rattle.table_model.specs.Steps as step;
-    ghost use Rattle.tree_tables.specs.Answers.{FindsChoice, HasChoice, ListsChoices, last_number};
-    ghost use Rattle.tree_tables.specs.Fits.{ChoicesFit, NumberedFits};
+    ghost use Rattle.std.specs.Prelude.{Some};
+    ghost use Rattle.tree_tables.specs.Answers.{FindsChoice, HasChoice, ListsChoices, ListsChosen};
+    ghost use Rattle.tree_tables.specs.Answers.{FindsNumbered, last_number};
+    ghost use Rattle.tree_tables.specs.Fits.{AllNumbered, ChoicesFit, ChosenFit, IsNumbered};
+    ghost use Rattle.tree_tables.specs.Fits.{NumberedFits};
     ghost use Rattle.tree_tables.specs.States.{state};
     ghost use Rattle.tree_tables.specs.Steps.{Always, Does, FailsByStore, Looks};
 
@@ -119,6 +123,62 @@ impl<S: Store> TreeTables<S> {
             return Ok(None);
         }
         Ok(Some(read_choice(&self.row)?))
+    }
+
+    /// The choice of a number that a row says. Where there is none, the file is damaged.
+    fn choice_numbered(&mut self, number: u32) -> Result<StoredChoice, StoreError>
+        ensures looks { Looks result (state S.Store self.old.store) (state S.Store self.new.store)
+            (λ tables stored. FindsChoice number tables (Some stored)) }
+        ensures cause { FailsByStore result (state S.Store self.old.store)
+            (state S.Store self.new.store) (IsNumbered number) }
+    {
+        let Some(choice) = self.find_choice(number)? else {
+            return Err(StoreError::Corrupt);
+        };
+        Ok(choice)
+    }
+
+    /// The choices of these numbers, in their order.
+    fn read_numbered(
+        &mut self,
+        alloc: Global,
+        numbers: &[ChosenNumber],
+    ) -> Result<Vec<StoredChoice>, StoreError>
+        ensures looks { Looks result (state S.Store self.old.store) (state S.Store self.new.store)
+            (λ tables found. FindsNumbered numbers.now tables found.items) }
+        ensures cause { FailsByStore result (state S.Store self.old.store)
+            (state S.Store self.new.store) (AllNumbered numbers.now) }
+    {
+        let mut all = Vec::new(alloc);
+        for one in numbers {
+            let choice = self.choice_numbered(one.number)?;
+            all.push(choice)?;
+        }
+        Ok(all)
+    }
+
+    /// The choices that name the record of a name, by their numbers: they are found by the name,
+    /// and no others are read.
+    #[tactic(auto, using(crate::proofs::Looking::caused_memory))]
+    pub fn list_chosen(
+        &mut self,
+        alloc: Global,
+        name: &[u8],
+    ) -> Result<Vec<StoredChoice>, StoreError>
+        ensures looks { Looks result (state S.Store self.old.store) (state S.Store self.new.store)
+            (λ tables list. ListsChosen name.now tables list.items) }
+        ensures cause { FailsByStore result (state S.Store self.old.store)
+            (state S.Store self.new.store) ChosenFit }
+    {
+        bytes_key(&mut self.key, name)?;
+        let numbers = list_run(
+            &mut self.store,
+            CHOICE_NAMES,
+            &self.key,
+            &mut self.row,
+            alloc,
+        )?;
+        self.read_numbered(alloc, &numbers)
     }
 
     /// All choices, by their numbers.

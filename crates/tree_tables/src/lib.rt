@@ -5,6 +5,7 @@
 mod book_row;
 mod charged_rows;
 mod choice_rows;
+mod chosen_numbers;
 mod closed_rows;
 mod column_values;
 mod day_rows;

@@ -1,20 +1,20 @@
 //! Adjustment lines by period and name.
 
-ghost use Rattle.std.specs.Prelude.{◌≡◌, ◌∷◌, ◌++◌, [], OnOk, pos};
+ghost use Rattle.std.specs.Prelude.{◌≡◌, ◌∷◌, ◌++◌, [], IfErr, OnOk, pos};
 ghost use Rattle.sqlite_value.specs.declared.value.Value.TheVariants.{Blob, Int};
 ghost use Rattle.tree_tables.specs.Columns.{line_columns};
 ghost use Rattle.tree_tables.specs.Fits.{LineFits};
 ghost use Rattle.tree_tables.specs.Stored.{SaysLine};
 
-use crate::column_values::{hash_at, make_row, mark_at};
-use crate::keys::period_key;
+use crate::column_values::{hash_at, mark_at};
+use crate::keys::{number_key, period_key};
 use crate::tables::TreeTables;
 use sqlite_trees::error::StoreError;
 use sqlite_trees::store::Store;
 use sqlite_value::row::Row;
 use sqlite_value::value::ValueRef;
 use std::alloc::Global;
-use tree_rows::{ReadRow, drop_row, list_run, put_row};
+use tree_rows::{ReadRow, drop_row, find_row, list_run, put_row};
 
 /// The tree of adjustment lines.
 const LINES: u32 = 5;
@@ -35,17 +35,17 @@ pub struct StoredLine {
     pub plus: bool,
 }
 
+/// The column of a line's sign.
+const PLUS: usize = 2;
+
 /// The key of a line.
 fn line_key(key: &mut Row, spot: &LineKey<'_>) -> Result<(), StoreError>
-    ensures { OnOk result (key.new ≡ Int (pos spot.now.period) ∷ Blob spot.now.name.now ∷ []) }
+    ensures made { OnOk result (key.new ≡ Int (pos spot.now.period) ∷ Blob spot.now.name.now ∷ []) }
+    ensures memory { IfErr result (λ error. error ≡ StoreError.OutOfMemory) }
 {
-    make_row(
-        key,
-        &[
-            ValueRef::Int(i64::from(spot.period)),
-            ValueRef::Blob(spot.name),
-        ],
-    )
+    number_key(key, i64::from(spot.period))?;
+    key.push(ValueRef::Blob(spot.name))?;
+    Ok(())
 }
 
 /// Makes the row of a line.
@@ -65,14 +65,14 @@ impl ReadRow for StoredLine {
     fn read(row: &Row, _alloc: Global) -> Result<StoredLine, StoreError> {
         Ok(StoredLine {
             name: hash_at(row, 1)?,
-            plus: mark_at(row, 2)?,
+            plus: mark_at(row, PLUS)?,
         })
     }
 }
 
 impl<S: Store> TreeTables<S> {
     ghost use Rattle.table_model.specs.Steps as step;
-    ghost use Rattle.tree_tables.specs.Answers.{ListsLines};
+    ghost use Rattle.tree_tables.specs.Answers.{FindsLine, ListsLines};
     ghost use Rattle.tree_tables.specs.States.{state};
     ghost use Rattle.tree_tables.specs.Fits.{LinesFit};
     ghost use Rattle.tree_tables.specs.Steps.{Always, Does, FailsByStore, Looks};
@@ -101,6 +101,23 @@ impl<S: Store> TreeTables<S> {
     {
         line_key(&mut self.key, spot)?;
         drop_row(&mut self.store, LINES, &self.key, &mut self.before)
+    }
+
+    /// Whether a period's line for a record, if there is one, adds the record: one look, however
+    /// many lines there are.
+    #[tactic(auto, using(crate::proofs::Looking::caused_memory))]
+    pub fn find_line(&mut self, spot: &LineKey<'_>) -> Result<Option<bool>, StoreError>
+        ensures looks { Looks result (state S.Store self.old.store) (state S.Store self.new.store)
+            (FindsLine spot.now.period spot.now.name.now) }
+        ensures cause { FailsByStore result (state S.Store self.old.store)
+            (state S.Store self.new.store) Always }
+    {
+        line_key(&mut self.key, spot)?;
+        if !find_row(&mut self.store, LINES, &self.key, &mut self.row)? {
+            return Ok(None);
+        }
+        let plus = mark_at(&self.row, PLUS)?;
+        Ok(Some(plus))
     }
 
     /// The lines of a period, by name.

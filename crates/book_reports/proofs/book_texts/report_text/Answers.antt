@@ -7,6 +7,7 @@ use Rattle.report_texts.specs.AdjustmentTables.{adjustment_table}
 use Rattle.report_texts.specs.DisputeLists.{dispute_list_text}
 use Rattle.report_texts.specs.DisputeTables.{dispute_table}
 use Rattle.report_texts.specs.PeriodLists.{period_list_text}
+use Rattle.report_texts.specs.RecordTexts.{record_text}
 use Rattle.book_reports.proofs.ReadingLemmas.{call_failed, call_made, period_made}
 use Rattle.book_reports.proofs.book_texts.report_text.Goals as goal
 
@@ -64,6 +65,11 @@ pub returns-in-PeriodList : goal.returns-in-PeriodList
 returns-in-PeriodList g c =
     rw c.in-PeriodList.is (call_made period_list_text (λ book. refl) c.periods.ensures.days
     c.made_of-in-PeriodList.ensures λ closes text made. search rules)
+
+pub returns-in-Record : goal.returns-in-Record
+returns-in-Record g c =
+    rw c.in-Record.is (call_made (record_text c.in-Record.name) (λ book. refl)
+    c.trail_of.ensures.trail c.made_of-in-Record.ensures λ trail text made. search rules)
 
 -- a report on one centre is a text of its own
 pub returns-in-OfCentre : goal.returns-in-OfCentre

@@ -6,12 +6,25 @@ use Rattle.command_line.specs.Requests.{IsOfBooks, rows_in}
 use Rattle.command_line.proofs.ReaderLemmas.{not_named}
 use Rattle.command_line.proofs.matched_request.list_in.Goals as goal
 
+pub returns-in-record-clause-request : goal.returns-in-record-clause-request
+returns-in-record-clause-request c =
+    c.of_books_in.ensures.request c.args.name.now
+    (subst (λ n. IfSome c.record_in.result (IsOfBooks n (rows_in c.args.found.now)))
+    (sym c.in-record.is) c.record_in.ensures.asked)
+
+pub returns-in-record-clause-some : goal.returns-in-record-clause-some
+unfolding known_table
+returns-in-record-clause-some c =
+    λ has others.
+    let words = subst (λ n. HasWordsOf n (rows_in c.args.found.now)) c.in-record.is has in
+    c.of_books_in.ensures.some words.0 (c.record_in.ensures.some words.1.0)
+
 pub returns-in-periods-clause-some : goal.returns-in-periods-clause-some
 unfolding known_table
 returns-in-periods-clause-some c =
     λ has others.
     let words = subst (λ n. HasWordsOf n (rows_in c.args.found.now)) c.in-periods.is has in
-    c.of_books_in.ensures.some words.0 refl
+    c.of_books_in-in-periods.ensures.some words.0 refl
 
 pub returns-in-rulings-clause-some : goal.returns-in-rulings-clause-some
 unfolding known_table

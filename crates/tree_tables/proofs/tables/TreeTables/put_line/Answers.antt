@@ -7,5 +7,5 @@ returns g c = record {
   does = does_alone g.S.Store c.put_row.result c.put_row.ensures.quiet c.put_row.ensures.kept
       c.put_row.ensures.puts
       (λ clean puts. line_put c.args.spot.now.period c.args.spot.now.name.now c.args.plus puts
-      c.in_ok-line_key.ensures c.in_ok-line_row.ensures);
+      c.in_ok-line_key.ensures.made c.in_ok-line_row.ensures);
 }

@@ -1,8 +1,8 @@
 use Rattle.std.proofs.Common.{◌∙◌, ap}
 use Rattle.std.specs.Result.{result_ok}
 use Rattle.hex.proofs.HexLemmas.{decode_sized-encode_lower}
-use Rattle.program_output.specs.Names.{name_in, name_length}
-use Rattle.program_output.proofs.names.name_of_text.Goals as goal
+use Rattle.book_reports.specs.RecordNames.{name_in, name_length}
+use Rattle.book_reports.proofs.record_names.name_of_text.Goals as goal
 
 pub returns : goal.returns
 returns c =

@@ -1,6 +1,6 @@
 use Rattle.std.proofs.Common.{ap, map, take, take_all, ◌∙◌}
 use Rattle.table_ledger.proofs.DisputeTries.{variants_more}
-use Rattle.table_ledger.proofs.disputes.dispute_of.Goals as goal
+use Rattle.table_ledger.proofs.disputes.variants.Goals as goal
 
 -- one more record is one more member
 pub loop-stored-preserved : goal.loop-stored-preserved

@@ -1,0 +1,30 @@
+use Rattle.std.proofs.Common.{◌∙◌, ◌<◌, length, sym, ap, subst, arith}
+use Rattle.book_model.specs.Words.{last_period}
+use Rattle.book_core.specs.PlainBook.{book_in}
+use Rattle.book_core.specs.Treatments.{treatment_at}
+use Rattle.book_core.specs.PlainLives.{closed_shares, turns_at}
+use Rattle.book_core.proofs.LifeLemmas.{life-told}
+use Rattle.book_core.proofs.plain.PlainLedger.life.Goals as goal
+
+pub closed_turns-requires : goal.closed_turns-requires
+closed_turns-requires g c =
+    let ledger = c.args.self.now in
+    let counted = ledger.counted in
+    let few = ledger.rulings.few in
+    subst (λ closed. length closed < last_period) (sym c.deref.ensures.value)
+    (omega (arith, counted, few))
+
+pub returns : goal.returns
+returns g c =
+    let ledger = c.args.self.now in
+    let counted = ledger.counted in
+    let number = c.open_number.ensures.number in
+    life-told ledger.kept ledger.rising c.args.name.now c.args.held.now c.requires ledger.posted
+    ledger.closed.items c.in_ok-period_end.period_end c.in_ok-life.life.items
+    c.push_turn.new.turns.items c.treatment-share.result c.open_number.result
+    c.in_ok-period_end.ensures
+    (c.in_ok-life.ensures
+    ∙ ap (λ closed. turns_at 1 (closed_shares c.args.name.now closed)) c.deref.ensures.value)
+    (omega (arith, number, counted)) (c.treatment-share.ensures
+    ∙ ap (λ posted. treatment_at c.in_ok-period_end.period_end posted c.args.held.now)
+    c.contains.ensures) c.in_ok-push_turn.ensures

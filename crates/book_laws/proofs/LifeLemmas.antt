@@ -1,0 +1,245 @@
+-- Lives: charges and reversals take turns, and net to whether the record is charged now.
+use Rattle.std.proofs.Common.{◌≡◌, ℕ, suc, ◌+◌, List, [], ◌∷◌, ◌++◌, refl, sym, ap, ◌∙◌}
+use Rattle.std.proofs.Common.{subst, true, false, true≢false, Bool, cond, not, ◌&&◌, Option, arith}
+use Rattle.std.proofs.Common.{None, Some, Ok}
+use Rattle.std.specs.Prelude.{ℤ, pos, ◌-ℤ◌, codes, count_by}
+use Rattle.std.specs.Fmt.{decimal, signed_decimal}
+use Rattle.std.specs.Option.{ok_or, option_and_then, option_map}
+use Rattle.std.proofs.lemmas.List.{append-nil}
+use Rattle.std.proofs.lemmas.List.Sums.{sum_by-append, sum_by-cons}
+use Rattle.book_model.specs.Words.{Book, Event, Period, PeriodClosed, RecordChosen, RecordKept}
+use Rattle.book_model.specs.Words.{Records, SecondRuleAdopted, TariffAccepted, AreDatedThrough}
+use Rattle.book_model.specs.Words.{all_periods, book_after, charged_of, charged_through, has}
+use Rattle.book_model.specs.Words.{is_charge, is_dated_after, last_close, life_from, life_of, net_of}
+use Rattle.book_model.specs.Words.{Naming, TrailSeen, period_by, reckoning_in, record_named}
+use Rattle.book_model.specs.Words.{trail_by, trail_of, turn_if, turns_in, without}
+use Rattle.tariff_rules.specs.declared.reckoning.Reckoning.{Reckoning}
+use Rattle.book_model.specs.declared.fault.LedgerFault.TheVariants.{NoSuchRecord}
+use Rattle.book_model.specs.declared.trail.Deed.{Deed}
+use Rattle.book_model.specs.declared.trail.Deed.TheVariants.{Added, Charged, Reversed}
+use Rattle.book_model.specs.declared.trail.Turn.{Turn}
+use Rattle.book_model.proofs.RecordSets.{has_those}
+use Rattle.book_model.proofs.SoundLemmas.{none_in}
+use Rattle.report_texts.specs.Columns.{newline}
+use Rattle.report_texts.specs.LifeLines.{net_line}
+use Rattle.book_reports.proofs.WritingLemmas.{same_value}
+use Rattle.book_laws.specs.NetCounts.{net_count, one_if, times_added, times_counted, times_reversed}
+use Rattle.book_laws.proofs.NetLemmas.{charged_once, has_without}
+use Rattle.book_laws.proofs.PeriodLemmas.{posted_dated}
+use Rattle.book_laws.specs.LifeLaws.{LivesNet, LivesTakeTurns, ShowsNet, TakeTurns, TrailsNet}
+
+-- what comes after some turns may be replaced by what leads on from there
+then_instead : (turns old new : List Turn) (from was now : Bool)
+    → ((b : Bool) → TakeTurns b old was → TakeTurns b new now)
+    → TakeTurns from (turns ++ old) was → TakeTurns from (turns ++ new) now
+then_instead [] old new from was now leads led = leads from led
+then_instead (turn ∷ turns) old new from was now leads led =
+    (led.0, then_instead turns old new (is_charge turn.deed) was now leads led.1)
+
+-- A record is charged before a period or not, at its end or not, and dated after the close before it
+-- or not: what the period does with it leads from the first to the second.
+by_cases : (k : ℕ) (before now late : Bool) → (before ≡ true → late ≡ false)
+    → TakeTurns before
+    (turn_if (late && now) k Charged
+    ++ turn_if (not late && (not before && now)) k Added
+    ++ turn_if (not now && before) k Reversed)
+    now
+by_cases k true now true old = absurd (true≢false (old refl))
+by_cases k true true false old = refl
+by_cases k true false false old = (refl, refl)
+by_cases k false true true old = (refl, refl)
+by_cases k false true false old = (refl, refl)
+by_cases k false false true old = refl
+by_cases k false false false old = refl
+
+module _ (bytes : List ℕ) where
+  -- so a period leads from what was charged before it to what is charged at its end
+  one_period : (k : ℕ) (last : Option ℤ) (before charged : Records) → AreDatedThrough last before
+      → TakeTurns (has before bytes) (turns_in k (period_by last before charged) bytes)
+      (has charged bytes)
+  one_period k last before charged old =
+      let late : List ℕ → Bool = is_dated_after last in
+      let counted = has_those late charged bytes in
+      let added = has_those (λ b. not (late b)) (without charged before) bytes
+      ∙ ap (λ b. not (late bytes) && b) (has_without charged before bytes) in
+      let taken = has_without before charged bytes in
+      subst (λ turns. TakeTurns (has before bytes) turns (has charged bytes))
+      (λ i. turn_if (sym counted i) k Charged ++ turn_if (sym added i) k Added
+      ++ turn_if (sym taken i) k Reversed)
+      (by_cases k (has before bytes) (has charged bytes) (late bytes) (old bytes))
+
+  -- one more period goes on where the others ended
+  one_more : (k : ℕ) (periods : List Period) (last : Option ℤ) (start : Bool)
+      (before charged : Records) → AreDatedThrough last before
+      → TakeTurns start (life_from k periods bytes) (has before bytes)
+      → TakeTurns start (life_from k (periods ++ period_by last before charged ∷ []) bytes)
+      (has charged bytes)
+  one_more k [] last start before charged old led =
+      let own = turns_in k (period_by last before charged) bytes in
+      subst (λ turns. TakeTurns start turns (has charged bytes)) (sym (append-nil own))
+      (subst (λ b. TakeTurns b own (has charged bytes)) (sym led)
+      (one_period k last before charged old))
+  one_more k (first ∷ later) last start before charged old led =
+      then_instead (turns_in k first bytes) (life_from (suc k) later bytes)
+      (life_from (suc k) (later ++ period_by last before charged ∷ []) bytes) start
+      (has before bytes) (has charged bytes)
+      (λ from. one_more (suc k) later last from before charged old) led
+
+  -- the closed periods
+  past_turns : (history : List Event)
+      → TakeTurns false (life_from 1 (book_after history).past bytes)
+      (has (book_after history).posted bytes)
+  past_turns [] = sym (none_in bytes)
+  past_turns (RecordKept new ∷ older) = past_turns older
+  past_turns (TariffAccepted text terms ∷ older) = past_turns older
+  past_turns (RecordChosen chosen ∷ older) = past_turns older
+  past_turns (SecondRuleAdopted ∷ older) = past_turns older
+  past_turns (PeriodClosed day ∷ older) =
+      let book : Book = book_after older in
+      one_more 1 book.past (last_close book.rulings) false book.posted
+      (charged_through book.rulings day book.held) (posted_dated older) (past_turns older)
+
+-- the law
+pub lives_take_turns : LivesTakeTurns
+lives_take_turns history bytes =
+    let book : Book = book_after history in
+    one_more bytes 1 book.past (last_close book.rulings) false book.posted (charged_of book)
+    (posted_dated history) (past_turns bytes history)
+
+-- how often a test passes in three lists of one turn or none
+count_three : (p : Turn → Bool) (one two three : List Turn)
+    → count_by p (one ++ two ++ three) ≡ count_by p one + count_by p two + count_by p three
+count_three p one two three =
+    let f : Turn → ℕ = λ turn. cond (p turn) 1 0 in
+    let both = sum_by-append f (one ++ two) three in
+    let first = sum_by-append f one two in
+    omega arith
+
+-- a turn counts where it is there and passes
+count_turn : (p : Turn → Bool) (test : Bool) (k : ℕ) (deed : Deed) (passes : Bool)
+    → p (record { period = k; deed = deed }) ≡ passes
+    → count_by p (turn_if test k deed) ≡ one_if (test && passes)
+count_turn p false k deed passes is = refl
+count_turn p true k deed passes is =
+    let turn : Turn = record { period = k; deed = deed } in
+    let own = sum_by-cons (λ turn. cond (p turn) 1 0) turn [] in
+    let one = ap one_if is in
+    omega arith
+
+-- a test and one that holds, and a test and one that fails
+and_true : (b : Bool) → one_if (b && true) ≡ one_if b
+and_true true = refl
+and_true false = refl
+
+and_false : (b : Bool) → one_if (b && false) ≡ 0
+and_false true = refl
+and_false false = refl
+
+module _ (bytes : List ℕ) where
+  abbrev charges : Turn → Bool
+  charges turn = is_charge turn.deed
+
+  abbrev reverses : Turn → Bool
+  reverses turn = not (is_charge turn.deed)
+
+  -- the charges of a period
+  charged_by : (k : ℕ) (period : Period) → count_by charges (turns_in k period bytes)
+      ≡ one_if (has period.counted bytes) + one_if (has period.added bytes)
+  charged_by k period =
+      let counted = has period.counted bytes in
+      let added = has period.added bytes in
+      let taken = has period.taken bytes in
+      let all = count_three charges (turn_if counted k Charged) (turn_if added k Added)
+      (turn_if taken k Reversed) in
+      let first = count_turn charges counted k Charged true refl ∙ and_true counted in
+      let second = count_turn charges added k Added true refl ∙ and_true added in
+      let third = count_turn charges taken k Reversed false refl ∙ and_false taken in
+      omega arith
+
+  -- its reversals
+  reversed_by : (k : ℕ) (period : Period) → count_by reverses (turns_in k period bytes)
+      ≡ one_if (has period.taken bytes)
+  reversed_by k period =
+      let counted = has period.counted bytes in
+      let added = has period.added bytes in
+      let taken = has period.taken bytes in
+      let all = count_three reverses (turn_if counted k Charged) (turn_if added k Added)
+      (turn_if taken k Reversed) in
+      let first = count_turn reverses counted k Charged false refl ∙ and_false counted in
+      let second = count_turn reverses added k Added false refl ∙ and_false added in
+      let third = count_turn reverses taken k Reversed true refl ∙ and_true taken in
+      omega arith
+
+  -- the charges of all periods
+  all_charges : (k : ℕ) (periods : List Period) → count_by charges (life_from k periods bytes)
+      ≡ times_counted periods bytes + times_added periods bytes
+  all_charges k [] = refl
+  all_charges k (period ∷ later) =
+      let f : Turn → ℕ = λ turn. cond (charges turn) 1 0 in
+      let both = sum_by-append f (turns_in k period bytes) (life_from (suc k) later bytes) in
+      let own = charged_by k period in
+      let rest = all_charges (suc k) later in
+      let counted = sum_by-cons (λ (period : Period). one_if (has period.counted bytes)) period later in
+      let added = sum_by-cons (λ (period : Period). one_if (has period.added bytes)) period later in
+      omega arith
+
+  -- and the reversals
+  all_reversals : (k : ℕ) (periods : List Period)
+      → count_by reverses (life_from k periods bytes) ≡ times_reversed periods bytes
+  all_reversals k [] = refl
+  all_reversals k (period ∷ later) =
+      let f : Turn → ℕ = λ turn. cond (reverses turn) 1 0 in
+      let both = sum_by-append f (turns_in k period bytes) (life_from (suc k) later bytes) in
+      let own = reversed_by k period in
+      let rest = all_reversals (suc k) later in
+      let taken = sum_by-cons (λ (period : Period). one_if (has period.taken bytes)) period later in
+      omega arith
+
+  -- so a life nets as its record is counted
+  life_nets : (book : Book) → net_of (life_of book bytes) ≡ net_count (all_periods book) bytes
+  life_nets book =
+      let given = all_charges 1 (all_periods book) in
+      let taken = all_reversals 1 (all_periods book) in
+      λ i. pos (given i) -ℤ pos (taken i)
+
+-- the law
+pub lives_net : LivesNet
+lives_net history bytes = record {
+  counted = life_nets bytes (book_after history);
+  charged = life_nets bytes (book_after history) ∙ charged_once history bytes;
+}
+
+-- a trail that was made of a record has its life
+of_reckoning : (naming : Naming) (book : Book) (bytes : List ℕ) (reckoning : Option Reckoning)
+    (trail : TrailSeen)
+    → ok_or (option_map (trail_by naming book bytes) reckoning) NoSuchRecord ≡ Ok trail
+    → trail.life ≡ life_of book trail.bytes
+of_reckoning naming book bytes None trail is = cc
+of_reckoning naming book bytes (Some reckoning) trail is =
+    subst (λ trail. trail.life ≡ life_of book trail.bytes) (same_value is) refl
+
+-- so does a trail that is answered
+trail_life : (naming : Naming) (book : Book) (found : Option (List ℕ)) (trail : TrailSeen)
+    → ok_or (option_and_then (trail_of naming book) found) NoSuchRecord ≡ Ok trail
+    → trail.life ≡ life_of book trail.bytes
+trail_life naming book None trail is = cc
+trail_life naming book (Some bytes) trail is =
+    of_reckoning naming book bytes (reckoning_in book.rulings bytes) trail is
+
+-- the line of a net that is known
+net_written : (life : List Turn) (n : ℕ) → net_of life ≡ pos n
+    → net_line life ≡ codes "NET " ++ decimal n ++ newline
+unfolding net_line
+net_written life n is = ap (λ net. codes "NET " ++ signed_decimal net ++ newline) is
+
+-- the law
+pub trails_net : TrailsNet
+trails_net naming history name trail answered =
+    let book : Book = book_after history in
+    let life = ap net_of (trail_life naming book (record_named naming book.held name) trail answered) in
+    let nets = lives_net history trail.bytes in
+    record {
+      counted = life ∙ nets.counted;
+      shown = net_written trail.life (one_if (has (charged_of book) trail.bytes))
+          (life ∙ nets.charged);
+    }

@@ -1,0 +1,27 @@
+//! Laws of what is shown of a single record, which hold of the definitions alone. Each is the contract
+//! of a function that does nothing.
+
+ghost use Rattle.book_laws.specs.LifeLaws.{LivesNet, LivesTakeTurns, TrailsNet};
+ghost use Rattle.book_laws.specs.ReckoningLaws.{PricesAreReckoned};
+
+/// Charges and reversals of a record take turns, from none to whether it is charged now.
+pub fn lives_take_turns()
+    ensures { LivesTakeTurns }
+{}
+
+/// The charges in a record's life less the reversals are its net count over all periods: one if it
+/// is charged now, else none.
+pub fn lives_net()
+    ensures { LivesNet }
+{}
+
+/// The net that a record's text shows is its net count over all periods, 1 or 0.
+pub fn trails_net()
+    ensures { TrailsNet }
+{}
+
+/// The rules that a reckoning names are those that decided, its numbers come to the price, and that
+/// is what the record is charged at.
+pub fn prices_are_reckoned()
+    ensures { PricesAreReckoned }
+{}

@@ -1,0 +1,11 @@
+use Rattle.std.proofs.Common.{◌≡◌, ◌++◌, take}
+use Rattle.std.specs.List.{flat_map}
+use Rattle.std.specs.String.{string_bytes}
+use Rattle.report_texts.specs.LifeLines.{turn_line}
+use Rattle.report_texts.proofs.life_lines.push_turns.Given as goal
+
+-- the lines of the periods so far are appended
+abbrev pub invariant-loop-turn : goal.invariant-loop-turn
+invariant-loop-turn l =
+    let life = take l.turn-index l.life in
+    string_bytes l.out ≡ string_bytes l.initial.out ++ flat_map turn_line life

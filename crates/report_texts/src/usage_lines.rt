@@ -1,0 +1,212 @@
+//! What a record of usage says, as a record's text shows it.
+
+ghost use Rattle.std.specs.Prelude.{◌≡◌, ◌+◌, ◌≤◌, ◌++◌, IfSome, IsNone, IsSome, OnOk};
+ghost use Rattle.std.specs.Prelude.{drop, length, string_bytes};
+ghost use Rattle.smf_type30.specs.AccountWalk.{BeginsWith, BeginsWithNone};
+ghost use Rattle.smf_type30.specs.Accounts.{fields_in};
+ghost use Rattle.smf_type30.specs.Layout.{accounting};
+ghost use Rattle.smf_type30.specs.Section.{count_of, offset_of};
+ghost use Rattle.smf_type30.specs.Usage.{identity_of};
+ghost use Rattle.book_model.specs.Words.{IsUsage, number};
+ghost use Rattle.report_texts.specs.UsageLines as spec;
+
+use crate::columns::push_number;
+use crate::dispute_lists::{push_completion, push_job, push_moment};
+use crate::moments::day_time_text;
+use crate::parts::push_shown;
+use byteorder::{BigEndian, ByteOrder};
+use smf_type30::{JOB_END, Type30};
+use std::alloc::{AllocError, Global};
+
+/// Where the offset of the accounting section stands.
+const ACCOUNTS_AT: usize = 64;
+
+/// Where the number of its fields stands.
+const ACCOUNT_COUNT_AT: usize = 70;
+
+/// Appends when a record was written, and the period that its day belongs to.
+#[tactic(auto, unfolding(crate::specs::UsageLines::dated_line))]
+fn push_dated(
+    alloc: Global,
+    out: &mut String,
+    usage: &Type30<'_>,
+    period: u16,
+) -> Result<(), AllocError>
+    ensures { OnOk result (string_bytes out.new
+        ≡ string_bytes out.old ++ spec.dated_line usage.now period) }
+{
+    let moment = usage.moment();
+    out.push_str("DATED ")?;
+    out.push_str(day_time_text(alloc, moment.day, moment.time)?.as_str())?;
+    out.push_str(" IN PERIOD ")?;
+    push_number(out, u64::from(period))?;
+    out.push('\n')
+}
+
+/// Appends the number of the step that ended, by the identity of the work.
+#[tactic(auto, unfolding(crate::specs::UsageLines::step_shown))]
+fn push_step(out: &mut String, usage: &Type30<'_>, identity: &[u8; 24]) -> Result<(), AllocError>
+    requires { identity.now ≡ identity_of usage.now }
+    ensures { OnOk result (string_bytes out.new
+        ≡ string_bytes out.old ++ spec.step_shown usage.now) }
+{
+    if usage.subtype() == JOB_END {
+        return out.push('-');
+    }
+    push_number(out, u64::from(BigEndian::read_u16(&identity[22..])))
+}
+
+/// Appends the subtype and the step.
+#[tactic(auto, unfolding(crate::specs::UsageLines::subtype_text))]
+fn push_subtype(out: &mut String, usage: &Type30<'_>, identity: &[u8; 24]) -> Result<(), AllocError>
+    requires { identity.now ≡ identity_of usage.now }
+    ensures { OnOk result (string_bytes out.new
+        ≡ string_bytes out.old ++ spec.subtype_text usage.now) }
+{
+    out.push_str(" SUBTYPE ")?;
+    push_number(out, u64::from(usage.subtype()))?;
+    out.push_str(" STEP ")?;
+    push_step(out, usage, identity)
+}
+
+/// Appends which work a record measures.
+#[tactic(auto, unfolding(crate::specs::UsageLines::work_line, crate::specs::DisputeLists::reader_text))]
+fn push_work(alloc: Global, out: &mut String, usage: &Type30<'_>) -> Result<(), AllocError>
+    ensures { OnOk result (string_bytes out.new
+        ≡ string_bytes out.old ++ spec.work_line usage.now) }
+{
+    let identity = usage.identity();
+    push_job(alloc, out, &identity)?;
+    push_moment(alloc, out, " READER ", &identity, 12)?;
+    push_subtype(out, usage, &identity)?;
+    out.push('\n')
+}
+
+/// Appends when the work was initiated, and how it ended.
+#[tactic(auto, unfolding(crate::specs::UsageLines::start_columns))]
+fn push_start(alloc: Global, out: &mut String, usage: &Type30<'_>) -> Result<(), AllocError>
+    ensures { OnOk result (string_bytes out.new
+        ≡ string_bytes out.old ++ spec.start_columns usage.now) }
+{
+    push_moment(alloc, out, "START ", usage.initiation(), 0)?;
+    out.push_str(" COMPLETION ")?;
+    push_completion(alloc, out, usage.completion())
+}
+
+/// Appends the job id and the program.
+#[tactic(auto, unfolding(crate::specs::UsageLines::program_columns))]
+fn push_program(alloc: Global, out: &mut String, usage: &Type30<'_>) -> Result<(), AllocError>
+    ensures { OnOk result (string_bytes out.new
+        ≡ string_bytes out.old ++ spec.program_columns usage.now) }
+{
+    out.push(' ')?;
+    push_shown(alloc, out, usage.job_id())?;
+    out.push(' ')?;
+    push_shown(alloc, out, usage.program())
+}
+
+/// The number of two bytes at an offset, the high one first.
+fn number2(bytes: &[u8], at: usize) -> u16
+    requires { at + 2 ≤ length bytes.now }
+    ensures { result ≡ number bytes.now at 2 }
+{
+    BigEndian::read_u16(&bytes[at..])
+}
+
+/// The number of four bytes at an offset, the high one first.
+fn number4(bytes: &[u8], at: usize) -> u32
+    requires { at + 4 ≤ length bytes.now }
+    ensures { result ≡ number bytes.now at 4 }
+{
+    BigEndian::read_u32(&bytes[at..])
+}
+
+/// The number of a usage record's accounting fields.
+#[tactic(auto, using(smf_type30::proofs::UsageFacts::usage_long))]
+fn account_count(bytes: &[u8]) -> u16
+    requires { IsUsage bytes.now }
+    ensures { result ≡ count_of bytes.now accounting }
+{
+    number2(bytes, ACCOUNT_COUNT_AT)
+}
+
+/// A usage record from its accounting section on, which need not have any field.
+#[tactic(auto, using(smf_type30::proofs::UsageFacts::usage_long))]
+fn accounts_on(bytes: &[u8]) -> &[u8]
+    requires { IsUsage bytes.now }
+    ensures { result.now ≡ drop (offset_of bytes.now accounting) bytes.now }
+{
+    let offset = number4(bytes, ACCOUNTS_AT) as usize;
+    bytes.get(offset..).unwrap_or_default()
+}
+
+/// The first field of a text, a length byte and that many bytes, and what follows it.
+fn split_field(text: &[u8]) -> Option<(&[u8], &[u8])>
+    ensures none { IsNone result → BeginsWithNone text.now }
+    ensures some { IfSome result (λ split. BeginsWith text.now split.0.now split.1.now) }
+{
+    let (len, rest) = text.split_first()?;
+    rest.split_at_checked(*len as usize)
+}
+
+/// Appends the line of an accounting field.
+#[tactic(auto, unfolding(crate::specs::UsageLines::account_line))]
+fn push_account(alloc: Global, out: &mut String, field: &[u8]) -> Result<(), AllocError>
+    ensures { OnOk result (string_bytes out.new
+        ≡ string_bytes out.old ++ spec.account_line field.now) }
+{
+    out.push_str("  ")?;
+    push_shown(alloc, out, field)?;
+    out.push('\n')
+}
+
+/// Appends the lines of the given number of accounting fields at the start of a text.
+fn push_fields(alloc: Global, out: &mut String, count: u16, text: &[u8]) -> Result<(), AllocError>
+    requires { IsSome (fields_in count text.now) }
+    ensures { OnOk result (string_bytes out.new
+        ≡ string_bytes out.old ++ spec.account_lines (fields_in count text.now)) }
+{
+    let mut rest = text;
+    for _ in 0..count {
+        let Some((field, after)) = split_field(rest) else {
+            return Ok(());
+        };
+        push_account(alloc, out, field)?;
+        rest = after;
+    }
+    Ok(())
+}
+
+/// Appends how many accounting fields a usage record has, and a line for each.
+#[tactic(auto, using(smf_type30::proofs::UsageFacts::usage_accounts), unfolding(crate::specs::UsageLines::accounts_text, smf_type30::specs::Accounts::accounts_of))]
+fn push_accounts(alloc: Global, out: &mut String, bytes: &[u8]) -> Result<(), AllocError>
+    requires { IsUsage bytes.now }
+    ensures { OnOk result (string_bytes out.new
+        ≡ string_bytes out.old ++ spec.accounts_text bytes.now) }
+{
+    let count = account_count(bytes);
+    out.push_str(" ACCOUNTS ")?;
+    push_number(out, u64::from(count))?;
+    out.push('\n')?;
+    push_fields(alloc, out, count, accounts_on(bytes))
+}
+
+/// Appends what a usage record says, and the period that its day belongs to.
+#[tactic(auto, unfolding(crate::specs::UsageLines::usage_lines))]
+pub(crate) fn push_usage(
+    alloc: Global,
+    out: &mut String,
+    bytes: &[u8],
+    period: u16,
+) -> Result<(), AllocError>
+    requires { IsUsage bytes.now }
+    ensures { OnOk result (string_bytes out.new
+        ≡ string_bytes out.old ++ spec.usage_lines bytes.now period) }
+{
+    let usage = Type30::of_usage(bytes);
+    push_dated(alloc, out, &usage, period)?;
+    push_work(alloc, out, &usage)?;
+    push_start(alloc, out, &usage)?;
+    push_program(alloc, out, &usage)?;
+    push_accounts(alloc, out, bytes)
+}

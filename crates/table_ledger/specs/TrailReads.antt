@@ -1,0 +1,63 @@
+-- What is read of the tables for the trail of a record.
+use Rattle.std.specs.Prelude.{◌≡◌, ℕ, Bool, not, List, [], ◌∷◌, filter, map, Some}
+use Rattle.std.specs.FinMap.{entries, get}
+use Rattle.std.specs.List.{flat_map}
+use Rattle.std.specs.List.Sorted.{IsPermutation, IsSorted}
+use Rattle.std.specs.Ordering.{nat_cmp}
+use Rattle.std.specs.declared.cmp.Ordering.{Ordering}
+use Rattle.book_model.specs.declared.trail.NamedChoice.{NamedChoice}
+use Rattle.book_model.specs.declared.trail.Turn.{Turn}
+use Rattle.book_model.specs.Words.{is_charge}
+use Rattle.table_model.specs.Tables.{ChoiceRow, RecordRow, Tables}
+use Rattle.table_model.specs.Views.{rows_with}
+use Rattle.table_model.specs.DisputesRead.{variant_read}
+use Rattle.table_model.specs.TrailRead.{choices_with}
+use Rattle.tree_tables.specs.Answers.{ListsSharing, names_it}
+use Rattle.tree_tables.specs.Fits.{ChosenFit}
+use Rattle.tree_tables.specs.declared.choice_rows.StoredChoice.{StoredChoice}
+use Rattle.tree_tables.specs.declared.stored_record.StoredRecord.{StoredRecord}
+use Rattle.table_ledger.specs.declared.trails.Kin.{Kin}
+use Rattle.table_ledger.specs.DisputeReads.{IsShownRow}
+use Rattle.table_ledger.specs.RecordReads.{CanBeRead}
+
+-- What was charged before some periods, by what they did: before a charge the record was not
+-- charged, and before a reversal it was.
+abbrev pub charged_before : Bool → List Turn → Bool
+charged_before charged [] = charged
+charged_before charged (turn ∷ later) = not (is_charge turn.deed)
+
+-- the choices that name one of some records, record by record
+abbrev pub chosen_of : List StoredRecord → Tables → List (ℕ × ChoiceRow)
+chosen_of rows tables =
+    flat_map (λ row. filter (names_it row.name) (entries tables.choices)) rows
+
+-- choices by their numbers
+abbrev pub by_number : StoredChoice → StoredChoice → Ordering
+by_number one other = nat_cmp one.number other.number
+
+-- the same choices, in that order
+pub record AreInOrder (found sorted : List StoredChoice) : Type 0 where
+  pub same : IsPermutation found sorted
+  pub in_order : IsSorted by_number sorted
+
+-- a choice as a trail shows it
+abbrev pub choice_told : StoredChoice → NamedChoice
+choice_told choice = record { period = choice.period; name = choice.name }
+
+-- these are the choices of each identity that the records have, if they are all that have it
+abbrev pub ListsKinChoices : List StoredRecord → Tables → List NamedChoice → Type 0
+ListsKinChoices rows tables choices =
+    (identity : List ℕ) → ListsSharing identity tables rows
+    → choices ≡ choices_with identity tables
+
+-- the records of an identity, and the choices among them
+pub record IsKin (identity : List ℕ) (tables : Tables) (kin : Kin) : Type 0 where
+  pub members : kin.members.items ≡ map variant_read (rows_with identity tables.records)
+  pub choices : kin.choices.items ≡ choices_with identity tables
+
+-- records can be read and shown, and the choices fit
+pub record CanBeTraced (tables : Tables) : Type 0 where
+  pub read : CanBeRead tables
+  pub shown : (name : List ℕ) (row : RecordRow) → get tables.records name ≡ Some row
+      → IsShownRow (name, row)
+  pub chosen : ChosenFit tables
