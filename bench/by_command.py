@@ -258,8 +258,8 @@ class Commands:
         tariff, month, february = (
             SAMPLES / name for name in ("february.toml", "month.smf", "february.smf"))
         return (("audit", "audit"), ("audit", "audit"), ("disputes", "disputes"),
-                ("disputes", "disputes-csv", "--csv"), ("rulings", "rulings"),
-                ("periods", "periods"), ("tariff-text", "tariff-text", "2024-01-01"),
+                ("disputes", "disputes-csv", "--csv"), ("record", "record", name),
+                ("rulings", "rulings"), ("periods", "periods"), ("tariff-text", "tariff-text", "2024-01-01"),
                 ("adopt", "ruling"), ("choose", "ruling", name), ("statement", "statement", "1"),
                 ("statement", "statement", "2"), ("statement", "statement-csv", "1", "--csv"),
                 ("statement", "what-if", "1", "--tariff", tariff),

@@ -191,6 +191,7 @@ PATH = re.compile(rb"/(?:(?P<whole>periods|disputes|disputes-csv|rulings)"
                   rb"|(?P<tried>what-if(?:-csv)?))"
                   rb"/(?P<period>[1-9][0-9]{0,3})(?:/(?P<centre>[A-Z0-9-]{1,16}))?"
                   rb"|(?P<dump>import)(?P<blocks>-bdw)?"
+                  rb"|record/(?P<record>[0-9A-Fa-f]{64})"
                   rb"|tariff/(?P<day>[0-9]{4}-[0-9]{2}-[0-9]{2}))")
 LENGTH = re.compile(rb"[0-9]{1,19}")
 PHRASES = {200: "OK", 400: "Bad Request", 403: "Forbidden", 404: "Not Found",
@@ -203,6 +204,9 @@ PHRASES = {200: "OK", 400: "Bad Request", 403: "Forbidden", 404: "Not Found",
 Asked = collections.namedtuple("Asked", "status allow report layout body", defaults=(None,) * 4)
 TARIFF = "tariff", 0, None
 TARIFF_DAY = b"2024-01-01"
+
+# A record that all books here hold, one of the two of January that contradict each other.
+HELD_RECORD = b"3c624f4eaf77558d6d39e098bf4e625a2a494aac158483dc62a837330bbbafe9"
 
 
 def is_day_text(text):
@@ -267,6 +271,9 @@ def asked(request, last_period):
         return asked_by_body(request[head.end():], names, lengths, path, last_period)
     if path["day"]:
         return Asked(200, report=TARIFF) if path["day"] == TARIFF_DAY else Asked(404)
+    if path["record"]:
+        is_held = path["record"].lower() == HELD_RECORD
+        return Asked(200, report=("record", 0, None)) if is_held else Asked(404)
     return asked_of(path, path["whole"] or path["report"], last_period)
 
 
@@ -342,20 +349,31 @@ TABLES = {
     "adjustments-csv": ADJUSTMENT_COLUMNS
                        + r"\n(?:%%s,(?:PLUS|MINUS),%s,%%s,%s,-?%s,[0-9a-f]{64},%s\n)*"
                        % (DAY, NAME, AMOUNT, VALUE)}
-DISPUTES = (r"DISPUTES [0-9]+\n(?:%s READER %s SUBTYPE [45] STEP [0-9]+(?: START %s)?\n"
-            r"(?:  [0-9a-f]{64} %s +%s (?:[0-9A-F]{4}/[0-9A-F]{4}|----) %s\n){2,})*"
-            % (SHOWN, MOMENT, MOMENT, DAY, AMOUNT, SHOWN))
+COMPLETION = r"(?:[0-9A-F]{4}/[0-9A-F]{4}|----)"
+READ_IN = r"%s READER %s SUBTYPE " % (SHOWN, MOMENT)
+MEMBER = r"  [0-9a-f]{64} %s +%s %s %s\n" % (DAY, AMOUNT, COMPLETION, SHOWN)
+DISPUTES = (r"DISPUTES [0-9]+\n(?:%s[45] STEP [0-9]+(?: START %s)?\n(?:%s){2,})*"
+            % (READ_IN, MOMENT, MEMBER))
+RECORD = (r"RECORD [0-9a-f]{64}\nDATED %s [0-2][0-9](?::[0-5][0-9]){2}\.[0-9]{2} IN PERIOD [0-9]+\n"
+          r"%s(?:4 STEP [0-9]+|5 STEP -)\nSTART %s COMPLETION %s %s ACCOUNTS [0-9]+\n(?:  %s\n)*"
+          r"CPU [0-9]+\.[0-9]{2} BLOCKS [0-9]+\n"
+          r"TARIFF %s SHIFT %s RULE (?:[0-9]+|-) CENTRE %s RULE (?:[0-9]+|-)\n"
+          r"PRICE \(10 \* [0-9]+ \* [0-9]+ \+ [0-9]+ \* [0-9]+ \+ 1000 \* [0-9]+\)"
+          r" \* [0-9]+ / 100000 = [0-9]+\n"
+          r"AMOUNT %s\nRIVALS [0-9]+\n(?:%s)*CHOICES [0-9]+\n(?:  PERIOD [0-9]+ [0-9a-f]{64}\n)*"
+          r"LIFE [0-9]+\n(?:  PERIOD [0-9]+ (?:CHARGED|ADDED|REVERSED)\n)*NET [01]\n"
+          % (DAY, READ_IN, MOMENT, COMPLETION, SHOWN, SHOWN, DAY, NAME, NAME, AMOUNT, MEMBER))
 DISPUTE_TABLE = (
     DISPUTE_COLUMNS
     + r"\n(?:[0-9]+,%s,%s,%s,%s,[45],[0-9]+,[0-9a-f]{64},%s,[0-9]+\.[0-9]{2},[0-9]+,"
-    r"%s,(?:[0-9A-F]{4}/[0-9A-F]{4}|----),%s,%s\n)*"
-    % (VALUE, VALUE, CLOCK, CLOCK, DAY, AMOUNT, VALUE, VALUE))
+    r"%s,%s,%s,%s\n)*"
+    % (VALUE, VALUE, CLOCK, CLOCK, DAY, AMOUNT, COMPLETION, VALUE, VALUE))
 PERIODS = r"PERIODS [0-9]+\n(?:[0-9]+ CLOSED THROUGH %s\n)*[0-9]+ OPEN\n" % DAY
 RULINGS = (r"RULINGS\n(?:TARIFF %s [0-9a-f]{64} [0-9]+\n)*(?:CLOSE [0-9]+ %s\n)*"
            r"(?:CHOICE [0-9]+ PERIOD [0-9]+ [0-9a-f]{64}\n)*(?:ADOPTED PERIOD [0-9]+\n)?"
            % (DAY, DAY))
 WHOLE = {"disputes": DISPUTES, "disputes-csv": DISPUTE_TABLE, "periods": PERIODS,
-         "rulings": RULINGS}
+         "record": RECORD, "rulings": RULINGS}
 SOUND = "SOUND\n" + "".join(
     word + " [0-9]+\n" for word in "RECORDS TARIFFS CLOSES CHOICES ROWS LINES".split())
 UNSOUND = r"UNSOUND [ -~]+: [ -~]+\n"
@@ -413,7 +431,7 @@ OF_DAMAGED = OF_COMMANDS | {
         ("what-if-csv", WHAT_IF_COLUMNS),
         ("adjustments", "ADJUSTMENTS " + OF_PERIOD[0]), ("disputes", "DISPUTES [0-9]+"),
         ("adjustments-csv", ADJUSTMENT_COLUMNS), ("disputes-csv", DISPUTE_COLUMNS),
-        ("periods", "PERIODS [0-9]+"), ("rulings", "RULINGS"))}
+        ("periods", "PERIODS [0-9]+"), ("record", "RECORD [0-9a-f]{64}"), ("rulings", "RULINGS"))}
 
 # A line on standard error, by its status: 1, 4, 5, and 3 for any other.
 ERROR = re.compile(

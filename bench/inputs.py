@@ -8,7 +8,7 @@ import struct
 
 import dumps
 from dumps import make
-from formats import MOST_BODY, MOST_HEAD
+from formats import HELD_RECORD, MOST_BODY, MOST_HEAD
 
 SAMPLES = pathlib.Path(__file__).resolve().parent.parent / "samples"
 TARIFFS = [(SAMPLES / name).read_bytes() for name in ("office.toml", "february.toml")]
@@ -188,6 +188,7 @@ METHODS = [b"GET"] * 8 + [b"POST"] * 8
 METHODS += [b"HEAD", b"PUT", b"DELETE", b"OPTIONS", b"get", b"GE", b"POSTS", b"!#$%&'*+.^_`|~-",
             b"G(T", b"", b"M" * 3_000]
 REPORTS = [b"/periods", b"/disputes", b"/disputes-csv", b"/rulings", b"/tariff/2024-01-01",
+           b"/record/" + HELD_RECORD, b"/record/" + HELD_RECORD.upper(),
            b"/statement/1", b"/statement/2", b"/statement-csv/1", b"/statement-csv/2",
            b"/adjustments/1", b"/adjustments/2", b"/adjustments-csv/2", b"/statement/1/LEDGER",
            b"/statement-csv/1/LEDGER", b"/adjustments/2/LEDGER", b"/adjustments-csv/2/LEDGER"]
@@ -204,6 +205,9 @@ TARGETS += [b"/statement/3", b"/statement/0", b"/statement/01", b"/statement/999
             b"/statement/1/", b"/statement/", b"/statement", b"/statement/%31", b"/statement/{n}",
             b"/statement/1/2", b"/statement/1a", b"/statement-csv", b"/adjustments/0",
             b"/statement/\xd9\xa1"]
+TARGETS += [b"/record/" + b"ab" * 32, b"/record/" + b"zz" * 32, b"/record/" + b"0" * 63, b"/record/",
+            b"/record", b"/record/" + HELD_RECORD + b"0", b"/record/" + HELD_RECORD + b"/",
+            b"/record/0x" + b"0" * 62]
 TARGETS += [b"/what-if/0", b"/what-if", b"/what-if/", b"/what-if/1/", b"/what-if/1/ledger",
             b"/what-if-csv/10000", b"/what-if-table/1"]
 TARGETS += [b"/periods/", b"//periods", b"/periods?", b"/periods?a=b?c", b"/Periods", b"/%70eriods",
@@ -408,8 +412,8 @@ def other_log(rng):
     return rng.choice((b"x", b"\0", b"\x37")) * rng.choice((1, 40, 41, 42, 55, 56, 57, 5_000))
 
 
-COMMANDS = ("init tariff import close choose adopt statement adjustments disputes periods rulings "
-            "tariff-text audit trial check explain help serve --help -h --version -V").split()
+COMMANDS = ("init tariff import close choose adopt statement adjustments disputes record periods "
+            "rulings tariff-text audit trial check explain help serve --help -h --version -V").split()
 WORDS = ("books nothing tariff dump . .. books/ books-wal 0 1 2 3 65535 65536 -1 1e3 0x1 ١ "
          "2024-01-31 2024-02-30 2024-02-29 2024-1-1 --layout --layout=bdw --layout=xyz rdw bdw "
          "--quiet --quiet=1 --dry-run --csv --cpu --cpu=100000000 --cpu=100000001 --excp --record "
@@ -423,7 +427,7 @@ WORDS += ["", " ", "\n", "é", "x" * 300, "y" * 100_000, "/dev/null/x", "%s%n", 
 # What a command's words are, as often as not: books, a file, a period, a date, a name, a number.
 PLACES = {
     "init": "B", "tariff": "BF", "import": "BF", "close": "BPD", "choose": "BN", "adopt": "B",
-    "statement": "BPO", "adjustments": "BP", "disputes": "B", "periods": "B", "rulings": "B",
+    "statement": "BPO", "adjustments": "BP", "disputes": "B", "record": "BN", "periods": "B", "rulings": "B",
     "tariff-text": "BD", "audit": "B", "trial": "",
     "check": "F", "explain": "KP", "serve": "B"}
 PLACED = {
@@ -432,7 +436,7 @@ PLACED = {
     "F": ("dump", "dump", "tariff", "books", "nothing", ".", "/dev/zero", "/dev/null"),
     "P": ("0", "1", "2", "3", "17", "65535", "65536", "-1", "x"),
     "D": ("2024-01-01", "2024-01-31", "2024-02-29", "2023-02-29", "2099-12-31", "1899-12-31", "2024-1-31", ""),
-    "N": ("0" * 64, "ab" * 32, "AB" * 32, "zz" * 32, "0" * 63, ""),
+    "N": (HELD_RECORD.decode(), "0" * 64, "ab" * 32, "AB" * 32, "zz" * 32, "0" * 63, ""),
     "O": ("--csv", "--tariff=tariff", "--tariff=dump", "--tariff=nothing", "--centre=LEDGER"),
     "K": ("frame", "ledger", "tariff", "damaged", "io", "busy", "exists", "word", "unsound", "log",
           "layout", "far", "other")}

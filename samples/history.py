@@ -361,9 +361,14 @@ class History:
         for period in sorted({1 + turn // 10 % books.open, max(1, books.open - 1)}):
             self.ask_what_if("what-if", period)
 
+    def ask_trail(self, turn):
+        """Asks for the trail of one of the steps that were named so far, whether or not it is held."""
+        step = self.steps[7 * turn % len(self.steps)]
+        self.ask("record " + step, self.books.trail(self.name_of(step)))
+
     def ask_lists(self):
-        """Asks by requests for the rulings, for each tariff's file, and for the lists as comma-separated values; and what
-        each period would have cost."""
+        """Asks by requests for the rulings, for each tariff's file, and for the lists as comma-separated values; what each
+        period would have cost; and for the trails of the steps that were named last."""
         books = self.books
         self.ask("get /rulings", served(200, list(books.rulings())))
         for tariff in books.tariffs:
@@ -373,6 +378,8 @@ class History:
         self.ask("get /disputes-csv", served(200, list(books.dispute_table()), "csv"))
         for period in range(0, books.open + 2):
             self.ask_what_if("what-if-table", period)
+        for step in self.steps[-40:]:
+            self.ask("record " + step, books.trail(self.name_of(step)))
 
     def ask_books(self, words, answer, body=()):
         """A command, or a list of some, and what changed."""
@@ -392,6 +399,8 @@ class History:
             self.ask_books(words, self.answer(words))
         if turn % 10 == 9:
             self.ask_more(turn)
+        if turn % 4 == 3:
+            self.ask_trail(turn)
 
 
 def history(sample):

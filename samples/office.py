@@ -164,40 +164,60 @@ class Tariff:
         self.file, self.terms = file, tomllib.loads(file.decode())
         self.effective = datetime.date.fromisoformat(self.terms["effective"])
 
-    def shift(self, weekday, minute):
+    def shift_rule(self, weekday, minute):
+        """The number of the first shift rule that has the minute of the weekday, from 1, and the rule; None and BASE where
+        none has it."""
         def of(clock):
             return 60 * int(clock[:2]) + int(clock[3:])
-        for shift in self.terms.get("shift", ()):
+        for number, shift in enumerate(self.terms.get("shift", ()), 1):
             if weekday in shift["days"] and of(shift["from"]) <= minute < of(shift["to"]):
-                return shift["name"], shift["percent"]
-        return "BASE", 100
+                return number, shift
+        return None, {"name": "BASE", "percent": 100}
 
-    def centre(self, job, fields):
-        """By the bytes of a field, blanks at its end among them."""
-        for centre in self.terms.get("centre", ()):
+    def centre_rule(self, job, fields):
+        """The number of the first centre rule that applies, from 1, and its centre; None and UNASSIGNED where none does. A
+        rule goes by the bytes of a field, blanks at its end among them."""
+        for number, centre in enumerate(self.terms.get("centre", ()), 1):
             at = centre.get("account", 0)
             field = job if at == 0 else fields[at - 1] if at <= len(fields) else None
             if field is not None and field.startswith(centre["prefix" if at else "job"].encode("cp037")):
-                return centre["name"]
-        return "UNASSIGNED"
+                return number, centre["name"]
+        return None, "UNASSIGNED"
+
+    def prices(self, subtype):
+        """What a second of CPU time, 1,000 blocks and a record cost, of a step's end or of a job's end."""
+        prefix = "step" if subtype == b"\0\4" else "job"
+        return [self.terms["rates"]["%s_%s" % (prefix, unit)] for unit in ("cpu", "excp", "record")]
+
+    def reckoning(self, data):
+        """Which rules decide about a record, by their numbers, and the lines of its price: the formula with its numbers."""
+        whole, one = framed(data), self.record(data)
+        shift, rule = self.shift_rule(one.day.isoweekday(), one.minute)
+        centre, _ = self.centre_rule(section(whole, 32)[:8], list(fields_of(whole)))
+        cpu, excp, record = self.prices(data[18:20])
+        yield "TARIFF %s SHIFT %s RULE %s CENTRE %s RULE %s" % (
+            self.effective, one.shift, shift or "-", one.centre, centre or "-")
+        yield "PRICE (10 * %d * %d + %d * %d + 1000 * %d) * %d / 100000 = %d" % (
+            one.cpu, cpu, one.blocks, excp, record, rule["percent"], one.amount)
+        yield "AMOUNT " + decimals(one.amount, 4)
 
     def record(self, data):
         whole = framed(data)
         work, activity, completion, processor = (section(whole, at) for at in (32, 40, 48, 56))
         subtype, step = data[18:20], work[40:42]
         day, minute = day_of(data[6:10]), struct.unpack_from(">I", data, 2)[0] // 6000
-        rates = self.terms["rates"]
-        prefix = "step" if subtype == b"\0\4" else "job"
         cpu = sum(struct.unpack_from(">II", processor, 4))
         blocks = struct.unpack_from(">I", activity, 4)[0] if activity else 0
-        shift, percent = self.shift(day.isoweekday(), minute)
-        base = 10 * cpu * rates[prefix + "_cpu"] + blocks * rates[prefix + "_excp"] + 1000 * rates[prefix + "_record"]
+        _, shift = self.shift_rule(day.isoweekday(), minute)
+        cpu_price, excp_price, record_price = self.prices(subtype)
+        base = 10 * cpu * cpu_price + blocks * excp_price + 1000 * record_price
         identity = data[10:14] + work[:8] + work[64:72] + subtype + (step if subtype == b"\0\4" else b"\0\0")
         identity += work[56:64]
         code = "/".join(part.hex().upper() for part in (completion[:2], completion[2:4])) if completion else "----"
-        centre, amount = self.centre(work[:8], list(fields_of(whole))), (base * percent + 50000) // 100000
-        return Record(hashlib.sha256(data).hexdigest(), identity, day, minute, text(work[:8]), centre, shift, cpu, blocks,
-                      amount, code, text(work[32:40]), text(work[8:16]))
+        _, centre = self.centre_rule(work[:8], list(fields_of(whole)))
+        amount = (base * shift["percent"] + 50000) // 100000
+        return Record(hashlib.sha256(data).hexdigest(), identity, day, minute, text(work[:8]), centre, shift["name"], cpu,
+                      blocks, amount, code, text(work[32:40]), text(work[8:16]))
 
 
 def decimals(number, places):
@@ -274,6 +294,18 @@ def row_table(period, rows, amount):
         yield comma_line(period, *place, count, decimals(cpu, 2), blocks, decimals(cost, 4))
 
 
+def identity_line(identity, no_step):
+    """Whose work records measure, by the first rule of identity, with this word for the step of a job's end."""
+    subtype, step = struct.unpack(">HH", identity[20:24])
+    return "%s %s %s SUBTYPE %d STEP %s" % (text(identity[:4]), text(identity[4:12]), moment("READER", identity[12:20]),
+                                            subtype, no_step if subtype == 5 else step)
+
+
+def member_line(one):
+    """A record among others of its identity."""
+    return "  %s %s %21s %s %s %s" % (one.name, one.day, decimals(one.amount, 4), one.code, one.job_id, one.program)
+
+
 class Books:
     def __init__(self):
         self.tariffs, self.held, self.data, self.charged_at, self.closes = [], {}, {}, [], []
@@ -313,10 +345,14 @@ class Books:
                 self.held[name] = new.record(self.data[name])
         return ["DONE"]
 
+    def in_force(self, data):
+        """The last tariff that has begun on a record's day, if one has."""
+        return next((tariff for tariff in self.tariffs[::-1] if tariff.effective <= day_of(data[6:10])), None)
+
     def priced(self, data):
-        """A usage record, by the last tariff that has begun on its day, if one has."""
-        begun = [tariff for tariff in self.tariffs if tariff.effective <= day_of(data[6:10])]
-        return begun[-1].record(data) if begun else None
+        """A usage record, by the tariff in force, if there is one."""
+        tariff = self.in_force(data)
+        return tariff.record(data) if tariff else None
 
     def take_one(self, data):
         """What the receipt counts a record as. A new usage record is held."""
@@ -539,13 +575,36 @@ class Books:
         disputed = self.disputed()
         yield "DISPUTES %d" % len(disputed)
         for identity, members in disputed:
-            numbers = struct.unpack(">HH", identity[20:24])
-            yield "%s %s %s SUBTYPE %d STEP %d%s" % (
-                (text(identity[:4]), text(identity[4:12]), moment("READER", identity[12:20])) + numbers
-                + (" " + moment("START", identity[24:]) if identity[24:] else "",))
-            for one in members:
-                yield "  %s %s %21s %s %s %s" % (
-                    one.name, one.day, decimals(one.amount, 4), one.code, one.job_id, one.program)
+            yield identity_line(identity, "0") + (" " + moment("START", identity[24:]) if identity[24:] else "")
+            yield from map(member_line, members)
+
+    def life(self, name):
+        """What the periods did with a record, in their order: it was charged by its statement, added late, or reversed."""
+        for period in range(1, self.open + 1):
+            added, removed = self.changes(period)
+            for deed, names in (("CHARGED", self.counted(period)), ("ADDED", added), ("REVERSED", removed)):
+                if name in names:
+                    yield period, deed
+
+    def trail(self, name):
+        """What a record measures, whose work that is, how its price came about, and what became of it."""
+        if name not in self.held:
+            return refused(NO_SUCH_RECORD)
+        one, data, rivals, life = self.held[name], self.data[name], self.rivals(name), list(self.life(name))
+        fields = list(fields_of(framed(data)))
+        choices = [choice for choice in self.choices if choice[0] in rivals | {name}]
+        return ["RECORD " + name,
+                "DATED %s IN PERIOD %d" % (clock(data[2:10]), 1 + sum(through < one.day for through in self.closes)),
+                identity_line(one.identity, "-"),
+                "%s COMPLETION %s %s %s ACCOUNTS %d" % (
+                    moment("START", one.identity[24:]), one.code, one.job_id, one.program, len(fields)),
+                *("  " + text(field) for field in fields),
+                "CPU %s BLOCKS %d" % (decimals(one.cpu, 2), one.blocks),
+                *self.in_force(data).reckoning(data),
+                "RIVALS %d" % len(rivals), *(member_line(self.held[other]) for other in sorted(rivals)),
+                "CHOICES %d" % len(choices), *("  PERIOD %d %s" % (period, chosen) for chosen, period in choices),
+                "LIFE %d" % len(life), *("  PERIOD %d %s" % turn for turn in life),
+                "NET %d" % sum(-1 if deed == "REVERSED" else 1 for _, deed in life)]
 
     def dispute_table(self):
         yield DISPUTE_COLUMNS

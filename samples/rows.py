@@ -162,6 +162,9 @@ PATHS = {"statement": ("statement", "plain"), "statement-csv": ("table", "csv"),
          "disputes": ("disputes", "plain"), "disputes-csv": ("dispute_table", "csv"),
          "periods": ("periods", "plain"), "rulings": ("rulings", "plain")}
 
+# What spells the name of a record.
+DIGITS = re.compile("[0-9A-Fa-f]{64}")
+
 OF_PERIODS = "statement table adjustments adjustment_table".split()
 
 # The paths at which a tariff is handed in: of what form the answer is, and of which period, and which centre, if of one.
@@ -248,6 +251,10 @@ class Rows:
             return self.books.of_period(getattr(self.books, verb), int(words[0]), *words[1:])
         return list(getattr(self.books, verb)())
 
+    def trail(self, name):
+        """The trail of a record, or why there is none. It is one call of the books."""
+        return office.refused(office.MEMORY) if self.is_refused() else self.books.trail(name)
+
     def what_if(self, verb, place, file):
         """What a period would have cost by a tariff file, or why that is not told: of all centres, or of the one that is
         named after a slash."""
@@ -301,10 +308,11 @@ class Rows:
         return ["CHANGES %d %s MORE" % (told, what)]
 
     def get(self, path):
-        """The answer to a request for a report."""
-        _, name, *words = path.split("/")
-        if name == "tariff":
-            return self.get_tariff(*words) if len(words) == 1 else served(404, [])
+        """The answer to a request for a report. What stands after a question mark changes nothing."""
+        _, name, *words = path.partition("?")[0].split("/")
+        if name in ("tariff", "record"):
+            found = self.get_tariff if name == "tariff" else self.get_record
+            return found(*words) if len(words) == 1 else served(404, [])
         verb, form = PATHS[name]
         has_period = verb in OF_PERIODS
         if bool(words) != has_period or len(words) > 2 or not all(map(office.is_name, words[1:])):
@@ -324,6 +332,13 @@ class Rows:
             return served(503, [])
         file = self.books.tariff_text(day)
         return served(404, []) if file is None else served(200, file)
+
+    def get_record(self, word):
+        """The answer to a request for the trail of a record."""
+        text = self.trail(word.lower()) if DIGITS.fullmatch(word) else office.refused(office.NO_SUCH_RECORD)
+        if text == office.refused(office.MEMORY):
+            return served(503, [])
+        return served(404, []) if text == office.refused(office.NO_SUCH_RECORD) else served(200, text)
 
     def post(self, parts):
         """The answer to a request that hands in a dump."""
@@ -367,6 +382,8 @@ class Rows:
         if verb in ASKS:
             text = self.report(verb, words)
             return ["TOOK %d IN 1" % sum(len(line) + 1 for line in text)] if self.is_counted else text
+        if verb == "record":
+            return self.trail(self.name_of(*words))
         if verb == "writer":
             self.is_counted = words == ["all", "1..2"]
             return []
@@ -472,6 +489,10 @@ class Rows:
             file = books.tariff_text(day_of(word))
             return office.refused(office.NO_SUCH_TARIFF) if file is None else file
 
+        def record(word):
+            """The trail of a record. What spells no name is a wrong word."""
+            return books.trail(word.lower()) if DIGITS.fullmatch(word) else ["chargectl: word"]
+
         def close(period, word):
             """A close through a day. What is no day is a wrong word."""
             if day_of(word) is None:
@@ -486,7 +507,7 @@ class Rows:
             *names, last = self.files[given["--from"]].decode("latin-1").split("\n")
             names = [name.removesuffix("\r") for name in names] + [last] * (last != "")
             for number, name in enumerate(names, 1):
-                if not re.fullmatch("[0-9A-Fa-f]{64}", name):
+                if not DIGITS.fullmatch(name):
                     return ["chargectl: word line %d" % number]
             return books.choose_each(name.lower() for name in names)
 
@@ -494,6 +515,7 @@ class Rows:
                 "tariff": lambda file: self.ruled(office.ruling_of_tariff(self.file(file)), is_tried),
                 "close": close,
                 "tariff-text": tariff_text,
+                "record": record,
                 "import": lambda file: books.take(self.file(file)),
                 "choose": choose,
                 "adopt": lambda: self.ruled(office.ruling_of_adoption(), is_tried),
