@@ -1,5 +1,5 @@
 -- Work on a ledger, and on the books of a history; entries of a map, and what those of a plain
--- ledger hold, charge and dispute; and at the end the trail of an entry.
+-- ledger hold, charge and dispute; and at the end their details, and the trail of an entry.
 pub mod RulingLemmas
 pub mod ListedLemmas
 pub mod TransitionLemmas
@@ -29,5 +29,6 @@ pub mod ChosenLemmas
 pub mod MemoryLemmas
 pub mod OtherPriceLemmas
 pub mod LineLemmas
+pub mod PlainDetailLemmas
 pub mod LifeLemmas
 pub mod TrailLemmas

@@ -1,12 +1,14 @@
 -- Adjustment lines of entries: one for each that a period adds or reverses.
 use Rattle.std.proofs.Common.{◌≡◌, ◌∙◌, ℕ, ◌≤◌, List, [], ◌∷◌, ◌++◌, map, refl, sym, ap, subst}
 use Rattle.std.proofs.Common.{Bool, true, false, cond, Option, Some, None, is_some, get_or, arith}
+use Rattle.std.proofs.Common.{append-nil, drop, length, take, take_all}
 use Rattle.std.specs.Prelude.{All, filter, sum_by}
 use Rattle.std.specs.List.{filter_map, cons_option, IsDistinct}
 use Rattle.std.specs.List.Sorted.{IsPermutation, IsStrictlySortedBy}
 use Rattle.std.specs.Map.{keys_of}
 use Rattle.std.specs.Ordering.{eq_by_cmp}
 use Rattle.std.proofs.lemmas.Cmp.{nat_list_cmp_total}
+use Rattle.std.proofs.lemmas.List.{drop_all}
 use Rattle.std.proofs.lemmas.List.Elements.{All-nil, All-cons, All-filter}
 use Rattle.std.proofs.lemmas.List.Sorted.{IsPermutation-refl, IsPermutation-cons, IsPermutation-sym}
 use Rattle.std.proofs.lemmas.List.Sorted.{IsPermutation-trans, IsPermutation-middle}
@@ -29,6 +31,15 @@ use Rattle.book_core.specs.declared.treatment.Treatment.TheVariants.{Counted, Ad
 use Rattle.book_core.specs.Plain.{Entry, entry_records, AreBooked}
 use Rattle.book_core.specs.Treatments.{is_added, is_taken, line_of, line_at, records_where, period_with}
 use Rattle.book_core.proofs.HeldLemmas.{bytes_of, each_named, each_priced, records_differ}
+
+-- a vector with all its items written over has what was written
+pub written_over : {X : Type 0} (count : ℕ) (written items : List X) → count ≡ length items
+    → length written ≡ length items
+    → take count (written ++ drop (length written) items) ≡ written
+written_over count written items counted long =
+    ap (λ rest. take count (written ++ rest)) (drop_all (length written) items (omega arith))
+    ∙ ap (take count) (append-nil written)
+    ∙ take_all count written (omega arith)
 
 module _ (treatment : Entry → Option Treatment) where
   -- the lines of entries by their shares, in the entries' order

@@ -30,19 +30,25 @@ abbrev pub costs_where : Terms → (Entry → Bool) → List Entry → List Pric
 costs_where terms test entries =
     map (λ (entry : Entry). price_by terms (record_of entry.1)) (filter test entries)
 
--- what the next entry that passes costs joins those before it
+-- what is made of the next entry that passes joins what is made of those before it
+pub made_joins : {X : Type 0} (make : Entry → X) (test : Entry → Bool) (entry : Entry)
+    (rest left : List Entry) (before now : List X) (one : X) → left ≡ entry ∷ rest
+    → test entry ≡ true → one ≡ make entry → now ≡ before ++ one ∷ []
+    → now ++ map make (filter test rest) ≡ before ++ map make (filter test left)
+made_joins {X} make test entry rest left before now one takes passes made pushes =
+    let later : List Entry = filter test rest in
+    ap (λ all. all ++ map make later) pushes
+    ∙ append_assoc before (one ∷ []) (map make later)
+    ∙ ap (λ (one : X). before ++ one ∷ map make later) made
+    ∙ ap (λ b. before ++ map make (cond b (entry ∷ later) later)) (sym passes)
+    ∙ ap (λ left. before ++ map make (filter test left)) (sym takes)
+
+-- and so do its costs
 pub cost_joins : (terms : Terms) (test : Entry → Bool) (entry : Entry) (rest left : List Entry)
     (before now : List Priced) (one : Priced) → left ≡ entry ∷ rest → test entry ≡ true
     → one ≡ price_by terms (record_of entry.1) → now ≡ before ++ one ∷ []
     → now ++ costs_where terms test rest ≡ before ++ costs_where terms test left
-cost_joins terms test entry rest left before now one takes passes costs pushes =
-    let price : Entry → Priced = λ entry. price_by terms (record_of entry.1) in
-    let later : List Entry = filter test rest in
-    ap (λ prices. prices ++ map price later) pushes
-    ∙ append_assoc before (one ∷ []) (map price later)
-    ∙ ap (λ (one : Priced). before ++ one ∷ map price later) costs
-    ∙ ap (λ b. before ++ map price (cond b (entry ∷ later) later)) (sym passes)
-    ∙ ap (λ left. before ++ costs_where terms test left) (sym takes)
+cost_joins terms = made_joins (λ (entry : Entry). price_by terms (record_of entry.1))
 
 -- where there is no such period, that is the answer
 refused : (terms : Terms) (found : Option Period) (fault : LedgerFault)

@@ -5,13 +5,17 @@ ghost use Rattle.book_model.specs.Words.{tariff_outcome, adjustments_outcome, ch
 ghost use Rattle.book_model.specs.Words.{choose_outcome, disputes_outcome, periods_outcome};
 ghost use Rattle.book_model.specs.Words.{adopt_outcome, ruling_outcome, ruling_shown, ShowsDays};
 ghost use Rattle.book_model.specs.Words.{ShowsDispute, dispute_outcome, what_if_outcome};
+ghost use Rattle.book_model.specs.Words.{ShowsDetail, next_detail_outcome};
 ghost use Rattle.book_model.specs.Words.{IsTrail, trail_outcome, trail_shown};
 ghost use Rattle.book_core.specs.Ledgers.{StopIsHarmless, Seen};
 ghost use Rattle.book_core.specs.Calls.{IsCall};
 ghost use Rattle.book_core.specs.Submissions.{Takes, records_in};
 ghost use Rattle.book_core.specs.Transition.{IsTransition};
 
-use book_model::{Accepted, ChargeRow, Dispute, LedgerFault, Line, ListedRuling, Ruled, Trail};
+use book_model::{
+    Accepted, ChargeRow, Detail, Dispute, LedgerFault, Line, ListedRuling, Ruled, Trail,
+};
+use smf_text::Name;
 use std::alloc::Global;
 use tariff_rules::Tariff;
 
@@ -86,6 +90,20 @@ pub trait Ledger {
         ensures lines { IsCall (λ lines. lines.items) (seen self.old) (seen self.new) result
             (adjustments_outcome (seen self.old).naming period) }
         ensures shown { IfOk result (λ lines. AreLines lines.items) };
+
+    /// The first of the details of a period that comes after one; `None` where there are no more.
+    /// They are the records that the period counts, by day, centre, shift, time and name; where a
+    /// centre is named, those of that centre alone. After none it is the first of all: so a list of
+    /// any length is read with one detail in memory.
+    fn next_detail(
+        &mut self,
+        period: u16,
+        centre: Option<Name>,
+        after: Option<Detail>,
+    ) -> Result<Option<Detail>, LedgerFault>
+        ensures detail { IsCall (λ found. found) (seen self.old) (seen self.new) result
+            (next_detail_outcome (seen self.old).naming period centre after) }
+        ensures shown { IfOk result ShowsDetail };
 
     /// The identities of two or more records that are held, where none was chosen, by their
     /// bytes, each with its records by name.

@@ -7,6 +7,7 @@ mod charge_rows;
 mod choices;
 mod chosen;
 mod closed;
+mod details;
 mod effects;
 mod held;
 mod identities;
@@ -27,13 +28,14 @@ mod treatment;
 mod variant;
 
 pub use book_model::{
-    Accepted, ChargeRow, Deed, Dispute, LedgerFault, Line, ListedRuling, NamedChoice, Naming,
-    RowKey, Ruled, ShaNames, Trail, Turn, Variant,
+    Accepted, ChargeRow, Deed, Detail, Dispute, LedgerFault, Line, ListedRuling, NamedChoice,
+    Naming, RowKey, Ruled, ShaNames, Trail, Turn, Variant,
 };
 // What a ledger of another crate needs to keep the same books.
 pub use acceptance::{is_full, name_of};
 pub use accepted_tariff::{AcceptedTariff, are_before};
 pub use charge_rows::empty_row;
+pub use details::{comes_after, detail_with, is_asked};
 pub use effects::{
     ChoiceEffects, DayChange, Effects, LineChange, Member, View, plan, plan_charge, plan_choice,
 };
@@ -45,6 +47,7 @@ pub use period_end::{is_after, is_through};
 pub use plain::PlainLedger;
 pub use pricing::{price_in, reckon_in};
 pub use rulings::{Rulings, is_done};
+pub use smf_text::Name;
 pub use streams::{Sink, Source};
 pub use tariff_rules::Tariff;
 pub use variant::copied;

@@ -4,15 +4,17 @@ ghost use Rattle.std.specs.Prelude.{◌≡◌, All, IfOk, filter, map};
 ghost use Rattle.std.specs.List.{filter_map};
 ghost use Rattle.book_model.specs.Words.{IsPriced, price_by};
 ghost use Rattle.book_core.specs.Plain.{record_of};
+ghost use Rattle.book_core.specs.PlainDetails.{detail_at};
 ghost use Rattle.book_core.specs.Treatments as spec;
 ghost use Rattle.book_core.specs.Treatments.{is_counted, line_at};
 
 use crate::closed::ClosedPeriod;
+use crate::details::detail;
 use crate::held::HeldRecord;
 use crate::lines::line;
 use crate::period_end::PeriodEnd;
 use crate::treatment::Treatment;
-use book_model::Line;
+use book_model::{Detail, Line};
 use std::alloc::{AllocError, Global};
 use std::collections::{BTreeMap, BTreeSet};
 use tariff_rules::{Priced, Tariff};
@@ -90,6 +92,26 @@ impl Period<'_> {
             }
         }
         Ok(prices)
+    }
+
+    /// The details of the records that the period counts, by name.
+    pub(crate) fn details(
+        &self,
+        alloc: Global,
+        held: &BTreeMap<[u8; 32], HeldRecord>,
+        posted: &BTreeSet<[u8; 32]>,
+    ) -> Result<Vec<Detail>, AllocError>
+        ensures { IfOk result (λ details. details.items ≡ map detail_at
+            (filter (λ entry. is_counted (spec.treatment_in self.now posted.now entry))
+            held.now.entries)) }
+    {
+        let mut details = Vec::new(alloc);
+        for (name, kept) in held {
+            if self.counts(posted, name, kept) {
+                details.push(detail(name, kept))?;
+            }
+        }
+        Ok(details)
     }
 
     /// The lines of the period, by name.

@@ -23,8 +23,9 @@ use crate::ledger::Ledger;
 use crate::record_cache::RecordCache;
 use crate::rulings::Rulings;
 use book_model::{
-    Accepted, ChargeRow, Dispute, LedgerFault, Line, ListedRuling, Naming, Ruled, Trail,
+    Accepted, ChargeRow, Detail, Dispute, LedgerFault, Line, ListedRuling, Naming, Ruled, Trail,
 };
+use smf_text::Name;
 use std::alloc::{AllocError, Global};
 use std::collections::{BTreeMap, BTreeSet};
 use tariff_rules::Tariff;
@@ -144,6 +145,15 @@ impl<N: Naming + Drop> Ledger for PlainLedger<N> {
 
     fn adjustments(&mut self, period: u16) -> Result<Vec<Line>, LedgerFault> {
         self.lines(period)
+    }
+
+    fn next_detail(
+        &mut self,
+        period: u16,
+        centre: Option<Name>,
+        after: Option<Detail>,
+    ) -> Result<Option<Detail>, LedgerFault> {
+        self.detail_after(period, centre, after)
     }
 
     fn disputes(&mut self) -> Result<Vec<Dispute>, LedgerFault> {

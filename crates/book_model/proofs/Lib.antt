@@ -1,5 +1,6 @@
 -- Lists and sets first; then what tariffs are in force and what records cost; what calls answer;
--- sound books, and what is read by two rulings; and last, whole histories.
+-- sound books, and what is read by two rulings; whole histories; and last, details and the days of
+-- what is counted.
 pub mod DayLemmas
 pub mod ListLemmas
 pub mod SumsAlike
@@ -13,10 +14,12 @@ pub mod PairLemmas
 pub mod InsertLemmas
 pub mod SortedEntries
 pub mod SetChanges
+pub mod CountedLemmas
 pub mod ChargedChanges
 pub mod ChosenLemmas
 pub mod UnchosenLemmas
 pub mod PermutedSets
+pub mod GivenLemmas
 pub mod LineOrder
 pub mod RowLemmas
 pub mod PricingLemmas
@@ -35,3 +38,6 @@ pub mod AdoptedLemmas
 pub mod DisputeLemmas
 pub mod FromLemmas
 pub mod OrderLemmas
+pub mod DetailOrder
+pub mod DetailLemmas
+pub mod CountedDays

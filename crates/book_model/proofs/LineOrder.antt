@@ -91,36 +91,35 @@ below_too Equal Equal c less = cc
 below_too Equal Greater c less = cc
 below_too Greater b c less = cc
 
-module _ (tied : Line → Line → Bool)
-    (same_name : (a b : Line) → tied a b ≡ true → by_bytes a.name b.name ≡ Equal) where
-  -- a test that only lines of one name pass fails where the names differ
-  names_differ : (line : Line) (lines : List Line)
-      → AllByRecursion (λ name. same_bytes line.name name ≡ false) (map (λ line. line.name) lines)
-      → AllByRecursion (λ other. tied line other ≡ false) lines
-  names_differ line [] differ = tt
-  names_differ line (other ∷ lines) differ =
-      let rest = names_differ line lines differ.1 in
-      let first = elim (tied line other) as (λ b. tied line other ≡ b → b ≡ false) [
+module _ {X : Type 0} (name : X → List ℕ) (tied : X → X → Bool)
+    (same_name : (a b : X) → tied a b ≡ true → by_bytes (name a) (name b) ≡ Equal) where
+  -- a test that only elements of one name pass fails where the names differ
+  names_differ : (x : X) (xs : List X)
+      → AllByRecursion (λ other. same_bytes (name x) other ≡ false) (map name xs)
+      → AllByRecursion (λ other. tied x other ≡ false) xs
+  names_differ x [] differ = tt
+  names_differ x (other ∷ xs) differ =
+      let rest = names_differ x xs differ.1 in
+      let first = elim (tied x other) as (λ b. tied x other ≡ b → b ≡ false) [
         | true ↦ λ one.
-            let same = texts_ties line.name other.name
-            ∙ ap is_eq (same_name line other one) in
+            let same = texts_ties (name x) (name other)
+            ∙ ap is_eq (same_name x other one) in
             absurd (true≢false (sym same ∙ differ.0))
         | false ↦ λ other. refl
       ] refl in (first, rest)
 
-  -- so lines of different names are distinct by such a test
-  distinct_by_name : (lines : List Line) → IsDistinct same_bytes (map (λ line. line.name) lines)
-      → IsDistinct tied lines
+  -- so elements of different names are distinct by such a test
+  pub distinct_by_name : (xs : List X) → IsDistinct same_bytes (map name xs) → IsDistinct tied xs
   unfolding IsDistinct
   distinct_by_name [] distinct = tt
-  distinct_by_name (line ∷ lines) distinct =
-      (names_differ line lines distinct.0, distinct_by_name lines distinct.1)
+  distinct_by_name (x ∷ xs) distinct =
+      (names_differ x xs distinct.0, distinct_by_name xs distinct.1)
 
 -- lines of different names are distinct by their order
 pub distinct_lines : (lines : List Line) → IsDistinct same_bytes (map (λ line. line.name) lines)
     → IsDistinct (eq_by_cmp by_line) lines
 distinct_lines =
-    distinct_by_name (eq_by_cmp by_line) (λ a b tied.
+    distinct_by_name (λ line. line.name) (eq_by_cmp by_line) (λ a b tied.
     name_ties (int_cmp a.priced.day b.priced.day) (by_bytes a.name b.name)
     (plus_first a.plus b.plus) tied)
 
@@ -147,7 +146,7 @@ lines_rise : (lines : List Line) → IsDistinct same_bytes (map (λ line. line.n
 lines_rise lines distinct in_order =
     rising_too lines
     (rising_from_sorted by_day_and_name_total lines
-    (distinct_by_name (eq_by_cmp by_day_and_name) (λ a b tied.
+    (distinct_by_name (λ line. line.name) (eq_by_cmp by_day_and_name) (λ a b tied.
     name_ties_too (int_cmp a.priced.day b.priced.day) (by_bytes a.name b.name) tied)
     lines distinct) in_order)
 

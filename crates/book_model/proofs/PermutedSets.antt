@@ -78,7 +78,7 @@ module _ {K Y : Type 0} (R : K → K → Ordering) (give : K → Option Y) where
   cons_swapped (Some y) (Some z) xs = IsPermutation-middle (y ∷ []) z xs
 
   -- what is given of an element in its place is among what is given of the others
-  insert_given : (k : K) (xs : List K) → list_any (eq_by_cmp R k) xs ≡ false
+  pub insert_given : (k : K) (xs : List K) → list_any (eq_by_cmp R k) xs ≡ false
       → IsPermutation (filter_map give (insert_key R xs k)) (filter_map give (k ∷ xs))
   insert_given k [] new = IsPermutation-refl (filter_map give (k ∷ []))
   insert_given k (x ∷ xs) new =
@@ -128,7 +128,7 @@ members_permuted {K} R o ks apart =
     (given_permuted R Some o ks apart))
 
 -- an element of a list is the first one, or among the others
-first_or : {X P : Type 0} (x : X) (xs : List X) (z : X) → Contains (x ∷ xs) z
+pub first_or : {X P : Type 0} (x : X) (xs : List X) (z : X) → Contains (x ∷ xs) z
     → (x ≡ z → P) → (Contains xs z → P) → P
 first_or {X} {P} x xs z among first other = by_place among.0 among.1 among.2
   where
@@ -137,11 +137,11 @@ first_or {X} {P} x xs z among first other = by_place among.0 among.1 among.2
     by_place (suc k) within is = other (k, omega arith, is)
 
 -- the first one is in its list
-has_first : {X : Type 0} (x : X) (xs : List X) → Contains (x ∷ xs) x
+pub has_first : {X : Type 0} (x : X) (xs : List X) → Contains (x ∷ xs) x
 has_first x xs = (0, omega arith, refl)
 
 -- an empty list has no element
-has_none : {X P : Type 0} (z : X) → Contains [] z → P
+pub has_none : {X P : Type 0} (z : X) → Contains [] z → P
 has_none z among = let within = among.1 in absurd (omega arith)
 
 module _ {K : Type 0} {R : K → K → Ordering} (o : IsTotalOrder R) where

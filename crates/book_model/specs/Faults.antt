@@ -10,9 +10,10 @@ use Rattle.book_model.specs.declared.fault.LedgerFault.TheVariants.{WrongPeriod,
 use Rattle.book_model.specs.declared.fault.LedgerFault.TheVariants.{NoSuchPeriod, NoSuchRecord}
 use Rattle.book_model.specs.declared.fault.LedgerFault.TheVariants.{NotDisputed, OldRule}
 use Rattle.book_model.specs.declared.fault.LedgerFault.TheVariants.{TariffRefused, NotBooks}
+use Rattle.book_model.specs.declared.fault.LedgerFault.TheVariants.{OldForm, NewForm}
 use Rattle.book_model.specs.declared.fault.LedgerFault.TheVariants.{NoSuchTariff}
 
--- the number that reports and messages show; 17 and 18 are kept for forms of files
+-- the number that reports and messages show
 abbrev pub ledger_number : LedgerFault → ℕ
 ledger_number Memory = 1
 ledger_number Store = 2
@@ -30,6 +31,8 @@ ledger_number NotDisputed = 13
 ledger_number OldRule = 14
 ledger_number (TariffRefused fault) = 15
 ledger_number NotBooks = 16
+ledger_number OldForm = 17
+ledger_number NewForm = 18
 ledger_number NoSuchTariff = 19
 
 -- what a ledger answers where a tariff file was not read: a lack of memory is a fault of its own

@@ -44,6 +44,7 @@ pub use Rattle.book_model.specs.Disputes.{identities, is_from, is_in_dispute, is
 pub use Rattle.book_model.specs.Disputes.{records_of, variant_of}
 pub use Rattle.book_model.specs.Books.{Book, all_periods, charged_of, flat_book, new_book}
 pub use Rattle.book_model.specs.Books.{open_number, open_period, period_of}
+pub use Rattle.book_model.specs.Counted.{counted_of, is_counted, is_counted_in}
 pub use Rattle.book_model.specs.Events.{Event, PeriodClosed, RecordChosen, RecordKept}
 pub use Rattle.book_model.specs.Events.{SecondRuleAdopted, TariffAccepted, adopt, after, after_all}
 pub use Rattle.book_model.specs.Events.{after_any, choose, close, keep, put_in_force}
@@ -65,6 +66,11 @@ pub use Rattle.book_model.specs.Outcomes.{disputes_outcome}
 pub use Rattle.book_model.specs.Outcomes.{periods_outcome, no_event, ruling_outcome, tariff_event}
 pub use Rattle.book_model.specs.Outcomes.{tariff_outcome, what_if_outcome}
 pub use Rattle.book_model.specs.OtherPrices.{costs_under, rows_if_room, what_if_answer}
+pub use Rattle.book_model.specs.Details.{by_detail, comes_after, detail_by, detail_of, detail_with}
+pub use Rattle.book_model.specs.Details.{details_asked, is_asked}
+pub use Rattle.book_model.specs.Details.{details_at, details_for, details_of, details_of_centre}
+pub use Rattle.book_model.specs.Details.{details_outcome, first_detail, is_dated_in, next_after}
+pub use Rattle.book_model.specs.Details.{next_detail_outcome, ShowsDetail}
 pub use Rattle.book_model.specs.Lives.{charges_in, is_charge, life_from, life_of, net_of}
 pub use Rattle.book_model.specs.Lives.{reversals_in, turn_if, turns_in}
 pub use Rattle.book_model.specs.Trails.{IsTrail, TrailSeen, choice_named, choices_among, period_on}

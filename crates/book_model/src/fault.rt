@@ -58,6 +58,12 @@ pub enum LedgerFault {
     /// The database holds no books.
     #[error("no books")]
     NotBooks,
+    /// The file has an older form, which only its upgrade reads.
+    #[error("the books are of an older form")]
+    OldForm,
+    /// The file has a form that is newer than this program.
+    #[error("the books are of a newer form")]
+    NewForm,
     /// No tariff that came as a text begins on that day.
     #[error("no tariff begins on that day")]
     NoSuchTariff,
@@ -85,7 +91,8 @@ impl LedgerFault {
             LedgerFault::OldRule => 14,
             LedgerFault::TariffRefused(_) => 15,
             LedgerFault::NotBooks => 16,
-            // 17 and 18 are kept for forms of files.
+            LedgerFault::OldForm => 17,
+            LedgerFault::NewForm => 18,
             LedgerFault::NoSuchTariff => 19,
         }
     }

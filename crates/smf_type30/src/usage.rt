@@ -16,6 +16,7 @@ use crate::layout::{
 use crate::moment::{Moment, moment_in};
 use crate::number::{number2, number4, part};
 use crate::section::{count, section_bytes};
+use byteorder::{BigEndian, ByteOrder};
 use smf_frames::Header;
 use std::marker::Model;
 use std::ops::Range;
@@ -132,6 +133,17 @@ impl<'a> Type30<'a> {
         put(&mut identity, 0..24, &first);
         put(&mut identity, 24..32, self.initiation());
         identity
+    }
+
+    /// The number of the step that ended, None where a job ended.
+    #[tactic(auto, unfolding(crate::specs::Usage::ended_step_of))]
+    pub fn ended_step(&self) -> Option<u16>
+        ensures { result ≡ spec.ended_step_of self.now }
+    {
+        if self.subtype() == JOB_END {
+            return None;
+        }
+        Some(BigEndian::read_u16(self.step()))
     }
 
     /// When the work was initiated: time and date, as in the record.

@@ -1,7 +1,7 @@
 -- The lemmas: what survives two calls, and what stays of a store after them; calls that are tried,
 -- refused, answered and settled; steps and their commit; and then one file for each subject.
-mod SurvivalLemmas
-mod UnchangedStores
+pub mod SurvivalLemmas
+pub mod UnchangedStores
 mod TryLemmas
 mod Answering
 mod Refusals
@@ -30,11 +30,15 @@ mod AcceptTries
 mod ListReadings
 mod LineReadings
 mod CountTestLemmas
+mod CountedList
+pub mod FirstDetails
 mod OtherPriceLemmas
 mod WhatIfTries
 mod RisingNames
 mod JoinLemmas
 mod DisputeTries
+mod DetailTries
+mod DetailsRead
 mod OpenLemmas
 mod LoadLemmas
 mod OwnBooks

@@ -3,7 +3,7 @@ use Rattle.std.proofs.Common.{◌≡◌, ◌∙◌, ℕ, List, refl, sym, ap, fa
 use Rattle.std.specs.Prelude.{ℤ}
 use Rattle.std.specs.List.{last_or}
 use Rattle.std.specs.FinMap.{get, get-insert, values}
-use Rattle.std.proofs.lemmas.Cmp.{nat_list_cmp_total}
+use Rattle.std.proofs.lemmas.Cmp.{eq_by_cmp_equiv, nat_list_cmp_total}
 use Rattle.std.proofs.lemmas.Map.Lookups.{exact_bytes}
 use Rattle.book_model.specs.Words.{Rulings, data_of, identity_by, last_close, open_by}
 use Rattle.book_model.proofs.MapLemmas.{by_tie}
@@ -11,12 +11,14 @@ use Rattle.tariff_rules.specs.declared.priced.Priced.{Priced}
 use Rattle.book_core.specs.Effects.{effects_of}
 use Rattle.book_core.specs.declared.effects.Effects.{Effects}
 use Rattle.table_model.specs.RowChanges.{change_mark, mark_at}
-use Rattle.table_model.specs.Steps.{put_record_row}
+use Rattle.table_model.specs.Steps.{count_where_row, put_record_row}
 use Rattle.table_model.specs.TableChanges.{apply}
 use Rattle.table_model.specs.Tables.{RecordRow, RecordTable, Tables}
 use Rattle.table_model.specs.Views.{rows_with}
 use Rattle.table_model.specs.AcceptRead.{view_with}
+use Rattle.table_model.proofs.CountedHeld.{still_uncounted}
 use Rattle.tree_rows.proofs.Maps.{not_none}
+use Rattle.tree_tables.specs.Stored.{IsFree, IsUncounted}
 use Rattle.table_ledger.specs.Stages.{staged_at}
 
 -- the effects and the row are those of the record, but for the sums
@@ -26,13 +28,13 @@ pub entry_staged : (ruled : Rulings) (name bytes identity behind : List ℕ) (pr
     → last ≡ last_close ruled → values tables.closes ≡ ruled.closes
     → effects ≡ effects_of (view_with last tables.choices (rows_with identity tables.records)) name
     priced
-    → put_record_row name (record {
+    → count_where_row effects.day name (put_record_row name (record {
       identity = identity;
       data_bytes = behind;
       priced = priced;
       charged = effects.charged;
       posted = false;
-    }) (apply period effects tables)
+    }) (apply period effects tables))
     ≡ staged_at ruled name bytes priced tables
 entry_staged ruled name bytes identity behind priced period last effects tables owner rest number
     latest remembered planned =
@@ -40,13 +42,13 @@ entry_staged ruled name bytes identity behind priced period last effects tables 
     let planned_by = planned
     ∙ (λ i. effects_of (view_with (closed i) tables.choices (rows_with (owner i) tables.records)) name
     priced) in
-    λ i. put_record_row name (record {
+    λ i. count_where_row (planned_by i).day name (put_record_row name (record {
       identity = owner i;
       data_bytes = rest i;
       priced = priced;
       charged = (planned_by i).charged;
       posted = false;
-    }) (apply (number i) (planned_by i) tables)
+    }) (apply (number i) (planned_by i) tables))
 
 -- a name that no record has is still that of none after a mark was taken
 pub new_still : (unmark : Option (List ℕ)) (records : RecordTable) (name : List ℕ)
@@ -64,3 +66,21 @@ new_still (Some other) records name new = by_row (get records other) refl
         (λ b. cond b (Some now) (get records name)) (λ b. None)
         (λ same. absurd (not_none row (sym is ∙ ap (get records) (sym same) ∙ new)))
         (λ apart. new)
+
+-- so it stays free with the effects of another record
+pub still_free : (period : ℕ) (effects : Effects) (tables : Tables) (name : List ℕ)
+    → IsFree name tables → IsFree name (apply period effects tables)
+still_free period effects tables name free = record {
+  none = new_still effects.unmark tables.records name free.none;
+  uncounted = still_uncounted effects tables.counted name free.uncounted;
+}
+
+-- a record that was written under a free name is not counted yet
+pub just_written : (entry : List ℕ × RecordRow) (tables : Tables) → IsFree entry.0 tables
+    → IsUncounted entry (put_record_row entry.0 entry.1 tables)
+just_written entry tables free = record {
+  there = get-insert nat_list_cmp_total tables.records entry.0 entry.1 entry.0
+      ∙ ap (λ b. cond b (Some entry.1) (get tables.records entry.0))
+      ((eq_by_cmp_equiv nat_list_cmp_total).refl entry.0);
+  uncounted = free.uncounted;
+}

@@ -1,5 +1,5 @@
 -- What is known of the tables before a record, a choice or the sums are written.
-use Rattle.std.specs.Prelude.{◌≡◌, ℕ, List, None}
+use Rattle.std.specs.Prelude.{◌≡◌, ℕ, None}
 use Rattle.std.specs.FinMap.{get, values}
 use Rattle.book_core.specs.OfficeRulings.{ruled_in}
 use Rattle.table_model.specs.Tables.{Tables}
@@ -13,10 +13,6 @@ AreRemembered summary tables = values tables.closes ≡ (ruled_in summary.ruling
 pub record HaveSums (held amount : ℕ) (tables : Tables) : Type 0 where
   pub held_is : tables.book.held ≡ held
   pub amount_is : tables.book.amount ≡ amount
-
--- no record has the name
-abbrev pub IsNew : List ℕ → Tables → Type 0
-IsNew name tables = get tables.records name ≡ None
 
 -- no choice has the number
 abbrev pub IsNext : ℕ → Tables → Type 0

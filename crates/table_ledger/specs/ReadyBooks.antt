@@ -1,11 +1,15 @@
 -- A ledger that is ready determines its book, and so does what a crash leaves of it.
-use Rattle.std.proofs.Common.{◌≡◌, ◌∙◌, Bool, IsTrue, sym, ap}
+use Rattle.std.proofs.Common.{◌≡◌, ◌∙◌, ◌++◌, ◌∷◌, [], ℕ, zero, suc, Bool, IsTrue, length, refl, sym}
+use Rattle.std.proofs.Common.{ap}
+use Rattle.std.specs.FinMap.{empty, values}
 use Rattle.sqlite_trees.specs.Tree.{Trees}
 use Rattle.sqlite_trees.specs.View.{View, IsClean}
-use Rattle.book_model.specs.Words.{Book, Naming}
+use Rattle.book_model.specs.Words.{Book, Naming, Period, Records}
 use Rattle.book_core.specs.Ledgers.{StopIsHarmless}
+use Rattle.table_model.specs.Tables.{CountedTable, Tables}
 use Rattle.table_model.specs.TablesOf.{tables_of}
-use Rattle.table_model.specs.BookIn.{book_in}
+use Rattle.table_model.specs.BookIn.{book_in, charged_before, close_after, past_in, period_in}
+use Rattle.table_model.specs.BookIn.{records_of_rows}
 use Rattle.table_model.proofs.BookLemmas.{book_follows}
 use Rattle.table_model.proofs.ReadableLemmas.{calls_read}
 use Rattle.table_ledger.specs.Ready.{IsReadyAt, IsStoredIn}
@@ -13,12 +17,27 @@ use Rattle.table_ledger.specs.LedgerState.{book_of_trees, AreBooks, seen_of}
 use Rattle.table_ledger.specs.TablesRead.{tables_read}
 use Rattle.table_ledger.specs.declared.summary.Summary.{Summary}
 
+-- the book that tables determine does not depend on which names are counted
+past_alike : (counted : CountedTable) (tables : Tables) (k : ℕ) (charged : Records)
+    → past_in k charged (record tables { counted = counted }) ≡ past_in k charged tables
+past_alike counted tables zero charged = refl
+past_alike counted tables (suc k) charged =
+    let period : Period = period_in (suc k) (close_after k (values tables.closes)) charged tables in
+    ap (λ past. past ++ period ∷ []) (past_alike counted tables k (charged_before period charged))
+
+book_alike : (counted : CountedTable) (tables : Tables)
+    → book_in (record tables { counted = counted }) ≡ book_in tables
+book_alike counted tables = λ i. record (book_in tables) {
+  past = past_alike counted tables (length (values tables.closes))
+      (records_of_rows (λ row. row.posted) tables.records) i;
+}
+
 -- trees that hold a book determine it
 pub book_of_stored : {naming : Naming} {book : Book} {trees : Trees} → IsStoredIn naming book trees
     → book_of_trees trees ≡ book
 book_of_stored {naming} {book} {trees} kept =
     ap book_in (tables_read trees (tables_of naming book) kept.holds)
-    ∙ book_follows naming book (calls_read naming book kept.calls)
+    ∙ book_alike empty (tables_of naming book) ∙ book_follows naming book (calls_read naming book kept.calls)
 
 -- what a ledger that is ready shows determines its book
 pub book_of_ready : {naming : Naming} {summary : Summary} {view : View} {book : Book}

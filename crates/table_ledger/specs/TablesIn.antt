@@ -1,7 +1,8 @@
--- The tables that trees determine, whatever they hold.
+-- The tables that trees determine, whatever they hold. Which records are counted is not read back: it
+-- follows from the book.
 use Rattle.std.specs.Prelude.{ℕ, ℤ, pos, negsuc, Bool, List, [], ◌∷◌, map, ◌==◌, not, Option, Some}
 use Rattle.std.specs.Prelude.{None}
-use Rattle.std.specs.FinMap.{from_entries}
+use Rattle.std.specs.FinMap.{empty, from_entries}
 use Rattle.sqlite_trees.specs.Tree.{Trees}
 use Rattle.sqlite_value.specs.Order.{Row, column, bytes}
 use Rattle.sqlite_value.specs.declared.value.Value.{Value}
@@ -91,7 +92,7 @@ book_row_in (row ∷ rows) = record {
   amount = count_in row 4;
 }
 
--- the tables
+-- the tables; the names of the records that are counted are told from the others
 abbrev pub tables_in : Trees → Tables
 tables_in trees = record {
   book = book_row_in (trees 0);
@@ -101,4 +102,5 @@ tables_in trees = record {
   records = from_entries (map record_in (trees 3));
   days = from_entries (map day_in (trees 4));
   lines = from_entries (map line_in (trees 5));
+  counted = empty;
 }

@@ -1,9 +1,9 @@
--- Trees that hold tables determine them.
+-- Trees that hold tables determine them, but for the names of the records that are counted.
 use Rattle.std.proofs.Common.{◌≡◌, ◌∙◌, ap, refl, sym, Bool, true, false, ℤ, ℕ, List, [], ◌∷◌, not}
 use Rattle.std.proofs.Common.{Option, Some, None, map}
 use Rattle.std.specs.Prelude.{◌==◌}
-use Rattle.std.specs.FinMap.{FinMap, entries, from_entries, get, get-entries, get-from_entries}
-use Rattle.std.specs.FinMap.{same_map}
+use Rattle.std.specs.FinMap.{FinMap, empty, entries, from_entries, get, get-entries}
+use Rattle.std.specs.FinMap.{get-from_entries, same_map}
 use Rattle.std.specs.List.{AllByRecursion}
 use Rattle.std.specs.declared.cmp.Ordering.{Ordering}
 use Rattle.sqlite_trees.specs.Tree.{Trees}
@@ -77,8 +77,9 @@ table_back {R = R} layout read table back is =
     ∙ same_map layout.total layout.exact (from_entries (entries table)) table (λ q.
     get-from_entries layout.total (entries table) q ∙ sym (get-entries table q))
 
--- and so are all of them
-pub tables_read : (trees : Trees) (tables : Tables) → Holds trees tables → tables_in trees ≡ tables
+-- and so are all of them, but for the names that are counted
+pub tables_read : (trees : Trees) (tables : Tables) → Holds trees tables
+    → tables_in trees ≡ record tables { counted = empty }
 tables_read trees tables holds = λ i. record {
   book = ap book_row_in holds.book i;
   tariffs = table_back tariff_layout tariff_in tables.tariffs
@@ -93,4 +94,5 @@ tables_read trees tables holds = λ i. record {
       (λ place row there. day_back place row (holds.placed place row there)) holds.days i;
   lines = table_back line_layout line_in tables.lines
       (λ place plus there. line_back place plus) holds.lines i;
+  counted = empty;
 }

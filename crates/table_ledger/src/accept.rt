@@ -2,13 +2,15 @@
 
 ghost use Rattle.std.specs.Prelude.{◌≡◌, ◌<◌, Ok, Err, [], false, if◌then◌else◌, All, IfOk, length, ℕ};
 ghost use Rattle.tree_tables.specs.States.{state};
-ghost use Rattle.book_model.specs.Words.{data_of, accept_outcome, IsUsageRecord, same_bytes};
+ghost use Rattle.book_model.specs.Words.{data_of, accept_outcome, IsUsageRecord, record_with};
+ghost use Rattle.book_model.specs.Words.{same_bytes};
 ghost use Rattle.book_core.specs.Identities.{identity_in};
 ghost use Rattle.book_core.specs.OfficeRulings.{ruled_in};
 ghost use Rattle.book_core.specs.Submissions.{records_in};
-ghost use Rattle.table_model.specs.Steps.{set_sums};
+ghost use Rattle.table_model.specs.Steps.{count_where_row, set_sums};
 ghost use Rattle.tree_tables.specs.Steps.{Does};
-ghost use Rattle.table_ledger.specs.Premises.{AreRemembered, IsNew};
+ghost use Rattle.tree_tables.specs.Stored.{IsFree, IsUncounted, new_entry};
+ghost use Rattle.table_ledger.specs.Premises.{AreRemembered};
 ghost use Rattle.table_ledger.specs.Stages.{AttemptsMany, AttemptsOne, KeepsRulings, Stages};
 ghost use Rattle.table_ledger.specs.Stages.{StagesAs, StagesFirst, StagesMany, staged_at};
 
@@ -16,7 +18,7 @@ use crate::commits::{commit_written, write_effects, write_sums};
 use crate::disputes::IDENTITY_LENGTH;
 use crate::effects::look_for_effects;
 use crate::summary::Summary;
-use book_core::{Accepted, LedgerFault, Naming, is_full, name_of, price_in};
+use book_core::{Accepted, DayChange, LedgerFault, Naming, is_full, name_of, price_in};
 use smf_type30::Type30;
 use sqlite_trees::error::StoreError;
 use sqlite_trees::store::Store;
@@ -49,6 +51,23 @@ fn identity_in_force(adopted: Option<u16>, second: &[u8; 32]) -> &[u8]
     }
 }
 
+/// A record that was just written is counted, where its price joins the charge rows.
+fn count_kept<S: Store>(
+    tables: &mut TreeTables<S>,
+    change: &Option<DayChange>,
+    kept: &NewRecord<'_>,
+    usage: &Type30<'_>,
+) -> Result<(), StoreError>
+    requires same { usage.now ≡ record_with kept.now.data_bytes.now }
+    ensures does { Does result (state S.Store tables.old.store) (state S.Store tables.new.store)
+        (IsUncounted (new_entry kept.now)) (count_where_row change.now (new_entry kept.now).0) }
+{
+    match change {
+        None | Some(DayChange::Take(_)) => Ok(()),
+        Some(DayChange::Add(_)) => tables.count_new(kept, usage),
+    }
+}
+
 /// Writes a new record at a price, with its effects, inside the transaction; the sums are not
 /// written yet.
 fn write_new<S: Store>(
@@ -63,7 +82,7 @@ fn write_new<S: Store>(
     requires same { usage.now ≡ bytes.now }
     requires usage { IsUsageRecord bytes.now }
     ensures does { Does result (state S.Store tables.old.store) (state S.Store tables.new.store)
-        (λ tables. AreRemembered summary.now tables × IsNew name tables)
+        (λ tables. AreRemembered summary.now tables × IsFree name tables)
         (staged_at (ruled_in summary.now.rulings) name bytes.now priced.now) }
 {
     let second = usage.identity2();
@@ -72,14 +91,16 @@ fn write_new<S: Store>(
     let effects = look_for_effects(tables, alloc, last_close, identity, name, priced)?;
     write_effects(tables, summary.rulings.open_number(), &effects)?;
     let (_, data) = bytes.split_at(4);
-    tables.insert_record(&NewRecord {
+    let kept = NewRecord {
         name: &name,
         identity,
         data_bytes: data,
         priced: *priced,
         charged: effects.charged,
         posted: false,
-    })
+    };
+    tables.insert_record(&kept)?;
+    count_kept(tables, &effects.day, &kept, usage)
 }
 
 /// Answers a record, and writes it inside the transaction if it is new, a tariff is in force on

@@ -14,7 +14,7 @@ ghost use Rattle.tree_tables.specs.Stored.{stored_entry};
 ghost use Rattle.table_ledger.specs.Premises.{IsNext};
 ghost use Rattle.table_ledger.specs.Stages.{AttemptsOne};
 
-use crate::commits::{commit_written, write_effects};
+use crate::commits::{commit_written, write_counted, write_effects};
 use crate::effects::member_of;
 use crate::summary::Summary;
 use book_core::{ChoiceEffects, Effects, LedgerFault, MAX_CHOICES, Ruled, is_done, plan_choice};
@@ -80,7 +80,8 @@ pub(crate) fn charge<S: Store>(
         Always (change.charge_in period name.now effects.now) }
 {
     write_effects(tables, period, effects)?;
-    tables.mark_record(name)
+    tables.mark_record(name)?;
+    write_counted(tables, &effects.day, name)
 }
 
 /// Writes a choice.

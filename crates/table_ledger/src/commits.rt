@@ -1,7 +1,7 @@
 //! What effects write, the sums, and the commit.
 
-ghost use Rattle.table_model.specs.RowChanges.{change_line, change_mark};
-ghost use Rattle.table_model.specs.Steps.{set_sums};
+ghost use Rattle.table_model.specs.RowChanges.{change_line, change_mark, uncounted_by};
+ghost use Rattle.table_model.specs.Steps.{count_where_row, set_sums};
 ghost use Rattle.table_model.specs.TableChanges.{apply};
 ghost use Rattle.tree_tables.specs.States.{state};
 ghost use Rattle.tree_tables.specs.Steps.{Always, Does};
@@ -10,7 +10,7 @@ ghost use Rattle.table_ledger.specs.Premises.{HaveSums};
 
 use crate::day_write::change_day;
 use crate::summary::Summary;
-use book_core::{Effects, LineChange};
+use book_core::{DayChange, Effects, LineChange};
 use sqlite_trees::error::StoreError;
 use sqlite_trees::store::Store;
 use tree_tables::{LineKey, Sums, TreeTables};
@@ -48,6 +48,38 @@ fn write_mark<S: Store>(
     }
 }
 
+/// A record that is no longer charged is counted no more, where its price leaves the charge rows.
+fn write_uncounted<S: Store>(
+    tables: &mut TreeTables<S>,
+    effects: &Effects,
+) -> Result<(), StoreError>
+    ensures does { Does result (state S.Store tables.old.store) (state S.Store tables.new.store)
+        Always (λ tables. record tables { counted = uncounted_by effects.now tables.counted }) }
+{
+    let Some(name) = &effects.unmark else {
+        return Ok(());
+    };
+    match &effects.day {
+        None | Some(DayChange::Add(_)) => Ok(()),
+        Some(DayChange::Take(_)) => tables.uncount_record(name),
+    }
+}
+
+/// A record that is held is counted, where its price joins the charge rows.
+pub(crate) fn write_counted<S: Store>(
+    tables: &mut TreeTables<S>,
+    change: &Option<DayChange>,
+    name: &[u8; 32],
+) -> Result<(), StoreError>
+    ensures does { Does result (state S.Store tables.old.store) (state S.Store tables.new.store)
+        Always (count_where_row change.now name.now) }
+{
+    match change {
+        None | Some(DayChange::Take(_)) => Ok(()),
+        Some(DayChange::Add(_)) => tables.count_record(name),
+    }
+}
+
 /// Writes the sums that are remembered into the row of the book, unless they were these before.
 pub(crate) fn write_sums<S: Store>(
     tables: &mut TreeTables<S>,
@@ -67,7 +99,8 @@ pub(crate) fn write_sums<S: Store>(
     })
 }
 
-/// Writes what effects change in a period: a charge row, a line and a mark.
+/// Writes what effects change in a period: a charge row, a line, a mark, and whether the record that
+/// loses it is counted.
 pub(crate) fn write_effects<S: Store>(
     tables: &mut TreeTables<S>,
     period: u16,
@@ -78,7 +111,8 @@ pub(crate) fn write_effects<S: Store>(
 {
     change_day(tables, period, &effects.day)?;
     write_line(tables, period, &effects.line)?;
-    write_mark(tables, &effects.unmark)
+    write_mark(tables, &effects.unmark)?;
+    write_uncounted(tables, effects)
 }
 
 /// Commits what was written, if all of it was. So what a call writes is one commit.

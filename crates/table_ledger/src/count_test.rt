@@ -33,7 +33,10 @@ pub(crate) struct CountTest {
 }
 
 /// Each line joins those of earlier periods, if its record has none among them.
-fn add_first(lines: &mut BTreeMap<[u8; 32], bool>, found: &[StoredLine]) -> Result<(), AllocError>
+pub(crate) fn add_first(
+    lines: &mut BTreeMap<[u8; 32], bool>,
+    found: &[StoredLine],
+) -> Result<(), AllocError>
     ensures { OnOk result ((name : List ℕ) → get by_bytes lines.new name
         ≡ option_or (get by_bytes lines.old name)
         (find by_bytes name (map signed_name found.now))) }

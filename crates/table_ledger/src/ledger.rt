@@ -12,6 +12,7 @@ use crate::adoption::try_adopt;
 use crate::charges::try_charges;
 use crate::choices::try_choose;
 use crate::close::try_close;
+use crate::details::try_next_detail;
 use crate::disputes::{try_dispute, try_disputes};
 use crate::finish::finish;
 use crate::listed_rulings::try_ruling;
@@ -21,7 +22,8 @@ use crate::summary::Summary;
 use crate::tariff::try_tariff;
 use crate::trails::try_trail_of;
 use book_core::{
-    Accepted, ChargeRow, Dispute, Ledger, LedgerFault, Line, ListedRuling, Naming, Ruled, Trail,
+    Accepted, ChargeRow, Detail, Dispute, Ledger, LedgerFault, Line, ListedRuling, Name, Naming,
+    Ruled, Trail,
 };
 use sqlite_trees::store::Store;
 use std::alloc::Global;
@@ -60,6 +62,7 @@ impl<S: Store, N: Naming + Drop> Ledger for TableLedger<S, N> {
     ghost use Rattle.book_model.specs.Words.{adjustments_outcome, charges_outcome, dispute_shown};
     ghost use Rattle.book_model.specs.Words.{disputes_outcome, periods_outcome, IsUsageRecord};
     ghost use Rattle.book_model.specs.Words.{ShowsDays, ruling_outcome, ruling_shown};
+    ghost use Rattle.book_model.specs.Words.{ShowsDetail, next_detail_outcome};
     ghost use Rattle.book_model.specs.Words.{ShowsDispute, dispute_outcome, what_if_outcome};
     ghost use Rattle.book_model.specs.Words.{IsTrail, trail_outcome, trail_shown};
     ghost use Rattle.book_core.specs.Calls.{IsCall};
@@ -193,6 +196,26 @@ impl<S: Store, N: Naming + Drop> Ledger for TableLedger<S, N> {
             return Err(LedgerFault::Reopen);
         }
         let tried = try_adjustments(&mut self.tables, &self.summary, self.alloc, period);
+        finish(&mut self.tables, &mut self.must_reopen, tried)
+    }
+
+    fn next_detail(
+        &mut self,
+        period: u16,
+        centre: Option<Name>,
+        after: Option<Detail>,
+    ) -> Result<Option<Detail>, LedgerFault>
+        ensures detail { IsCall (λ found. found) (seen_in S.Store N.name_of self.old)
+            (seen_in S.Store N.name_of self.new) result
+            (next_detail_outcome (N.name_of self.old.naming) period centre after) }
+        ensures shown { IfOk result ShowsDetail }
+        ensures own { FailsAsItsOwn result (ledger_state S.Store N.name_of self.old)
+            (ledger_state S.Store N.name_of self.new) }
+    {
+        if self.must_reopen {
+            return Err(LedgerFault::Reopen);
+        }
+        let tried = try_next_detail(&mut self.tables, &self.summary, period, centre, after);
         finish(&mut self.tables, &mut self.must_reopen, tried)
     }
 

@@ -13,6 +13,7 @@ mod commits;
 mod count_test;
 mod day_write;
 mod days;
+mod details;
 mod disputes;
 mod effects;
 mod finish;
@@ -25,5 +26,7 @@ mod repricing;
 mod summary;
 mod tariff;
 mod trails;
+mod upgrading;
 
 pub use ledger::TableLedger;
+pub use upgrading::{fill_details, has_book_row};

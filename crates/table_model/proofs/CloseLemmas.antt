@@ -25,6 +25,7 @@ use Rattle.table_model.proofs.CloseDays.{posted_by, closed_open}
 use Rattle.table_model.proofs.ClosedLines.{is_late, lines_closed}
 use Rattle.table_model.proofs.ClosedRows.{days_closed}
 use Rattle.table_model.proofs.CostLemmas.{day-price}
+use Rattle.table_model.proofs.CountedNames.{counted_closed, names}
 use Rattle.table_model.proofs.MovedLemmas.{updated-from_entries}
 use Rattle.table_model.proofs.PostedSets.{posted_is}
 use Rattle.table_model.proofs.UnderNumbers.{next_number}
@@ -107,6 +108,7 @@ module _ (naming : Naming) (book : Book) (sound : IsSound naming book) (day : â„
         records = records_posted i;
         days = days_closed naming book sound day forward i;
         lines = lines_closed naming book sound day forward i;
+        counted = names naming (counted_closed book day forward i);
       }
 
 -- the law

@@ -13,16 +13,16 @@ use Rattle.std.proofs.lemmas.Cmp.{nat_list_cmp_total}
 use Rattle.std.proofs.lemmas.Int.{ints}
 use Rattle.std.proofs.lemmas.Option.{slice_get_within, slice_get-get_or}
 use Rattle.book_model.specs.RulingAnswers.{through_of}
-use Rattle.book_model.specs.Words.{AreAmong, AreHeld, Book, IsSound, Naming, Period, Records}
+use Rattle.book_model.specs.Words.{AreHeld, Book, IsSound, Naming, Period, Records}
 use Rattle.book_model.specs.Words.{all_periods, by_bytes, charged_of, day_of, has, is_dated_after}
 use Rattle.book_model.specs.Words.{Rulings, name_of, open_by, open_period, period_by, without}
 use Rattle.book_model.proofs.ListLemmas.{last_or-is, slice_get-behind}
 use Rattle.book_model.proofs.MapLemmas.{else_find, find-both}
-use Rattle.book_model.proofs.RecordSets.{has_those, is, is_itself}
-use Rattle.book_model.proofs.SetChanges.{except}
+use Rattle.book_model.proofs.RecordSets.{has_those}
 use Rattle.table_model.specs.PeriodRows.{numbered}
 use Rattle.table_model.specs.Tables.{LineTable}
 use Rattle.table_model.specs.TablesOf.{line_entries, signed_names, tables_of}
+use Rattle.table_model.proofs.HeldNames.{own_value}
 use Rattle.table_model.proofs.HeldPeriods.{all_held, one_of}
 use Rattle.table_model.proofs.NumberedLemmas.{by_period_total}
 use Rattle.table_model.proofs.PeriodPlaces.{slice_get-map}
@@ -32,21 +32,9 @@ use Rattle.table_model.specs.CountedRead.{charged_before_lines, first_line, is_d
 use Rattle.table_model.specs.Readable.{IsReadable}
 use Rattle.table_model.proofs.BookLemmas.{its_place}
 use Rattle.table_model.proofs.CloseOrder.{earlier}
-use Rattle.table_model.proofs.Restated.{line-with}
 
 module _ (naming : Naming) (book : Book) (sound : IsSound naming book) (bytes : List ℕ)
     (there : has book.held bytes ≡ true) where
-  -- a record has a line among those of a set of records where it is in the set
-  find_set : (plus : Bool) (records : Records) → AreAmong records book.held
-      → find by_bytes (name_of naming bytes) (signed_names naming plus records)
-      ≡ cond (has records bytes) (Some plus) None
-  find_set plus records among =
-      let name : List ℕ = name_of naming bytes in
-      let own : Option Bool = cond (has records bytes) (Some plus) None in
-      line-with naming book sound bytes there plus records among name (has records bytes) refl
-      ∙ ap (λ b. cond b own (find by_bytes name (signed_names naming plus (except bytes records))))
-      (is_itself name)
-
   -- its line in a period
   pub find_line : (period : Period) → AreHeld book.held period
       → find by_bytes (name_of naming bytes) (line_entries naming period)
@@ -55,8 +43,8 @@ module _ (naming : Naming) (book : Book) (sound : IsSound naming book) (bytes : 
   find_line period held =
       find-both by_bytes (name_of naming bytes) (signed_names naming true period.added)
       (signed_names naming false period.taken)
-      ∙ (λ i. else_find (find_set true period.added held.added i)
-      (find_set false period.taken held.taken i))
+      ∙ (λ i. else_find (own_value naming book sound bytes there true period.added held.added i)
+      (own_value naming book sound bytes there false period.taken held.taken i))
 
 module _ (last : Option ℤ) (before now : Records) (bytes : List ℕ) where
   -- whether a period counts a record, by what was charged before it and at its end
@@ -101,7 +89,7 @@ stays_early (day ∷ next ∷ days) (suc k) bytes rising within early =
     stays_early (next ∷ days) k bytes rising.1 (omega arith) early
 
 -- the last close comes after all but one
-last_after : (days : List ℤ) → last_or None days ≡ close_after (length days) days
+pub last_after : (days : List ℤ) → last_or None days ≡ close_after (length days) days
 last_after [] = refl
 last_after (day ∷ days) = last_or-is day days
 
@@ -112,7 +100,7 @@ after_test None bytes = refl
 after_test (Some day) bytes = refl
 
 -- the day through which a period was closed is that of the close after as many
-through_is : (k : ℕ) (rulings : Rulings) → through_of k rulings ≡ close_after k rulings.closes
+pub through_is : (k : ℕ) (rulings : Rulings) → through_of k rulings ≡ close_after k rulings.closes
 through_is zero rulings = refl
 through_is (suc k) rulings =
     let some : (suc k == 0) ≡ false = grind (arith, nat_tests) in
@@ -179,7 +167,7 @@ module _ (naming : Naming) (book : Book) (whole : IsReadable naming book) where
       ] refl
 
   -- and its records are held
-  its_held : (k : ℕ) → k ≤ length days → AreHeld book.held (period_after k)
+  pub its_held : (k : ℕ) → k ≤ length days → AreHeld book.held (period_after k)
   its_held k within =
       one_of (AreHeld book.held) (all_periods book) k (period_after k)
       (all_held naming book whole.sound) (its_period k within)

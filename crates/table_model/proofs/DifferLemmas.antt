@@ -28,7 +28,7 @@ use Rattle.table_model.specs.Laws.{AtMostFourDiffer, AtMostFiveDiffer}
 use Rattle.table_model.specs.RowChanges.{less_price, mark_at, take_at}
 use Rattle.table_model.specs.Steps.{put_choice_row, set_mark_row}
 use Rattle.table_model.specs.TableChanges.{apply, charge_in, put_choice}
-use Rattle.table_model.specs.Tables.{BookRow, ChoiceRow, RecordRow, Tables}
+use Rattle.table_model.specs.Tables.{BookRow, ChoiceRow, CountedTable, RecordRow, Tables}
 use Rattle.table_model.specs.TablesOf.{tables_of}
 use Rattle.table_model.specs.Views.{current_of, view_of}
 use Rattle.table_model.proofs.ChoiceChanges.{choice_follows, chosen_member}
@@ -37,13 +37,13 @@ use Rattle.table_model.proofs.KeptPrice.{kept_cost}
 use Rattle.table_model.proofs.NumberedLemmas.{by_period_total, by_period_exact}
 
 -- a table with this row under a key, or with none
-abbrev set : {K V : Type 0} {R : K → K → Ordering} → K → Option V → FinMap R V → FinMap R V
+abbrev pub set : {K V : Type 0} {R : K → K → Ordering} → K → Option V → FinMap R V → FinMap R V
 set key None rows = remove rows key
 set key (Some row) rows = insert rows key row
 
 -- the rows at other places stay
-get-beside : {K V : Type 0} {R : K → K → Ordering} → IsTotalOrder R → IsAntisymmetric R
-    → (place : K → TableKey) (rows : FinMap R V) (key : K) (row : Option V) (other : K)
+pub get-beside : {P K V : Type 0} {R : K → K → Ordering} → IsTotalOrder R → IsAntisymmetric R
+    → (place : K → P) (rows : FinMap R V) (key : K) (row : Option V) (other : K)
     → place other ≢ place key → get rows other ≡ get (set key row rows) other
 get-beside total exact place rows key None other apart =
     sym (get-remove total rows key other ∙ ap (λ b. cond b None (get rows other))
@@ -82,6 +82,21 @@ module _ {before now : Tables} {most : ℕ} (few : Within before most now) where
   -- or none does
   no_more : Within before (suc most) now
   no_more = record { places = (few.places.0, omega arith, few.places.2) }
+
+  -- which names are counted is no row
+  set_names : (counted : CountedTable) → Within before most (record now { counted = counted })
+  set_names counted = record {
+    places = (
+      few.places.0,
+      few.places.1,
+      λ other apart. same_row other (few.places.2 other apart),
+    );
+  }
+    where
+      same_row : (other : TableKey) → SameRow before now other
+          → SameRow before (record now { counted = counted }) other
+      same_row OfBook same = same
+      same_row other same = same
 
   -- one row of one table is set
   set_book : (row : BookRow) → Within before (suc most) (record now { book = row })
@@ -173,7 +188,8 @@ module _ {before now : Tables} {most : ℕ} (few : Within before most now) (peri
   few_withdrawn true after name priced =
       set_line (set_mark few false name) (period, name) (Some false)
   few_withdrawn false true name priced =
-      take_day (set_mark few false name) (period, key_of priced) priced
+      set_names (take_day (set_mark few false name) (period, key_of priced) priced)
+      (remove now.counted name)
   few_withdrawn false false name priced = set_line (set_mark few false name) (period, name) None
 
   -- so a new record's effects change two rows
@@ -191,7 +207,9 @@ module _ {before now : Tables} {most : ℕ} (few : Within before most now) (peri
       → Within before (suc (suc (suc most))) (put_choice_row number name period
       (charge_in period name (charge_held last member) now))
   few_chosen number last name member =
-      set_choice (set_mark (few_held member.posted last member.name member.priced) true name) number
+      let held = few_held member.posted last member.name member.priced in
+      set_choice (set_names (set_mark held true name)
+      (charge_in period name (charge_held last member) now).counted) number
       (Some (record { name = name; period = period }))
 
 -- the tables with a choice
@@ -213,7 +231,7 @@ at_most_four_differ naming book bytes sound kept =
     view.members view.only (name_of naming bytes) cost.0 in
     (subst (Within (tables_of naming book) 4)
     (sym (kept_follows naming book bytes cost.0 sound kept cost.1))
-    (set_record (set_book few _) (name_of naming bytes) (Some _))).places
+    (set_record (set_book (set_names few _) _) (name_of naming bytes) (Some _))).places
 
 pub at_most_five_differ : AtMostFiveDiffer
 at_most_five_differ naming book name bytes sound found done =

@@ -10,7 +10,8 @@ use Rattle.tariff_rules.specs.declared.priced.Priced.{Priced}
 use Rattle.book_model.specs.declared.row.ChargeRow.{ChargeRow}
 use Rattle.book_model.specs.declared.row.RowKey.{RowKey}
 use Rattle.book_model.specs.Words.{IsMadeByCalls, Book, open_number, new_book, is_undisputed}
-use Rattle.book_model.specs.Words.{is_dated_after, Event, TariffAccepted, PeriodClosed, RecordKept}
+use Rattle.book_model.specs.Words.{is_counted_in, is_dated_after, Event, TariffAccepted}
+use Rattle.book_model.specs.Words.{PeriodClosed, RecordKept}
 use Rattle.book_model.specs.Words.{RecordChosen, SecondRuleAdopted, after, put_in_force, Terms}
 use Rattle.book_model.specs.Words.{charged_of, chosen_answer, book_after, Records, Naming, name_of}
 use Rattle.book_model.specs.Words.{has_text, is_effective, is_later, is_too_dear, with_tariff}
@@ -33,7 +34,8 @@ use Rattle.table_model.specs.TableChanges.{amount_under, put_choice, put_new, wa
 use Rattle.table_model.specs.TableChanges.{reprice_step}
 use Rattle.table_model.specs.Tables.{RecordRow, Tables}
 use Rattle.table_model.specs.Views.{member_at, member_by}
-use Rattle.table_model.specs.TablesOf.{row_key, record_entry, record_row, tables_of, tariff_entries}
+use Rattle.table_model.specs.TablesOf.{counted_by, periods_by, record_entry, record_row, row_key}
+use Rattle.table_model.specs.TablesOf.{tables_of, tariff_entries}
 use Rattle.table_model.proofs.AdoptChanges.{adoption_follows}
 use Rattle.table_model.proofs.ChoiceChanges.{choice_follows}
 use Rattle.table_model.proofs.CloseLemmas.{close_follows}
@@ -69,8 +71,11 @@ new_under naming tariffs =
     (those (λ k. not (has held k)) charged) (none (λ k. not (has held k)) charged no_charged)) in
     let minus =
     no_members (taken held charged) (none (λ k. not (has charged k)) held none_in) in
+    let named = no_members (counted_by new_book charged)
+    (none (is_counted_in (periods_by new_book charged)) held none_in) in
     let line : Bool → List (List ℕ) → List (List ℕ × Bool) =
     λ sign. map (λ bytes. (name_of naming bytes, sign)) in
+    let name : List (List ℕ) → List (List ℕ × Unit {0}) = map (λ bytes. (name_of naming bytes, tt)) in
     let days = ap (λ ks. from_entries (under 1 (days_at (filter_map price ks)) ++ [])) counted
     ∙ ap (λ keys. from_entries (under 1 (map {B = RowKey × ChargeRow} (λ row. (row_key row, row))
     (map (row_at []) keys)) ++ [])) (members-empty by_key) in
@@ -83,6 +88,7 @@ new_under naming tariffs =
       records = from_entries (filter_map (record_entry naming ruled charged held) (members_held i));
       days = days i;
       lines = from_entries (under 1 (line true (plus i) ++ line false (minus i)) ++ []);
+      counted = from_entries (name (named i));
     }
 
 -- a table of no records has no entries

@@ -20,10 +20,11 @@ use Rattle.book_core.specs.declared.effects.Effects.{Effects}
 use Rattle.book_core.specs.declared.effects.Member.{Member}
 use Rattle.book_core.specs.Effects.{charge, charge_held, charges, is_after, no_effects, unmarks}
 use Rattle.book_core.specs.Effects.{withdraw}
-use Rattle.table_model.specs.RowChanges.{mark_at}
+use Rattle.table_model.specs.RowChanges.{count_where, mark_at}
 use Rattle.table_model.specs.TableChanges.{apply, charge_in, new_row, put_new}
-use Rattle.table_model.specs.Tables.{RecordRow, Tables}
+use Rattle.table_model.specs.Tables.{CountedTable, RecordRow, Tables}
 use Rattle.table_model.specs.TablesOf.{status_by, tables_at}
+use Rattle.table_model.proofs.CountedNames.{counted_kept, names}
 use Rattle.table_model.proofs.RecordChanges.{records-with, book_row-with}
 use Rattle.table_model.proofs.Restated.{not_among}
 use Rattle.table_model.proofs.StatusSteps.{charge-step, withdraw-step}
@@ -36,6 +37,19 @@ uncharged last member = by_tests member.posted (is_after last member.priced.day)
         → (if posted then unmarks member.name None (Some (AddMinus member.name))
         else if after then unmarks member.name (Some (Take member.priced)) None
         else unmarks member.name None (Some (DropPlus member.name))).charged ≡ false
+    by_tests true after = refl
+    by_tests false true = refl
+    by_tests false false = refl
+
+-- and uncounted
+pub uncounted : (last : Option ℤ) (member : Member) (name : List ℕ) (counted : CountedTable)
+    → count_where (withdraw last member).day name counted ≡ counted
+uncounted last member name counted = by_tests member.posted (is_after last member.priced.day)
+  where
+    by_tests : (posted after : Bool)
+        → count_where (if posted then unmarks member.name None (Some (AddMinus member.name))
+        else if after then unmarks member.name (Some (Take member.priced)) None
+        else unmarks member.name None (Some (DropPlus member.name))).day name counted ≡ counted
     by_tests true after = refl
     by_tests false true = refl
     by_tests false false = refl
@@ -98,6 +112,7 @@ module _ (naming : Naming) (book : Book) (sound : IsSound naming book) (bytes : 
       λ i. record (tables charged) {
         book = book_row-with book.rulings book.held bytes priced new price i;
         records = rows i;
+        counted = names naming (counted_kept naming book sound bytes charged new out i);
       }
 
   -- its identity was in dispute
@@ -149,9 +164,12 @@ module _ (naming : Naming) (book : Book) (sound : IsSound naming book) (bytes : 
       → price_in book.rulings one ≡ Some cost → has before one ≡ true → now ≡ except one before
       → tables_with now ≡ put_with (withdraw last (rival one cost))
   kept-withdrawn one there cost costs was charged =
+      let member : Member = rival one cost in
+      let gone : Tables = apply (open_number book) (withdraw last member) (tables before) in
       ap tables_with charged
       ∙ joins (except one before) (not_those (λ b. not (is b one)) before bytes new_before)
       ∙ ap (put_row false) (withdraw-step naming book sound before before_held one
       there cost costs was (has before one))
-      ∙ (λ i. put_row (sym (uncharged last (rival one cost)) i)
-      (apply (open_number book) (withdraw last (rival one cost)) (tables before)))
+      ∙ (λ i. record (put_row (sym (uncharged last member) i) gone) {
+        counted = sym (uncounted last member name gone.counted) i;
+      })

@@ -1,8 +1,8 @@
 -- Read in this order: maps in which all rows change, and tables that number their rows by periods;
--- one record more or less in lines, in charge rows and among the records; one that goes from one
--- status to another; the tables with a record, and how few rows differ; a close; a tariff, and what
--- is past; the view, and the tables after an event and over a history; rows and lines that are
--- read. Then the readings: texts, lists in order, what is found in a table, and sets that are made
+-- one record more or less in lines, in charge rows, among the records and among the names that are
+-- counted; one that goes from one status to another; the tables with a record, and how few rows and
+-- names differ; a close; a tariff, and what is past; the view, and the tables after an event and over
+-- a history; rows and lines that are read. Then the readings: texts, lists in order, what is found in a table, and sets that are made
 -- from lists; records that have rivals; books that calls made, and that they can be read back; the
 -- rulings, the records, the choices, their list, and the lines that are read, and the book; the
 -- rows of an identity; the answers to records, choices and other rulings, the lists of a period,
@@ -20,6 +20,8 @@ pub mod RestatedRows
 pub mod CostLemmas
 pub mod OpenChanges
 pub mod OpenNames
+pub mod HeldNames
+pub mod CountedNames
 pub mod Restated
 pub mod StatusSteps
 pub mod KeptCases
@@ -27,6 +29,7 @@ pub mod KeptLemmas
 pub mod KeptPrice
 pub mod ChoiceChanges
 pub mod DifferLemmas
+pub mod CountedDiffer
 pub mod MoveLemmas
 pub mod UnderNumbers
 pub mod PickedRows
@@ -66,6 +69,7 @@ pub mod CloseOrder
 pub mod ReadableLemmas
 pub mod RulingsReading
 pub mod RecordReading
+pub mod CountedHeld
 pub mod ChoiceReading
 pub mod ListedChoices
 pub mod LineSides
@@ -85,6 +89,8 @@ pub mod DisputeLemmas
 pub mod PriceSums
 pub mod FitsLemmas
 pub mod CountedLemmas
+pub mod DetailReading
+pub mod CountedFirst
 pub mod IdentityLengths
 pub mod AdoptionLemmas
 pub mod ShownLemmas

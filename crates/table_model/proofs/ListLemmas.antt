@@ -82,7 +82,7 @@ module _ (book : Book) (closed : length book.past ≡ length book.rulings.closes
       ] refl
 
   -- what is answered for a period
-  answered : {A : Type 0} (f : Period → A) (found : A)
+  pub answered : {A : Type 0} (f : Period → A) (found : A)
       → ((period : Period) → period_of book number ≡ Some period → found ≡ f period)
       → ok_or (option_map f (period_of book number)) NoSuchPeriod
       ≡ of_period number book.rulings found

@@ -1,5 +1,5 @@
 -- Where one record that is held goes from one status to another, the tables change by its row, its
--- charge row and its line.
+-- charge row and its line, and by whether its name is counted.
 use Rattle.std.proofs.Common.{◌≡◌, ℕ, List, [], ◌∷◌, ◌++◌, map, refl, sym, ap, ◌∙◌, true, false}
 use Rattle.std.proofs.Common.{true≢false, Bool, cond, not, ◌&&◌, Option, Some, None, get_or}
 use Rattle.std.specs.Prelude.{ℤ, IsSome}
@@ -18,22 +18,23 @@ use Rattle.book_model.specs.declared.row.RowKey.{RowKey}
 use Rattle.book_model.proofs.ListLemmas.{map-agree}
 use Rattle.book_model.proofs.MapLemmas.{else_find, find-both, insert-insert, get-inserted}
 use Rattle.book_model.proofs.RecordSets.{is, is_itself, same_records, has_those, in_those}
-use Rattle.book_model.proofs.RecordSets.{passes_those, not_true}
-use Rattle.book_model.proofs.SetChanges.{pick-agree, except, by_record, not_new, with-except}
-use Rattle.book_model.proofs.SetChanges.{has-except, IsUnnamed}
+use Rattle.book_model.proofs.SetChanges.{pick-agree, except, not_new, with-except}
+use Rattle.book_model.proofs.SetChanges.{has-except}
 use Rattle.book_core.specs.Effects.{is_after}
 use Rattle.table_model.specs.PeriodRows.{numbered}
 use Rattle.table_model.proofs.RestatedRows.{line_by, line_in, is_counted, part_row, join_row}
-use Rattle.table_model.proofs.RestatedRows.{set_line, restate}
+use Rattle.table_model.proofs.RestatedRows.{set_counted, set_line, restate}
 use Rattle.table_model.specs.Tables.{RecordRow, RecordTable}
 use Rattle.table_model.specs.TablesOf.{RecordStatus, tables_at, row_by, entry_by, entries_by}
-use Rattle.table_model.specs.TablesOf.{days_by, line_entries, periods_by, signed_names}
+use Rattle.table_model.specs.TablesOf.{counted_by, days_by, line_entries, periods_by, signed_names}
 use Rattle.table_model.proofs.CostLemmas.{dated-after}
+use Rattle.table_model.proofs.CountedNames.{names, names_restated}
 use Rattle.table_model.proofs.DayChanges.{days_at}
-use Rattle.table_model.proofs.LineChanges.{added, taken, has_added, no_line, lines-with}
+use Rattle.table_model.proofs.HeldNames.{alone, except-alike, twice_found, value-with}
+use Rattle.table_model.proofs.LineChanges.{added, taken, has_added}
 use Rattle.table_model.proofs.OpenChanges.{open_days, days_is, lines_is, days-join, days-part}
-use Rattle.table_model.proofs.OpenChanges.{except-absent, lines-set}
-use Rattle.table_model.proofs.OpenNames.{unnamed_in, added_before, taken_posted}
+use Rattle.table_model.proofs.OpenChanges.{lines-set}
+use Rattle.table_model.proofs.OpenNames.{added_before, taken_posted}
 use Rattle.table_model.proofs.RecordChanges.{record_table, records-with}
 
 -- what is said of one record
@@ -81,15 +82,6 @@ held_alike a b all of_a of_b q agree =
       | false ↦ λ out. not_among a all of_a q out ∙ sym (not_among b all of_b q out)
     ] refl
 
--- two sets that differ at one record alone
-except-alike : (one : List ℕ) (a b : Records)
-    → ((q : List ℕ) → is q one ≡ false → has a q ≡ has b q) → except one a ≡ except one b
-except-alike one a b same = same_records (except one a) (except one b) (λ q.
-    has_those (λ k. not (is k one)) a q
-    ∙ by_record q one (λ t. not t && has a q) (λ t. not t && has b q)
-    (λ is_one. refl) (λ apart. same q apart)
-    ∙ sym (has_those (λ k. not (is k one)) b q))
-
 -- a line is found by three tests: the record is posted, dated after the last close, charged
 by_tests : (p a c : Bool)
     → else_find (cond (not a && (not p && c)) (Some true) None) (cond (not c && p) (Some false) None)
@@ -107,10 +99,6 @@ both_found : (t : Bool) (a b c d : Option Bool)
     → else_find (cond t a c) (cond t b d) ≡ cond t (else_find a b) (else_find c d)
 both_found true a b c d = refl
 both_found false a b c d = refl
-
-twice_found : (t : Bool) (a b c : Option Bool) → cond t a c ≡ cond t a (cond t b c)
-twice_found true a b c = refl
-twice_found false a b c = refl
 
 module _ (naming : Naming) (book : Book) (sound : IsSound naming book) where
   -- the last close's day, and whether a record is dated after it
@@ -169,20 +157,13 @@ module _ (naming : Naming) (book : Book) (sound : IsSound naming book) where
         records = rows i;
         days = days i;
         lines = from_entries (numbered 1 (map (line_entries naming) (periods_by book (charged i))));
+        counted = names naming (counted_by book (charged i));
       }
 
   module _ (one : List ℕ) (there : has book.held one ≡ true) where
     -- its name
     abbrev own_name : List ℕ
     own_name = name_of naming one
-
-    -- no other record of a set has it
-    alone : (records : Records) → AreAmong records book.held
-        → IsUnnamed naming one (except one records)
-    alone records within =
-        unnamed_in naming book sound one (except one records) there
-        (λ q in_it. within q (in_those (λ b. not (is b one)) records q in_it))
-        (λ q in_it. not_true (is q one) (passes_those (λ b. not (is b one)) records q in_it))
 
     -- its row joins those of the others
     rows-with : (standing : RecordStatus) (cost : Priced) → standing.price one ≡ Some cost
@@ -193,26 +174,8 @@ module _ (naming : Naming) (book : Book) (sound : IsSound naming book) where
         ap (λ held. from_entries (entries_by naming standing held book.posted))
         (sym (with-except book.held one there))
         ∙ records-with naming standing.price standing.identity book.posted
-        (except one book.held) standing.charged one cost (alone book.held (λ q held. held)) costs
-
-    -- its line, if a set has it, joins those of the others
-    pub line-with : (plus : Bool) (records : Records) → AreAmong records book.held → (q : List ℕ)
-        (on : Bool) → has records one ≡ on
-        → find by_bytes q (signed_names naming plus records)
-        ≡ cond (is q own_name) (cond on (Some plus) None)
-        (find by_bytes q (signed_names naming plus (except one records)))
-    line-with plus records within q true is_on =
-        ap (λ all. find by_bytes q (signed_names naming plus all))
-        (sym (with-except records one is_on))
-        ∙ lines-with naming plus one (except one records) (alone records within) q
-    line-with plus records within q false is_on =
-        let rest : List ℕ → Option Bool =
-        λ q. find by_bytes q (signed_names naming plus (except one records)) in
-        ap (λ all. find by_bytes q (signed_names naming plus all))
-        (sym (except-absent records one is_on))
-        ∙ by_record q own_name (λ t. rest q) (λ t. cond t None (rest q))
-        (λ same. ap rest same ∙ no_line naming plus one (except one records) (alone records within))
-        (λ apart. refl)
+        (except one book.held) standing.charged one cost
+        (alone naming book sound one there book.held (λ q held. held)) costs
 
     -- by one status
     module _ (standing : RecordStatus) (status : IsStatus book standing) (cost : Priced)
@@ -261,11 +224,11 @@ module _ (naming : Naming) (book : Book) (sound : IsSound naming book) where
           λ sign records. find by_bytes q (signed_names naming sign (except one records)) in
           find-both by_bytes q (signed_names naming true plus) (signed_names naming false minus)
           ∙ (λ i. else_find
-          (line-with true plus (λ q on. status.charged q (added_before naming book sound
-          standing.charged q on)) q (not a && (not p && c))
+          (value-with naming book sound one there true plus (λ q on. status.charged q
+          (added_before naming book sound standing.charged q on)) q (not a && (not p && c))
           (has_added last book.posted standing.charged one ∙ ap (λ a. not a && (not p && c)) after) i)
-          (line-with false minus (λ q on. sound.posted q (taken_posted naming book sound
-          standing.charged q on)) q (not c && p)
+          (value-with naming book sound one there false minus (λ q on. sound.posted q
+          (taken_posted naming book sound standing.charged q on)) q (not c && p)
           (has_those (λ b. not (has standing.charged b)) book.posted one) i))
           ∙ both_found (is q own_name) (cond (not a && (not p && c)) (Some true) None)
           (cond (not c && p) (Some false) None) (others true plus) (others false minus)
@@ -398,6 +361,18 @@ module _ (naming : Naming) (book : Book) (sound : IsSound naming book) where
           ∙ ap (set_line (period, name) (line_in last new) (line_in last old))
           (sym (lines_is naming book from.charged))
 
+      -- the names that are counted
+      counted_restated : (tables_at naming book to).counted
+          ≡ set_counted name (is_counted last new) (is_counted last old)
+          (tables_at naming book from).counted
+      counted_restated =
+          names_restated naming book sound one there from.charged to.charged was.charged
+          becomes.charged charged_too
+          ∙ (λ i. set_counted name
+          ((sym (has_those current to.charged one) ∙ counts one there to becomes costs its_now) i)
+          ((sym (has_those current from.charged one) ∙ counts one there from was cost its) i)
+          (tables_at naming book from).counted)
+
       -- the tables
       pub restated : tables_at naming book to
           ≡ restate period last name old new (tables_at naming book from)
@@ -405,4 +380,5 @@ module _ (naming : Naming) (book : Book) (sound : IsSound naming book) where
         records = rows_restated i;
         days = days_restated i;
         lines = lines_restated i;
+        counted = counted_restated i;
       }

@@ -15,7 +15,7 @@ use Rattle.book_core.specs.declared.effects.LineChange.TheVariants.{AddPlus, Dro
 use Rattle.book_core.specs.declared.effects.LineChange.TheVariants.{AddMinus, DropMinus}
 use Rattle.book_core.specs.declared.effects.Member.{Member}
 use Rattle.book_core.specs.Effects.{is_after, charge_held, withdraw, charges, unmarks}
-use Rattle.table_model.proofs.RestatedRows.{line_by, set_line, restate}
+use Rattle.table_model.proofs.RestatedRows.{line_by, restate, set_counted, set_line}
 use Rattle.table_model.specs.RowChanges.{add_price, take_price}
 use Rattle.table_model.specs.TableChanges.{apply, charge_due_step, charge_in, reprice}
 use Rattle.table_model.specs.Tables.{DayTable, RecordRow, Tables}
@@ -41,6 +41,8 @@ module _ (period : ℕ) (last : Option ℤ) (name : List ℕ) (row : RecordRow) 
         days = cond (not posted && (after && mark)) (add_price period now.priced left) left;
         lines = set_line (period, name) (line_by posted after mark) (line_by posted first was)
             tables.lines;
+        counted = set_counted name (not posted && (after && mark)) (not posted && (first && was))
+            tables.counted;
       }
 
   -- a record that was not charged is charged so

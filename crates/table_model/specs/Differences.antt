@@ -1,9 +1,9 @@
--- In how many rows tables differ.
+-- In how many rows tables differ, and in how many of the names that are counted.
 use Rattle.std.specs.Prelude.{◌≡◌, ◌≢◌, ℕ, ◌≤◌, List, length, ℤ}
 use Rattle.std.specs.FinMap.{get}
 use Rattle.std.specs.List.{AllByRecursion}
 use Rattle.book_model.specs.declared.row.RowKey.{RowKey}
-use Rattle.table_model.specs.Tables.{Tables}
+use Rattle.table_model.specs.Tables.{CountedTable, Tables}
 
 -- the place of a row: its table and its key
 pub data TableKey : Type 0 where
@@ -35,3 +35,14 @@ DifferAt places one other =
 abbrev pub DifferInAtMost : ℕ → Tables → Tables → Type 0
 DifferInAtMost most one other =
     (places : List TableKey) × (length places ≤ most) × DifferAt places one other
+
+-- these names alone are counted in one and not in the other
+abbrev pub NamesDifferAt : List (List ℕ) → CountedTable → CountedTable → Type 0
+NamesDifferAt names one other =
+    (name : List ℕ) → AllByRecursion (λ changed. name ≢ changed) names
+    → get one name ≡ get other name
+
+-- they are at most this many
+abbrev pub NamesDifferInAtMost : ℕ → CountedTable → CountedTable → Type 0
+NamesDifferInAtMost most one other =
+    (names : List (List ℕ)) × (length names ≤ most) × NamesDifferAt names one other

@@ -5,7 +5,9 @@ use Rattle.std.specs.Prelude.{All, Option, slice_get, true}
 use Rattle.std.specs.FinMap.{entries, values}
 use Rattle.std.specs.List.Sorted.{IsPermutation, IsStrictlySortedBy}
 use Rattle.std.specs.Option.{option_map}
+use Rattle.book_model.specs.declared.detail.Detail.{Detail}
 use Rattle.book_model.specs.declared.row.ChargeRow.{ChargeRow}
+use Rattle.book_model.specs.Words.{details_outcome, next_detail_outcome}
 use Rattle.book_model.specs.Words.{Book, charges_outcome, adjustments_outcome, disputes_outcome}
 use Rattle.book_model.specs.Words.{periods_outcome, no_event, Naming, AreDisputes, AreLines}
 use Rattle.book_model.specs.Words.{AreRows, IsPriced, Period, Terms, by_bytes, choice_seen}
@@ -15,8 +17,9 @@ use Rattle.table_model.specs.TablesOf.{tables_of}
 use Rattle.table_model.specs.DisputesRead.{FindsDisputed, NamedRow, by_identity, dispute_with}
 use Rattle.table_model.specs.DisputesRead.{disputed_among, disputed_rows, disputes_read, grouped}
 use Rattle.table_model.specs.DisputesRead.{has_none_charged, join_last, uncharged_among}
+use Rattle.table_model.specs.DetailsRead.{FindsLeast, details_read, is_sought, next_detail_read}
 use Rattle.table_model.specs.ListsRead.{charges_read, adjustments_read, choice_read_at, is_period}
-use Rattle.table_model.specs.ListsRead.{rulings_read}
+use Rattle.table_model.specs.ListsRead.{of_period, rulings_read}
 use Rattle.table_model.specs.BookIn.{row_record}
 use Rattle.table_model.specs.CountedRead.{counted_rows, row_costs, what_if_read}
 use Rattle.table_model.specs.Readable.{IsReadable}
@@ -98,6 +101,26 @@ pub record CountedFollows : Type 0 where
   pub few :
       (naming : Naming) (book : Book) → IsReadable naming book
       → length (entries (tables_of naming book).records) ≤ most_held
+
+-- The details of a period are read from the records that are counted, and so is the next of them:
+-- it is the least of those that are sought.
+pub record DetailsFollow : Type 0 where
+  pub details :
+      (naming : Naming) (book : Book) (number : ℕ) (centre : Option (List ℕ))
+      → IsReadable naming book
+      → details_outcome naming number centre book
+      ≡ no_event (details_read number centre book.rulings (tables_of naming book))
+  pub next :
+      (naming : Naming) (book : Book) (number : ℕ) (centre : Option (List ℕ))
+      (last : Option Detail) → IsReadable naming book
+      → next_detail_outcome naming number centre last book
+      ≡ no_event (next_detail_read number centre last book.rulings (tables_of naming book))
+  pub found :
+      (naming : Naming) (book : Book) (number : ℕ) (centre : Option (List ℕ))
+      (last found : Option Detail) → IsReadable naming book
+      → FindsLeast (is_sought number centre last book.rulings) (tables_of naming book) found
+      → next_detail_outcome naming number centre last book
+      ≡ no_event (of_period number book.rulings found)
 
 -- The trail of the record of a name: its row, the rows of its identity, the choices that name one
 -- of these, and its life by its own lines alone.

@@ -1,19 +1,22 @@
 -- What happens to one row, and so to the table that it stands in: to a charge row, which a price
--- joins or leaves, and which a close may move; to a line; and to a record's row, where the record
+-- joins or leaves, and which a close may move; to a line; to the name of a record that the charge
+-- rows count; and to a record's row, where the record
 -- becomes charged or is so no more, costs something else, is posted, or gets another identity.
 use Rattle.std.specs.Prelude.{ℕ, ℤ, suc, ◌+◌, ◌-◌, ◌==◌, int_lt, Bool, true, false, ◌&&◌}
 use Rattle.std.specs.Prelude.{if◌then◌else◌, List, [], Option, Some, None, unwrap_or}
 use Rattle.std.specs.FinMap.{get, insert, remove}
+use Rattle.std.specs.Option.{option_map_or}
 use Rattle.tariff_rules.specs.declared.priced.Priced.{Priced}
 use Rattle.book_model.specs.declared.row.ChargeRow.{ChargeRow}
 use Rattle.book_model.specs.declared.row.RowKey.{RowKey}
 use Rattle.book_model.specs.Words.{identity2_of, key_of, record_with, row_at}
 use Rattle.book_core.specs.declared.effects.DayChange.{DayChange}
 use Rattle.book_core.specs.declared.effects.DayChange.TheVariants.{Add, Take}
+use Rattle.book_core.specs.declared.effects.Effects.{Effects}
 use Rattle.book_core.specs.declared.effects.LineChange.{LineChange}
 use Rattle.book_core.specs.declared.effects.LineChange.TheVariants.{AddPlus, DropPlus}
 use Rattle.book_core.specs.declared.effects.LineChange.TheVariants.{AddMinus, DropMinus}
-use Rattle.table_model.specs.Tables.{RecordRow, RecordTable, DayTable, LineTable}
+use Rattle.table_model.specs.Tables.{CountedTable, DayTable, LineTable, RecordRow, RecordTable}
 
 -- the charge row with one more price
 abbrev pub with_price : ChargeRow → Priced → ChargeRow
@@ -69,6 +72,23 @@ change_line period (Some (AddPlus name)) lines = insert lines (period, name) tru
 change_line period (Some (DropPlus name)) lines = remove lines (period, name)
 change_line period (Some (AddMinus name)) lines = insert lines (period, name) false
 change_line period (Some (DropMinus name)) lines = remove lines (period, name)
+
+-- a name leaves those that are counted, where a price leaves the charge rows
+abbrev pub uncount_where : Option DayChange → List ℕ → CountedTable → CountedTable
+uncount_where None name counted = counted
+uncount_where (Some (Add priced)) name counted = counted
+uncount_where (Some (Take priced)) name counted = remove counted name
+
+-- the record that is no longer charged is counted no more, where its price leaves the charge rows
+abbrev pub uncounted_by : Effects → CountedTable → CountedTable
+uncounted_by effects counted =
+    option_map_or (λ name. uncount_where effects.day name counted) effects.unmark counted
+
+-- a name joins those that are counted, where a price joins the charge rows
+abbrev pub count_where : Option DayChange → List ℕ → CountedTable → CountedTable
+count_where None name counted = counted
+count_where (Some (Add priced)) name counted = insert counted name tt
+count_where (Some (Take priced)) name counted = counted
 
 -- a record's row, if there is one, is marked as charged, or loses its mark
 abbrev pub mark_at : Bool → List ℕ → Option RecordRow → RecordTable → RecordTable

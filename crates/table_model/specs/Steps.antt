@@ -7,8 +7,8 @@ use Rattle.book_model.specs.declared.row.ChargeRow.{ChargeRow}
 use Rattle.book_model.specs.declared.row.RowKey.{RowKey}
 use Rattle.book_core.specs.declared.effects.DayChange.{DayChange}
 use Rattle.table_model.specs.MapChanges.{updated, moved}
-use Rattle.table_model.specs.RowChanges.{by_second_rule, change_day, mark_at, move_on, post_by}
-use Rattle.table_model.specs.RowChanges.{price_at}
+use Rattle.table_model.specs.RowChanges.{by_second_rule, change_day, count_where, mark_at, move_on}
+use Rattle.table_model.specs.RowChanges.{post_by, price_at}
 use Rattle.table_model.specs.Tables.{RecordRow, Tables}
 use Rattle.table_model.specs.TablesOf.{row_key}
 
@@ -85,3 +85,15 @@ put_line_row period name plus tables =
 
 abbrev pub drop_line_row : ℕ → List ℕ → Tables → Tables
 drop_line_row period name tables = record tables { lines = remove tables.lines (period, name) }
+
+-- the charge rows of some period count the record of a name from now on, or do so no more
+abbrev pub count_row : List ℕ → Tables → Tables
+count_row name tables = record tables { counted = insert tables.counted name tt }
+
+abbrev pub uncount_row : List ℕ → Tables → Tables
+uncount_row name tables = record tables { counted = remove tables.counted name }
+
+-- they count it where its price joins them
+abbrev pub count_where_row : Option DayChange → List ℕ → Tables → Tables
+count_where_row change name tables =
+    record tables { counted = count_where change name tables.counted }

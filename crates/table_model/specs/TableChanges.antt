@@ -11,8 +11,9 @@ use Rattle.book_core.specs.Effects.{charge_held}
 use Rattle.book_core.specs.declared.effects.ChoiceEffects.{ChoiceEffects}
 use Rattle.book_core.specs.declared.effects.Effects.{Effects}
 use Rattle.table_model.specs.RowChanges.{add_price, change_day, change_line, change_mark}
-use Rattle.table_model.specs.RowChanges.{take_price}
-use Rattle.table_model.specs.Steps.{put_choice_row, put_record_row, set_mark_row, set_sums}
+use Rattle.table_model.specs.RowChanges.{take_price, uncounted_by}
+use Rattle.table_model.specs.Steps.{count_where_row, put_choice_row, put_record_row, set_mark_row}
+use Rattle.table_model.specs.Steps.{set_sums}
 use Rattle.table_model.specs.Tables.{RecordRow, Tables}
 use Rattle.table_model.specs.Views.{member_at}
 
@@ -22,6 +23,7 @@ apply period effects tables = record tables {
   records = change_mark effects.unmark tables.records;
   days = change_day period effects.day tables.days;
   lines = change_line period effects.line tables.lines;
+  counted = uncounted_by effects tables.counted;
 }
 
 -- the row of a new record
@@ -34,17 +36,20 @@ new_row rulings bytes priced effects = record {
   posted = false;
 }
 
--- the tables with a new record: its effects in the open period, its row under its name, and the
--- record counted in the row of the book
+-- the tables with a new record: its effects in the open period, its row under its name, its name
+-- among those that are counted if its price joins a charge row, and the record counted in the row of
+-- the book
 abbrev pub put_new : Rulings → List ℕ → List ℕ → Priced → Effects → Tables → Tables
 put_new rulings name bytes priced effects tables =
     set_sums (tables.book.held + 1) (tables.book.amount + priced.amount)
+    (count_where_row effects.day name
     (put_record_row name (new_row rulings bytes priced effects)
-    (apply (open_by rulings) effects tables))
+    (apply (open_by rulings) effects tables)))
 
 -- the tables with a record that is held charged in the open period
 abbrev pub charge_in : ℕ → List ℕ → Effects → Tables → Tables
-charge_in period name effects tables = set_mark_row true name (apply period effects tables)
+charge_in period name effects tables =
+    count_where_row effects.day name (set_mark_row true name (apply period effects tables))
 
 -- The tables with one more choice: what it withdraws, if anything, then the chosen record charged,
 -- and the choice's row under its number.

@@ -54,6 +54,10 @@ DayTable = FinMap (by_period by_key) ChargeRow
 abbrev pub LineTable : Type 0
 LineTable = FinMap (by_period by_bytes) Bool
 
+-- the names of the records that the charge rows of some period count
+abbrev pub CountedTable : Type 0
+CountedTable = FinMap by_bytes (Unit {0})
+
 -- choices by their number, from 1
 abbrev pub ChoiceTable : Type 0
 ChoiceTable = FinMap nat_cmp ChoiceRow
@@ -67,3 +71,4 @@ pub record Tables : Type 0 where
   pub records : RecordTable
   pub days : DayTable
   pub lines : LineTable
+  pub counted : CountedTable

@@ -6,7 +6,8 @@ use Rattle.std.specs.List.{filter_map}
 use Rattle.std.specs.Option.{option_map}
 use Rattle.book_model.specs.Words.{data_of, total_of, Book, charged_of, Period, Records, Naming}
 use Rattle.book_model.specs.Words.{name_of, Rulings, AcceptedTerms, price_in, identity_by, members, has}
-use Rattle.book_model.specs.Words.{period_by, rule_by, rows_of, Choice, last_close}
+use Rattle.book_model.specs.Words.{period_by, rule_by, rows_of, Choice, is_counted_in, last_close}
+use Rattle.book_model.specs.Words.{those}
 use Rattle.tariff_rules.specs.declared.priced.Priced.{Priced}
 use Rattle.book_model.specs.declared.row.ChargeRow.{ChargeRow}
 use Rattle.book_model.specs.declared.row.RowKey.{RowKey}
@@ -93,10 +94,14 @@ days_by price period =
 abbrev pub day_entries : Rulings → Period → List (RowKey × ChargeRow)
 day_entries rulings = days_by (price_in rulings)
 
--- a line for each of some records, under the record's name
+-- a value for each of some records, under the record's name
+abbrev pub under_names : {V : Type 0} → Naming → V → Records → List (List ℕ × V)
+under_names {V} naming value records =
+    map {B = List ℕ × V} (λ bytes. (name_of naming bytes, value)) (members records)
+
+-- a line for each of some records
 abbrev pub signed_names : Naming → Bool → Records → List (List ℕ × Bool)
-signed_names naming plus records =
-    map {B = List ℕ × Bool} (λ bytes. (name_of naming bytes, plus)) (members records)
+signed_names naming plus records = under_names naming plus records
 
 -- the lines of a period
 abbrev pub line_entries : Naming → Period → List (List ℕ × Bool)
@@ -130,6 +135,14 @@ abbrev pub periods_by : Book → Records → List Period
 periods_by book charged =
     book.past ++ period_by (last_close book.rulings) book.posted charged ∷ []
 
+-- of the records held, those that the rows of some period count, by what is charged now
+abbrev pub counted_by : Book → Records → Records
+counted_by book charged = those (is_counted_in (periods_by book charged)) book.held
+
+-- the names of some records, with nothing else
+abbrev pub counted_names : Naming → Records → List (List ℕ × Unit {0})
+counted_names naming records = under_names naming tt records
+
 -- all tables of a book at this state of its records
 abbrev pub tables_at : Naming → Book → RecordStatus → Tables
 tables_at naming book standing = record {
@@ -140,6 +153,7 @@ tables_at naming book standing = record {
   records = from_entries (entries_by naming standing book.held book.posted);
   days = from_entries (numbered 1 (map (days_by standing.price) (periods_by book standing.charged)));
   lines = from_entries (numbered 1 (map (line_entries naming) (periods_by book standing.charged)));
+  counted = from_entries (counted_names naming (counted_by book standing.charged));
 }
 
 -- all tables of a book

@@ -5,8 +5,8 @@ ghost use Rattle.table_model.specs.AnswerLaws.{AcceptFollows, AdoptionsFollow, C
 ghost use Rattle.table_model.specs.AnswerLaws.{NumbersFit, TermsFollow};
 ghost use Rattle.table_model.specs.AnswerLaws.{TwoAreEnough, ViewIsDetermined};
 ghost use Rattle.table_model.specs.ReadingLaws.{BookFollows, CallsRead, CallsStay, TablesDetermine};
-ghost use Rattle.table_model.specs.ListLaws.{CountedFollows, DisputesFollow, ListsFollow};
-ghost use Rattle.table_model.specs.ListLaws.{ListsShow, TrailsFollow};
+ghost use Rattle.table_model.specs.ListLaws.{CountedFollows, DetailsFollow, DisputesFollow};
+ghost use Rattle.table_model.specs.ListLaws.{ListsFollow, ListsShow, TrailsFollow};
 
 /// New books are made by calls, and each call that is an event leaves such books.
 pub fn calls_stay()
@@ -71,6 +71,11 @@ pub fn lists_follow()
 /// are the charge rows that the period would have by another tariff, which can be shown.
 pub fn counted_follows()
     ensures { CountedFollows }
+{}
+
+/// The details of a period are read from the records that are counted, and so is the next of them.
+pub fn details_follow()
+    ensures { DetailsFollow }
 {}
 
 /// The disputes are the rows of identities that have no charged row, by identity, then name, in

@@ -9,13 +9,13 @@ use Rattle.std.specs.declared.cmp.Ordering.TheVariants.{Less, Equal, Greater}
 use Rattle.tree_rows.specs.Indexes.{by_parts, by_bytes, by_both, by_mark}
 
 -- where two comparisons together say Equal, the first does
-first_equal : (a b : Ordering) → ordering_then a b ≡ Equal → a ≡ Equal
+pub first_equal : (a b : Ordering) → ordering_then a b ≡ Equal → a ≡ Equal
 first_equal Less b e = absurd (cc)
 first_equal Equal b e = refl
 first_equal Greater b e = absurd (cc)
 
 -- and so does the second
-second_equal : (a b : Ordering) → ordering_then a b ≡ Equal → b ≡ Equal
+pub second_equal : (a b : Ordering) → ordering_then a b ≡ Equal → b ≡ Equal
 second_equal Less b e = absurd (cc)
 second_equal Equal b e = e
 second_equal Greater b e = absurd (cc)

@@ -4,6 +4,7 @@ use Rattle.std.proofs.Common.{Option, Some, None, refl, sym, ap, ◌∙◌, true
 use Rattle.std.specs.Prelude.{T}
 use Rattle.std.specs.FinMap.{FinMap, get, insert, remove, entries, entries_sorted, find, is_sorted}
 use Rattle.std.specs.FinMap.{get-entries, get-from_entries, get-insert, get-remove, same_map}
+use Rattle.std.specs.Option.{option_map}
 use Rattle.std.specs.Ordering.{eq_by_cmp}
 use Rattle.std.specs.declared.cmp.Ordering.{Ordering}
 use Rattle.std.proofs.lemmas.Cmp.{eq_by_cmp_equiv}
@@ -22,6 +23,20 @@ one_stays : {A : Type 0} (b : Bool) (x y : Option A) → (b ≡ true → y ≡ x
     → cond b x (cond b None y) ≡ y
 one_stays true x y one = sym (one refl)
 one_stays false x y one = refl
+
+-- what is put where a test is passed hides what was there only where it is passed
+one_hides : {A : Type 0} (b there : Bool) (x : A)
+    → cond b (Some x) None ≡ cond b (Some x) (cond there (cond b (Some x) None) None)
+one_hides true there x = refl
+one_hides false true x = refl
+one_hides false false x = refl
+
+-- and to take it leaves nothing
+none_hides : {A : Type 0} (b there : Bool) (x : A)
+    → None ≡ cond b None (cond there (cond b (Some x) None) None)
+none_hides true there x = refl
+none_hides false true x = refl
+none_hides false false x = refl
 
 -- of what is there only where a test is passed, nothing is left once that is removed
 none_left : {A : Type 0} (b : Bool) (x : A) → cond b None (cond b (Some x) None) ≡ None
@@ -207,3 +222,84 @@ module _ {K V Q : Type 0} {R : K → K → Ordering} {P : Q → Q → Ordering} 
     index_names m q there =
         answered (name q) q (get m (name q))
         (sym (indexed m q) ∙ get-entries (index_of key m) q ∙ there)
+
+    -- what the index has at a key, by the key that is made of what the map has
+    key_answer : Q → Option Q → Option (Unit {0})
+    key_answer q None = None
+    key_answer q (Some x) = cond (eq_by_cmp P q x) (Some tt) None
+
+    answer_by_key : (q : Q) (had : Option V) → index_answer P key (name q) q had
+        ≡ key_answer q (option_map (λ (v : V). key (name q, v)) had)
+    unfolding key_answer
+    answer_by_key q None = refl
+    answer_by_key q (Some v) = refl
+
+    -- maps of which the same keys are made have one index
+    pub index_alike : (m n : FinMap R V)
+        → ((k : K) → option_map (λ (v : V). key (k, v)) (get m k)
+        ≡ option_map (λ (v : V). key (k, v)) (get n k))
+        → index_of {P = P} key m ≡ index_of key n
+    index_alike m n same =
+        same_map index.index_total index.index_exact (index_of key m) (index_of key n) (λ q.
+        indexed m q ∙ answer_by_key q (get m (name q)) ∙ ap (key_answer q) (same (name q))
+        ∙ sym (indexed n q ∙ answer_by_key q (get n (name q))))
+
+    -- A map has a value at a key, or has nothing there.
+    module _ (m : FinMap R V) (k : K) (v : V) (there : Bool)
+        (had : get m k ≡ cond there (Some v) None)
+      where
+        -- of the index keys that name the key, the index has at most the one that is made of the entry
+        at_most_one : (q : Q) → eq_by_cmp R (name q) k ≡ true → get (index_of {P = P} key m) q
+            ≡ cond there (cond (eq_by_cmp P q (key (k, v))) (Some tt) None) None
+        at_most_one q here = by there had
+          where
+            by : (there : Bool) → get m k ≡ cond there (Some v) None
+                → get (index_of {P = P} key m) q
+                ≡ cond there (cond (eq_by_cmp P q (key (k, v))) (Some tt) None) None
+            by true some = one_named m k v q some here
+            by false none = none_named m k q none here
+
+        -- where the value is put, the index has the key that is made of it
+        pub index_put : index_of {P = P} key (insert m k v) ≡ insert (index_of key m) (key (k, v)) tt
+        index_put =
+            same_map index.index_total index.index_exact (index_of key (insert m k v))
+            (insert (index_of key m) (key (k, v)) tt)
+            (λ q. indexed_put m k v q ∙ by q (eq_by_cmp R (name q) k) refl
+            ∙ sym (get-insert index.index_total (index_of key m) (key (k, v)) tt q))
+          where
+            by : (q : Q) (same : Bool) → eq_by_cmp R (name q) k ≡ same
+                → cond (eq_by_cmp P q (key (k, v))) (Some tt)
+                (cond (eq_by_cmp R (name q) k) None (get (index_of {P = P} key m) q))
+                ≡ cond (eq_by_cmp P q (key (k, v))) (Some tt) (get (index_of {P = P} key m) q)
+            by q true is =
+                let here : Bool = eq_by_cmp P q (key (k, v)) in
+                ap (λ b. cond here (Some tt) (cond b None (get (index_of {P = P} key m) q))) is
+                ∙ one_hides here there tt
+                ∙ ap (cond here (Some tt)) (sym (at_most_one q is))
+            by q false is =
+                ap (λ b. cond (eq_by_cmp P q (key (k, v))) (Some tt)
+                (cond b None (get (index_of {P = P} key m) q))) is
+
+        -- and where it is taken, the key goes
+        pub index_taken : index_of {P = P} key (remove m k) ≡ remove (index_of key m) (key (k, v))
+        index_taken =
+            same_map index.index_total index.index_exact (index_of key (remove m k))
+            (remove (index_of key m) (key (k, v)))
+            (λ q. indexed (remove m k) q
+            ∙ ap (index_answer P key (name q) q) (get-remove index.total m k (name q))
+            ∙ by q (eq_by_cmp R (name q) k) refl
+            ∙ sym (get-remove index.index_total (index_of key m) (key (k, v)) q))
+          where
+            by : (q : Q) (same : Bool) → eq_by_cmp R (name q) k ≡ same
+                → index_answer P key (name q) q
+                (cond (eq_by_cmp R (name q) k) None (get m (name q)))
+                ≡ cond (eq_by_cmp P q (key (k, v))) None (get (index_of {P = P} key m) q)
+            by q true is =
+                let here : Bool = eq_by_cmp P q (key (k, v)) in
+                ap (λ b. index_answer P key (name q) q (cond b None (get m (name q)))) is
+                ∙ none_hides here there tt
+                ∙ ap (cond here None) (sym (at_most_one q is))
+            by q false is =
+                ap (λ b. index_answer P key (name q) q (cond b None (get m (name q)))) is
+                ∙ sym (indexed m q)
+                ∙ sym (ap (λ b. cond b None (get (index_of {P = P} key m) q)) (apart (k, v) q is))

@@ -1,5 +1,5 @@
 -- What a look-up, a write and a removal by key are to the map that a tree holds.
-use Rattle.std.proofs.Common.{◌≡◌, ℕ, List, Bool, true, false, cond, None, refl, sym, ap}
+use Rattle.std.proofs.Common.{◌≡◌, ℕ, List, Bool, true, false, cond, None, Some, refl, sym, ap}
 use Rattle.std.proofs.Common.{ap₂, subst, ◌∙◌}
 use Rattle.sqlite_trees.specs.View.{View}
 use Rattle.std.proofs.Common.{true≢false}
@@ -11,7 +11,7 @@ use Rattle.sqlite_trees.specs.Tree.{insert_entry, remove_entry}
 use Rattle.sqlite_value.specs.Keys.{plain}
 use Rattle.sqlite_value.specs.Order.{Row}
 use Rattle.tree_rows.specs.Layouts.{Layout, row_of, rows_of, Answers}
-use Rattle.tree_rows.specs.Rows.{Finds, Puts, Drops, without}
+use Rattle.tree_rows.specs.Rows.{Finds, Puts, Drops, Replaces, replaced, without}
 use Rattle.tree_rows.proofs.Maps.{looked_up, inserted}
 use Rattle.tree_rows.proofs.Taking.{removed, changed}
 
@@ -88,6 +88,28 @@ module _ {K V : Type 0} {R : K → K → Ordering} (layout : Layout K V R) where
       ∙ drop_is m k drops.found drops.hit
       (subst (λ one. Finds one (rows_of layout m) drops.found drops.hit) key_is
       (subst (λ rows. Finds key rows drops.found drops.hit) held drops.finds))
+
+  -- Where a row is put in the place of the key's, if that is there, the tree holds a map that has
+  -- this row then, and is the same where it is not.
+  pub rows_replaced : {old new : View} {tree : ℕ} {key row : Row} (m n : FinMap R V) (k : K)
+      → Replaces old new tree key row → old.trees tree ≡ rows_of layout m → key ≡ layout.key k
+      → ((v : V) → get m k ≡ Some v
+      → insert_entry plain row (remove_entry plain (row_of layout (k, v)) (rows_of layout m))
+      ≡ rows_of layout n)
+      → (get m k ≡ None → m ≡ n) → new.trees tree ≡ rows_of layout n
+  rows_replaced {key = key} {row = row} m n k replaces held key_is there missing =
+      replaces.rewrites.rows_now
+      ∙ ap (replaced replaces.hit replaces.found row) held
+      ∙ by_answer replaces.hit (found_is m k replaces.found replaces.hit
+      (subst (λ one. Finds one (rows_of layout m) replaces.found replaces.hit) key_is
+      (subst (λ rows. Finds key rows replaces.found replaces.hit) held replaces.finds)))
+    where
+      by_answer : (hit : Bool) → Answers layout m k replaces.found hit
+          → replaced hit replaces.found row (rows_of layout m) ≡ rows_of layout n
+      by_answer true answer =
+          ap (λ one. insert_entry plain row (remove_entry plain one (rows_of layout m))) answer.2
+          ∙ there answer.0 answer.1
+      by_answer false none = ap (rows_of layout) (missing none)
 
   -- and what a look-up shows is the map's
   pub row_found : {rows : List Row} {key row : Row} {hit : Bool} (m : FinMap R V) (k : K)

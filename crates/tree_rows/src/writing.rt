@@ -5,7 +5,7 @@ ghost use Rattle.sqlite_trees.specs.Tree.{insert_entry, remove_entry};
 ghost use Rattle.sqlite_trees.specs.View.{IsClean, KeepsSchema};
 ghost use Rattle.sqlite_value.specs.Keys.{plain};
 ghost use Rattle.tree_rows.specs.Calls.{CommitsNothing, IsSorted, LeavesCommitted};
-ghost use Rattle.tree_rows.specs.Rows.{Drops, Puts, Rewrites};
+ghost use Rattle.tree_rows.specs.Rows.{Drops, Puts, Replaces, Rewrites};
 
 use crate::lookup::find_row;
 use sqlite_trees::error::StoreError;
@@ -72,6 +72,30 @@ pub fn put_row<S: Store>(
         return change_row(store, tree, found, row);
     }
     store.insert(tree, row)
+}
+
+/// Puts a row in the place of the one that has the key, if one has; `found` is where that is read
+/// to. Nothing is committed; an error is the store's own, and the old row may be gone then until
+/// the transaction is rolled back.
+#[tactic(auto, using(crate::proofs::Calls::calls_in_turn))]
+pub fn replace_row<S: Store>(
+    store: &mut S,
+    tree: u32,
+    key: &Row,
+    row: &Row,
+    found: &mut Row,
+) -> Result<(), StoreError>
+    requires { IsSorted S.Store store.old tree }
+    ensures replaces { OnOk result (IsClean (S.Store.view store.new)
+        → Replaces (S.Store.view store.old) (S.Store.view store.new) tree key.now row.now) }
+    ensures kept { OnErr result (LeavesCommitted S.Store store.old store.new) }
+    ensures schema { KeepsSchema (S.Store.view store.old) (S.Store.view store.new) }
+    ensures quiet { CommitsNothing S.Store store.old store.new }
+{
+    if find_row(store, tree, key, found)? {
+        return change_row(store, tree, found, row);
+    }
+    Ok(())
 }
 
 /// Takes the row that has the key, if one has; `found` is where it is read to. Nothing is

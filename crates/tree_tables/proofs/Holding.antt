@@ -15,8 +15,9 @@ use Rattle.tree_rows.proofs.Keyed.{rows_put}
 use Rattle.tree_tables.specs.Columns.{book_columns, tariff_columns, closed_columns}
 use Rattle.tree_tables.specs.Columns.{record_columns, day_columns, line_columns}
 use Rattle.tree_tables.specs.Columns.{identity_columns, mark_columns, choice_columns}
-use Rattle.tree_tables.specs.Columns.{choice_name_columns}
-use Rattle.tree_tables.specs.Holds.{AreUnderOwnKeys, Holds, choice_name_index, identity_index, marks}
+use Rattle.tree_tables.specs.Columns.{choice_name_columns, detail_columns}
+use Rattle.tree_tables.specs.Holds.{AreUnderOwnKeys, Holds, choice_name_index, detail_index}
+use Rattle.tree_tables.specs.Holds.{identity_index, marks}
 use Rattle.tree_tables.specs.Steps.{Always, Changes}
 
 -- the rows of the trees that hold the tables, from the first tree on
@@ -28,7 +29,8 @@ table_rows tables =
     ∷ map identity_columns (entries (identity_index tables.records))
     ∷ map mark_columns (entries (marks tables.records))
     ∷ map choice_columns (entries tables.choices)
-    ∷ map choice_name_columns (entries (choice_name_index tables.choices)) ∷ []
+    ∷ map choice_name_columns (entries (choice_name_index tables.choices))
+    ∷ map detail_columns (entries (detail_index tables.counted tables.records)) ∷ []
 
 -- each tree but one has the rows that it had
 abbrev pub SameBut : Trees → Trees → ℕ → Type 0

@@ -26,14 +26,16 @@ use Rattle.tree_rows.proofs.Indexes.{index_has, index_names}
 use Rattle.tree_rows.proofs.Passing.{all_passed, first_there, passed_with, walk_start, walk_step}
 use Rattle.tree_rows.proofs.Taking.{some_is}
 use Rattle.tree_rows.proofs.Updating.{get_updated, updated_done, updated_step}
+use Rattle.tree_tables.proofs.CountedRows.{details_same}
 use Rattle.tree_tables.proofs.Holding.{SameBut, apart, has_rows, have_but, holds_rows}
 use Rattle.tree_tables.proofs.Layouts.{identity_layout, mark_layout, record_layout}
 use Rattle.tree_tables.proofs.Looking.{only_both, only_looks, rewrites_after_look}
 use Rattle.tree_tables.proofs.RecordIndexes.{identity_named, index_row_changed, mark_named}
 use Rattle.tree_tables.proofs.Records.{record_there}
 use Rattle.tree_tables.proofs.Renewing.{held_by_same, same_beside}
-use Rattle.tree_tables.specs.Columns.{identity_columns, mark_columns, record_columns}
-use Rattle.tree_tables.specs.Holds.{Holds, identity_index, identity_key, marks}
+use Rattle.tree_tables.specs.Columns.{detail_columns, identity_columns, mark_columns}
+use Rattle.tree_tables.specs.Columns.{record_columns}
+use Rattle.tree_tables.specs.Holds.{Holds, detail_index, identity_index, identity_key, marks}
 use Rattle.tree_tables.specs.Walks.{HoldsFoundBy, IsKeying, KeysNext, MovesKeys, entry_key}
 use Rattle.tree_tables.specs.Walks.{rows_past, with_rows_of}
 
@@ -94,6 +96,7 @@ module _ (tables : Tables) {old : Trees} {key : Row} (so_far : IsKeying tables o
       sym (updated_done record_layout.total record_layout.exact by_second_rule so_far.keyed all)
       ∙ so_far.whole in
       held_by_same so_far.holds (ap identity_index same) (ap marks same)
+      (ap (detail_index tables.counted) same)
 
   -- An entry, and the row of the record that it names.
   module _ {named : Row} (entry : Row) {row : Row} {hit : Bool}
@@ -197,6 +200,11 @@ module _ (tables : Tables) {old : Trees} {key : Row} (so_far : IsKeying tables o
           (λ i. column (row_is i) 9 ∷ column (row_is i) 1 ∷ column (entry_is i) 1 ∷ [])
           (λ i. column (row_is i) 9 ∷ column (entry_is i) 0 ∷ column (entry_is i) 1 ∷ [])
           (one 7 (apart 7 6 refl) ∙ so_far.holds.rest.marks) names.1 in
+          let shown_rows : new 10 ≡ map detail_columns (entries (detail_index tables.counted keyed)) =
+          two 10 (apart 10 7 refl) ∙ one 10 (apart 10 6 refl) ∙ so_far.holds.rest.details
+          ∙ ap (λ shown. map detail_columns (entries shown))
+          (sym (details_same tables.counted so_far.keyed at.1 was (by_second_rule was) names.1 refl))
+          in
           record {
             last = Some at;
             place = place;
@@ -204,10 +212,11 @@ module _ (tables : Tables) {old : Trees} {key : Row} (so_far : IsKeying tables o
             holds = record {
               records = two 3 (apart 3 7 refl) ∙ one 3 (apart 3 6 refl) ∙ so_far.holds.records;
               rest = holds_rows so_far.holds.rest.placed
+                  (have_but {old = with_rows_of keyed new} 10 (λ other apart. refl) shown_rows
                   (have_but 7 (same_beside keyed 7 two) mark_rows
                   (have_but 6 (same_beside keyed 6 one) identity_rows
                   (have_but 3 (other_rows so_far.keyed keyed old) refl (has_rows so_far.holds.rest) refl)
-                  refl) refl);
+                  refl) refl) refl);
             };
             whole = updated_step record_layout.total record_layout.exact by_second_rule
                 (λ one. refl) so_far.keyed at.1 was names.1 ∙ so_far.whole;

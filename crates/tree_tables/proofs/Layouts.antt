@@ -1,8 +1,5 @@
 -- Each table as a map with its entries in the rows of its tree.
 use Rattle.std.proofs.Common.{◌≡◌, ℕ, ℤ, pos, List, [], ◌∷◌, Bool, Option, refl, ap₂, ◌∙◌}
-use Rattle.std.proofs.Common.{arith}
-use Rattle.std.proofs.lemmas.Bool.Decides.{nat_tests}
-use Rattle.std.proofs.lemmas.Int.{ints}
 use Rattle.std.specs.Cmp.{nat_cmp_total}
 use Rattle.std.specs.Cmp.{IsTotalOrder}
 use Rattle.std.specs.FinMap.{IsAntisymmetric, int_cmp-IsAntisymmetric, nat_cmp-IsAntisymmetric}
@@ -11,8 +8,10 @@ use Rattle.std.proofs.lemmas.Cmp.{nat_list_cmp_total, int_cmp_total}
 use Rattle.std.proofs.lemmas.Map.Lookups.{exact_bytes}
 use Rattle.sqlite_value.proofs.OrderLemmas.{value_cmp-Blob, value_cmp-Int, value_cmp-Text}
 use Rattle.sqlite_value.proofs.OrderLemmas.{then-Equal}
+use Rattle.sqlite_value.specs.Order.{Row, row_cmp}
 use Rattle.sqlite_value.specs.declared.value.Value.TheVariants.{Blob, Int, Text}
 use Rattle.book_model.specs.Words.{by_bytes, by_key}
+use Rattle.book_model.specs.declared.detail.Detail.{Detail}
 use Rattle.book_model.specs.declared.row.ChargeRow.{ChargeRow}
 use Rattle.book_model.specs.declared.row.RowKey.{RowKey}
 use Rattle.book_model.proofs.RowLemmas.{by_key_total, by_key_exact}
@@ -23,8 +22,11 @@ use Rattle.tree_rows.specs.Indexes.{by_both, by_mark}
 use Rattle.tree_rows.specs.Layouts.{Layout}
 use Rattle.tree_rows.proofs.IndexOrders.{by_both_total, by_both_exact, by_mark_total, by_mark_exact}
 use Rattle.tree_rows.proofs.IndexOrders.{by_bytes_exact, parts_exact, parts_total}
-use Rattle.tree_tables.specs.Columns.{flag, tariff_value, day_key_columns}
-use Rattle.tree_tables.specs.Holds.{by_chosen}
+use Rattle.tree_tables.specs.Columns.{flag, tariff_value, day_key_columns, detail_columns}
+use Rattle.tree_tables.specs.Columns.{step_value}
+use Rattle.tree_tables.specs.Holds.{by_chosen, by_shown, by_work}
+use Rattle.tree_tables.proofs.DetailOrders.{by_shown_exact, by_shown_total, by_step, in_turn}
+pub use Rattle.tree_tables.proofs.DetailOrders.{numbers}
 
 -- tariffs by their first days
 abbrev pub tariff_layout : Layout ℤ (Option (List ℕ)) int_cmp
@@ -36,10 +38,6 @@ tariff_layout = record {
   alike = λ k l. refl;
   ordered = λ k l. then-Equal _ ∙ value_cmp-Int k l;
 }
-
--- numbers that are not below 0 compare as such
-pub numbers : (m n : ℕ) → int_cmp (pos m) (pos n) ≡ nat_cmp m n
-numbers m n = grind (arith, ints, nat_tests)
 
 -- closes by their periods
 abbrev pub closed_layout : Layout ℕ ℤ nat_cmp
@@ -152,4 +150,50 @@ mark_layout = record {
   ordered = λ k l. ap₂ ordering_then (value_cmp-Int (pos k.0) (pos l.0) ∙ numbers k.0 l.0)
       (ap₂ ordering_then (value_cmp-Blob k.1.0 l.1.0)
       (then-Equal _ ∙ value_cmp-Blob k.1.1 l.1.1));
+}
+
+-- the columns of details after those of a place, a time and a name
+abbrev pub work_columns : Detail → Row
+work_columns detail =
+    Blob detail.job ∷ Blob detail.program ∷ Blob detail.job_id ∷ step_value detail.step
+    ∷ Int (pos detail.priced.cpu) ∷ Int (pos detail.priced.excp)
+    ∷ Int (pos detail.priced.amount) ∷ []
+
+-- what details show of the work compares as its columns do
+work_order : (k l : Detail)
+    → row_cmp (work_columns k) (work_columns l) ≡ by_work k l
+work_order k l =
+    ap₂ ordering_then (value_cmp-Blob k.job l.job)
+    (ap₂ ordering_then (value_cmp-Blob k.program l.program)
+    (ap₂ ordering_then (value_cmp-Blob k.job_id l.job_id)
+    (ap₂ ordering_then (by_step k.step l.step)
+    (ap₂ ordering_then (value_cmp-Int (pos k.priced.cpu) (pos l.priced.cpu)
+    ∙ numbers k.priced.cpu l.priced.cpu)
+    (ap₂ ordering_then (value_cmp-Int (pos k.priced.excp) (pos l.priced.excp)
+    ∙ numbers k.priced.excp l.priced.excp)
+    (then-Equal _ ∙ value_cmp-Int (pos k.priced.amount) (pos l.priced.amount)
+    ∙ numbers k.priced.amount l.priced.amount))))))
+
+-- so details compare as their columns do
+pub detail_order : (k l : Detail)
+    → row_cmp (detail_columns (k, tt)) (detail_columns (l, tt)) ≡ by_shown k l
+detail_order k l =
+    ap₂ ordering_then (value_cmp-Int k.priced.day l.priced.day)
+    (ap₂ ordering_then (value_cmp-Text k.priced.centre l.priced.centre)
+    (ap₂ ordering_then (value_cmp-Text k.priced.shift l.priced.shift)
+    (ap₂ ordering_then (value_cmp-Int (pos k.time) (pos l.time) ∙ numbers k.time l.time)
+    (ap₂ ordering_then (value_cmp-Blob k.name l.name) (work_order k l)))))
+    ∙ in_turn (int_cmp k.priced.day l.priced.day) (by_bytes k.priced.centre l.priced.centre)
+    (by_bytes k.priced.shift l.priced.shift) (nat_cmp k.time l.time) (by_bytes k.name l.name)
+    (by_work k l)
+
+-- details, which are in keys alone
+abbrev pub detail_layout : Layout Detail (Unit {0}) by_shown
+detail_layout = record {
+  key = λ detail. detail_columns (detail, tt);
+  rest = λ nothing. [];
+  total = by_shown_total;
+  exact = by_shown_exact;
+  alike = λ k l. refl;
+  ordered = λ k l. detail_order k l;
 }

@@ -2,14 +2,18 @@
 -- looks at them, and steps of them, by what becomes of rows; what is read of rows; and then a file
 -- a table.
 pub mod Inserting
+pub mod DetailOrders
 pub mod Layouts
 pub mod Holding
 pub mod Looking
 pub mod RowsRead
 pub mod TheBook
+pub mod CountedRows
 pub mod NewTables
 pub mod Rulings
 pub mod RecordIndexes
+pub mod DetailRows
+pub mod NextDetail
 pub mod ChoiceRows
 pub mod ChosenNames
 pub mod ChosenLists

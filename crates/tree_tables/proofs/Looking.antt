@@ -16,7 +16,7 @@ use Rattle.tree_rows.proofs.Calls.{quiet_both, unchanged_both}
 use Rattle.tree_rows.proofs.Failing.{caused_after, caused_by_memory}
 use Rattle.tree_tables.specs.Holds.{Holds}
 use Rattle.tree_tables.specs.States.{HasCleanDisk, State, Survives, state}
-use Rattle.tree_tables.specs.Steps.{Changes, Does, IsCaused, Looks}
+use Rattle.tree_tables.specs.Steps.{Always, Changes, Does, IsCaused, Looks}
 pub use Rattle.tree_rows.proofs.Calls.{only_looks}
 pub use Rattle.tree_rows.proofs.Failing.{kept_after}
 
@@ -210,6 +210,46 @@ pub looks_damaged : {A B : Type 0} {First : Tables → A → Type 0} {Second : T
 looks_damaged {error = error} one =
     looks_err (Err error) refl one.survives (λ clean. kept_same (one.found clean).same)
 
+-- a step after a look, which does what it does to tables that the look has answered this of
+pub does_told : {A T : Type 0} {Answers : Tables → A → Type 0} {change : Tables → Tables}
+    {answer : A} {old mid new : State} (result : Result T StoreError)
+    → Looks (Ok answer) old mid Answers → Does result mid new (λ tables. Answers tables answer) change
+    → Does result old new Always change
+does_told {old = old} (Ok value) look step = record {
+  survives = survives_both look.survives step.survives;
+  done = λ clean.
+      let seen = look.found (was_clean step.survives clean) in
+      let made = step.done clean in
+      record {
+        only = only_both old.view (only_looks old.view seen.same) made.only;
+        made = λ tables holds when.
+            made.made tables (held_after_look old.view seen.same holds) (seen.known tables holds);
+      };
+  refused = λ clean. tt;
+}
+does_told (Err error) look step =
+    does_err (Err error) refl (survives_both look.survives step.survives)
+    (λ clean. kept_after_look (look.found (was_clean step.survives clean)).same
+    (step.refused clean))
+
+-- a step that has nothing to write, by what a look has answered
+pub does_seen : {A T : Type 0} {Answers : Tables → A → Type 0} {change : Tables → Tables}
+    {answer : A} {value : T} {old new : State} → Looks (Ok answer) old new Answers
+    → ((tables : Tables) → Answers tables answer → Holds new.view.trees tables
+    → Holds new.view.trees (change tables))
+    → Does (Ok value) old new Always change
+does_seen {old = old} look stays = record {
+  survives = look.survives;
+  done = λ clean.
+      let seen = look.found clean in
+      record {
+        only = only_looks old.view seen.same;
+        made = λ tables holds when.
+            stays tables (seen.known tables holds) (held_after_look old.view seen.same holds);
+      };
+  refused = λ clean. tt;
+}
+
 module _ {S : Type 0} (ghosts : Ghosts S) where
   pub survives : {old new : S} → Quiet ghosts old new
       → Survives (state ghosts old) (state ghosts new) (λ trees. ⊥)
@@ -278,7 +318,35 @@ module _ {S : Type 0} (ghosts : Ghosts S) where
   looks_alone (Err error) call same kept made known =
       looks_err (Err error) refl (survives call) kept
 
-  -- a step that rewrites one tree, after other steps
+  -- a step that is one call, after other steps
+  pub does_then : {T Made : Type 0} {When : Tables → Type 0} {change : Tables → Tables}
+      {old mid new : S} (result : Result T StoreError)
+      → Quiet ghosts old mid
+      → (IsClean (ghosts.view mid) → OnlyWrites (ghosts.view old) (ghosts.view mid))
+      → Quiet ghosts mid new
+      → OnErr result (IsClean (ghosts.view new)
+      → KeepsCommitted (ghosts.view mid) (ghosts.view new))
+      → OnOk result (IsClean (ghosts.view new) → Made)
+      → (Made → OnlyWrites (ghosts.view mid) (ghosts.view new))
+      → (IsClean (ghosts.view new) → Made → (tables : Tables)
+      → Holds (ghosts.view old).trees tables → When tables
+      → Holds (ghosts.view new).trees (change tables))
+      → Does result (state ghosts old) (state ghosts new) When change
+  does_then {old = old} (Ok value) first only step kept done writes holds = record {
+    survives = survives (quiet_both ghosts first step);
+    done = λ clean.
+        let made = done clean in
+        record {
+          only = only_both (ghosts.view old) (only (clean_before ghosts step clean)) (writes made);
+          made = holds clean made;
+        };
+    refused = λ clean. tt;
+  }
+  does_then (Err error) first only step kept done writes holds =
+      does_err (Err error) refl (survives (quiet_both ghosts first step))
+      (λ clean. kept_after (only (clean_before ghosts step clean)) (kept clean))
+
+  -- one that rewrites a tree
   pub does_after : {T : Type 0} {When : Tables → Type 0} {change : Tables → Tables}
       {old mid new : S} {tree : ℕ} {rows : List Row} (result : Result T StoreError)
       → Quiet ghosts old mid → (IsClean (ghosts.view mid) → OnlyWrites (ghosts.view old) (ghosts.view mid))
@@ -291,19 +359,8 @@ module _ {S : Type 0} (ghosts : Ghosts S) where
       → (tables : Tables) → Holds (ghosts.view old).trees tables → When tables
       → Holds (ghosts.view new).trees (change tables))
       → Does result (state ghosts old) (state ghosts new) When change
-  does_after {old = old} (Ok value) first only step kept done holds = record {
-    survives = survives (quiet_both ghosts first step);
-    done = λ clean.
-        let rewritten = done clean in
-        record {
-          only = only_both (ghosts.view old) (only (clean_before ghosts step clean)) rewritten.only;
-          made = holds clean rewritten;
-        };
-    refused = λ clean. tt;
-  }
-  does_after (Err error) first only step kept done holds =
-      does_err (Err error) refl (survives (quiet_both ghosts first step))
-      (λ clean. kept_after (only (clean_before ghosts step clean)) (kept clean))
+  does_after result first only step kept done holds =
+      does_then result first only step kept done (λ rewritten. rewritten.only) holds
 
   -- a step that has nothing to do, as a look has shown
   pub does_nothing : {T : Type 0} {When : Tables → Type 0} {change : Tables → Tables} {value : T}

@@ -1,9 +1,11 @@
 -- The tables of new books, in trees that had no rows.
 use Rattle.std.proofs.Common.{◌≡◌, ◌<◌, ◌∙◌, ℕ, suc, List, [], ◌∷◌, Result, Ok, Err}
-use Rattle.std.proofs.Common.{false, cond, length, map, refl, sym, ap, arith}
+use Rattle.std.proofs.Common.{Bool, true, false, cond, Option, None, length, map, refl, sym, ap}
+use Rattle.std.proofs.Common.{arith}
 use Rattle.std.proofs.lemmas.Bool.Decides.{nat_tests}
 use Rattle.std.specs.Prelude.{◌==◌, IfErr, OnOk}
 use Rattle.std.specs.List.{AllByRecursion}
+use Rattle.std.specs.Cmp.Lexicographic.{nat_list_cmp_total}
 use Rattle.std.specs.FinMap.{empty, entries, from_entries, get-empty}
 use Rattle.std.specs.FinMap.{get-from_entries, len-empty, len-entries, same_map}
 use Rattle.std.specs.declared.cmp.Ordering.{Ordering}
@@ -13,17 +15,21 @@ use Rattle.sqlite_trees.specs.declared.error.StoreError.{StoreError}
 use Rattle.sqlite_trees.specs.declared.store.Store.{Ghosts}
 use Rattle.sqlite_value.specs.Order.{Row}
 use Rattle.sqlite_value.specs.declared.keys.Order.{Order}
+use Rattle.table_model.specs.Tables.{RecordRow}
 use Rattle.table_model.specs.TablesAfter.{new_tables}
-use Rattle.tree_rows.specs.Indexes.{IsIndexKey, index_of, indexed_by}
-use Rattle.tree_tables.specs.Columns.{book_columns}
-use Rattle.tree_tables.specs.Holds.{Holds}
+use Rattle.tree_rows.specs.Indexes.{IsIndexKey, by_bytes, index_of, indexed_by}
+use Rattle.tree_tables.specs.Columns.{book_columns, detail_columns}
+use Rattle.table_model.specs.DetailsRead.{detail_shown}
+use Rattle.tree_tables.specs.Holds.{Holds, by_shown, counted_among, detail_index}
 use Rattle.tree_tables.specs.States.{state}
 use Rattle.tree_tables.specs.Steps.{HasNoRows, Makes}
 use Rattle.tree_tables.proofs.Holding.{EachHas, SameBut, have_but, holds_rows, table_rows}
 use Rattle.tree_tables.proofs.Holding.{with_rows}
 use Rattle.tree_tables.proofs.ChoiceRows.{chosen_named}
+use Rattle.tree_tables.proofs.CountedRows.{detail_named, get_counted}
 use Rattle.tree_tables.proofs.RecordIndexes.{identity_named, mark_named}
 use Rattle.tree_rows.proofs.Calls.{Quiet}
+use Rattle.tree_rows.proofs.IndexOrders.{by_bytes_exact}
 use Rattle.tree_rows.proofs.Maps.{not_none}
 use Rattle.tree_tables.proofs.Looking.{survives}
 use Rattle.book_model.proofs.FilterLemmas.{no_length}
@@ -51,12 +57,29 @@ no_index {R = R} {P = P} {key = key} index columns =
     get-from_entries index.index_total [] q ∙ sym (get-empty P q)))
     ∙ no_rows P columns
 
+-- of no records none is counted
+none_counted : counted_among empty empty ≡ empty
+none_counted =
+    same_map nat_list_cmp_total by_bytes_exact (counted_among empty empty) empty (λ name.
+    get_counted empty empty name ∙ by _ _ (get-empty by_bytes name)
+    ∙ sym (get-empty by_bytes name))
+  where
+    by : (b : Bool) (found : Option RecordRow) → found ≡ None → cond b found None ≡ None
+    by true found none = none
+    by false found none = refl
+
+-- so there are no details
+no_details : map detail_columns (entries (detail_index new_tables.counted new_tables.records)) ≡ []
+no_details =
+    ap (λ rows. map detail_columns (entries (index_of {P = by_shown} detail_shown rows))) none_counted
+    ∙ no_index detail_named detail_columns
+
 -- the tables of new books have no row but that of the book
 abbrev no_book : List (List Row)
 no_book = with_rows 0 [] (table_rows new_tables)
 
 only_book : AllByRecursion (λ rows. rows ≡ []) no_book
-only_book = search (no_rows, no_index, identity_named, mark_named, chosen_named) depth 20
+only_book = search (no_rows, no_index, no_details, identity_named, mark_named, chosen_named) depth 22
 
 -- which trees without rows have
 have_none : {trees : Trees} (all : List (List Row)) → AllByRecursion (λ rows. rows ≡ []) all

@@ -1,6 +1,6 @@
--- Records by name: what is found of them, and the three trees that hold them after a step.
+-- Records by name: what is found of them, and the trees that hold them after a step.
 use Rattle.std.proofs.Common.{◌≡◌, ◌∙◌, ℕ, List, [], ◌∷◌, Bool, true, false, None, Some, pos}
-use Rattle.std.proofs.Common.{map, refl, sym, ap, ap₂, subst, slice_set}
+use Rattle.std.proofs.Common.{is_some, map, refl, sym, ap, ap₂, subst, slice_set}
 use Rattle.std.specs.FinMap.{entries, get}
 use Rattle.std.specs.Option.{option_map}
 use Rattle.sqlite_trees.specs.Tree.{insert_entry, remove_entry}
@@ -11,20 +11,24 @@ use Rattle.sqlite_value.specs.declared.value.Value.TheVariants.{Blob, Int}
 use Rattle.table_model.specs.RowChanges.{mark_at}
 use Rattle.table_model.specs.Steps.{put_record_row, set_mark_row}
 use Rattle.table_model.specs.Tables.{RecordRow, Tables}
+use Rattle.tree_rows.specs.Indexes.{index_of}
 use Rattle.tree_rows.specs.Layouts.{Answers}
 use Rattle.tree_rows.specs.Rows.{Finds, IsUnchanged, Rewrites}
 use Rattle.tree_rows.proofs.Indexes.{index_same}
 use Rattle.tree_rows.proofs.Keyed.{row_found}
 use Rattle.tree_rows.proofs.Maps.{inserted}
+use Rattle.tree_tables.proofs.CountedRows.{counted_stays, details_same}
 use Rattle.tree_tables.proofs.Holding.{apart, has_rows, have_but, holds_rows}
 use Rattle.tree_tables.proofs.Layouts.{record_layout, identity_layout, mark_layout}
 use Rattle.tree_tables.proofs.Looking.{rewrites_after_look}
 use Rattle.tree_tables.proofs.RecordIndexes.{identity_named, mark_named}
 use Rattle.tree_tables.proofs.RecordIndexes.{index_row_added, index_row_changed, row_changed}
 use Rattle.tree_tables.specs.Answers.{FindsRecord}
-use Rattle.tree_tables.specs.Columns.{flag, record_columns, identity_columns, mark_columns}
-use Rattle.tree_tables.specs.Holds.{Holds, identity_key, mark_key}
-use Rattle.tree_tables.specs.Stored.{stored_entry}
+use Rattle.tree_tables.specs.Columns.{detail_columns, flag, record_columns, identity_columns}
+use Rattle.tree_tables.specs.Columns.{mark_columns}
+use Rattle.table_model.specs.DetailsRead.{detail_shown}
+use Rattle.tree_tables.specs.Holds.{Holds, by_shown, identity_key, mark_key}
+use Rattle.tree_tables.specs.Stored.{IsFree, stored_entry}
 use Rattle.tree_tables.specs.declared.stored_record.StoredRecord.{StoredRecord}
 
 -- A record is looked up by name.
@@ -61,7 +65,8 @@ module _ (tables : Tables) {name : List ℕ} {rows : List Row} {key row : Row} {
         ap Some (says (name, found.0) found.2)
         ∙ ap (option_map (λ (one : RecordRow). (name, one))) (sym found.1)
 
--- The row of a new record joins the records, and its keys the two trees that find them.
+-- The row of a new record joins the records, and its keys the two trees that find them. It is not
+-- counted, so the details stay.
 pub record_added : {old one two new : View} {tables : Tables} (name : List ℕ) (row : RecordRow)
     {made identity mark : Row}
     → Rewrites old one 3 (insert_entry plain made (old.trees 3))
@@ -70,27 +75,33 @@ pub record_added : {old one two new : View} {tables : Tables} (name : List ℕ) 
     → made ≡ record_columns (name, row)
     → identity ≡ identity_columns (identity_key (name, row), tt)
     → mark ≡ mark_columns (mark_key (name, row), tt)
-    → Holds old.trees tables → get tables.records name ≡ None
+    → Holds old.trees tables → IsFree name tables
     → Holds new.trees (put_record_row name row tables)
 record_added {old} {one} {two} {new} {tables} name row first second third made_is identity_is
-    mark_is holds none =
-    holds_rows holds.placed (have_but 7 third.others
+    mark_is holds free =
+    holds_rows holds.placed (have_but {old = new.trees} 10 (λ other apart. refl)
+    (third.others 10 (apart 10 7 refl) ∙ second.others 10 (apart 10 6 refl)
+    ∙ first.others 10 (apart 10 3 refl) ∙ holds.details
+    ∙ ap (λ rows. map detail_columns (entries (index_of {P = by_shown} detail_shown rows)))
+    (sym (counted_stays tables.counted tables.records name row (ap is_some free.uncounted))))
+    (have_but 7 third.others
     (third.rows_now ∙ index_row_added mark_named mark_layout tables.records name row mark_is
-    (second.others 7 (apart 7 6 refl) ∙ first.others 7 (apart 7 3 refl) ∙ holds.marks) none)
+    (second.others 7 (apart 7 6 refl) ∙ first.others 7 (apart 7 3 refl) ∙ holds.marks) free.none)
     (have_but 6 second.others
     (second.rows_now
     ∙ index_row_added identity_named identity_layout tables.records name row identity_is
-    (first.others 6 (apart 6 3 refl) ∙ holds.identity_index) none)
+    (first.others 6 (apart 6 3 refl) ∙ holds.identity_index) free.none)
     (have_but 3 first.others
     (first.rows_now ∙ ap₂ (insert_entry plain) made_is holds.records
-    ∙ inserted record_layout tables.records name row none) (has_rows holds) refl) refl) refl)
+    ∙ inserted record_layout tables.records name row free.none) (has_rows holds) refl) refl) refl)
+    refl)
 
 -- the record with this mark
 abbrev marked : Bool → RecordRow → RecordRow
 marked mark row = record row { charged = mark }
 
 -- After a look the row of a record makes room for the one with this mark, and its mark for the
--- other; its identity stays.
+-- other; its identity stays, and what details show of it.
 pub record_marked : (old : View) {look mid new : View} (tables : Tables) (name : List ℕ)
     (mark : Bool) (row : RecordRow) {before made from to : Row} → IsUnchanged old look
     → Rewrites look mid 3 (insert_entry plain made (remove_entry plain before (look.trees 3)))
@@ -110,7 +121,11 @@ record_marked old {look} {mid} {new} tables name mark row {before} {made} {from}
     (look.trees 3))) = rewrites_after_look {old = old} same first in
     subst (λ found. Holds new.trees (record tables { records = mark_at mark name found records }))
     (sym some)
-    (holds_rows holds.placed (have_but 7 second.others
+    (holds_rows holds.placed (have_but {old = new.trees} 10 (λ other apart. refl)
+    (second.others 10 (apart 10 7 refl) ∙ behind.others 10 (apart 10 3 refl) ∙ holds.details
+    ∙ ap (λ shown. map detail_columns (entries shown))
+    (sym (details_same tables.counted records name row now some refl)))
+    (have_but 7 second.others
     (second.rows_now ∙ index_row_changed mark_named mark_layout records name row now
     (to_is ∙ ap (λ one. value ∷ column one 1 ∷ column one 0 ∷ []) before_is)
     (from_is ∙ ap (λ one. column one 9 ∷ column one 1 ∷ column one 0 ∷ []) before_is)
@@ -122,4 +137,5 @@ record_marked old {look} {mid} {new} tables name mark row {before} {made} {from}
     (have_but 3 behind.others
     (behind.rows_now ∙ row_changed record_layout records name row now
     (made_is ∙ ap (λ one. slice_set one 9 value) before_is) before_is
-    (ap (λ (v : View). v.trees 3) same ∙ holds.records) some) (has_rows holds) refl) refl) refl))
+    (ap (λ (v : View). v.trees 3) same ∙ holds.records) some) (has_rows holds) refl) refl) refl)
+    refl))

@@ -3,9 +3,8 @@
 use Rattle.std.proofs.Common.{◌≡◌, ℕ, ℤ, List, [], ◌∷◌, map, Bool, true, false, cond, Option}
 use Rattle.std.proofs.Common.{Some, None, refl, sym, ap, ap₂, subst, ◌∙◌}
 use Rattle.std.specs.Prelude.{◌==◌, int_lt}
-use Rattle.std.specs.FinMap.{FinMap, entries, get, insert, same_map}
+use Rattle.std.specs.FinMap.{FinMap, entries, get, insert}
 use Rattle.std.specs.Option.{option_map}
-use Rattle.std.specs.Ordering.{eq_by_cmp}
 use Rattle.std.specs.declared.cmp.Ordering.{Ordering}
 use Rattle.sqlite_trees.specs.Tree.{Trees, from_key, insert_entry, remove_entry}
 use Rattle.sqlite_trees.specs.View.{View}
@@ -15,19 +14,23 @@ use Rattle.table_model.specs.RowChanges.{post_by}
 use Rattle.table_model.specs.Steps.{post_rows}
 use Rattle.table_model.specs.Tables.{RecordRow, RecordTable, Tables}
 use Rattle.tree_rows.specs.Changes.{above, updated, FindsAbove}
-use Rattle.tree_rows.specs.Indexes.{IsIndexKey, index_answer, index_of}
+use Rattle.tree_rows.specs.Indexes.{IsIndexKey, index_of}
 use Rattle.tree_rows.specs.Layouts.{rows_of}
 use Rattle.tree_rows.specs.Rows.{IsFirst, IsUnchanged, Rewrites}
-use Rattle.tree_rows.proofs.Indexes.{indexed}
+use Rattle.tree_rows.proofs.Indexes.{index_alike}
 use Rattle.tree_rows.proofs.Passing.{first_there, walk_start, walk_step}
 use Rattle.tree_rows.proofs.Updating.{updated_step, done_step, done_start, done_kept, done_all}
 use Rattle.tree_rows.proofs.Updating.{get_updated}
+use Rattle.tree_tables.proofs.CountedRows.{details_stay}
 use Rattle.tree_tables.proofs.Holding.{SameBut, has_rows, have_but, holds_rows}
 use Rattle.tree_tables.proofs.Layouts.{record_layout}
 use Rattle.tree_tables.proofs.Looking.{only_looks, rewrites_after_look}
 use Rattle.tree_tables.proofs.RecordIndexes.{identity_named, mark_named, row_changed}
-use Rattle.tree_tables.specs.Columns.{record_columns, identity_columns, mark_columns}
-use Rattle.tree_tables.specs.Holds.{Holds, identity_key, identity_index, mark_key, marks}
+use Rattle.tree_tables.specs.Columns.{detail_columns, record_columns, identity_columns}
+use Rattle.tree_tables.specs.Columns.{mark_columns}
+use Rattle.table_model.specs.DetailsRead.{detail_shown}
+use Rattle.tree_tables.specs.Holds.{Holds, detail_index, identity_key, identity_index}
+use Rattle.tree_tables.specs.Holds.{mark_key, marks}
 use Rattle.tree_tables.specs.Walks.{HoldsFoundBy, IsRenewing, RenewsNext, RenewsRow}
 use Rattle.tree_tables.specs.Walks.{last_name_key, renewed, rows_past, with_rows_of}
 
@@ -36,17 +39,22 @@ pub found_by_own : {trees : Trees} {tables : Tables} → Holds trees tables
     → HoldsFoundBy trees tables tables.records
 found_by_own holds = assumption
 
--- and trees hold tables where they find their records by others that have the same keys.
+-- and trees hold tables where they find their records by others that have the same keys, and that
+-- details show alike.
 pub held_by_same : {trees : Trees} {tables : Tables} {keyed : RecordTable}
     → HoldsFoundBy trees tables keyed → identity_index keyed ≡ identity_index tables.records
-    → marks keyed ≡ marks tables.records → Holds trees tables
-held_by_same {trees} {tables} found same_identities same_marks =
+    → marks keyed ≡ marks tables.records
+    → detail_index tables.counted keyed ≡ detail_index tables.counted tables.records
+    → Holds trees tables
+held_by_same {trees} {tables} found same_identities same_marks same_details =
     let identities : trees 6 ≡ map identity_columns (entries (identity_index tables.records)) =
     found.rest.identity_index
     ∙ ap (λ places. map identity_columns (entries places)) same_identities in
     let kept : trees 7 ≡ map mark_columns (entries (marks tables.records)) =
     found.rest.marks ∙ ap (λ places. map mark_columns (entries places)) same_marks in
-    assumption (identities, kept)
+    let shown : trees 10 ≡ map detail_columns (entries (detail_index tables.counted tables.records)) =
+    found.rest.details ∙ ap (λ places. map detail_columns (entries places)) same_details in
+    assumption (identities, kept, shown)
 
 -- trees that are the same but for one still are, where the records' own has other rows
 pub same_beside : {old new : Trees} (keyed : RecordTable) (tree : ℕ) → SameBut old new tree
@@ -64,15 +72,6 @@ found_rows {old} {keyed = keyed} records found same now = record {
   rest = holds_rows found.rest.placed (have_but {old = with_rows_of keyed old} 3
       (same_beside keyed 3 same) refl (has_rows found.rest) refl);
 }
-
--- other rows of the same records, which have the same keys
-pub with_indexed : {old new : Trees} {tables : Tables} → Holds old tables → (rows : RecordTable)
-    → SameBut old new 3 → new 3 ≡ map record_columns (entries rows)
-    → identity_index rows ≡ identity_index tables.records → marks rows ≡ marks tables.records
-    → Holds new (record tables { records = rows })
-with_indexed holds rows same now same_identities same_marks =
-    held_by_same (found_rows rows (found_by_own holds) same now) (sym same_identities)
-    (sym same_marks)
 
 -- the first row after a walk's key is that of the first entry that is still to come
 pub finds_next : (last : Option (List ℕ)) (m : RecordTable) (key : Row) (rows : List Row) (row : Row)
@@ -247,21 +246,17 @@ module _ {K V Q : Type 0} {R : K → K → Ordering} {P : Q → Q → Ordering} 
     {name : Q → K} (index : IsIndexKey R P key name) (change : V → V)
     (stays : (k : K) (v : V) → key (k, change v) ≡ key (k, v))
   where
-    same_answer : (q : Q) (had : Option V)
-        → index_answer P key (name q) q had
-        ≡ index_answer P key (name q) q (option_map change had)
-    same_answer q None = refl
-    same_answer q (Some v) =
-        ap (λ x. cond (eq_by_cmp P q x) (Some tt) None) (sym (stays (name q) v))
+    same_key : (k : K) (had : Option V)
+        → option_map (λ (v : V). key (k, v)) had
+        ≡ option_map (λ (v : V). key (k, v)) (option_map change had)
+    same_key k None = refl
+    same_key k (Some v) = ap (λ x. Some x) (sym (stays k v))
 
     index_stays : (m : FinMap R V) → index_of {P = P} key m ≡ index_of key (updated change m)
     index_stays m =
-        same_map index.index_total index.index_exact (index_of key m)
-        (index_of key (updated change m)) (λ q.
-        indexed index m q ∙ same_answer q (get m (name q))
-        ∙ ap (index_answer P key (name q) q)
-        (sym (get_updated index.total index.exact change m (name q)))
-        ∙ sym (indexed index (updated change m) q))
+        index_alike index m (updated change m) (λ k. same_key k (get m k)
+        ∙ ap (option_map (λ (v : V). key (k, v)))
+        (sym (get_updated index.total index.exact change m k)))
 
 -- so trees in which all rows are posted hold the tables that are posted
 pub posted_held : (day : ℤ) {trees : Trees} {tables : Tables}
@@ -273,3 +268,5 @@ posted_held day {tables = tables} found =
     tables.records)
     (index_stays mark_named (post_by day) (posted_stays mark_key (λ name row. refl) day)
     tables.records)
+    (details_stay tables.counted tables.records (post_by day)
+    (posted_stays detail_shown (λ name row. refl) day))

@@ -34,7 +34,7 @@ pub tariffs_said : (tariffs : List (ℤ × Option (List ℕ))) (list : List Stor
 tariffs_said = told_of_each tariff_columns SaysTariff tariff_of tariff_said
 
 -- what the columns of a close's row say
-abbrev SaysClose : Row → Close → Type 0
+abbrev pub SaysClose : Row → Close → Type 0
 SaysClose row close =
     (column row 0 ≡ Int (pos close.period)) × (column row 1 ≡ Int close.through)
 

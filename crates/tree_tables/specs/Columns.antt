@@ -4,6 +4,7 @@ use Rattle.std.specs.Prelude.{if◌then◌else◌}
 use Rattle.sqlite_value.specs.Order.{Row}
 use Rattle.sqlite_value.specs.declared.value.Value.{Value}
 use Rattle.sqlite_value.specs.declared.value.Value.TheVariants.{Null, Int, Text, Blob}
+use Rattle.book_model.specs.declared.detail.Detail.{Detail}
 use Rattle.book_model.specs.declared.row.ChargeRow.{ChargeRow}
 use Rattle.book_model.specs.declared.row.RowKey.{RowKey}
 use Rattle.table_model.specs.Tables.{BookRow, ChoiceRow, RecordRow}
@@ -79,3 +80,18 @@ charged_part identity = Int (pos (flag true)) ∷ Blob identity ∷ []
 -- and of records that are not
 abbrev pub uncharged_part : List ℕ → Row
 uncharged_part identity = Int (pos (flag false)) ∷ Blob identity ∷ []
+
+-- the number of the step that ended, if one did
+abbrev pub step_value : Option ℕ → Value
+step_value None = Null
+step_value (Some step) = Int (pos step)
+
+-- a record that is counted, as details show it: where it is charged, its time and its name, and then
+-- the rest
+abbrev pub detail_columns : Detail × Unit {0} → Row
+detail_columns entry =
+    let priced = entry.0.priced in
+    Int priced.day ∷ Text priced.centre ∷ Text priced.shift ∷ Int (pos entry.0.time)
+    ∷ Blob entry.0.name ∷ Blob entry.0.job ∷ Blob entry.0.program ∷ Blob entry.0.job_id
+    ∷ step_value entry.0.step ∷ Int (pos priced.cpu) ∷ Int (pos priced.excp)
+    ∷ Int (pos priced.amount) ∷ []

@@ -1,5 +1,6 @@
 -- Rows with the columns of a value: a row that fits is refused for a lack of memory alone.
-use Rattle.std.specs.Prelude.{◌≡◌, ◌≤◌, ◌<◌, ◌-◌, ◌^◌, ℕ, ℤ, pos, List, Bool, Some, length, map}
+use Rattle.std.specs.Prelude.{◌≡◌, ◌≤◌, ◌<◌, ◌-◌, ◌^◌, ℕ, ℤ, pos, List, Bool, Option, Some, length}
+use Rattle.std.specs.Prelude.{IfSome, map}
 use Rattle.std.specs.FinMap.{entries, get}
 use Rattle.std.specs.List.{AllByRecursion}
 use Rattle.std.specs.Str.{IsUtf8}
@@ -10,7 +11,7 @@ use Rattle.book_model.specs.Words.{IsDay, IsName}
 use Rattle.table_model.specs.PeriodRows.{rows_under}
 use Rattle.table_model.specs.Tables.{ChoiceRow, RecordRow, Tables}
 use Rattle.tree_tables.specs.Columns.{choice_columns, day_columns, flag, line_columns}
-use Rattle.tree_tables.specs.Columns.{record_columns}
+use Rattle.tree_tables.specs.Columns.{record_columns, step_value}
 use Rattle.tree_tables.specs.declared.chosen_numbers.ChosenNumber.{ChosenNumber}
 use Rattle.tree_tables.specs.declared.found_names.FoundName.{FoundName}
 
@@ -30,6 +31,15 @@ HasChoiceNumber value = (n : ℕ) × (n < 2 ^ 32) × (value ≡ Int (pos n))
 abbrev pub HasDay : Value → Type 0
 HasDay value = (day : ℤ) × IsDay day × (value ≡ Int day)
 
+-- a time of day, in 32 bits
+abbrev pub HasTime : Value → Type 0
+HasTime value = (n : ℕ) × (n < 2 ^ 32) × (value ≡ Int (pos n))
+
+-- the number of a step, in 16 bits, or none
+abbrev pub HasStep : Value → Type 0
+HasStep value =
+    (step : Option ℕ) × IfSome step (λ n. n < 2 ^ 16) × (value ≡ step_value step)
+
 -- a mark
 abbrev pub HasMark : Value → Type 0
 HasMark value = (mark : Bool) × (value ≡ Int (pos (flag mark)))
@@ -37,6 +47,10 @@ HasMark value = (mark : Bool) × (value ≡ Int (pos (flag mark)))
 -- bytes
 abbrev pub HasBytes : Value → Type 0
 HasBytes value = (bytes : List ℕ) × (value ≡ Blob bytes)
+
+-- 8 bytes, as records have their names
+abbrev pub HasEight : Value → Type 0
+HasEight value = (bytes : List ℕ) × (length bytes ≡ 8) × (value ≡ Blob bytes)
 
 -- 32 bytes
 abbrev pub HasHash : Value → Type 0
@@ -105,6 +119,21 @@ pub record RecordFits (row : Row) : Type 0 where
   pub price : PriceFits row
   pub charged : HasMark (column row 9)
   pub posted : HasMark (column row 10)
+
+-- a row has all that details show of a record
+pub record DetailFits (row : Row) : Type 0 where
+  pub day : HasDay (column row 0)
+  pub centre : HasName (column row 1)
+  pub shift : HasName (column row 2)
+  pub time : HasTime (column row 3)
+  pub name : HasHash (column row 4)
+  pub job : HasEight (column row 5)
+  pub program : HasEight (column row 6)
+  pub job_id : HasEight (column row 7)
+  pub step : HasStep (column row 8)
+  pub cpu : HasCount (column row 9)
+  pub excp : HasCount (column row 10)
+  pub amount : HasCount (column row 11)
 
 -- a row has the mark and the identity of a record
 pub record MarkFits (row : Row) : Type 0 where

@@ -57,6 +57,16 @@ new_entry kept = (
   },
 )
 
+-- no record has the name, and none that had it is counted
+pub record IsFree (name : List ℕ) (tables : Tables) : Type 0 where
+  pub none : get tables.records name ≡ None
+  pub uncounted : get tables.counted name ≡ None
+
+-- a record was written, and is not counted yet
+pub record IsUncounted (entry : List ℕ × RecordRow) (tables : Tables) : Type 0 where
+  pub there : get tables.records entry.0 ≡ Some entry.1
+  pub uncounted : get tables.counted entry.0 ≡ None
+
 -- a record that was read
 abbrev pub stored_entry : StoredRecord → List ℕ × RecordRow
 stored_entry stored = (

@@ -15,7 +15,7 @@ use std::alloc::Global;
 use tree_rows::{ReadRow, put_row};
 
 /// The tree of closes.
-const CLOSES: u32 = 2;
+pub(crate) const CLOSES: u32 = 2;
 
 /// A close: the period, and the day through which it was closed.
 #[derive(Clone, Copy, Drop)]

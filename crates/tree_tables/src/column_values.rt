@@ -5,9 +5,9 @@ ghost use Rattle.std.specs.Prelude.{ℤ, length, map, pos, slice_set, string_byt
 ghost use Rattle.sqlite_value.specs.Order.{column};
 ghost use Rattle.sqlite_value.specs.Value.{owned};
 ghost use Rattle.sqlite_value.specs.declared.value.Value.TheVariants.{Blob, Int, Text};
-ghost use Rattle.tree_tables.specs.Columns.{flag};
+ghost use Rattle.tree_tables.specs.Columns.{flag, step_value};
 ghost use Rattle.tree_tables.specs.Fits.{HasBytes, HasCount, HasDay, HasHash, HasMark, HasName};
-ghost use Rattle.tree_tables.specs.Fits.{HasChoiceNumber, HasPeriod, HasText};
+ghost use Rattle.tree_tables.specs.Fits.{HasChoiceNumber, HasEight, HasPeriod, HasStep, HasText};
 
 use smf_text::Name;
 use sqlite_trees::error::StoreError;
@@ -142,6 +142,43 @@ fn hash_of(bytes: &[u8]) -> Option<[u8; 32]>
         return None;
     }
     bytes.first_chunk().copied()
+}
+
+/// The 8 bytes in a column.
+pub fn eight_at(row: &Row, at: usize) -> Result<[u8; 8], StoreError>
+    ensures read { IfOk result (λ bytes. column row.now at ≡ Blob bytes) }
+    ensures taken { IfErr result (λ error. ¬ HasEight (column row.now at)) }
+{
+    match row.get(at) {
+        ValueRef::Blob(bytes) => eight_of(bytes).ok_or(StoreError::Corrupt),
+        _ => Err(StoreError::Corrupt),
+    }
+}
+
+/// The 8 bytes of a name in a record.
+fn eight_of(bytes: &[u8]) -> Option<[u8; 8]>
+    ensures value { IfSome result (λ eight. eight ≡ bytes.now) }
+    ensures taken { result ≡ None → length bytes.now ≢ 8 }
+{
+    if bytes.len() != 8 {
+        return None;
+    }
+    bytes.first_chunk().copied()
+}
+
+/// The number of a step in a column, which may have none.
+pub fn step_at(row: &Row, at: usize) -> Result<Option<u16>, StoreError>
+    ensures read { IfOk result (λ step. column row.now at ≡ step_value step) }
+    ensures taken { IfErr result (λ error. ¬ HasStep (column row.now at)) }
+{
+    match row.get(at) {
+        ValueRef::Null => Ok(None),
+        ValueRef::Int(n) => match u16::try_from(n) {
+            Ok(step) => Ok(Some(step)),
+            Err(_) => Err(StoreError::Corrupt),
+        },
+        _ => Err(StoreError::Corrupt),
+    }
 }
 
 /// The text in a column.

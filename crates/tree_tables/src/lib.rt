@@ -9,6 +9,10 @@ mod chosen_numbers;
 mod closed_rows;
 mod column_values;
 mod day_rows;
+mod detail_changes;
+mod detail_fill;
+mod detail_rows;
+mod forms;
 mod found_names;
 mod identity_looks;
 mod identity_walks;
@@ -27,9 +31,14 @@ pub use book_row::{StoredBook, Sums};
 pub use choice_rows::StoredChoice;
 pub use closed_rows::Close;
 pub use column_values::{
-    bytes_at, count_at, day_at, hash_at, mark_at, name_at, number_at, period_at, text_at,
+    bytes_at, count_at, day_at, eight_at, hash_at, mark_at, name_at, number_at, period_at, step_at,
+    text_at,
 };
 pub use day_rows::{DayKey, DayRow};
+pub use detail_changes::{DetailScratch, count_in};
+pub use detail_fill::{closes_in, lines_in, next_record_in, start_records};
+pub use detail_rows::{DetailStart, read_detail};
+pub use forms::THIS_FORM;
 pub use line_rows::{LineKey, StoredLine};
 pub use memory::trees_in_memory;
 pub use record_rows::NewRecord;

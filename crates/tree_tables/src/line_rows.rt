@@ -17,7 +17,7 @@ use std::alloc::Global;
 use tree_rows::{ReadRow, drop_row, find_row, list_run, put_row};
 
 /// The tree of adjustment lines.
-const LINES: u32 = 5;
+pub(crate) const LINES: u32 = 5;
 
 /// Where a line is: its period, and the name of its record.
 #[derive(Clone, Copy)]

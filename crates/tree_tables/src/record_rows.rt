@@ -65,7 +65,7 @@ fn push_number(row: &mut Row, number: u64) -> Result<(), StoreError>
 }
 
 /// What a record used and costs joins its row.
-fn push_price(row: &mut Row, priced: &Priced) -> Result<(), StoreError>
+pub(crate) fn push_price(row: &mut Row, priced: &Priced) -> Result<(), StoreError>
     ensures { OnOk result (row.new ≡ row.old ++ Int (pos priced.now.cpu)
         ∷ Int (pos priced.now.excp) ∷ Int (pos priced.now.amount) ∷ []) }
 {
@@ -147,14 +147,13 @@ fn marked_row(row: &mut Row, before: &Row, mark: bool) -> Result<(), StoreError>
 }
 
 impl<S: Store> TreeTables<S> {
-    ghost use Rattle.std.specs.Prelude.{◌≡◌, false, None, true};
-    ghost use Rattle.std.specs.FinMap.{get};
+    ghost use Rattle.std.specs.Prelude.{false, true};
     ghost use Rattle.table_model.specs.Steps as step;
     ghost use Rattle.tree_tables.specs.Answers.{FindsRecord, FindsSharing, ListsUncharged};
     ghost use Rattle.tree_tables.specs.States.{state};
     ghost use Rattle.tree_tables.specs.Fits.{NamedFits, RecordsFit};
     ghost use Rattle.tree_tables.specs.Steps.{Always, Does, FailsByStore, Looks};
-    ghost use Rattle.tree_tables.specs.Stored.{IsAsRead, new_entry};
+    ghost use Rattle.tree_tables.specs.Stored.{IsAsRead, IsFree, new_entry};
 
     /// The record of a name, if there is one.
     #[tactic(auto, using(crate::proofs::Looking::caused_memory))]
@@ -211,10 +210,10 @@ impl<S: Store> TreeTables<S> {
     }
 
     /// A new record's row joins the table, and is found by its identity and by its mark. What is
-    /// under its name, if anything is, is not looked at.
+    /// under its name, if anything is, is not looked at. It is not counted yet.
     pub fn insert_record(&mut self, kept: &NewRecord<'_>) -> Result<(), StoreError>
         ensures does { Does result (state S.Store self.old.store) (state S.Store self.new.store)
-            (λ tables. get tables.records kept.now.name.now ≡ None)
+            (IsFree kept.now.name.now)
             (step.put_record_row (new_entry kept.now).0 (new_entry kept.now).1) }
     {
         record_row(&mut self.row, kept)?;
@@ -227,15 +226,17 @@ impl<S: Store> TreeTables<S> {
         add_row(&mut self.store, MARKS, &self.row)
     }
 
-    /// A record that is as it was read costs this from now on. Its identity and its marks
-    /// stay, and with them the rows that find it. The row is not looked for: it is what was read.
+    /// A record that is as it was read costs this from now on, also where details show it. Its
+    /// identity and its marks stay, and with them the rows that find it. The row is not looked for:
+    /// it is what was read.
     pub fn set_price(&mut self, stored: &StoredRecord, priced: &Priced) -> Result<(), StoreError>
         ensures does { Does result (state S.Store self.old.store) (state S.Store self.new.store)
             (IsAsRead stored.now) (step.put_price_row stored.now.name priced.now) }
     {
         record_row(&mut self.before, &with_price(stored, &stored.priced))?;
         record_row(&mut self.row, &with_price(stored, priced))?;
-        change_row(&mut self.store, RECORDS, &self.before, &self.row)
+        change_row(&mut self.store, RECORDS, &self.before, &self.row)?;
+        self.price_detail(stored, priced)
     }
 
     /// The record of a name, if there is one, is charged from now on.

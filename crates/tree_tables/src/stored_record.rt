@@ -40,7 +40,9 @@ pub struct RecordMark {
 }
 
 /// What the row of a record says that it costs.
-fn read_price(row: &Row) -> Result<Priced, StoreError>
+pub(crate) fn read_price(row: &Row) -> Result<Priced, StoreError>
+    ensures read { IfOk result (λ priced. (entry : List ℕ × RecordRow)
+        → row.now ≡ record_columns entry → priced ≡ entry.1.priced) }
     ensures day { IfOk result (λ priced. column row.now 3 ≡ Int priced.day) }
     ensures shift { IfOk result (λ priced. column row.now 4 ≡ Text priced.shift) }
     ensures centre { IfOk result (λ priced. column row.now 5 ≡ Text priced.centre) }

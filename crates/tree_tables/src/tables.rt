@@ -3,6 +3,7 @@
 ghost use Rattle.sqlite_trees.specs.View.{IsClean};
 ghost use Rattle.tree_tables.specs.Holds.{HasShapes};
 
+use crate::detail_changes::DetailScratch;
 use sqlite_trees::error::StoreError;
 use sqlite_trees::store::Store;
 use sqlite_value::row::Row;
@@ -11,7 +12,8 @@ use tree_rows::{ReadRow, list_run};
 
 /// The tables of books in the trees of a store, a tree each: 0 the book, 1 tariffs, 2 closes,
 /// 3 records, 4 charge rows, 5 adjustment lines, 8 choices; two more that find records, 6 by
-/// identity and 7 by mark; and 9, which finds choices by the names of their records.
+/// identity and 7 by mark; 9, which finds choices by the names of their records; and 10, which
+/// shows the records that are counted.
 #[derive(Drop)]
 pub struct TreeTables<S: Store> {
     pub(crate) store: S,
@@ -21,6 +23,8 @@ pub struct TreeTables<S: Store> {
     pub(crate) row: Row,
     /// The row that was under the key before.
     pub(crate) before: Row,
+    /// What a row of details is made with.
+    pub(crate) scratch: DetailScratch,
     ghost shaped: { IsClean (S.Store.view store) → HasShapes (S.Store.view store) },
 }
 
@@ -46,6 +50,7 @@ impl<S: Store> TreeTables<S> {
             key: Row::new(alloc),
             row: Row::new(alloc),
             before: Row::new(alloc),
+            scratch: DetailScratch::new(alloc),
         }
     }
 

@@ -3,11 +3,13 @@
 use super::PlainLedger;
 use crate::charge_rows::{are_too_dear, charge_rows};
 use crate::choices::last_chosen;
+use crate::details::{next_of, sort_details};
 use crate::identities::{disputes, first_from, shared_identities};
 use crate::lines::sort_lines;
 use crate::period::Period;
 use crate::period_end::PeriodEnd;
-use book_model::{ChargeRow, Dispute, LedgerFault, Line, Naming};
+use book_model::{ChargeRow, Detail, Dispute, LedgerFault, Line, Naming};
+use smf_text::Name;
 use std::alloc::AllocError;
 use tariff_rules::Tariff;
 
@@ -17,6 +19,7 @@ impl<N: Naming + Drop> PlainLedger<N> {
     ghost use Rattle.book_model.specs.Words.{AreLines, adjustments_outcome, charges_outcome};
     ghost use Rattle.book_model.specs.Words.{disputes_outcome, periods_outcome, AreRows};
     ghost use Rattle.book_model.specs.Words.{ShowsDispute, dispute_outcome, what_if_outcome};
+    ghost use Rattle.book_model.specs.Words.{ShowsDetail, next_detail_outcome};
     ghost use Rattle.book_core.specs.Treatments.{IsPeriodEnd};
     ghost use Rattle.book_core.specs.PlainBook.{book_in, naming_in, period_in};
 
@@ -87,6 +90,24 @@ impl<N: Naming + Drop> PlainLedger<N> {
         let mut lines = period.lines(self.alloc, &self.held, &self.posted)?;
         sort_lines(&mut lines);
         Ok(lines)
+    }
+
+    /// The first detail of a period after one. All are made for it, as the books are in memory
+    /// anyway.
+    pub(super) fn detail_after(
+        &self,
+        number: u16,
+        centre: Option<Name>,
+        last: Option<Detail>,
+    ) -> Result<Option<Detail>, LedgerFault>
+        ensures detail { Answers (λ found. found) result (next_detail_outcome
+            (N.name_of (naming_in self.now)) number centre last (book_in self.now)).answer }
+        ensures shown { IfOk result ShowsDetail }
+    {
+        let period = self.period(number)?;
+        let mut details = period.details(self.alloc, &self.held, &self.posted)?;
+        sort_details(&mut details);
+        Ok(next_of(&details, centre, last))
     }
 
     /// The identities in dispute, with their records.

@@ -1,6 +1,5 @@
-use Rattle.std.proofs.Common.{◌≡◌, ◌∙◌, ◌++◌, ℕ, List, length, take, drop, sym, ap, subst}
-use Rattle.std.proofs.Common.{map, Option, Ok, append-nil, take_all, arith}
-use Rattle.std.proofs.lemmas.List.{drop_all}
+use Rattle.std.proofs.Common.{◌≡◌, ◌∙◌, ◌++◌, length, take, drop, sym, ap, subst}
+use Rattle.std.proofs.Common.{map, Option, Ok}
 use Rattle.std.specs.List.{IsDistinct}
 use Rattle.book_model.specs.declared.line.Line.{Line}
 use Rattle.book_model.specs.Words.{period_of, AreLines, by_line, lines_of, same_bytes, members}
@@ -11,6 +10,7 @@ use Rattle.book_core.specs.PlainBook.{book_in, naming_in}
 use Rattle.book_core.specs.Treatments.{treatment_in}
 use Rattle.book_core.proofs.BookLemmas.{read_of}
 use Rattle.book_core.proofs.LineLemmas.{lines_at, names_apart, lines_of-treatments, are_lines}
+use Rattle.book_core.proofs.LineLemmas.{written_over}
 use Rattle.book_core.proofs.plain.PlainLedger.lines.Given.{Over}
 use Rattle.book_core.proofs.plain.PlainLedger.lines.Goals as goal
 use Rattle.book_core.proofs.plain.PlainLedger.lines.Goals.{After-sort_lines}
@@ -22,15 +22,6 @@ sort_lines-requires g c =
     subst (λ lines. IsDistinct same_bytes (map (λ (line : Line). line.name) lines))
     (sym (c.deref_mut.ensures.value ∙ c.in_ok-lines.ensures))
     (names_apart ledger.kept ledger.rising treatment)
-
--- a vector with all its items written over has what was written
-written_over : (count : ℕ) (written items : List Line) → count ≡ length items
-    → length written ≡ length items
-    → take count (written ++ drop (length written) items) ≡ written
-written_over count written items counted long =
-    ap (λ rest. take count (written ++ rest)) (drop_all (length written) items (omega arith))
-    ∙ ap (take count) (append-nil written)
-    ∙ take_all count written (omega arith)
 
 -- so the lines are sorted
 sorted : (g : Over) (c : After-sort_lines g)

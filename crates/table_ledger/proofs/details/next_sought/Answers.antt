@@ -1,0 +1,66 @@
+use Rattle.std.proofs.Common.{◌∙◌, Err, SFits, ap, refl, rules, sym, true, w32}
+use Rattle.std.specs.Option.{option_map_or}
+use Rattle.std.specs.Prelude.{int_lt, not, ℤ}
+use Rattle.std.proofs.lemmas.Int.{to_z-of_z}
+use Rattle.sqlite_trees.specs.declared.error.StoreError.TheVariants.{OutOfMemory}
+use Rattle.tree_tables.specs.Details.{DetailsFit}
+use Rattle.table_ledger.proofs.DetailTries.{sought_found, sought_none, sought_on, sought_past}
+use Rattle.table_ledger.proofs.OwnBooks.{fails_after_look}
+use Rattle.table_ledger.proofs.Refusals.{looks_failed_after, looks_failed_next}
+use Rattle.table_ledger.proofs.TryLemmas.{looks_known, saw_found, saw_none, saw_so, saw_then}
+use Rattle.table_ledger.proofs.details.next_sought.Goals as goal
+
+-- at first each is from the first start on
+pub details-init : goal.details-init
+details-init g c =
+    saw_so saw_none (λ tables nothing detail is wanted. c.first-start.ensures detail wanted)
+
+-- the next one is not read
+pub returns-in_err-detail-clause-looks : goal.returns-in_err-detail-clause-looks
+returns-in_err-detail-clause-looks g c =
+    looks_failed_next _ c.from_residual.ensures.0 c.details.invariant c.in_err-detail.ensures.looks
+
+pub returns-in_err-detail-clause-cause : goal.returns-in_err-detail-clause-cause
+returns-in_err-detail-clause-cause g c =
+    fails_after_look {When = DetailsFit} _ c.from_residual.ensures.1 c.details.invariant
+    c.in_err-detail.ensures.looks c.in_err-detail.ensures.cause
+
+-- none is left
+pub returns-in_default-clause-looks : goal.returns-in_default-clause-looks
+returns-in_default-clause-looks g c =
+    looks_known (saw_then c.details.invariant
+    (saw_found (rw c.in_default.is at c.in_ok-detail.ensures.looks)))
+    (λ tables known. sought_none c.args.sought.now c.details.start tables known.0 known.1)
+
+-- the period is past
+pub returns-then-not-is_through-clause-looks : goal.returns-then-not-is_through-clause-looks
+returns-then-not-is_through-clause-looks g c =
+    let sought = c.args.sought.now in
+    let day = c.in-Some.detail.priced.day in
+    let fits : SFits w32 day = search rules in
+    let past = ap (λ (day : ℤ). option_map_or (λ close. not (int_lt close day)) sought.through true)
+    (sym (to_z-of_z w32 day fits)) ∙ sym c.is_through.ensures ∙ c.if-not-is_through.true in
+    looks_known (saw_then c.details.invariant
+    (saw_found (rw c.in-Some.is at c.in_ok-detail.ensures.looks)))
+    (λ tables known. sought_past sought c.details.start tables known.0 c.in-Some.detail known.1 past)
+
+-- it is one of them
+pub returns-then-seeks-clause-looks : goal.returns-then-seeks-clause-looks
+returns-then-seeks-clause-looks g c =
+    looks_known (saw_then c.details.invariant
+    (saw_found (rw c.in-Some.is at c.in_ok-detail.ensures.looks)))
+    (λ tables known. sought_found c.args.sought.now c.details.start tables known.0
+    c.in-Some.detail known.1 (sym c.seeks.ensures ∙ c.if-seeks.true))
+
+-- it is passed
+pub details-preserved : goal.details-preserved
+details-preserved g c =
+    saw_so (saw_then c.details.invariant
+    (saw_found (rw c.in-Some.is at c.in_ok-detail.ensures.looks)))
+    (λ tables known. sought_on c.args.sought.now c.details.start tables known.0
+    c.in-Some.detail known.1 c.after-start.result (sym c.seeks.ensures ∙ c.if-seeks.false)
+    c.after-start.ensures)
+
+-- there are too many
+pub returns-clause-looks : goal.returns-clause-looks
+returns-clause-looks g c = looks_failed_after (Err OutOfMemory) refl c.details.invariant

@@ -1,0 +1,50 @@
+-- Details that are read one after another, and their rows.
+use Rattle.std.specs.Prelude.{◌≡◌, ◌++◌, ◌∷◌, [], ℕ, pos, Bool, true, false, not, List, Option}
+use Rattle.std.specs.Prelude.{None, Some}
+use Rattle.std.specs.FinMap.{get}
+use Rattle.std.specs.Ordering.{int_cmp, is_lt, ordering_then}
+use Rattle.sqlite_value.specs.Order.{Row}
+use Rattle.sqlite_value.specs.declared.value.Value.TheVariants.{Blob, Int, Text}
+use Rattle.book_model.specs.Words.{by_bytes, by_detail}
+use Rattle.book_model.specs.declared.detail.Detail.{Detail}
+use Rattle.table_model.specs.DetailsRead.{FindsLeast, IsDetail, detail_shown}
+use Rattle.table_model.specs.Tables.{RecordRow, Tables}
+use Rattle.tree_tables.specs.Columns.{detail_columns}
+use Rattle.tree_tables.specs.Fits.{DetailFits}
+use Rattle.tree_tables.specs.declared.detail_rows.DetailStart.{DetailStart}
+use Rattle.tree_tables.specs.declared.detail_rows.DetailStart.TheVariants.{After, Centre, Day, First}
+
+-- it does not come before the start
+abbrev pub is_reached : DetailStart → Detail → Bool
+is_reached First detail = true
+is_reached (Day day) detail = not (is_lt (int_cmp detail.priced.day day))
+is_reached (Centre day centre) detail =
+    not (is_lt (ordering_then (int_cmp detail.priced.day day)
+    (by_bytes detail.priced.centre centre)))
+is_reached (After last) detail = is_lt (by_detail last detail)
+
+-- the first of those from the start on, if there is one
+abbrev pub FindsDetail : DetailStart → Tables → Option Detail → Type 0
+FindsDetail start = FindsLeast (is_reached start)
+
+-- The first columns of those that are not before the start. No name comes between one and the same
+-- with a 0 behind it.
+abbrev pub start_columns : DetailStart → Row
+start_columns First = []
+start_columns (Day day) = Int day ∷ []
+start_columns (Centre day centre) = Int day ∷ Text centre ∷ []
+start_columns (After last) =
+    Int last.priced.day ∷ Text last.priced.centre ∷ Text last.priced.shift
+    ∷ Int (pos last.time) ∷ Blob (last.name ++ 0 ∷ []) ∷ []
+
+-- the row that details have of the record of a name, or that there is no such record
+abbrev pub MakesDetail : List ℕ → Tables → Row → Bool → Type 0
+MakesDetail name tables row true =
+    (found : RecordRow) × (get tables.records name ≡ Some found)
+    × (row ≡ detail_columns (detail_shown (name, found), tt))
+MakesDetail name tables row false = get tables.records name ≡ None
+
+-- all details fit
+abbrev pub DetailsFit : Tables → Type 0
+DetailsFit tables =
+    (detail : Detail) → IsDetail tables detail → DetailFits (detail_columns (detail, tt))
