@@ -1,6 +1,7 @@
 -- What is printed for an audit.
 use Rattle.std.specs.Prelude.{◌≡◌, ℕ, List, ◌++◌, codes}
 use Rattle.std.specs.Fmt.{decimal}
+use Rattle.tree_tables.specs.Forms.{this_form}
 use Rattle.book_audit.specs.declared.audited.Audited.{Audited}
 use Rattle.book_audit.specs.declared.audited.Audited.TheVariants.{Sound, Unsound}
 use Rattle.book_audit.specs.declared.audited.Counts.{Counts}
@@ -9,9 +10,10 @@ use Rattle.book_audit.specs.declared.audited.Counts.{Counts}
 abbrev pub count_line : List ℕ → ℕ → List ℕ
 count_line word count = word ++ codes " " ++ decimal count ++ codes "\n"
 
--- the lines of sound books
+-- the lines of sound books, of which the first says their form
 abbrev pub sound_text : Counts → List ℕ
-sound_text counts = codes "SOUND\n" ++ count_line (codes "RECORDS") counts.records
+sound_text counts = codes "SOUND\n" ++ count_line (codes "FORM") this_form
+    ++ count_line (codes "RECORDS") counts.records
     ++ count_line (codes "TARIFFS") counts.tariffs ++ count_line (codes "CLOSES") counts.closes
     ++ count_line (codes "CHOICES") counts.choices ++ count_line (codes "ROWS") counts.rows
     ++ count_line (codes "LINES") counts.lines

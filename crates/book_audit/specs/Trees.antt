@@ -8,7 +8,7 @@ use Rattle.tree_rows.specs.Rows.{IsFirst, past_key}
 use Rattle.book_audit.specs.declared.finding.Tree.{Tree}
 use Rattle.book_audit.specs.declared.finding.Tree.TheVariants.{Book, Tariffs, Closes, Records}
 use Rattle.book_audit.specs.declared.finding.Tree.TheVariants.{Days, Lines, Identities, Marks}
-use Rattle.book_audit.specs.declared.finding.Tree.TheVariants.{Choices, ChoiceNames}
+use Rattle.book_audit.specs.declared.finding.Tree.TheVariants.{Choices, ChoiceNames, Details}
 
 -- in the order in which a file lists them
 abbrev pub tree_number : Tree → ℕ
@@ -22,6 +22,7 @@ tree_number Identities = 6
 tree_number Marks = 7
 tree_number Choices = 8
 tree_number ChoiceNames = 9
+tree_number Details = 10
 
 -- whether the row after the first that has the key has it too
 pub record FindsTwo (key : Row) (rows : List Row) (row : Row) (two : Bool) : Type 0 where

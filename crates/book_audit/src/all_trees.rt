@@ -7,6 +7,7 @@ ghost use Rattle.tree_tables.specs.Holds.{HasShapes};
 
 use crate::audited::{Audited, Counts};
 use crate::day_sums::{Places, check_rows};
+use crate::details::{check_details, read_first_lines};
 use crate::lines::check_lines;
 use crate::records::check_records;
 use crate::rulings::read_rulings;
@@ -27,9 +28,11 @@ fn read_trees<S: Store, W: Watch>(
 {
     let rulings = read_rulings(alloc, trees, watch)?;
     let mut places = Places::new(alloc);
-    let records = check_records(alloc, trees, &rulings, &mut places, watch)?;
+    let mut counted = read_first_lines(alloc, trees)?;
+    let records = check_records(alloc, trees, &rulings, &mut places, &mut counted, watch)?;
     let lines = check_lines(alloc, trees, &rulings, &mut places, watch)?;
     let rows = check_rows(alloc, trees, &rulings, &mut places, watch)?;
+    check_details(alloc, trees, &mut counted, watch)?;
     Ok(Counts {
         records,
         tariffs: rulings.tariffs.len() as u64,

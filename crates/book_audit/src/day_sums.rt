@@ -60,7 +60,7 @@ impl DaySums {
 }
 
 /// Where a record is charged.
-fn place_of(priced: &Priced) -> RowKey
+pub(crate) fn place_of(priced: &Priced) -> RowKey
     ensures { result ≡ key_of priced.now }
 {
     RowKey {

@@ -6,6 +6,7 @@ ghost use Rattle.sqlite_value.specs.Keys.{plain};
 ghost use Rattle.tree_tables.specs.Holds.{HasShapes};
 ghost use Rattle.book_audit.specs.Trees.{tree_number};
 
+use book_model::RowKey;
 use sqlite_trees::store::Shape;
 use tree_tables::DayKey;
 
@@ -27,6 +28,8 @@ pub enum Tree {
     Choices,
     /// It finds choices by the records that they name.
     ChoiceNames,
+    /// It shows the records that charge rows count.
+    Details,
 }
 
 impl Tree {
@@ -46,6 +49,7 @@ impl Tree {
             Tree::Marks => 7,
             Tree::Choices => 8,
             Tree::ChoiceNames => 9,
+            Tree::Details => 10,
         }
     }
 
@@ -62,6 +66,7 @@ impl Tree {
             Tree::Marks => "record_charged",
             Tree::Choices => "choice",
             Tree::ChoiceNames => "choice_name",
+            Tree::Details => "detail",
         }
     }
 
@@ -72,8 +77,20 @@ impl Tree {
             Tree::Lines | Tree::Identities | Tree::ChoiceNames => 2,
             Tree::Marks => 3,
             Tree::Days => 4,
+            Tree::Details => 5,
         }
     }
+}
+
+/// Where a row of details is.
+#[derive(Clone, Copy)]
+pub struct DetailKey {
+    /// The place of the charge row that counts the record.
+    pub place: RowKey,
+    /// The time of the record, in hundredths of a second since midnight.
+    pub time: u32,
+    /// The name of the record.
+    pub name: [u8; 32],
 }
 
 /// Where something is wrong.
@@ -95,6 +112,8 @@ pub enum Place {
     Day(DayKey),
     /// A period's line for the record of a name.
     Line(u16, [u8; 32]),
+    /// A row of details.
+    Detail(DetailKey),
 }
 
 /// What is wrong there.
@@ -154,7 +173,7 @@ pub enum Wrong {
     Posted,
     /// A tree that finds the rows of a table has another number of entries.
     Entries,
-    /// A line's record is not held.
+    /// The record of a line or of a row of details is not held.
     NoRecord,
     /// A line's record is dated after the close before the line's period, or there is no close.
     LineDate,
@@ -166,6 +185,12 @@ pub enum Wrong {
     Sums,
     /// Records are charged at a place that has no charge row.
     NoRow,
+    /// A record is counted, and has no row of details.
+    NoDetail,
+    /// A row of details shows something else than its record.
+    OtherDetail,
+    /// A row of details is that of a record which no period counts.
+    NotCounted,
 }
 
 /// The first thing that is wrong, and its place.

@@ -1,9 +1,10 @@
 //! Keys as they are looked for: the first columns of rows.
 
 ghost use Rattle.std.specs.Prelude.{◌≡◌, ◌∷◌, [], OnOk, pos};
-ghost use Rattle.sqlite_value.specs.declared.value.Value.TheVariants.{Blob, Int};
+ghost use Rattle.sqlite_value.specs.declared.value.Value.TheVariants.{Blob, Int, Text};
 ghost use Rattle.tree_tables.specs.Columns.{flag};
 
+use crate::finding::DetailKey;
 use sqlite_value::row::Row;
 use sqlite_value::value::ValueRef;
 use std::alloc::AllocError;
@@ -54,4 +55,17 @@ pub(crate) fn line_key(key: &mut Row, period: u16, name: &[u8; 32]) -> Result<()
     key.clear();
     key.push(ValueRef::Int(i64::from(period)))?;
     key.push(ValueRef::Blob(name))
+}
+
+/// The key of a row of details.
+pub(crate) fn detail_key(key: &mut Row, spot: &DetailKey) -> Result<(), AllocError>
+    ensures { OnOk result (key.new ≡ Int spot.now.place.day ∷ Text spot.now.place.centre
+        ∷ Text spot.now.place.shift ∷ Int (pos spot.now.time) ∷ Blob spot.now.name ∷ []) }
+{
+    key.clear();
+    key.push(ValueRef::Int(i64::from(spot.place.day)))?;
+    key.push(ValueRef::Text(spot.place.centre.text().as_bytes()))?;
+    key.push(ValueRef::Text(spot.place.shift.text().as_bytes()))?;
+    key.push(ValueRef::Int(i64::from(spot.time)))?;
+    key.push(ValueRef::Blob(&spot.name))
 }

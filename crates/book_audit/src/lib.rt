@@ -6,6 +6,7 @@ mod all_trees;
 mod audited;
 mod choices;
 mod day_sums;
+mod details;
 mod entry_counts;
 mod finding;
 mod identity_rule;
@@ -24,7 +25,7 @@ mod watch;
 
 pub use all_trees::audit_trees;
 pub use audited::{Audited, Counts};
-pub use finding::{Finding, Place, Tree, Wrong};
+pub use finding::{DetailKey, Finding, Place, Tree, Wrong};
 pub use repository::AuditedRepository;
 pub use texts::audit_text;
 pub use watch::Watch;

@@ -17,16 +17,16 @@ use tree_tables::{hash_at, mark_at, period_at};
 
 /// A line as its row gives it.
 #[derive(Clone, Copy)]
-struct Line {
+pub(crate) struct Line {
     period: u16,
     /// The name of the record.
-    name: [u8; 32],
+    pub(crate) name: [u8; 32],
     /// It adds the record, or reverses it.
-    plus: bool,
+    pub(crate) plus: bool,
 }
 
 /// What the row of a line says.
-fn line_in(row: &Row) -> Result<Line, StoreError> {
+pub(crate) fn line_in(row: &Row) -> Result<Line, StoreError> {
     Ok(Line {
         period: period_at(row, 0)?,
         name: hash_at(row, 1)?,

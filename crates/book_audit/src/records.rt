@@ -3,6 +3,7 @@
 ghost use Rattle.tree_rows.specs.Calls.{CommitsNothing};
 
 use crate::day_sums::Places;
+use crate::details::{FirstLines, check_has_detail};
 use crate::entry_counts::check_entries;
 use crate::finding::{Place, Tree, Wrong};
 use crate::marks::check_marks;
@@ -30,12 +31,14 @@ fn check_record<S: Store>(
     trees: &mut Trees<S>,
     rulings: &Rulings,
     places: &mut Places,
+    counted: &mut FirstLines,
     record: &StoredRecord,
 ) -> Result<(), Stop>
     ensures quiet { CommitsNothing S.Store trees.old.store trees.new.store }
 {
     check_data(alloc, rulings, record)?;
     check_marks(trees, rulings, record)?;
+    check_has_detail(trees, counted, record)?;
     if record.charged {
         places.count(&record.priced)?;
     }
@@ -48,6 +51,7 @@ fn read_records<S: Store, W: Watch>(
     trees: &mut Trees<S>,
     rulings: &Rulings,
     places: &mut Places,
+    counted: &mut FirstLines,
     watch: &mut W,
 ) -> Result<Held, Stop>
     ensures quiet { CommitsNothing S.Store trees.old.store trees.new.store }
@@ -61,7 +65,7 @@ fn read_records<S: Store, W: Watch>(
             return Ok(Held { records, amount });
         }
         let record = read_record(walk.row(), alloc).map_err(|error| met(tree, error))?;
-        check_record(alloc, trees, rulings, places, &record)?;
+        check_record(alloc, trees, rulings, places, counted, &record)?;
         // Each amount is the price of its record: no sum of that many comes near 2^64.
         amount = amount.wrapping_add(record.priced.amount);
     }
@@ -75,11 +79,12 @@ pub(crate) fn check_records<S: Store, W: Watch>(
     trees: &mut Trees<S>,
     rulings: &Rulings,
     places: &mut Places,
+    counted: &mut FirstLines,
     watch: &mut W,
 ) -> Result<u64, Stop>
     ensures quiet { CommitsNothing S.Store trees.old.store trees.new.store }
 {
-    let held = read_records(alloc, trees, rulings, places, watch)?;
+    let held = read_records(alloc, trees, rulings, places, counted, watch)?;
     check_entries(alloc, trees, Tree::Identities, held.records, watch)?;
     check_entries(alloc, trees, Tree::Marks, held.records, watch)?;
     if held.records != rulings.held {

@@ -4,10 +4,11 @@ ghost use Rattle.std.specs.Prelude.{◌≡◌, ℕ, List, ◌++◌, IfOk, OnOk, 
 ghost use Rattle.book_audit.specs.Texts.{IsAuditText, count_line, sound_text};
 
 use crate::audited::{Audited, Counts};
-use crate::finding::{Finding, Place, Wrong};
+use crate::finding::{DetailKey, Finding, Place, Wrong};
+use book_model::RowKey;
 use smf_text::{FIRST_DAY, LAST_DAY, day_text};
 use std::alloc::{AllocError, Global};
-use tree_tables::DayKey;
+use tree_tables::{DayKey, THIS_FORM};
 
 /// What is wrong, in words.
 fn wrong_text(wrong: Wrong) -> &'static str {
@@ -46,6 +47,9 @@ fn wrong_text(wrong: Wrong) -> &'static str {
         Wrong::NoCount => "it counts no record",
         Wrong::Sums => "it is not the sum of its records",
         Wrong::NoRow => "there is no row for its records",
+        Wrong::NoDetail => "there is no row of detail for it",
+        Wrong::OtherDetail => "it is not that of its record",
+        Wrong::NotCounted => "no period counts its record",
     }
 }
 
@@ -59,17 +63,53 @@ fn push_day(alloc: Global, out: &mut String, day: i32) -> Result<(), AllocError>
     write!(out, "{day}")
 }
 
+/// Adds where records are charged.
+fn push_key(alloc: Global, out: &mut String, place: &RowKey) -> Result<(), AllocError>
+    ensures { OnOk result ((more : List ℕ) × (string_bytes out.new ≡ string_bytes out.old ++ more)) }
+{
+    push_day(alloc, out, place.day)?;
+    out.push_str(" ")?;
+    out.push_str(place.centre.text())?;
+    out.push_str(" ")?;
+    out.push_str(place.shift.text())
+}
+
 /// Adds where a charge row is.
 fn push_spot(alloc: Global, out: &mut String, spot: &DayKey) -> Result<(), AllocError>
     ensures { OnOk result ((more : List ℕ) × (string_bytes out.new ≡ string_bytes out.old ++ more)) }
 {
     let period = spot.period;
     write!(out, "day_sum {period} ")?;
-    push_day(alloc, out, spot.place.day)?;
+    push_key(alloc, out, &spot.place)
+}
+
+/// Adds a time of day, given in hundredths of a second since midnight.
+fn push_time(out: &mut String, time: u32) -> Result<(), AllocError>
+    ensures { OnOk result ((more : List ℕ) × (string_bytes out.new ≡ string_bytes out.old ++ more)) }
+{
+    let (hours, minutes) = (time / 360_000, time / 6_000 % 60);
+    write!(out, "{hours:02}:{minutes:02}:")?;
+    let (seconds, hundredths) = (time / 100 % 60, time % 100);
+    write!(out, "{seconds:02}.{hundredths:02}")
+}
+
+/// Adds where records are charged, and the time of one.
+fn push_moment(alloc: Global, out: &mut String, spot: &DetailKey) -> Result<(), AllocError>
+    ensures { OnOk result ((more : List ℕ) × (string_bytes out.new ≡ string_bytes out.old ++ more)) }
+{
+    push_key(alloc, out, &spot.place)?;
     out.push_str(" ")?;
-    out.push_str(spot.place.centre.text())?;
+    push_time(out, spot.time)
+}
+
+/// Adds where a row of details is.
+fn push_detail(alloc: Global, out: &mut String, spot: &DetailKey) -> Result<(), AllocError>
+    ensures { OnOk result ((more : List ℕ) × (string_bytes out.new ≡ string_bytes out.old ++ more)) }
+{
+    out.push_str("detail ")?;
+    push_moment(alloc, out, spot)?;
     out.push_str(" ")?;
-    out.push_str(spot.place.shift.text())
+    push_name(alloc, out, &spot.name)
 }
 
 /// Adds the name of a record.
@@ -101,6 +141,7 @@ fn push_place(alloc: Global, out: &mut String, place: &Place) -> Result<(), Allo
             write!(out, "line {period} ")?;
             push_name(alloc, out, name)
         }
+        Place::Detail(spot) => push_detail(alloc, out, spot),
     }
 }
 
@@ -128,6 +169,7 @@ fn push_counts(out: &mut String, counts: &Counts) -> Result<(), AllocError>
     ensures { OnOk result (string_bytes out.new ≡ string_bytes out.old ++ sound_text counts.now) }
 {
     out.push_str("SOUND\n")?;
+    push_count(out, "FORM", u64::from(THIS_FORM))?;
     push_count(out, "RECORDS", counts.records)?;
     push_count(out, "TARIFFS", counts.tariffs)?;
     push_count(out, "CLOSES", counts.closes)?;

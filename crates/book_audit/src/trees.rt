@@ -3,8 +3,8 @@
 ghost use Rattle.sqlite_trees.specs.View.{IsClean};
 ghost use Rattle.tree_tables.specs.Holds.{HasShapes};
 
-use crate::finding::Tree;
-use crate::keys::{bytes_key, choice_name_key, identity_key, line_key, mark_key};
+use crate::finding::{DetailKey, Tree};
+use crate::keys::{bytes_key, choice_name_key, detail_key, identity_key, line_key, mark_key};
 use sqlite_trees::error::StoreError;
 use sqlite_trees::store::Store;
 use sqlite_value::row::Row;
@@ -30,7 +30,7 @@ impl<S: Store> Trees<S> {
     ghost use Rattle.std.specs.Prelude.{◌≡◌, ◌∷◌, [], IfOk, IfSome, OnOk, is_some, pos};
     ghost use Rattle.sqlite_trees.specs.View.{IsClean};
     ghost use Rattle.sqlite_value.specs.Order.{column};
-    ghost use Rattle.sqlite_value.specs.declared.value.Value.TheVariants.{Blob, Int};
+    ghost use Rattle.sqlite_value.specs.declared.value.Value.TheVariants.{Blob, Int, Text};
     ghost use Rattle.tree_rows.specs.Calls.{CommitsNothing, OnlyLooks};
     ghost use Rattle.tree_rows.specs.Rows.{Finds, IsFirst};
     ghost use Rattle.tree_tables.specs.Columns.{flag};
@@ -128,6 +128,19 @@ impl<S: Store> Trees<S> {
     {
         choice_name_key(&mut self.key, name, number)?;
         self.finds(Tree::ChoiceNames)
+    }
+
+    /// Whether a row of details is at a place.
+    pub(crate) fn has_detail(&mut self, spot: &DetailKey) -> Result<bool, StoreError>
+        ensures found { IfOk result (λ hit. IsClean (S.Store.view self.new.store)
+            → Finds (Int spot.now.place.day ∷ Text spot.now.place.centre
+            ∷ Text spot.now.place.shift ∷ Int (pos spot.now.time) ∷ Blob spot.now.name ∷ [])
+            ((S.Store.view self.old.store).trees 10) self.new.found hit) }
+        ensures same { OnOk result (OnlyLooks S.Store self.old.store self.new.store) }
+        ensures quiet { CommitsNothing S.Store self.old.store self.new.store }
+    {
+        detail_key(&mut self.key, spot)?;
+        self.finds(Tree::Details)
     }
 
     /// Whether two or more entries have an identity: whether the row after the first that has it

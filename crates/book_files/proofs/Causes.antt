@@ -1,6 +1,6 @@
 -- Why a session has no answer.
 use Rattle.std.proofs.Common.{◌≡◌, ◌∙◌, ℕ, Bool, Result, Ok, Err, Option, None, Some, inl, inr, refl}
-use Rattle.std.proofs.Common.{arith, false, subst, sym, IsTrue}
+use Rattle.std.proofs.Common.{◌⊎◌, arith, false, subst, sym, IsTrue}
 use Rattle.std.proofs.Math.Logic.{∥∥₁_elim, ∥∥₁_map, ∥∥₁_prop}
 use Rattle.std.specs.Prelude.{IfErr, IfOk, IsErrAnd, MatchOption, MatchResult, ⊤}
 use Rattle.sqlite_disk.specs.Disk.{MoreFaults}
@@ -18,16 +18,21 @@ use Rattle.book_model.specs.Words.{Book, Naming, book_after}
 use Rattle.book_model.specs.declared.fault.LedgerFault.{LedgerFault}
 use Rattle.book_model.specs.declared.fault.LedgerFault.TheVariants as ledger
 use Rattle.book_trees.specs.Copies.{IsCopyRefusedFor}
+use Rattle.book_trees.specs.FirstForm.{IsFirstRefusedFor, IsUnopenedFirst}
+use Rattle.book_trees.specs.Forms.{HoldsThisForm}
 use Rattle.book_trees.specs.LedgerFiles.{image_of, HoldsBooks, trees_held}
 use Rattle.book_trees.specs.Looks.{IsLookRefusedFor, IsUnopenedLook}
 use Rattle.book_trees.specs.Refusals.{IsRefusedFor, IsUnopened}
 use Rattle.book_trees.specs.declared.faults.OpenFault.{OpenFault}
 use Rattle.book_trees.specs.declared.faults.OpenFault.TheVariants as opening
+use Rattle.book_trees.specs.declared.first_form.FirstFault.{FirstFault}
+use Rattle.book_trees.specs.declared.first_form.FirstFault.TheVariants as form
 use Rattle.book_trees.specs.declared.integrity.LookFault.{LookFault}
 use Rattle.book_trees.specs.declared.integrity.LookFault.TheVariants.{Pages, Open}
 use Rattle.book_files.specs.Faults.{HasFaultCause, HasNoAnswerFor, HasNoCopyFor, HoldsOurBooks}
 use Rattle.book_files.specs.Faults.{HoldsOurs, IsWithoutFiles, ShowsOurBooks, ShowsOurs}
-use Rattle.book_files.specs.Faults.{look_answer, not_copied, open_fault, resume_fault, store_fault}
+use Rattle.book_files.specs.Faults.{first_answer, look_answer, not_copied, open_fault, resume_fault}
+use Rattle.book_files.specs.Faults.{store_fault}
 use Rattle.book_files.specs.declared.session.Ended.TheVariants.{Refused}
 use Rattle.book_files.proofs.NewParts.{opened_empty}
 use Rattle.book_files.proofs.SessionParts.{opened_stands}
@@ -100,6 +105,10 @@ pub cause_so : (Absent Absent' There There' Failed Failed' : Type 0) → (Absent
     → (There → There') → (Failed → Failed') → (fault : RepositoryFault)
     → HasFaultCause Absent There Failed fault → HasFaultCause Absent' There' Failed' fault
 cause_so Absent Absent' There There' Failed Failed' absent there failed (Ledger ledger.NotBooks) cause =
+    absent cause
+cause_so Absent Absent' There There' Failed Failed' absent there failed (Ledger ledger.OldForm) cause =
+    absent cause
+cause_so Absent Absent' There There' Failed Failed' absent there failed (Ledger ledger.NewForm) cause =
     absent cause
 cause_so Absent Absent' There There' Failed Failed' absent there failed (Ledger ledger.Memory) cause =
     tt
@@ -218,6 +227,8 @@ module _ {D : Type 0} (g : Ghosts D) (Held : Type 0) (AtLimit : Files D → Type
       → HasNoAnswerFor g AtLimit (HasFaultCause (¬ Held) ⊥) Opened (open_fault fault) (Refused files)
   refused_cause fault None cause = without_files open_fault refl refl refl fault cause
   refused_cause opening.NotBooks (Some files) cause = cause
+  refused_cause opening.OldForm (Some files) cause = cause
+  refused_cause opening.NewForm (Some files) cause = cause
   refused_cause opening.Memory (Some files) cause = λ clean. tt
   refused_cause opening.Store (Some files) cause = cause
   refused_cause opening.Busy (Some files) cause = cause
@@ -231,6 +242,23 @@ module _ {D : Type 0} (g : Ghosts D) (Held : Type 0) (AtLimit : Files D → Type
   look_cause Pages files cause = tt
   look_cause (Open fault) files cause = refused_cause fault files cause
 
+  -- and so have those that were to be brought to this form
+  pub first_cause : (why : FirstFault) (files : Option (Files D))
+      → MatchOption files (IsUnopenedFirst why) (IsFirstRefusedFor g Held AtLimit why)
+      → IfErr (first_answer why) (λ fault. HasNoAnswerFor g AtLimit
+      (λ Failed. HasFaultCause (¬ Held) ⊥ (Failed ⊎ (¬ Held))) Opened fault (Refused files))
+  first_cause form.Already files cause = tt
+  first_cause form.Pages None cause = absurd cause
+  first_cause form.Pages (Some files) cause = λ clean. inr (cause clean)
+  first_cause (form.Open fault) None cause = without_files open_fault refl refl refl fault cause
+  first_cause (form.Open opening.NotBooks) (Some files) cause = cause
+  first_cause (form.Open opening.OldForm) (Some files) cause = cause
+  first_cause (form.Open opening.NewForm) (Some files) cause = cause
+  first_cause (form.Open opening.Memory) (Some files) cause = λ clean. tt
+  first_cause (form.Open opening.Store) (Some files) cause = λ clean. inl (cause clean)
+  first_cause (form.Open opening.Busy) (Some files) cause = cause
+  first_cause (form.Open opening.Path) (Some files) cause = cause
+
   -- and so have those that were to be continued
   pub unresumed_cause : (fault : OpenFault) (files : Option (Files D))
       → MatchOption files (IsUnopened fault) (IsRefusedFor g Held AtLimit fault)
@@ -238,6 +266,8 @@ module _ {D : Type 0} (g : Ghosts D) (Held : Type 0) (AtLimit : Files D → Type
       (Refused files)
   unresumed_cause fault None cause = without_files resume_fault refl refl refl fault cause
   unresumed_cause opening.NotBooks (Some files) cause = cause
+  unresumed_cause opening.OldForm (Some files) cause = cause
+  unresumed_cause opening.NewForm (Some files) cause = cause
   unresumed_cause opening.Memory (Some files) cause = λ clean. tt
   unresumed_cause opening.Store (Some files) cause = cause
   unresumed_cause opening.Busy (Some files) cause = cause
@@ -253,9 +283,13 @@ uncopied_cause one two found first original same Pages None cause = cause
 uncopied_cause one two found first original same (Open fault) None cause =
     without_files open_fault refl refl refl fault cause
 uncopied_cause one two found first original same Pages (Some copy) cause = λ honest clean held.
-    cause honest clean (subst HoldsBooks (sym same) held)
+    cause honest clean (subst HoldsThisForm (sym same) held)
 uncopied_cause one two found first original same (Open opening.NotBooks) (Some copy) cause =
-    λ honest clean held. cause honest clean (subst HoldsBooks (sym same) held)
+    λ honest clean held. cause honest clean (subst HoldsThisForm (sym same) held)
+uncopied_cause one two found first original same (Open opening.OldForm) (Some copy) cause =
+    λ honest clean held. cause honest clean (subst HoldsThisForm (sym same) held)
+uncopied_cause one two found first original same (Open opening.NewForm) (Some copy) cause =
+    λ honest clean held. cause honest clean (subst HoldsThisForm (sym same) held)
 uncopied_cause one two found first original same (Open opening.Memory) (Some copy) cause =
     λ honest clean. tt
 uncopied_cause one two found first original same (Open opening.Store) (Some copy) cause =

@@ -6,3 +6,4 @@ pub mod NewParts
 pub mod ResumeParts
 pub mod UnusedBooks
 pub mod Causes
+pub mod UpgradeParts

@@ -1,13 +1,15 @@
 -- What is left where new books are made.
-use Rattle.std.proofs.Common.{◌≡◌, ◌∙◌, Bool, [], ◌⊎◌, inl, inr, sym, subst, true≢false}
+use Rattle.std.proofs.Common.{◌≡◌, ◌∙◌, ℕ, Bool, [], ◌⊎◌, inl, inr, sym, subst, true≢false}
 use Rattle.std.proofs.Common.{IsTrue, Option, None, Some, Result, Ok, Err, ap, arith}
 use Rattle.std.proofs.Math.Logic.{∥∥₁_map}
 use Rattle.std.specs.Prelude.{IfSome}
 use Rattle.sqlite_disk.specs.declared.files.Files.{Files}
 use Rattle.sqlite_disk.specs.declared.Disk.{Ghosts}
 use Rattle.sqlite_pool.specs.StoredLaws.{carried}
+use Rattle.sqlite_store.proofs.ListingLemmas.{past_version}
 use Rattle.sqlite_store.specs.FileStore.{state, view, recovers, IsReady}
 use Rattle.sqlite_store.specs.declared.store.FileStore.{FileStore}
+use Rattle.sqlite_trees.specs.Objects.{with_version}
 use Rattle.sqlite_trees.specs.Tree.{Trees}
 use Rattle.sqlite_trees.specs.View.{View, IsClean}
 use Rattle.sqlite_wal.specs.Recovery.{Image}
@@ -15,16 +17,19 @@ use Rattle.book_model.proofs.SoundLemmas.{none_in}
 use Rattle.book_model.specs.Words.{Book, Naming, new_book}
 use Rattle.book_core.specs.Ledgers.{IsOpenAt}
 use Rattle.sqlite_trees.proofs.Doubt.{clean_of}
+use Rattle.book_trees.specs.Forms.{IsSaid}
 use Rattle.book_trees.specs.LedgerFiles.{HoldsBooks, trees_held, AreEmptyTables, HoldsEmptyBooks}
 use Rattle.book_trees.specs.LedgerFiles.{page_size}
 use Rattle.book_trees.specs.Refusals.{IsAsFound, IsBegun, MayLeave}
 use Rattle.book_restarts.specs.FileBooks.{HoldsHistory}
-use Rattle.book_files.specs.NewBooks.{IsEmpty, LeavesNewBooks, MakesBooks, MayBeMade}
+use Rattle.book_files.specs.NewBooks.{HaveSameTables, IsEmpty, LeavesNew, LeavesNewBooks, MakesBooks}
+use Rattle.book_files.specs.NewBooks.{MayBeMade}
 use Rattle.book_files.specs.declared.session.Ended.TheVariants.{Refused}
 use Rattle.table_model.proofs.EventLemmas.{tables_follow}
 use Rattle.table_model.specs.TablesAfter.{new_tables}
 use Rattle.table_model.specs.TablesOf.{tables_of}
 use Rattle.table_model.proofs.CallsLemmas.{calls_stay}
+use Rattle.tree_tables.specs.Forms.{this_form}
 use Rattle.tree_tables.specs.Holds.{Holds}
 use Rattle.table_ledger.specs.LedgerState.{seen_of}
 use Rattle.table_ledger.specs.Ready.{IsStoredIn}
@@ -64,6 +69,36 @@ pub closed_holds : {D : Type 0} {g : Ghosts D} (image : Image) (store : FileStor
 closed_holds image store Left held each =
     ∥∥₁_map held λ found. (found.0, each (trees_held found.0) found.1)
 
+-- each table is as it was under another form
+pub said_tables : (trees : Trees) (form : ℕ) → HaveSameTables trees (with_version trees form)
+said_tables trees form tree low = past_version tree low trees form
+
+-- a store that says another form is as empty as it was
+pub said_empty : (old new : View) → IsSaid old new → IsEmpty old → IsEmpty new
+said_empty old new said empty = record {
+  rest = record {
+    is_open = said.is_open ∙ empty.rest.is_open;
+    sound = said.sound;
+    settled = said.settled;
+  };
+  none = record {
+    empty = λ tree low. ap (λ (trees : Trees). trees tree) said.trees
+        ∙ said_tables old.trees this_form tree (omega (arith, low)) ∙ empty.none.empty tree low;
+  };
+}
+
+-- and what is left of it then, is left of it as it was
+pub said_leaves : {A F : Type 0} (names : Naming) (old new : View) (result : Result A F)
+    (trees : Trees) → IsClean old → IsSaid old new → LeavesNew names new result trees
+    → LeavesNew names old result trees
+said_leaves names old new (Ok made) trees clean said left = left
+said_leaves names old new (Err fault) trees clean said (inl was) = inl (
+  clean,
+  λ tree low. was.1 tree low ∙ ap (λ (trees : Trees). trees tree) said.trees
+      ∙ said_tables old.trees this_form tree low,
+)
+said_leaves names old new (Err fault) trees clean said (inr kept) = inr kept
+
 -- a store whose tables were just made is empty
 pub made_empty : {D : Type 0} {g : Ghosts D} (store : FileStore D g) → IsReady store
     → (IsTrue (state store).is_clean → AreEmptyTables (view store).committed)
@@ -97,7 +132,7 @@ new_books_made names old empty (Err fault) image left =
     ∥∥₁_map left λ found. elim (found.1) [
       | inl same ↦ inl (inr ∣ (record {
         held = found.0;
-        empty = λ tree low. ap (λ (trees : Trees). trees tree) same.1 ∙ empty same.0 tree low;
+        empty = λ tree low. same.1 tree low ∙ empty same.0 tree low;
       }) ∣₁)
       | inr kept ↦ inr (holds_none names image found.0 kept)
     ]

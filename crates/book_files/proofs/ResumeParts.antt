@@ -114,7 +114,7 @@ pub leaves_before : {A F : Type 0} (names : Naming) (old new : View) (result : R
     → LeavesNew names old result trees
 leaves_before names old new (Ok made) trees clean same left = left
 leaves_before names old new (Err fault) trees clean same (inl was) =
-    inl (clean, was.1 ∙ ap (λ (v : View). v.trees) same)
+    inl (clean, λ tree low. was.1 tree low ∙ ap (λ (v : View). v.trees tree) same)
 leaves_before names old new (Err fault) trees clean same (inr kept) = inr kept
 
 -- a row in a store with no rows

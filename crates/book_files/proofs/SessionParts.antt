@@ -10,6 +10,7 @@ use Rattle.book_files.specs.Faults.{IsReleased}
 use Rattle.sqlite_disk.specs.declared.Disk.{Ghosts}
 use Rattle.sqlite_disk.specs.declared.files.Files.{Files}
 use Rattle.sqlite_store.specs.FileStore.{state, view, recovers, IsReady}
+use Rattle.sqlite_store.specs.declared.catalog.Wanted.{Wanted}
 use Rattle.sqlite_store.specs.declared.store.FileStore.{FileStore}
 use Rattle.sqlite_trees.proofs.Doubt.{clean_of}
 use Rattle.sqlite_trees.specs.Tree.{Trees}
@@ -22,8 +23,9 @@ use Rattle.book_trees.proofs.ClosedFiles.{both_true, first_true, second_true}
 use Rattle.book_trees.specs.Copies.{AreOnlyRead}
 use Rattle.book_trees.specs.Closing.{IsShort, IsWithoutLog, LeavesLog, MayBeFound}
 use Rattle.book_trees.specs.declared.closing.Closed.{Closed}
-use Rattle.book_trees.specs.LedgerFiles.{HoldsBooks, trees_held, without_log}
+use Rattle.book_trees.specs.LedgerFiles.{HoldsBooks, HoldsTables, trees_held, without_log}
 use Rattle.book_trees.specs.Refusals.{IsAsFound, MayLeave}
+use Rattle.book_trees.specs.Schema.{books_schema}
 use Rattle.book_trees.proofs.UnusedLogs.{short_alone}
 use Rattle.table_ledger.specs.Ready.{IsStoredIn}
 use Rattle.book_restarts.specs.FileBooks.{HoldsBook, LeavesBook, LeavesTrees}
@@ -98,18 +100,20 @@ session_goes_on names Made first image store ready found answers each =
     ∥∥₁_elim held ∥∥₁_prop λ kept.
     each book (opened_stands names book first store ready found kept.0 kept.1)
 
--- without a log that held nothing, files hold the same book
-held_alone : {D : Type 0} (g : Ghosts D) (names : Naming) (book : Book) (files : Files D)
-    (image : Image) → IsWithoutLog g files image
-    → HoldsBook names book (record { log = g.seen files.log; db = image.db })
-    → HoldsBook names book image
-held_alone g names book files image alone held =
+-- without a log that held nothing, files hold the same
+pub tables_alone : {wanted : List Wanted} {D : Type 0} (g : Ghosts D) (Kept : Trees → Type 0)
+    (files : Files D) (image : Image) → IsWithoutLog g files image
+    → ∥ ((held : HoldsTables wanted (record { log = g.seen files.log; db = image.db }))
+    × Kept (trees_held held)) ∥₁
+    → ∥ ((held : HoldsTables wanted image) × Kept (trees_held held)) ∥₁
+tables_alone {wanted} g Kept files image alone held =
     let whole : Image = record { log = g.seen files.log; db = image.db } in
     let same : without_log whole ≡ image =
     ap (λ (log : List ℕ). record { log = log; db = image.db }) (sym alone.gone) in
-    subst (HoldsBook names book) same (∥∥₁_map held λ found.
+    subst (λ (image : Image). ∥ ((held : HoldsTables wanted image) × Kept (trees_held held)) ∥₁) same
+    (∥∥₁_map held λ found.
     let kept = short_alone whole alone.short found.0 in
-    (kept.0, subst (IsStoredIn names book) (sym kept.1) found.1))
+    (kept.0, subst Kept (sym kept.1) found.1))
 
 -- files that were refused go on as they were
 pub refused_goes_on : {D : Type 0} (g : Ghosts D) → ((file : D) → g.may_leave file (g.seen file))
@@ -125,8 +129,8 @@ refused_goes_on g stays names first (Some files) kept image (inr alone) = λ his
   made = record { none = refl; same = refl };
   left = record {
     answered = held.answered;
-    held = held_alone g names (book_after history) files image alone
-        (held_as_found names (book_after history) first
+    held = tables_alone {wanted = books_schema} g (IsStoredIn names (book_after history)) files image
+        alone (held_as_found names (book_after history) first
         (record { log = g.seen files.log; db = image.db })
         (kept (record { log = g.seen files.log; db = image.db })
         (alone.clean, (stays files.log, alone.file))) held.held);

@@ -18,10 +18,13 @@ use Rattle.book_audit.specs.declared.audited.Audited.TheVariants.{Unsound}
 use Rattle.book_audit.specs.declared.finding.Place.TheVariants.{File}
 use Rattle.book_audit.specs.declared.finding.Wrong.TheVariants.{Pages as WrongPages}
 use Rattle.book_trees.specs.Closing.{HaveFailed}
+use Rattle.book_trees.specs.Forms.{HoldsThisForm}
 use Rattle.book_trees.specs.LedgerFiles.{HoldsBooks, HoldsEmptyBooks, trees_held}
 use Rattle.book_trees.specs.Refusals.{faults_in, AreFull}
 use Rattle.book_trees.specs.declared.faults.OpenFault.{OpenFault}
 use Rattle.book_trees.specs.declared.faults.OpenFault.TheVariants as opening
+use Rattle.book_trees.specs.declared.first_form.FirstFault.{FirstFault}
+use Rattle.book_trees.specs.declared.first_form.FirstFault.TheVariants as first
 use Rattle.book_trees.specs.declared.integrity.LookFault.{LookFault}
 use Rattle.book_trees.specs.declared.integrity.LookFault.TheVariants.{Pages, Open}
 use Rattle.table_ledger.specs.Loaded.{HasTexts}
@@ -34,6 +37,8 @@ use Rattle.book_files.specs.declared.session.Ended.{Ended}
 use Rattle.book_files.specs.declared.session.Ended.TheVariants.{Closed, Refused}
 use Rattle.office.specs.declared.repository.RepositoryFault.{RepositoryFault}
 use Rattle.office.specs.declared.repository.RepositoryFault.TheVariants.{Io, Exists, Busy, Ledger, Unseen}
+use Rattle.office.specs.declared.repository.Upgraded.{Upgraded}
+use Rattle.office.specs.declared.repository.Upgraded.TheVariants.{Already}
 
 -- what the failure of a file means
 abbrev pub file_fault : ErrorKind → RepositoryFault
@@ -49,6 +54,8 @@ store_fault _ = Ledger ledger.Store
 -- what it means that books were not opened or made
 abbrev pub open_fault : OpenFault → RepositoryFault
 open_fault opening.NotBooks = Ledger ledger.NotBooks
+open_fault opening.OldForm = Ledger ledger.OldForm
+open_fault opening.NewForm = Ledger ledger.NewForm
 open_fault opening.Memory = Ledger ledger.Memory
 open_fault opening.Store = Ledger ledger.Store
 open_fault opening.Busy = Busy
@@ -58,6 +65,8 @@ open_fault opening.Path = Io
 -- belongs to somebody
 abbrev pub resume_fault : OpenFault → RepositoryFault
 resume_fault opening.NotBooks = Exists
+resume_fault opening.OldForm = Exists
+resume_fault opening.NewForm = Exists
 resume_fault opening.Memory = Ledger ledger.Memory
 resume_fault opening.Store = Ledger ledger.Store
 resume_fault opening.Busy = Busy
@@ -67,6 +76,12 @@ resume_fault opening.Path = Io
 abbrev pub look_answer : LookFault → Result Audited RepositoryFault
 look_answer Pages = Ok (Unsound (record { place = File; wrong = WrongPages }))
 look_answer (Open fault) = Err (open_fault fault)
+
+-- what is answered where books were not opened that were to be brought to this form
+abbrev pub first_answer : FirstFault → Result Upgraded RepositoryFault
+first_answer first.Already = Ok Already
+first_answer first.Pages = Err (Ledger ledger.Store)
+first_answer (first.Open fault) = Err (open_fault fault)
 
 -- what it means that books were not copied
 abbrev pub not_copied : LookFault → CopyFault
@@ -107,10 +122,12 @@ IsReleased answer told = (told ≡ answer) ⊎ (told ≡ Err Unseen)
 abbrev pub IsWithoutFiles : RepositoryFault → Type 0
 IsWithoutFiles fault = (fault ≡ Ledger ledger.Memory) ⊎ ((fault ≡ Busy) ⊎ (fault ≡ Io))
 
--- Files are in hand, and a fault has its cause: that there are no books, that books are there, or
--- that a store failed. Memory may run out at any time. No other fault comes then.
+-- Files are in hand, and a fault has its cause: that there are no books of this form, that books are
+-- there, or that a store failed. Memory may run out at any time. No other fault comes then.
 abbrev pub HasFaultCause : Type 0 → Type 0 → Type 0 → RepositoryFault → Type 0
 HasFaultCause Absent There Failed (Ledger ledger.NotBooks) = Absent
+HasFaultCause Absent There Failed (Ledger ledger.OldForm) = Absent
+HasFaultCause Absent There Failed (Ledger ledger.NewForm) = Absent
 HasFaultCause Absent There Failed (Ledger ledger.Memory) = ⊤
 HasFaultCause Absent There Failed (Ledger ledger.Store) = Failed
 HasFaultCause Absent There Failed Exists = There
@@ -152,7 +169,7 @@ HasNoCopyFor one two found fault None copy = IsCopyWithoutFiles fault
 HasNoCopyFor one two found fault (Some files) (Refused None) = IsCopyWithoutFiles fault
 HasNoCopyFor one two found fault (Some files) (Refused (Some copy)) =
     AreClean one files.log files.db → AreClean two copy.log copy.db
-    → HasCopyCause (¬ HoldsBooks found) (¬ HoldsBooks found)
+    → HasCopyCause (¬ HoldsThisForm found) (¬ HoldsThisForm found)
     (MoreFaults 0 (faults_in one files + faults_in two copy) ⊎ AreFull two copy) fault
 HasNoCopyFor one two found fault (Some files) (Closed closed) =
     AreClean one files.log files.db → AreClean two closed.files.log closed.files.db

@@ -1,8 +1,9 @@
 -- Read in this order: names that books must not have; what may be found of files after a session;
--- books to which nothing was submitted; what is left where new books are made; why a session has no
--- answer, and why there is no copy.
+-- books to which nothing was submitted; what is left where new books are made, and where books are
+-- brought to this form; why a session has no answer, and why there is no copy.
 pub mod Names
 pub mod Sessions
 pub mod Unused
 pub mod NewBooks
+pub mod Upgrades
 pub mod Faults

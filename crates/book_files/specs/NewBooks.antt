@@ -1,5 +1,5 @@
 -- What is left where new books are made.
-use Rattle.std.specs.Prelude.{◌≡◌, ◌⊎◌, IsTrue, None, Some, Result, Ok, Err, []}
+use Rattle.std.specs.Prelude.{◌≡◌, ◌⊎◌, ◌<◌, ◌^◌, ℕ, IsTrue, None, Some, Result, Ok, Err, []}
 use Rattle.sqlite_disk.specs.declared.Disk.{Ghosts}
 use Rattle.sqlite_trees.specs.Tree.{Trees}
 use Rattle.sqlite_trees.specs.View.{View, IsClean}
@@ -20,12 +20,16 @@ pub record IsEmpty (view : View) : Type 0 where
   pub rest : IsAtRest view
   pub none : HasNoRows view.trees
 
--- Trees in which new books were made hold these. Where they were not made, trees are as they were,
--- or hold new books.
+-- All tables are as they were, whatever the trees say of their form.
+abbrev pub HaveSameTables : Trees → Trees → Type 0
+HaveSameTables old new = (tree : ℕ) → tree < 2 ^ 32 → new tree ≡ old tree
+
+-- Trees in which new books were made hold these. Where they were not made, the tables are as they
+-- were, or hold new books.
 abbrev pub LeavesNew : {A F : Type 0} → Naming → View → Result A F → Trees → Type 0
 LeavesNew naming old (Ok made) trees = IsStoredIn naming new_book trees
 LeavesNew naming old (Err fault) trees =
-    (IsClean old × (trees ≡ old.trees)) ⊎ IsStoredIn naming new_book trees
+    (IsClean old × HaveSameTables old.trees trees) ⊎ IsStoredIn naming new_book trees
 
 -- so do files
 abbrev pub LeavesNewBooks : {A F : Type 0} → Naming → View → Result A F → Image → Type 0

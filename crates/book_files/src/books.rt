@@ -2,6 +2,7 @@
 //! open books is written for any store, so that it is proved once.
 
 ghost use Rattle.std.specs.Prelude.{◌≡◌, true, false, is_some, ⊤, IfErr, IfOk, IsTrue, MatchResult};
+ghost use Rattle.std.specs.Prelude.{OnOk};
 ghost use Rattle.sqlite_disk.specs.Disk.{MoreFaults};
 ghost use Rattle.sqlite_store.specs.FileStore.{view};
 ghost use Rattle.sqlite_trees.specs.Tree.{Trees};
@@ -13,25 +14,29 @@ ghost use Rattle.book_trees.specs.Closing.{HaveFailed, IsShort, MayBeFound};
 ghost use Rattle.book_files.specs.Faults.{HasFaultCause, IsResumed, ShowsOurs, store_fault};
 ghost use Rattle.book_files.specs.NewBooks.{IsEmpty, LeavesNew, LeavesNewBooks};
 ghost use Rattle.book_files.specs.Unused.{SaysUnused, are_unused, unused_by};
+ghost use Rattle.book_files.specs.Upgrades.{HoldsUpgraded, LeavesUpgraded, MayBringOver};
+ghost use Rattle.book_files.specs.Upgrades.{RestsBroughtOver};
+ghost use Rattle.book_trees.specs.FirstForm.{HasFirstTrees};
 ghost use Rattle.book_restarts.specs.FileBooks.{HoldsBook, LeavesBook, LeavesTrees, StandsAt};
 ghost use Rattle.book_restarts.specs.FileBooks.{done_by, file_names};
+ghost use Rattle.table_ledger.specs.FirstForm.{StandsAtFirst};
 ghost use Rattle.table_ledger.specs.Loaded.{CanBeListed};
 ghost use Rattle.table_ledger.specs.Ready.{IsStoredIn};
 ghost use Rattle.table_model.specs.TablesOf.{tables_of};
 ghost use Rattle.tree_tables.specs.Holds.{HasShapes, has_book};
-ghost use Rattle.tree_tables.specs.States.{HasCleanDisk, state};
+ghost use Rattle.tree_tables.specs.States.{HasCleanDisk, Survives, state};
 ghost use Rattle.tree_tables.specs.Steps.{FailsByStore, Looks};
 
 use book_audit::{Audited, Watch, audit_trees};
 use book_core::{LedgerFault, ShaNames};
-use book_trees::{Closed, close_books, close_unchanged};
+use book_trees::{Closed, add_details, close_books, close_first, close_unchanged, commit_form};
 use office::{RepositoryFault, Visit};
 use sqlite_disk::Disk;
 use sqlite_store::FileStore;
 use sqlite_trees::error::StoreError;
-use sqlite_trees::store::Store;
+use sqlite_trees::store::{Alter, Store};
 use std::alloc::Global;
-use table_ledger::TableLedger;
+use table_ledger::{TableLedger, fill_details, has_book_row};
 use tree_tables::{StoredBook, TreeTables};
 
 /// Visits the books in a store. They name records by SHA-256. The store is given back: whatever a
@@ -66,8 +71,8 @@ pub fn visit_in<S: Store, V: Visit>(
     }
 }
 
-/// Makes new books in a store that has none. The store is given back.
-fn make_in<S: Store>(alloc: Global, store: S) -> (Result<(), RepositoryFault>, S)
+/// Makes new books in a store that has none, whatever it says of its form. The store is given back.
+fn create_in<S: Store>(alloc: Global, store: S) -> (Result<(), RepositoryFault>, S)
     requires { IsClean (S.Store.view store) → HasShapes (S.Store.view store) }
     ensures left { (IsClean (S.Store.view store) → IsEmpty (S.Store.view store))
         → IsClean (S.Store.view result.1) → (trees : Trees) → S.Store.recovers result.1 trees
@@ -78,6 +83,23 @@ fn make_in<S: Store>(alloc: Global, store: S) -> (Result<(), RepositoryFault>, S
     match TableLedger::create(alloc, store, ShaNames) {
         Ok(books) => (Ok(()), books.close_store()),
         Err((fault, store)) => (Err(RepositoryFault::Ledger(fault)), store),
+    }
+}
+
+/// Makes new books in a store that has none. The store is given back. That they are of this form is
+/// said before there are any, so books always say it.
+fn make_in<S: Alter>(alloc: Global, store: S) -> (Result<(), RepositoryFault>, S)
+    requires { IsClean (S.Store.view store) → HasShapes (S.Store.view store) }
+    ensures left { (IsClean (S.Store.view store) → IsEmpty (S.Store.view store))
+        → IsClean (S.Store.view result.1) → (trees : Trees) → S.Store.recovers result.1 trees
+        → LeavesNew file_names (S.Store.view store) result.0 trees }
+    ensures clean { IsClean (S.Store.view result.1) → IsClean (S.Store.view store) }
+    ensures kinds { IfErr result.0 (HasFaultCause ⊥ ⊥ ⊤) }
+{
+    let mut store = store;
+    match commit_form(&mut store) {
+        Ok(()) => create_in(alloc, store),
+        Err(error) => (Err(fault_of(error)), store),
     }
 }
 
@@ -134,7 +156,7 @@ fn fault_of(error: StoreError) -> RepositoryFault
 
 /// Continues new books that were stopped while they were made, with or without their row. Books to
 /// which anything was submitted belong to somebody: nothing is written to them.
-fn resume_in<S: Store>(alloc: Global, store: S) -> (Result<(), RepositoryFault>, S)
+fn resume_in<S: Alter>(alloc: Global, store: S) -> (Result<(), RepositoryFault>, S)
     requires { IsClean (S.Store.view store) → HasShapes (S.Store.view store) }
     ensures held { (book : Book) → StandsAt file_names book (S.Store.view store)
         → IsClean (S.Store.view result.1) → (trees : Trees) → S.Store.recovers result.1 trees
@@ -232,6 +254,69 @@ pub(crate) fn resume_and_close<D: Disk>(
 {
     let (made, store) = resume_in(alloc, store);
     (made, close_books(store))
+}
+
+/// Adds the details to books of the first form, and commits them with what their file says of its
+/// form: all of it at once, or nothing.
+fn write_details<S: Alter>(alloc: Global, store: &mut S) -> Result<(), StoreError>
+    requires { IsClean (S.Store.view store.old) → HasFirstTrees (S.Store.view store.old) }
+    ensures survives { Survives (state S.Store store.old) (state S.Store store.new)
+        (MayBringOver file_names (S.Store.view store.old)) }
+    ensures done { OnOk result (IsClean (S.Store.view store.new)
+        → RestsBroughtOver file_names (S.Store.view store.old) (S.Store.view store.new)) }
+{
+    add_details(store)?;
+    fill_details(alloc, store)?;
+    commit_form(store)
+}
+
+/// Brings the books of the first form in a store to this one. The store is given back: whatever a
+/// stop may leave of it holds the same book, in the old form or in the new one.
+fn upgrade_in<S: Alter>(alloc: Global, store: S) -> (Result<(), RepositoryFault>, S)
+    requires { IsClean (S.Store.view store) → HasFirstTrees (S.Store.view store) }
+    ensures left { (book : Book) → StandsAtFirst file_names book (S.Store.view store)
+        → IsClean (S.Store.view result.1) → (trees : Trees) → S.Store.recovers result.1 trees
+        → LeavesUpgraded file_names book result.0 trees }
+    ensures clean { IsClean (S.Store.view result.1) → IsClean (S.Store.view store) }
+    ensures cause { IfErr result.0 (λ fault. IsClean (S.Store.view result.1)
+        → HasFaultCause (has_book (S.Store.view store).trees ≡ false) ⊥ ⊤ fault) }
+{
+    let mut store = store;
+    let there = match has_book_row(alloc, &mut store) {
+        Ok(there) => there,
+        Err(error) => return (Err(fault_of(error)), store),
+    };
+    if there {
+        match write_details(alloc, &mut store) {
+            Ok(()) => (Ok(()), store),
+            Err(error) => (Err(fault_of(error)), store),
+        }
+    } else {
+        (Err(RepositoryFault::Ledger(LedgerFault::NotBooks)), store)
+    }
+}
+
+/// Brings the books in a file of the first form to this one, and closes it: whatever may be found
+/// of it then, and wherever a stop comes within this, holds the same book, in one of the two.
+pub(crate) fn upgrade_and_close<D: Disk>(
+    alloc: Global,
+    store: FileStore<D>,
+) -> (Result<(), RepositoryFault>, Closed<D>)
+    requires { IsClean (view store) → HasFirstTrees (view store) }
+    ensures left { IsTrue result.1.is_kept → (book : Book)
+        → StandsAtFirst file_names book (view store) → (image : Image)
+        → MayBeFound D.Disk result.1.files image
+        → HoldsUpgraded file_names book result.0 image }
+    ensures clean { AreClean D.Disk result.1.files.log result.1.files.db → IsClean (view store) }
+    ensures cause { IfErr result.0 (λ fault.
+        AreClean D.Disk result.1.files.log result.1.files.db
+        → HasFaultCause (has_book (view store).trees ≡ false) ⊥ ⊤ fault) }
+{
+    let (upgraded, store) = upgrade_in(alloc, store);
+    match upgraded {
+        Ok(()) => (upgraded, close_books(store)),
+        Err(_) => (upgraded, close_first(store)),
+    }
 }
 
 /// Audits the books in a store, which is given back. Nothing is written to them.

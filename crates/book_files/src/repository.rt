@@ -5,11 +5,11 @@ ghost use Rattle.std.specs.IoError.{error_kind};
 ghost use Rattle.book_files.specs.Faults.{IsReleased, file_fault, look_answer, open_fault};
 
 use crate::log::{Log, begins_as_books};
-use crate::session::{Ended, audit_at, visit_at};
+use crate::session::{Ended, audit_at, upgrade_at, visit_at};
 use book_audit::{Audited, AuditedRepository, Finding, Place, Watch, Wrong};
 use book_core::LedgerFault;
 use book_trees::{LookFault, OpenFault};
-use office::{Opened, Repository, RepositoryFault, Visit};
+use office::{Opened, Repository, RepositoryFault, Upgraded, Visit};
 use sqlite_disk::{Disk, Unknown};
 use std::hash::{BuildHasher, RandomState};
 use std::io::ErrorKind;
@@ -75,6 +75,8 @@ pub(crate) fn refused(fault: OpenFault) -> RepositoryFault
 {
     match fault {
         OpenFault::NotBooks => RepositoryFault::Ledger(LedgerFault::NotBooks),
+        OpenFault::OldForm => RepositoryFault::Ledger(LedgerFault::OldForm),
+        OpenFault::NewForm => RepositoryFault::Ledger(LedgerFault::NewForm),
         OpenFault::Memory => RepositoryFault::Ledger(LedgerFault::Memory),
         OpenFault::Store => RepositoryFault::Ledger(LedgerFault::Store),
         OpenFault::Busy => RepositoryFault::Busy,
@@ -133,6 +135,18 @@ impl Repository for Files<'_> {
     fn try_out<V: Visit>(&mut self, book: &str, visit: &mut V) -> Opened<V::Answer> {
         self.try_out_books(book, visit)
     }
+
+    /// Brings the books of a file that is there to this form, in one commit. All of its pages are
+    /// looked through first.
+    fn upgrade(&mut self, book: &str) -> Opened<Upgraded> {
+        match self.begin_with(book) {
+            Ok((log, seed)) => {
+                let (upgraded, ended) = upgrade_at(self.rt, book, seed, Unknown);
+                released_upgraded(&log, upgraded, ended)
+            }
+            Err(fault) => without_log(Err(fault)),
+        }
+    }
 }
 
 impl AuditedRepository for Files<'_> {
@@ -181,6 +195,25 @@ pub(crate) fn released<T: Drop, D: Disk + Drop>(
             let has_log = log.leave(files);
             Opened { answer, has_log }
         }
+    }
+}
+
+/// What came of books that were to be brought to this form. Where they were not, that is said,
+/// whatever is seen of their files.
+fn released_upgraded<D: Disk + Drop>(
+    log: &Log<'_>,
+    upgraded: Result<Upgraded, RepositoryFault>,
+    ended: Ended<D>,
+) -> Opened<Upgraded>
+    ensures { IsReleased upgraded result.answer }
+{
+    let Opened { answer, has_log } = released(log, upgraded, ended);
+    match upgraded {
+        Ok(_) => Opened { answer, has_log },
+        Err(fault) => Opened {
+            answer: Err(fault),
+            has_log,
+        },
     }
 }
 

@@ -1,27 +1,38 @@
 //! One session on the books in a file: it is opened, visited and closed; or looked through; or new
-//! books are made in it, or continued.
+//! books are made in it, or continued; or old ones are brought over.
 
-ghost use Rattle.std.specs.Prelude.{◌≡◌, [], false, true, ⊤, IfErr, IfOk, List, MatchResult};
+ghost use Rattle.std.specs.Prelude.{◌≡◌, ◌⊎◌, [], false, true, ⊤, IfErr, IfOk, List, MatchResult};
+ghost use Rattle.std.specs.Prelude.{Ok};
 ghost use Rattle.sqlite_wal.specs.Files.{image_at};
 ghost use Rattle.sqlite_wal.specs.Recovery.{Image};
 ghost use Rattle.book_model.specs.Words.{Event};
 ghost use Rattle.book_core.specs.Transition.{NoEvent};
-ghost use Rattle.book_files.specs.Faults.{HasFaultCause, HasNoAnswerFor, HoldsOurs, resume_fault};
+ghost use Rattle.book_files.specs.Faults.{HasFaultCause, HasNoAnswerFor, HoldsOurs, first_answer};
+ghost use Rattle.book_files.specs.Faults.{resume_fault};
 ghost use Rattle.book_files.specs.NewBooks.{MakesBooks, MayBeMade};
 ghost use Rattle.book_files.specs.Sessions.{IsFileAlone, MayFollow};
+ghost use Rattle.book_files.specs.Upgrades.{BringsOver, HoldsFirstHistory, upgrade_answer};
 ghost use Rattle.book_restarts.specs.FileBooks.{GoesOn, HoldsHistory, done_by, file_names};
+ghost use Rattle.book_trees.specs.FirstForm.{HoldsFirstForm};
+ghost use Rattle.book_trees.specs.Forms.{HoldsThisForm};
 ghost use Rattle.book_trees.specs.LedgerFiles.{HoldsBooks, HoldsEmptyBooks, HoldsNothing};
-ghost use Rattle.book_trees.specs.LedgerFiles.{trees_held};
+ghost use Rattle.book_trees.specs.LedgerFiles.{HoldsFirstBooks, trees_held};
 ghost use Rattle.book_trees.specs.Refusals.{AreFull, StopCreating};
 ghost use Rattle.tree_tables.specs.Holds.{has_book};
 
-use crate::books::{audit_and_close, make_and_close, resume_and_close, visit_and_close};
+use crate::books::{
+    audit_and_close, make_and_close, resume_and_close, upgrade_and_close, visit_and_close,
+};
 use crate::repository::{not_looked_through, refused};
 use book_audit::{Audited, Watch};
-use book_trees::{Closed, LeftByLedger, OpenFault, create_at, look_through_at, open_at};
-use office::{RepositoryFault, Visit};
+use book_core::LedgerFault;
+use book_trees::{
+    Closed, FirstFault, LeftByLedger, OpenFault, create_at, look_through_at, open_at, open_first_at,
+};
+use office::{RepositoryFault, Upgraded, Visit};
 use sqlite_disk::{Disk, Files, Start};
 use sqlite_std_file::FileFrom;
+use tree_tables::THIS_FORM;
 
 /// What is in hand of the files after a session.
 #[derive(Drop)]
@@ -54,14 +65,15 @@ pub fn visit_at<S: LeftByLedger, V: Visit>(
     ensures came { MatchResult result.0 (V.Visit.comes visit.old visit.new)
         (λ _. visit.new ≡ visit.old) }
 
-    // There are books exactly where their row is there: that there are none is answered only of files
-    // that hold none, or not their row, and without it none are visited. A fault of the store is told
-    // of what a ledger left only where a call on the files failed, or met a limit.
+    // There are books exactly where their row is there: that there are none is answered only of
+    // files that hold none of this form, or not their row, and without it none are visited. A fault
+    // of the store is told of what a ledger left only where a call on the files failed, or met a
+    // limit.
     ensures there { IfOk result.0 (λ answer. (image : Image)
         → MayFollow ⟦<FileFrom<S> as Disk>⟧ result.1 image
         → (held : HoldsBooks (image_at S.Start)) → has_book (trees_held held) ≡ true) }
     ensures cause { IfErr result.0 (λ fault. HasNoAnswerFor ⟦<FileFrom<S> as Disk>⟧
-        (AreFull ⟦<FileFrom<S> as Disk>⟧) (HasFaultCause (¬ HoldsBooks (image_at S.Start)) ⊥)
+        (AreFull ⟦<FileFrom<S> as Disk>⟧) (HasFaultCause (¬ HoldsThisForm (image_at S.Start)) ⊥)
         (λ Failed. HasFaultCause
         ((held : HoldsBooks (image_at S.Start)) → has_book (trees_held held) ≡ false) ⊥
         (HoldsOurs file_names (image_at S.Start) → Failed)) fault result.1) }
@@ -105,7 +117,7 @@ fn unresumed(fault: OpenFault) -> RepositoryFault
     ensures { result ≡ resume_fault fault }
 {
     match fault {
-        OpenFault::NotBooks => RepositoryFault::Exists,
+        OpenFault::NotBooks | OpenFault::OldForm | OpenFault::NewForm => RepositoryFault::Exists,
         fault => refused(fault),
     }
 }
@@ -131,7 +143,7 @@ pub fn resume_at<S: LeftByLedger>(
 
     // That books are there is answered of files that hold none of ours, or have their row.
     ensures cause { IfErr result.0 (λ fault. HasNoAnswerFor ⟦<FileFrom<S> as Disk>⟧
-        (AreFull ⟦<FileFrom<S> as Disk>⟧) (HasFaultCause ⊥ (¬ HoldsBooks (image_at S.Start)))
+        (AreFull ⟦<FileFrom<S> as Disk>⟧) (HasFaultCause ⊥ (¬ HoldsThisForm (image_at S.Start)))
         (λ Failed. HasFaultCause ⊥
         ((held : HoldsBooks (image_at S.Start)) → has_book (trees_held held) ≡ true) ⊤)
         fault result.1) }
@@ -160,7 +172,7 @@ pub fn audit_at<S: Start, W: Watch>(
 
     // Of files that were looked through this says nothing.
     ensures cause { IfErr result.0 (λ fault. HasNoAnswerFor ⟦<FileFrom<S> as Disk>⟧
-        (AreFull ⟦<FileFrom<S> as Disk>⟧) (HasFaultCause (¬ HoldsBooks (image_at S.Start)) ⊥)
+        (AreFull ⟦<FileFrom<S> as Disk>⟧) (HasFaultCause (¬ HoldsThisForm (image_at S.Start)) ⊥)
         (λ _ _. ⊤) fault result.1) }
 {
     match look_through_at(rt, path, seed, start) {
@@ -169,5 +181,64 @@ pub fn audit_at<S: Start, W: Watch>(
             (audited, Ended::Closed(closed))
         }
         Err((fault, files)) => (not_looked_through(fault), Ended::Refused(files)),
+    }
+}
+
+/// What is answered where books were brought over, or were not.
+fn told_upgraded(upgraded: Result<(), RepositoryFault>) -> Result<Upgraded, RepositoryFault>
+    ensures { result ≡ upgrade_answer upgraded }
+{
+    match upgraded {
+        Ok(()) => Ok(Upgraded::To(THIS_FORM)),
+        Err(fault) => Err(fault),
+    }
+}
+
+/// What it means that books of the first form were not opened.
+fn not_upgraded(fault: FirstFault) -> Result<Upgraded, RepositoryFault>
+    ensures { result ≡ first_answer fault }
+{
+    match fault {
+        FirstFault::Already => Ok(Upgraded::Already),
+        FirstFault::Pages => Err(RepositoryFault::Ledger(LedgerFault::Store)),
+        FirstFault::Open(fault) => Err(refused(fault)),
+    }
+}
+
+/// Brings the books in the file at the path from the first form to this one, in one commit, and
+/// closes it. Whatever may be found of the files next, and wherever a stop comes within this, holds
+/// the books of the history that they held: those of the old form, or those of the new one.
+pub fn upgrade_at<S: Start>(
+    rt: &HostRuntime,
+    path: &str,
+    seed: u64,
+    start: S,
+) -> (Result<Upgraded, RepositoryFault>, Ended<FileFrom<S>>)
+    ensures history { HoldsFirstForm (image_at S.Start) → (image : Image)
+        → MayFollow ⟦<FileFrom<S> as Disk>⟧ result.1 image → (history : List Event)
+        → HoldsFirstHistory file_names history (image_at S.Start)
+        → BringsOver file_names history result.0 image }
+
+    // Books of this form are left as they are.
+    ensures already { result.0 ≡ Ok Upgraded.Already → (image : Image)
+        → MayFollow ⟦<FileFrom<S> as Disk>⟧ result.1 image
+        → GoesOn file_names NoEvent (image_at S.Start) image }
+
+    // Files that hold books of the first form, and their row, are refused only because of memory
+    // and the disk.
+    ensures cause { IfErr result.0 (λ fault. HasNoAnswerFor ⟦<FileFrom<S> as Disk>⟧
+        (AreFull ⟦<FileFrom<S> as Disk>⟧)
+        (λ Failed. HasFaultCause (¬ HoldsFirstForm (image_at S.Start)) ⊥
+        (Failed ⊎ (¬ HoldsFirstForm (image_at S.Start))))
+        (λ Failed. HasFaultCause
+        ((held : HoldsFirstBooks (image_at S.Start)) → has_book (trees_held held) ≡ false) ⊥ ⊤)
+        fault result.1) }
+{
+    match open_first_at(rt, path, seed, start) {
+        Ok(store) => {
+            let (upgraded, closed) = upgrade_and_close(rt.alloc(), store);
+            (told_upgraded(upgraded), Ended::Closed(closed))
+        }
+        Err((fault, files)) => (not_upgraded(fault), Ended::Refused(files)),
     }
 }

@@ -10,6 +10,7 @@ use Rattle.sqlite_disk.specs.declared.Disk.{Ghosts}
 use Rattle.sqlite_disk.specs.declared.files.Files.{Files}
 use Rattle.sqlite_store.specs.FileStore.{faults, state, view, files, log_frames, recovers}
 use Rattle.sqlite_store.specs.Limits.{times_met}
+use Rattle.sqlite_store.specs.declared.catalog.Wanted.{Wanted}
 use Rattle.sqlite_store.specs.declared.store.FileStore.{FileStore}
 use Rattle.sqlite_trees.specs.Tree.{Trees}
 use Rattle.sqlite_trees.specs.View.{doubt, IsClean}
@@ -21,11 +22,11 @@ use Rattle.sqlite_wal.specs.Recovery.{Image}
 use Rattle.book_trees.proofs.EachLeft.{left_by}
 use Rattle.book_trees.proofs.FileParts.{clean_is, faults_are, left_by_files, named}
 use Rattle.book_trees.proofs.UnusedLogs.{short_alone}
-use Rattle.book_trees.specs.Closing.{HasBooksSchema, HaveFailed, IsStuckFor, IsWithoutLog}
+use Rattle.book_trees.specs.Closing.{HasSchema, HaveFailed, IsStuckFor, IsWithoutLog}
 use Rattle.book_trees.specs.Closing.{LeavesLog, MayBeFound}
 use Rattle.book_trees.specs.declared.closing.LogLeft.{LogLeft}
 use Rattle.book_trees.specs.declared.closing.LogLeft.TheVariants.{Short, Emptied, Kept, Unmoved}
-use Rattle.book_trees.specs.LedgerFiles.{HoldsBooks, shortest_log, trees_held}
+use Rattle.book_trees.specs.LedgerFiles.{HoldsTables, shortest_log, trees_held}
 use Rattle.book_trees.specs.LedgerFiles.{without_log}
 use Rattle.book_trees.specs.Refusals.{faults_in, MayLeave}
 
@@ -103,28 +104,28 @@ module _ {D : Type 0} {g : Ghosts D} (store end : FileStore D g) (given : Files 
           (log_crash image.log may.1.0, may.1.1),
         ))
 
-    module _ (books : HasBooksSchema end) where
+    module _ {wanted : List Wanted} (tables : HasSchema wanted end) where
       left_whole : (image : Image) → MayLeave g last image
-          → ∥ ((held : HoldsBooks image) × recovers store (trees_held held)) ∥₁
+          → ∥ ((held : HoldsTables wanted image) × recovers store (trees_held held)) ∥₁
       left_whole image may =
-          ∥∥₁_map (left_by end books.schema (λ _. books.size) books.unaltered image
+          ∥∥₁_map (left_by end tables.schema (λ _. tables.size) tables.unaltered image
           (left_by_last image may))
           λ found. (found.0, outcomes (trees_held found.0) found.1)
 
       left_alone : (image : Image) → IsWithoutLog g last image
-          → ∥ ((held : HoldsBooks image) × recovers store (trees_held held)) ∥₁
+          → ∥ ((held : HoldsTables wanted image) × recovers store (trees_held held)) ∥₁
       left_alone image alone =
           let whole : Image = record { log = g.seen log; db = image.db } in
           let same : without_log whole ≡ image =
           ap (λ (log : List ℕ). record { log = log; db = image.db }) (sym alone.gone) in
           ∥∥₁_map (left_whole whole (alone.clean, (stays log, alone.file))) λ found.
-          subst (λ (image : Image). (held : HoldsBooks image) × recovers store (trees_held held))
+          subst (λ (image : Image). (held : HoldsTables wanted image) × recovers store (trees_held held))
           same (let held = short_alone whole alone.short found.0 in
           (held.0, subst (recovers store) (sym held.1) found.1))
 
       -- so whatever may be found holds what the store counts
       pub found_whole : (image : Image) → MayBeFound g last image
-          → ∥ ((held : HoldsBooks image) × recovers store (trees_held held)) ∥₁
+          → ∥ ((held : HoldsTables wanted image) × recovers store (trees_held held)) ∥₁
       found_whole image (inl may) = left_whole image may
       found_whole image (inr alone) = left_alone image alone
 

@@ -1,4 +1,4 @@
--- What a store over the tables of books leaves.
+-- What a store over tables leaves.
 use Rattle.std.proofs.Common.{◌≡◌, IsTrue, List, None, sym, ap, subst, ◌∙◌}
 use Rattle.std.proofs.Math.Logic.{∥∥₁_elim, ∥∥₁_map, ∥∥₁_prop}
 use Rattle.sqlite_disk.specs.declared.Disk.{Ghosts}
@@ -14,11 +14,12 @@ use Rattle.sqlite_store.specs.declared.store.FileStore.{FileStore}
 use Rattle.sqlite_trees.specs.Tree.{Trees}
 use Rattle.sqlite_wal.specs.Recovery.{Image}
 use Rattle.book_trees.proofs.FileParts.{clean_if_left}
-use Rattle.book_trees.specs.LedgerFiles.{page_size, HoldsBooks, trees_held}
+use Rattle.book_trees.specs.LedgerFiles.{page_size, HoldsTables, trees_held}
 use Rattle.book_trees.specs.Schema.{books_schema}
 use Rattle.book_trees.specs.StoreView.{ShowsBooks}
 
-module _ {D : Type 0} {g : Ghosts D} (it : FileStore D g) (schema : schema_of it ≡ books_schema)
+module _ {wanted : List Wanted} {D : Type 0} {g : Ghosts D} (it : FileStore D g)
+    (schema : schema_of it ≡ wanted)
     (size : IsTrue (state it).is_clean → (state it).page_size ≡ page_size)
     (unaltered : it.saved ≡ None) where
   -- the page size, where a stop may leave something
@@ -26,20 +27,20 @@ module _ {D : Type 0} {g : Ghosts D} (it : FileStore D g) (schema : schema_of it
   sized left may = size (clean_if_left it.pool left may)
 
   -- the schema of all pages
-  schema_here : (pages : PageMap) → schema_in it pages ≡ books_schema
+  schema_here : (pages : PageMap) → schema_in it pages ≡ wanted
   schema_here pages = one_schema it unaltered pages ∙ schema
 
   -- the tables that pages read as
   reads : (pages : PageMap) → (state it).page_size ≡ page_size
-      → reading it pages ≡ file_trees page_size books_schema pages
+      → reading it pages ≡ file_trees page_size wanted pages
   reads pages sized_here =
       ap (λ s. file_trees s (schema_in it pages) pages) sized_here
       ∙ ap (λ (w : List Wanted). file_trees page_size w pages) (schema_here pages)
 
-  -- a sound file is one of books
+  -- a sound file is one of these tables
   held_at : (image : Image) (pages : PageMap) → (state it).page_size ≡ page_size
       → Recovers (state it).page_size image pages
-      → IsFile (state it).page_size (schema_in it pages) pages → HoldsBooks image
+      → IsFile (state it).page_size (schema_in it pages) pages → HoldsTables wanted image
   held_at image pages sized_here found file = record {
     pages = pages;
     found = subst (λ s. Recovers s image pages) sized_here found;
@@ -47,9 +48,9 @@ module _ {D : Type 0} {g : Ghosts D} (it : FileStore D g) (schema : schema_of it
         (subst (λ s. IsFile s (schema_in it pages) pages) sized_here file);
   }
 
-  -- what a stop may leave holds books, with tables that the store counts
+  -- what a stop may leave holds these tables, as the store counts them
   pub left_by : (image : Image) → (state it).may_leave image
-      → ∥ ((held : HoldsBooks image) × recovers it (trees_held held)) ∥₁
+      → ∥ ((held : HoldsTables wanted image) × recovers it (trees_held held)) ∥₁
   unfolding held_at
   left_by image may =
       ∥∥₁_elim (every_image it image may) ∥∥₁_prop λ all.
@@ -60,7 +61,7 @@ module _ {D : Type 0} {g : Ghosts D} (it : FileStore D g) (schema : schema_of it
 
   -- and each outcome is what some such files hold
   pub each_found : (db : Trees) → recovers it db
-      → ∥ ((image : Image) × (held : HoldsBooks image) × (state it).may_leave image
+      → ∥ ((image : Image) × (held : HoldsTables wanted image) × (state it).may_leave image
       × (trees_held held ≡ db)) ∥₁
   unfolding held_at
   each_found db outcome =
@@ -76,11 +77,19 @@ module _ {D : Type 0} {g : Ghosts D} (it : FileStore D g) (schema : schema_of it
         sym (reads all.0 here) ∙ ap (reading it) same ∙ sym outcome.4,
       )
 
+module _ {D : Type 0} {g : Ghosts D} (it : FileStore D g) (schema : schema_of it ≡ books_schema)
+    (size : IsTrue (state it).is_clean → (state it).page_size ≡ page_size)
+    (unaltered : it.saved ≡ None) where
   -- what an open shows of files that it may have left is an outcome
   pub shown_outcome : (image : Image) → (state it).may_leave image
       → {E : Type 0} {h : Ghosts E} (next : FileStore E h) → ShowsBooks image next
       → recovers it (view next).trees
   shown_outcome image may next shows =
-      let here = sized image may in
-      let found = subst (λ s. Recovers s image shows.pages) (sym here) shows.found in
-      (image, shows.pages, may, ∣ found ∣₁, shows.trees ∙ sym (reads shows.pages here))
+      let here = sized it schema size unaltered image may in
+      let found = subst (λ s. Recovers s image shows.pages) (sym here) shows.found in (
+        image,
+        shows.pages,
+        may,
+        ∣ found ∣₁,
+        shows.trees ∙ sym (reads it schema size unaltered shows.pages here),
+      )

@@ -1,11 +1,13 @@
 -- What the state of a store says about its two files.
-use Rattle.std.proofs.Common.{◌≡◌, ℕ, IsTrue, refl, sym, ap, subst, subst₂, ◌∙◌, inl, inr, arith}
+use Rattle.std.proofs.Common.{◌≡◌, ◌≤◌, ℕ, IsTrue, refl, sym, ap, subst, subst₂, ◌∙◌, inl, inr, arith}
 use Rattle.sqlite_disk.specs.declared.Disk.{Ghosts}
 use Rattle.sqlite_disk.specs.declared.files.Files.{Files}
 use Rattle.sqlite_pool.specs.Pool.{state, files}
 use Rattle.sqlite_pool.specs.Stored.{IsUnreadable, RecoversAs}
 use Rattle.sqlite_pool.specs.declared.pool.Pool.{Pool}
+use Rattle.sqlite_store.specs.FileStore.{state as store_state, files as store_files}
 use Rattle.sqlite_store.specs.Unopened.{files_of, state_of, image, Opens}
+use Rattle.sqlite_store.specs.declared.store.FileStore.{FileStore}
 use Rattle.sqlite_store.specs.declared.store.open.Unopened.{Unopened}
 use Rattle.sqlite_wal.specs.Files.{seen_image}
 use Rattle.sqlite_wal.specs.Reads.{are_clean, AreClean}
@@ -50,17 +52,27 @@ module _ {D : Type 0} {g : Ghosts D} where
   left_by_state pool left may = may
 
   -- what an open keeps of a state it keeps of the files
-  pub opened_files : (old new : Unopened D g) → (state_of old).page_size ≡ page_size
-      → Opens old (state_of new) → AreKept g (named (files_of old)) (named (files_of new))
+  pub opened_files : (old : Unopened D g) (new : Pool D g) → (state_of old).page_size ≡ page_size
+      → Opens old (state new) → AreKept g (named (files_of old)) (named (files new))
   opened_files old new size opens = record {
-    counts = omega (arith, opens.counts, faults_are old.pool, faults_are new.pool);
-    crash = λ left may. elim ((opens.crash left (left_by_files new.pool left may)).same) [
+    counts = omega (arith, opens.counts, faults_are old.pool, faults_are new);
+    crash = λ left may. elim ((opens.crash left (left_by_files new left may)).same) [
       | inl was ↦ inl (left_by_state old.pool left was)
       | inr same ↦ inr (subst (λ s. RecoversAs s (image old) left) size same)
     ];
     unread = λ unreadable left may. left_by_state old.pool left
-        ((opens.crash left (left_by_files new.pool left may)).unread
+        ((opens.crash left (left_by_files new left may)).unread
         (subst (λ s. IsUnreadable s (image old)) (sym size) unreadable));
+  }
+
+  -- files that were kept, of which a stop leaves no more after what was done then
+  pub kept_still : (first mid last : Files D) → faults_in g mid ≤ faults_in g last
+      → ((left : Image) → MayLeave g last left → MayLeave g mid left) → AreKept g first mid
+      → AreKept g first last
+  kept_still first mid last counts crash kept = record {
+    counts = omega (arith, kept.counts, counts);
+    crash = λ left may. kept.crash left (crash left may);
+    unread = λ unreadable left may. kept.unread unreadable left (crash left may);
   }
 
   -- files that were given back unchanged were kept
@@ -98,7 +110,8 @@ module _ {D : Type 0} {g : Ghosts D} (old end : Unopened D g) (first last : File
     pub files_kept : (state_of old).page_size ≡ page_size → Opens old (state_of end)
         → AreKept g first last
     files_kept size opens =
-        subst₂ (AreKept g) (ap named given) (ap named (sym back)) (opened_files old end size opens)
+        subst₂ (AreKept g) (ap named given) (ap named (sym back))
+        (opened_files old end.pool size opens)
 
     -- a fault has its cause by the files
     pub file_cause : (Limit Limit' Held Held' : Type 0) → (Limit → Limit') → (Held' → Held)
@@ -110,3 +123,19 @@ module _ {D : Type 0} {g : Ghosts D} (old end : Unopened D g) (first last : File
         (faults_are old.pool ∙ ap (λ (p : D × D). faults_in g (named p)) given)
         (faults_are end.pool ∙ ap (λ (p : D × D). faults_in g (named p)) (sym back))
         (cause_for _ _ Limit Limit' Held Held' wider so fault cause)
+
+-- a store was honest, if the files that it is closed to are
+pub store_honest : {D : Type 0} {g : Ghosts D} (store : FileStore D g) (last : Files D)
+    → (last.log, last.db) ≡ store_files store → AreClean g last.log last.db
+    → IsTrue (store_state store).is_clean
+store_honest {D} {g} store last back clean =
+    clean_is store.pool ∙ ap (λ (p : D × D). are_clean g p.0 p.1) (sym back) ∙ clean
+
+-- a store that was opened on files is closed at once: they are kept
+pub store_kept : {D : Type 0} {g : Ghosts D} (old : Unopened D g) (store : FileStore D g)
+    (first last : Files D) → files_of old ≡ (first.log, first.db)
+    → (last.log, last.db) ≡ store_files store → (state_of old).page_size ≡ page_size
+    → Opens old (store_state store) → AreKept g first last
+store_kept {g = g} old store first last given back size opens =
+    subst₂ (AreKept g) (ap named given) (ap named (sym back))
+    (opened_files old store.pool size opens)

@@ -1,13 +1,18 @@
--- The lemmas: the trees of books; the list that a sound file has; why an open fails, and a look; what
--- the state of a store says of its files; files that hold no database yet; files that a ledger left,
--- and what an open shows of them; that books can be made; what a store over books leaves; logs of
--- which recovery takes nothing; files that were just opened; files that were closed; what a stop
--- within the making of books leaves; a log whose pages were moved; pieces of a file that are copied.
+-- The lemmas: the trees of books; the list that a sound file has, and that of the first form; why an
+-- open fails, and a look; what the state of a store says of its files; what refused files say; files
+-- that hold no database yet; files that a ledger left, and what an open shows of them; that books
+-- can be made; what a store over books leaves; logs of which recovery takes nothing; files that were
+-- just opened; files that were closed; what they say of their form; what a stop within the making of
+-- books leaves; a log whose pages were moved; pieces of a file that are copied.
 pub mod Trees
 pub mod ListingLemmas
+pub mod FormLemmas
 pub mod Refused
 pub mod FileParts
 pub mod LookCauses
+pub mod FirstCauses
+pub mod ToldCauses
+pub mod FirstTrees
 pub mod BlankFiles
 pub mod Opened
 pub mod Buildable
@@ -15,6 +20,7 @@ pub mod EachLeft
 pub mod UnusedLogs
 pub mod FreshFiles
 pub mod ClosedFiles
+pub mod FormNumbers
 pub mod Begun
 pub mod Moved
 pub mod CopyLemmas

@@ -26,9 +26,9 @@ use Rattle.sqlite_value.specs.declared.value.Value.{Value}
 use Rattle.sqlite_value.specs.declared.value.Value.TheVariants.{Int}
 use Rattle.book_trees.specs.LedgerFiles.{page_size}
 use Rattle.book_trees.specs.Listing.{has_no_pages, lists, lists_books, lists_exactly}
-use Rattle.book_trees.specs.Listing.{may_be_listed}
-use Rattle.book_trees.specs.Schema.{books_schema}
-use Rattle.book_trees.proofs.Trees.{book_indexes}
+use Rattle.book_trees.specs.Listing.{lists_first_books, may_be_listed}
+use Rattle.book_trees.specs.Schema.{books_schema, first_schema}
+use Rattle.book_trees.proofs.Trees.{book_indexes, first_indexes}
 
 -- a test of what elements map to
 pub any_mapped : {X Y : Type 0} (test : Y → Bool) (f : X → Y) (xs : List X)
@@ -155,6 +155,14 @@ first_of_four : (a b c d : Bool) → (a && b && c && d) ≡ true → a ≡ true
 first_of_four true b c d passed = refl
 first_of_four false b c d passed = absurd (cc)
 
+-- rows of a sound file of some schema may stand there
+pub rows_stand : (size : ℕ) (schema : List Wanted) (pages : PageMap) → IsFile size schema pages
+    → list_all (may_stand schema) (rows_at size (in_use size pages) Table 1) ≡ true
+rows_stand size schema pages file =
+    let rows = rows_at size (in_use size pages) Table 1 in
+    first_of_four (list_all (may_stand schema) rows) (list_all (is_listed_once rows) schema)
+    (list_all fits_shape schema) (are_in_order [] (map (head_at 1) rows)) file.db.known
+
 -- the rows of a sound file list its trees, if each is an index,
 pub sound_lists : (size : ℕ) (schema : List Wanted) (pages : PageMap) → IsFile size schema pages
     → ((tree : ℕ) → tree < length schema → shape_at schema tree ≡ Index plain)
@@ -169,9 +177,13 @@ sound_lists size schema pages file shapes =
     absurd (omega arith)) in
     let only : list_all (may_be_listed schema) rows ≡ true =
     all_weaker (may_stand schema) (may_be_listed schema) (stands schema) rows
-    (first_of_four (list_all (may_stand schema) rows) (list_all (is_listed_once rows) schema)
-    (list_all fits_shape schema) (are_in_order [] (map (head_at 1) rows)) file.db.known) in
+    (rows_stand size schema pages file) in
     rw all only
+
+-- the rows of a sound file of books of the first form list those
+pub first_listed : (pages : PageMap) → IsFile page_size first_schema pages
+    → lists_first_books (rows_at page_size (in_use page_size pages) Table 1) ≡ true
+first_listed pages file = sound_lists page_size first_schema pages file first_indexes
 
 -- so the rows of a sound file of books list them
 pub books_listed : (pages : PageMap) → IsFile page_size books_schema pages

@@ -68,6 +68,10 @@ pub look_cause_for : (old new old' new' : ℕ) (AtLimit Held Held' : Type 0)
 look_cause_for old new old' new' AtLimit Held Held' rose so Pages cause = λ held. cause (so held)
 look_cause_for old new old' new' AtLimit Held Held' rose so (Open opening.NotBooks) cause =
     λ held. cause (so held)
+look_cause_for old new old' new' AtLimit Held Held' rose so (Open opening.OldForm) cause =
+    λ held. cause (so held)
+look_cause_for old new old' new' AtLimit Held Held' rose so (Open opening.NewForm) cause =
+    λ held. cause (so held)
 look_cause_for old new old' new' AtLimit Held Held' rose so (Open opening.Memory) cause = tt
 look_cause_for old new old' new' AtLimit Held Held' rose so (Open opening.Store) cause =
     elim cause [ inl more ↦ inl (rose more) | inr full ↦ inr full ]

@@ -10,9 +10,10 @@ use Rattle.sqlite_pool.specs.Stored.{Recovers, RecoversAs}
 use Rattle.sqlite_pool.specs.StoredLaws.{recovers_once, readable, RecoversAs-from}
 use Rattle.sqlite_store.specs.Db.{IsFile, rows_at}
 use Rattle.sqlite_store.specs.FileStore.{state, view, schema_of, IsReady}
-use Rattle.sqlite_store.specs.Listing.{file_trees}
+use Rattle.sqlite_store.specs.Listing.{file_trees, IsOurs}
 use Rattle.sqlite_store.specs.Saved.{kept_schema}
-use Rattle.sqlite_store.specs.Unopened.{state_of, image, wanted_by, HasFile, HasSomeFile}
+use Rattle.sqlite_store.specs.Unopened.{state_of, image, wanted_by, HasFile, HasFileAs}
+use Rattle.sqlite_store.specs.Unopened.{HasSomeFile}
 use Rattle.sqlite_store.specs.Unopened.{IsCatalogOf, Opens}
 use Rattle.sqlite_store.specs.declared.catalog.Wanted.{Wanted}
 use Rattle.sqlite_store.specs.declared.store.FileStore.{FileStore}
@@ -21,14 +22,16 @@ use Rattle.sqlite_trees.specs.declared.store.Shape.TheVariants.{Table}
 use Rattle.sqlite_value.specs.Order.{Row}
 use Rattle.sqlite_wal.specs.State.{State}
 use Rattle.book_trees.proofs.BlankFiles.{blank_unsound}
-use Rattle.book_trees.proofs.ListingLemmas.{books_listed}
-use Rattle.book_trees.specs.LedgerFiles.{page_size, HoldsBooks, AreLeft}
-use Rattle.book_trees.specs.Listing.{lists_books}
-use Rattle.book_trees.specs.Schema.{books_schema}
+use Rattle.book_trees.proofs.FormLemmas.{first_is_not_this}
+use Rattle.book_trees.proofs.ListingLemmas.{books_listed, first_listed}
+use Rattle.book_trees.specs.LedgerFiles.{page_size, AreLeft, HoldsBooks, HoldsFirstBooks}
+use Rattle.book_trees.specs.LedgerFiles.{HoldsTables}
+use Rattle.book_trees.specs.Listing.{lists_books, lists_first_books}
+use Rattle.book_trees.specs.Schema.{books_schema, first_schema}
 
 -- an empty list of rows does not list books
 none_listed : lists_books [] ≡ true → ⊥
-unfolding books_schema
+unfolding books_schema first_schema
 none_listed listed = absurd (cc)
 
 -- a list of rows that lists books is not empty
@@ -36,13 +39,13 @@ some_listed : (rows : List Row) → lists_books rows ≡ true → rows ≢ []
 some_listed rows listed none =
     none_listed (subst (λ (rows : List Row). lists_books rows ≡ true) none listed)
 
--- files that hold books hold some database
-pub some_file : {D : Type 0} {g : Ghosts D} (it : Unopened D g)
-    → (state_of it).page_size ≡ page_size → HoldsBooks (image it) → HasSomeFile it
-some_file it size held = (
+-- files that hold tables hold some database
+pub some_file : {wanted : List Wanted} {D : Type 0} {g : Ghosts D} (it : Unopened D g)
+    → (state_of it).page_size ≡ page_size → HoldsTables wanted (image it) → HasSomeFile it
+some_file {wanted} it size held = (
   held.pages,
   subst (λ s. Recovers s (image it) held.pages) (sym size) held.found,
-  (books_schema, subst (λ s. IsFile s books_schema held.pages) (sym size) held.file),
+  (wanted, subst (λ s. IsFile s wanted held.pages) (sym size) held.file),
 )
 
 module _ {D : Type 0} {g : Ghosts D} (old mid : Unopened D g) (rows : List Row)
@@ -70,6 +73,20 @@ module _ {D : Type 0} {g : Ghosts D} (old mid : Unopened D g) (rows : List Row)
       ∙ ap (λ (p : PageMap). rows_at page_size (in_use page_size p) Table 1)
       (same_pages held.pages held.found)) ∙ books_listed held.pages held.file
 
+  -- files that hold books of the first form list those
+  pub held_first_listed : HoldsFirstBooks (image old) → lists_first_books rows ≡ true
+  held_first_listed held =
+      ap lists_first_books (rows_are
+      ∙ ap (λ (p : PageMap). rows_at page_size (in_use page_size p) Table 1)
+      (same_pages held.pages held.found)) ∙ first_listed held.pages held.file
+
+  -- and no others
+  pub held_first_only : HoldsFirstBooks (image old) → lists_books rows ≡ true → ⊥
+  held_first_only held books =
+      first_is_not_this held.pages held.file (sym (ap lists_books (rows_are
+      ∙ ap (λ (p : PageMap). rows_at page_size (in_use page_size p) Table 1)
+      (same_pages held.pages held.found))) ∙ books)
+
   -- the pages are those of a sound file
   sound_pages : (state_of mid).page_size ≡ page_size → ∥ IsSoundFile page_size listed.pages ∥₁
   sound_pages size =
@@ -83,33 +100,47 @@ module _ {D : Type 0} {g : Ghosts D} (old mid : Unopened D g) (rows : List Row)
       ∥∥₁_elim (sound_pages size) (λ one other. absurd one) λ sound.
       blank_unsound (image old) listed.pages found_old sound blank
 
-  -- files that a ledger left and that list something are those of books,
-  holds_books : rows ≢ [] → (state_of mid).page_size ≡ page_size → AreLeft (image old)
+  -- files that a ledger left and that list books are those of books,
+  holds_books : lists_books rows ≡ true → (state_of mid).page_size ≡ page_size → AreLeft (image old)
       → HoldsBooks (image old)
-  holds_books some size (inl (inl blank)) = absurd (never_blank size blank)
-  holds_books some size (inl (inr none)) =
-      absurd (some (rows_are
+  holds_books books size (inl (inl blank)) = absurd (never_blank size blank)
+  holds_books books size (inl (inr none)) =
+      absurd (some_listed rows books (rows_are
       ∙ ap (λ (p : PageMap). rows_at page_size (in_use page_size p) Table 1)
       (same_pages none.pages none.found) ∙ none.empty.1))
-  holds_books some size (inr held) = held
+  holds_books books size (inr (inl held)) = held
+  holds_books books size (inr (inr first)) = absurd (held_first_only first books)
 
   -- which an open may be asked for
-  pub held_file : HoldsBooks (image old) → (state_of mid).page_size ≡ page_size
-      → wanted_by mid ≡ books_schema → HasFile mid
-  held_file held size schema =
-      let file : IsFile page_size books_schema listed.pages =
-      subst (IsFile page_size books_schema) (sym (same_pages held.pages held.found)) held.file in (
+  pub held_file : {wanted : List Wanted} → HoldsTables wanted (image old)
+      → (state_of mid).page_size ≡ page_size → wanted_by mid ≡ wanted → HasFile mid
+  held_file {wanted} held size schema =
+      let file : IsFile page_size wanted listed.pages =
+      subst (IsFile page_size wanted) (sym (same_pages held.pages held.found)) held.file in (
         listed.pages,
         subst (λ s. Recovers s (image mid) listed.pages) (sym size) found_mid,
         subst (λ s. IsFile s (wanted_by mid) listed.pages) (sym size)
             (subst (λ (w : List Wanted). IsFile page_size w listed.pages) (sym schema) file),
       )
 
-  -- also one that trusts them
+  -- also one that asks for the number of each tree
+  pub held_ours : {wanted : List Wanted} (held : HoldsTables wanted (image old))
+      → IsOurs page_size true wanted held.pages → (state_of mid).page_size ≡ page_size
+      → wanted_by mid ≡ wanted → HasFileAs mid true
+  held_ours {wanted} held ours size schema =
+      let file : IsOurs page_size true wanted listed.pages =
+      subst (IsOurs page_size true wanted) (sym (same_pages held.pages held.found)) ours in (
+        listed.pages,
+        subst (λ s. Recovers s (image mid) listed.pages) (sym size) found_mid,
+        subst (λ s. IsOurs s true (wanted_by mid) listed.pages) (sym size)
+            (subst (λ (w : List Wanted). IsOurs page_size true w listed.pages) (sym schema) file),
+      )
+
+  -- and one that trusts them
   pub has_file : lists_books rows ≡ true → AreLeft (image old)
       → (state_of mid).page_size ≡ page_size → wanted_by mid ≡ books_schema → HasFile mid
   has_file books left size schema =
-      held_file (holds_books (some_listed rows books) size left) size schema
+      held_file (holds_books books size left) size schema
 
   -- what is then committed are the pages that were listed,
   pub committed_listed : (pages : PageMap) → (state_of mid).page_size ≡ page_size
@@ -118,8 +149,8 @@ module _ {D : Type 0} {g : Ghosts D} (old mid : Unopened D g) (rows : List Row)
       recovers_once page_size (image mid) _ _
       (subst (λ s. Recovers s (image mid) pages) size found) found_mid
 
-  -- which are those of the books
-  pub committed_is : (held : HoldsBooks (image old)) (pages : PageMap)
+  -- which are those of the tables
+  pub committed_is : {wanted : List Wanted} (held : HoldsTables wanted (image old)) (pages : PageMap)
       → (state_of mid).page_size ≡ page_size
       → Recovers (state_of mid).page_size (image mid) pages → pages ≡ held.pages
   committed_is held pages size found =
@@ -142,19 +173,19 @@ module _ {D : Type 0} {g : Ghosts D} (old mid : Unopened D g) (rows : List Row)
     ];
   }
 
-module _ {D : Type 0} {g : Ghosts D} (store : FileStore D g) where
+module _ {wanted : List Wanted} {D : Type 0} {g : Ghosts D} (store : FileStore D g) where
   -- a store that was just opened shows the tables of its pages
-  pub shows_tables : IsReady store → schema_of store ≡ books_schema
+  pub shows_tables : IsReady store → schema_of store ≡ wanted
       → (state store).page_size ≡ page_size → IsTrue (state store).is_clean
       → (pages : PageMap) → (state store).committed ≡ pages
-      → (view store).trees ≡ file_trees page_size books_schema pages
+      → (view store).trees ≡ file_trees page_size wanted pages
   shows_tables ready schema size clean pages same =
       let kept = kept_schema store.saved (schema_of store) in
       let whole : (view store).committed
       ≡ file_trees (state store).page_size kept (state store).committed = rw clean refl in
-      let plain : kept ≡ books_schema =
+      let plain : kept ≡ wanted =
       ap (λ s. kept_schema s (schema_of store)) ready.unaltered ∙ schema in
       ready.clean ∙ whole
       ∙ ap (λ s. file_trees s kept (state store).committed) size
       ∙ ap (λ (w : List Wanted). file_trees page_size w (state store).committed) plain
-      ∙ ap (file_trees page_size books_schema) same
+      ∙ ap (file_trees page_size wanted) same

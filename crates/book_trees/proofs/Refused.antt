@@ -1,12 +1,17 @@
 -- Why an open fails.
-use Rattle.std.proofs.Common.{◌≤◌, ℕ, inl, inr, arith}
+use Rattle.std.proofs.Common.{◌≤◌, ℕ, Bool, true, false, List, inl, inr, arith}
 use Rattle.sqlite_store.specs.Opening.{FailsToOpen}
 use Rattle.sqlite_store.specs.declared.error.OpenError.{OpenError}
 use Rattle.sqlite_store.specs.declared.error.OpenError.TheVariants.{OutOfMemory, Io, Full, Refused}
+use Rattle.sqlite_value.specs.Order.{Row}
+use Rattle.std.specs.List.{list_any}
+use Rattle.std.specs.Prelude.{if◌then◌else◌}
+use Rattle.book_trees.specs.Listing.{lists, lists_first_books, unlisted_fault}
 use Rattle.book_trees.specs.Refusals.{fault_for, HasCause}
+use Rattle.book_trees.specs.Schema.{first_table}
 use Rattle.book_trees.specs.declared.faults.OpenFault.{OpenFault}
 use Rattle.book_trees.specs.declared.faults.OpenFault.TheVariants.{NotBooks, Memory, Store, Busy}
-use Rattle.book_trees.specs.declared.faults.OpenFault.TheVariants.{Path}
+use Rattle.book_trees.specs.declared.faults.OpenFault.TheVariants.{NewForm, OldForm, Path}
 
 -- the cause of an error is a cause of the fault that it stands for
 pub cause_of : (old new : ℕ) (AtLimit Wanted Held : Type 0) → (Held → Wanted) → (e : OpenError)
@@ -20,6 +25,8 @@ cause_of old new AtLimit Wanted Held so Refused fails = λ held. fails (so held)
 pub cause_since : (first old new : ℕ) (AtLimit Held : Type 0) → first ≤ old → (fault : OpenFault)
     → HasCause old new AtLimit Held fault → HasCause first new AtLimit Held fault
 cause_since first old new AtLimit Held later NotBooks cause = cause
+cause_since first old new AtLimit Held later OldForm cause = cause
+cause_since first old new AtLimit Held later NewForm cause = cause
 cause_since first old new AtLimit Held later Memory cause = cause
 cause_since first old new AtLimit Held later Store cause =
     elim cause [ inl more ↦ inl (omega arith) | inr full ↦ inr full ]
@@ -31,8 +38,23 @@ pub cause_for : (old new : ℕ) (Limit Limit' Held Held' : Type 0) → (Limit �
     → (Held' → Held) → (fault : OpenFault) → HasCause old new Limit Held fault
     → HasCause old new Limit' Held' fault
 cause_for old new Limit Limit' Held Held' wider so NotBooks cause = λ held. cause (so held)
+cause_for old new Limit Limit' Held Held' wider so OldForm cause = λ held. cause (so held)
+cause_for old new Limit Limit' Held Held' wider so NewForm cause = λ held. cause (so held)
 cause_for old new Limit Limit' Held Held' wider so Memory cause = cause
 cause_for old new Limit Limit' Held Held' wider so Store cause =
     elim cause [ inl more ↦ inl more | inr full ↦ inr (wider full) ]
 cause_for old new Limit Limit' Held Held' wider so Busy cause = cause
 cause_for old new Limit Limit' Held Held' wider so Path cause = cause
+
+-- what is told where books are not listed has its cause in files that would list them
+told_cause : (old new : ℕ) (AtLimit Held : Type 0) → (Held → ⊥) → (first book : Bool)
+    → HasCause old new AtLimit Held
+    (if first then OldForm else if book then NewForm else NotBooks)
+told_cause old new AtLimit Held none true book = none
+told_cause old new AtLimit Held none false true = none
+told_cause old new AtLimit Held none false false = none
+
+pub unlisted_cause : (old new : ℕ) (AtLimit Held : Type 0) → (Held → ⊥) → (rows : List Row)
+    → HasCause old new AtLimit Held (unlisted_fault rows)
+unlisted_cause old new AtLimit Held none rows =
+    told_cause old new AtLimit Held none (lists_first_books rows) (list_any (lists first_table) rows)

@@ -5,6 +5,7 @@ use Rattle.std.specs.Prelude.{IfErr, IfOk, ⊤}
 use Rattle.sqlite_wal.proofs.FileLemmas.{pages_without_frames}
 use Rattle.sqlite_wal.proofs.RecoveryLemmas.{replays_once}
 use Rattle.sqlite_disk.specs.declared.Disk.{Ghosts}
+use Rattle.sqlite_store.specs.declared.catalog.Wanted.{Wanted}
 use Rattle.sqlite_wal.specs.Opening.{RefusesLog}
 use Rattle.sqlite_wal.specs.Outcome as wal
 use Rattle.sqlite_wal.specs.Reads.{OnlyReads}
@@ -15,7 +16,7 @@ use Rattle.sqlite_wal.specs.declared.error.Error.TheVariants.{Io, OutOfMemory, C
 use Rattle.sqlite_wal.specs.declared.error.Error.TheVariants.{Full, Corrupt, Exists}
 use Rattle.book_trees.specs.Copies.{IsOnlyRead}
 use Rattle.book_trees.specs.LedgerFiles.{page_size, shortest_log, without_log}
-use Rattle.book_trees.specs.LedgerFiles.{HoldsBooks, IsHugeLog, trees_held}
+use Rattle.book_trees.specs.LedgerFiles.{HoldsTables, IsHugeLog, trees_held}
 use Rattle.book_trees.specs.Refusals.{probe_answer, HasCause}
 
 -- the file alone stands for the same pages
@@ -31,9 +32,10 @@ recovers_alone size image pages none found =
           ∙ ap (λ k. pages_after size image.log image.db k) (sym same) ∙ found.gives;
     }
 
--- and holds the same books
-pub unused_alone : (image : Image) → Replays page_size image.log 0 → (held : HoldsBooks image)
-    → (alone : HoldsBooks (without_log image)) × (trees_held alone ≡ trees_held held)
+-- and holds the same tables
+pub unused_alone : {wanted : List Wanted} (image : Image) → Replays page_size image.log 0
+    → (held : HoldsTables wanted image)
+    → (alone : HoldsTables wanted (without_log image)) × (trees_held alone ≡ trees_held held)
 unused_alone image none held =
     let found = held.found in (
       record {
@@ -52,21 +54,22 @@ unused_alone image none held =
     )
 
 -- so it does where the log is too short for a page
-pub short_alone : (image : Image) → length image.log < shortest_log → (held : HoldsBooks image)
-    → (alone : HoldsBooks (without_log image)) × (trees_held alone ≡ trees_held held)
+pub short_alone : {wanted : List Wanted} (image : Image) → length image.log < shortest_log
+    → (held : HoldsTables wanted image)
+    → (alone : HoldsTables wanted (without_log image)) × (trees_held alone ≡ trees_held held)
 short_alone image short held = unused_alone image (inl (inl short, refl)) held
 
 -- a log that was read, as files are that are copied
 pub only_read : {D : Type 0} {g : Ghosts D} (one two : D) → OnlyReads g one two → IsOnlyRead g one two
 only_read one two read = record { seen = read.seen; clean = read.clean; crash = read.crash }
 
--- so where recovery is said to take nothing of it the file alone holds the same books
+-- so where recovery is said to take nothing of it the file alone holds the same tables
 pub passed_alone : {E : Type 0} (Clean : Type 0) (log read : List ℕ) (result : Result Bool E)
     → read ≡ log → IfOk result (λ is. Clean → (IsTrue is ↔ Replays page_size read 0))
-    → IfOk result (λ is. Clean → IsTrue is → (image : Image) → image.log ≡ log
-    → (held : HoldsBooks image)
-    → (alone : HoldsBooks (without_log image)) × (trees_held alone ≡ trees_held held))
-passed_alone Clean log read (Ok is) whole told = λ clean yes image same held.
+    → IfOk result (λ is. Clean → IsTrue is → (wanted : List Wanted) (image : Image)
+    → image.log ≡ log → (held : HoldsTables wanted image)
+    → (alone : HoldsTables wanted (without_log image)) × (trees_held alone ≡ trees_held held))
+passed_alone Clean log read (Ok is) whole told = λ clean yes wanted image same held.
     unused_alone image
     (subst (λ log. Replays page_size log 0) (whole ∙ sym same) ((told clean).0 yes)) held
 passed_alone Clean log read (Err error) whole told = tt

@@ -1,10 +1,11 @@
 -- What may be found of the two files after they were closed.
-use Rattle.std.specs.Prelude.{◌≡◌, ◌⊎◌, ◌<◌, ℕ, [], None, length, IsTrue, ⊤}
+use Rattle.std.specs.Prelude.{◌≡◌, ◌⊎◌, ◌<◌, ℕ, List, [], None, length, IsTrue, ⊤}
 use Rattle.sqlite_disk.specs.Disk.{MoreFaults}
 use Rattle.sqlite_disk.specs.declared.Disk.{Ghosts}
 use Rattle.sqlite_disk.specs.declared.files.Files.{Files}
 use Rattle.sqlite_store.specs.FileStore as store
 use Rattle.sqlite_store.specs.Limits.{times_met}
+use Rattle.sqlite_store.specs.declared.catalog.Wanted.{Wanted}
 use Rattle.sqlite_store.specs.declared.store.FileStore.{FileStore}
 use Rattle.sqlite_trees.specs.declared.error.StoreError.{StoreError}
 use Rattle.sqlite_trees.specs.declared.error.StoreError.TheVariants.{OutOfMemory, Io, Corrupt}
@@ -13,7 +14,6 @@ use Rattle.sqlite_wal.specs.Reads.{AreClean}
 use Rattle.sqlite_wal.specs.Recovery.{Image}
 use Rattle.book_trees.specs.LedgerFiles.{page_size, shortest_log}
 use Rattle.book_trees.specs.Refusals.{faults_in, MayLeave}
-use Rattle.book_trees.specs.Schema.{books_schema}
 use Rattle.book_trees.specs.declared.closing.Closed.{Closed}
 use Rattle.book_trees.specs.declared.closing.LogLeft.{LogLeft}
 use Rattle.book_trees.specs.declared.closing.LogLeft.TheVariants.{Short, Emptied, Kept}
@@ -29,11 +29,12 @@ IsStuckFor old new Full = MoreFaults old new
 IsStuckFor old new Broken = MoreFaults old new
 IsStuckFor old new Unstorable = ⊥
 
--- a store has the pages and the tables of books, neither of which was changed in its transaction
-pub record HasBooksSchema {D : Type 0} {g : Ghosts D} (it : FileStore D g) : Type 0 where
-  pub size : (store.state it).page_size ≡ page_size
-  pub schema : store.schema_of it ≡ books_schema
-  pub unaltered : it.saved ≡ None
+-- a store has the pages of books and these tables, neither of which was changed in its transaction
+pub record HasSchema (wanted : List Wanted) {D : Type 0} {g : Ghosts D} (it : FileStore D g) : Type 0
+  where
+    pub size : (store.state it).page_size ≡ page_size
+    pub schema : store.schema_of it ≡ wanted
+    pub unaltered : it.saved ≡ None
 
 module _ {D : Type 0} (g : Ghosts D) where
   -- the log, which was too short for anything, was deleted: the other file is as a crash may leave it

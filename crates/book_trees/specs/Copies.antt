@@ -8,7 +8,8 @@ use Rattle.sqlite_disk.specs.Disk.{MoreFaults, Only}
 use Rattle.sqlite_disk.specs.declared.Disk.{Ghosts}
 use Rattle.sqlite_disk.specs.declared.files.Files.{Files}
 use Rattle.sqlite_wal.specs.Reads.{AreClean}
-use Rattle.book_trees.specs.LedgerFiles.{image_of, HoldsBooks}
+use Rattle.book_trees.specs.Forms.{HoldsThisForm}
+use Rattle.book_trees.specs.LedgerFiles.{image_of}
 use Rattle.book_trees.specs.Looks.{HasLookCause}
 use Rattle.book_trees.specs.Refusals.{faults_in, AreFull}
 use Rattle.book_trees.specs.declared.faults.OpenFault.{OpenFault}
@@ -61,4 +62,4 @@ abbrev pub IsCopyRefusedFor : {A B : Type 0} (one : Ghosts A) (two : Ghosts B) �
 IsCopyRefusedFor one two first original fault copy =
     AreClean one original.log original.db → AreClean two copy.log copy.db
     → HasLookCause (faults_in one first) (faults_in one original + faults_in two copy)
-    (AreFull two copy) (HoldsBooks (image_of one first)) fault
+    (AreFull two copy) (HoldsThisForm (image_of one first)) fault

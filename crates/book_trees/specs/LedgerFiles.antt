@@ -8,10 +8,11 @@ use Rattle.sqlite_pool.specs.Stored.{Recovers}
 use Rattle.sqlite_store.specs.Db.{IsFile}
 use Rattle.sqlite_store.specs.Listing.{file_trees}
 use Rattle.sqlite_store.specs.Opening.{IsEmptyFile}
+use Rattle.sqlite_store.specs.declared.catalog.Wanted.{Wanted}
 use Rattle.sqlite_trees.specs.Tree.{Trees}
 use Rattle.sqlite_wal.specs.Files.{seen_image}
 use Rattle.sqlite_wal.specs.Recovery.{frame_at, Image, Replays}
-use Rattle.book_trees.specs.Schema.{books_schema}
+use Rattle.book_trees.specs.Schema.{books_schema, first_schema}
 
 -- what reads of two files return
 abbrev pub image_of : {D : Type 0} → Ghosts D → Files D → Image
@@ -21,15 +22,22 @@ image_of g files = seen_image g files.log files.db
 abbrev pub page_size : ℕ
 page_size = 4096
 
--- the files recover to a sound file of the tables of books
-pub record HoldsBooks (image : Image) : Type 0 where
+-- the files recover to a sound file of these tables and indexes
+pub record HoldsTables (schema : List Wanted) (image : Image) : Type 0 where
   pub pages : PageMap
   pub found : Recovers page_size image pages
-  pub file : IsFile page_size books_schema pages
+  pub file : IsFile page_size schema pages
+
+-- those of books; or those of books of the first form
+abbrev pub HoldsBooks : Image → Type 0
+HoldsBooks = HoldsTables books_schema
+
+abbrev pub HoldsFirstBooks : Image → Type 0
+HoldsFirstBooks = HoldsTables first_schema
 
 -- the tables that it holds
-abbrev pub trees_held : {image : Image} → HoldsBooks image → Trees
-trees_held held = file_trees page_size books_schema held.pages
+abbrev pub trees_held : {schema : List Wanted} {image : Image} → HoldsTables schema image → Trees
+trees_held {schema} held = file_trees page_size schema held.pages
 
 -- a database that was begun, and has no table yet
 pub record HoldsNone (image : Image) : Type 0 where
@@ -41,10 +49,10 @@ pub record HoldsNone (image : Image) : Type 0 where
 abbrev pub HoldsNothing : Image → Type 0
 HoldsNothing image = IsBlankFile page_size image ⊎ HoldsNone image
 
--- The files are empty, or a ledger left them. A stop inside the making of books leaves a part of the
--- first page, or a database that was begun.
+-- The files are empty, or a ledger left them, if one of the first form. A stop inside the making of
+-- books leaves a part of the first page, or a database that was begun.
 abbrev pub AreLeft : Image → Type 0
-AreLeft image = HoldsNothing image ⊎ HoldsBooks image
+AreLeft image = HoldsNothing image ⊎ (HoldsBooks image ⊎ HoldsFirstBooks image)
 
 -- no table has a row
 abbrev pub AreEmptyTables : Trees → Type 0

@@ -1,12 +1,14 @@
 -- The list of tables and indexes that a file has of itself. Each row is a rowid, a kind, a name, a
 -- table, a root page and a text.
-use Rattle.std.specs.Prelude.{List, Bool, pos, ◌&&◌, ◌||◌}
+use Rattle.std.specs.Prelude.{List, Bool, pos, ◌&&◌, ◌||◌, if◌then◌else◌}
 use Rattle.std.specs.List.{list_all, list_any}
 use Rattle.sqlite_store.specs.Catalog.{same_value}
 use Rattle.sqlite_store.specs.declared.catalog.Wanted.{Wanted}
 use Rattle.sqlite_value.specs.Order.{Row, column}
 use Rattle.sqlite_value.specs.declared.value.Value.TheVariants.{Int}
-use Rattle.book_trees.specs.Schema.{books_schema}
+use Rattle.book_trees.specs.Schema.{books_schema, first_schema, first_table}
+use Rattle.book_trees.specs.declared.faults.OpenFault.{OpenFault}
+use Rattle.book_trees.specs.declared.faults.OpenFault.TheVariants.{NewForm, NotBooks, OldForm}
 
 -- the row has the kind, the name, the table and the text that are expected
 abbrev pub lists : Wanted → Row → Bool
@@ -33,3 +35,15 @@ lists_exactly schema rows =
 -- the rows list the tables and indexes of books
 abbrev pub lists_books : List Row → Bool
 lists_books rows = lists_exactly books_schema rows
+
+-- those of books of the first form
+abbrev pub lists_first_books : List Row → Bool
+lists_first_books rows = lists_exactly first_schema rows
+
+-- What is told of rows that list something else than books: books of the first form; or, where the
+-- first table of all forms is listed, books of a newer form, if the file says so; or no books.
+abbrev pub unlisted_fault : List Row → OpenFault
+unlisted_fault rows =
+    if lists_first_books rows then OldForm
+    else if list_any (lists first_table) rows then NewForm
+    else NotBooks

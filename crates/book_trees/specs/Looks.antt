@@ -1,11 +1,13 @@
 -- Why files are not looked through.
-use Rattle.std.specs.Prelude.{ℕ}
+use Rattle.std.specs.Prelude.{◌≡◌, ℕ}
 use Rattle.sqlite_disk.specs.declared.Disk.{Ghosts}
 use Rattle.sqlite_disk.specs.declared.files.Files.{Files}
 use Rattle.sqlite_store.specs.declared.error.OpenError.{OpenError}
 use Rattle.sqlite_store.specs.declared.error.OpenError.TheVariants as store
 use Rattle.sqlite_wal.specs.Reads.{AreClean}
+use Rattle.book_trees.specs.Forms.{IsToldOf}
 use Rattle.book_trees.specs.Refusals.{fault_for, faults_in, HasCause, IsUnopened}
+use Rattle.book_trees.specs.declared.faults.OpenFault.{OpenFault}
 use Rattle.book_trees.specs.declared.integrity.LookFault.{LookFault}
 use Rattle.book_trees.specs.declared.integrity.LookFault.TheVariants.{Pages, Open}
 
@@ -22,6 +24,12 @@ look_fault_for store.Full = Open (fault_for store.Full)
 abbrev pub HasLookCause : ℕ → ℕ → Type 0 → Type 0 → LookFault → Type 0
 HasLookCause old new AtLimit Held Pages = ¬ Held
 HasLookCause old new AtLimit Held (Open fault) = HasCause old new AtLimit Held fault
+
+-- what is told of files that were not looked through
+abbrev pub IsToldLook : {D : Type 0} → LookFault → Files D → LookFault → Files D → Type 0
+IsToldLook Pages files told last = (told ≡ Pages) × (last ≡ files)
+IsToldLook (Open fault) files told last =
+    (other : OpenFault) × (told ≡ Open other) × IsToldOf fault files other last
 
 -- the files at a path were not opened
 abbrev pub IsUnopenedLook : LookFault → Type 0

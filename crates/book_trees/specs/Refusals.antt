@@ -16,7 +16,7 @@ use Rattle.sqlite_wal.specs.declared.error.Error.TheVariants as wal
 use Rattle.book_trees.specs.LedgerFiles.{image_of, page_size, HoldsEmptyBooks, HoldsNothing}
 use Rattle.book_trees.specs.declared.faults.OpenFault.{OpenFault}
 use Rattle.book_trees.specs.declared.faults.OpenFault.TheVariants.{NotBooks, Memory, Store, Busy}
-use Rattle.book_trees.specs.declared.faults.OpenFault.TheVariants.{Path}
+use Rattle.book_trees.specs.declared.faults.OpenFault.TheVariants.{NewForm, OldForm, Path}
 
 -- the fault that an error of the store stands for
 abbrev pub fault_for : OpenError → OpenFault
@@ -37,6 +37,8 @@ probe_answer _ = Err Store
 -- are open here are not open elsewhere, nor out of reach.
 abbrev pub HasCause : ℕ → ℕ → Type 0 → Type 0 → OpenFault → Type 0
 HasCause old new AtLimit Held NotBooks = ¬ Held
+HasCause old new AtLimit Held OldForm = ¬ Held
+HasCause old new AtLimit Held NewForm = ¬ Held
 HasCause old new AtLimit Held Memory = ⊤
 HasCause old new AtLimit Held Store = MoreFaults old new ⊎ AtLimit
 HasCause old new AtLimit Held Busy = ⊥

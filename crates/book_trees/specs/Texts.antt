@@ -59,3 +59,13 @@ record_charged_text = codes "CREATE INDEX record_charged ON record (charged, ide
 -- the choices, by the names of the records that were chosen
 abbrev pub choice_name_text : List ℕ
 choice_name_text = codes "CREATE INDEX choice_name ON choice (name)"
+
+-- the details: a row for each record that the charge rows of some period count, in their order, then
+-- by time and name
+abbrev pub detail_text : List ℕ
+detail_text =
+    codes "CREATE TABLE detail (day INT NOT NULL, centre TEXT NOT NULL, shift TEXT NOT NULL, "
+    ++ codes "time INT NOT NULL, name BLOB NOT NULL, job BLOB NOT NULL, program BLOB NOT NULL, "
+    ++ codes "job_id BLOB NOT NULL, step INT, cpu INT NOT NULL, blocks INT NOT NULL, "
+    ++ codes "amount INT NOT NULL, PRIMARY KEY (day, centre, shift, time, name)) STRICT, "
+    ++ codes "WITHOUT ROWID"

@@ -3,9 +3,12 @@
 ghost use Rattle.std.specs.Prelude.{◌≡◌, map};
 ghost use Rattle.std.specs.List.{list_all, list_any};
 ghost use Rattle.sqlite_store.specs.Catalog.{wanted_of};
-ghost use Rattle.book_trees.specs.Listing.{has_no_pages, lists, lists_books, may_be_listed};
+ghost use Rattle.book_trees.specs.Listing.{has_no_pages, lists, lists_books, lists_exactly};
+ghost use Rattle.book_trees.specs.Listing.{lists_first_books, may_be_listed, unlisted_fault};
+ghost use Rattle.book_trees.specs.Schema.{first_table};
 
-use crate::schema::books_objects;
+use crate::faults::OpenFault;
+use crate::schema::{book_object, books_objects, first_objects};
 use sqlite_trees::schema::Object;
 use sqlite_value::order::compare;
 use sqlite_value::row::Row;
@@ -81,13 +84,46 @@ fn may_all_be_listed(rows: &[Row], objects: &[Object<'_>]) -> bool
     rows.iter().all(|row| may_be_listed(row, objects))
 }
 
-/// Whether the rows list the tables and indexes of books, and nothing else that has pages: so
-/// views that somebody added do no harm.
+/// Whether the rows list these tables and indexes, and nothing else that has pages: so views that
+/// somebody added do no harm.
+fn lists_exactly(rows: &[Row], objects: &[Object<'_>]) -> bool
+    ensures { result ≡ lists_exactly (map wanted_of objects.now) rows.now }
+{
+    let all = are_listed(rows, objects);
+    let only = may_all_be_listed(rows, objects);
+    all & only
+}
+
+/// Whether the rows list the tables and indexes of books.
 pub(crate) fn lists_books(rows: &[Row]) -> bool
     ensures { result ≡ lists_books rows.now }
 {
-    let objects = books_objects();
-    let all = are_listed(rows, &objects);
-    let only = may_all_be_listed(rows, &objects);
-    all & only
+    lists_exactly(rows, &books_objects())
+}
+
+/// Whether they list those of books of the first form.
+pub(crate) fn lists_first_books(rows: &[Row]) -> bool
+    ensures { result ≡ lists_first_books rows.now }
+{
+    lists_exactly(rows, first_objects(&books_objects()))
+}
+
+/// Whether they list the table that books of every form have.
+fn lists_book_table(rows: &[Row]) -> bool
+    ensures { result ≡ list_any (lists first_table) rows.now }
+{
+    is_listed(rows, &book_object())
+}
+
+/// What rows tell that do not list books. Whether books are of a newer form the file has to say.
+pub(crate) fn unlisted_fault(rows: &[Row]) -> OpenFault
+    ensures { result ≡ unlisted_fault rows.now }
+{
+    if lists_first_books(rows) {
+        OpenFault::OldForm
+    } else if lists_book_table(rows) {
+        OpenFault::NewForm
+    } else {
+        OpenFault::NotBooks
+    }
 }

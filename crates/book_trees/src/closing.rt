@@ -1,22 +1,27 @@
 //! The log of books is moved into their file, as is done before they are closed.
 
 ghost use Rattle.std.specs.Prelude.{◌≡◌, ◌≢◌, ◌≤◌, ◌<◌, ◌↔◌, ℕ, List, length};
-ghost use Rattle.std.specs.Prelude.{IfErr, IsOk, IsTrue, OnOk};
+ghost use Rattle.std.specs.Prelude.{IfErr, IsOk, IsTrue, OnOk, map};
 ghost use Rattle.sqlite_disk.specs.Disk.{MoreFaults};
+ghost use Rattle.sqlite_store.specs.Catalog.{wanted_of};
 ghost use Rattle.sqlite_store.specs.FileStore.{faults, files as files_of, log_frames};
 ghost use Rattle.sqlite_store.specs.FileStore.{recovers, state, view};
+ghost use Rattle.sqlite_store.specs.declared.catalog.Wanted.{Wanted};
 ghost use Rattle.sqlite_trees.specs.Tree.{Trees};
 ghost use Rattle.sqlite_trees.specs.View.{doubt, IsClean};
 ghost use Rattle.sqlite_wal.specs.Reads.{AreClean, IsClean as IsCleanFile};
 ghost use Rattle.sqlite_wal.specs.Recovery.{Image};
-ghost use Rattle.book_trees.specs.Closing.{HasBooksSchema, HaveFailed, IsStuckFor, LeavesLog};
+ghost use Rattle.book_trees.specs.Closing.{HasSchema, HaveFailed, IsStuckFor, LeavesLog};
 ghost use Rattle.book_trees.specs.Closing.{MayBeFound};
 ghost use Rattle.book_trees.specs.LedgerFiles.{shortest_log, without_log, HoldsBooks, trees_held};
+ghost use Rattle.book_trees.specs.LedgerFiles.{HoldsFirstBooks, HoldsTables};
 
-use crate::reopening::keeps_books;
+use crate::schema::{books_objects, first_objects};
+use crate::unopened::size_of_a_page;
 use sqlite_disk::{Disk, Files};
 use sqlite_store::FileStore;
 use sqlite_trees::error::StoreError;
+use sqlite_trees::schema::Object;
 use sqlite_trees::store::Store;
 
 /// Rolls back what was not committed, and moves what the log holds into the file. What was
@@ -88,19 +93,44 @@ pub fn close_books<D: Disk>(store: FileStore<D>) -> Closed<D>
     // No fault of the store is forgotten.
     ensures counts { MoreFaults 0 (faults store) → HaveFailed D.Disk result.files }
 {
+    close_moved(store, &books_objects())
+}
+
+/// The same of books of the first form.
+pub fn close_first<D: Disk>(store: FileStore<D>) -> Closed<D>
+    ensures honest { AreClean D.Disk result.files.log result.files.db
+        → IsTrue (state store).is_clean }
+    ensures left { IsTrue result.is_kept → (image : Image) → MayBeFound D.Disk result.files image
+        → ∥ ((held : HoldsFirstBooks image) × recovers store (trees_held held)) ∥₁ }
+    ensures log { LeavesLog D.Disk store result.files result.log }
+    ensures counts { MoreFaults 0 (faults store) → HaveFailed D.Disk result.files }
+{
+    close_moved(store, first_objects(&books_objects()))
+}
+
+/// The same of a store of these tables and indexes.
+fn close_moved<D: Disk>(store: FileStore<D>, objects: &[Object<'_>]) -> Closed<D>
+    ensures honest { AreClean D.Disk result.files.log result.files.db
+        → IsTrue (state store).is_clean }
+    ensures left { IsTrue result.is_kept → (image : Image) → MayBeFound D.Disk result.files image
+        → ∥ ((held : HoldsTables (map wanted_of objects.now) image)
+        × recovers store (trees_held held)) ∥₁ }
+    ensures log { LeavesLog D.Disk store result.files result.log }
+    ensures counts { MoreFaults 0 (faults store) → HaveFailed D.Disk result.files }
+{
     let mut store = store;
     let moved = checkpoint_log(&mut store);
-    let mut closed = close_unchanged(store);
+    let mut closed = close_over(store, objects);
     closed.log = log_left(&mut closed.files.log, moved);
     closed
 }
 
-/// Whether a store is seen to be one of books. To see it takes memory.
-fn is_seen<D: Disk>(store: &FileStore<D>) -> bool
-    ensures { IsTrue result → HasBooksSchema store.now }
+/// Whether a store is seen to be one of these tables and indexes. To see it takes memory.
+fn is_seen<D: Disk>(store: &FileStore<D>, objects: &[Object<'_>]) -> bool
+    ensures { IsTrue result → HasSchema (map wanted_of objects.now) store.now }
 {
-    match keeps_books(store) {
-        Ok(is_kept) => is_kept,
+    match store.is_over(size_of_a_page(), objects) {
+        Ok(is_over) => is_over,
         Err(_refused) => false,
     }
 }
@@ -109,13 +139,25 @@ fn is_seen<D: Disk>(store: &FileStore<D>) -> bool
 /// be found of the files then holds tables that an open might have found before.
 pub fn close_unchanged<D: Disk>(store: FileStore<D>) -> Closed<D>
     ensures files { (result.files.log, result.files.db) ≡ files_of store }
-    ensures kept { IsTrue result.is_kept → HasBooksSchema store }
     ensures honest { AreClean D.Disk result.files.log result.files.db
         → IsTrue (state store).is_clean }
     ensures left { IsTrue result.is_kept → (image : Image) → MayBeFound D.Disk result.files image
         → ∥ ((held : HoldsBooks image) × recovers store (trees_held held)) ∥₁ }
 {
-    let is_kept = is_seen(&store);
+    close_over(store, &books_objects())
+}
+
+/// The same of a store of these tables and indexes.
+fn close_over<D: Disk>(store: FileStore<D>, objects: &[Object<'_>]) -> Closed<D>
+    ensures files { (result.files.log, result.files.db) ≡ files_of store }
+    ensures kept { IsTrue result.is_kept → HasSchema (map wanted_of objects.now) store }
+    ensures honest { AreClean D.Disk result.files.log result.files.db
+        → IsTrue (state store).is_clean }
+    ensures left { IsTrue result.is_kept → (image : Image) → MayBeFound D.Disk result.files image
+        → ∥ ((held : HoldsTables (map wanted_of objects.now) image)
+        × recovers store (trees_held held)) ∥₁ }
+{
+    let is_kept = is_seen(&store, objects);
     let files = store.close();
     Closed {
         files,
@@ -149,9 +191,9 @@ const SHORTEST_LOG: u64 = 56;
 /// file alone, with the same tables.
 pub fn needs_no_log(len: u64) -> bool
     ensures short { IsTrue result ↔ (len < shortest_log) }
-    ensures alone { IsTrue result → (image : Image) → length image.log ≡ len
-        → (held : HoldsBooks image)
-        → (alone : HoldsBooks (without_log image)) × (trees_held alone ≡ trees_held held) }
+    ensures alone { IsTrue result → (wanted : List Wanted) (image : Image) → length image.log ≡ len
+        → (held : HoldsTables wanted image)
+        → (alone : HoldsTables wanted (without_log image)) × (trees_held alone ≡ trees_held held) }
 {
     len < SHORTEST_LOG
 }

@@ -139,7 +139,7 @@ pub fn copy_to<D: Disk, T: Start>(
         → AreClean D.Disk from.new.log from.new.db
         → (held : HoldsBooks (image_of D.Disk from.old)) → (view store).trees ≡ trees_held held) }
 
-    // Of files that hold books there is no copy only because of memory and the disks.
+    // Of files that hold books of this form there is no copy only because of memory and the disks.
     ensures cause { IfErr result (λ refusal. MatchOption refusal.1 (IsUnopenedLook refusal.0)
         (IsCopyRefusedFor D.Disk ⟦<FileFrom<T> as Disk>⟧ from.old from.new refusal.0)) }
 {

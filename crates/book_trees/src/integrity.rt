@@ -1,21 +1,24 @@
 //! Files of books are looked through, whatever they hold.
 
-ghost use Rattle.std.specs.Prelude.{◌≡◌, IfErr, IfOk, IfSome, IsTrue, MatchOption};
+ghost use Rattle.std.specs.Prelude.{◌≡◌, ◌≤◌, IfErr, IfOk, IfSome, IsTrue, MatchOption};
 ghost use Rattle.sqlite_store.specs.FileStore.{state, view, schema_of, IsReady};
+ghost use Rattle.sqlite_store.specs.FileStore.{files as files_of};
 ghost use Rattle.sqlite_store.specs.Unopened.{image, state_of, wanted_by, AreUsable};
 ghost use Rattle.sqlite_store.specs.Unopened.{IsFullFile, Opens};
 ghost use Rattle.sqlite_wal.specs.Files.{image_at};
 ghost use Rattle.sqlite_wal.specs.Reads.{AreClean};
 ghost use Rattle.sqlite_wal.specs.Recovery.{Image};
+ghost use Rattle.book_trees.specs.Forms.{HoldsThisForm};
 ghost use Rattle.book_trees.specs.LedgerFiles.{image_of, page_size, HoldsBooks, trees_held};
 ghost use Rattle.book_trees.specs.Looks.{look_fault_for, HasLookCause, IsLookRefusedFor};
-ghost use Rattle.book_trees.specs.Looks.{IsUnopenedLook};
+ghost use Rattle.book_trees.specs.Looks.{IsToldLook, IsUnopenedLook};
 ghost use Rattle.book_trees.specs.Refusals.{faults_in, AreFull, AreKept, IsAsFound, MayLeave};
 ghost use Rattle.book_trees.specs.Schema.{books_schema};
 ghost use Rattle.tree_tables.specs.Holds.{HasShapes};
 
-use crate::catalog::lists_books;
+use crate::catalog::{lists_books, unlisted_fault};
 use crate::faults::{OpenFault, fault_at, fault_of};
+use crate::forms::{says_newer, told};
 use crate::unopened::unopened;
 use sqlite_disk::{Disk, Files, Start};
 use sqlite_pager::Options;
@@ -58,6 +61,7 @@ fn look_through_all<D: Disk>(files: Unopened<D>) -> Result<FileStore<D>, (LookFa
         → IsTrue (state_of files).is_clean) }
     ensures found { IfOk result (λ store. IsTrue (state store).is_clean
         → (held : HoldsBooks (image files)) → (view store).trees ≡ trees_held held) }
+    ensures kept { IfOk result (λ store. IsTrue (state store).is_clean → Opens files (state store)) }
     ensures cause { IfErr result (λ refusal. IsTrue (state_of refusal.1).is_clean
         → HasLookCause (state_of files).faults (state_of refusal.1).faults (IsFullFile refusal.1)
         (HoldsBooks (image files)) refusal.0) }
@@ -70,11 +74,48 @@ fn look_through_all<D: Disk>(files: Unopened<D>) -> Result<FileStore<D>, (LookFa
         Err(error) => return Err((LookFault::Open(fault_of(error)), files)),
     };
     if !lists_books(listed.as_slice()) {
-        return Err((LookFault::Open(OpenFault::NotBooks), files));
+        return Err((LookFault::Open(unlisted_fault(listed.as_slice())), files));
     }
     match files.open() {
         Ok(store) => Ok(store),
         Err((error, files)) => Err((look_fault(error), files)),
+    }
+}
+
+/// Opens two files, and looks through all of their pages, whatever form they say that they have.
+fn look_known<D: Disk>(
+    alloc: Global,
+    files: Files<D>,
+    options: Options,
+) -> Result<FileStore<D>, (LookFault, Files<D>)>
+    requires log { IsTrue (D.Disk.is_usable files.log) }
+    requires db { IsTrue (D.Disk.is_usable files.db) }
+    ensures ready { IfOk result IsReady }
+    ensures schema { IfOk result (λ store. schema_of store ≡ books_schema) }
+    ensures trees { IfOk result (λ store. HasShapes (view store)) }
+    ensures size { IfOk result (λ store. IsTrue (state store).is_clean
+        → (state store).page_size ≡ page_size) }
+    ensures honest { IfOk result (λ store. IsTrue (state store).is_clean
+        → AreClean D.Disk files.log files.db) }
+    ensures found { IfOk result (λ store. IsTrue (state store).is_clean
+        → (held : HoldsBooks (image_of D.Disk files)) → (view store).trees ≡ trees_held held) }
+
+    // If they are closed at once, they are kept.
+    ensures closed { IfOk result (λ store. (last : Files D) → (last.log, last.db) ≡ files_of store
+        → AreClean D.Disk last.log last.db → AreKept D.Disk files last) }
+    ensures cause { IfErr result (λ refusal. AreClean D.Disk refusal.1.log refusal.1.db
+        → HasLookCause (faults_in D.Disk files) (faults_in D.Disk refusal.1)
+        (AreFull D.Disk refusal.1) (HoldsBooks (image_of D.Disk files)) refusal.0) }
+    ensures unharmed { IfErr result (λ refusal. AreClean D.Disk refusal.1.log refusal.1.db
+        → AreKept D.Disk files refusal.1) }
+{
+    let files = match unopened(alloc, files, options) {
+        Ok(files) => files,
+        Err(files) => return Err((LookFault::Open(OpenFault::Memory), files)),
+    };
+    match look_through_all(files) {
+        Ok(store) => Ok(store),
+        Err((fault, files)) => Err(told_look(fault, files.close())),
     }
 }
 
@@ -96,20 +137,37 @@ pub fn look_through<D: Disk>(
     ensures found { IfOk result (λ store. IsTrue (state store).is_clean
         → (held : HoldsBooks (image_of D.Disk files)) → (view store).trees ≡ trees_held held) }
 
-    // Files that hold books are not looked through only because of memory and the disk.
+    // Files that hold books of this form are not looked through only because of memory and the
+    // disk.
     ensures cause { IfErr result (λ refusal. AreClean D.Disk refusal.1.log refusal.1.db
         → HasLookCause (faults_in D.Disk files) (faults_in D.Disk refusal.1)
-        (AreFull D.Disk refusal.1) (HoldsBooks (image_of D.Disk files)) refusal.0) }
+        (AreFull D.Disk refusal.1) (HoldsThisForm (image_of D.Disk files)) refusal.0) }
     ensures unharmed { IfErr result (λ refusal. AreClean D.Disk refusal.1.log refusal.1.db
         → AreKept D.Disk files refusal.1) }
 {
-    let files = match unopened(alloc, files, options) {
-        Ok(files) => files,
-        Err(files) => return Err((LookFault::Open(OpenFault::Memory), files)),
+    let store = match look_known(alloc, files, options) {
+        Ok(store) => store,
+        Err(refusal) => return Err(refusal),
     };
-    match look_through_all(files) {
-        Ok(store) => Ok(store),
-        Err((fault, files)) => Err((fault, files.close())),
+    if says_newer(&store) {
+        return Err((LookFault::Open(OpenFault::NewForm), store.close()));
+    }
+    Ok(store)
+}
+
+/// Why files were not looked through, as they say themselves.
+fn told_look<D: Disk>(fault: LookFault, files: Files<D>) -> (LookFault, Files<D>)
+    ensures told { IsToldLook fault files result.0 result.1 }
+    ensures clean { AreClean D.Disk result.1.log result.1.db → AreClean D.Disk files.log files.db }
+    ensures counts { faults_in D.Disk files ≤ faults_in D.Disk result.1 }
+    ensures crash { (left : Image) → MayLeave D.Disk result.1 left → MayLeave D.Disk files left }
+{
+    match fault {
+        LookFault::Pages => (LookFault::Pages, files),
+        LookFault::Open(fault) => {
+            let (fault, files) = told(fault, files);
+            (LookFault::Open(fault), files)
+        }
     }
 }
 
@@ -129,7 +187,7 @@ pub fn look_through_at<S: Start>(
     // What a stop leaves of files that were not looked through is what they held, or stands for the
     // same.
     ensures cause { IfErr result (λ refusal. MatchOption refusal.1 (IsUnopenedLook refusal.0)
-        (IsLookRefusedFor ⟦<FileFrom<S> as Disk>⟧ (HoldsBooks (image_at S.Start))
+        (IsLookRefusedFor ⟦<FileFrom<S> as Disk>⟧ (HoldsThisForm (image_at S.Start))
         (AreFull ⟦<FileFrom<S> as Disk>⟧) refusal.0)) }
     ensures kept { IfErr result (λ refusal. IfSome refusal.1 (λ files. (left : Image)
         → MayLeave ⟦<FileFrom<S> as Disk>⟧ files left → IsAsFound (image_at S.Start) left)) }

@@ -6,6 +6,8 @@ mod catalog;
 mod closing;
 mod copying;
 mod faults;
+mod first_form;
+mod forms;
 mod integrity;
 mod ledger_files;
 mod new_books;
@@ -17,10 +19,13 @@ mod unopened;
 mod unused_logs;
 
 pub use closing::{
-    Closed, LogLeft, checkpoint_log, close_books, close_unchanged, is_short, needs_no_log,
+    Closed, LogLeft, checkpoint_log, close_books, close_first, close_unchanged, is_short,
+    needs_no_log,
 };
 pub use copying::{copy_files, copy_to, lock_at};
 pub use faults::OpenFault;
+pub use first_form::{FirstFault, add_details, open_first_at, open_first_files};
+pub use forms::commit_form;
 pub use integrity::{LookFault, look_through, look_through_at};
 pub use ledger_files::LeftByLedger;
 pub use new_books::{create_at, create_files, open_new_books};

@@ -2,7 +2,8 @@
 
 ghost use Rattle.std.specs.Prelude.{◌≡◌, map};
 ghost use Rattle.sqlite_store.specs.Catalog.{wanted_of};
-ghost use Rattle.book_trees.specs.Schema.{books_schema, index_object, table_object};
+ghost use Rattle.book_trees.specs.Schema.{books_schema, detail_table, first_schema, first_table};
+ghost use Rattle.book_trees.specs.Schema.{index_object, table_object};
 
 use sqlite_trees::schema::Object;
 use sqlite_trees::store::Shape;
@@ -36,17 +37,38 @@ fn index(name: &'static str, table: &'static str, sql: &'static str) -> Object<'
     }
 }
 
+/// The table of the book, which books of every form have.
+pub(crate) fn book_object() -> Object<'static>
+    ensures { wanted_of result ≡ first_table }
+{
+    table(
+        "book",
+        "CREATE TABLE book (id INT NOT NULL PRIMARY KEY, rule INT NOT NULL, \
+         adopted INT NOT NULL, held INT NOT NULL, amount INT NOT NULL) STRICT, \
+         WITHOUT ROWID",
+    )
+}
+
+/// The table of details, which books of the first form do not have.
+pub(crate) fn detail_object() -> Object<'static>
+    ensures { wanted_of result ≡ detail_table }
+{
+    table(
+        "detail",
+        "CREATE TABLE detail (day INT NOT NULL, centre TEXT NOT NULL, shift TEXT NOT NULL, \
+         time INT NOT NULL, name BLOB NOT NULL, job BLOB NOT NULL, program BLOB NOT NULL, \
+         job_id BLOB NOT NULL, step INT, cpu INT NOT NULL, blocks INT NOT NULL, \
+         amount INT NOT NULL, PRIMARY KEY (day, centre, shift, time, name)) STRICT, \
+         WITHOUT ROWID",
+    )
+}
+
 /// What a file of books lists. The tables are numbered in this order, from 0.
-pub fn books_objects() -> [Object<'static>; 10]
+pub fn books_objects() -> [Object<'static>; 11]
     ensures { map wanted_of result ≡ books_schema }
 {
     [
-        table(
-            "book",
-            "CREATE TABLE book (id INT NOT NULL PRIMARY KEY, rule INT NOT NULL, \
-             adopted INT NOT NULL, held INT NOT NULL, amount INT NOT NULL) STRICT, \
-             WITHOUT ROWID",
-        ),
+        book_object(),
         table(
             "tariff",
             "CREATE TABLE tariff (day INT NOT NULL PRIMARY KEY, body TEXT NOT NULL) STRICT, \
@@ -96,5 +118,17 @@ pub fn books_objects() -> [Object<'static>; 10]
             "choice",
             "CREATE INDEX choice_name ON choice (name)",
         ),
+        detail_object(),
     ]
+}
+
+/// How many of them books of the first form have.
+const FIRST_TABLES: usize = 10;
+
+/// What a file of books of the first form lists, of what one of this form does: all but the details.
+pub(crate) fn first_objects<'a>(objects: &'a [Object<'static>]) -> &'a [Object<'static>]
+    requires { map wanted_of objects.now ≡ books_schema }
+    ensures { map wanted_of result.now ≡ first_schema }
+{
+    &objects[..FIRST_TABLES]
 }

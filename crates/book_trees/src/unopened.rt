@@ -1,15 +1,17 @@
 //! Two files that are to hold books, before anything is known of them.
 
-ghost use Rattle.std.specs.Prelude.{◌≡◌, IfOk, IfErr};
+ghost use Rattle.std.specs.Prelude.{◌≡◌, IfOk, IfErr, map};
+ghost use Rattle.sqlite_store.specs.Catalog.{wanted_of};
 ghost use Rattle.sqlite_store.specs.Unopened.{files_of, state_of, wanted_by};
 ghost use Rattle.sqlite_wal.specs.PageSize.{bytes_of};
 ghost use Rattle.book_trees.specs.LedgerFiles.{page_size};
-ghost use Rattle.book_trees.specs.Schema.{books_schema};
+ghost use Rattle.book_trees.specs.Schema.{books_schema, first_schema};
 
-use crate::schema::books_objects;
+use crate::schema::{books_objects, first_objects};
 use sqlite_disk::{Disk, Files};
 use sqlite_pager::{Options, Pager};
 use sqlite_store::Unopened;
+use sqlite_trees::schema::Object;
 use sqlite_wal::PageSize;
 use std::alloc::Global;
 
@@ -23,7 +25,29 @@ pub(crate) fn size_of_a_page() -> PageSize
     }
 }
 
-/// The two with the schema of books. If memory runs out they are given back.
+/// The two with a schema. If memory runs out they are given back.
+fn unopened_as<D: Disk>(
+    alloc: Global,
+    files: Files<D>,
+    options: Options,
+    objects: &[Object<'_>],
+) -> Result<Unopened<D>, Files<D>>
+    ensures files { IfOk result (λ it. files_of it ≡ (files.log, files.db)) }
+    ensures size { IfOk result (λ it. (state_of it).page_size ≡ page_size) }
+    ensures schema { IfOk result (λ it. wanted_by it ≡ map wanted_of objects.now) }
+    ensures back { IfErr result (λ back. back ≡ files) }
+{
+    let pager = match Pager::new(alloc, files, size_of_a_page(), options) {
+        Ok(pager) => pager,
+        Err(failed) => return Err(failed.value),
+    };
+    match Unopened::new(alloc, pager, objects) {
+        Ok(files) => Ok(files),
+        Err(failed) => Err(failed.value.close()),
+    }
+}
+
+/// The two with the schema of books.
 pub(crate) fn unopened<D: Disk>(
     alloc: Global,
     files: Files<D>,
@@ -34,13 +58,19 @@ pub(crate) fn unopened<D: Disk>(
     ensures schema { IfOk result (λ it. wanted_by it ≡ books_schema) }
     ensures back { IfErr result (λ back. back ≡ files) }
 {
-    let pager = match Pager::new(alloc, files, size_of_a_page(), options) {
-        Ok(pager) => pager,
-        Err(failed) => return Err(failed.value),
-    };
-    let objects = books_objects();
-    match Unopened::new(alloc, pager, &objects) {
-        Ok(files) => Ok(files),
-        Err(failed) => Err(failed.value.close()),
-    }
+    unopened_as(alloc, files, options, &books_objects())
+}
+
+/// The two with the schema of books of the first form.
+pub(crate) fn unopened_first<D: Disk>(
+    alloc: Global,
+    files: Files<D>,
+    options: Options,
+) -> Result<Unopened<D>, Files<D>>
+    ensures files { IfOk result (λ it. files_of it ≡ (files.log, files.db)) }
+    ensures size { IfOk result (λ it. (state_of it).page_size ≡ page_size) }
+    ensures schema { IfOk result (λ it. wanted_by it ≡ first_schema) }
+    ensures back { IfErr result (λ back. back ≡ files) }
+{
+    unopened_as(alloc, files, options, first_objects(&books_objects()))
 }

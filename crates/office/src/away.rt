@@ -4,7 +4,8 @@
 ghost use Rattle.office.specs.Away.{away};
 
 use book_core::{
-    Accepted, ChargeRow, Dispute, Ledger, LedgerFault, Line, ListedRuling, Ruled, Tariff, Trail,
+    Accepted, ChargeRow, Detail, Dispute, Ledger, LedgerFault, Line, ListedRuling, Name, Ruled,
+    Tariff, Trail,
 };
 use std::alloc::Global;
 
@@ -53,6 +54,15 @@ impl Ledger for AwayBooks {
     }
 
     fn adjustments(&mut self, _period: u16) -> Result<Vec<Line>, LedgerFault> {
+        Err(LedgerFault::Reopen)
+    }
+
+    fn next_detail(
+        &mut self,
+        _period: u16,
+        _centre: Option<Name>,
+        _after: Option<Detail>,
+    ) -> Result<Option<Detail>, LedgerFault> {
         Err(LedgerFault::Reopen)
     }
 

@@ -55,10 +55,19 @@ pub enum RepositoryFault {
     Unseen,
 }
 
+/// What came of books that were to be brought to the form that this program keeps.
+#[derive(Clone, Copy, Debug, PartialEq, Eq)]
+pub enum Upgraded {
+    /// They are of this form now.
+    To(u32),
+    /// They were so already.
+    Already,
+}
+
 /// Where books are kept by their names.
 pub trait Repository {
     ghost use Rattle.std.specs.Prelude.{◌≡◌};
-    ghost use Rattle.office.specs.Shelves.{Shelf, ComesBy, IsMade, IsOpened, IsTried};
+    ghost use Rattle.office.specs.Shelves.{Shelf, ComesBy, IsMade, IsOpened, IsTried, IsUntouched};
 
     /// What is known of them.
     ghost shelf: { Self → Shelf };
@@ -86,4 +95,9 @@ pub trait Repository {
         ensures log { (shelf self.new).has_log book.now result.has_log }
         ensures came { ComesBy (V.Visit.comes visit.old visit.new) (visit.new ≡ visit.old)
             result.answer };
+
+    /// Brings the books of a name to the form that this program keeps: they hold the same history.
+    fn upgrade(&mut self, book: &str) -> Opened<Upgraded>
+        ensures same { IsUntouched book.now (shelf self.old) (shelf self.new) }
+        ensures log { (shelf self.new).has_log book.now result.has_log };
 }

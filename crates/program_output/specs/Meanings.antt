@@ -126,7 +126,7 @@ ledger_texts =
     -- 12 NoSuchRecord
     (
       codes "No record of that name is held.",
-      codes "Take the name from the list of disputes, or from that of adjustments.",
+      codes "Take the name from details, or from the list of disputes or adjustments.",
     ) ∷
     -- 13 NotDisputed
     (
@@ -149,15 +149,16 @@ ledger_texts =
       codes "Look for BOOK-wal first: one of other books may lie beside BOOK, or its own where "
           ++ codes "BOOK was copied from. Else name another file, or make new books with init.",
     ) ∷
-    -- 17 is kept for files of an older form: no fault has it
+    -- 17 OldForm
     (
-      codes "The file has an older form.",
-      codes "There is nothing to do.",
+      codes "The books are of an older form: upgrade brings them over.",
+      codes "Copy them first, with BOOK-wal if it is there; then run upgrade BOOK. What they hold "
+          ++ codes "stays as it is, and a stop leaves the old books or the new ones.",
     ) ∷
-    -- 18 is kept for files of a newer form: no fault has it
+    -- 18 NewForm
     (
-      codes "The file has a newer form.",
-      codes "There is nothing to do.",
+      codes "The books are of a newer form than this program reads.",
+      codes "Use the program that they were written with, or a later one.",
     ) ∷
     -- 19 NoSuchTariff
     (

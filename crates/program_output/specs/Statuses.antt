@@ -26,6 +26,8 @@ ledger_status ledger.Memory = Memory
 ledger_status ledger.Store = Store
 ledger_status ledger.Reopen = Store
 ledger_status ledger.NotBooks = Store
+ledger_status ledger.OldForm = Store
+ledger_status ledger.NewForm = Store
 ledger_status fault = Refused
 
 -- a report that was not written whole

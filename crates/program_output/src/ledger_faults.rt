@@ -30,6 +30,8 @@ fn of_number(number: u16) -> Option<LedgerFault>
         14 => Some(LedgerFault::OldRule),
         15 => Some(LedgerFault::TariffRefused(TariffFault::Syntax)),
         16 => Some(LedgerFault::NotBooks),
+        17 => Some(LedgerFault::OldForm),
+        18 => Some(LedgerFault::NewForm),
         19 => Some(LedgerFault::NoSuchTariff),
         _ => None,
     }
@@ -95,7 +97,7 @@ fn explanation_of(fault: LedgerFault) -> Explanation
         },
         LedgerFault::NoSuchRecord => Explanation {
             meaning: "No record of that name is held.",
-            advice: "Take the name from the list of disputes, or from that of adjustments.",
+            advice: "Take the name from details, or from the list of disputes or adjustments.",
         },
         LedgerFault::NotDisputed => Explanation {
             meaning: "No held record contradicts that one: it is charged already.",
@@ -113,6 +115,15 @@ fn explanation_of(fault: LedgerFault) -> Explanation
             meaning: "The file holds no books.",
             advice: "Look for BOOK-wal first: one of other books may lie beside BOOK, or its own \
                  where BOOK was copied from. Else name another file, or make new books with init.",
+        },
+        LedgerFault::OldForm => Explanation {
+            meaning: "The books are of an older form: upgrade brings them over.",
+            advice: "Copy them first, with BOOK-wal if it is there; then run upgrade BOOK. What they \
+                 hold stays as it is, and a stop leaves the old books or the new ones.",
+        },
+        LedgerFault::NewForm => Explanation {
+            meaning: "The books are of a newer form than this program reads.",
+            advice: "Use the program that they were written with, or a later one.",
         },
         LedgerFault::NoSuchTariff => Explanation {
             meaning: "No tariff begins on that day.",

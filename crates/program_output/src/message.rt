@@ -29,6 +29,7 @@ fn ledger_status(fault: LedgerFault) -> Status
     match fault {
         LedgerFault::Memory => Status::Memory,
         LedgerFault::Store | LedgerFault::Reopen | LedgerFault::NotBooks => Status::Store,
+        LedgerFault::OldForm | LedgerFault::NewForm => Status::Store,
         _ => Status::Refused,
     }
 }

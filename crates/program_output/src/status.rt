@@ -13,8 +13,8 @@ pub enum Status {
     Usage,
     /// The input was refused.
     Refused,
-    /// The store of the books failed or is in use, an audit found them unsound, or a change of them
-    /// is in two files.
+    /// The store of the books failed or is in use, they are of another form, an audit found them
+    /// unsound, or a change of them is in two files.
     Store,
     /// There was no memory.
     Memory,

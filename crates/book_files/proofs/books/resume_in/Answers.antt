@@ -137,9 +137,10 @@ returns-in-Err-clause-left g c = λ empty clean trees left.
     let first = was_clean looked.ensures.looks.survives clean in
     inl (
       first,
-      looked_leaves (state g.S.Store c.args.store) (state g.S.Store looked.result.1)
+      λ tree low. ap (λ (trees : Trees). trees tree)
+          (looked_leaves (state g.S.Store c.args.store) (state g.S.Store looked.result.1)
           (λ (trees : Trees). g.met.S.Store.settled c.args.store trees) looked.ensures.looks.survives
-          (empty first).rest clean trees left,
+          (empty first).rest clean trees left),
     )
 
 pub returns-in-Err-clause-cause : goal.returns-in-Err-clause-cause

@@ -5,7 +5,7 @@ use Rattle.sqlite_std_file.specs.contracts.host.Host.{the_row}
 use Rattle.sqlite_std_file.specs.contracts.host.HostCalls.TheImpl as host
 use Rattle.sqlite_wal.specs.Files.{image_at}
 use Rattle.book_restarts.specs.FileBooks.{file_names}
-use Rattle.book_trees.specs.LedgerFiles.{HoldsBooks}
+use Rattle.book_trees.specs.Forms.{HoldsThisForm}
 use Rattle.book_trees.specs.Refusals.{AreFull}
 use Rattle.book_files.specs.Faults.{HasFaultCause, HasNoAnswerFor}
 use Rattle.book_files.specs.declared.session.Ended.TheVariants.{Refused}
@@ -34,7 +34,7 @@ returns-in-Err-clause-cause g c =
     let disk = modelled.ghosts the_row g.row.S host.ghosts host.dict g.S.Start g.S.Start-dict
     g.S.Destruct-dict in
     subst (λ result. IfErr result (λ fault. HasNoAnswerFor disk (AreFull disk)
-    (HasFaultCause (¬ HoldsBooks (image_at g.S.Start)) ⊥) (λ _ _. ⊤) fault (Refused c.in-Err.files)))
+    (HasFaultCause (¬ HoldsThisForm (image_at g.S.Start)) ⊥) (λ _ _. ⊤) fault (Refused c.in-Err.files)))
     (sym c.not_looked_through.ensures)
-    (look_cause disk (HoldsBooks (image_at g.S.Start)) (AreFull disk) (λ _ _. ⊤) c.in-Err.fault
+    (look_cause disk (HoldsThisForm (image_at g.S.Start)) (AreFull disk) (λ _ _. ⊤) c.in-Err.fault
     c.in-Err.files c.in-Err.ensures.cause)

@@ -8,6 +8,7 @@ use Rattle.sqlite_trees.proofs.Doubt.{clean_of}
 use Rattle.sqlite_wal.specs.Files.{image_at}
 use Rattle.book_model.specs.Words.{book_after}
 use Rattle.book_restarts.specs.FileBooks.{file_names}
+use Rattle.book_trees.specs.Forms.{HoldsThisForm}
 use Rattle.book_trees.specs.LedgerFiles.{HoldsBooks, trees_held}
 use Rattle.book_trees.specs.Refusals.{AreFull}
 use Rattle.table_model.specs.TablesOf.{tables_of}
@@ -73,9 +74,9 @@ returns-in-Err-clause-cause g c =
     let disk = modelled.ghosts the_row g.row.S host.ghosts host.dict g.S.Start g.S.Start-dict
     g.S.Destruct-dict in
     subst (λ fault. HasNoAnswerFor disk (AreFull disk)
-    (HasFaultCause ⊥ (¬ HoldsBooks (image_at g.S.Start)))
+    (HasFaultCause ⊥ (¬ HoldsThisForm (image_at g.S.Start)))
     (λ Failed. HasFaultCause ⊥
     ((held : HoldsBooks (image_at g.S.Start)) → has_book (trees_held held) ≡ true) ⊤) fault (Refused c.in-Err.files)) (sym c.unresumed.ensures)
-    (unresumed_cause disk (HoldsBooks (image_at g.S.Start)) (AreFull disk)
+    (unresumed_cause disk (HoldsThisForm (image_at g.S.Start)) (AreFull disk)
     (λ Failed. HasFaultCause ⊥
     ((held : HoldsBooks (image_at g.S.Start)) → has_book (trees_held held) ≡ true) ⊤) c.in-Err.fault c.in-Err.files c.in-Err.ensures.cause)

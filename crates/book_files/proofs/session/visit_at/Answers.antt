@@ -5,6 +5,7 @@ use Rattle.sqlite_std_file.specs.contracts.host.HostCalls.TheImpl as host
 use Rattle.sqlite_trees.proofs.Doubt.{clean_of}
 use Rattle.sqlite_wal.specs.Files.{image_at}
 use Rattle.book_restarts.specs.FileBooks.{done_by, file_names}
+use Rattle.book_trees.specs.Forms.{HoldsThisForm}
 use Rattle.book_trees.specs.LedgerFiles.{HoldsBooks, trees_held}
 use Rattle.book_trees.specs.Refusals.{AreFull}
 use Rattle.tree_tables.specs.Holds.{has_book}
@@ -71,12 +72,12 @@ returns-in-Err-clause-cause g c =
     let disk = modelled.ghosts the_row g.row.S host.ghosts host.dict g.S.Start g.S.Start-dict
     g.S.Destruct-dict in
     subst (λ fault. HasNoAnswerFor disk (AreFull disk)
-    (HasFaultCause (¬ HoldsBooks (image_at g.S.Start)) ⊥)
+    (HasFaultCause (¬ HoldsThisForm (image_at g.S.Start)) ⊥)
     (λ Failed. HasFaultCause
     ((held : HoldsBooks (image_at g.S.Start)) → has_book (trees_held held) ≡ false) ⊥
     (HoldsOurs file_names (image_at g.S.Start) → Failed)) fault (Refused c.in-Err.files))
     (sym c.refused.ensures)
-    (refused_cause disk (HoldsBooks (image_at g.S.Start)) (AreFull disk)
+    (refused_cause disk (HoldsThisForm (image_at g.S.Start)) (AreFull disk)
     (λ Failed. HasFaultCause
     ((held : HoldsBooks (image_at g.S.Start)) → has_book (trees_held held) ≡ false) ⊥
     (HoldsOurs file_names (image_at g.S.Start) → Failed)) c.in-Err.fault c.in-Err.files

@@ -1,15 +1,9 @@
-use Rattle.std.proofs.Common.{List, ap, ap₂, ◌&&◌, ◌∙◌}
-use Rattle.std.specs.List.{list_any}
-use Rattle.sqlite_store.specs.Catalog.{wanted_of}
+use Rattle.std.proofs.Common.{List, ap, ◌∙◌}
 use Rattle.sqlite_store.specs.declared.catalog.Wanted.{Wanted}
-use Rattle.book_trees.specs.Listing.{lists, lists_exactly}
-use Rattle.book_trees.proofs.ListingLemmas.{all_mapped}
+use Rattle.book_trees.specs.Listing.{lists_exactly}
 use Rattle.book_trees.proofs.catalog.lists_books.Goals as goal
 
 pub returns : goal.returns
 returns c =
-    let rows = c.args.rows.now in
-    ap₂ (λ a b. a && b)
-    (c.are_listed-all.ensures ∙ all_mapped (λ wanted. list_any (lists wanted) rows) wanted_of _)
-    c.may_all_be_listed-only.ensures
-    ∙ ap (λ (schema : List Wanted). lists_exactly schema rows) c.books_objects-objects.ensures
+    c.lists_exactly.ensures
+    ∙ ap (λ (schema : List Wanted). lists_exactly schema c.args.rows.now) c.books_objects.ensures

@@ -1,34 +1,11 @@
-use Rattle.book_trees.proofs.ClosedFiles.{files_failed, found_whole, log_leaves, store_clean}
+use Rattle.std.proofs.Common.{List, subst}
+use Rattle.sqlite_store.specs.FileStore.{recovers}
+use Rattle.sqlite_store.specs.declared.catalog.Wanted.{Wanted}
+use Rattle.book_trees.specs.LedgerFiles.{HoldsTables, trees_held}
 use Rattle.book_trees.proofs.closing.close_books.Goals as goal
 
-pub returns-clause-honest : goal.returns-clause-honest
-returns-clause-honest g c =
-    store_clean c.args.store c.checkpoint_log-moved.new.store
-    c.close_unchanged-closed.result.files c.log_left-closed.new.log g.met.D.Disk.seen_may_stay
-    c.checkpoint_log-moved.ensures.outcomes c.checkpoint_log-moved.ensures.clean
-    c.close_unchanged-closed.ensures.files c.log_left-closed.ensures.clean c.log_left-closed.ensures.crash
-
-pub returns-clause-log : goal.returns-clause-log
-returns-clause-log g c =
-    log_leaves c.args.store c.checkpoint_log-moved.new.store
-    c.close_unchanged-closed.result.files c.log_left-closed.new.log g.met.D.Disk.seen_may_stay
-    c.checkpoint_log-moved.ensures.outcomes c.checkpoint_log-moved.ensures.clean
-    c.close_unchanged-closed.ensures.files c.log_left-closed.ensures.clean c.log_left-closed.ensures.crash
-    c.checkpoint_log-moved.result c.checkpoint_log-moved.ensures.moved
-    c.checkpoint_log-moved.ensures.cause c.log_left-closed.result c.log_left-closed.ensures.short
-    c.log_left-closed.ensures.emptied c.log_left-closed.ensures.kept c.log_left-closed.ensures.tried
-
 pub returns-clause-left : goal.returns-clause-left
-returns-clause-left g c kept =
-    found_whole c.args.store c.checkpoint_log-moved.new.store
-    c.close_unchanged-closed.result.files c.log_left-closed.new.log g.met.D.Disk.seen_may_stay
-    c.checkpoint_log-moved.ensures.outcomes c.checkpoint_log-moved.ensures.clean
-    c.close_unchanged-closed.ensures.files c.log_left-closed.ensures.clean c.log_left-closed.ensures.crash
-    (c.close_unchanged-closed.ensures.kept kept)
-
-pub returns-clause-counts : goal.returns-clause-counts
-returns-clause-counts g c =
-    files_failed c.args.store c.checkpoint_log-moved.new.store
-    c.close_unchanged-closed.result.files c.log_left-closed.new.log
-    c.close_unchanged-closed.ensures.files c.checkpoint_log-moved.ensures.counts
-    c.log_left-closed.ensures.counts
+returns-clause-left g c kept image found =
+    subst (λ (wanted : List Wanted). ∥ ((held : HoldsTables wanted image)
+    × recovers c.args.store (trees_held held)) ∥₁) c.books_objects.ensures
+    (c.close_moved.ensures.left kept image found)

@@ -1,15 +1,11 @@
-use Rattle.std.proofs.Common.{arith}
-use Rattle.book_trees.proofs.ClosedFiles.{found_whole, store_clean}
+use Rattle.std.proofs.Common.{List, subst}
+use Rattle.sqlite_store.specs.FileStore.{recovers}
+use Rattle.sqlite_store.specs.declared.catalog.Wanted.{Wanted}
+use Rattle.book_trees.specs.LedgerFiles.{HoldsTables, trees_held}
 use Rattle.book_trees.proofs.closing.close_unchanged.Goals as goal
 
-pub returns-clause-honest : goal.returns-clause-honest
-returns-clause-honest g c =
-    store_clean c.args.store c.args.store c.close-files.result c.close-files.result.log
-    g.met.D.Disk.seen_may_stay (λ trees left. left) (omega arith) c.close-files.ensures
-    (λ clean. clean) (λ bytes may. may)
-
 pub returns-clause-left : goal.returns-clause-left
-returns-clause-left g c kept =
-    found_whole c.args.store c.args.store c.close-files.result c.close-files.result.log
-    g.met.D.Disk.seen_may_stay (λ trees left. left) (omega arith) c.close-files.ensures
-    (λ clean. clean) (λ bytes may. may) (c.is_seen-is_kept.ensures kept)
+returns-clause-left g c kept image found =
+    subst (λ (wanted : List Wanted). ∥ ((held : HoldsTables wanted image)
+    × recovers c.args.store (trees_held held)) ∥₁) c.books_objects.ensures
+    (c.close_over.ensures.left kept image found)

@@ -7,6 +7,7 @@ use Rattle.sqlite_store.specs.FileStore.{view}
 use Rattle.sqlite_wal.specs.Recovery.{Image}
 use Rattle.book_trees.proofs.CopyLemmas.{copied_image, stops_since}
 use Rattle.book_trees.proofs.LookCauses.{copy_cause, look_cause_for}
+use Rattle.book_trees.specs.Forms.{HoldsThisForm}
 use Rattle.book_trees.specs.LedgerFiles.{image_of, HoldsBooks, trees_held}
 use Rattle.book_trees.specs.Looks.{HasLookCause}
 use Rattle.book_trees.specs.Refusals.{faults_in, AreFull}
@@ -29,7 +30,7 @@ returns-in-Err-copy_files-clause-cause g c = λ honest clean.
     let first = faults_in g.D.Disk c.args.from.now in
     let last = faults_in g.D.Disk c.copy_files.new.from in
     let copy = c.copy_files.new.to in
-    let Held = HoldsBooks (image_of g.D.Disk c.args.from.now) in
+    let Held = HoldsThisForm (image_of g.D.Disk c.args.from.now) in
     subst (λ (fault : OpenFault). HasLookCause first (last + faults_in disk copy) (AreFull disk copy)
     Held (Open fault)) (sym c.copy_fault.ensures)
     (copy_cause first (last + faults_in disk copy) (AreFull disk copy) Held
@@ -49,6 +50,6 @@ returns-in-Err-look_through-clause-cause g c = λ honest clean.
     c.in-Ok-copy_files.ensures.copied honest in
     look_cause_for (faults_in disk copy) (faults_in disk files) (faults_in g.D.Disk first)
     (faults_in g.D.Disk last + faults_in disk files) (AreFull disk files)
-    (HoldsBooks (image_of disk copy)) (HoldsBooks (image_of g.D.Disk first))
-    (λ more. omega (arith, more, c.copy_files.ensures.counts)) (subst HoldsBooks (sym same))
+    (HoldsThisForm (image_of disk copy)) (HoldsThisForm (image_of g.D.Disk first))
+    (λ more. omega (arith, more, c.copy_files.ensures.counts)) (subst HoldsThisForm (sym same))
     c.in-Err-look_through.fault (c.in-Err-look_through.ensures.cause clean)

@@ -4,7 +4,7 @@ use Rattle.sqlite_store.specs.Unopened.{state_of, image, HasFile, HasSomeFile, I
 use Rattle.book_trees.proofs.LookCauses.{look_cause_of, look_since}
 use Rattle.book_trees.proofs.Opened.{committed_is, held_file, held_listed, opens_twice}
 use Rattle.book_trees.proofs.Opened.{shows_tables, some_file}
-use Rattle.book_trees.proofs.Refused.{cause_of}
+use Rattle.book_trees.proofs.Refused.{cause_of, unlisted_cause}
 use Rattle.book_trees.proofs.Trees.{has_trees}
 use Rattle.book_trees.specs.LedgerFiles.{page_size, HoldsBooks}
 use Rattle.book_trees.specs.Listing.{lists_books}
@@ -25,14 +25,21 @@ returns-in-Err-clause-cause g c clean =
     (c.in-Err.ensures.cause clean))
 
 pub returns-then-not-lists_books-clause-cause : goal.returns-then-not-lists_books-clause-cause
-returns-then-not-lists_books-clause-cause g c clean held =
-    let listed = held_listed c.args.files c.read_catalog.new.self c.in-Ok.listed.items
-    (c.in-Ok.ensures.ok clean) c.requires.size held in
+returns-then-not-lists_books-clause-cause g c clean =
+    let old = c.args.files in
+    let mid = c.read_catalog.new.self in
+    let none : HoldsBooks (image old) → ⊥ = λ held.
+    let listed = held_listed old mid c.in-Ok.listed.items (c.in-Ok.ensures.ok clean) c.requires.size
+    held in
     let not_listed = c.if-not-lists_books.true in
     let tested = c.lists_books.ensures in
     let same : lists_books c.in-Ok.listed.items ≡ lists_books c.as_slice.result.now =
     ap lists_books (sym c.as_slice.ensures.value) in
-    absurd (cc)
+    absurd (cc) in
+    subst (λ (fault : OpenFault). HasCause (state_of old).faults (state_of mid).faults
+    (IsFullFile mid) (HoldsBooks (image old)) fault) (sym c.unlisted_fault.ensures)
+    (unlisted_cause (state_of old).faults (state_of mid).faults (IsFullFile mid)
+    (HoldsBooks (image old)) none _)
 
 pub returns-in-Ok-open-clause-trees : goal.returns-in-Ok-open-clause-trees
 returns-in-Ok-open-clause-trees g c =
@@ -87,3 +94,10 @@ returns-in-Ok-open-clause-found g c clean held =
     ((opened.kept clean).size ∙ size) clean held.pages
     (committed_is c.args.files mid c.in-Ok.listed.items (c.in-Ok.ensures.ok then)
     c.requires.size held (state store).committed size (opened.found clean))
+
+pub returns-in-Ok-open-clause-kept : goal.returns-in-Ok-open-clause-kept
+returns-in-Ok-open-clause-kept g c clean =
+    let then = c.in-Ok-open.ensures.honest clean in
+    opens_twice c.args.files c.read_catalog.new.self c.in-Ok.listed.items
+    (c.in-Ok.ensures.ok then) c.requires.size (state c.in-Ok-open.store)
+    (c.read_catalog.ensures.kept then) (c.in-Ok-open.ensures.kept clean)

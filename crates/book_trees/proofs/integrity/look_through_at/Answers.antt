@@ -6,6 +6,7 @@ use Rattle.sqlite_std_file.specs.contracts.host.Host.{the_row}
 use Rattle.sqlite_std_file.specs.contracts.host.HostCalls.TheImpl as host
 use Rattle.sqlite_wal.specs.Recovery.{Image}
 use Rattle.book_trees.proofs.FreshFiles.{fresh_faults, fresh_image, fresh_images}
+use Rattle.book_trees.specs.Forms.{HoldsThisForm}
 use Rattle.book_trees.specs.LedgerFiles.{image_of, page_size, HoldsBooks, trees_held}
 use Rattle.book_trees.specs.Looks.{HasLookCause}
 use Rattle.book_trees.specs.Refusals.{faults_in, AreFull}
@@ -37,8 +38,8 @@ returns-in-Err-look_through-clause-cause g c clean =
     let last = c.in-Err-look_through.files in
     let fault = c.in-Err-look_through.fault in
     subst (λ (found : Image). HasLookCause 0 (faults_in disk last) (AreFull disk last)
-    (HoldsBooks found) fault) (fresh_image g.S.Start.log g.S.Start.db fresh.0 fresh.1)
+    (HoldsThisForm found) fault) (fresh_image g.S.Start.log g.S.Start.db fresh.0 fresh.1)
     (subst (λ (count : ℕ). HasLookCause count (faults_in disk last) (AreFull disk last)
-    (HoldsBooks (image_of disk c.in-Ok.files)) fault)
+    (HoldsThisForm (image_of disk c.in-Ok.files)) fault)
     (fresh_faults g.S.Start.log g.S.Start.db fresh.0 fresh.1)
     (c.in-Err-look_through.ensures.cause clean))

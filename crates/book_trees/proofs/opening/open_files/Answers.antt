@@ -1,69 +1,30 @@
-use Rattle.std.proofs.Common.{◌≡◌, sym, subst, ◌∙◌}
-use Rattle.sqlite_store.specs.FileStore.{view}
-use Rattle.sqlite_store.specs.Unopened.{image, IsFullFile}
-use Rattle.sqlite_wal.specs.Recovery.{Image}
-use Rattle.book_trees.proofs.FileParts.{end_honest, file_cause, files_kept, first_honest}
-use Rattle.book_trees.proofs.FileParts.{first_image}
-use Rattle.book_trees.specs.LedgerFiles.{image_of, trees_held, AreLeft, HoldsBooks}
-use Rattle.book_trees.specs.Refusals.{AreFull}
-use Rattle.book_trees.specs.StoreView.{ShowsBooks}
+use Rattle.sqlite_trees.proofs.Doubt.{no_doubt}
+use Rattle.book_trees.proofs.FileParts.{store_honest}
+use Rattle.book_trees.proofs.FormNumbers.{newer_is_other}
+use Rattle.book_trees.proofs.Refused.{cause_for}
+use Rattle.book_trees.specs.Forms.{HoldsThisForm}
+use Rattle.book_trees.specs.LedgerFiles.{image_of, HoldsBooks}
+use Rattle.book_trees.specs.Refusals.{faults_in, AreFull}
 use Rattle.book_trees.proofs.opening.open_files.Goals as goal
 
-pub open_left-requires-clause-left : goal.open_left-requires-clause-left
-open_left-requires-clause-left g c clean =
-    let given = c.in-Ok.ensures.files in
-    let old = c.in-Ok.files in
-    let same : image old ≡ image_of g.D.Disk c.args.files =
-    first_image old old c.args.files c.args.files given (sym given) in
-    subst AreLeft (sym same) (c.requires.left
-    (first_honest old old c.args.files c.args.files given (sym given) clean))
+-- files that hold books of this form do not say that they are of a newer one
+pub returns-then-says_newer-clause-cause : goal.returns-then-says_newer-clause-cause
+returns-then-says_newer-clause-cause g c clean this =
+    let store = c.in-Ok.store in
+    let honest = store_honest store c.close.result c.close.ensures clean in
+    let sure = no_doubt _ honest in
+    newer_is_other store (image_of g.D.Disk c.args.files) (c.in-Ok.ensures.found honest)
+    (c.says_newer.ensures.newer c.if-says_newer.true sure (c.in-Ok.ensures.ready.is_open sure))
+    this.held this.form
 
-pub returns-in-Ok-open_left-clause-honest : goal.returns-in-Ok-open_left-clause-honest
-returns-in-Ok-open_left-clause-honest g c clean =
-    let given = c.in-Ok.ensures.files in
-    first_honest c.in-Ok.files c.in-Ok.files c.args.files c.args.files given (sym given)
-    (c.in-Ok-open_left.ensures.honest clean)
+pub returns-then-says_newer-clause-unharmed : goal.returns-then-says_newer-clause-unharmed
+returns-then-says_newer-clause-unharmed g c clean =
+    c.in-Ok.ensures.closed c.close.result c.close.ensures clean
 
-pub returns-in-Ok-open_left-clause-size : goal.returns-in-Ok-open_left-clause-size
-returns-in-Ok-open_left-clause-size g c clean =
-    (c.in-Ok-open_left.ensures.kept clean).size ∙ c.in-Ok.ensures.size
-
-pub returns-in-Ok-open_left-clause-found : goal.returns-in-Ok-open_left-clause-found
-returns-in-Ok-open_left-clause-found g c clean =
-    let given = c.in-Ok.ensures.files in
-    let old = c.in-Ok.files in
-    subst (λ (i : Image). (held : HoldsBooks i) → (view c.in-Ok-open_left.store).trees
-    ≡ trees_held held) (first_image old old c.args.files c.args.files given (sym given))
-    (c.in-Ok-open_left.ensures.found clean)
-
-pub returns-in-Ok-open_left-clause-read : goal.returns-in-Ok-open_left-clause-read
-returns-in-Ok-open_left-clause-read g c clean =
-    let given = c.in-Ok.ensures.files in
-    let old = c.in-Ok.files in
-    subst (λ (i : Image). ShowsBooks i c.in-Ok-open_left.store)
-    (first_image old old c.args.files c.args.files given (sym given))
-    (c.in-Ok-open_left.ensures.read clean)
-
-pub returns-in-Err-open_left-clause-cause : goal.returns-in-Err-open_left-clause-cause
-returns-in-Err-open_left-clause-cause g c clean =
-    let old = c.in-Ok.files in
-    let end = c.in-Err-open_left.files in
-    let given = c.in-Ok.ensures.files in
-    let back = c.close.ensures in
-    let same = first_image old end c.args.files c.close.result given back in
-    file_cause old end c.args.files c.close.result given back (IsFullFile end)
-    (AreFull g.D.Disk c.close.result) (HoldsBooks (image old))
-    (HoldsBooks (image_of g.D.Disk c.args.files)) (λ full. ∣ (end, back, full) ∣₁)
-    (subst HoldsBooks (sym same)) c.in-Err-open_left.fault
-    (c.in-Err-open_left.ensures.cause
-    (end_honest old end c.args.files c.close.result given back clean))
-
-pub returns-in-Err-open_left-clause-unharmed : goal.returns-in-Err-open_left-clause-unharmed
-returns-in-Err-open_left-clause-unharmed g c clean =
-    let old = c.in-Ok.files in
-    let end = c.in-Err-open_left.files in
-    let given = c.in-Ok.ensures.files in
-    let back = c.close.ensures in
-    files_kept old end c.args.files c.close.result given back c.in-Ok.ensures.size
-    (c.in-Err-open_left.ensures.unharmed
-    (end_honest old end c.args.files c.close.result given back clean))
+pub returns-in-Err-clause-cause : goal.returns-in-Err-clause-cause
+returns-in-Err-clause-cause g c clean =
+    let last = c.in-Err.refusal.1 in
+    let found = image_of g.D.Disk c.args.files in
+    cause_for (faults_in g.D.Disk c.args.files) (faults_in g.D.Disk last) (AreFull g.D.Disk last)
+    (AreFull g.D.Disk last) (HoldsBooks found) (HoldsThisForm found) (λ full. full)
+    (λ this. this.held) c.in-Err.refusal.0 (c.in-Err.ensures.cause clean)

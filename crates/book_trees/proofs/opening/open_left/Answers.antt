@@ -3,7 +3,7 @@ use Rattle.sqlite_store.specs.FileStore.{state}
 use Rattle.sqlite_store.specs.Unopened.{state_of, image, HasSomeFile, IsFullFile}
 use Rattle.book_trees.proofs.Opened.{committed_is, committed_listed, found_old, has_file}
 use Rattle.book_trees.proofs.Opened.{held_listed, opens_twice, rows_are, shows_tables, some_file}
-use Rattle.book_trees.proofs.Refused.{cause_of, cause_since}
+use Rattle.book_trees.proofs.Refused.{cause_of, cause_since, unlisted_cause}
 use Rattle.book_trees.proofs.Trees.{has_trees}
 use Rattle.book_trees.specs.LedgerFiles.{page_size, HoldsBooks}
 use Rattle.book_trees.specs.Listing.{lists_books}
@@ -12,14 +12,21 @@ use Rattle.book_trees.specs.declared.faults.OpenFault.{OpenFault}
 use Rattle.book_trees.proofs.opening.open_left.Goals as goal
 
 pub returns-then-not-lists_books-clause-cause : goal.returns-then-not-lists_books-clause-cause
-returns-then-not-lists_books-clause-cause g c clean held =
-    let listed = held_listed c.args.files c.read_catalog.new.self c.in-Ok.listed.items
-    (c.in-Ok.ensures.ok clean) c.requires.size held in
+returns-then-not-lists_books-clause-cause g c clean =
+    let old = c.args.files in
+    let mid = c.read_catalog.new.self in
+    let none : HoldsBooks (image old) → ⊥ = λ held.
+    let listed = held_listed old mid c.in-Ok.listed.items (c.in-Ok.ensures.ok clean) c.requires.size
+    held in
     let not_listed = c.if-not-lists_books.true in
     let tested = c.lists_books.ensures in
     let same : lists_books c.in-Ok.listed.items ≡ lists_books c.as_slice.result.now =
     ap lists_books (sym c.as_slice.ensures.value) in
-    absurd (cc)
+    absurd (cc) in
+    subst (λ (fault : OpenFault). HasCause (state_of old).faults (state_of mid).faults
+    (IsFullFile mid) (HoldsBooks (image old)) fault) (sym c.unlisted_fault.ensures)
+    (unlisted_cause (state_of old).faults (state_of mid).faults (IsFullFile mid)
+    (HoldsBooks (image old)) none _)
 
 pub open_trusted-requires-clause-sound : goal.open_trusted-requires-clause-sound
 open_trusted-requires-clause-sound g c clean =

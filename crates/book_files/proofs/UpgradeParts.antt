@@ -1,0 +1,347 @@
+-- Books of the first form that were brought over, or not: what is written of them, and what is found of
+-- their files.
+use Rattle.std.proofs.Common.{◌≡◌, ◌∙◌, ◌<◌, ℕ, List, [], IsTrue, Option, None, Some, Result, Ok, Err}
+use Rattle.std.proofs.Common.{false, inl, inr, refl, subst, sym, ap, arith}
+use Rattle.std.proofs.Math.Logic.{∥∥₁_elim, ∥∥₁_map, ∥∥₁_prop}
+use Rattle.std.proofs.lemmas.Bool.{cases_Bool}
+use Rattle.std.proofs.lemmas.Bool.Decides.{nat_tests}
+use Rattle.std.specs.Prelude.{◌==◌, IfErr, IfSome, MatchOption}
+use Rattle.sqlite_disk.specs.declared.Disk.{Ghosts}
+use Rattle.sqlite_disk.specs.declared.files.Files.{Files}
+use Rattle.sqlite_pool.specs.StoredLaws.{carried}
+use Rattle.sqlite_store.specs.FileStore.{recovers, state, view, IsReady}
+use Rattle.sqlite_store.specs.Listing.{all_trees, listed_from}
+use Rattle.sqlite_store.specs.declared.store.FileStore.{FileStore}
+use Rattle.sqlite_trees.proofs.Doubt.{clean_of}
+use Rattle.sqlite_trees.specs.Objects.{IsListed, catalog_tree, with_version}
+use Rattle.sqlite_trees.specs.Tree.{Trees}
+use Rattle.sqlite_trees.specs.View.{IsOrdered, IsShaped, View}
+use Rattle.sqlite_trees.specs.declared.store.Shape.{Shape}
+use Rattle.sqlite_wal.specs.Recovery.{Image}
+use Rattle.book_model.specs.Words.{Book, Event, Naming, book_after}
+use Rattle.office.specs.declared.repository.RepositoryFault.{RepositoryFault}
+use Rattle.office.specs.declared.repository.Upgraded.TheVariants.{Already}
+use Rattle.table_model.specs.Tables.{Tables}
+use Rattle.table_model.specs.TablesOf.{tables_of}
+use Rattle.tree_rows.specs.Rows.{IsUnchanged}
+use Rattle.tree_tables.specs.Forms.{this_form}
+use Rattle.tree_tables.specs.Holds.{Holds}
+use Rattle.tree_tables.specs.States.{State, HasCleanDisk, Survives}
+use Rattle.tree_tables.specs.Steps.{Changes}
+use Rattle.table_ledger.proofs.FirstDetails.{details_are}
+use Rattle.table_ledger.proofs.SurvivalLemmas.{clean_before}
+use Rattle.table_ledger.proofs.UnchangedStores.{rest_on, trees_same}
+use Rattle.table_ledger.specs.FirstForm.{IsStoredInFirst, RestsAtFirst, StandsAtFirst, uncounted}
+use Rattle.table_ledger.specs.FirstForm.{with_details}
+use Rattle.table_ledger.specs.Ready.{IsStoredIn}
+use Rattle.book_trees.proofs.FirstTrees.{more_listed}
+use Rattle.book_trees.specs.FirstForm.{AddsDetails, HasFirstTrees, HoldsFirstForm, IsFirstRefusedFor}
+use Rattle.book_trees.specs.FirstForm.{IsUnopenedFirst, ListMore}
+use Rattle.book_trees.specs.Forms.{IsSaid}
+use Rattle.book_trees.specs.LedgerFiles.{HoldsBooks, HoldsFirstBooks, page_size, trees_held}
+use Rattle.book_trees.specs.Refusals.{IsAsFound, MayLeave}
+use Rattle.book_trees.specs.Schema.{first_schema}
+use Rattle.book_trees.specs.declared.first_form.FirstFault.{FirstFault}
+use Rattle.book_trees.specs.declared.first_form.FirstFault.TheVariants as fault
+use Rattle.book_restarts.specs.FileBooks.{RestsAt}
+use Rattle.book_files.specs.Faults.{first_answer}
+use Rattle.book_files.specs.Sessions.{MayFollow}
+use Rattle.book_files.specs.Upgrades.{BringsOver, HoldsFirstBook, HoldsFirstHistory, HoldsUpgraded}
+use Rattle.book_files.specs.Upgrades.{IsBroughtOver, LeavesUpgraded, MayBringOver}
+use Rattle.book_files.specs.Upgrades.{RestsBroughtOver, upgrade_answer}
+use Rattle.book_files.specs.declared.session.Ended.TheVariants.{Refused}
+use Rattle.book_files.proofs.NewParts.{said_tables}
+use Rattle.book_files.proofs.SessionParts.{found_clean, tables_alone}
+
+-- ---- a look
+
+-- the trees of the first form are there after a look
+pub first_on : (old new : View) → IsUnchanged old new → HasFirstTrees old → HasFirstTrees new
+first_on old new same first = record {
+  numbered = ap (λ (v : View). v.is_numbered) same ∙ first.numbered;
+  listed = ap (λ (v : View). v.trees catalog_tree) same ∙ first.listed;
+  shapes = λ tree small. ap (λ (v : View). v.shape tree) same ∙ first.shapes tree small;
+  none = ap (λ (v : View). v.shape 10) same ∙ first.none;
+  settled = ap (λ (v : View). v.committed_shape) same ∙ first.settled
+      ∙ sym (ap (λ (v : View). v.shape) same);
+}
+
+-- and so is a book
+rests_on : (names : Naming) (book : Book) (old new : View) → IsUnchanged old new
+    → RestsAtFirst names book old → RestsAtFirst names book new
+rests_on names book old new same at = record {
+  rest = rest_on old new same at.rest;
+  kept = subst (IsStoredInFirst names book) (sym (trees_same old new same)) at.kept;
+}
+
+-- so what was brought over after it, was so before it
+pub over_before : (names : Naming) (old new : View) → IsUnchanged old new → (trees : Trees)
+    → MayBringOver names new trees → MayBringOver names old trees
+over_before names old new same trees over book at = over book (rests_on names book old new same at)
+
+pub rests_before : (names : Naming) (old mid new : View) → IsUnchanged old mid
+    → RestsBroughtOver names mid new → RestsBroughtOver names old new
+rests_before names old mid new same over book at = over book (rests_on names book old mid same at)
+
+-- ---- what is written
+
+-- trees of which each table is as it was hold the same tables
+holds_same : {old new : Trees} {tables : Tables} → ((tree : ℕ) → tree < 11 → new tree ≡ old tree)
+    → Holds old tables → Holds new tables
+holds_same same holds = record {
+  book = same 0 (omega arith) ∙ holds.book;
+  tariffs = same 1 (omega arith) ∙ holds.tariffs;
+  closes = same 2 (omega arith) ∙ holds.closes;
+  records = same 3 (omega arith) ∙ holds.records;
+  days = same 4 (omega arith) ∙ holds.days;
+  placed = holds.placed;
+  lines = same 5 (omega arith) ∙ holds.lines;
+  identity_index = same 6 (omega arith) ∙ holds.identity_index;
+  marks = same 7 (omega arith) ∙ holds.marks;
+  choices = same 8 (omega arith) ∙ holds.choices;
+  choice_name_index = same 9 (omega arith) ∙ holds.choice_name_index;
+  details = same 10 (omega arith) ∙ holds.details;
+}
+
+-- with a tree for details, which has no row, all tables are as they were
+added_same : (old new : View) → AddsDetails old new → old.trees 10 ≡ [] → (tree : ℕ) → tree < 11
+    → new.trees tree ≡ old.trees tree
+added_same old new adds none tree small = elim (cases_Bool (tree == 10)) [
+  | inl is ↦
+      let last : tree ≡ 10 = grind (arith, nat_tests) in
+      subst (λ (tree : ℕ). new.trees tree ≡ old.trees tree) (sym last) (adds.empty ∙ sym none)
+  | inr other ↦ adds.trees tree (grind (arith, nat_tests))
+]
+
+-- All of a book was written in the form of this program, and is to be committed.
+pub record IsWritten (names : Naming) (old new : View) : Type 0 where
+  pub is_open : new.is_open ≡ old.is_open
+  pub more : ListMore new.trees
+  pub kept : (book : Book) → RestsAtFirst names book old → IsStoredIn names book new.trees
+
+-- so it is where a tree for details was added, and got its rows
+pub all_written : (names : Naming) (old mid new : View) → HasFirstTrees old
+    → (old.is_broken ≡ false → IsOrdered old.shape old.trees) → AddsDetails old mid
+    → Changes mid new (λ tables. tables ≡ uncounted tables) with_details
+    → (new.is_broken ≡ false → IsListed (new.trees catalog_tree) new.shape new.reals)
+    → IsWritten names old new
+all_written names old mid new first ordered adds filled listed =
+    let none : old.trees 10 ≡ [] =
+    subst (λ (shape : Shape). IsShaped shape (old.trees 10)) first.none (ordered adds.was_sound 10) in
+    let sound = ap (λ (v : View). v.is_broken) filled.only ∙ adds.sound in
+    record {
+      is_open = ap (λ (v : View). v.is_open) filled.only ∙ adds.is_open;
+      more = more_listed new (listed sound)
+          (ap (λ (v : View). v.shape 10) filled.only ∙ adds.shapes 10 (omega arith));
+      kept = λ book at. record {
+        calls = at.kept.calls;
+        holds = subst (Holds new.trees) (details_are names book at.kept.calls)
+            (filled.made (uncounted (tables_of names book))
+            (holds_same (added_same old mid adds none) at.kept.holds) refl);
+      };
+    }
+
+module _ (names : Naming) (old new : View) (written : IsWritten names old new) where
+  -- what a stop in the commit may leave
+  pub may_bring : (trees : Trees) → trees ≡ with_version new.trees this_form
+      → MayBringOver names old trees
+  may_bring trees said book at =
+      let kept = written.kept book at in
+      subst (IsBroughtOver names book) (sym said) (
+        written.more,
+        record {
+          calls = kept.calls;
+          holds = holds_same (λ tree small. said_tables new.trees this_form tree
+              (omega (arith, small))) kept.holds;
+        },
+      )
+
+  -- and the commit itself
+  pub brought_rests : (last : View) → IsSaid new last → RestsBroughtOver names old last
+  brought_rests last said book at =
+      let over = may_bring last.trees said.trees book at in (
+        over.0,
+        record {
+          rest = record {
+            is_open = said.is_open ∙ written.is_open ∙ at.rest.is_open;
+            sound = said.sound;
+            settled = said.settled;
+          };
+          kept = over.1;
+        },
+      )
+
+-- ---- what is left
+
+-- where all was done, the last commit is what is left
+pub over_left : (names : Naming) (book : Book) (view : View) (trees : Trees)
+    → trees ≡ view.committed
+    → ListMore view.trees × RestsAt names book view → IsBroughtOver names book trees
+over_left names book view trees left over =
+    subst (IsBroughtOver names book) (over.1.rest.settled ∙ sym left) (over.0, over.1.kept)
+
+-- where it was not, that of before or the one of this call
+module _ (names : Naming) (old new : State)
+    (settled : (trees : Trees) → IsTrue old.view.is_open → old.may_leave trees
+    → trees ≡ old.view.committed)
+    (first : HasCleanDisk old → HasFirstTrees old.view)
+    (survives : Survives old new (MayBringOver names old.view))
+  where
+    pub not_over_left : (A : Type 0) (why : RepositoryFault) (book : Book)
+        → StandsAtFirst names book old.view → HasCleanDisk new → (trees : Trees)
+        → new.may_leave trees → LeavesUpgraded {A = A} names book (Err why) trees
+    not_over_left A why book stands clean trees left =
+        let before = clean_before survives clean in
+        let at = stands before in
+        elim (survives.crash clean trees left) [
+          | inl was ↦
+              let same = settled trees at.rest.is_open was ∙ sym at.rest.settled in
+              inl (
+                ap (λ (trees : Trees). trees catalog_tree) same ∙ (first before).listed,
+                subst (IsStoredInFirst names book) (sym same) at.kept,
+              )
+          | inr over ↦ inr (over book at)
+        ]
+
+-- ---- what files hold
+
+-- files of the first form list its trees
+first_list : {image : Image} (held : HoldsFirstBooks image)
+    → trees_held held catalog_tree ≡ listed_from 0 first_schema
+unfolding all_trees
+first_list held = refl
+
+module _ {A F D : Type 0} {g : Ghosts D} (names : Naming) (book : Book) (result : Result A F)
+    (image : Image) (store : FileStore D g)
+    (so : (trees : Trees) → recovers store trees → LeavesUpgraded names book result trees) where
+  -- a store whose books were brought over was closed
+  pub brought_holds : (done : A) → result ≡ Ok done
+      → ∥ ((held : HoldsBooks image) × recovers store (trees_held held)) ∥₁
+      → HoldsUpgraded names book result image
+  brought_holds done is left =
+      subst (λ (result : Result A F). HoldsUpgraded names book result image) (sym is)
+      (∥∥₁_map left λ one. (
+        one.0,
+        (subst (λ (result : Result A F). LeavesUpgraded names book result (trees_held one.0)) is
+            (so (trees_held one.0) one.1)).1,
+      ))
+
+  -- or they were not
+  pub unbrought_holds : (why : F) → result ≡ Err why
+      → ∥ ((held : HoldsFirstBooks image) × recovers store (trees_held held)) ∥₁
+      → HoldsUpgraded names book result image
+  unbrought_holds why is left =
+      subst (λ (result : Result A F). HoldsUpgraded names book result image) (sym is)
+      (∥∥₁_map left λ one. elim (subst (λ (result : Result A F).
+      LeavesUpgraded names book result (trees_held one.0)) is (so (trees_held one.0) one.1)) [
+        | inl first ↦ inl ∣ (one.0, first.1) ∣₁
+        | inr brought ↦ absurd (brought.0 (first_list one.0))
+      ])
+
+-- a store that was opened on files of the first form stands at their book
+first_stands : {D : Type 0} {g : Ghosts D} (names : Naming) (book : Book) (first : Image)
+    (store : FileStore D g) → IsReady store
+    → (IsTrue (state store).is_clean → (held : HoldsFirstBooks first)
+    → (view store).trees ≡ trees_held held)
+    → (held : HoldsFirstBooks first) → IsStoredInFirst names book (trees_held held)
+    → StandsAtFirst names book (view store)
+first_stands names book first store ready found held kept = λ clean. record {
+  rest = record {
+    is_open = ready.is_open clean;
+    sound = ready.sound clean;
+    settled = ready.clean;
+  };
+  kept = subst (IsStoredInFirst names book) (sym (found (clean_of _ clean) held)) kept;
+}
+
+-- so the files hold its history
+pub brings_over : {D : Type 0} {g : Ghosts D} (names : Naming) (history : List Event)
+    (first image : Image) (store : FileStore D g) → IsReady store
+    → (IsTrue (state store).is_clean → (held : HoldsFirstBooks first)
+    → (view store).trees ≡ trees_held held)
+    → HoldsFirstHistory names history first → (result : Result (Unit {0}) RepositoryFault)
+    → (StandsAtFirst names (book_after history) (view store)
+    → HoldsUpgraded names (book_after history) result image)
+    → BringsOver names history (upgrade_answer result) image
+brings_over names history first image store ready found held (Ok done) each = record {
+  answered = held.answered;
+  held = ∥∥₁_elim held.held ∥∥₁_prop λ kept.
+      each (first_stands names (book_after history) first store ready found kept.0 kept.1);
+}
+brings_over names history first image store ready found held (Err why) each =
+    ∥∥₁_elim held.held ∥∥₁_prop λ kept.
+    ∥∥₁_map (each (first_stands names (book_after history) first store ready found kept.0 kept.1))
+    λ side. elim side [
+      | inl first ↦ inl (record { answered = held.answered; held = first })
+      | inr brought ↦ inr (record { answered = held.answered; held = brought })
+    ]
+
+-- ---- files that were refused
+
+-- files that stand for the same hold the same
+first_as_found : (names : Naming) (book : Book) (first left : Image) → IsAsFound first left
+    → HoldsFirstBook names book first → HoldsFirstBook names book left
+first_as_found names book first left (inl same) held =
+    subst (HoldsFirstBook names book) (sym same) held
+first_as_found names book first left (inr same) held =
+    ∥∥₁_map held λ found. (
+      record {
+        pages = found.0.pages;
+        found = carried page_size first left same found.0.pages found.0.found;
+        file = found.0.file;
+      },
+      found.1,
+    )
+
+module _ {D : Type 0} (g : Ghosts D) (stays : (file : D) → g.may_leave file (g.seen file))
+    (names : Naming) (first : Image) where
+  -- they hold what they held, also without a log that held nothing
+  refused_first : (book : Book) (files : Files D)
+      → ((left : Image) → MayLeave g files left → IsAsFound first left) → (image : Image)
+      → MayFollow g (Refused (Some files)) image → HoldsFirstBook names book first
+      → HoldsFirstBook names book image
+  refused_first book files kept image (inl may) held =
+      first_as_found names book first image (kept image may) held
+  refused_first book files kept image (inr alone) held =
+      tables_alone {wanted = first_schema} g (IsStoredInFirst names book) files image alone
+      (first_as_found names book first (record { log = g.seen files.log; db = image.db })
+      (kept (record { log = g.seen files.log; db = image.db })
+      (alone.clean, (stays files.log, alone.file))) held)
+
+  first_still : (history : List Event) (files : Files D)
+      → ((left : Image) → MayLeave g files left → IsAsFound first left) → (image : Image)
+      → MayFollow g (Refused (Some files)) image → HoldsFirstHistory names history first
+      → HoldsFirstHistory names history image
+  first_still history files kept image may held = record {
+    answered = held.answered;
+    held = refused_first (book_after history) files kept image may held.held;
+  }
+
+  -- and books of the first form are not said to be of this one
+  pub refused_brings : (history : List Event) (image : Image) (AtLimit : Files D → Type 0)
+      (why : FirstFault) (files : Option (Files D))
+      → MatchOption files (IsUnopenedFirst why)
+      (IsFirstRefusedFor g (HoldsFirstForm first) AtLimit why)
+      → IfSome files (λ files. (left : Image) → MayLeave g files left → IsAsFound first left)
+      → HoldsFirstForm first → MayFollow g (Refused files) image
+      → HoldsFirstHistory names history first
+      → BringsOver names history (first_answer why) image
+  refused_brings history image AtLimit why None cause kept form may held = absurd may
+  refused_brings history image AtLimit fault.Already (Some files) cause kept form may held =
+      absurd (cause (found_clean g files image may) form)
+  refused_brings history image AtLimit fault.Pages (Some files) cause kept form may held =
+      ∣ inl (first_still history files kept image may held) ∣₁
+  refused_brings history image AtLimit (fault.Open why) (Some files) cause kept form may held =
+      ∣ inl (first_still history files kept image may held) ∣₁
+
+-- why books were not brought over is what is answered
+pub told_why : (Why : RepositoryFault → Type 0) (result : Result (Unit {0}) RepositoryFault)
+    → IfErr result Why → IfErr (upgrade_answer result) Why
+told_why Why (Ok done) told = tt
+told_why Why (Err why) told = told
+
+-- what was opened was not of this form already
+pub not_already : (result : Result (Unit {0}) RepositoryFault)
+    → upgrade_answer result ≡ Ok Already → ⊥
+not_already (Ok done) is = absurd (cc)
+not_already (Err why) is = absurd (cc)

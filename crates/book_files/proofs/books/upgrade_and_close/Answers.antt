@@ -1,0 +1,43 @@
+use Rattle.sqlite_trees.proofs.Doubt.{no_doubt}
+use Rattle.book_restarts.specs.FileBooks.{file_names}
+use Rattle.book_files.proofs.SessionParts.{found_clean}
+use Rattle.book_files.proofs.Causes.{err_so}
+use Rattle.book_files.proofs.UpgradeParts.{brought_holds, unbrought_holds}
+use Rattle.book_files.proofs.books.upgrade_and_close.Goals as goal
+
+pub returns-in-Ok-clause-left : goal.returns-in-Ok-clause-left
+returns-in-Ok-clause-left g c = λ kept book stands image may.
+    let closed = c.close_books.result in
+    let clean = no_doubt _ (c.close_books.ensures.honest
+    (found_clean g.D.Disk closed.files image may)) in
+    brought_holds file_names book c.upgrade_in-upgraded.result.0 image c.upgrade_in-upgraded.result.1
+    (λ trees left. c.upgrade_in-upgraded.ensures.left book stands clean trees left) tt c.in-Ok.is
+    (c.close_books.ensures.left kept image may)
+
+pub returns-in-Ok-clause-clean : goal.returns-in-Ok-clause-clean
+returns-in-Ok-clause-clean g c clean =
+    c.upgrade_in-upgraded.ensures.clean (no_doubt _ (c.close_books.ensures.honest clean))
+
+pub returns-in-Ok-clause-cause : goal.returns-in-Ok-clause-cause
+returns-in-Ok-clause-cause g c =
+    err_so c.upgrade_in-upgraded.result.0 c.upgrade_in-upgraded.ensures.cause
+    (λ fault cause clean. cause (no_doubt _ (c.close_books.ensures.honest clean)))
+
+pub returns-in-Err-clause-left : goal.returns-in-Err-clause-left
+returns-in-Err-clause-left g c = λ kept book stands image may.
+    let closed = c.close_first.result in
+    let clean = no_doubt _ (c.close_first.ensures.honest
+    (found_clean g.D.Disk closed.files image may)) in
+    unbrought_holds file_names book c.upgrade_in-upgraded.result.0 image
+    c.upgrade_in-upgraded.result.1
+    (λ trees left. c.upgrade_in-upgraded.ensures.left book stands clean trees left) _ c.in-Err.is
+    (c.close_first.ensures.left kept image may)
+
+pub returns-in-Err-clause-clean : goal.returns-in-Err-clause-clean
+returns-in-Err-clause-clean g c clean =
+    c.upgrade_in-upgraded.ensures.clean (no_doubt _ (c.close_first.ensures.honest clean))
+
+pub returns-in-Err-clause-cause : goal.returns-in-Err-clause-cause
+returns-in-Err-clause-cause g c =
+    err_so c.upgrade_in-upgraded.result.0 c.upgrade_in-upgraded.ensures.cause
+    (λ fault cause clean. cause (no_doubt _ (c.close_first.ensures.honest clean)))

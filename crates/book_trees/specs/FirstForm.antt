@@ -1,0 +1,92 @@
+-- Books of the first form, which had no details.
+use Rattle.std.specs.Prelude.{◌≡◌, ◌≢◌, ◌⊎◌, ◌<◌, ◌≤◌, ℕ, IsTrue, true, false, []}
+use Rattle.sqlite_disk.specs.declared.Disk.{Ghosts}
+use Rattle.sqlite_disk.specs.declared.files.Files.{Files}
+use Rattle.sqlite_pool.specs.File.{version_in}
+use Rattle.sqlite_store.specs.Listing.{IsOurs, listed_from}
+use Rattle.sqlite_store.specs.declared.error.OpenError.{OpenError}
+use Rattle.sqlite_store.specs.declared.error.OpenError.TheVariants as store
+use Rattle.sqlite_trees.specs.Objects.{catalog_tree}
+use Rattle.sqlite_trees.specs.Tree.{Trees}
+use Rattle.sqlite_trees.specs.View.{View}
+use Rattle.sqlite_trees.specs.declared.store.Shape.TheVariants.{Absent, Index}
+use Rattle.sqlite_value.specs.Keys.{plain}
+use Rattle.sqlite_wal.specs.Reads.{AreClean}
+use Rattle.sqlite_wal.specs.Recovery.{Image}
+use Rattle.tree_tables.specs.Forms.{this_form}
+use Rattle.book_trees.specs.Forms.{IsToldOf}
+use Rattle.book_trees.specs.LedgerFiles.{page_size, HoldsFirstBooks}
+use Rattle.book_trees.specs.Refusals.{fault_for, faults_in, HasCause, IsUnopened}
+use Rattle.book_trees.specs.Schema.{first_schema}
+use Rattle.book_trees.specs.declared.faults.OpenFault.{OpenFault}
+use Rattle.book_trees.specs.declared.faults.OpenFault.TheVariants.{NewForm}
+use Rattle.book_trees.specs.declared.first_form.FirstFault.{FirstFault}
+use Rattle.book_trees.specs.declared.first_form.FirstFault.TheVariants.{Already, Open, Pages}
+
+-- The files hold books of the first form, and list nothing else, each tree under its number: so a
+-- ledger leaves them. They do not say that they are of a newer form.
+pub record HoldsFirstForm (image : Image) : Type 0 where
+  pub held : HoldsFirstBooks image
+  pub numbered : IsOurs page_size true first_schema held.pages
+  pub form : version_in held.pages ≤ this_form
+
+-- the fault that an error of the store stands for, while the pages of files that list books of the
+-- first form are looked through
+abbrev pub first_fault_for : OpenError → FirstFault
+first_fault_for store.Refused = Pages
+first_fault_for store.OutOfMemory = Open (fault_for store.OutOfMemory)
+first_fault_for store.Io = Open (fault_for store.Io)
+first_fault_for store.Full = Open (fault_for store.Full)
+
+-- A fault has its cause: files of the first form are not of this one already, and their pages are not
+-- wrong; any other fault is that of an opening.
+abbrev pub HasFirstCause : ℕ → ℕ → Type 0 → Type 0 → FirstFault → Type 0
+HasFirstCause old new AtLimit Held Already = ¬ Held
+HasFirstCause old new AtLimit Held Pages = ¬ Held
+HasFirstCause old new AtLimit Held (Open fault) = HasCause old new AtLimit Held fault
+
+-- what is told of files that list the tables of this form: they are of it, or of a newer one
+abbrev pub IsToldThis : FirstFault → Type 0
+IsToldThis fault = (fault ≡ Already) ⊎ (fault ≡ Open NewForm)
+
+-- what is told of files that were not opened
+abbrev pub IsToldFirst : {D : Type 0} → FirstFault → Files D → FirstFault → Files D → Type 0
+IsToldFirst Already files told last = IsToldThis told
+IsToldFirst Pages files told last = (told ≡ Pages) × (last ≡ files)
+IsToldFirst (Open fault) files told last =
+    (other : OpenFault) × (told ≡ Open other) × IsToldOf fault files other last
+
+-- the files at a path were not opened
+abbrev pub IsUnopenedFirst : FirstFault → Type 0
+IsUnopenedFirst Already = ⊥
+IsUnopenedFirst Pages = ⊥
+IsUnopenedFirst (Open fault) = IsUnopened fault
+
+module _ {D : Type 0} (g : Ghosts D) where
+  -- files were there, and held this: why they were not opened as books of the first form
+  abbrev pub IsFirstRefusedFor : Type 0 → (Files D → Type 0) → FirstFault → Files D → Type 0
+  IsFirstRefusedFor Held AtLimit fault files =
+      AreClean g files.log files.db
+      → HasFirstCause 0 (faults_in g files) (AtLimit files) Held fault
+
+-- A store shows the trees of books of the first form, and may have one more.
+pub record HasFirstTrees (view : View) : Type 0 where
+  pub numbered : IsTrue view.is_numbered
+  pub listed : view.trees catalog_tree ≡ listed_from 0 first_schema
+  pub shapes : (tree : ℕ) → tree < 10 → view.shape tree ≡ Index plain
+  pub none : view.shape 10 ≡ Absent
+  pub settled : view.committed_shape ≡ view.shape
+
+-- the list of the trees is not that of books of the first form
+abbrev pub ListMore : Trees → Type 0
+ListMore trees = trees catalog_tree ≢ listed_from 0 first_schema
+
+-- It has a tree for the details too, which has no row, and nothing else is changed.
+pub record AddsDetails (old new : View) : Type 0 where
+  pub shapes : (tree : ℕ) → tree < 11 → new.shape tree ≡ Index plain
+  pub trees : (tree : ℕ) → tree < 10 → new.trees tree ≡ old.trees tree
+  pub empty : new.trees 10 ≡ []
+  pub committed : new.committed ≡ old.committed
+  pub is_open : new.is_open ≡ old.is_open
+  pub was_sound : old.is_broken ≡ false
+  pub sound : new.is_broken ≡ false

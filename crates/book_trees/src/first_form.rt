@@ -1,0 +1,244 @@
+//! Books of the first form are opened, to be brought to this one.
+
+ghost use Rattle.std.specs.Prelude.{◌≡◌, ◌≤◌, IfErr, IfOk, IfSome, IsTrue, MatchOption};
+ghost use Rattle.std.specs.Prelude.{OnErr, OnOk};
+ghost use Rattle.sqlite_store.specs.FileStore.{state, view, schema_of, IsReady};
+ghost use Rattle.sqlite_store.specs.FileStore.{files as files_of};
+ghost use Rattle.sqlite_store.specs.Unopened.{image, state_of, wanted_by, AreUsable};
+ghost use Rattle.sqlite_store.specs.Unopened.{IsFullFile, Opens};
+ghost use Rattle.sqlite_trees.specs.View.{IsClean};
+ghost use Rattle.sqlite_wal.specs.Files.{image_at};
+ghost use Rattle.sqlite_wal.specs.Reads.{AreClean};
+ghost use Rattle.sqlite_wal.specs.Recovery.{Image};
+ghost use Rattle.book_trees.specs.FirstForm.{first_fault_for, HasFirstCause, HoldsFirstForm};
+ghost use Rattle.book_trees.specs.FirstForm.{AddsDetails, HasFirstTrees, IsFirstRefusedFor};
+ghost use Rattle.book_trees.specs.FirstForm.{IsToldFirst, IsToldThis, IsUnopenedFirst};
+ghost use Rattle.tree_rows.specs.Calls.{CommitsNothing, LeavesCommitted};
+ghost use Rattle.book_trees.specs.LedgerFiles.{image_of, page_size, HoldsFirstBooks, trees_held};
+ghost use Rattle.book_trees.specs.Refusals.{faults_in, AreFull, AreKept, IsAsFound, MayLeave};
+ghost use Rattle.book_trees.specs.Schema.{first_schema};
+
+use crate::catalog::{lists_books, lists_first_books, unlisted_fault};
+use crate::faults::{OpenFault, fault_at, fault_of};
+use crate::forms::{says_newer, told, told_newer};
+use crate::schema::detail_object;
+use crate::unopened::unopened_first;
+use sqlite_disk::{Disk, Files, Start};
+use sqlite_pager::Options;
+use sqlite_std_file::{FileFrom, open};
+use sqlite_store::{FileStore, OpenError, Unopened};
+use sqlite_trees::error::StoreError;
+use sqlite_trees::store::{Alter, Store};
+use std::alloc::Global;
+
+/// Why books of the first form were not opened.
+#[derive(Clone, Copy, Debug, PartialEq, Eq, Drop)]
+pub enum FirstFault {
+    /// They are of this form already.
+    Already,
+    /// They list the tables of the first form, but their pages are not those of such a file, or
+    /// something else is listed too.
+    Pages,
+    /// They were not opened.
+    Open(OpenFault),
+}
+
+/// What an error of the store stands for, while the pages are looked through.
+fn first_fault(error: OpenError) -> FirstFault
+    ensures { result ≡ first_fault_for error }
+{
+    match error {
+        OpenError::Refused => FirstFault::Pages,
+        OpenError::OutOfMemory => FirstFault::Open(OpenFault::Memory),
+        OpenError::Io | OpenError::Full => FirstFault::Open(OpenFault::Store),
+    }
+}
+
+/// Opens books of the first form, and looks through all of their pages: only of such a file is it
+/// known that a tree may be added. Whether files that are told to be of a newer form are so, they
+/// have to say.
+fn open_first<D: Disk>(files: Unopened<D>) -> Result<FileStore<D>, (FirstFault, Unopened<D>)>
+    requires usable { AreUsable files }
+    requires schema { wanted_by files ≡ first_schema }
+    requires size { (state_of files).page_size ≡ page_size }
+    ensures ready { IfOk result IsReady }
+    ensures schema { IfOk result (λ store. schema_of store ≡ first_schema) }
+    ensures trees { IfOk result (λ store. IsClean (view store) → HasFirstTrees (view store)) }
+    ensures size { IfOk result (λ store. IsTrue (state store).is_clean
+        → (state store).page_size ≡ page_size) }
+    ensures honest { IfOk result (λ store. IsTrue (state store).is_clean
+        → IsTrue (state_of files).is_clean) }
+    ensures found { IfOk result (λ store. IsTrue (state store).is_clean
+        → (held : HoldsFirstBooks (image files)) → (view store).trees ≡ trees_held held) }
+    ensures kept { IfOk result (λ store. IsTrue (state store).is_clean → Opens files (state store)) }
+    ensures cause { IfErr result (λ refusal. IsTrue (state_of refusal.1).is_clean
+        → HasFirstCause (state_of files).faults (state_of refusal.1).faults (IsFullFile refusal.1)
+        (HoldsFirstForm (image files)) refusal.0) }
+    ensures unharmed { IfErr result (λ refusal. IsTrue (state_of refusal.1).is_clean
+        → Opens files (state_of refusal.1)) }
+{
+    let mut files = files;
+    let listed = match files.read_catalog() {
+        Ok(listed) => listed,
+        Err(error) => return Err((FirstFault::Open(fault_of(error)), files)),
+    };
+    if lists_books(listed.as_slice()) {
+        return Err((FirstFault::Already, files));
+    }
+    if !lists_first_books(listed.as_slice()) {
+        return Err((FirstFault::Open(unlisted_fault(listed.as_slice())), files));
+    }
+    match files.open_numbered() {
+        Ok(store) => Ok(store),
+        Err((error, files)) => Err((first_fault(error), files)),
+    }
+}
+
+/// Opens two files as books of the first form, or gives them back, whatever form they say that they
+/// have.
+fn open_first_known<D: Disk>(
+    alloc: Global,
+    files: Files<D>,
+    options: Options,
+) -> Result<FileStore<D>, (FirstFault, Files<D>)>
+    requires log { IsTrue (D.Disk.is_usable files.log) }
+    requires db { IsTrue (D.Disk.is_usable files.db) }
+    ensures ready { IfOk result IsReady }
+    ensures schema { IfOk result (λ store. schema_of store ≡ first_schema) }
+    ensures trees { IfOk result (λ store. IsClean (view store) → HasFirstTrees (view store)) }
+    ensures size { IfOk result (λ store. IsTrue (state store).is_clean
+        → (state store).page_size ≡ page_size) }
+    ensures honest { IfOk result (λ store. IsTrue (state store).is_clean
+        → AreClean D.Disk files.log files.db) }
+    ensures found { IfOk result (λ store. IsTrue (state store).is_clean
+        → (held : HoldsFirstBooks (image_of D.Disk files)) → (view store).trees ≡ trees_held held) }
+
+    // If they are closed at once, they are kept.
+    ensures closed { IfOk result (λ store. (last : Files D) → (last.log, last.db) ≡ files_of store
+        → AreClean D.Disk last.log last.db → AreKept D.Disk files last) }
+    ensures cause { IfErr result (λ refusal. AreClean D.Disk refusal.1.log refusal.1.db
+        → HasFirstCause (faults_in D.Disk files) (faults_in D.Disk refusal.1)
+        (AreFull D.Disk refusal.1) (HoldsFirstForm (image_of D.Disk files)) refusal.0) }
+    ensures unharmed { IfErr result (λ refusal. AreClean D.Disk refusal.1.log refusal.1.db
+        → AreKept D.Disk files refusal.1) }
+{
+    let files = match unopened_first(alloc, files, options) {
+        Ok(files) => files,
+        Err(files) => return Err((FirstFault::Open(OpenFault::Memory), files)),
+    };
+    match open_first(files) {
+        Ok(store) => Ok(store),
+        Err((fault, files)) => Err(told_first(fault, files.close())),
+    }
+}
+
+/// Opens two files as books of the first form, or gives them back.
+pub fn open_first_files<D: Disk>(
+    alloc: Global,
+    files: Files<D>,
+    options: Options,
+) -> Result<FileStore<D>, (FirstFault, Files<D>)>
+    requires log { IsTrue (D.Disk.is_usable files.log) }
+    requires db { IsTrue (D.Disk.is_usable files.db) }
+    ensures ready { IfOk result IsReady }
+    ensures schema { IfOk result (λ store. schema_of store ≡ first_schema) }
+    ensures trees { IfOk result (λ store. IsClean (view store) → HasFirstTrees (view store)) }
+    ensures size { IfOk result (λ store. IsTrue (state store).is_clean
+        → (state store).page_size ≡ page_size) }
+    ensures honest { IfOk result (λ store. IsTrue (state store).is_clean
+        → AreClean D.Disk files.log files.db) }
+    ensures found { IfOk result (λ store. IsTrue (state store).is_clean
+        → (held : HoldsFirstBooks (image_of D.Disk files)) → (view store).trees ≡ trees_held held) }
+
+    // Files of the first form are not opened only because of memory and the disk.
+    ensures cause { IfErr result (λ refusal. AreClean D.Disk refusal.1.log refusal.1.db
+        → HasFirstCause (faults_in D.Disk files) (faults_in D.Disk refusal.1)
+        (AreFull D.Disk refusal.1) (HoldsFirstForm (image_of D.Disk files)) refusal.0) }
+    ensures unharmed { IfErr result (λ refusal. AreClean D.Disk refusal.1.log refusal.1.db
+        → AreKept D.Disk files refusal.1) }
+{
+    let store = match open_first_known(alloc, files, options) {
+        Ok(store) => store,
+        Err(refusal) => return Err(refusal),
+    };
+    if says_newer(&store) {
+        return Err((FirstFault::Open(OpenFault::NewForm), store.close()));
+    }
+    Ok(store)
+}
+
+/// Why files were not opened, as they say themselves.
+fn told_first<D: Disk>(fault: FirstFault, files: Files<D>) -> (FirstFault, Files<D>)
+    ensures told { IsToldFirst fault files result.0 result.1 }
+    ensures clean { AreClean D.Disk result.1.log result.1.db → AreClean D.Disk files.log files.db }
+    ensures counts { faults_in D.Disk files ≤ faults_in D.Disk result.1 }
+    ensures crash { (left : Image) → MayLeave D.Disk result.1 left → MayLeave D.Disk files left }
+{
+    match fault {
+        FirstFault::Already => told_already(files),
+        FirstFault::Pages => (FirstFault::Pages, files),
+        FirstFault::Open(fault) => {
+            let (fault, files) = told(fault, files);
+            (FirstFault::Open(fault), files)
+        }
+    }
+}
+
+/// Whether files that list the tables of this form are of it already, or of a newer one.
+fn told_already<D: Disk>(files: Files<D>) -> (FirstFault, Files<D>)
+    ensures other { IsToldThis result.0 }
+    ensures clean { AreClean D.Disk result.1.log result.1.db → AreClean D.Disk files.log files.db }
+    ensures counts { faults_in D.Disk files ≤ faults_in D.Disk result.1 }
+    ensures crash { (left : Image) → MayLeave D.Disk result.1 left → MayLeave D.Disk files left }
+{
+    match told_newer(OpenFault::NotBooks, files) {
+        (OpenFault::NewForm, files) => (FirstFault::Open(OpenFault::NewForm), files),
+        (_, files) => (FirstFault::Already, files),
+    }
+}
+
+/// The same for the file at a path, where `S` stands for what the files hold: whatever that is.
+pub fn open_first_at<S: Start>(
+    rt: &HostRuntime,
+    path: &str,
+    seed: u64,
+    start: S,
+) -> Result<FileStore<FileFrom<S>>, (FirstFault, Option<Files<FileFrom<S>>>)>
+    ensures ready { IfOk result IsReady }
+    ensures schema { IfOk result (λ store. schema_of store ≡ first_schema) }
+    ensures trees { IfOk result (λ store. IsClean (view store) → HasFirstTrees (view store)) }
+    ensures size { IfOk result (λ store. IsTrue (state store).is_clean
+        → (state store).page_size ≡ page_size) }
+    ensures found { IfOk result (λ store. IsTrue (state store).is_clean
+        → (held : HoldsFirstBooks (image_at S.Start)) → (view store).trees ≡ trees_held held) }
+
+    // What a stop leaves of files that were not opened is what they held, or stands for the same.
+    ensures cause { IfErr result (λ refusal. MatchOption refusal.1 (IsUnopenedFirst refusal.0)
+        (IsFirstRefusedFor ⟦<FileFrom<S> as Disk>⟧ (HoldsFirstForm (image_at S.Start))
+        (AreFull ⟦<FileFrom<S> as Disk>⟧) refusal.0)) }
+    ensures kept { IfErr result (λ refusal. IfSome refusal.1 (λ files. (left : Image)
+        → MayLeave ⟦<FileFrom<S> as Disk>⟧ files left → IsAsFound (image_at S.Start) left)) }
+{
+    let files = match open(rt, path, start) {
+        Ok(files) => files,
+        Err(error) => return Err((FirstFault::Open(fault_at(error)), None)),
+    };
+    match open_first_files(rt.alloc(), files, Options::new(seed)) {
+        Ok(store) => Ok(store),
+        Err((fault, files)) => Err((fault, Some(files))),
+    }
+}
+
+/// The number of the tree of details.
+const DETAILS: u32 = 10;
+
+/// Books of the first form get a tree for details, which has no row. Nothing is committed.
+pub fn add_details<S: Alter>(store: &mut S) -> Result<(), StoreError>
+    requires { IsClean (S.Store.view store.old) → HasFirstTrees (S.Store.view store.old) }
+    ensures done { OnOk result (IsClean (S.Store.view store.new)
+        → AddsDetails (S.Store.view store.old) (S.Store.view store.new)) }
+    ensures kept { OnErr result (LeavesCommitted S.Store store.old store.new) }
+    ensures quiet { CommitsNothing S.Store store.old store.new }
+{
+    store.create(DETAILS, &detail_object())
+}
