@@ -6,8 +6,8 @@ use Rattle.book_model.specs.Words.{accept_answer, IsMadeByCalls, Book, new_book,
 use Rattle.book_model.specs.Words.{Event, after_all}
 use Rattle.book_model.specs.Words.{book_after, Outcome, accept_outcome, charges_outcome}
 use Rattle.book_model.specs.Words.{adjustments_outcome, disputes_outcome, periods_outcome, Naming}
-use Rattle.book_model.specs.Words.{dispute_outcome, ruling_outcome, ruling_shown, trail_outcome}
-use Rattle.book_model.specs.Words.{trail_shown, what_if_outcome}
+use Rattle.book_model.specs.Words.{dispute_outcome, next_detail_outcome, ruling_outcome}
+use Rattle.book_model.specs.Words.{ruling_shown, trail_outcome, trail_shown, what_if_outcome}
 use Rattle.book_model.specs.declared.fault.LedgerFault.{LedgerFault}
 use Rattle.book_core.specs.Calls.{Calls, listed}
 use Rattle.book_core.specs.Ledgers.{Seen, IsOpenAt}
@@ -24,7 +24,8 @@ use Rattle.book_http.proofs.LawLemmas.{requests_make_history}
 use Rattle.book_laws.specs.CallLaws.{CallsFollowHistory}
 use Rattle.book_laws.specs.Calls.{Call, Request, RunRequests, AcceptRecord, ReadCharges}
 use Rattle.book_laws.specs.Calls.{HttpRequest, ReadAdjustments, ReadDisputes, ReadPeriods}
-use Rattle.book_laws.specs.Calls.{ReadChargesUnder, ReadDispute, ReadRuling, ReadTrail, Step}
+use Rattle.book_laws.specs.Calls.{ReadChargesUnder, ReadDetail, ReadDispute, ReadRuling, ReadTrail}
+use Rattle.book_laws.specs.Calls.{Step}
 use Rattle.book_laws.specs.Calls.{AreDone, SomeCalls, calls_of, ledger_after_calls, work_of, works_of}
 
 -- what is read makes none
@@ -53,6 +54,9 @@ call_answered naming (ReadChargesUnder period terms answer) =
     (λ book. refl)
 call_answered naming (ReadAdjustments period answer) =
     readings_answered naming (λ lines. lines.items) (adjustments_outcome naming period) answer
+    (λ book. refl)
+call_answered naming (ReadDetail period centre last answer) =
+    readings_answered naming (λ found. found) (next_detail_outcome naming period centre last) answer
     (λ book. refl)
 call_answered naming (ReadDisputes answer) =
     readings_answered naming (λ found. map dispute_shown found.items) (disputes_outcome naming)

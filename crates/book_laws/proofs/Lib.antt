@@ -1,9 +1,10 @@
 -- Whole histories: what their periods give and take; net counts, and days; wrong definitions that
 -- they refuse; sums over rows and over a period's sets; the amounts of periods; the lines that are
 -- read; and closed periods. Runs, from these; calls one after another, and what they leave; the
--- lists of all periods; the lines of a statement; single centres; rows by another tariff, and their
--- lines. Single records: their lives, and how their prices came about. Single answers: to calls,
--- reports, imports, and lists of requests.
+-- lists of all periods; the lines of a statement; single centres; details, which records are counted,
+-- what is kept of them, and that they stay; rows by another tariff, and their lines. Single records:
+-- their lives, and how their prices came about. Single answers: to calls, reports, imports, and
+-- lists of requests.
 pub mod PeriodLemmas
 pub mod NetLemmas
 pub mod WrongPeriodLemmas
@@ -19,6 +20,10 @@ pub mod CallLemmas
 pub mod ListLemmas
 pub mod WidthLemmas
 pub mod CentreLemmas
+pub mod DetailLemmas
+pub mod CountedLemmas
+pub mod KeptLemmas
+pub mod StayLemmas
 pub mod OtherPriceLemmas
 pub mod OtherWorkLemmas
 pub mod OtherWidthLemmas

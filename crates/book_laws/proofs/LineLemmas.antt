@@ -1,6 +1,6 @@
 -- The lines that are read: one for each record that is added or reversed.
 use Rattle.std.proofs.Common.{◌≡◌, ℕ, List, [], ◌∷◌, ◌++◌, refl, sym, ap, ◌∙◌, true, false}
-use Rattle.std.proofs.Common.{true≢false, Bool, cond, not, ◌||◌, Option, Some, None, arith}
+use Rattle.std.proofs.Common.{Bool, cond, not, ◌||◌, Option, Some, None, arith}
 use Rattle.std.specs.Prelude.{filter, sum_by}
 use Rattle.std.specs.FinMap as map
 use Rattle.std.specs.List.{list_any, filter_map, cons_option, AllByRecursion}
@@ -9,7 +9,6 @@ use Rattle.std.specs.Option.{option_map_or}
 use Rattle.std.specs.Ordering.{int_cmp, eq_by_cmp, is_eq, ordering_then}
 use Rattle.std.specs.declared.cmp.Ordering.{Ordering}
 use Rattle.std.specs.declared.cmp.Ordering.TheVariants.{Less, Equal, Greater}
-use Rattle.std.proofs.Math.Bool.{or-true}
 use Rattle.std.proofs.lemmas.Cmp.{nat_list_cmp_total}
 use Rattle.std.proofs.lemmas.List.Elements.{filter-append}
 use Rattle.std.proofs.lemmas.List.Folds.{list_any-append}
@@ -22,59 +21,14 @@ use Rattle.book_model.specs.declared.line.Line.{Line}
 use Rattle.book_model.specs.Words.{plus_first, by_line, lines_for, lines_of, Period, Records}
 use Rattle.book_model.specs.Words.{Naming, name_of, by_bytes, Rulings, price_in, members, has}
 use Rattle.book_model.specs.Words.{total_of}
-use Rattle.book_model.proofs.SetChanges.{none_among}
+use Rattle.book_model.proofs.GivenLemmas.{given-apart}
 use Rattle.book_model.proofs.SetLemmas.{members_rise}
 use Rattle.book_model.proofs.PermutedSets.{Apart, apart_from_distinct, members_permuted}
 use Rattle.book_model.proofs.LineOrder.{by_line_total, name_ties, line_by, line_of}
 use Rattle.book_model.proofs.SumsAlike.{sum_by-filter, sum_by-filter_map}
-use Rattle.book_model.proofs.RecordSets.{is, is_first}
+use Rattle.book_model.proofs.RecordSets.{is}
 use Rattle.book_laws.specs.PeriodAmounts.{plus_of, minus_of}
 use Rattle.book_laws.specs.PeriodLines.{both_lines}
-
--- one result of a partial function passes a test
-any-given : {X Y : Type 0} (p : Y → Bool) (give : X → Option Y) (xs : List X)
-    → list_any p (filter_map give xs) ≡ list_any (λ x. option_map_or p (give x) false) xs
-any-given p give [] = refl
-any-given p give (x ∷ xs) =
-    let rest = any-given p give xs in
-    elim (give x) as (λ given. list_any p (cons_option given (filter_map give xs))
-    ≡ (option_map_or p given false || list_any (λ x. option_map_or p (give x) false) xs)) [
-      | None ↦ rest
-      | Some y ↦ ap (λ b. p y || b) rest
-    ]
-
--- the results of a partial function for distinct records are distinct, if it distinguishes them
-given-apart : {Y : Type 0} (e : Y → Y → Bool) (give : List ℕ → Option Y) (ks : List (List ℕ))
-    → ((a b : List ℕ) → list_any (is a) ks ≡ true → list_any (is b) ks ≡ true
-    → (y z : Y) → give a ≡ Some y → give b ≡ Some z → e y z ≡ true → a ≡ b)
-    → Apart is ks → Apart e (filter_map give ks)
-given-apart e give [] tells apart = tt
-given-apart {Y} e give (k ∷ ks) tells apart =
-    let later : (other : List ℕ) → list_any (is other) ks ≡ true
-    → list_any (is other) (k ∷ ks) ≡ true =
-    λ other among. ap (λ b. is other k || b) among ∙ or-true (is other k) in
-    let first : list_any (is k) (k ∷ ks) ≡ true = is_first k ks in
-    let rest =
-    given-apart e give ks (λ a b one two. tells a b (later a one) (later b two)) apart.1 in
-    elim (give k) as (λ given. give k ≡ given → Apart e (cons_option given (filter_map give ks))) [
-      | None ↦ λ none. rest
-      | Some y ↦ λ some. (
-        any-given (e y) give ks
-            ∙ none_among (λ other. option_map_or (e y) (give other) false) ks (λ other among.
-            elim (give other) as (λ given. give other ≡ given → option_map_or (e y) given false
-            ≡ false) [
-              | None ↦ λ none. refl
-              | Some z ↦ λ too. elim (e y z) as (λ b. e y z ≡ b → b ≡ false) [
-                | true ↦ λ tied.
-                    let same = tells k other first (later other among) y z some too tied in
-                    absurd (true≢false
-                    (sym among ∙ ap (λ k. list_any (is k) ks) (sym same) ∙ apart.0))
-                | false ↦ λ differ. refl
-              ] refl
-            ] refl),
-        rest,
-      )
-    ] refl
 
 -- lines with signs that do not tie do not tie
 signs_differ : (a b c : Ordering) → c ≡ Less → is_eq (ordering_then a (ordering_then b c)) ≡ false

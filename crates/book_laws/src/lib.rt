@@ -3,6 +3,7 @@
 
 mod calls;
 mod centres;
+mod details;
 mod histories;
 mod other_prices;
 mod records;
@@ -13,6 +14,11 @@ pub use calls::{
     one_text, refusal_changes_nothing,
 };
 pub use centres::centres_add_up;
+pub use details::{
+    centre_details_add_up, counted_by_day, counted_follows, counted_is_read, detailed_once,
+    details_add_up, details_are_kept, details_stay, next_is_next, rows_join_and_go,
+    tariffs_read_kept,
+};
 pub use histories::{
     charged_once, closed_stays, conserved, conserved_in_sets, dated_right, lines_once, named_once,
     posted_once, wrong_periods_fail,

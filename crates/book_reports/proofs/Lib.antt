@@ -10,6 +10,9 @@ pub mod StreamingLemmas
 pub mod RulingLemmas
 pub mod DisputeReading
 pub mod DisputeLemmas
+pub mod AnsweringLemmas
+pub mod DetailReading
+pub mod DetailLemmas
 pub mod TariffLemmas
 pub mod WhatIfLemmas
 pub mod FigureLemmas

@@ -12,8 +12,10 @@ mod record_names;
 mod report;
 mod reports;
 mod ruling_texts;
+mod streamed_details;
 mod streamed_disputes;
 mod streamed_rulings;
+mod waiting;
 mod what_if;
 
 pub use book_texts::report_text;
@@ -33,6 +35,7 @@ pub use reports::{
     adjustment_list, dispute_list, period_list, receipt_line, statement, statement_csv,
     write_report,
 };
+pub use streamed_details::{DetailReport, write_details};
 pub use streamed_disputes::{DisputeForm, write_disputes};
 pub use streamed_rulings::write_rulings;
 pub use what_if::{StatementForm, WhatIf, what_if_text};

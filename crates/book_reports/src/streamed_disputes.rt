@@ -1,7 +1,7 @@
 //! The disputes, written as they are read: with a million records in dispute the list has 150 MB, and
 //! is never made whole. What is held of it is one dispute, and the lines that wait to be written.
 
-ghost use Rattle.std.specs.Prelude.{◌≡◌, ◌++◌, ◌∷◌, [], IfErr, IfOk, OnOk, false, true};
+ghost use Rattle.std.specs.Prelude.{◌≡◌, ◌++◌, ◌∷◌, [], IfOk, false};
 ghost use Rattle.streams.specs.Sinks.{has_failed, writer_of};
 ghost use Rattle.book_model.specs.Words.{IsDispute, dispute_shown};
 ghost use Rattle.book_core.specs.Calls.{IsCall, Reopens};
@@ -9,11 +9,11 @@ ghost use Rattle.book_core.specs.Transition.{IsTransition};
 ghost use Rattle.book_reports.specs.StreamedDisputes.{WritesDisputes, WritesSomeDisputes};
 ghost use Rattle.book_reports.specs.StreamedDisputes.{dispute_count_outcome, disputes_head};
 ghost use Rattle.book_reports.specs.StreamedDisputes.{disputes_part};
-ghost use Rattle.book_reports.specs.StreamedRulings.{WritesAllBut, refusal_in};
-ghost use Rattle.book_reports.specs.Writing.{WritesPrefix, is_write_fault, is_write_or_memory};
+ghost use Rattle.book_reports.specs.StreamedRulings.{refusal_in};
+ghost use Rattle.book_reports.specs.Writing.{is_write_fault};
 
 use crate::fault::ReportFault;
-use crate::output::write_bytes;
+use crate::waiting::{flush, push_part};
 use book_core::{Dispute, Ledger, LedgerFault, Sink};
 use report_texts::{dispute_list_head, dispute_rows, dispute_table_head, push_dispute};
 use std::alloc::{AllocError, Global};
@@ -30,9 +30,6 @@ pub enum DisputeForm {
 
 /// More disputes than any books have.
 const MOST_DISPUTES: u64 = 1 << 32;
-
-/// How many bytes wait to be written, at most, before those of one more dispute.
-const MOST_WAITING: usize = 65_536;
 
 /// What stands above so many disputes.
 fn head_of(alloc: Global, form: DisputeForm, count: u64) -> Result<Vec<u8>, AllocError>
@@ -88,39 +85,6 @@ pub(crate) fn count_disputes<L: Ledger>(ledger: &mut L) -> Result<u64, LedgerFau
         next = ledger.dispute_from(&from)?;
     }
     Err(LedgerFault::Memory)
-}
-
-/// Writes what waits.
-fn flush<W: Write + Drop>(waiting: &mut Vec<u8>, sink: &mut Sink<W>) -> Result<(), ReportFault>
-    requires { has_failed sink.old ≡ false }
-    ensures written { WritesPrefix waiting.old.items
-        (W.contents (writer_of sink.old)) (W.contents (writer_of sink.new)) result }
-    ensures waits { OnOk result (waiting.new.items ≡ []) }
-    ensures failed { has_failed sink.new ≡ is_write_fault result }
-    ensures fault { IfErr result (λ fault. fault ≡ ReportFault.Write) }
-{
-    write_bytes(sink, waiting.as_slice())?;
-    waiting.clear();
-    Ok(())
-}
-
-/// Adds a part to what waits, and writes it where enough waits.
-fn push_part<W: Write + Drop>(
-    waiting: &mut Vec<u8>,
-    part: &[u8],
-    sink: &mut Sink<W>,
-) -> Result<(), ReportFault>
-    requires { has_failed sink.old ≡ false }
-    ensures written { WritesAllBut (waiting.old.items ++ part.now) waiting.new.items
-        (W.contents (writer_of sink.old)) (W.contents (writer_of sink.new)) result }
-    ensures failed { has_failed sink.new ≡ is_write_fault result }
-    ensures fault { IfErr result (λ fault. is_write_or_memory fault ≡ true) }
-{
-    waiting.extend_from_slice(part)?;
-    if waiting.len() > MOST_WAITING {
-        flush(waiting, sink)?;
-    }
-    Ok(())
 }
 
 /// Writes the disputes: all of them, or a prefix before a fault. They are counted first, since their

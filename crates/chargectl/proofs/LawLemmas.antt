@@ -1,6 +1,6 @@
 -- Commands, one after the other, and the history that they make.
 use Rattle.std.proofs.Common.{◌≡◌, ◌≢◌, ◌∙◌, ◌⊎◌, Bool, true, false, true≢false, ℕ, List, [], ◌∷◌}
-use Rattle.std.proofs.Common.{◌++◌, Option, Result, Ok, Err, ap, inl, inr, refl, subst, sym}
+use Rattle.std.proofs.Common.{◌++◌, Option, Some, None, Result, Ok, Err, ap, inl, inr, refl, subst, sym}
 use Rattle.std.specs.Prelude.{IfOk}
 use Rattle.std.specs.Cmp.Lexicographic.{bytes_decides}
 use Rattle.std.specs.declared.alloc.AllocError.{AllocError}
@@ -12,8 +12,7 @@ use Rattle.book_model.proofs.StepLemmas.{books_follow_history}
 use Rattle.book_core.specs.Follow.{MakesAnswered}
 use Rattle.book_core.specs.Transition.{Transition, NoEvent}
 use Rattle.book_reports.specs.declared.fault.ReportFault.{ReportFault}
-use Rattle.book_reports.specs.StreamedRulings.{WritesReport}
-use Rattle.book_reports.specs.Writing.{WritesPrefix}
+use Rattle.book_reports.specs.StreamedAnswers.{WritesAnswer, WritesOrRefuses}
 use Rattle.book_core.proofs.FollowLemmas.{none_answered}
 use Rattle.office.specs.declared.choosing.Chosen.{Chosen}
 use Rattle.office.specs.declared.repository.RepositoryFault.{RepositoryFault}
@@ -46,12 +45,15 @@ use Rattle.chargectl.specs.Audits.{AuditsBy}
 use Rattle.chargectl.specs.CommandLaws.{AreCommanded, AskedBy, AsksOfHistory, Commanded}
 use Rattle.chargectl.specs.CommandLaws.{ChoicesFollow, CommandsFollowHistory, DoesToHistory, Follows}
 use Rattle.chargectl.specs.CommandLaws.{IsListed, LeaveHistory, ListBy, ListOfHistory, ListsHistoryBy}
-use Rattle.chargectl.specs.CommandLaws.{ListsOfHistory, OpenedSo, RunsOn, ServesOfHistory}
+use Rattle.chargectl.specs.CommandLaws.{ListsAskedOfHistory, ListsOfHistory, OpenedSo, RunsOn}
+use Rattle.chargectl.specs.CommandLaws.{ServesOfHistory}
 use Rattle.chargectl.specs.CommandLaws.{TriedBy, TriesOfHistory, place_after}
 use Rattle.chargectl.specs.DryRuns.{ComesOfDryRun, ShowsDry, TriesAndTells, TriesOnceBy}
 use Rattle.chargectl.specs.Requests.{Does, DoesOrRefuses, ServesBy, SettlesBy}
-use Rattle.chargectl.specs.StreamedLists.{ListsBy, WritesSomeOf, disputes_by, list_text}
-use Rattle.chargectl.specs.StreamedLists.{listing_answered}
+use Rattle.chargectl.specs.Faults.{settled_as}
+use Rattle.chargectl.specs.StreamedLists.{ListsAsked, ListsBy, WritesSomeOf, details_by, disputes_by}
+use Rattle.chargectl.specs.StreamedLists.{list_answer, listing_answered}
+use Rattle.chargectl.specs.Upgrades.{UpgradesBy}
 use Rattle.chargectl.specs.Sittings.{SomeSittings}
 use Rattle.chargectl.proofs.SittingLemmas.{sittings_answered}
 
@@ -166,24 +168,24 @@ module _ (naming : Naming) (history : List Event) (name : List ℕ) (old new : S
           }
 
   -- a list was written
-  listed_on : (text : Naming → Book → List ℕ) (book : List ℕ) (held_bytes holds : Option (List ℕ))
-      (told : Result (Unit {0}) ReportFault)
-      → IsDoneTo book (WritesReport text naming held_bytes holds told) old new
+  listed_on : (answer : Naming → Book → Result (List ℕ) LedgerFault) (book : List ℕ)
+      (held_bytes holds : Option (List ℕ)) (told : Result (Unit {0}) ReportFault)
+      → IsDoneTo book (WritesAnswer answer naming held_bytes holds told) old new
       → Step naming history name old new (λ made. (book ≡ name
-      → WritesPrefix (text naming (book_of history)) held_bytes holds told) × (made ≡ []))
-  listed_on text book held_bytes holds told done = elim (one_or_apart book name) [
+      → WritesOrRefuses (answer naming (book_of history)) held_bytes holds told) × (made ≡ []))
+  listed_on answer book held_bytes holds told done = elim (one_or_apart book name) [
     | inl same ↦
-        let more = (subst (λ book. IsDoneTo book (WritesReport text naming held_bytes holds told) old new) same
-        done).here history held in
+        let more = (subst (λ book. IsDoneTo book (WritesAnswer answer naming held_bytes holds told) old new)
+        same done).here history held in
         record {
           made = more.events;
           so = (
-            λ _. subst (λ book. WritesPrefix (text naming book) held_bytes holds told)
+            λ _. subst (λ book. WritesOrRefuses (answer naming book) held_bytes holds told)
                 (books_follow_history history) more.made.written,
             more.made.none,
           );
-          answered = listing_answered text naming held_bytes holds told history false more.events more.is
-              more.made answered;
+          answered = listing_answered answer naming held_bytes holds told history false more.events
+              more.is more.made answered;
           held = more.now;
           named = done.naming;
         }
@@ -334,16 +336,18 @@ module _ (history : List Event) (name : List ℕ) (old new : Shelf)
       (by_came does.came does.does)
     where
       by_told : (told : Result (Result (Unit {0}) ReportFault) RepositoryFault)
-          → IsOpened (WritesReport (list_text list) old.naming has holds) book old new told
+          → IsOpened (WritesAnswer (list_answer list) old.naming has holds) book old new told
           → ComesBy (WritesSomeOf list has holds) (holds ≡ has) told
           → Step old.naming history name old new
-          (λ made. (book ≡ name → IsListed list (list_text list old.naming (book_of history)) has holds told)
+          (λ made. (book ≡ name → IsListed list (list_answer list old.naming (book_of history)) has holds told)
           × (made ≡ []))
       by_told (Ok written) done some =
-          listed_on old.naming history name old new answered held (list_text list) book has holds written done
+          listed_on old.naming history name old new answered held (list_answer list) book has holds written
+          done
       by_told (Err Unseen) (inl seen) some =
           step_as (λ made so. (λ _. some, so.1))
-          (listed_on old.naming history name old new answered held (list_text list) book has holds seen.0 seen.1)
+          (listed_on old.naming history name old new answered held (list_answer list) book has holds seen.0
+          seen.1)
       by_told (Err Unseen) (inr none) some =
           step_as (λ made is. (λ _. some, is))
           (none_on old.naming history name old new answered held book none)
@@ -368,6 +372,21 @@ module _ (history : List Event) (name : List ℕ) (old new : Shelf)
       by_came (Err why) it =
           step_as (λ made is. (λ _. (it.0, it.2), is))
           (none_on old.naming history name old new answered held book it.1)
+
+  -- one that words ask for
+  list_asked : (asked : Option StreamedList) (book : List ℕ) (has holds : Option (List ℕ))
+      (ended : Ended) → SettlesBy (ListsAsked asked book old new has holds) ended
+      → Step old.naming history name old new
+      (Where book name (ListsAskedOfHistory asked old.naming history has holds ended))
+  list_asked (Some list) book has holds ended does =
+      list_written list book has holds ended
+      (record { came = does.came; does = does.does; ends = does.ends })
+  list_asked None book has holds ended does =
+      step_as (λ made is. (
+        λ _. (does.ends ∙ ap settled_as does.does.0, does.does.2, is),
+        λ _. is,
+      ))
+      (none_on old.naming history name old new answered held book does.does.1)
 
   -- a ruling that was tried
   tried_on : (book : List ℕ) (asked : Asked) (told : Result DatedAnswer RepositoryFault)
@@ -432,6 +451,12 @@ module _ (history : List Event) (name : List ℕ) (old new : Shelf)
       → Step old.naming history name old new
       (Where book name (DoesToHistory old.naming history request has holds ended))
   does_on book asks.Init has holds ended does = still_on book book does.done.kept
+  does_on book asks.Upgrade has holds ended does = by_came does.came does.does
+    where
+      by_came : (came : Result Ended CommandFault) → UpgradesBy book old new has holds came
+          → Step old.naming history name old new (Where book name (λ made. made ≡ []))
+      by_came (Ok ended) it = still_on book book it.done
+      by_came (Err why) it = still_on book book it.1
   does_on book (asks.Audit quiet) has holds ended does = by_came does.came does.does
     where
       by_came : (came : Result Ended CommandFault)
@@ -465,6 +490,8 @@ module _ (history : List Event) (name : List ℕ) (old new : Shelf)
       by_came (Err why) it =
           step_as (λ made is. (λ _. none_served old.naming history made is, λ _. is))
           (none_on old.naming history name old new answered held book it.1)
+  does_on book (asks.Details csv period centre) has holds ended does =
+      list_asked (details_by csv period centre) book has holds ended does
   does_on book asks.Rulings has holds ended does =
       list_written list.Rulings book has holds ended does
   does_on book (asks.Disputes csv) has holds ended does =

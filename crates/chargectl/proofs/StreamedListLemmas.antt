@@ -4,7 +4,13 @@ use Rattle.std.proofs.Common.{inl, inr, refl, sym, take}
 use Rattle.std.specs.Prelude.{IsErr}
 use Rattle.std.specs.Io.KnownBytes.{Keeps}
 use Rattle.std.proofs.KnownBytes.{Appends-kept}
+use Rattle.book_model.specs.declared.fault.LedgerFault.{LedgerFault}
+use Rattle.book_model.specs.Words.{Book, Naming}
+use Rattle.book_core.specs.Ledgers.{Seen}
+use Rattle.book_core.specs.Transition.{IsTransition}
+use Rattle.book_core.proofs.TransitionLemmas.{work_as}
 use Rattle.book_reports.specs.declared.fault.ReportFault.{ReportFault}
+use Rattle.book_reports.specs.StreamedAnswers.{WritesAnswer, WritesOrRefuses, answered_by}
 use Rattle.book_reports.specs.StreamedRulings.{WritesReport}
 use Rattle.book_reports.specs.Writing.{WritesPrefix}
 use Rattle.office.specs.declared.repository.RepositoryFault.{RepositoryFault}
@@ -13,7 +19,23 @@ use Rattle.office.specs.Shelves.{ComesBy, IsDoneTo, IsOpened, Shelf}
 use Rattle.office.proofs.ShelfLemmas.{done_as}
 use Rattle.chargectl.specs.declared.streamed_lists.StreamedList.{StreamedList}
 use Rattle.chargectl.specs.declared.streamed_lists.StreamedList.TheVariants as list
-use Rattle.chargectl.specs.StreamedLists.{WritesSomeOf, list_end, list_text}
+use Rattle.chargectl.specs.StreamedLists.{WritesSomeOf, list_answer, list_end}
+
+-- a text that no book refuses was written
+pub text_answered : (text : Naming → Book → List ℕ) (old new : Seen) (held holds : Option (List ℕ))
+    (told : Result (Unit {0}) ReportFault)
+    → IsTransition old new (WritesReport text old.naming held holds told)
+    → IsTransition old new (WritesAnswer (answered_by text) old.naming held holds told)
+text_answered text old new held holds told written =
+    work_as old new (WritesReport text old.naming held holds told)
+    (WritesAnswer (answered_by text) old.naming held holds told)
+    (λ was before events is it. record {
+      none = it.none;
+      written = (it.written, it.hindered);
+      unread = it.unread;
+      reopens = it.reopens;
+    })
+    written
 
 -- a prefix stays written
 prefix_kept : (text : List ℕ) (held has holds : Option (List ℕ)) (told : Result (Unit {0}) ReportFault)
@@ -22,9 +44,21 @@ prefix_kept text held has holds (Ok done) kept grown = Appends-kept held has hol
 prefix_kept text held has holds (Err fault) kept cut =
     (cut.0, Appends-kept held has holds (take cut.0 text) cut.1 kept)
 
+-- so does what was refused, where nothing was written since
+told_kept : (answer : Result (List ℕ) LedgerFault) (held has holds : Option (List ℕ))
+    (told : Result (Unit {0}) ReportFault)
+    → Keeps has holds → (IsErr told → holds ≡ has) → WritesOrRefuses answer held has told
+    → WritesOrRefuses answer held holds told
+told_kept (Ok text) held has holds told kept still it =
+    (prefix_kept text held has holds told kept it.0, it.1)
+told_kept (Err refused) held has holds (Ok done) kept still it = absurd it.1
+told_kept (Err refused) held has holds (Err fault) kept still it = (still refl ∙ it.0, it.1)
+
 some_kept : (list : StreamedList) (held has holds : Option (List ℕ))
     (told : Result (Unit {0}) ReportFault)
     → Keeps has holds → WritesSomeOf list held has told → WritesSomeOf list held holds told
+some_kept (list.Details report) held has holds told kept some =
+    (some.0, prefix_kept _ held has holds told kept some.1)
 some_kept list.Rulings held has holds told kept some =
     (some.0, prefix_kept _ held has holds told kept some.1)
 some_kept (list.Disputes form) held has holds told kept some =
@@ -32,28 +66,35 @@ some_kept (list.Disputes form) held has holds told kept some =
 
 module _ (list : StreamedList) (book : List ℕ) (old new : Shelf) (held has holds : Option (List ℕ)) (kept : Keeps has holds)
   where
-    done_kept : (told : Result (Unit {0}) ReportFault)
-        → IsDoneTo book (WritesReport (list_text list) old.naming held has told) old new
-        → IsDoneTo book (WritesReport (list_text list) old.naming held holds told) old new
-    done_kept told done =
-        done_as book (WritesReport (list_text list) old.naming held has told) (WritesReport (list_text list) old.naming held holds told)
-        old new
+    done_kept : (told : Result (Unit {0}) ReportFault) → (IsErr told → holds ≡ has)
+        → IsDoneTo book (WritesAnswer (list_answer list) old.naming held has told) old new
+        → IsDoneTo book (WritesAnswer (list_answer list) old.naming held holds told) old new
+    done_kept told still done =
+        done_as book (WritesAnswer (list_answer list) old.naming held has told)
+        (WritesAnswer (list_answer list) old.naming held holds told) old new
         (λ before events is it. record {
           none = it.none;
-          written = prefix_kept _ held has holds told kept it.written;
+          written = told_kept _ held has holds told kept still it.written;
           unread = λ never. absurd (true≢false (sym never));
           reopens = it.reopens;
-          hindered = it.hindered;
         })
         done
 
+    -- a list that failed is not flushed
+    still_of : (written : Result (Unit {0}) ReportFault) → (IsErr (list_end (Ok written)) → holds ≡ has)
+        → IsErr written → holds ≡ has
+    still_of (Ok done) still bad = absurd (true≢false (sym bad))
+    still_of (Err fault) still bad = still refl
+
     pub opened_kept : (told : Result (Result (Unit {0}) ReportFault) RepositoryFault)
-        → IsOpened (WritesReport (list_text list) old.naming held has) book old new told
-        → IsOpened (WritesReport (list_text list) old.naming held holds) book old new told
-    opened_kept (Ok written) done = done_kept written done
-    opened_kept (Err Unseen) (inl seen) = inl (seen.0, done_kept seen.0 seen.1)
-    opened_kept (Err Unseen) (inr none) = inr none
-    opened_kept (Err fault) none = none
+        → (IsErr (list_end told) → holds ≡ has)
+        → IsOpened (WritesAnswer (list_answer list) old.naming held has) book old new told
+        → IsOpened (WritesAnswer (list_answer list) old.naming held holds) book old new told
+    opened_kept (Ok written) still done = done_kept written (still_of written still) done
+    opened_kept (Err Unseen) still (inl seen) =
+        inl (seen.0, done_kept seen.0 (λ _. still refl) seen.1)
+    opened_kept (Err Unseen) still (inr none) = inr none
+    opened_kept (Err fault) still none = none
 
     -- of a list that was not begun nothing is flushed
     pub came_kept : (Same : Type 0) (told : Result (Result (Unit {0}) ReportFault) RepositoryFault)

@@ -1,6 +1,6 @@
 -- Commands, one after the other, on books that are kept by their names: each tells what the definitions
 -- give for the whole history before it.
-use Rattle.std.specs.Prelude.{◌≡◌, ◌≢◌, Bool, false, ℕ, List, [], ◌∷◌, ◌++◌, Option}
+use Rattle.std.specs.Prelude.{◌≡◌, ◌≢◌, Bool, false, ℕ, List, [], ◌∷◌, ◌++◌, Option, None, Some}
 use Rattle.std.specs.Prelude.{IfOk, Result, Ok, Err}
 use Rattle.std.specs.declared.alloc.AllocError.{AllocError}
 use Rattle.streams.specs.InputOutput.{Input}
@@ -8,7 +8,7 @@ use Rattle.tariff_rules.specs.Limits.{most_rate}
 use Rattle.book_model.specs.declared.fault.LedgerFault.{LedgerFault}
 use Rattle.book_model.specs.Words.{Event, IsMadeByCalls, Naming, book_after, book_of}
 use Rattle.book_reports.specs.declared.fault.ReportFault.{ReportFault}
-use Rattle.book_reports.specs.Writing.{WritesPrefix}
+use Rattle.book_reports.specs.StreamedAnswers.{WritesOrRefuses}
 use Rattle.office.specs.declared.choosing.Chosen.{Chosen}
 use Rattle.office.specs.declared.repository.RepositoryFault.{RepositoryFault}
 use Rattle.office.specs.declared.request.Answer.{Answer}
@@ -29,6 +29,7 @@ use Rattle.program_output.specs.declared.status.Status.{Status}
 use Rattle.program_output.specs.Messages.{program_name}
 use Rattle.chargectl.specs.declared.choices.ListAnswered.{ListAnswered}
 use Rattle.chargectl.specs.declared.command_fault.CommandFault.{CommandFault}
+use Rattle.chargectl.specs.declared.command_fault.CommandFault.TheVariants as fault
 use Rattle.chargectl.specs.declared.dated_rulings.DatedAnswer.{DatedAnswer}
 use Rattle.chargectl.specs.declared.ended.Answered.{Answered}
 use Rattle.chargectl.specs.declared.ended.Ended.{Ended}
@@ -40,7 +41,7 @@ use Rattle.chargectl.specs.Commands.{answer_told, first_fault, notice_of}
 use Rattle.chargectl.specs.DryRuns.{ShowsDry}
 use Rattle.chargectl.specs.Faults.{settled_as, status_by}
 use Rattle.chargectl.specs.Requests.{CommandsBy}
-use Rattle.chargectl.specs.StreamedLists.{WritesSomeOf, disputes_by, list_end, list_text}
+use Rattle.chargectl.specs.StreamedLists.{WritesSomeOf, details_by, disputes_by, list_answer, list_end}
 use Rattle.chargectl.specs.Sittings.{SomeSittings}
 
 -- a command: its words, its input, its output and standard error before and after it, its status, and
@@ -174,12 +175,12 @@ pub record ServesOfHistory (naming : Naming) (history made : List Event) : Type 
   pub is : Bool
   pub made_so : SomeSittings naming false (book_after history) made is
 
--- This text was written, whole or up to a fault. Where the books were not opened none was; where it was
--- not seen that their closed files hold them, it may be the list of other books.
-abbrev pub IsListed : StreamedList → List ℕ → Option (List ℕ) → Option (List ℕ)
+-- This text was written, whole or up to a fault, or refused. Where the books were not opened none was;
+-- where it was not seen that their closed files hold them, it may be the list of other books.
+abbrev pub IsListed : StreamedList → Result (List ℕ) LedgerFault → Option (List ℕ) → Option (List ℕ)
     → Result (Result (Unit {0}) ReportFault) RepositoryFault → Type 0
-IsListed list text held holds (Ok written) = WritesPrefix text held holds written
-IsListed list text held holds (Err fault) =
+IsListed list answer held holds (Ok written) = WritesOrRefuses answer held holds written
+IsListed list answer held holds (Err fault) =
     WhereUnopened ((written : _) × WritesSomeOf list held holds written) (holds ≡ held) fault
 
 -- A list of the books of a history was written while they were open.
@@ -187,7 +188,7 @@ pub record ListsHistory (list : StreamedList) (naming : Naming) (history : List 
     (ended : Ended) : Type 0 where
   pub told : Result (Result (Unit {0}) ReportFault) RepositoryFault
   pub flushed : Result (Unit {0}) CommandFault
-  pub listed : IsListed list (list_text list naming (book_of history)) held holds told
+  pub listed : IsListed list (list_answer list naming (book_of history)) held holds told
   pub ends : ended.came ≡ first_fault (list_end told) flushed
 
 -- or there was nothing of that name
@@ -205,14 +206,25 @@ pub record ListsOfHistory (list : StreamedList) (naming : Naming) (history : Lis
   pub ends : ended ≡ settled_as came
   pub none : made ≡ []
 
+-- A list that words ask for; or a word is not what it has to be.
+abbrev pub ListsAskedOfHistory : Option StreamedList → Naming → List Event → Option (List ℕ)
+    → Option (List ℕ) → Ended → List Event → Type 0
+ListsAskedOfHistory (Some list) naming history held holds ended made =
+    ListsOfHistory list naming history held holds ended made
+ListsAskedOfHistory None naming history held holds ended made =
+    (ended ≡ settled_as (Err fault.Argument)) × (holds ≡ held) × (made ≡ [])
+
 -- what each command on books does to the history that they hold
 abbrev pub DoesToHistory : Naming → List Event → BookRequest → Option (List ℕ) → Option (List ℕ)
     → Ended → List Event → Type 0
 DoesToHistory naming history book.Init held holds ended made = made ≡ []
+DoesToHistory naming history book.Upgrade held holds ended made = made ≡ []
 DoesToHistory naming history (book.Audit quiet) held holds ended made = made ≡ []
 DoesToHistory naming history (book.BackUp copy quiet) held holds ended made = made ≡ []
 DoesToHistory naming history (book.Serve port requests) held holds ended made =
     ServesOfHistory naming history made
+DoesToHistory naming history (book.Details csv period centre) held holds ended made =
+    ListsAskedOfHistory (details_by csv period centre) naming history held holds ended made
 DoesToHistory naming history book.Rulings held holds ended made =
     ListsOfHistory list.Rulings naming history held holds ended made
 DoesToHistory naming history (book.Disputes csv) held holds ended made =

@@ -27,7 +27,8 @@ use Rattle.chargectl.specs.DryRuns.{TriesAndTells}
 use Rattle.chargectl.specs.Faults.{error_lines, settled_as, shelf_end, status_by, without_log}
 use Rattle.chargectl.specs.Reading.{Checks, TellsOf, TriesAt, TriesUnder, kind_of}
 use Rattle.chargectl.specs.declared.streamed_lists.StreamedList.TheVariants as list
-use Rattle.chargectl.specs.StreamedLists.{ListsBy, disputes_by}
+use Rattle.chargectl.specs.StreamedLists.{ListsAsked, ListsBy, details_by, disputes_by}
+use Rattle.chargectl.specs.Upgrades.{UpgradesBy}
 use Rattle.chargectl.specs.ServedLines.{unfailed}
 use Rattle.chargectl.specs.Sittings.{ServesAll, SomeSittings, service_end}
 
@@ -70,6 +71,8 @@ pub record SettlesBy (Does : Result Ended CommandFault → Type 0) (ended : Ende
 abbrev pub Does : BookRequest → List ℕ → Shelf → Shelf → Option (List ℕ) → Option (List ℕ) → Ended
     → Type 0
 Does book.Init name old new held holds ended = Makes name old new held holds ended
+Does book.Upgrade name old new held holds ended =
+    SettlesBy (UpgradesBy name old new held holds) ended
 Does (book.Audit quiet) name old new held holds ended =
     SettlesBy (AuditsBy (λ audited. IsUntouched name old new) (new.has_log name)
     (IsUntouched name old new) held holds) ended
@@ -78,6 +81,8 @@ Does (book.BackUp copy quiet) name old new held holds ended =
     held holds) ended
 Does (book.Serve port requests) name old new held holds ended =
     SettlesBy (ServesBy requests name old new held holds) ended
+Does (book.Details csv period centre) name old new held holds ended =
+    SettlesBy (ListsAsked (details_by csv period centre) name old new held holds) ended
 Does book.Rulings name old new held holds ended =
     SettlesBy (ListsBy list.Rulings name old new held holds) ended
 Does (book.Disputes csv) name old new held holds ended =

@@ -1,14 +1,22 @@
--- Lists that are written while the books are open: the rulings and the disputes. They are never held
--- whole.
-use Rattle.std.specs.Prelude.{◌≡◌, Bool, false, if◌then◌else◌, ℕ, List, ◌++◌, Option, None, Result, Ok, Err}
+-- Lists that are written while the books are open: the details of a period, the rulings and the
+-- disputes. They are never held whole.
+use Rattle.std.specs.Prelude.{◌≡◌, Bool, false, if◌then◌else◌, ℕ, List, ◌++◌, Option, Some, None, Result}
+use Rattle.std.specs.Prelude.{Ok, Err}
 use Rattle.std.proofs.Common.{sym, subst}
+use Rattle.std.specs.Borrow.{Bor}
+use Rattle.std.specs.Option.{option_map}
+use Rattle.book_model.specs.declared.fault.LedgerFault.{LedgerFault}
 use Rattle.book_model.specs.Words.{Book, IsMadeByCalls, Naming}
 use Rattle.book_core.specs.Follow.{MakesAnswered}
 use Rattle.book_reports.specs.declared.fault.ReportFault.{ReportFault}
 use Rattle.book_reports.specs.declared.streamed_disputes.DisputeForm.TheVariants as form
-use Rattle.book_reports.specs.BookTexts.{ruling_text}
+use Rattle.book_reports.specs.declared.what_if.StatementForm.{StatementForm}
+use Rattle.book_reports.specs.declared.what_if.StatementForm.TheVariants as shown_as
+use Rattle.book_reports.specs.BookTexts.{centre_named, ruling_text}
+use Rattle.book_reports.specs.StreamedAnswers.{WritesAnswer, answered_by}
+use Rattle.book_reports.specs.StreamedDetails.{WritesSomeDetails, detail_answer}
 use Rattle.book_reports.specs.StreamedDisputes.{WritesSomeDisputes, dispute_report}
-use Rattle.book_reports.specs.StreamedRulings.{WritesReport, WritesSomeRulings}
+use Rattle.book_reports.specs.StreamedRulings.{WritesSomeRulings}
 use Rattle.office.specs.declared.repository.RepositoryFault.{RepositoryFault}
 use Rattle.office.specs.Shelves.{Shelf, ComesBy, IsOpened, IsUntouched}
 use Rattle.chargectl.specs.declared.command_fault.CommandFault.{CommandFault}
@@ -19,25 +27,46 @@ use Rattle.chargectl.specs.declared.streamed_lists.StreamedList.TheVariants as l
 use Rattle.chargectl.specs.Commands.{IsShelfFault, first_fault}
 use Rattle.chargectl.specs.Faults.{shelf_fault}
 
--- the text of a list
-abbrev pub list_text : StreamedList → Naming → Book → List ℕ
-list_text list.Rulings = ruling_text
-list_text (list.Disputes form) = dispute_report form
+-- the text of a list, or why the books have none: only of a period that is not there
+abbrev pub list_answer : StreamedList → Naming → Book → Result (List ℕ) LedgerFault
+list_answer (list.Details report) = detail_answer report
+list_answer list.Rulings = answered_by ruling_text
+list_answer (list.Disputes form) = answered_by (dispute_report form)
 
--- whatever the books are, it is one of some rulings, or of some disputes
+-- whatever the books are, it is one of some details, of some rulings or of some disputes
 abbrev pub WritesSomeOf : StreamedList → Option (List ℕ) → Option (List ℕ)
     → Result (Unit {0}) ReportFault → Type 0
+WritesSomeOf (list.Details report) = WritesSomeDetails report
 WritesSomeOf list.Rulings = WritesSomeRulings
 WritesSomeOf (list.Disputes form) = WritesSomeDisputes form
+
+-- as a table, or as a text
+abbrev pub details_form : Bool → StatementForm
+details_form csv = if csv then shown_as.Table else shown_as.Text
+
+-- details in that form, of one centre or of the whole office
+abbrev pub details_for : Bool → ℕ → Option (List ℕ) → StreamedList
+details_for csv period centre = list.Details (record {
+  form = details_form csv;
+  period = period;
+  centre = centre;
+})
+
+-- those of the whole office, or of the centre that is named, if that is a name
+abbrev pub details_by : Bool → ℕ → Option (Bor (List ℕ)) → Option StreamedList
+details_by csv period None = Some (details_for csv period None)
+details_by csv period (Some centre) =
+    option_map (λ named. details_for csv period (Some named)) (centre_named centre.now)
 
 -- the disputes, as a table or as a list for people
 abbrev pub disputes_by : Bool → StreamedList
 disputes_by csv = list.Disputes (if csv then form.Table else form.List)
 
 -- a list makes events that the books answered, since it makes none
-pub listing_answered : (text : Naming → Book → List ℕ) (naming : Naming) (held holds : Option (List ℕ)) (told : Result (Unit {0}) ReportFault)
-    → MakesAnswered naming (WritesReport text naming held holds told)
-listing_answered text naming held holds told history was events is it answered =
+pub listing_answered : (answer : Naming → Book → Result (List ℕ) LedgerFault) (naming : Naming)
+    (held holds : Option (List ℕ)) (told : Result (Unit {0}) ReportFault)
+    → MakesAnswered naming (WritesAnswer answer naming held holds told)
+listing_answered answer naming held holds told history was events is it answered =
     subst (λ events. IsMadeByCalls naming (events ++ history)) (sym it.none) answered
 
 -- what came of the list: it was written whole, or not, or the books were not opened
@@ -53,7 +82,7 @@ pub record Lists (list : StreamedList) (book : List ℕ) (old new : Shelf)
     (held holds : Option (List ℕ)) (ended : Ended) : Type 0 where
   pub told : Result (Result (Unit {0}) ReportFault) RepositoryFault
   pub flushed : Result (Unit {0}) CommandFault
-  pub done : IsOpened (WritesReport (list_text list) old.naming held holds) book old new told
+  pub done : IsOpened (WritesAnswer (list_answer list) old.naming held holds) book old new told
   pub some : ComesBy (WritesSomeOf list held holds) (holds ≡ held) told
   pub ends : ended.came ≡ first_fault (list_end told) flushed
   pub log : new.has_log book ended.has_log
@@ -66,3 +95,10 @@ abbrev pub ListsBy : StreamedList → List ℕ → Shelf → Shelf → Option (L
 ListsBy list book old new held holds (Ok ended) = Lists list book old new held holds ended
 ListsBy list book old new held holds (Err why) =
     IsShelfFault why × IsUntouched book old new × (holds ≡ held)
+
+-- A list that words ask for; or a word is not what it has to be, and the books are not looked at.
+abbrev pub ListsAsked : Option StreamedList → List ℕ → Shelf → Shelf → Option (List ℕ)
+    → Option (List ℕ) → Result Ended CommandFault → Type 0
+ListsAsked (Some list) book old new held holds came = ListsBy list book old new held holds came
+ListsAsked None book old new held holds came =
+    (came ≡ Err fault.Argument) × IsUntouched book old new × (holds ≡ held)

@@ -24,6 +24,7 @@ mod report_commands;
 mod serve;
 mod served_lines;
 mod streamed_lists;
+mod upgrades;
 
 pub use laws::commands_follow_history;
 pub use port::{Connections, Peer, answer_peer};

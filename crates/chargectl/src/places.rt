@@ -174,9 +174,11 @@ impl<'a> Places<'a> {
                     cause: None,
                 })
             }
-            LedgerFault::Store | LedgerFault::Reopen | LedgerFault::NotBooks => {
-                Spot::of_file(self.books.or(self.new), None)
-            }
+            LedgerFault::Store
+            | LedgerFault::Reopen
+            | LedgerFault::NotBooks
+            | LedgerFault::OldForm
+            | LedgerFault::NewForm => Spot::of_file(self.books.or(self.new), None),
             _ => None,
         }
     }

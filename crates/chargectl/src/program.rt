@@ -22,7 +22,8 @@ use crate::report_commands::{
     report_period, report_periods, report_record, report_tariff, what_if,
 };
 use crate::serve::serve;
-use crate::streamed_lists::{StreamedList, disputes_by, write_list};
+use crate::streamed_lists::{StreamedList, disputes_by, list_details, write_list};
+use crate::upgrades::upgrade;
 use book_audit::AuditedRepository;
 use book_core::{LedgerFault, Sink, Source};
 use book_import::{MAX_READS, Receipt, Stop};
@@ -139,6 +140,14 @@ fn run_on_books<S: AuditedRepository, O: Write + Drop>(
             what_if(rt, repository, book, form, period, centre, file),
             output,
         ),
+        BookRequest::Details {
+            csv,
+            period,
+            centre,
+        } => {
+            let (listed, output) = list_details(rt, repository, book, csv, period, centre, output);
+            (Ended::settled(listed), output)
+        }
         BookRequest::Disputes { csv } => {
             let (listed, output) = write_list(rt, repository, book, disputes_by(csv), output);
             (Ended::settled(listed), output)
@@ -151,6 +160,10 @@ fn run_on_books<S: AuditedRepository, O: Write + Drop>(
         }
         BookRequest::TariffText { date } => {
             tell(report_tariff(rt, repository, book, date), output)
+        }
+        BookRequest::Upgrade => {
+            let upgraded = upgrade(repository, book, &mut output);
+            (Ended::settled(upgraded), output)
         }
         BookRequest::Audit { quiet } => {
             let audited = audit(rt, repository, book, quiet, &mut output);

@@ -1,29 +1,66 @@
-//! Lists that are written while the books are open: the rulings and the disputes. With a million
-//! choices or records in dispute a list has 90 MB or more, and is never held whole.
+//! Lists that are written while the books are open: the details of a period, the rulings and the
+//! disputes. With a million records or choices a list has 90 MB or more, and is never held whole.
 
 ghost use Rattle.std.specs.Prelude.{◌≡◌, Err, IsErr};
 ghost use Rattle.std.specs.Io.KnownBytes.{Keeps};
 ghost use Rattle.streams.specs.Sinks.{writer_of};
 ghost use Rattle.book_core.specs.Calls.{Reopens};
 ghost use Rattle.book_core.specs.Transition.{IsTransition};
-ghost use Rattle.book_reports.specs.StreamedRulings.{WritesReport, refusal_in};
+ghost use Rattle.book_reports.specs.StreamedAnswers.{WritesAnswer};
+ghost use Rattle.book_reports.specs.StreamedRulings.{refusal_in};
 ghost use Rattle.chargectl.specs.Commands.{first_fault};
 ghost use Rattle.chargectl.specs.StreamedLists as spec;
-ghost use Rattle.chargectl.specs.StreamedLists.{ListsBy, WritesSomeOf, list_text};
+ghost use Rattle.chargectl.specs.StreamedLists.{ListsAsked, ListsBy, WritesSomeOf, list_answer};
 
 use crate::command_fault::CommandFault;
 use crate::ended::Ended;
 use book_core::{Ledger, Sink};
-use book_reports::{DisputeForm, ReportFault, write_disputes, write_rulings};
-use office::{Opened, Repository, RepositoryFault, Visit};
+use book_reports::{
+    DetailReport, DisputeForm, ReportFault, write_details, write_disputes, write_rulings,
+};
+use office::{Opened, Repository, RepositoryFault, StatementForm, Visit, centre_named};
 use std::alloc::Global;
 use std::io::Write;
 
 /// A list that is written so.
 #[derive(Clone, Copy, Debug, PartialEq, Eq)]
 pub(crate) enum StreamedList {
+    Details(DetailReport),
     Rulings,
     Disputes(DisputeForm),
+}
+
+fn details_form(csv: bool) -> StatementForm
+    ensures { result ≡ spec.details_form csv }
+{
+    if csv {
+        StatementForm::Table
+    } else {
+        StatementForm::Text
+    }
+}
+
+/// The details of a period, of the whole office where no centre is named. `None`: the text is no
+/// name.
+fn details_by(csv: bool, period: u16, centre: Option<&str>) -> Option<StreamedList>
+    ensures { result ≡ spec.details_by csv period centre.entry }
+{
+    let form = details_form(csv);
+    match centre {
+        Some(text) => {
+            let centre = centre_named(text)?;
+            Some(StreamedList::Details(DetailReport {
+                form,
+                period,
+                centre: Some(centre),
+            }))
+        }
+        None => Some(StreamedList::Details(DetailReport {
+            form,
+            period,
+            centre: None,
+        })),
+    }
 }
 
 /// The disputes as a table of comma-separated values, or as a list for people.
@@ -53,7 +90,7 @@ fn write_of<L: Ledger, O: Write + Drop>(
     sink: &mut Sink<O>,
 ) -> Result<(), ReportFault>
     ensures written { IsTransition (L.seen books.old) (L.seen books.new)
-        (WritesReport (list_text list) (L.seen books.old).naming
+        (WritesAnswer (list_answer list) (L.seen books.old).naming
         (O.contents (writer_of sink.old)) (O.contents (writer_of sink.new)) result) }
     ensures reopens { Reopens (refusal_in result)
         (L.seen books.old).must_reopen (L.seen books.new).must_reopen }
@@ -61,6 +98,7 @@ fn write_of<L: Ledger, O: Write + Drop>(
         (O.contents (writer_of sink.old)) (O.contents (writer_of sink.new)) result }
 {
     match list {
+        StreamedList::Details(report) => write_details(alloc, books, report, sink),
         StreamedList::Rulings => write_rulings(alloc, books, sink),
         StreamedList::Disputes(form) => write_disputes(alloc, books, form, sink),
     }
@@ -68,18 +106,18 @@ fn write_of<L: Ledger, O: Write + Drop>(
 
 impl<O: Write + Drop> Visit for Listing<O> {
     ghost use Rattle.streams.specs.Sinks.{writer_of};
-    ghost use Rattle.book_reports.specs.StreamedRulings.{WritesReport};
-    ghost use Rattle.chargectl.specs.StreamedLists.{WritesSomeOf, list_text, listing_answered};
+    ghost use Rattle.book_reports.specs.StreamedAnswers.{WritesAnswer};
+    ghost use Rattle.chargectl.specs.StreamedLists.{WritesSomeOf, list_answer, listing_answered};
 
     type Answer = Result<(), ReportFault>;
 
-    ghost work = { λ naming it after told. WritesReport (list_text it.list) naming
+    ghost work = { λ naming it after told. WritesAnswer (list_answer it.list) naming
         (O.contents (writer_of it.sink)) (O.contents (writer_of after.sink)) told };
 
     ghost comes = { λ it after told. WritesSomeOf it.list
         (O.contents (writer_of it.sink)) (O.contents (writer_of after.sink)) told };
 
-    ghost answered = { λ naming it after told. listing_answered (list_text it.list) naming
+    ghost answered = { λ naming it after told. listing_answered (list_answer it.list) naming
         (O.contents (writer_of it.sink)) (O.contents (writer_of after.sink)) told };
 
     fn visit<L: Ledger>(&mut self, books: &mut L) -> Result<(), ReportFault> {
@@ -116,6 +154,26 @@ pub(crate) fn write_list<S: Repository, O: Write + Drop>(
         notice: None,
     };
     (Ok(ended), output)
+}
+
+/// Writes the details of a period, of one centre or of the whole office.
+pub(crate) fn list_details<S: Repository, O: Write + Drop>(
+    rt: &HostRuntime,
+    repository: &mut S,
+    book: &str,
+    csv: bool,
+    period: u16,
+    centre: Option<&str>,
+    output: O,
+) -> (Result<Ended, CommandFault>, O)
+    ensures { ListsAsked (spec.details_by csv period centre.entry) book.now
+        (S.shelf repository.old) (S.shelf repository.new)
+        (O.contents output) (O.contents result.1) result.0 }
+{
+    match details_by(csv, period, centre) {
+        Some(list) => write_list(rt, repository, book, list, output),
+        None => (Err(CommandFault::Argument), output),
+    }
 }
 
 /// What came of the list, before the output is flushed.

@@ -129,11 +129,13 @@ known_table = (
     (codes "adopt", book ∷ dry_run ∷ []) ∷
     (codes "statement", book ∷ period ∷ csv ∷ centre ∷ prices ∷ []) ∷
     (codes "adjustments", book ∷ period ∷ csv ∷ centre ∷ []) ∷
+    (codes "details", book ∷ period ∷ csv ∷ centre ∷ []) ∷
     (codes "disputes", book ∷ csv ∷ []) ∷
     (codes "record", book ∷ record_name ∷ []) ∷
     (codes "periods", book ∷ []) ∷
     (codes "rulings", book ∷ []) ∷
     (codes "tariff-text", book ∷ date ∷ []) ∷
+    (codes "upgrade", book ∷ []) ∷
     (codes "audit", book ∷ quiet ∷ []) ∷
     (codes "backup", book ∷ file ∷ quiet ∷ []) ∷
     (codes "serve", book ∷ port ∷ requests ∷ []) ∷

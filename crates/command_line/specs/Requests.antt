@@ -156,6 +156,9 @@ IsOfBooks name rows (book.OfPeriod asked period centre) =
 IsOfBooks name rows (book.WhatIf form period centre file) =
     (name ≡ codes "statement") × IsNumber rows (codes "period") period × IsForm rows form
     × IsCentre rows centre × IsText rows (codes "tariff") file
+IsOfBooks name rows (book.Details csv period centre) =
+    (name ≡ codes "details") × IsNumber rows (codes "period") period
+    × IsFlag rows (codes "csv") csv × IsCentre rows centre
 IsOfBooks name rows (book.Disputes csv) =
     (name ≡ codes "disputes") × IsFlag rows (codes "csv") csv
 IsOfBooks name rows (book.Record digest) =
@@ -164,6 +167,7 @@ IsOfBooks name rows book.Periods = name ≡ codes "periods"
 IsOfBooks name rows book.Rulings = name ≡ codes "rulings"
 IsOfBooks name rows (book.TariffText date) =
     (name ≡ codes "tariff-text") × IsText rows (codes "date") date
+IsOfBooks name rows book.Upgrade = name ≡ codes "upgrade"
 IsOfBooks name rows (book.Audit quiet) =
     (name ≡ codes "audit") × IsFlag rows (codes "quiet") quiet
 IsOfBooks name rows (book.BackUp copy quiet) =

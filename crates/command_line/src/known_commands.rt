@@ -116,7 +116,7 @@ const SHA256: Argument = Argument::MaybeLast(ValuedArgument {
 const RECORD_NAME: Argument = Argument::InPlace(ValuedArgument {
     name: "sha256",
     shown: "SHA256",
-    help: "The record's name, as the lists of disputes and of adjustments show it",
+    help: "The record's name, as details and the lists of disputes and adjustments show it",
     kind: ValueKind::Text,
 });
 
@@ -243,7 +243,7 @@ const NUMBER: Argument = Argument::Last(
 );
 
 /// The commands in the order of the program's help.
-pub(crate) static KNOWN_COMMANDS: [KnownCommand; 19] = [
+pub(crate) static KNOWN_COMMANDS: [KnownCommand; 21] = [
     KnownCommand {
         name: "trial",
         about: "Prices a dump from standard input in new books, and prints their statement",
@@ -295,6 +295,11 @@ pub(crate) static KNOWN_COMMANDS: [KnownCommand; 19] = [
         words: &[BOOK, PERIOD, CSV, CENTRE],
     },
     KnownCommand {
+        name: "details",
+        about: "Prints each record that a period counts, and what it costs",
+        words: &[BOOK, PERIOD, CSV, CENTRE],
+    },
+    KnownCommand {
         name: "disputes",
         about: "Prints the records in dispute",
         words: &[BOOK, DISPUTE_CSV],
@@ -318,6 +323,11 @@ pub(crate) static KNOWN_COMMANDS: [KnownCommand; 19] = [
         name: "tariff-text",
         about: "Prints the tariff file that begins on a day, byte for byte",
         words: &[BOOK, FIRST_DAY],
+    },
+    KnownCommand {
+        name: "upgrade",
+        about: "Brings books of an older form over to the present one",
+        words: &[BOOK],
     },
     KnownCommand {
         name: "audit",

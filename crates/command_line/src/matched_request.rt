@@ -79,7 +79,7 @@ fn change_in<'a>(name: &str, found: &ArgMatches<'a>) -> Option<Request<'a>>
     }
 }
 
-/// A report, an audit, a backup or a service.
+/// A report, an upgrade, an audit, a backup or a service.
 fn service_in<'a>(name: &str, found: &ArgMatches<'a>) -> Option<Request<'a>>
     ensures request { IfSome result (IsOfCommand name.now (rows_in found.now)) }
     ensures some { HasWordsOf name.now (rows_in found.now)
@@ -91,6 +91,7 @@ fn service_in<'a>(name: &str, found: &ArgMatches<'a>) -> Option<Request<'a>>
         "statement" => of_books_in(found, statement_in(found)),
         "adjustments" => of_books_in(found, adjustments_in(found)),
         "disputes" => of_books_in(found, disputes_in(found)),
+        "upgrade" => of_books_in(found, Some(BookRequest::Upgrade)),
         "audit" => of_books_in(found, audit_in(found)),
         "backup" => of_books_in(found, back_up_in(found)),
         "serve" => of_books_in(found, serve_in(found)),
@@ -98,16 +99,17 @@ fn service_in<'a>(name: &str, found: &ArgMatches<'a>) -> Option<Request<'a>>
     }
 }
 
-/// What became of a record, the periods, or what was ruled.
+/// The records of a period, what became of one, the periods, or what was ruled.
 fn list_in<'a>(name: &str, found: &ArgMatches<'a>) -> Option<Request<'a>>
     ensures request { IfSome result (IsOfCommand name.now (rows_in found.now)) }
     ensures some { HasWordsOf name.now (rows_in found.now)
         → NoneIs (codes "trial" ∷ codes "check" ∷ codes "explain" ∷ codes "init"
         ∷ codes "tariff" ∷ codes "import" ∷ codes "close" ∷ codes "choose" ∷ codes "adopt"
-        ∷ codes "statement" ∷ codes "adjustments" ∷ codes "disputes" ∷ codes "audit"
-        ∷ codes "backup" ∷ codes "serve" ∷ []) name.now → IsSome result }
+        ∷ codes "statement" ∷ codes "adjustments" ∷ codes "disputes" ∷ codes "upgrade"
+        ∷ codes "audit" ∷ codes "backup" ∷ codes "serve" ∷ []) name.now → IsSome result }
 {
     match name {
+        "details" => of_books_in(found, details_in(found)),
         "record" => of_books_in(found, record_in(found)),
         "periods" => of_books_in(found, Some(BookRequest::Periods)),
         "rulings" => of_books_in(found, Some(BookRequest::Rulings)),
@@ -381,6 +383,30 @@ fn charged_in<'a>(found: &ArgMatches<'a>, csv: bool, period: u16) -> BookRequest
         of_period_in(found, PeriodReport::StatementTable, period)
     } else {
         of_period_in(found, PeriodReport::Statement, period)
+    }
+}
+
+/// The records that a period counts, of the centre that is named or of the whole office.
+fn details_in<'a>(found: &ArgMatches<'a>) -> Option<BookRequest<'a>>
+    ensures asked { IfSome result (IsOfBooks (codes "details") (rows_in found.now)) }
+    ensures some { HasWord (rows_in found.now) known.period
+        → HasWord (rows_in found.now) known.csv → IsSome result }
+{
+    let period = number_in(found, "period")?;
+    let csv = flag_in(found, "csv")?;
+    Some(details_of(found, csv, period))
+}
+
+fn details_of<'a>(found: &ArgMatches<'a>, csv: bool, period: u16) -> BookRequest<'a>
+    ensures { IsNumber (rows_in found.now) (codes "period") period
+        → IsFlag (rows_in found.now) (codes "csv") csv
+        → IsOfBooks (codes "details") (rows_in found.now) result }
+{
+    let centre = text_in(found, "centre");
+    BookRequest::Details {
+        csv,
+        period,
+        centre,
     }
 }
 

@@ -147,6 +147,15 @@ pub enum BookRequest<'a> {
         /// The path of the tariff.
         file: &'a str,
     },
+    /// The records that a period counts printed, each with what it costs.
+    Details {
+        /// As a table of comma-separated values.
+        csv: bool,
+        /// The number of the period.
+        period: u16,
+        /// The name of the one centre that they are of; None stands for the whole office.
+        centre: Option<&'a str>,
+    },
     /// The disputes printed.
     Disputes {
         /// As a table of comma-separated values.
@@ -166,6 +175,8 @@ pub enum BookRequest<'a> {
         /// Its first day, as `YYYY-MM-DD`.
         date: &'a str,
     },
+    /// The books brought over to the form in which books are written now.
+    Upgrade,
     /// The whole file audited.
     Audit {
         /// No progress is shown.

@@ -1,6 +1,7 @@
 pub mod ColumnLemmas
 pub mod PeriodLemmas
 pub mod TableLemmas
+pub mod MadeTables
 pub mod RowLemmas
 pub mod AmountLemmas
 pub mod CentreLemmas

@@ -1,7 +1,7 @@
 -- Read in this order: columns and numbers, how a period is named, each text of a whole period, those
--- of one centre, what-ifs, the disputes as a list and as a table, the lists of periods and of
--- rulings, the text of one record in its parts, and what a dry run of a ruling shows: its figures, and
--- its text.
+-- of one centre, what-ifs, the disputes as a list and as a table, the details of a period as both,
+-- the lists of periods and of rulings, the text of one record in its parts, and what a dry run of a
+-- ruling shows: its figures, and its text.
 pub mod Columns
 pub mod Periods
 pub mod Statements
@@ -14,6 +14,8 @@ pub mod WhatIfs
 pub mod DisputeLists
 pub mod Moments
 pub mod DisputeTables
+pub mod DetailLists
+pub mod DetailTables
 pub mod PeriodLists
 pub mod RulingLists
 pub mod UsageLines

@@ -5,6 +5,8 @@ mod adjustment_lists;
 mod adjustment_tables;
 mod centres;
 mod columns;
+mod detail_lists;
+mod detail_tables;
 mod dispute_lists;
 mod dispute_tables;
 mod dry_runs;
@@ -30,6 +32,8 @@ pub use centres::{
     centre_adjustment_table, centre_adjustments_text, centre_statement_table, centre_statement_text,
 };
 pub use columns::push_number;
+pub use detail_lists::{detail_head, detail_total, push_detail_line};
+pub use detail_tables::{detail_row, detail_table_head};
 pub use dispute_lists::{dispute_list_head, dispute_list_text, push_dispute};
 pub use dispute_tables::{dispute_rows, dispute_table, dispute_table_head};
 pub use dry_runs::{TriedRuling, dry_run_text};

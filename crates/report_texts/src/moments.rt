@@ -34,6 +34,15 @@ fn push_time(out: &mut String, time: u32) -> Result<(), AllocError>
     push_two_digits(out, time % 100)
 }
 
+/// A time of day, given in hundredths of a second since midnight.
+pub(crate) fn time_text(alloc: Global, time: u32) -> Result<String, AllocError>
+    ensures { IfOk result (λ text. string_bytes text ≡ spec.time_text time) }
+{
+    let mut text = String::new(alloc);
+    push_time(&mut text, time)?;
+    Ok(text)
+}
+
 /// A day and a time of it.
 #[tactic(auto, unfolding(crate::specs::Moments::day_time_text))]
 pub(crate) fn day_time_text(alloc: Global, day: i32, time: u32) -> Result<String, AllocError>

@@ -28,7 +28,12 @@ pub(crate) fn push_key(
 }
 
 /// Appends the columns that say how much work it is.
-fn push_work(out: &mut String, count: &str, cpu: &str, blocks: &str) -> Result<(), AllocError>
+pub(crate) fn push_work(
+    out: &mut String,
+    count: &str,
+    cpu: &str,
+    blocks: &str,
+) -> Result<(), AllocError>
     ensures { OnOk result (string_bytes out.new
         ≡ string_bytes out.old ++ spec.work_columns count.now cpu.now blocks.now) }
 {
@@ -52,7 +57,7 @@ fn push_amount(out: &mut String, amount: &str) -> Result<(), AllocError>
 /// Appends the columns of numbers: a count of records, their CPU time in hundredths of a second,
 /// their blocks, and what they cost in ten-thousandths of the money unit.
 #[tactic(auto, unfolding(crate::specs::Statements::number_columns))]
-fn push_numbers(
+pub(crate) fn push_numbers(
     alloc: Global,
     out: &mut String,
     count: u64,

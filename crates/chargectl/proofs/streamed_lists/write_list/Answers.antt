@@ -1,10 +1,10 @@
-use Rattle.std.proofs.Common.{◌∙◌, None, Ok, false, ap, refl, subst, sym}
+use Rattle.std.proofs.Common.{◌≡◌, ◌∙◌, None, Ok, false, ap, refl, subst, sym}
 use Rattle.std.specs.Prelude.{IsErr}
 use Rattle.std.specs.Io.KnownBytes.{Keeps}
 use Rattle.streams.specs.Sinks.{writer_of}
 use Rattle.office.proofs.ShelfLemmas.{untouched}
 use Rattle.chargectl.specs.Commands.{first_fault}
-use Rattle.chargectl.specs.StreamedLists.{ListsBy}
+use Rattle.chargectl.specs.StreamedLists.{ListsBy, list_end}
 use Rattle.chargectl.proofs.StreamedListLemmas.{came_kept, opened_kept}
 use Rattle.chargectl.proofs.streamed_lists.write_list.Goals as goal
 
@@ -28,6 +28,9 @@ returns g c =
     let told = c.open-answer.result.answer in
     let kept : Keeps has holds =
     subst (λ output. Keeps (contents output) holds) c.into_inner-output.ensures c.flushed.ensures.kept in
+    let still : IsErr (list_end told) → holds ≡ has =
+    λ bad. ap contents (c.flushed.ensures.same (subst (λ came. IsErr came) (sym c.list_end.ensures) bad)
+    ∙ c.into_inner-output.ensures) in
     subst (λ held. ListsBy list book old new held holds (Ok (record {
       came = c.flushed.result;
       has_log = c.open-answer.result.has_log;
@@ -38,11 +41,9 @@ returns g c =
     (record {
       told = told;
       flushed = c.flushed.result;
-      done = opened_kept list book old new held has holds kept told c.open-answer.ensures.opened;
+      done = opened_kept list book old new held has holds kept told still c.open-answer.ensures.opened;
       some = came_kept list book old new held has holds kept _ told
-          (λ same. ap (λ listing. contents (writer_of listing.sink)) same)
-          (λ bad. ap contents (c.flushed.ensures.same (subst (λ came. IsErr came) (sym c.list_end.ensures) bad)
-          ∙ c.into_inner-output.ensures))
+          (λ same. ap (λ listing. contents (writer_of listing.sink)) same) still
           c.open-answer.ensures.came;
       ends = c.flushed.ensures.ends
           ∙ ap (λ came. first_fault came c.flushed.result) c.list_end.ensures;

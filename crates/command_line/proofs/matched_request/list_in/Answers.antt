@@ -6,9 +6,22 @@ use Rattle.command_line.specs.Requests.{IsOfBooks, rows_in}
 use Rattle.command_line.proofs.ReaderLemmas.{not_named}
 use Rattle.command_line.proofs.matched_request.list_in.Goals as goal
 
+pub returns-in-details-clause-request : goal.returns-in-details-clause-request
+returns-in-details-clause-request c =
+    c.of_books_in.ensures.request c.args.name.now
+    (subst (λ n. IfSome c.details_in.result (IsOfBooks n (rows_in c.args.found.now)))
+    (sym c.in-details.is) c.details_in.ensures.asked)
+
+pub returns-in-details-clause-some : goal.returns-in-details-clause-some
+unfolding known_table
+returns-in-details-clause-some c =
+    λ has others.
+    let words = subst (λ n. HasWordsOf n (rows_in c.args.found.now)) c.in-details.is has in
+    c.of_books_in.ensures.some words.0 (c.details_in.ensures.some words.1.0 words.1.1.0)
+
 pub returns-in-record-clause-request : goal.returns-in-record-clause-request
 returns-in-record-clause-request c =
-    c.of_books_in.ensures.request c.args.name.now
+    c.of_books_in-in-record.ensures.request c.args.name.now
     (subst (λ n. IfSome c.record_in.result (IsOfBooks n (rows_in c.args.found.now)))
     (sym c.in-record.is) c.record_in.ensures.asked)
 
@@ -17,7 +30,7 @@ unfolding known_table
 returns-in-record-clause-some c =
     λ has others.
     let words = subst (λ n. HasWordsOf n (rows_in c.args.found.now)) c.in-record.is has in
-    c.of_books_in.ensures.some words.0 (c.record_in.ensures.some words.1.0)
+    c.of_books_in-in-record.ensures.some words.0 (c.record_in.ensures.some words.1.0)
 
 pub returns-in-periods-clause-some : goal.returns-in-periods-clause-some
 unfolding known_table

@@ -1,4 +1,4 @@
-use Rattle.std.proofs.Common.{subst, sym}
+use Rattle.std.proofs.Common.{refl, subst, sym}
 use Rattle.std.specs.Prelude.{IfSome}
 use Rattle.command_line.specs.Given.{HasWordsOf}
 use Rattle.command_line.specs.Known.{known_table}
@@ -44,6 +44,13 @@ returns-in-disputes-clause-some c =
     λ has others.
     let words = subst (λ n. HasWordsOf n (rows_in c.args.found.now)) c.in-disputes.is has in
     c.of_books_in-in-disputes.ensures.some words.0 (c.disputes_in.ensures.some words.1.0)
+
+pub returns-in-upgrade-clause-some : goal.returns-in-upgrade-clause-some
+unfolding known_table
+returns-in-upgrade-clause-some c =
+    λ has others.
+    let words = subst (λ n. HasWordsOf n (rows_in c.args.found.now)) c.in-upgrade.is has in
+    c.of_books_in-in-upgrade.ensures.some words.0 refl
 
 pub returns-in-audit-clause-request : goal.returns-in-audit-clause-request
 returns-in-audit-clause-request c =

@@ -1,11 +1,7 @@
-use Rattle.std.proofs.Common.{◌≡◌, ℕ, List, [], Ok, Err, Result}
-use Rattle.std.specs.Prelude.{IfOk, Vec}
-use Rattle.std.specs.Global.{Global}
-use Rattle.std.specs.declared.alloc.AllocError.{AllocError}
-use Rattle.csv.specs.declared.writer.Writer.{Writer}
-use Rattle.report_texts.specs.Tables.{IsBetweenRows}
+use Rattle.std.proofs.Common.{[]}
 use Rattle.book_model.specs.Words.{dispute_shown}
 use Rattle.report_texts.proofs.RowLemmas.{long_enough}
+use Rattle.report_texts.proofs.MadeTables.{made_of}
 use Rattle.report_texts.proofs.dispute_tables.dispute_rows.Goals as goal
 
 -- the dispute can be shown
@@ -15,14 +11,6 @@ write_members-requires-clause-identity c =
 
 pub write_members-requires-clause-days : goal.write_members-requires-clause-days
 write_members-requires-clause-days c = rw c.deref-2.ensures.value c.requires.days
-
--- what the table was made of is what it holds
-made_of : (table : Writer (Vec ℕ Global)) (result : Result (Vec ℕ Global) AllocError)
-    (bytes : List ℕ)
-    → IfOk result (λ made. (some : List ℕ) → IsBetweenRows table some → made.items ≡ some)
-    → IsBetweenRows table bytes → IfOk result (λ made. made.items ≡ bytes)
-made_of table (Ok made) bytes is between = is bytes between
-made_of table (Err error) bytes is between = tt
 
 -- its rows are those of the records
 pub returns : goal.returns

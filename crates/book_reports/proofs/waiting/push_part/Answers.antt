@@ -1,7 +1,7 @@
 use Rattle.std.proofs.lemmas.Result.{err_from_is_err_and}
 use Rattle.streams.specs.Sinks.{writer_of}
 use Rattle.book_reports.proofs.StreamedLemmas.{first_written, none_written, written_as}
-use Rattle.book_reports.proofs.streamed_disputes.push_part.Goals as goal
+use Rattle.book_reports.proofs.waiting.push_part.Goals as goal
 
 -- there is no memory for the part
 pub returns-in_err-extend_from_slice-clause-written :

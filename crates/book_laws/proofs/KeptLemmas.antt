@@ -1,0 +1,72 @@
+-- Kept details: the details of a period are those of its days, and they follow the book.
+use Rattle.std.proofs.Common.{◌≡◌, ℕ, List, refl, ap, ◌∙◌, true, false, Option, Some, None}
+use Rattle.std.specs.Prelude.{ℤ, ◌<ℤ◌, int_lt, MatchOption}
+use Rattle.std.proofs.Common.{arith}
+use Rattle.std.proofs.lemmas.Int.{ints}
+use Rattle.smf_type30.specs.Usage.{day_of}
+use Rattle.book_model.specs.Words.{Book, IsSound, Naming, book_after, charged_of, counted_of}
+use Rattle.book_model.specs.Words.{details_for, has, is_counted, is_dated_after, is_dated_in}
+use Rattle.book_model.specs.Words.{last_close}
+use Rattle.book_model.proofs.CallLemmas.{calls_go_forward}
+use Rattle.book_model.proofs.CountedDays.{has_counted_of}
+use Rattle.book_model.proofs.CountedLemmas.{close_leaves, current_is, settled_is}
+use Rattle.book_model.proofs.DetailLemmas.{detail_joins, details_those}
+use Rattle.book_model.proofs.MadeByCallsLemmas.{sound_after}
+use Rattle.book_model.proofs.RecordSets.{in_those}
+use Rattle.table_model.specs.CountedRead.{is_day_of}
+use Rattle.table_model.proofs.DetailReading.{dated_alike}
+use Rattle.book_laws.specs.KeptDetails.{CountedFollows, DetailsAreKept, RowsJoinAndGo}
+use Rattle.book_laws.specs.KeptDetails.{TariffsReadKept}
+use Rattle.book_laws.proofs.CountedLemmas.{counted_by_day}
+use Rattle.book_laws.proofs.ReadLemmas.{named}
+
+-- the law
+pub details_are_kept : DetailsAreKept
+details_are_kept naming history number period answered found =
+    let book : Book = book_after history in
+    let sound = sound_after naming history answered in
+    let held : (bytes : List ℕ) → has (counted_of book) bytes ≡ true → has book.held bytes ≡ true =
+    λ bytes there. in_those (is_counted book) book.held bytes there in
+    ap (details_for naming book.rulings)
+    (counted_by_day naming history number period answered found)
+    ∙ details_those naming book.rulings (counted_of book)
+    (named naming book sound (counted_of book) held) (is_dated_in book.rulings number)
+    (λ detail. is_day_of number book.rulings detail.priced.day)
+    (dated_alike naming book.rulings number)
+
+-- what is dated after the last close is counted where it is charged
+current_counted : (naming : Naming) (book : Book) (bytes : List ℕ) → IsSound naming book
+    → is_dated_after (last_close book.rulings) bytes ≡ true
+    → has (counted_of book) bytes ≡ has (charged_of book) bytes
+current_counted naming book bytes sound late =
+    has_counted_of naming book sound bytes
+    ∙ current_is naming book sound bytes (charged_of book) late
+
+-- the law
+pub counted_follows : CountedFollows
+counted_follows = record {
+  current = current_counted;
+  settled = λ naming book bytes sound early.
+      has_counted_of naming book sound bytes ∙ settled_is book (charged_of book) bytes early;
+  close = λ naming book number day sound done.
+      close_leaves book day (calls_go_forward.close book number day done);
+}
+
+-- what is dated no earlier than a day that comes after a close is dated after that
+not_before : (last : Option ℤ) (day : ℤ) (bytes : List ℕ)
+    → MatchOption last (Unit {0}) (λ close. close <ℤ day) → int_lt (day_of bytes) day ≡ false
+    → is_dated_after last bytes ≡ true
+not_before None day bytes later from = refl
+not_before (Some close) day bytes later from = grind (arith, ints)
+
+-- the law
+pub tariffs_read_kept : TariffsReadKept
+tariffs_read_kept naming book text terms bytes sound done held from =
+    current_counted naming book bytes sound
+    (not_before (last_close book.rulings) terms.effective bytes
+    (calls_go_forward.tariff book text terms done) from)
+
+-- the law
+pub rows_join_and_go : RowsJoinAndGo
+rows_join_and_go naming rulings records bytes detail apart new is =
+    detail_joins naming rulings records bytes detail apart new is

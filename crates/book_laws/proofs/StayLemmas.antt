@@ -1,0 +1,118 @@
+-- Details of closed periods stay, and come one after another.
+use Rattle.std.proofs.Common.{◌≡◌, ℕ, List, [], ◌∷◌, ◌++◌, refl, sym, ap, ◌∙◌, subst, true, false}
+use Rattle.std.proofs.Common.{true≢false, Option, Some, None, arith}
+use Rattle.std.specs.Prelude.{ℤ, ◌<ℤ◌, MatchOption}
+use Rattle.std.specs.List.Sorted.{IsStrictlySortedBy}
+use Rattle.std.specs.Option.{ok_or, option_map}
+use Rattle.std.proofs.lemmas.Int.{ints}
+use Rattle.book_model.specs.declared.fault.LedgerFault.TheVariants.{NoSuchPeriod}
+use Rattle.book_model.specs.Words.{Book, Event, IsMadeByCalls, Naming, Period, PeriodClosed}
+use Rattle.book_model.specs.Words.{RecordChosen, RecordKept, Rulings, SecondRuleAdopted}
+use Rattle.book_model.specs.Words.{TariffAccepted, book_after, is_dated_after}
+use Rattle.book_model.specs.Words.{last_close, members, no_event, open_number, period_of, price_in}
+use Rattle.book_model.specs.Words.{set_of}
+use Rattle.book_model.proofs.CallLemmas.{calls_go_forward, closed_prices_stay}
+use Rattle.book_model.proofs.DetailLemmas.{asked_rise, details_rise}
+use Rattle.book_model.proofs.DetailOrder.{next_in}
+use Rattle.book_model.proofs.ListLemmas.{last_or-behind}
+use Rattle.book_model.proofs.MadeByCallsLemmas.{sound_after}
+use Rattle.book_model.proofs.SetChanges.{pick-agree}
+use Rattle.book_laws.proofs.ClosedLemmas.{closed_stays, found_past, past_period}
+use Rattle.book_model.specs.Details.{by_detail, detail_by, detail_of, details_asked, details_for}
+use Rattle.book_model.specs.Details.{details_of, next_after}
+use Rattle.book_laws.specs.DetailStays.{DetailsStay, NextIsNext}
+
+-- what is dated no later than one close is dated no later than a later one
+later_still : (last : Option ℤ) (day : ℤ) (bytes : List ℕ)
+    → MatchOption last (Unit {0}) (λ close. close <ℤ day) → is_dated_after last bytes ≡ false
+    → is_dated_after (Some day) bytes ≡ false
+later_still None day bytes later early = absurd (true≢false early)
+later_still (Some close) day bytes later early = grind (arith, ints)
+
+-- A record that is dated no later than the last close of some books stays so, and costs the same,
+-- whatever calls follow.
+record Keeps (old new : Book) (bytes : List ℕ) : Type 0 where
+  early : is_dated_after (last_close new.rulings) bytes ≡ false
+  price : price_in new.rulings bytes ≡ price_in old.rulings bytes
+
+keeps : (naming : Naming) (later earlier : List Event) (bytes : List ℕ)
+    → IsMadeByCalls naming (later ++ earlier)
+    → is_dated_after (last_close (book_after earlier).rulings) bytes ≡ false
+    → Keeps (book_after earlier) (book_after (later ++ earlier)) bytes
+keeps naming [] earlier bytes answered early = record { early = early; price = refl }
+keeps naming (RecordKept new ∷ later) earlier bytes answered early =
+    let before = keeps naming later earlier bytes answered.1 early in
+    record { early = before.early; price = before.price }
+keeps naming (TariffAccepted (Some text) terms ∷ later) earlier bytes answered early =
+    let before = keeps naming later earlier bytes answered.1 early in record {
+      early = before.early;
+      price = closed_prices_stay (book_after (later ++ earlier)) text terms bytes answered.0
+          before.early ∙ before.price;
+    }
+keeps naming (TariffAccepted None terms ∷ later) earlier bytes none early =
+    let before = keeps naming later earlier bytes (subst (IsMadeByCalls naming) (sym none) tt) early in
+    let never : true ≡ false =
+    subst (λ history. is_dated_after (last_close (book_after history).rulings) bytes ≡ false) none
+    before.early in
+    absurd (true≢false never)
+keeps naming (PeriodClosed day ∷ later) earlier bytes answered early =
+    let before = keeps naming later earlier bytes answered.1 early in
+    let book : Book = book_after (later ++ earlier) in record {
+      early = ap (λ close. is_dated_after close bytes) (last_or-behind None book.rulings.closes day)
+          ∙ later_still (last_close book.rulings) day bytes
+          (calls_go_forward.close book (open_number book) day answered.0) before.early;
+      price = before.price;
+    }
+keeps naming (RecordChosen chosen ∷ later) earlier bytes answered early =
+    let before = keeps naming later earlier bytes answered.1 early in
+    record { early = before.early; price = before.price }
+keeps naming (SecondRuleAdopted ∷ later) earlier bytes answered early =
+    let before = keeps naming later earlier bytes answered.1 early in
+    record { early = before.early; price = before.price }
+
+-- so were the calls before them answered
+answered_before : (naming : Naming) (later earlier : List Event)
+    → IsMadeByCalls naming (later ++ earlier) → IsMadeByCalls naming earlier
+answered_before naming [] earlier answered = answered
+answered_before naming (RecordKept new ∷ later) earlier answered =
+    answered_before naming later earlier answered.1
+answered_before naming (TariffAccepted (Some text) terms ∷ later) earlier answered =
+    answered_before naming later earlier answered.1
+answered_before naming (TariffAccepted None terms ∷ later) earlier none =
+    answered_before naming later earlier (subst (IsMadeByCalls naming) (sym none) tt)
+answered_before naming (PeriodClosed day ∷ later) earlier answered =
+    answered_before naming later earlier answered.1
+answered_before naming (RecordChosen chosen ∷ later) earlier answered =
+    answered_before naming later earlier answered.1
+answered_before naming (SecondRuleAdopted ∷ later) earlier answered =
+    answered_before naming later earlier answered.1
+
+-- the law
+pub details_stay : DetailsStay
+details_stay naming later earlier number centre answered closed =
+    let old : Book = book_after earlier in
+    let new : Book = book_after (later ++ earlier) in
+    let sound = sound_after naming earlier (answered_before naming later earlier answered) in
+    let there = past_period naming number old sound closed in
+    let period : Period = there.0 in
+    let was : period_of old number ≡ Some period = found_past number old closed ∙ there.1 in
+    let is = (closed_stays naming later earlier number answered closed).period ∙ was in
+    let same : details_of naming new.rulings period ≡ details_of naming old.rulings period =
+    ap (λ details. members (set_of by_detail details))
+    (pick-agree (detail_of naming new.rulings) (detail_of naming old.rulings) period.counted
+    (λ bytes counted. ap (option_map (detail_by naming bytes))
+    (keeps naming later earlier bytes answered (there.2.counted bytes counted)).price)) in
+    let by = λ (ruled : Rulings) (found : Option Period).
+    no_event (ok_or (option_map (λ period. details_asked centre (details_of naming ruled period))
+    found) NoSuchPeriod) in
+    ap (by new.rulings) is
+    ∙ ap (λ details. no_event (ok_or (Some (details_asked centre details)) NoSuchPeriod)) same
+    ∙ sym (ap (by old.rulings) was)
+
+-- the law
+pub next_is_next : NextIsNext
+next_is_next naming rulings records centre read last rest is =
+    ap (next_after (Some last)) is
+    ∙ next_in read last rest
+    (subst (IsStrictlySortedBy by_detail) is
+    (asked_rise centre (details_for naming rulings records) (details_rise naming rulings records)))

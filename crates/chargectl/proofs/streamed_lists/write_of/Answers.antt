@@ -1,0 +1,13 @@
+use Rattle.book_reports.specs.BookTexts.{ruling_text}
+use Rattle.book_reports.specs.StreamedDisputes.{dispute_report}
+use Rattle.chargectl.proofs.StreamedListLemmas.{text_answered}
+use Rattle.chargectl.proofs.streamed_lists.write_of.Goals as goal
+
+pub returns-in-Rulings-clause-written : goal.returns-in-Rulings-clause-written
+returns-in-Rulings-clause-written g c =
+    rw c.in-Rulings.is (text_answered ruling_text _ _ _ _ _ c.write_rulings.ensures.written)
+
+pub returns-in-Disputes-clause-written : goal.returns-in-Disputes-clause-written
+returns-in-Disputes-clause-written g c =
+    rw c.in-Disputes.is
+    (text_answered (dispute_report c.in-Disputes.form) _ _ _ _ _ c.write_disputes.ensures.written)

@@ -1,0 +1,43 @@
+-- Books of an older form, which are brought over to the present one.
+use Rattle.std.specs.Prelude.{◌≡◌, true, ℕ, List, ◌++◌, codes, Option, None, Result, Ok, Err}
+use Rattle.std.specs.Fmt.{decimal}
+use Rattle.std.specs.Io.KnownBytes.{Appends}
+use Rattle.office.specs.declared.repository.RepositoryFault.{RepositoryFault}
+use Rattle.office.specs.declared.repository.Upgraded.{Upgraded}
+use Rattle.office.specs.declared.repository.Upgraded.TheVariants.{To, Already}
+use Rattle.office.specs.Shelves.{Shelf, IsUntouched}
+use Rattle.chargectl.specs.declared.command_fault.CommandFault.{CommandFault}
+use Rattle.chargectl.specs.declared.ended.Ended.{Ended}
+use Rattle.chargectl.specs.Commands.{IsShelfFault}
+use Rattle.chargectl.specs.Faults.{IsFileFault, shelf_fault}
+
+-- what is written of them, by what came of it: the number of the form that they have now, or that they
+-- had it before
+abbrev pub upgrade_text : Upgraded → List ℕ
+upgrade_text (To form) = codes "UPGRADED " ++ decimal form ++ codes "\n"
+upgrade_text Already = codes "ALREADY\n"
+
+-- It was written, unless the output failed. Of books that were not opened nothing is.
+abbrev pub EndsUpgrade : Result Upgraded RepositoryFault → Option (List ℕ) → Option (List ℕ)
+    → Result (Unit {0}) CommandFault → Type 0
+EndsUpgrade (Ok upgraded) held holds (Ok done) = Appends held holds (upgrade_text upgraded)
+EndsUpgrade (Ok upgraded) held holds (Err why) = IsFileFault why
+EndsUpgrade (Err fault) held holds came = (holds ≡ held) × (came ≡ Err (shelf_fault fault))
+
+-- The books of a name were brought over, or had the present form, or why not; and whether their log is
+-- left. They hold the history that they held.
+pub record Upgrades (book : List ℕ) (old new : Shelf) (held holds : Option (List ℕ)) (ended : Ended)
+    : Type 0 where
+  pub upgraded : Result Upgraded RepositoryFault
+  pub done : IsUntouched book old new
+  pub ends : EndsUpgrade upgraded held holds ended.came
+  pub log : new.has_log book ended.has_log
+  pub change : ended.is_change ≡ true
+  pub notice : ended.notice ≡ None
+
+-- or there was nothing of that name
+abbrev pub UpgradesBy : List ℕ → Shelf → Shelf → Option (List ℕ) → Option (List ℕ)
+    → Result Ended CommandFault → Type 0
+UpgradesBy book old new held holds (Ok ended) = Upgrades book old new held holds ended
+UpgradesBy book old new held holds (Err why) =
+    IsShelfFault why × IsUntouched book old new × (holds ≡ held)
