@@ -352,7 +352,7 @@ class History:
         self.ask(words, self.books.what_if(file, period, as_table=verb == "what-if-table"))
 
     def ask_more(self, turn):
-        """Asks for a table, and of periods that are not there; and what some would have cost."""
+        """Asks for a table, and of periods that are not there; what some would have cost; and for the details of one."""
         books, later = self.books, self.books.open + 1
         for period in (max(1, books.open - 1), 0, later):
             self.ask("table %d" % period, books.of_period(books.table, period))
@@ -360,6 +360,8 @@ class History:
         self.ask("adjustments 0", books.of_period(books.adjustments, 0))
         for period in sorted({1 + turn // 10 % books.open, max(1, books.open - 1)}):
             self.ask_what_if("what-if", period)
+        period = 1 + turn // 10 % books.open
+        self.ask("details %d" % period, books.of_period(books.details, period))
 
     def ask_trail(self, turn):
         """Asks for the trail of one of the steps that were named so far, whether or not it is held."""
@@ -368,7 +370,7 @@ class History:
 
     def ask_lists(self):
         """Asks by requests for the rulings, for each tariff's file, and for the lists as comma-separated values; what each
-        period would have cost; and for the trails of the steps that were named last."""
+        period would have cost, and its details; and for the trails of the steps that were named last."""
         books = self.books
         self.ask("get /rulings", served(200, list(books.rulings())))
         for tariff in books.tariffs:
@@ -378,6 +380,7 @@ class History:
         self.ask("get /disputes-csv", served(200, list(books.dispute_table()), "csv"))
         for period in range(0, books.open + 2):
             self.ask_what_if("what-if-table", period)
+            self.ask("details-table %d" % period, books.of_period(books.details_table, period))
         for step in self.steps[-40:]:
             self.ask("record " + step, books.trail(self.name_of(step)))
 

@@ -77,6 +77,7 @@ def many_records_in_files():
                 "> chargectl close @books 1 2024-01-31", "> chargectl import @books @many.smf")
     yield from ("> chargectl %s @books%s" % tuple(words) for words in (
         ("statement", " 1"), ("statement", " 2"), ("adjustments", " 2"), ("disputes", ""), ("audit", "")))
+    yield from ("> count-lines chargectl details @books 1", "> count-bytes chargectl details @books 1 --csv")
 
 
 SCRIPTS = {"large.rows": large, "many_records.rows": many_records, "many_records_in_files.rows": many_records_in_files}

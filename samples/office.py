@@ -13,9 +13,10 @@ import struct
 import tomllib
 
 Record = collections.namedtuple(
-    "Record", "name identity day minute job centre shift cpu blocks amount code job_id program")
+    "Record", "name identity day time job centre shift cpu blocks amount code job_id program")
 ADJUSTMENT_COLUMNS = "period,action,day,centre,shift,amount,name,job"
 STATEMENT_COLUMNS = "period,day,centre,shift,count,cpu,blocks,"
+DETAIL_COLUMNS = "period,day,centre,shift,time,job,program,jobid,step,cpu,blocks,amount,name"
 DISPUTE_COLUMNS = ("dispute,system,job,reader,initiation,subtype,step,name,day,cpu,blocks,amount,completion,jobid,"
                    "program")
 EPOCH = datetime.date(1970, 1, 1)
@@ -94,13 +95,17 @@ def packed_day(packed):
     return day if number > 0 and day.year == 1900 + 100 * century + year else None
 
 
+def time_of_day(hundredths):
+    return "%02d:%02d:%02d.%02d" % (
+        hundredths // 360000, hundredths // 6000 % 60, hundredths // 100 % 60, hundredths % 100)
+
+
 def clock(field):
     """A time and a date as people write them; where there is no such time or day, in digits."""
     hundredths, day = int.from_bytes(field[:4], "big"), packed_day(field[4:])
     if hundredths >= 8640000 or day is None:
         return "%s %s" % (field[:4].hex().upper(), field[4:].hex().upper())
-    return "%s %02d:%02d:%02d.%02d" % (
-        day, hundredths // 360000, hundredths // 6000 % 60, hundredths // 100 % 60, hundredths % 100)
+    return "%s %s" % (day, time_of_day(hundredths))
 
 
 def comma_line(*fields):
@@ -192,7 +197,7 @@ class Tariff:
     def reckoning(self, data):
         """Which rules decide about a record, by their numbers, and the lines of its price: the formula with its numbers."""
         whole, one = framed(data), self.record(data)
-        shift, rule = self.shift_rule(one.day.isoweekday(), one.minute)
+        shift, rule = self.shift_rule(one.day.isoweekday(), one.time // 6000)
         centre, _ = self.centre_rule(section(whole, 32)[:8], list(fields_of(whole)))
         cpu, excp, record = self.prices(data[18:20])
         yield "TARIFF %s SHIFT %s RULE %s CENTRE %s RULE %s" % (
@@ -205,10 +210,10 @@ class Tariff:
         whole = framed(data)
         work, activity, completion, processor = (section(whole, at) for at in (32, 40, 48, 56))
         subtype, step = data[18:20], work[40:42]
-        day, minute = day_of(data[6:10]), struct.unpack_from(">I", data, 2)[0] // 6000
+        day, time = day_of(data[6:10]), int.from_bytes(data[2:6], "big")
         cpu = sum(struct.unpack_from(">II", processor, 4))
         blocks = struct.unpack_from(">I", activity, 4)[0] if activity else 0
-        _, shift = self.shift_rule(day.isoweekday(), minute)
+        _, shift = self.shift_rule(day.isoweekday(), time // 6000)
         cpu_price, excp_price, record_price = self.prices(subtype)
         base = 10 * cpu * cpu_price + blocks * excp_price + 1000 * record_price
         identity = data[10:14] + work[:8] + work[64:72] + subtype + (step if subtype == b"\0\4" else b"\0\0")
@@ -216,7 +221,7 @@ class Tariff:
         code = "/".join(part.hex().upper() for part in (completion[:2], completion[2:4])) if completion else "----"
         _, centre = self.centre_rule(work[:8], list(fields_of(whole)))
         amount = (base * shift["percent"] + 50000) // 100000
-        return Record(hashlib.sha256(data).hexdigest(), identity, day, minute, text(work[:8]), centre, shift["name"], cpu,
+        return Record(hashlib.sha256(data).hexdigest(), identity, day, time, text(work[:8]), centre, shift["name"], cpu,
                       blocks, amount, code, text(work[32:40]), text(work[8:16]))
 
 
@@ -258,6 +263,18 @@ def row_lines(rows):
     for place, sums in rows:
         yield row_line(place, sums)
     yield total_line("TOTAL", rows)
+
+
+def step_of(one):
+    """The number of the step that a record is of the end of; a job's end has none."""
+    subtype, step = struct.unpack(">HH", one.identity[20:24])
+    return "-" if subtype == 5 else step
+
+
+def detail_line(place, job, work, amount, *name):
+    """A line of details: which work it is stands between the columns of a statement."""
+    line = "%-10s %-16s %-16s %-11s %-8s %-8s %-8s" % (*place, *job) + " %8s %19s %18s %21s" % (*work, amount)
+    return " ".join((line, *name))
 
 
 def figure(name, before, after):
@@ -452,6 +469,42 @@ class Books:
 
     def table(self, period, centre=None):
         yield from row_table(period, self.rows(period, centre), "amount")
+
+    def counted_in_order(self, period, centre=None):
+        """The records that a period's statement counts, of all centres or of one, in the order of its rows, then by time and
+        name."""
+        records = (self.held[name] for name in self.counted(period))
+        return sorted((one for one in records if centre in (None, one.centre)),
+                      key=lambda one: (one.day, one.centre, one.shift, one.time, one.name))
+
+    def detail_row(self, one):
+        """What the table of details keeps of a record that is counted."""
+        work, step = section(framed(self.data[one.name]), 32), step_of(one)
+        return ((one.day - EPOCH).days, one.centre, one.shift, one.time, bytes.fromhex(one.name), work[:8], work[8:16],
+                work[32:40], None if step == "-" else step, one.cpu, one.blocks, one.amount)
+
+    def detail_rows(self):
+        """The rows of all periods, in the order of that table."""
+        return [self.detail_row(one) for period in range(1, self.open + 1) for one in self.counted_in_order(period)]
+
+    def details(self, period, centre=None):
+        """A line for each record that a period's statement counts, and what they come to."""
+        yield self.title("DETAILS", period, centre)
+        yield detail_line(("DAY", "CENTRE", "SHIFT"), ("TIME", "JOB", "PROGRAM", "JOBID"), ("STEP", "CPU", "BLOCKS"),
+                          "AMOUNT", "NAME")
+        records = self.counted_in_order(period, centre)
+        for one in records:
+            yield detail_line((one.day, one.centre, one.shift), (time_of_day(one.time), one.job, one.program, one.job_id),
+                              (step_of(one), decimals(one.cpu, 2), one.blocks), decimals(one.amount, 4), one.name)
+        cpu, blocks, amount = (sum(column) for column in (
+            [one.cpu for one in records], [one.blocks for one in records], [one.amount for one in records]))
+        yield detail_line(("TOTAL", "", ""), 4 * ("",), (len(records), decimals(cpu, 2), blocks), decimals(amount, 4))
+
+    def details_table(self, period, centre=None):
+        yield DETAIL_COLUMNS
+        for one in self.counted_in_order(period, centre):
+            yield comma_line(period, one.day, one.centre, one.shift, time_of_day(one.time), one.job, one.program, one.job_id,
+                             step_of(one), decimals(one.cpu, 2), one.blocks, decimals(one.amount, 4), one.name)
 
     def what_if(self, file, period, centre=None, as_table=False):
         """What a period would have cost by a tariff file: the records that its statement counts, each priced anew by the

@@ -138,19 +138,28 @@ class Tables:
         return [("%d %s %s" % (mark, identity.hex(), name)).upper()
                 for mark in (False, True) for identity, name in held if (name in charged) == mark]
 
+    def detail(self):
+        for row in self.books.detail_rows():
+            yield " ".join("" if column is None else column.hex().upper() if isinstance(column, bytes) else str(column)
+                           for column in row)
+
     def audit(self):
         yield "SOUND"
+        yield "FORM 2"
         for word, rows in (("RECORDS", self.marks()), ("TARIFFS", self.books.tariffs), ("CLOSES", self.closed()),
                            ("CHOICES", self.choices()), ("ROWS", self.rows()), ("LINES", self.lines())):
             yield "%s %d" % (word, len(list(rows)))
 
 
-TABLES = "book closed tariffs rows lines marks choices identities index".split()
+TABLES = "book closed tariffs rows lines marks choices identities detail index".split()
 
 # How often a report asks the books: for the days of the closes, and for what it lists. The rulings are asked for one
 # after the other.
 ASKS = {"statement": 2, "table": 1, "adjustments": 2, "adjustment_table": 1, "disputes": 1, "dispute_table": 1,
         "periods": 1}
+
+# The details of a period: for the days of the closes, for each detail, and for the end.
+DETAILS = {"details": 2, "details-table": 2}
 
 # The same of what a period would have cost by a tariff: for the days of the closes, before the tariff is read; for what
 # it would have cost; and, for a text, for what it is charged.
@@ -250,6 +259,14 @@ class Rows:
         if words:
             return self.books.of_period(getattr(self.books, verb), int(words[0]), *words[1:])
         return list(getattr(self.books, verb)())
+
+    def details(self, verb, period, centre=None):
+        """The details of a period, or of one centre in it, or why there are none."""
+        books, period = self.books, int(period)
+        asks = DETAILS[verb] + (len(books.counted_in_order(period, centre)) if 0 < period <= books.open else 0)
+        if any(self.is_refused() for _ in range(asks)):
+            return office.refused(office.MEMORY)
+        return books.of_period(getattr(books, verb.replace("-", "_")), period, centre)
 
     def trail(self, name):
         """The trail of a record, or why there is none. It is one call of the books."""
@@ -382,6 +399,8 @@ class Rows:
         if verb in ASKS:
             text = self.report(verb, words)
             return ["TOOK %d IN 1" % sum(len(line) + 1 for line in text)] if self.is_counted else text
+        if verb in DETAILS:
+            return self.details(verb, *words)
         if verb == "record":
             return self.trail(self.name_of(*words))
         if verb == "writer":
@@ -524,6 +543,7 @@ class Rows:
                 "disputes": lambda *_: list(books.dispute_table() if "--csv" in given else books.disputes()),
                 "audit": lambda: list(Tables(books).audit()),
                 "statement": statement,
+                "details": lambda period, *_: of_period(books.details, books.details_table, period),
                 "adjustments": lambda period, *_: of_period(books.adjustments, books.adjustment_table, period)
                 }.get(verb, lambda *words: self.command(verb, words))(*words)
 

@@ -4,7 +4,7 @@ ghost use Rattle.std.specs.Prelude.{◌≡◌};
 
 use book_audit::{Audited, AuditedRepository, Watch};
 use book_core::{LedgerFault, Naming, PlainLedger};
-use office::{AwayBooks, Opened, Repository, RepositoryFault, Visit};
+use office::{AwayBooks, Opened, Repository, RepositoryFault, Upgraded, Visit};
 use std::alloc::Global;
 use tariff_rules::Tariff;
 
@@ -31,7 +31,7 @@ pub(crate) struct OneBook {
     pub(crate) alloc: Global,
 }
 
-#[tactic(auto, using(office::proofs::ShelfLemmas::unknown_made, office::proofs::ShelfLemmas::unknown_opened, office::proofs::ShelfLemmas::unknown_tried, office::proofs::ShelfLemmas::came_by, office::proofs::ShelfLemmas::same_by))]
+#[tactic(auto, using(office::proofs::ShelfLemmas::unknown_made, office::proofs::ShelfLemmas::unknown_opened, office::proofs::ShelfLemmas::unknown_tried, office::proofs::ShelfLemmas::unknown_untouched, office::proofs::ShelfLemmas::came_by, office::proofs::ShelfLemmas::same_by))]
 impl Repository for OneBook {
     ghost use Rattle.std.specs.Prelude.{replicate};
     ghost use Rattle.office.specs.Shelves.{unknown};
@@ -59,6 +59,10 @@ impl Repository for OneBook {
     /// Opens it: no book is left of an opening.
     fn try_out<V: Visit>(&mut self, book: &str, visit: &mut V) -> Opened<V::Answer> {
         self.open(book, visit)
+    }
+
+    fn upgrade(&mut self, _book: &str) -> Opened<Upgraded> {
+        without_log(Ok(Upgraded::Already))
     }
 }
 
@@ -91,7 +95,7 @@ pub(crate) struct AwayTwice {
     pub(crate) opened: u32,
 }
 
-#[tactic(auto, using(office::proofs::ShelfLemmas::unknown_made, office::proofs::ShelfLemmas::unknown_opened, office::proofs::ShelfLemmas::unknown_tried, office::proofs::ShelfLemmas::came_by, office::proofs::ShelfLemmas::same_by))]
+#[tactic(auto, using(office::proofs::ShelfLemmas::unknown_made, office::proofs::ShelfLemmas::unknown_opened, office::proofs::ShelfLemmas::unknown_tried, office::proofs::ShelfLemmas::unknown_untouched, office::proofs::ShelfLemmas::came_by, office::proofs::ShelfLemmas::same_by))]
 impl Repository for AwayTwice {
     ghost use Rattle.std.specs.Prelude.{replicate};
     ghost use Rattle.office.specs.Shelves.{unknown};
@@ -118,6 +122,10 @@ impl Repository for AwayTwice {
 
     fn try_out<V: Visit>(&mut self, book: &str, visit: &mut V) -> Opened<V::Answer> {
         self.book.try_out(book, visit)
+    }
+
+    fn upgrade(&mut self, book: &str) -> Opened<Upgraded> {
+        self.book.upgrade(book)
     }
 }
 

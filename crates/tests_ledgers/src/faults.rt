@@ -69,7 +69,7 @@ fn tariff_fault(words: &[&str]) -> LineResult<TariffFault> {
 }
 
 /// The faults of books that are a word alone.
-const LEDGER_FAULTS: [(&str, LedgerFault); 15] = [
+const LEDGER_FAULTS: [(&str, LedgerFault); 17] = [
     ("memory", LedgerFault::Memory),
     ("store", LedgerFault::Store),
     ("reopen", LedgerFault::Reopen),
@@ -84,6 +84,8 @@ const LEDGER_FAULTS: [(&str, LedgerFault); 15] = [
     ("not_disputed", LedgerFault::NotDisputed),
     ("old_rule", LedgerFault::OldRule),
     ("not_books", LedgerFault::NotBooks),
+    ("old_form", LedgerFault::OldForm),
+    ("new_form", LedgerFault::NewForm),
     ("no_such_tariff", LedgerFault::NoSuchTariff),
 ];
 

@@ -1,8 +1,10 @@
-//! Names of records, as words of a line give them.
+//! Names of records and of centres, as words of a line give them.
 
 use book_core::{Naming, ShaNames};
+use book_reports::centre_named;
 use program_output::name_of_text;
 use smf_frames::{Layout, split};
+use smf_text::Name;
 use tests_scripts::{LineFault, LineResult, Named};
 
 /// The one record of the dump that a word names.
@@ -29,4 +31,9 @@ pub(crate) fn name_in(named: &Named, word: &str) -> LineResult<[u8; 32]> {
         Some(name) => Ok(name),
         None => record_name(&record_in(named, word)?),
     }
+}
+
+/// The centre that a word names.
+pub(crate) fn centre_in(word: &str) -> LineResult<Name> {
+    centre_named(word).ok_or(LineFault::NotUnderstood)
 }

@@ -5,7 +5,8 @@ ghost use Rattle.book_model.specs.Words.{periods_outcome};
 ghost use Rattle.book_core.specs.Calls.{IsCall};
 
 use book_core::{
-    Accepted, ChargeRow, Dispute, Ledger, LedgerFault, Line, ListedRuling, Ruled, Tariff, Trail,
+    Accepted, ChargeRow, Detail, Dispute, Ledger, LedgerFault, Line, ListedRuling, Name, Ruled,
+    Tariff, Trail,
 };
 use std::alloc::Global;
 
@@ -138,6 +139,18 @@ impl<L: Ledger> Ledger for RefusingLedger<'_, L> {
             return Err(refusal(&mut *self.inner));
         }
         self.inner.adjustments(period)
+    }
+
+    fn next_detail(
+        &mut self,
+        period: u16,
+        centre: Option<Name>,
+        after: Option<Detail>,
+    ) -> Result<Option<Detail>, LedgerFault> {
+        if is_due(&mut self.calls_left) {
+            return Err(refusal(&mut *self.inner));
+        }
+        self.inner.next_detail(period, centre, after)
     }
 
     fn disputes(&mut self) -> Result<Vec<Dispute>, LedgerFault> {

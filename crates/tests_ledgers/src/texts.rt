@@ -1,12 +1,13 @@
 //! Texts of books.
 
-use crate::names::name_in;
+use crate::names::{centre_in, name_in};
 use crate::text_writing::{Writes, Written};
+use crate::what_ifs::form_of;
 use book_core::{Ledger, Sink};
 use book_import::Stop;
 use book_reports::{
-    PeriodReport, Report, adjustment_list, centre_named, dispute_list, period_list, statement,
-    statement_csv, write_report,
+    DetailReport, PeriodReport, Report, adjustment_list, dispute_list, period_list, statement,
+    statement_csv, write_details, write_report,
 };
 use std::alloc::Global;
 use tests_scripts::{LimitedWriter, Limits, LineFault, LineResult, Named};
@@ -17,6 +18,8 @@ pub(crate) enum BookText {
     Statement(u16),
     Table(u16),
     Adjustments(u16),
+    /// The details of a period, or of one centre in it.
+    Details(DetailReport),
     /// What a period has of one centre, or the trail of a record.
     Report(Report),
     Disputes,
@@ -47,7 +50,21 @@ fn of_centre(report: PeriodReport, period: &str, centre: &str) -> LineResult<Boo
     Ok(BookText::Report(Report::OfCentre {
         report,
         period: period.parse::<u16>()?,
-        centre: centre_named(centre).ok_or(LineFault::NotUnderstood)?,
+        centre: centre_in(centre)?,
+    }))
+}
+
+/// The details of a period, or of one centre in it.
+pub(crate) fn details_of(verb: &str, words: &[&str]) -> LineResult<BookText> {
+    let (period, centre) = match *words {
+        [period] => (period, None),
+        [period, centre] => (period, Some(centre_in(centre)?)),
+        _ => return Err(LineFault::NotUnderstood),
+    };
+    Ok(BookText::Details(DetailReport {
+        form: form_of(verb),
+        period: period.parse::<u16>()?,
+        centre,
     }))
 }
 
@@ -74,6 +91,7 @@ impl<L: Ledger> Writes for TextOf<'_, L> {
             BookText::Statement(period) => statement(alloc, ledger, *period, &mut sink),
             BookText::Table(period) => statement_csv(alloc, ledger, *period, &mut sink),
             BookText::Adjustments(period) => adjustment_list(alloc, ledger, *period, &mut sink),
+            BookText::Details(report) => write_details(alloc, ledger, *report, &mut sink),
             BookText::Report(report) => write_report(alloc, ledger, *report, &mut sink),
             BookText::Disputes => dispute_list(alloc, ledger, &mut sink),
             BookText::Periods => period_list(alloc, ledger, &mut sink),

@@ -1,28 +1,23 @@
 //! What periods would have cost by other tariffs.
 
 use crate::answers::push_fault;
+use crate::names::centre_in;
 use book_core::Ledger;
-use book_reports::{StatementForm, WhatIf, centre_named, what_if_text};
-use smf_text::Name;
+use book_reports::{StatementForm, WhatIf, what_if_text};
 use tests_scripts::{Ask, LineFault, LineResult, Named};
 
-/// The form in which a verb asks for it.
-fn form_of(verb: &str) -> StatementForm {
+/// The form in which a verb asks for a text.
+pub(crate) fn form_of(verb: &str) -> StatementForm {
     match verb {
-        "what-if-table" => StatementForm::Table,
+        "what-if-table" | "details-table" => StatementForm::Table,
         _ => StatementForm::Text,
     }
-}
-
-/// The centre that a word names.
-fn centre_of(word: &str) -> LineResult<Name> {
-    centre_named(word).ok_or(LineFault::NotUnderstood)
 }
 
 /// What is asked of a period, of all centres, or of the one that is named after a slash.
 fn asked_by(form: StatementForm, place: &str) -> LineResult<WhatIf> {
     let (period, centre) = match place.split_once('/') {
-        Some((period, centre)) => (period, Some(centre_of(centre)?)),
+        Some((period, centre)) => (period, Some(centre_in(centre)?)),
         None => (place, None),
     };
     let period = period.parse::<u16>()?;

@@ -34,8 +34,11 @@ const MARKS: u32 = 7;
 /// That of the choices.
 const CHOICES: u32 = 8;
 
-/// That which finds choices by the records that they name, the last.
+/// That which finds choices by the records that they name.
 const CHOICE_NAMES: u32 = 9;
+
+/// That of the details, the last.
+const DETAILS: u32 = 10;
 
 /// The columns of a record that an adjustment line shows: day, centre, shift, CPU, blocks, amount.
 const CHARGED: [usize; 6] = [3, 5, 4, 6, 7, 8];
@@ -204,33 +207,39 @@ pub(crate) fn shown_table<S: Store + Drop>(
         ("choices", []) => Some(shown(alloc, trees, CHOICES, Showing::Whole)),
         ("index", [name]) => Some(shown(alloc, trees, index_of(name)?, Showing::Whole)),
         ("lines", []) => Some(shown_lines(alloc, trees)),
+        ("detail", []) => Some(shown(alloc, trees, DETAILS, Showing::Whole)),
         _ => None,
     }
 }
 
-/// All rows of some trees, an empty line after those of each; none where one can't be read.
-fn rows_of<S: Store + Drop>(
+/// Adds all rows of some trees, an empty line after those of each; none where one can't be read.
+fn push_rows<S: Store + Drop>(
     alloc: Global,
+    text: &mut Vec<u8>,
     trees: &mut Trees<S>,
     first: u32,
     last: u32,
-) -> Option<Vec<u8>> {
-    let mut text = Vec::new(alloc);
+) -> Option<()> {
     for tree in first..=last {
         for row in &trees.rows(alloc, tree)? {
-            push_whole(alloc, &mut text, &row.0).ok()?;
+            push_whole(alloc, text, &row.0).ok()?;
         }
         text.push(b'\n').ok()?;
     }
-    Some(text)
+    Some(())
 }
 
 /// All rows of all trees but those of choices.
 pub(crate) fn all_rows<S: Store + Drop>(alloc: Global, trees: &mut Trees<S>) -> Option<Vec<u8>> {
-    rows_of(alloc, trees, BOOK, MARKS)
+    let mut text = Vec::new(alloc);
+    push_rows(alloc, &mut text, trees, BOOK, MARKS)?;
+    push_rows(alloc, &mut text, trees, DETAILS, DETAILS)?;
+    Some(text)
 }
 
 /// All rows of the trees of choices.
 pub(crate) fn all_choices<S: Store + Drop>(alloc: Global, trees: &mut Trees<S>) -> Option<Vec<u8>> {
-    rows_of(alloc, trees, CHOICES, CHOICE_NAMES)
+    let mut text = Vec::new(alloc);
+    push_rows(alloc, &mut text, trees, CHOICES, CHOICE_NAMES)?;
+    Some(text)
 }
