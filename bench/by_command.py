@@ -264,6 +264,7 @@ class Commands:
                 ("statement", "statement", "2"), ("statement", "statement-csv", "1", "--csv"),
                 ("statement", "what-if", "1", "--tariff", tariff),
                 ("statement", "what-if-csv", "2", "--csv", "--tariff", tariff),
+                ("details", "details", "1"), ("details", "details-csv", "2", "--csv"), ("upgrade", "upgrade"),
                 ("adjustments", "adjustments", "2"),
                 ("adjustments", "adjustments-csv", "2", "--csv"), ("close", "ruling", "2", "2024-02-29"),
                 ("close", "dry-run", "2", "2024-02-29", "--dry-run"),

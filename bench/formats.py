@@ -329,13 +329,21 @@ COLUMNS = ("%-10s %-16s %-16s %8s %19s %18s %21s\n"
            % ("DAY", "CENTRE", "SHIFT", "COUNT", "CPU", "BLOCKS", "AMOUNT"))
 WIDE = r"(?=.{114}\n)"
 ROWS = COLUMNS + r"(?:%s%s %%s +%s%s)*%sTOTAL%s" % (WIDE, DAY, NAME, SUMS, WIDE, SUMS)
+TIME = r"[0-2][0-9](?::[0-5][0-9]){2}\.[0-9]{2}"
+DETAIL_COLUMNS = ("%-10s %-16s %-16s %-11s %-8s %-8s %-8s %8s %19s %18s %21s NAME\n"
+                  % ("DAY", "CENTRE", "SHIFT", "TIME", "JOB", "PROGRAM", "JOBID", "STEP", "CPU", "BLOCKS", "AMOUNT"))
 TEXTS = {
     "statement": ROWS,
+    "details": DETAIL_COLUMNS
+               + r"(?:%s %%s +%s +%s %s +(?:[0-9]+|-) +[0-9]+\.[0-9]{2} +[0-9]+ +%s [0-9a-f]{64}\n)*"
+               % (DAY, NAME, TIME, SHOWN, AMOUNT)
+               + r"(?=.{153}\n)TOTAL" + SUMS,
     "what-if": r"TARIFF [0-9a-f]{64}\n" + ROWS + WIDE + "CHARGED" + SUMS,
     "adjustments": r"(?:(?:PLUS |MINUS) %s %%s +%s +-?%s [0-9a-f]{64} %s\n)*TOTAL +-?%s\n"
                    % (DAY, NAME, AMOUNT, SHOWN, AMOUNT)}
 CSV_COLUMNS = "period,day,centre,shift,count,cpu,blocks,amount"
 WHAT_IF_COLUMNS = "period,day,centre,shift,count,cpu,blocks,what_if"
+DETAIL_CSV_COLUMNS = "period,day,centre,shift,time,job,program,jobid,step,cpu,blocks,amount,name"
 ADJUSTMENT_COLUMNS = "period,action,day,centre,shift,amount,name,job"
 DISPUTE_COLUMNS = ("dispute,system,job,reader,initiation,subtype,step,name,day,cpu,blocks,amount,"
                    "completion,jobid,program")
@@ -346,6 +354,9 @@ CLOCK = r"(?:%s [0-2][0-9]:[0-5][0-9]:[0-5][0-9]\.[0-9]{2}|%s)" % (DAY, MOMENT)
 CSV_ROWS = r"\n(?:%%s,%s,%%s,%s,[0-9]+,[0-9]+\.[0-9]{2},[0-9]+,%s\n)*" % (DAY, NAME, AMOUNT)
 TABLES = {
     "statement-csv": CSV_COLUMNS + CSV_ROWS, "what-if-csv": WHAT_IF_COLUMNS + CSV_ROWS,
+    "details-csv": DETAIL_CSV_COLUMNS
+                   + r"\n(?:%%s,%s,%%s,%s,%s,%s,%s,%s,(?:[0-9]+|-),[0-9]+\.[0-9]{2},[0-9]+,%s,[0-9a-f]{64}\n)*"
+                   % (DAY, NAME, TIME, VALUE, VALUE, VALUE, AMOUNT),
     "adjustments-csv": ADJUSTMENT_COLUMNS
                        + r"\n(?:%%s,(?:PLUS|MINUS),%s,%%s,%s,-?%s,[0-9a-f]{64},%s\n)*"
                        % (DAY, NAME, AMOUNT, VALUE)}
@@ -375,7 +386,7 @@ RULINGS = (r"RULINGS\n(?:TARIFF %s [0-9a-f]{64} [0-9]+\n)*(?:CLOSE [0-9]+ %s\n)*
 WHOLE = {"disputes": DISPUTES, "disputes-csv": DISPUTE_TABLE, "periods": PERIODS,
          "record": RECORD, "rulings": RULINGS}
 SOUND = "SOUND\n" + "".join(
-    word + " [0-9]+\n" for word in "RECORDS TARIFFS CLOSES CHOICES ROWS LINES".split())
+    word + " [0-9]+\n" for word in "FORM RECORDS TARIFFS CLOSES CHOICES ROWS LINES".split())
 UNSOUND = r"UNSOUND [ -~]+: [ -~]+\n"
 RECEIPT = " ".join(word + " [0-9]+" for word in COUNTED)
 RECEIPT += r" STOP (END|FRAME [1-8]|READ|READLIMIT|LEDGER [0-9]+)\n"
@@ -410,14 +421,14 @@ DRY_RUN = r"DRY RUN (?:%s)" % "|".join(
         ("TARIFF " + DAY, "PRICED"), ("CLOSE [0-9]+ " + DAY, "RECORDS [0-9]+"),
         ("CHOOSE [0-9a-f]{64}", "DISPUTES"), ("ADOPT", "DISPUTES")))
 
-OF_PERIODS = ("statement", "statement-csv", "what-if", "what-if-csv", "adjustments",
-              "adjustments-csv")
+OF_PERIODS = ("statement", "statement-csv", "what-if", "what-if-csv", "details", "details-csv",
+              "adjustments", "adjustments-csv")
 OF_COMMANDS = {name: report_form(name) for name in (*OF_PERIODS, *WHOLE)}
 OF_COMMANDS |= {
     "audit": form(SOUND + "|" + UNSOUND), "import": form(RECEIPT),
     "ruling": form("DONE\n|ALREADY\n"), "dry-run": form(DRY_RUN), "listed": form("(?:(?:DONE|ALREADY)\n)*"),
     "tariff-text": form(r"(?s:.*)\[rates\](?s:.*)"), "check": form(CHECKED), "init": form(""),
-    "explain": form(r"[ -~]+\n[ -~]+\n"),
+    "explain": form(r"[ -~]+\n[ -~]+\n"), "upgrade": form("UPGRADED 2\n|ALREADY\n"),
     "version": form(r"chargectl [0-9.]+\n"),
     "help": form(r"[ -~\n]*Usage: chargectl[ -~\n]*"),
     "trial": form(RECEIPT + "STATEMENT PERIOD 1 OPEN\n" + TEXTS["statement"] % NAME + DISPUTES)}
@@ -428,14 +439,15 @@ OF_DAMAGED = OF_COMMANDS | {
     name: form(front + r"(?s:.*)\n") for name, front in (
         ("statement", "STATEMENT " + OF_PERIOD[0] + COLUMNS), ("statement-csv", CSV_COLUMNS),
         ("what-if", "WHAT-IF " + OF_PERIOD[0] + "TARIFF [0-9a-f]{64}\n" + COLUMNS),
-        ("what-if-csv", WHAT_IF_COLUMNS),
+        ("what-if-csv", WHAT_IF_COLUMNS), ("details", "DETAILS " + OF_PERIOD[0] + DETAIL_COLUMNS),
+        ("details-csv", DETAIL_CSV_COLUMNS),
         ("adjustments", "ADJUSTMENTS " + OF_PERIOD[0]), ("disputes", "DISPUTES [0-9]+"),
         ("adjustments-csv", ADJUSTMENT_COLUMNS), ("disputes-csv", DISPUTE_COLUMNS),
         ("periods", "PERIODS [0-9]+"), ("record", "RECORD [0-9a-f]{64}"), ("rulings", "RULINGS"))}
 
 # A line on standard error, by its status: 1, 4, 5, and 3 for any other.
 ERROR = re.compile(
-    rb"chargectl: (?:(io)|(unsound|busy|ledger 2|ledger 3|ledger 16)|(ledger 1)|exists"
+    rb"chargectl: (?:(io)|(unsound|busy|ledger 2|ledger 3|ledger 1[678])|(ledger 1)|exists"
     rb"|frame [1-8]|tariff [1-6](?: [a-z_]+)?|(?:word|ledger 4|ledger 1[23])(?: line [0-9]+)?"
     rb"|ledger (?:[5-7]|9 [0-9]+|1[01]|19))\n")
 

@@ -2,6 +2,7 @@
 //! charged where it is alone in it then, or was chosen last of it.
 
 use crate::books::identity2;
+use crate::detailed::{Details, Place};
 use crate::repriced::{BATCH, Changes, Joined, number, text};
 use crate::sqlite::{Database, Statement, Value};
 
@@ -9,7 +10,7 @@ const SECOND_RULE: i64 = 2;
 
 /// The records that are not charged and are to be, by identity and name, after the last of them that was read.
 const DUE: &str = "
-    SELECT ident, name, posted, day, centre, shift, cpu, blocks, amount FROM record AS due
+    SELECT ident, name, posted, day, centre, shift, cpu, blocks, amount, data FROM record AS due
         WHERE charged = 0 AND (ident, name) > (?1, ?2)
             AND (NOT EXISTS (SELECT * FROM record AS other WHERE other.ident = due.ident AND other.name <> due.name)
                 OR name = (SELECT choice.name FROM record AS other JOIN choice ON choice.name = other.name
@@ -78,12 +79,22 @@ fn rename(db: &Database) {
 }
 
 /// Reads a batch of the records that are to be charged. What is charged in a row joins it.
-fn due_behind(rows: &Statement, last: &(Vec<u8>, Vec<u8>), open: &Open, changes: &mut Changes) -> Vec<Due> {
-    let mut due = Vec::with_capacity(BATCH);
+fn due_behind(
+    rows: &Statement,
+    last: &(Vec<u8>, Vec<u8>),
+    open: &Open,
+    details: &Details,
+    changes: &mut Changes,
+) -> Vec<Due> {
+    let (mut joined, mut due) = (Joined::new(), Vec::with_capacity(BATCH));
     rows.each(&[Value::Blob(&last.0), Value::Blob(&last.1), Value::Int(BATCH as i64)], |row| {
         let charged = open.charged(row.int(2) == 1, row.int(3));
         if let Charged::InRow = charged {
-            changes.add(row.int(3), text(row, 4), text(row, 5), [1, row.int(6), row.int(7), row.int(8)]);
+            let (day, centre, shift) = (row.int(3), text(row, 4), text(row, 5));
+            let (cpu, blocks, amount) = (row.int(6), row.int(7), row.int(8));
+            changes.add(day, centre, shift, [1, cpu, blocks, amount]);
+            let place = Place { name: row.lent(1), day, centre, shift, cpu, blocks, amount };
+            details.insert(&place, joined.with(row.lent(9)));
         }
         due.push(Due { identity: row.bytes(0), name: row.bytes(1), charged });
     });
@@ -96,9 +107,9 @@ fn settle(db: &Database, open: &Open) -> Changes {
     let mark = db.prepare("UPDATE record SET charged = 1 WHERE name = ?1");
     let drop_line = db.prepare("DELETE FROM line WHERE period = ?1 AND name = ?2");
     let add_line = db.prepare("INSERT INTO line VALUES (?1, ?2, 1)");
-    let (mut last, mut changes) = ((Vec::new(), Vec::new()), Changes::default());
+    let (details, mut last, mut changes) = (Details::of(db), (Vec::new(), Vec::new()), Changes::default());
     loop {
-        let mut due = due_behind(&rows, &last, open, &mut changes);
+        let mut due = due_behind(&rows, &last, open, &details, &mut changes);
         for Due { name, charged, .. } in &due {
             let line = [Value::Int(open.period), Value::Blob(name)];
             mark.execute(&[Value::Blob(name)]);

@@ -2,8 +2,10 @@
 //! the dump completes, a log that is written ahead and synced at each commit. The tariff is one price for all records.
 
 use crate::books::{Rates, Receipt, Sums, Usage};
+use crate::detailed::{self, Details, Place};
 use crate::dumps::{Dump, Stop};
 use crate::records::{Class, class};
+use crate::repriced::Joined;
 use crate::sha256::sha256_bytes;
 use crate::sqlite::{Database, Statement, Value};
 use std::io;
@@ -32,6 +34,7 @@ pub struct Filed {
     sharing: Statement,
     insert: Statement,
     unmark: Statement,
+    details: Details,
     set_book: Statement,
     find_day: Statement,
     insert_day: Statement,
@@ -49,8 +52,14 @@ pub fn open(path: &str) -> Database {
     db.run("PRAGMA journal_mode = WAL; PRAGMA synchronous = FULL;");
     if is_new {
         db.run(TABLES);
+        db.run(detailed::TABLE);
     }
     db
+}
+
+/// Where a record is counted: in the one centre and shift.
+fn place(name: &[u8], day: i64, cpu: i64, blocks: i64, amount: i64) -> Place<'_> {
+    Place { name, day, centre: CENTRE, shift: SHIFT, cpu, blocks, amount }
 }
 
 impl Filed {
@@ -60,8 +69,9 @@ impl Filed {
             begin: db.prepare("BEGIN IMMEDIATE"),
             commit: db.prepare("COMMIT"),
             find: db.prepare("SELECT data FROM record WHERE name = ?1"),
-            sharing: db.prepare("SELECT name, charged, day, cpu, blocks, amount FROM record WHERE ident = ?1 LIMIT 2"),
+            sharing: db.prepare("SELECT name, charged, day, cpu, blocks, amount, data FROM record WHERE ident = ?1 LIMIT 2"),
             insert: db.prepare("INSERT INTO record VALUES (?1, ?2, ?3, ?4, ?5, ?6, ?7, ?8, ?9, ?10, 0)"),
+            details: Details::of(db),
             unmark: db.prepare("UPDATE record SET charged = 0 WHERE name = ?1"),
             set_book: db.prepare("UPDATE book SET held = ?1, amount = ?2 WHERE id = 1"),
             find_day: db.prepare(
@@ -119,7 +129,7 @@ impl Filed {
         }
         let ident = Value::Blob(&usage.identity);
         let shared = self.sharing.query(&[ident], |row| {
-            (row.bytes(0), row.int(1), row.int(2), row.int(3), row.int(4), row.int(5))
+            (row.bytes(0), row.int(1), row.int(2), row.int(3), row.int(4), row.int(5), row.bytes(6))
         });
         let Sums { cpu, blocks, amount, .. } = usage.sums;
         let (day, cpu, blocks, amount) = (usage.day.number(), cpu as i64, blocks as i64, amount as i64);
@@ -137,10 +147,14 @@ impl Filed {
             Value::Int(i64::from(shared.is_empty())),
         ]);
         match &shared[..] {
-            [] => self.change_day(day, 1, cpu, blocks, amount),
-            [(name, 1, day, cpu, blocks, amount)] => {
+            [] => {
+                self.change_day(day, 1, cpu, blocks, amount);
+                self.details.insert(&place(&name, day, cpu, blocks, amount), &usage.record);
+            }
+            [(name, 1, day, cpu, blocks, amount, data)] => {
                 self.unmark.execute(&[Value::Blob(name)]);
                 self.change_day(*day, -1, -cpu, -blocks, -amount);
+                self.details.delete(&place(name, *day, *cpu, *blocks, *amount), Joined::new().with(data));
             }
             _ => {}
         }

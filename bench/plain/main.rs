@@ -7,12 +7,15 @@
 //!
 //! Built with `--cfg books`, `plain import BOOK FILE CPU EXCP RECORD` keeps books in a file, by SQLite's own
 //! library, `plain tariff BOOK FILE` puts a tariff in force there, `plain adopt BOOK` adopts the second rule of
-//! identity, `plain statement BOOK PERIOD --tariff FILE` prints what a period would be charged by that tariff, and
+//! identity, `plain statement BOOK PERIOD --tariff FILE` prints what a period would be charged by that tariff,
+//! `plain details BOOK PERIOD` prints the details of a period, `plain upgrade BOOK` brings books of form 0 over, and
 //! `plain serve BOOK PORT REQUESTS CPU EXCP RECORD` answers for them over HTTP.
 
 #[cfg(books)]
 mod adopted;
 mod books;
+#[cfg(books)]
+mod detailed;
 mod dumps;
 #[cfg(books)]
 mod filed;
@@ -121,6 +124,27 @@ fn what_if(book: &str, period: i64, file: &str) -> io::Result<ExitCode> {
     Ok(ExitCode::SUCCESS)
 }
 
+/// Prints the details of a period.
+#[cfg(books)]
+fn details(book: &str, period: i64) -> io::Result<ExitCode> {
+    let mut out = BufWriter::new(io::stdout().lock());
+    let db = filed::open(book);
+    detailed::write_details(&mut out, &db, period)?;
+    db.close();
+    out.flush()?;
+    Ok(ExitCode::SUCCESS)
+}
+
+/// Brings books of form 0 over, and prints what is answered.
+#[cfg(books)]
+fn upgrade(book: &str) -> ExitCode {
+    let db = filed::open(book);
+    let answer = detailed::upgrade(&db);
+    db.close();
+    println!("{answer}");
+    ExitCode::SUCCESS
+}
+
 fn main() -> ExitCode {
     let words: Vec<String> = env::args().skip(1).collect();
     let words: Vec<&str> = words.iter().map(String::as_str).collect();
@@ -139,6 +163,13 @@ fn main() -> ExitCode {
         ["tariff", book, file] => return put_in_force(book, file).unwrap_or(ExitCode::FAILURE),
         #[cfg(books)]
         ["adopt", book] => return adopt(book),
+        #[cfg(books)]
+        ["upgrade", book] => return upgrade(book),
+        #[cfg(books)]
+        ["details", book, period] => {
+            let period = period.parse().expect("a period is a number");
+            return details(book, period).unwrap_or(ExitCode::FAILURE);
+        }
         #[cfg(books)]
         ["statement", book, period, "--tariff", file] => {
             let period = period.parse().expect("a period is a number");

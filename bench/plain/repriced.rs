@@ -2,6 +2,7 @@
 //! then costs what it says, and the charge rows of the open period follow.
 
 use crate::books::MAX_TOTAL;
+use crate::detailed::{Details, Place};
 use crate::dumps::DESCRIPTOR_LEN;
 use crate::sqlite::{Database, Statement, Value};
 use crate::tariffs::{Price, Tariff};
@@ -94,15 +95,21 @@ fn priced_behind<'t>(
     dated: &Statement,
     last: &[u8],
     tariff: &'t Tariff,
+    details: &Details,
     changes: &mut Changes,
 ) -> Vec<(Vec<u8>, Price<'t>)> {
     let (mut joined, mut priced) = (Joined::new(), Vec::with_capacity(BATCH));
     dated.each(&[Value::Blob(last), Value::Int(tariff.first_day), Value::Int(BATCH as i64)], |row| {
-        let price = tariff.price(joined.with(row.lent(1)));
+        let record = joined.with(row.lent(1));
+        let price = tariff.price(record);
         if row.int(2) == 1 {
-            let (day, cpu, blocks) = (row.int(3), row.int(6), row.int(7));
-            changes.add(day, text(row, 4), text(row, 5), [-1, -cpu, -blocks, -row.int(8)]);
-            changes.add(day, price.centre, price.shift, [1, cpu, blocks, price.amount as i64]);
+            let (name, day, cpu, blocks) = (row.lent(0), row.int(3), row.int(6), row.int(7));
+            let old = Place { name, day, centre: text(row, 4), shift: text(row, 5), cpu, blocks, amount: row.int(8) };
+            let (centre, shift, amount) = (price.centre, price.shift, price.amount as i64);
+            changes.add(day, old.centre, old.shift, [-1, -cpu, -blocks, -old.amount]);
+            changes.add(day, centre, shift, [1, cpu, blocks, amount]);
+            details.delete(&old, record);
+            details.insert(&Place { name, day, centre, shift, cpu, blocks, amount }, record);
         }
         priced.push((row.bytes(0), price));
     });
@@ -116,9 +123,9 @@ fn reprice(db: &Database, tariff: &Tariff) -> Changes {
             WHERE name > ?1 AND day >= ?2 ORDER BY name LIMIT ?3",
     );
     let set_price = db.prepare("UPDATE record SET shift = ?2, centre = ?3, amount = ?4 WHERE name = ?1");
-    let (mut last, mut changes) = (Vec::new(), Changes::default());
+    let (details, mut last, mut changes) = (Details::of(db), Vec::new(), Changes::default());
     loop {
-        let mut priced = priced_behind(&dated, &last, tariff, &mut changes);
+        let mut priced = priced_behind(&dated, &last, tariff, &details, &mut changes);
         for (name, Price { shift, centre, amount }) in &priced {
             let amount = Value::Int(*amount as i64);
             set_price.execute(&[Value::Blob(name), Value::Text(shift), Value::Text(centre), amount]);

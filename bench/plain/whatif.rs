@@ -70,7 +70,8 @@ fn charged(db: &Database, period: i64) -> Sums {
     found.remove(0)
 }
 
-fn title(db: &Database, period: i64) -> String {
+/// The period, and the day that it was closed through, if it was.
+pub fn title(db: &Database, period: i64) -> String {
     let closed = db.prepare("SELECT through FROM closed WHERE period = ?1");
     match closed.query(&[Value::Int(period)], |row| row.int(0)).first() {
         Some(through) => format!("PERIOD {period} CLOSED THROUGH {}", date_text(*through as u64)),
