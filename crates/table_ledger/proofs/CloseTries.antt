@@ -1,6 +1,6 @@
 -- A close that is tried: what it answers, and what it writes.
 use Rattle.std.proofs.Common.{◌≡◌, ◌∙◌, ℕ, suc, ◌+◌, ◌≤◌, List, [], ◌∷◌, length, refl, sym, ap}
-use Rattle.std.proofs.Common.{false, not, Ok, None, arith, cond, is_some, map, subst}
+use Rattle.std.proofs.Common.{false, not, Ok, Option, None, arith, cond, is_some, map, subst}
 use Rattle.std.specs.Prelude.{ℤ, ◌==◌}
 use Rattle.std.specs.FinMap.{find, get-from_entries}
 use Rattle.std.specs.declared.cmp.Ordering.{Ordering}
@@ -8,7 +8,8 @@ use Rattle.std.proofs.lemmas.List.{length-append, length-map}
 use Rattle.book_model.specs.Words.{IsDay, Book, all_periods, open_number, open_period, PeriodClosed}
 use Rattle.book_model.specs.Words.{last_period, close_outcome, close_event, Naming, by_key, open_by}
 use Rattle.book_model.specs.RulingAnswers.{close_ruled}
-use Rattle.book_model.specs.Words.{close_answer, is_closed, is_early, IsSound, Rulings, with_close}
+use Rattle.book_model.specs.Words.{close_answer, is_closed, is_early, IsSound, last_close, Rulings}
+use Rattle.book_model.specs.Words.{with_close}
 use Rattle.book_model.specs.declared.answer.Ruled.{Ruled}
 use Rattle.book_model.specs.declared.answer.Ruled.TheVariants.{Done}
 use Rattle.book_model.proofs.MapLemmas.{else_find, find-both}
@@ -16,14 +17,17 @@ use Rattle.book_model.proofs.RowLemmas.{by_key_total}
 use Rattle.book_core.specs.OfficeRulings.{ruled_in}
 use Rattle.table_model.specs.Changed.{closed_at}
 use Rattle.table_model.specs.PeriodRows.{by_period, under, numbered}
+use Rattle.table_model.specs.PostedLaws.{PostsTouched}
 use Rattle.table_model.specs.TablesOf.{tables_of, day_entries}
 use Rattle.table_model.proofs.CloseDays.{closed_open}
 use Rattle.table_model.proofs.MoveLemmas.{not_number}
 use Rattle.table_model.proofs.NumberedLemmas.{by_period_total, find-under, is_number}
 use Rattle.table_model.proofs.ReadableLemmas.{calls_read}
+use Rattle.table_model.proofs.TouchedRecords.{posts_few}
 use Rattle.sqlite_trees.specs.View.{View}
 use Rattle.tree_tables.specs.Days.{NoneNext}
 use Rattle.table_ledger.specs.Attempts.{LeavesOpen}
+use Rattle.table_ledger.specs.Posting.{CanClose}
 use Rattle.table_ledger.specs.Stages.{IsAt}
 use Rattle.table_ledger.specs.declared.summary.Summary.{Summary}
 use Rattle.table_ledger.proofs.Answering.{opens, opens_if}
@@ -71,21 +75,28 @@ none_next naming book number sound is place =
 
 -- A close that is answered Done is an event.
 pub close_is_event : {naming : Naming} (was : Summary) {view : View} (number : ℕ) (day : ℤ)
-    → IsDay day → close_ruled (ruled_in was.rulings) number day ≡ Ok Done → (book : Book)
-    → IsAt naming was view book
+    (last : Option ℤ) → IsDay day → close_ruled (ruled_in was.rulings) number day ≡ Ok Done
+    → last ≡ last_close (ruled_in was.rulings) → (book : Book) → IsAt naming was view book
     → IsEvent (λ (ruled : Ruled). ruled) naming (close_outcome number day) Done
-    (Says (with_close day (ruled_in was.rulings)) was.choices was.held was.total) (NoneNext number)
-    (closed_at number day) book
-close_is_event {naming = naming} was number day is_day answer book at =
+    (Says (with_close day (ruled_in was.rulings)) was.choices was.held was.total)
+    (CanClose number last) (closed_at number day) book
+close_is_event {naming = naming} was number day last is_day answer last_is book at =
     let done : close_answer book number day ≡ Ok Done =
     ap (λ rulings. close_ruled rulings number day) (sym at.remembers.rulings) ∙ answer in
     let own = closed_open book number day done in
+    let sound = (calls_read naming book at.kept.calls).sound in
+    let late = last_is ∙ ap last_close at.remembers.rulings in
     record {
       event = PeriodClosed day;
       is = ap (close_event day) done;
       answer = done;
       answered = subst (λ n. close_answer book n day ≡ Ok Done) own done;
-      when = none_next naming book number (calls_read naming book at.kept.calls).sound own;
+      when = record {
+        none_next = none_next naming book number sound own;
+        touched = subst (λ n. PostsTouched n last (tables_of naming book)) (sym own)
+            (subst (λ close. PostsTouched (open_number book) close (tables_of naming book))
+            (sym late) (posts_few naming book sound));
+      };
       submitted = is_day;
       changes = ap (λ n. closed_at n day (tables_of naming book)) own;
       remembers = λ follows summary says. record {

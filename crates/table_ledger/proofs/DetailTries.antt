@@ -26,7 +26,7 @@ use Rattle.book_core.specs.OfficeRulings.{ruled_in}
 use Rattle.table_model.specs.CountedRead.{is_day_between}
 use Rattle.table_model.specs.DetailsRead.{FindsLeast, IsDetail, detail_shown, details_of_days}
 use Rattle.table_model.specs.ListsRead.{is_period, of_period}
-use Rattle.table_model.specs.Tables.{RecordRow, Tables}
+use Rattle.table_model.specs.Tables.{Tables}
 use Rattle.table_model.specs.TablesOf.{tables_of}
 use Rattle.table_model.proofs.DetailReading.{details_follow}
 use Rattle.table_model.proofs.ReadableLemmas.{calls_read}
@@ -75,6 +75,23 @@ one_of_name tables one other is as_well same =
     some_is is.row as_well.row (sym is.held ∙ ap (get tables.records) same ∙ as_well.held) in
     sym is.shown ∙ (λ i. detail_shown (same i, row i)) ∙ as_well.shown
 
+-- a detail that does not come before another comes after it, or has its name
+pub after_or_named : (detail found : Detail) → is_lt (by_detail detail found) ≡ false
+    → (is_lt (by_detail found detail) ≡ true) ⊎ (detail.name ≡ found.name)
+after_or_named detail found =
+    elim (by_detail detail found) as (λ o. by_detail detail found ≡ o → is_lt o ≡ false
+    → (is_lt (by_detail found detail) ≡ true) ⊎ (detail.name ≡ found.name)) [
+      | Less ↦ λ o low. absurd (true≢false low)
+      | Equal ↦ λ o high.
+          let moment = second_equal
+          (by_key (key_of detail.priced) (key_of found.priced))
+          (ordering_then (nat_cmp detail.time found.time) (by_bytes detail.name found.name)) o in
+          inr (by_bytes_exact detail.name found.name
+          (second_equal (nat_cmp detail.time found.time) (by_bytes detail.name found.name) moment))
+      | Greater ↦ λ o high.
+          inl (ap is_lt (by_detail_total.antisymm found detail ∙ ap ordering_reverse o))
+    ] refl
+
 -- Each of the details that are sought is from the start on.
 abbrev pub ReachesAll : Sought → DetailStart → Tables → Type 0
 ReachesAll sought start tables =
@@ -106,21 +123,11 @@ module _ (sought : Sought) (start : DetailStart) (tables : Tables)
       sought_after : seeks sought found ≡ false → (detail : Detail) → IsDetail tables detail
           → seeks sought detail ≡ true → is_lt (by_detail found detail) ≡ true
       sought_after not_it detail is wanted =
-          elim (by_detail detail found) as (λ o. by_detail detail found ≡ o → is_lt o ≡ false
-          → is_lt (by_detail found detail) ≡ true) [
-            | Less ↦ λ o low. absurd (true≢false low)
-            | Equal ↦ λ o high.
-                let moment = second_equal
-                (by_key (key_of detail.priced) (key_of found.priced))
-                (ordering_then (nat_cmp detail.time found.time) (by_bytes detail.name found.name)) o in
-                let name = by_bytes_exact detail.name found.name
-                (second_equal (nat_cmp detail.time found.time) (by_bytes detail.name found.name)
-                moment) in
-                absurd (true≢false (sym wanted
+          elim (after_or_named detail found (finds.least detail is (reaches detail is wanted))) [
+            | inl after ↦ after
+            | inr name ↦ absurd (true≢false (sym wanted
                 ∙ ap (seeks sought) (one_of_name tables detail found is finds.there name) ∙ not_it))
-            | Greater ↦ λ o high.
-                ap is_lt (by_detail_total.antisymm found detail ∙ ap ordering_reverse o)
-          ] refl (finds.least detail is (reaches detail is wanted))
+          ]
 
       -- so the search goes on there
       pub sought_on : (next : DetailStart) → seeks sought found ≡ false → GoesOn sought found next

@@ -1,11 +1,13 @@
--- The steps of an adoption's walk change no name.
-use Rattle.std.proofs.Common.{ℕ, List, Bool, true, Option}
-use Rattle.std.specs.Prelude.{ℤ}
-use Rattle.std.specs.FinMap.{keys}
+-- The steps of walks by name, an adoption's and a tariff's, change no name.
+use Rattle.std.proofs.Common.{◌≡◌, ℕ, List, Bool, true, false, cond, Option, Some, None, refl}
+use Rattle.std.specs.Prelude.{ℤ, int_lt}
+use Rattle.std.specs.FinMap.{get, keys}
 use Rattle.std.proofs.lemmas.Cmp.{nat_list_cmp_total}
 use Rattle.std.proofs.lemmas.Map.Lookups.{exact_bytes}
-use Rattle.table_model.specs.TableChanges.{charge_due_step}
-use Rattle.table_model.specs.Tables.{Tables}
+use Rattle.tariff_rules.specs.declared.priced.Priced.{Priced}
+use Rattle.book_model.specs.Words.{Terms, price_by, record_with}
+use Rattle.table_model.specs.TableChanges.{charge_due_step, reprice, reprice_step}
+use Rattle.table_model.specs.Tables.{RecordRow, Tables}
 use Rattle.table_model.proofs.DueStays.{due-leaves}
 use Rattle.table_model.proofs.MovedLemmas.{keys-insert}
 use Rattle.tree_tables.proofs.WalkNames.{KeepsNames}
@@ -17,3 +19,20 @@ settle_keeps period last is_due name tables =
     due-leaves (λ (made : Tables). keys made.records) period last is_due name tables
     (λ row there. keys-insert nat_list_cmp_total exact_bytes tables.records name row
     (record row { charged = true }) there)
+
+-- and one that a tariff may be for
+pub reprice_keeps : (period : ℕ) (terms : Terms) → KeepsNames (reprice_step period terms)
+reprice_keeps period terms name tables =
+    elim (get tables.records name) as (λ found. get tables.records name ≡ found
+    → keys (reprice_step period terms name tables).records ≡ keys tables.records) [
+      | None ↦ λ there. rw there
+      | Some row ↦ λ there.
+          let priced : Priced = price_by terms (record_with row.data_bytes) in
+          rw there (elim (int_lt row.priced.day terms.effective) as (λ early.
+          keys (cond early tables (reprice period name row priced tables)).records
+          ≡ keys tables.records) [
+            | true ↦ refl
+            | false ↦ keys-insert nat_list_cmp_total exact_bytes tables.records name row
+                (record row { priced = priced }) there
+          ])
+    ] refl

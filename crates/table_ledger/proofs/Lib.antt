@@ -19,12 +19,17 @@ mod TariffTries
 mod CloseTries
 mod ChoiceTries
 mod KeptNames
+mod Walks
 mod WalksOf
 mod DueCharges
 mod AdoptTries
 mod DaySteps
 mod DayLooks
 mod Repriced
+mod LateLeft
+mod LateCosts
+mod NameSums
+mod LatePrices
 mod NewEntries
 mod AcceptTries
 mod ListReadings
@@ -38,6 +43,8 @@ mod RisingNames
 mod JoinLemmas
 mod DisputeTries
 mod DetailTries
+mod Underway
+mod PostedDetails
 mod DetailsRead
 mod OpenLemmas
 mod LoadLemmas

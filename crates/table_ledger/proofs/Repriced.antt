@@ -1,6 +1,7 @@
--- What a record's new price changes, and what the costs of all records add up to.
+-- What a record's new price changes, and which costs the books can hold.
 use Rattle.std.proofs.Common.{◌≡◌, ◌∙◌, ◌^◌, ℕ, ◌<◌, ◌≤◌, List, Bool, true, false, cond, Option}
-use Rattle.std.proofs.Common.{Some, None, sym, ap, arith}
+use Rattle.std.proofs.Common.{Some, None, refl, sym, ap, arith}
+use Rattle.std.specs.Option.{option_map_or}
 use Rattle.std.specs.Prelude.{int_lt, nat_lt}
 use Rattle.std.proofs.lemmas.Bool.Decides.{nat_tests}
 use Rattle.std.specs.FinMap.{get}
@@ -12,53 +13,96 @@ use Rattle.table_model.specs.TableChanges.{reprice, reprice_step}
 use Rattle.table_model.specs.Tables.{RecordRow, Tables}
 use Rattle.tree_rows.proofs.Maps.{not_none}
 use Rattle.tree_rows.proofs.Taking.{some_is}
-use Rattle.table_ledger.specs.Repricing.{tariff_price}
+use Rattle.table_ledger.specs.Repricing.{StandsPriced, tariff_price}
 
-module _ (period : ℕ) (name : List ℕ) (row : RecordRow) (priced : Priced) (tables : Tables)
+module _ (period : ℕ) (name : List ℕ) (row : RecordRow) (tables : Tables)
     (there : get tables.records name ≡ Some row) where
   -- the row, and then the charge rows of a record that is charged
-  abbrev stepped : Option RecordRow → Bool → Tables
-  stepped found charged = record tables {
+  abbrev stepped : Priced → Option RecordRow → Bool → Tables
+  stepped priced found charged = record tables {
     records = price_at priced name found tables.records;
     days = cond charged (add_price period priced (take_price period row.priced tables.days))
         tables.days;
   }
 
-  pub repriced : (charged : Bool) → charged ≡ row.charged
-      → stepped (get tables.records name) charged ≡ reprice period name row priced tables
-  repriced charged is = λ i. stepped (there i) (is i)
+  pub repriced : (priced : Priced) (charged : Bool) → charged ≡ row.charged
+      → stepped priced (get tables.records name) charged ≡ reprice period name row priced tables
+  repriced priced charged is = λ i. stepped priced (there i) (is i)
 
-  -- the step of a record that a tariff is for
-  pub step_priced : (terms : Terms) → tariff_price terms row ≡ Some priced
-      → reprice period name row priced tables ≡ reprice_step period terms name tables
-  step_priced terms is =
+  -- the step of a record, by the price that a tariff gives it, if it is for it
+  pub step_by : (terms : Terms) (found : Option Priced) → found ≡ tariff_price terms row
+      → option_map_or (λ (priced : Priced). reprice period name row priced tables) found tables
+      ≡ reprice_step period terms name tables
+  step_by terms found is =
       let costs : Priced = price_by terms (record_with row.data_bytes) in
-      rw there (elim (int_lt row.priced.day terms.effective) as (λ early.
-      cond early None (Some costs) ≡ Some priced
-      → reprice period name row priced tables
+      ap (λ (found : Option Priced).
+      option_map_or (λ (priced : Priced). reprice period name row priced tables) found tables) is
+      ∙ rw there (elim (int_lt row.priced.day terms.effective) as (λ early.
+      option_map_or (λ (priced : Priced). reprice period name row priced tables)
+      (cond early None (Some costs)) tables
       ≡ cond early tables (reprice period name row costs tables)) [
-        | true ↦ λ is. absurd (not_none priced (sym is))
-        | false ↦ λ is. ap (λ one. reprice period name row one tables) (sym (some_is costs priced is))
-      ] is)
+        | true ↦ refl
+        | false ↦ refl
+      ])
+
+  -- one that has its price already is left as it is
+  pub priced_stands : (terms : Terms) (priced : Priced) → StandsPriced period terms name tables
+      → Some priced ≡ tariff_price terms row → row.priced ≡ priced
+      → tables ≡ reprice_step period terms name tables
+  priced_stands terms priced stands is same =
+      let costs : Priced = price_by terms (record_with row.data_bytes) in
+      elim (int_lt row.priced.day terms.effective) as (λ early.
+      Some priced ≡ cond early None (Some costs)
+      → tables ≡ reprice_step period terms name tables) [
+        | true ↦ λ is. absurd (not_none priced is)
+        | false ↦ λ is. sym (stands row there (same ∙ some_is priced costs is))
+      ] is
 
 -- a cost that is no more than the books can hold has room
 no_more : (m n : ℕ) → n ≤ m → nat_lt m n ≡ false
 no_more m n small = grind (arith, nat_tests, small)
 
-pub has_room : (cost sum : ℕ) → cost ≡ sum → cost ≤ most_cost → Some cost ≡ if_room sum
-has_room cost sum is small =
-    ap (λ b. cond b None (Some cost)) (sym (no_more most_cost cost small)) ∙ ap if_room is
+pub has_room : (cost : ℕ) → cost ≤ most_cost → Some cost ≡ if_room cost
+has_room cost small =
+    ap (λ b. cond b None (Some cost)) (sym (no_more most_cost cost small))
 
 -- a cost that is more has none
 too_much : (m n : ℕ) → m < n → nat_lt m n ≡ true
 too_much m n more = grind (arith, nat_tests, more)
 
-has_no_room : (sum : ℕ) → most_cost < sum → None ≡ if_room sum
-has_no_room sum more = ap (λ b. cond b None (Some sum)) (sym (too_much most_cost sum more))
+pub has_no_room : (cost : ℕ) → most_cost < cost → None ≡ if_room cost
+has_no_room cost more =
+    ap (λ b. cond b None (Some cost)) (sym (too_much most_cost cost more))
 
--- nor has a sum a part of which is more
-pub part_too_much : (part sum : ℕ) → most_cost < part → part ≤ sum → None ≡ if_room sum
-part_too_much part sum more least = has_no_room sum (omega arith)
+-- nor has one that 64 bits do not hold,
+pub overflows : (cost : ℕ) → ¬ (cost < 2 ^ 64) → None ≡ if_room cost
+overflows cost over = has_no_room cost (omega (arith, over))
 
-pub part_overflows : (part sum : ℕ) → ¬ (part < 2 ^ 64) → part ≤ sum → None ≡ if_room sum
-part_overflows part sum over least = has_no_room sum (omega (arith, over))
+-- nor has a sum a part of which has none
+pub part_full : (part sum : ℕ) → None ≡ if_room part → part ≤ sum → None ≡ if_room sum
+part_full part sum full least =
+    elim (nat_lt most_cost part) as (λ much. nat_lt most_cost part ≡ much
+    → None ≡ cond much None (Some part) → None ≡ if_room sum) [
+      | true ↦ λ much full. has_no_room sum (more most_cost part sum much least)
+      | false ↦ λ few full. absurd (not_none part (sym full))
+    ] refl full
+  where
+    more : (m n sum : ℕ) → nat_lt m n ≡ true → n ≤ sum → m < sum
+    more m n sum much least = grind (arith, nat_tests, much, least)
+
+-- what a cost says about room
+pub no_room : (cost : ℕ) → None ≡ if_room cost → nat_lt most_cost cost ≡ true
+no_room cost is =
+    elim (nat_lt most_cost cost) as (λ much. None ≡ cond much None (Some cost) → much ≡ true) [
+      | true ↦ λ is. refl
+      | false ↦ λ is. absurd (not_none cost (sym is))
+    ] is
+
+pub room : (cost found : ℕ) → Some found ≡ if_room cost
+    → (nat_lt most_cost cost ≡ false) × (found ≡ cost)
+room cost found is =
+    elim (nat_lt most_cost cost) as (λ much. Some found ≡ cond much None (Some cost)
+    → (much ≡ false) × (found ≡ cost)) [
+      | true ↦ λ is. absurd (not_none found is)
+      | false ↦ λ is. (refl, some_is found cost is)
+    ] is

@@ -1,38 +1,39 @@
 -- A tariff that is tried: what it answers, and what it writes.
 use Rattle.std.proofs.Common.{◌≡◌, ◌≢◌, ◌∙◌, inl, inr, ℕ, List, refl, sym, ap, subst}
-use Rattle.std.proofs.Common.{Bool, true, false, cond, not, Ok, Err, Some, None}
+use Rattle.std.proofs.Common.{Bool, true, false, not, Ok, Err, Option, Some, None}
 use Rattle.std.specs.Prelude.{if◌then◌else◌, nat_lt, sum_by}
 use Rattle.std.specs.FinMap.{values}
 use Rattle.std.specs.List.{list_any}
 use Rattle.sqlite_trees.specs.View.{View}
 use Rattle.book_model.specs.RulingAnswers.{terms_ruled}
 use Rattle.book_model.specs.Words.{IsDay, Terms, terms_in, Book, TariffAccepted, most_cost, open_by}
-use Rattle.book_model.specs.Words.{tariff_outcome, tariff_event, Naming, has_text, is_effective}
+use Rattle.book_model.specs.Words.{open_number, tariff_outcome, tariff_event, Naming, has_text}
+use Rattle.book_model.specs.Words.{is_effective}
 use Rattle.book_model.specs.Words.{is_later, tariff_answer, with_tariff, Rulings}
 use Rattle.book_model.specs.declared.answer.Ruled.{Ruled}
 use Rattle.book_model.specs.declared.answer.Ruled.TheVariants.{Done}
 use Rattle.book_model.specs.declared.fault.LedgerFault.{LedgerFault}
 use Rattle.book_model.specs.declared.fault.LedgerFault.TheVariants.{Full}
 use Rattle.book_core.specs.OfficeRulings.{ruled_in}
-use Rattle.book_core.specs.Repricing.{if_room}
+use Rattle.book_model.proofs.CallLemmas.{passes}
 use Rattle.book_core.proofs.TariffLemmas.{done_by, other_by}
 use Rattle.table_model.specs.Changed.{tariff_at}
 use Rattle.table_model.specs.TableChanges.{amount_under}
 use Rattle.table_model.specs.Tables.{Tables}
 use Rattle.table_model.specs.TablesOf.{tables_of}
+use Rattle.table_model.proofs.LateRows.{amount_is_read, late_counted}
 use Rattle.table_model.proofs.ReadableLemmas.{calls_read}
 use Rattle.table_model.proofs.RulingLemmas.{terms_follow}
 use Rattle.table_model.specs.Readable.{IsReadable}
-use Rattle.tree_rows.proofs.Maps.{not_none}
-use Rattle.tree_rows.proofs.Taking.{some_is}
 use Rattle.tree_tables.specs.States.{State}
 use Rattle.table_ledger.specs.Attempts.{LeavesOpen}
-use Rattle.table_ledger.specs.Repricing.{CostUnder, CountsRecords}
+use Rattle.table_ledger.specs.Repricing.{CanBeSummed, CostUnder, CountsRecords, TakesTariff}
 use Rattle.table_ledger.specs.Stages.{AttemptsOne, IsAt}
 use Rattle.table_ledger.specs.TariffRefusals.{IsNoTariff}
 use Rattle.table_ledger.specs.declared.summary.Summary.{Summary}
 use Rattle.table_ledger.proofs.Answering.{opens, opens_if}
 use Rattle.table_ledger.proofs.Remembered.{Says}
+use Rattle.table_ledger.proofs.Repriced.{no_room, room}
 use Rattle.table_ledger.proofs.StageLemmas.{IsEvent}
 use Rattle.table_ledger.proofs.TryLemmas.{saw_none, try_answered}
 
@@ -57,23 +58,6 @@ tariff_unread {naming} {was} {state} text fault is =
     ]
 
 -- ---- the tests
-
--- what a cost says about room
-no_room : (cost : ℕ) → None ≡ if_room cost → nat_lt most_cost cost ≡ true
-no_room cost is =
-    elim (nat_lt most_cost cost) as (λ much. None ≡ cond much None (Some cost) → much ≡ true) [
-      | true ↦ λ is. refl
-      | false ↦ λ is. absurd (not_none cost (sym is))
-    ] is
-
-room : (cost found : ℕ) → Some found ≡ if_room cost
-    → (nat_lt most_cost cost ≡ false) × (found ≡ cost)
-room cost found is =
-    elim (nat_lt most_cost cost) as (λ much. Some found ≡ cond much None (Some cost)
-    → (much ≡ false) × (found ≡ cost)) [
-      | true ↦ λ is. absurd (not_none found is)
-      | false ↦ λ is. (refl, some_is found cost is)
-    ] is
 
 module _ (summary : Summary) (text : List ℕ) (terms : Terms) where
   -- the rulings that are remembered, and the three tests by them
@@ -129,20 +113,37 @@ module _ (summary : Summary) (text : List ℕ) (terms : Terms) where
           answered ∙ done_by told there later much done
           ∙ ap (λ (found : Bool). if found then Err Full else Ok Done) is
 
+      -- which is summed from the total on
+      can_be : CanBeSummed terms summary.total (tables_of naming book)
+      can_be = record {
+        sum = ready.remembers.total ∙ sym (amount_is_read naming book readable.sound);
+        counted = late_counted naming book terms readable.sound
+            (ap (is_later terms.effective) (sym ready.remembers.rulings)
+            ∙ passes told there later false done);
+      }
+
+      -- what looks have found of it
+      abbrev Found : Option ℕ → Type 0
+      Found found = CanBeSummed terms summary.total (tables_of naming book)
+          → CostUnder terms (tables_of naming book) found
+
       -- so it is Full if there is no room
-      pub tariff_full : CostUnder terms (tables_of naming book) None
-          → (tariff_outcome text book).answer ≡ Err Full
-      tariff_full known = decided true (no_room cost known.cost)
+      pub tariff_full : Found None → (tariff_outcome text book).answer ≡ Err Full
+      tariff_full known = decided true (no_room cost (known can_be).cost)
 
       -- A tariff that is answered Done is an event.
-      pub tariff_is_event : (amount : ℕ) → CostUnder terms (tables_of naming book) (Some amount)
+      pub tariff_is_event : (amount : ℕ) → Found (Some amount)
           → IsDay terms.effective → (period : ℕ) → period ≡ open_by ruled
           → IsEvent (λ (ruled : Ruled). ruled) naming (tariff_outcome text) Done
           (Says (with_tariff (Some text) terms ruled) summary.choices summary.held amount)
-          (CountsRecords summary.held) (tariff_at period (Some text) terms amount) book
+          (λ tables. TakesTariff period terms tables × CountsRecords summary.held tables)
+          (tariff_at period (Some text) terms amount) book
       tariff_is_event amount known day period number_is =
           let event = TariffAccepted (Some text) terms in
-          let cost_is = room cost amount known.cost in
+          let under = known can_be in
+          let cost_is = room cost amount under.cost in
+          let number : period ≡ open_number book =
+          number_is ∙ ap open_by ready.remembers.rulings in
           let is_done = decided false cost_is.0 in
           let answer = sym (ap (tariff_answer book text) said) ∙ is_done in
           record {
@@ -151,13 +152,24 @@ module _ (summary : Summary) (text : List ℕ) (terms : Terms) where
                 ∙ ap (tariff_event text (Ok terms)) is_done;
             answer = is_done;
             answered = answer;
-            when = sym ready.remembers.held;
+            when = (
+              record {
+                naming = naming;
+                book = book;
+                text = text;
+                readable = readable;
+                done = answer;
+                number = number;
+                are = refl;
+              },
+              sym ready.remembers.held,
+            );
             submitted = (
               record { said = said; day = day },
-              terms_follow.priced naming book text terms readable answer (known.can refl),
+              terms_follow.priced naming book text terms readable answer (under.can refl),
             );
-            changes = λ i. tariff_at ((number_is ∙ ap open_by ready.remembers.rulings) i)
-                (Some text) terms (cost_is.1 i) (tables_of naming book);
+            changes = λ i. tariff_at (number i) (Some text) terms (cost_is.1 i)
+                (tables_of naming book);
             remembers = λ follows other says. record {
               rulings = says.rulings ∙ ap (with_tariff (Some text) terms) ready.remembers.rulings;
               choices = says.choices ∙ ready.remembers.choices;

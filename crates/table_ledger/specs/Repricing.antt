@@ -1,12 +1,17 @@
--- What records cost under a tariff that is for them, by their rows.
+-- What records cost under a tariff that is for them, by their rows; and what is known of the tables
+-- before it is put in force.
 use Rattle.std.specs.Prelude.{◌≡◌, ℕ, List, false, int_lt, if◌then◌else◌, Option, Some, None, IsSome}
-use Rattle.std.specs.Prelude.{sum_by}
-use Rattle.std.specs.FinMap.{get, values}
+use Rattle.std.specs.Prelude.{Ok, sum_by}
+use Rattle.std.specs.FinMap.{contains_key, get, values}
 use Rattle.tariff_rules.specs.declared.priced.Priced.{Priced}
-use Rattle.book_model.specs.Words.{IsPriced, Terms, price_by, record_with}
+use Rattle.book_model.specs.Words.{Book, IsPriced, Naming, Terms, open_number, price_by, record_with}
+use Rattle.book_model.specs.Words.{terms_answer}
+use Rattle.book_model.specs.declared.answer.Ruled.TheVariants.{Done}
 use Rattle.book_core.specs.Repricing.{if_room}
-use Rattle.table_model.specs.TableChanges.{amount_under}
+use Rattle.table_model.specs.Readable.{IsReadable}
+use Rattle.table_model.specs.TableChanges.{amount_under, reprice_step}
 use Rattle.table_model.specs.Tables.{RecordRow, Tables}
+use Rattle.table_model.specs.TablesOf.{tables_of}
 
 -- what a row's record costs by a tariff, if it is dated on the first day or later
 abbrev pub tariff_price : Terms → RecordRow → Option Priced
@@ -29,3 +34,33 @@ pub record CostUnder (terms : Terms) (tables : Tables) (found : Option ℕ) : Ty
 -- the book counts this many records
 abbrev pub CountsRecords : ℕ → Tables → Type 0
 CountsRecords held tables = tables.book.held ≡ held
+
+-- The tables are those of a book, in its open period, that answers the terms Done for some text.
+pub record TakesTariff (period : ℕ) (terms : Terms) (tables : Tables) : Type 0 where
+  pub naming : Naming
+  pub book : Book
+  pub text : List ℕ
+  pub readable : IsReadable naming book
+  pub done : terms_answer book text terms ≡ Ok Done
+  pub number : period ≡ open_number book
+  pub are : tables ≡ tables_of naming book
+
+-- of the records that the terms are for, which are dated on the first day or later, those are
+-- counted that are charged
+abbrev pub CountsLate : Terms → Tables → Type 0
+CountsLate terms tables =
+    (name : List ℕ) (row : RecordRow) → get tables.records name ≡ Some row
+    → int_lt row.priced.day terms.effective ≡ false
+    → contains_key tables.counted name ≡ row.charged
+
+-- that, and all records together cost this now
+pub record CanBeSummed (terms : Terms) (total : ℕ) (tables : Tables) : Type 0 where
+  pub sum : total ≡ sum_by (λ (row : RecordRow). row.priced.amount) (values tables.records)
+  pub counted : CountsLate terms tables
+
+-- the step of a record that has its price by the terms already changes nothing
+abbrev pub StandsPriced : ℕ → Terms → List ℕ → Tables → Type 0
+StandsPriced period terms name tables =
+    (row : RecordRow) → get tables.records name ≡ Some row
+    → row.priced ≡ price_by terms (record_with row.data_bytes)
+    → reprice_step period terms name tables ≡ tables

@@ -1,28 +1,120 @@
 //! Closes of the open period.
 
 ghost use Rattle.book_model.specs.Words.{IsDay, close_outcome, Naming};
-ghost use Rattle.tree_tables.specs.Days.{NoneNext};
-ghost use Rattle.tree_tables.specs.States.{state};
-ghost use Rattle.tree_tables.specs.Steps.{Does};
 ghost use Rattle.table_model.specs.Changed.{closed_at};
+ghost use Rattle.table_model.specs.PostedLaws.{PostsTouched};
+ghost use Rattle.table_model.specs.Steps as step;
+ghost use Rattle.tree_tables.specs.States.{state};
+ghost use Rattle.tree_tables.specs.Steps.{Always, Does};
+ghost use Rattle.table_ledger.specs.Posting.{CanClose, RestIsPosted, names_in};
 ghost use Rattle.table_ledger.specs.Stages.{AttemptsOne};
 
 use crate::commits::commit_written;
+use crate::details::{MOST_STEPS, Sought, next_sought};
+use crate::many::counts_many;
 use crate::summary::Summary;
 use book_core::{LedgerFault, Ruled, is_done};
+use smf_text::FIRST_DAY;
 use sqlite_trees::error::StoreError;
 use sqlite_trees::store::Store;
-use tree_tables::{Close, TreeTables};
+use std::alloc::Global;
+use tree_tables::{Close, StoredLine, TreeTables};
+
+/// Posts the records of some lines, one after the other.
+fn post_lines<S: Store>(
+    tables: &mut TreeTables<S>,
+    lines: &[StoredLine],
+    close: &Close,
+) -> Result<(), StoreError>
+    requires { IsDay close.now.through }
+    ensures { Does result (state S.Store tables.old.store) (state S.Store tables.new.store)
+        Always (step.post_each close.now.through (names_in lines.now)) }
+{
+    for line in lines {
+        tables.post_record(&line.name, close.through)?;
+    }
+    Ok(())
+}
+
+/// Posts the records that are counted and dated after the last close, up to the day, one after the
+/// other. Details do not show what is posted, so none of them is met twice.
+fn post_details<S: Store>(
+    tables: &mut TreeTables<S>,
+    last: Option<i32>,
+    close: &Close,
+) -> Result<(), StoreError>
+    requires { IsDay close.now.through }
+    ensures { Does result (state S.Store tables.old.store) (state S.Store tables.new.store)
+        (RestIsPosted last close.now.through) (step.post_rows close.now.through) }
+{
+    let mut passed = None;
+    'details: for _ in 0..MOST_STEPS {
+        let sought = Sought {
+            close: last,
+            through: Some(close.through),
+            centre: None,
+            last: passed,
+        };
+        let Some(detail) = next_sought(tables, &sought)? else {
+            return Ok(());
+        };
+        tables.post_record(&detail.name, close.through)?;
+        passed = Some(detail);
+    }
+    // So many are never held.
+    Err(StoreError::OutOfMemory)
+}
+
+/// Posts what is dated on or before the day of a close, and looks at no record that the period does
+/// not touch: what it charges has a detail of its days, and what became of earlier records a line.
+fn post_touched<S: Store>(
+    tables: &mut TreeTables<S>,
+    alloc: Global,
+    last: Option<i32>,
+    close: &Close,
+) -> Result<(), StoreError>
+    requires { IsDay close.now.through }
+    ensures { Does result (state S.Store tables.old.store) (state S.Store tables.new.store)
+        (PostsTouched close.now.period last) (step.post_rows close.now.through) }
+{
+    let lines = tables.list_lines(alloc, close.period)?;
+    post_lines(tables, &lines, close)?;
+    post_details(tables, last, close)
+}
+
+/// Posts what is dated on or before the day of a close.
+fn post_charged<S: Store>(
+    tables: &mut TreeTables<S>,
+    alloc: Global,
+    last: Option<i32>,
+    held: usize,
+    close: &Close,
+) -> Result<(), StoreError>
+    requires { IsDay close.now.through }
+    ensures { Does result (state S.Store tables.old.store) (state S.Store tables.new.store)
+        (PostsTouched close.now.period last) (step.post_rows close.now.through) }
+{
+    if counts_many(tables, alloc, held, close.period, FIRST_DAY, close.through)? {
+        return tables.post_records(close.through);
+    }
+    post_touched(tables, alloc, last, close)
+}
 
 /// Writes a close: its day, the marks of what it charged, and the rows that it leaves to the next
 /// period.
-fn write_close<S: Store>(tables: &mut TreeTables<S>, close: &Close) -> Result<(), StoreError>
+fn write_close<S: Store>(
+    tables: &mut TreeTables<S>,
+    alloc: Global,
+    last: Option<i32>,
+    held: usize,
+    close: &Close,
+) -> Result<(), StoreError>
     requires { IsDay close.now.through }
     ensures { Does result (state S.Store tables.old.store) (state S.Store tables.new.store)
-        (NoneNext close.now.period) (closed_at close.now.period close.now.through) }
+        (CanClose close.now.period last) (closed_at close.now.period close.now.through) }
 {
     tables.put_close(close)?;
-    tables.post_records(close.through)?;
+    post_charged(tables, alloc, last, held, close)?;
     tables.move_days(close)
 }
 
@@ -30,6 +122,7 @@ fn write_close<S: Store>(tables: &mut TreeTables<S>, close: &Close) -> Result<()
 /// last close.
 pub(crate) fn try_close<S: Store>(
     tables: &mut TreeTables<S>,
+    alloc: Global,
     summary: &mut Summary,
     close: &Close,
 ) -> Result<Result<Ruled, LedgerFault>, StoreError>
@@ -42,9 +135,10 @@ pub(crate) fn try_close<S: Store>(
     if !is_done(&answer) {
         return Ok(answer);
     }
+    let last = summary.rulings.last_close();
     // The memory is taken first: if there is too little, the books stay as they were.
     summary.rulings.reserve_close()?;
-    let written = write_close(tables, close);
+    let written = write_close(tables, alloc, last, summary.held, close);
     commit_written(tables, written)?;
     summary.rulings.put_close(close.through);
     Ok(Ok(Ruled::Done))

@@ -20,19 +20,19 @@ use std::cmp::Ordering;
 use tree_tables::{DetailStart, TreeTables};
 
 /// The most details that are passed over: more than any books have records.
-const MOST_STEPS: u64 = 1 << 32;
+pub(crate) const MOST_STEPS: u64 = 1 << 32;
 
 /// Which details are sought.
 #[derive(Clone, Copy)]
 pub(crate) struct Sought {
     /// The day of the close before their period, if there was one.
-    close: Option<i32>,
+    pub(crate) close: Option<i32>,
     /// The day through which it was closed, if it was.
-    through: Option<i32>,
+    pub(crate) through: Option<i32>,
     /// Their centre, if one is named.
-    centre: Option<Name>,
+    pub(crate) centre: Option<Name>,
     /// The detail that they come after, if there is one.
-    last: Option<Detail>,
+    pub(crate) last: Option<Detail>,
 }
 
 impl Sought {
@@ -95,7 +95,7 @@ impl Sought {
 }
 
 /// The first of the details that are sought.
-fn next_sought<S: Store>(
+pub(crate) fn next_sought<S: Store>(
     tables: &mut TreeTables<S>,
     sought: &Sought,
 ) -> Result<Option<Detail>, StoreError>

@@ -89,6 +89,7 @@ impl<S: Store, N: Naming + Drop> Ledger for TableLedger<S, N> {
         }
         let tried = try_close(
             &mut self.tables,
+            self.alloc,
             &mut self.summary,
             &Close { period, through },
         );

@@ -20,6 +20,7 @@ mod finish;
 mod ledger;
 mod listed_rulings;
 mod load;
+mod many;
 mod other_prices;
 mod periods;
 mod repricing;

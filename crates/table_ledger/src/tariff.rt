@@ -7,14 +7,16 @@ ghost use Rattle.book_model.specs.Words.{terms_in, tariff_outcome, Naming};
 ghost use Rattle.book_core.specs.OfficeRulings.{HasTariffRoom, ruled_in};
 ghost use Rattle.table_model.specs.Changed.{tariff_at};
 ghost use Rattle.tree_tables.specs.Steps.{Does};
-ghost use Rattle.table_ledger.specs.Repricing.{CountsRecords};
+ghost use Rattle.table_ledger.specs.Repricing.{CountsRecords, TakesTariff};
 ghost use Rattle.table_ledger.specs.TariffRefusals.{IsNoTariff};
 ghost use Rattle.table_ledger.specs.Stages.{AttemptsOne};
 
 use crate::commits::commit_written;
+use crate::many::counts_many;
 use crate::repricing::{cost_under, reprice_all};
 use crate::summary::Summary;
 use book_core::{LedgerFault, Ruled, Rulings, is_done};
+use smf_text::LAST_DAY;
 use sqlite_trees::error::StoreError;
 use sqlite_trees::store::Store;
 use std::alloc::Global;
@@ -30,14 +32,15 @@ fn write_tariff<S: Store>(
     text: &str,
     tariff: &Tariff,
     sums: &Sums,
+    many: bool,
 ) -> Result<(), StoreError>
     requires held { sums.now.held < 2 ^ 63 }
     requires amount { sums.now.amount < 2 ^ 63 }
     ensures { Does result (state S.Store tables.old.store) (state S.Store tables.new.store)
-        (CountsRecords sums.now.held)
+        (λ tables. TakesTariff period tariff.now tables × CountsRecords sums.now.held tables)
         (tariff_at period (Some text.now) tariff.now sums.now.amount) }
 {
-    reprice_all(tables, alloc, period, tariff)?;
+    reprice_all(tables, alloc, period, tariff, many)?;
     tables.put_tariff(&TariffText {
         day: tariff.effective(),
         body: text,
@@ -81,17 +84,19 @@ fn put_in_force<S: Store>(
     ensures tries { (naming : Naming) → AttemptsOne (λ ruled. ruled) naming summary.old summary.new
         (state S.Store tables.old.store) (state S.Store tables.new.store) (tariff_outcome text.now) result }
 {
-    let Some(amount) = cost_under(tables, alloc, &tariff)? else {
+    let period = summary.rulings.open_number();
+    let first = tariff.effective();
+    let many = counts_many(tables, alloc, summary.held, period, first, LAST_DAY)?;
+    let Some(amount) = cost_under(tables, alloc, &tariff, summary.total, many)? else {
         return Ok(Err(LedgerFault::Full));
     };
-    let period = summary.rulings.open_number();
     // The memory is taken first: if there is too little, the books stay as they were.
     let own = take_memory(&mut summary.rulings, alloc, text)?;
     let sums = Sums {
         held: summary.held as u64,
         amount,
     };
-    let written = write_tariff(tables, alloc, period, text, &tariff, &sums);
+    let written = write_tariff(tables, alloc, period, text, &tariff, &sums, many);
     commit_written(tables, written)?;
     summary.rulings.put_tariff(own, tariff);
     summary.total = amount;

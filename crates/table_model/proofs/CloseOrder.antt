@@ -13,7 +13,7 @@ pub earlier : (one other : ℤ) → int_cmp one other ≡ Less → one <ℤ othe
 earlier one other less = int_ranked one other Less (sym less)
 
 -- a day that is later than the last of rising days is later than the first
-first_earlier : (first : ℤ) (days : List ℤ) (day : ℤ) → IsStrictlySortedBy int_cmp (first ∷ days)
+pub first_earlier : (first : ℤ) (days : List ℤ) (day : ℤ) → IsStrictlySortedBy int_cmp (first ∷ days)
     → MatchOption (last_or (Some first) days) (Unit {0}) (λ last. last <ℤ day) → first <ℤ day
 unfolding IsStrictlySortedBy
 first_earlier first [] day rising later = later

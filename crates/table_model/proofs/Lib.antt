@@ -1,15 +1,16 @@
 -- Read in this order: maps in which all rows change, and tables that number their rows by periods;
 -- one record more or less in lines, in charge rows, among the records and among the names that are
 -- counted; one that goes from one status to another; the tables with a record, and how few rows and
--- names differ; a close; a tariff, and what is past; the view, and the tables after an event and over
--- a history; rows and lines that are read. Then the readings: texts, lists in order, what is found in a table, and sets that are made
--- from lists; records that have rivals; books that calls made, and that they can be read back; the
--- rulings, the records, the choices, their list, and the lines that are read, and the book; the
--- rows of an identity; the answers to records, choices and other rulings, the lists of a period,
--- and which records it counts; rows in groups and in order, the next dispute from some bytes on,
--- and the disputes; the numbers that fit; the rows that a period would have by another tariff; how
--- long an identity is; the tables under the second rule of it; the lists that can be shown; and the
--- period that a day belongs to, the life of a record, and its trail.
+-- names differ; a close; a tariff, and the tables while its records are priced; what is past; the
+-- view, and the tables after an event and over a history; rows and lines that are read. Then the
+-- readings: texts, lists in order, what is found in a table, and sets that are made from lists;
+-- records that have rivals; books that calls made, and that they can be read back; the rulings, the
+-- records, those that a close posts, the choices, their list, and the lines that are read, and the
+-- book; the rows of an identity; the answers to records, choices and other rulings, the lists of a
+-- period, and which records it counts; rows in groups and in order, the next dispute from some
+-- bytes on, and the disputes; the numbers that fit; the rows that a period would have by another
+-- tariff; how long an identity is; the tables under the second rule of it; the lists that can be
+-- shown; and the period that a day belongs to, the life of a record, and its trail.
 pub mod MovedLemmas
 pub mod NumberedLemmas
 pub mod LineChanges
@@ -49,7 +50,9 @@ pub mod DueLemmas
 pub mod CurrentLemmas
 pub mod WalkLemmas
 pub mod TariffChanges
+pub mod PartlyPriced
 pub mod SumRead
+pub mod LateRows
 pub mod AdoptChanges
 pub mod DueStays
 pub mod EventLemmas
@@ -70,6 +73,8 @@ pub mod ReadableLemmas
 pub mod RulingsReading
 pub mod RecordReading
 pub mod CountedHeld
+pub mod PostedRows
+pub mod TouchedRecords
 pub mod ChoiceReading
 pub mod ListedChoices
 pub mod LineSides

@@ -24,7 +24,7 @@ use Rattle.book_core.specs.Effects.{is_after}
 use Rattle.table_model.specs.PeriodRows.{numbered}
 use Rattle.table_model.proofs.RestatedRows.{line_by, line_in, is_counted, part_row, join_row}
 use Rattle.table_model.proofs.RestatedRows.{set_counted, set_line, restate}
-use Rattle.table_model.specs.Tables.{RecordRow, RecordTable}
+use Rattle.table_model.specs.Tables.{LineTable, RecordRow, RecordTable}
 use Rattle.table_model.specs.TablesOf.{RecordStatus, tables_at, row_by, entry_by, entries_by}
 use Rattle.table_model.specs.TablesOf.{counted_by, days_by, line_entries, periods_by, signed_names}
 use Rattle.table_model.proofs.CostLemmas.{dated-after}
@@ -32,8 +32,9 @@ use Rattle.table_model.proofs.CountedNames.{names, names_restated}
 use Rattle.table_model.proofs.DayChanges.{days_at}
 use Rattle.table_model.proofs.HeldNames.{alone, except-alike, twice_found, value-with}
 use Rattle.table_model.proofs.LineChanges.{added, taken, has_added}
+use Rattle.table_model.proofs.NumberedLemmas.{get-open}
 use Rattle.table_model.proofs.OpenChanges.{open_days, days_is, lines_is, days-join, days-part}
-use Rattle.table_model.proofs.OpenChanges.{lines-set}
+use Rattle.table_model.proofs.OpenChanges.{lines-set, number_is}
 use Rattle.table_model.proofs.OpenNames.{added_before, taken_posted}
 use Rattle.table_model.proofs.RecordChanges.{record_table, records-with}
 
@@ -235,6 +236,16 @@ module _ (naming : Naming) (book : Book) (sound : IsSound naming book) where
           ∙ (λ i. cond (is q own_name) (by_tests p a c i)
           (sym (find-both by_bytes q (signed_names naming true (except one plus))
           (signed_names naming false (except one minus))) i))
+
+      -- so the open period has this line of it
+      pub line-found : get (tables_at naming book standing).lines (period, own_name) ≡ line_in last own
+      line-found =
+          ap (λ (all : LineTable). get all (period, own_name)) (lines_is naming book standing.charged)
+          ∙ get-open by_bytes nat_list_cmp_total exact_bytes 1 period
+          (map (line_entries naming) book.past)
+          (number_is book sound.closed (line_entries naming)) lines own_name
+          ∙ lines-found own_name
+          ∙ ap (λ t. cond t (line_in last own) (find by_bytes own_name rest)) (is_itself own_name)
 
   -- so its row is stored under its name
   pub row-found : (price : List ℕ → Option Priced) (identity : List ℕ → List ℕ) (charged : Records)

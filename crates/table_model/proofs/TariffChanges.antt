@@ -87,10 +87,10 @@ module _ (naming : Naming) (book : Book) (sound : IsSound naming book)
   held : AreAmong charged book.held
   held q on = in_those (is_undisputed book.rulings book.held) book.held q on
 
-  was : IsStatus book (stand old)
+  pub was : IsStatus book (stand old)
   was = status-is naming book sound charged held
 
-  becomes : IsStatus book (stand new)
+  pub becomes : IsStatus book (stand new)
   becomes = record {
     charged = held;
     priced = (steps_stay_sound.tariff naming book text terms sound done).priced;
@@ -98,14 +98,14 @@ module _ (naming : Naming) (book : Book) (sound : IsSound naming book)
   }
 
   -- a record that is dated on the first day or later is dated after the last close
-  late_is_after : (q : List ℕ) → int_lt (day_of q) terms.effective ≡ false
+  pub late_is_after : (q : List ℕ) → int_lt (day_of q) terms.effective ≡ false
       → is_dated_after (last_close book.rulings) q ≡ true
   late_is_after q late =
       late_is_current (last_close book.rulings) q terms.effective
       (calls_go_forward.tariff book text terms done) late
 
   -- so what is settled costs what it cost
-  settled : (q : List ℕ) → has book.held q ≡ true
+  pub settled : (q : List ℕ) → has book.held q ≡ true
       → is_dated_after (last_close book.rulings) q ≡ false → old q ≡ new q
   settled q there past =
       elim (int_lt (day_of q) terms.effective) as (λ b. int_lt (day_of q) terms.effective ≡ b
@@ -115,7 +115,7 @@ module _ (naming : Naming) (book : Book) (sound : IsSound naming book)
       ] refl
 
   -- each record gets its price by the tariff
-  step_is : Restates naming book sound (stand old) (stand new) was becomes settled
+  pub step_is : Restates naming book sound (stand old) (stand new) was becomes settled
       (reprice_step (open_number book) terms)
   step_is one there cost costs its its_now made found =
       let name : List ℕ = name_of naming one in
@@ -156,7 +156,7 @@ module _ (naming : Naming) (book : Book) (sound : IsSound naming book)
           (λ on. true≢false (sym after ∙ sound.dated one on))
 
   -- so after the walk all that is held has its price by the tariff
-  walked : walk (reprice_step (open_number book) terms) (keys (tables old).records) (tables old)
+  pub walked : walk (reprice_step (open_number book) terms) (keys (tables old).records) (tables old)
       ≡ tables new
   walked = restated_all naming book sound (stand old) (stand new) was becomes settled
       (reprice_step (open_number book) terms) step_is

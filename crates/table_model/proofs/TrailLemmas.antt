@@ -10,7 +10,7 @@ use Rattle.std.proofs.lemmas.Simd.{map-map}
 use Rattle.tariff_rules.specs.declared.priced.Priced.{Priced}
 use Rattle.tariff_rules.specs.declared.reckoning.Reckoning.{Reckoning}
 use Rattle.book_model.specs.declared.fault.LedgerFault.TheVariants.{NoSuchRecord}
-use Rattle.book_model.specs.Words.{Book, Choice, IsChoiceOf, Naming, choice_named}
+use Rattle.book_model.specs.Words.{Book, Choice, IsChoiceOf, IsSound, Naming, choice_named}
 use Rattle.book_model.specs.Words.{charged_of, choices_among, has, identity_by, name_of, no_event}
 use Rattle.book_model.specs.Words.{period_on, price_in, reckoning_in, record_named, same_bytes}
 use Rattle.book_model.specs.Words.{share_identity}
@@ -34,27 +34,29 @@ use Rattle.table_model.proofs.RecordReading.{entry_at, every_row}
 use Rattle.table_model.proofs.RowsWhere.{some_passes}
 use Rattle.table_model.proofs.UnderNumbers.{values-numbers}
 
+-- a record that is held in sound books is the one that is held under its name
+pub named_itself : (naming : Naming) (book : Book) → IsSound naming book → (bytes : List ℕ)
+    → has book.held bytes ≡ true
+    → record_named naming book.held (name_of naming bytes) ≡ Some bytes
+named_itself naming book sound bytes there =
+    by_found (record_named naming book.held (name_of naming bytes)) refl
+  where
+    by_found : (found : Option (List ℕ))
+        → record_named naming book.held (name_of naming bytes) ≡ found → found ≡ Some bytes
+    by_found None none =
+        let one = some_passes
+        (λ other. same_bytes (name_of naming other) (name_of naming bytes)) book.held bytes there
+        (nat_list_eq_equiv.refl (name_of naming bytes)) in
+        absurd (true≢false (sym (is_some-named naming book.held (name_of naming bytes) ∙ one)
+        ∙ ap is_some none))
+    by_found (Some other) some =
+        let in_it = named_held naming book.held (name_of naming bytes) other some in
+        let same = its_name naming book.held (name_of naming bytes) other some in
+        ap Some (sound.named other bytes in_it there same)
+
 module _ (naming : Naming) (book : Book) (whole : IsReadable naming book) where
   abbrev tables : Tables
   tables = tables_of naming book
-
-  -- a record that is held is the one that is held under its name
-  named_itself : (bytes : List ℕ) → has book.held bytes ≡ true
-      → record_named naming book.held (name_of naming bytes) ≡ Some bytes
-  named_itself bytes there = by_found (record_named naming book.held (name_of naming bytes)) refl
-    where
-      by_found : (found : Option (List ℕ))
-          → record_named naming book.held (name_of naming bytes) ≡ found → found ≡ Some bytes
-      by_found None none =
-          let one = some_passes
-          (λ other. same_bytes (name_of naming other) (name_of naming bytes)) book.held bytes there
-          (nat_list_eq_equiv.refl (name_of naming bytes)) in
-          absurd (true≢false (sym (is_some-named naming book.held (name_of naming bytes) ∙ one)
-          ∙ ap is_some none))
-      by_found (Some other) some =
-          let in_it = named_held naming book.held (name_of naming bytes) other some in
-          let same = its_name naming book.held (name_of naming bytes) other some in
-          ap Some (whole.sound.named other bytes in_it there same)
 
   -- where a name has no row, no record of it is held
   unnamed : (name : List ℕ) → get tables.records name ≡ None
@@ -122,7 +124,7 @@ module _ (naming : Naming) (book : Book) (whole : IsReadable naming book) where
       answer_is =
           let framed = (whole.lines.framed bytes there).is in
           ap (λ found. no_event (ok_or (option_and_then (trail_of naming book) found) NoSuchRecord))
-          (named_itself bytes there)
+          (named_itself naming book whole.sound bytes there)
           ∙ (λ i. no_event (ok_or (option_map (λ (reckoning : Reckoning). trail_is reckoning i)
           (reckoning_in book.rulings (framed i))) NoSuchRecord))
 

@@ -73,7 +73,7 @@ module _ {V : Type 0} where
       ∙ slice_get_past vs (number - n) (omega (arith, behind))
 
   -- one more value comes after the others,
-  one_more : (n : ℕ) (vs : List V) (v : V) (number : ℕ) → number ≡ n + length vs
+  pub one_more : (n : ℕ) (vs : List V) (v : V) (number : ℕ) → number ≡ n + length vs
       → under_numbers n (vs ++ v ∷ []) ≡ under_numbers n vs ++ (number, v) ∷ []
   one_more n [] v number is =
       let same : n ≡ number = omega arith in

@@ -133,27 +133,27 @@ module _ (naming : Naming) (book : Book) (sound : IsSound naming book) (from to 
       → StepsOne step tables one cost costs
 
   -- the status while a walk is on, of one record and of all
-  abbrev its : (List ℕ → Bool) → List ℕ → StatusAt
+  abbrev pub its : (List ℕ → Bool) → List ℕ → StatusAt
   its done q = cond (done (name_of naming q)) (status_at to q) (status_at from q)
 
-  abbrev between : (List ℕ → Bool) → RecordStatus
+  abbrev pub between : (List ℕ → Bool) → RecordStatus
   between done = record {
     price = λ q. (its done q).price;
     identity = λ q. (its done q).identity;
     charged = those (λ q. (its done q).charged) book.held;
   }
 
-  is_between : (done : List ℕ → Bool) (q : List ℕ) → has book.held q ≡ true
+  pub is_between : (done : List ℕ → Bool) (q : List ℕ) → has book.held q ≡ true
       → status_at (between done) q ≡ its done q
   is_between done q held = λ i. record (its done q) {
     charged = (has_those (λ q. (its done q).charged) book.held q
         ∙ ap (λ h. (its done q).charged && h) held ∙ and-true (its done q).charged) i;
   }
 
-  among : (done : List ℕ → Bool) → AreAmong (between done).charged book.held
+  pub among : (done : List ℕ → Bool) → AreAmong (between done).charged book.held
   among done q on = in_those (λ q. (its done q).charged) book.held q on
 
-  status : (done : List ℕ → Bool) → IsStatus book (between done)
+  pub status : (done : List ℕ → Bool) → IsStatus book (between done)
   status done = record {
     charged = among done;
     priced = λ q held. elim (done (name_of naming q)) as (λ b.
@@ -193,7 +193,7 @@ module _ (naming : Naming) (book : Book) (sound : IsSound naming book) (from to 
         (sym (names_differ naming book sound q one held there (is_back one q ∙ apart)))
         ∙ sym (is_between next q held)
 
-    one_step : step name (tables (between done)) ≡ tables (between next)
+    pub one_step : step name (tables (between done)) ≡ tables (between next)
     one_step =
         let cost = what_is (from.price one) (was.priced one there) in
         let costs = what_is (to.price one) (becomes.priced one there) in

@@ -2,7 +2,8 @@
 -- book; what a ledger looks at for a new record, by the book and by the tables; how maps change;
 -- one row; one table, a step at a time; the parts of what events do; each event; a history; what is
 -- read back from the tables; which rows may differ after a record; and the laws, with those of the
--- names that are counted and of what is read back of periods. Then the readings:
+-- names that are counted, of the records that a close posts, and of what is read back of periods.
+-- Then the readings:
 -- the book that tables determine; books that calls made, and what reading them back rests on; the
 -- answers to a record and to a ruling, the lists of a period, which records it counts, its details,
 -- the disputes, and the trail of a record, by the tables; the numbers that fit; and the laws, with
@@ -21,6 +22,7 @@ pub mod PeriodLists
 pub mod Differences
 pub mod Laws
 pub mod CountedLaws
+pub mod PostedLaws
 pub mod PeriodLaws
 pub mod BookIn
 pub mod FromCalls

@@ -110,6 +110,11 @@ abbrev pub post_by : ℤ → RecordRow → RecordRow
 post_by day row =
     if int_lt day row.priced.day then row else record row { posted = row.charged }
 
+-- a record's row, if there is one, is posted so
+abbrev pub post_at : ℤ → List ℕ → Option RecordRow → RecordTable → RecordTable
+post_at day name None records = records
+post_at day name (Some row) records = insert records name (post_by day row)
+
 -- a record's row with its identity by the second rule
 abbrev pub by_second_rule : RecordRow → RecordRow
 by_second_rule row = record row { identity = identity2_of (record_with row.data_bytes) }

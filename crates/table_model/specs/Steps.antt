@@ -1,6 +1,6 @@
 -- The steps that every change of the tables is made of: each changes rows of one table, as one call
 -- of the kept tables does.
-use Rattle.std.specs.Prelude.{ℕ, ℤ, Bool, List, Option}
+use Rattle.std.specs.Prelude.{ℕ, ℤ, Bool, List, Option, fold}
 use Rattle.std.specs.FinMap.{get, insert, remove}
 use Rattle.tariff_rules.specs.declared.priced.Priced.{Priced}
 use Rattle.book_model.specs.declared.row.ChargeRow.{ChargeRow}
@@ -8,7 +8,7 @@ use Rattle.book_model.specs.declared.row.RowKey.{RowKey}
 use Rattle.book_core.specs.declared.effects.DayChange.{DayChange}
 use Rattle.table_model.specs.MapChanges.{updated, moved}
 use Rattle.table_model.specs.RowChanges.{by_second_rule, change_day, count_where, mark_at, move_on}
-use Rattle.table_model.specs.RowChanges.{post_by, price_at}
+use Rattle.table_model.specs.RowChanges.{post_at, post_by, price_at}
 use Rattle.table_model.specs.Tables.{RecordRow, Tables}
 use Rattle.table_model.specs.TablesOf.{row_key}
 
@@ -55,6 +55,16 @@ put_price_row name priced tables =
 -- each record that is charged and dated on or before the day is posted
 abbrev pub post_rows : ℤ → Tables → Tables
 post_rows day tables = record tables { records = updated (post_by day) tables.records }
+
+-- the record of a name, if there is one, is posted so
+abbrev pub post_row : ℤ → List ℕ → Tables → Tables
+post_row day name tables =
+    record tables { records = post_at day name (get tables.records name) tables.records }
+
+-- those of some names are, one after the other
+abbrev pub post_each : ℤ → List (List ℕ) → Tables → Tables
+post_each day names tables =
+    fold (λ (so_far : Tables) (name : List ℕ). post_row day name so_far) tables names
 
 -- each record has its identity by the second rule
 abbrev pub rename_rows : Tables → Tables

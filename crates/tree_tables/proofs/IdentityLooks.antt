@@ -50,7 +50,7 @@ use Rattle.tree_tables.proofs.RecordLists.{EndIn, identity_rows, mark_rows}
 use Rattle.tree_tables.proofs.RowsRead.{same_blob, same_count}
 
 -- a mark of 0 is that of what is not charged
-unflagged : (charged : Bool) → flag charged ≡ flag false → charged ≡ false
+pub unflagged : (charged : Bool) → flag charged ≡ flag false → charged ≡ false
 unflagged true is = absurd (omega (arith, is))
 unflagged false is = refl
 

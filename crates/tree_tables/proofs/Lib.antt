@@ -22,11 +22,14 @@ pub mod FoundNames
 pub mod RecordLists
 pub mod ChargedRows
 pub mod IdentityLooks
+pub mod UnchargedLeft
+pub mod LateWalk
+pub mod LateSums
 pub mod Renewing
+pub mod Posting
 pub mod Prices
 pub mod Keying
 pub mod WalkNames
-pub mod Walked
 pub mod Passes
 pub mod DayRows
 pub mod LineRows

@@ -54,11 +54,11 @@ neither_less Equal other not_one not_other = not_other
 neither_less Greater other not_one not_other = refl
 
 -- one of two comparisons says Less where the other does not
-record Opposed (one other : Ordering) : Type 0 where
-  so : is_lt one ≡ not (is_lt other)
+pub record Opposed (one other : Ordering) : Type 0 where
+  pub so : is_lt one ≡ not (is_lt other)
 
 -- so do two that compare by a first part and by the rest, where the rests do
-by_first : {low high : Ordering} (one other : Ordering) → one ≡ ordering_reverse other
+pub by_first : {low high : Ordering} (one other : Ordering) → one ≡ ordering_reverse other
     → Opposed low high → Opposed (ordering_then one low) (ordering_then other high)
 by_first {low} one Less turned rest =
     record { so = ap (λ o. is_lt (ordering_then o low)) turned }
@@ -68,7 +68,7 @@ by_first {low} one Greater turned rest =
     record { so = ap (λ o. is_lt (ordering_then o low)) turned }
 
 -- no bytes come between some and the same with a 0 behind them
-not_between : (bytes other : List ℕ)
+pub not_between : (bytes other : List ℕ)
     → Opposed (by_bytes other (bytes ++ 0 ∷ [])) (by_bytes bytes other)
 not_between [] [] = record { so = refl }
 not_between [] (y ∷ other) = record {

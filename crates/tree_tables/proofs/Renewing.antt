@@ -218,18 +218,8 @@ module _ (change : RecordRow → RecordRow)
 
 -- ---- records that are posted
 
--- what is posted by a day is posted by it already
-pub post_again : (day : ℤ) (row : RecordRow) → post_by day (post_by day row) ≡ post_by day row
-post_again day row =
-    let posted : RecordRow = record row { posted = row.charged } in
-    elim (int_lt day row.priced.day) as (λ b. int_lt day row.priced.day ≡ b
-    → post_by day (cond b row posted) ≡ cond b row posted) [
-      | true ↦ λ is. ap (λ b. cond b row posted) is
-      | false ↦ λ is. ap (λ b. cond b posted posted) is
-    ] refl
-
 -- a record that is posted keeps a key that does not say so
-posted_stays : {Q : Type 0} (key : List ℕ × RecordRow → Q)
+pub posted_stays : {Q : Type 0} (key : List ℕ × RecordRow → Q)
     → ((name : List ℕ) (row : RecordRow)
     → key (name, record row { posted = row.charged }) ≡ key (name, row))
     → (day : ℤ) (name : List ℕ) (row : RecordRow)

@@ -1,23 +1,17 @@
 -- A walk over all records that finds one at a time: it meets each name once, in order.
-use Rattle.std.proofs.Common.{◌≡◌, ◌∙◌, ℕ, ◌+◌, List, [], ◌∷◌, map, Bool, true, false, cond}
-use Rattle.std.proofs.Common.{Option, Some, None, inl, inr, refl, sym, ap, subst}
-use Rattle.std.specs.Prelude.{filter, int_lt, slice_get, sum_by}
-use Rattle.std.specs.FinMap.{entries, get, keys}
+use Rattle.std.proofs.Common.{◌≡◌, ◌∙◌, ℕ, List, [], ◌∷◌, map, Bool, Option, Some, None, refl, sym, ap}
+use Rattle.std.proofs.Common.{subst}
+use Rattle.std.specs.Prelude.{filter, slice_get}
+use Rattle.std.specs.FinMap.{entries, keys}
 use Rattle.std.specs.Ordering.{is_lt}
-use Rattle.std.proofs.lemmas.Cmp.{nat_list_cmp_total}
-use Rattle.std.proofs.lemmas.List.Sums.{sum_by-cons}
-use Rattle.std.proofs.lemmas.Map.Lookups.{exact_bytes}
 use Rattle.sqlite_trees.proofs.ListLemmas.{filter-map}
 use Rattle.sqlite_trees.specs.Tree.{Trees}
-use Rattle.book_model.specs.Words.{Terms, by_bytes, price_by, record_with}
-use Rattle.tariff_rules.specs.declared.priced.Priced.{Priced}
-use Rattle.table_model.specs.TableChanges.{reprice, reprice_step, walk}
+use Rattle.book_model.specs.Words.{by_bytes}
+use Rattle.table_model.specs.TableChanges.{walk}
 use Rattle.table_model.specs.Tables.{RecordRow, Tables}
-use Rattle.table_model.proofs.MovedLemmas.{keys-insert}
-use Rattle.tree_rows.specs.Changes.{above, is_above}
+use Rattle.tree_rows.specs.Changes.{above}
 use Rattle.tree_rows.proofs.Maps.{not_none}
-use Rattle.tree_rows.proofs.Passing.{all_passed, first_there}
-use Rattle.tree_rows.proofs.Passing.{passed_with}
+use Rattle.tree_rows.proofs.Passing.{first_there}
 use Rattle.tree_rows.proofs.Remaining.{above_next}
 use Rattle.tree_rows.proofs.Taking.{some_is}
 use Rattle.tree_tables.proofs.Layouts.{record_layout}
@@ -40,10 +34,6 @@ has_none (x ∷ xs) is = absurd (not_none x (sym is))
 -- the names that are still to come
 abbrev pub names_left : Option (List ℕ) → Tables → List (List ℕ)
 names_left last tables = map (λ (entry : List ℕ × RecordRow). entry.0) (above last tables.records)
-
--- the rows that are still to come
-abbrev pub rows_left : Option (List ℕ) → Tables → List RecordRow
-rows_left last tables = map (λ (entry : List ℕ × RecordRow). entry.1) (above last tables.records)
 
 -- The next record that is found.
 module _ (last : Option (List ℕ)) (tables : Tables) (stored : StoredRecord)
@@ -70,47 +60,10 @@ module _ (last : Option (List ℕ)) (tables : Tables) (stored : StoredRecord)
       ap (map (λ (entry : List ℕ × RecordRow). entry.0)) front.1
       ∙ ap (λ left. stored.name ∷ map (λ (entry : List ℕ × RecordRow). entry.0) left) (sym rest)
 
-  -- what is summed over the rows that are left is its part, and that of the others
-  pub next_sum : (f : RecordRow → ℕ)
-      → sum_by f (rows_left last tables)
-      ≡ f (stored_entry stored).1 + sum_by f (rows_left (Some stored.name) tables)
-  next_sum f =
-      ap (λ left. sum_by f (map (λ (entry : List ℕ × RecordRow). entry.1) left)) front.1
-      ∙ sum_by-cons f (stored_entry stored).1
-      (map (λ (entry : List ℕ × RecordRow). entry.1) front.0)
-      ∙ ap (λ left. f (stored_entry stored).1
-      + sum_by f (map (λ (entry : List ℕ × RecordRow). entry.1) left)) (sym rest)
-
-  -- what is so of it, and of those that were passed, is so of all that are passed with it
-  pub next_told : (Told : RecordRow → Type 0) → Told (stored_entry stored).1
-      → ((name : List ℕ) (row : RecordRow) → get tables.records name ≡ Some row
-      → is_above by_bytes last name ≡ false → Told row)
-      → (name : List ℕ) (row : RecordRow) → get tables.records name ≡ Some row
-      → is_above by_bytes (Some stored.name) name ≡ false → Told row
-  next_told Told tells so_far name row there behind =
-      elim (passed_with record_layout.total record_layout.exact last tables.records stored.name
-      (stored_entry stored).1 front.0 front.1 name row there behind) [
-        | inl same ↦
-            subst Told (some_is (stored_entry stored).1 row (sym next_stands
-            ∙ ap (get tables.records) (sym same) ∙ there)) tells
-        | inr before ↦ so_far name row there before
-      ]
-
--- Where none is found, no name and no row is left.
+-- Where none is found, none is left.
 pub none_left : (last : Option (List ℕ)) (tables : Tables) → FindsNext last tables None
     → above last tables.records ≡ []
 none_left last tables found = has_none (above last tables.records) found
-
--- so what is so of all that are passed is so of all
-pub told_all : (last : Option (List ℕ)) (tables : Tables) → FindsNext last tables None
-    → (Told : RecordRow → Type 0)
-    → ((name : List ℕ) (row : RecordRow) → get tables.records name ≡ Some row
-    → is_above by_bytes last name ≡ false → Told row)
-    → (name : List ℕ) (row : RecordRow) → get tables.records name ≡ Some row → Told row
-told_all last tables found Told told name row there =
-    told name row there
-    (all_passed record_layout.total record_layout.exact last tables.records
-    (none_left last tables found) name row there)
 
 -- a step changes no name
 abbrev pub KeepsNames : (List ℕ → Tables → Tables) → Type 0
@@ -145,20 +98,3 @@ walking_ends {step} {tables} {trees} last walking found =
     (sym (none_left last walking.now found))
     ∙ walking.whole)
     walking.holds
-
--- a tariff's step changes no name
-pub reprice_keeps : (period : ℕ) (terms : Terms) → KeepsNames (reprice_step period terms)
-reprice_keeps period terms name tables = by_row (get tables.records name) refl
-  where
-    by_row : (found : Option RecordRow) → get tables.records name ≡ found
-        → keys (reprice_step period terms name tables).records ≡ keys tables.records
-    by_row None there = rw there
-    by_row (Some row) there =
-        let priced : Priced = price_by terms (record_with row.data_bytes) in
-        rw there (elim (int_lt row.priced.day terms.effective) as (λ early.
-        keys (cond early tables (reprice period name row priced tables)).records
-        ≡ keys tables.records) [
-          | true ↦ refl
-          | false ↦ keys-insert nat_list_cmp_total exact_bytes tables.records name row
-              (record row { priced = priced }) there
-        ])

@@ -111,7 +111,7 @@ pub fn read_detail(row: &Row) -> Result<Detail, StoreError>
 }
 
 /// The bytes that come next after those of a name.
-fn bytes_after(name: &[u8; 32]) -> [u8; 33]
+pub(crate) fn bytes_after(name: &[u8; 32]) -> [u8; 33]
     ensures { result ≡ name.now ++ 0 ∷ [] }
 {
     let mut bytes = [0; 33];

@@ -1,4 +1,5 @@
-//! Walks and passes over all records, by name.
+//! Walks and passes over all records, by name; and what a close posts, in such a walk or one record
+//! at a time.
 
 ghost use Rattle.std.specs.Prelude.{◌≡◌, ◌∷◌, [], IfErr, IfOk, OnErr, OnOk};
 ghost use Rattle.std.specs.Prelude.{slice_set};
@@ -19,7 +20,7 @@ use sqlite_trees::error::StoreError;
 use sqlite_trees::store::Store;
 use sqlite_value::row::Row;
 use std::alloc::Global;
-use tree_rows::{change_row, first_after, first_from, next_row, start_pass};
+use tree_rows::{change_row, find_row, first_after, first_from, next_row, start_pass};
 
 /// The column of a record's name.
 pub(crate) const NAME: usize = 0;
@@ -195,5 +196,22 @@ impl<S: Store> TreeTables<S> {
         }
         // Only a disk that lies has more rows.
         Err(StoreError::Corrupt)
+    }
+
+    /// The record of a name, if there is one that is dated on or before the day, is posted as it is
+    /// charged. Neither the trees that find it nor its detail say whether it is.
+    pub fn post_record(&mut self, name: &[u8], through: i32) -> Result<(), StoreError>
+        ensures does { Does result (state S.Store self.old.store) (state S.Store self.new.store)
+            Always (step.post_row through name.now) }
+    {
+        bytes_key(&mut self.key, name)?;
+        if !find_row(&mut self.store, RECORDS, &self.key, &mut self.before)? {
+            return Ok(());
+        }
+        let due = post_row(&mut self.row, &self.before, through)?;
+        if !due {
+            return Ok(());
+        }
+        change_row(&mut self.store, RECORDS, &self.before, &self.row)
     }
 }

@@ -5,7 +5,8 @@ use Rattle.tree_tables.specs.States.{state}
 use Rattle.tree_tables.proofs.WalkNames.{next_stands}
 use Rattle.table_ledger.proofs.KeptNames.{settle_keeps}
 use Rattle.table_ledger.proofs.DueCharges.{settles_still, still_first, still_next}
-use Rattle.table_ledger.proofs.WalksOf.{of_all, of_blind, of_fail, of_no_more, of_none, of_on, of_still}
+use Rattle.table_ledger.proofs.Walks.{walks_blind, walks_fail, walks_no_more, walks_still}
+use Rattle.table_ledger.proofs.WalksOf.{of_all, of_none, of_on}
 use Rattle.table_ledger.proofs.adoption.charge_all_due.Goals as goal
 
 pub records-init : goal.records-init
@@ -15,7 +16,7 @@ records-init g c =
 -- the next record is not found, because the store failed
 pub returns-in_err-stored : goal.returns-in_err-stored
 returns-in_err-stored g c = record {
-  does = of_blind c.records.invariant _ c.from_residual.ensures.0 c.in_err-stored.ensures.looks;
+  does = walks_blind c.records.invariant _ c.from_residual.ensures.0 c.in_err-stored.ensures.looks;
 }
 
 -- none is left
@@ -27,7 +28,7 @@ returns-in_default g c = record {
 -- its step failed
 pub returns-in_err-charge_due_record : goal.returns-in_err-charge_due_record
 returns-in_err-charge_due_record g c = record {
-  does = of_fail (of_still c.records.invariant c.in_ok-stored.ensures.looks) _
+  does = walks_fail (walks_still c.records.invariant c.in_ok-stored.ensures.looks) _
       c.from_residual-in_err-charge_due_record.ensures.0 c.in_err-charge_due_record.ensures.does;
 }
 
@@ -48,4 +49,4 @@ records-preserved g c =
 
 -- there are too many
 pub returns : goal.returns
-returns g c = record { does = of_no_more c.records.invariant (Err Corrupt) refl }
+returns g c = record { does = walks_no_more c.records.invariant (Err Corrupt) refl }

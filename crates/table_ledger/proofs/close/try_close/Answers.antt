@@ -40,7 +40,7 @@ returns-in_err-commit_written g c = record {
       uncommitted g.S.Store _ _ c.from_residual-in_err-commit_written.ensures.0
       (stage_steps _ saw_none c.write_close-written.ensures
       (λ book at known. close_is_event c.args.summary.now close.period close.through
-      c.requires.day done book at))
+      c.last_close-last.result c.requires.day done c.last_close-last.ensures book at))
       c.in_err-commit_written.ensures
       (remembers_same c.in_ok-reserve_close.ensures.same refl refl refl);
 }
@@ -56,7 +56,7 @@ returns g c = record {
       committed g.S.Store
       (stage_steps _ saw_none c.write_close-written.ensures
       (λ book at known. close_is_event c.args.summary.now close.period close.through
-      c.requires.day done book at))
+      c.last_close-last.result c.requires.day done c.last_close-last.ensures book at))
       c.in_ok-commit_written.ensures (record {
         rulings = c.put_close.ensures
             ∙ (λ i. with_close (day i) (c.in_ok-reserve_close.ensures.same i));

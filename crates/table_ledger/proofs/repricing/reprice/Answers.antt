@@ -1,17 +1,34 @@
-use Rattle.std.proofs.Common.{◌∙◌, sym}
+use Rattle.std.proofs.Common.{◌∙◌, None, Some, sym}
 use Rattle.tree_tables.specs.Stored.{stored_entry}
-use Rattle.table_ledger.proofs.Repriced.{step_priced}
-use Rattle.table_ledger.proofs.StepLemmas.{does_so}
+use Rattle.table_ledger.proofs.Repriced.{priced_stands, step_by}
+use Rattle.table_ledger.proofs.StepLemmas.{does_nothing, does_so}
 use Rattle.table_ledger.proofs.repricing.reprice.Goals as goal
 
+-- the tariff is not for it
+pub returns-in_default : goal.returns-in_default
+returns-in_default g c = record {
+  does = does_nothing (λ tables known.
+      step_by c.args.period c.args.stored.now.name (stored_entry c.args.stored.now).1 tables known.0
+      c.args.tariff.now None (sym c.in_default.is ∙ c.in_ok-priced.ensures.price));
+}
+
+-- it has its price already
+pub returns-then-stands : goal.returns-then-stands
+returns-then-stands g c = record {
+  does = does_nothing (λ tables known.
+      priced_stands c.args.period c.args.stored.now.name (stored_entry c.args.stored.now).1 tables
+      known.0 c.args.tariff.now c.in-Some.priced known.1
+      (sym c.in-Some.is ∙ c.in_ok-priced.ensures.price) (c.stands.ensures.same c.if-stands.true));
+}
+
 -- the price by the tariff is the one that the step gives
-pub returns-in-Some : goal.returns-in-Some
-returns-in-Some g c = record {
+pub returns : goal.returns
+returns g c = record {
   does = does_so c.set_price.result c.set_price.ensures.does
-      (λ tables stands. (
-        stands,
-        step_priced c.args.period c.args.stored.now.name
-            (stored_entry c.args.stored.now).1 c.in-Some.priced tables stands c.args.tariff.now
-            (sym c.in_ok-new_price.ensures.price ∙ c.in-Some.is),
+      (λ tables known. (
+        known.0,
+        step_by c.args.period c.args.stored.now.name (stored_entry c.args.stored.now).1 tables
+            known.0 c.args.tariff.now (Some c.in-Some.priced)
+            (sym c.in-Some.is ∙ c.in_ok-priced.ensures.price),
       ));
 }

@@ -13,8 +13,8 @@ returns g c = record {
       (λ tables stands. (stands, tt)))
       (λ tables stands. (
         stands,
-        repriced c.args.period c.args.stored.now.name (stored_entry c.args.stored.now).1
-            c.args.priced.now tables stands true (sym c.if-not-stored.false),
+        repriced c.args.period c.args.stored.now.name (stored_entry c.args.stored.now).1 tables
+            stands c.args.priced.now true (sym c.if-not-stored.false),
       ));
 }
 
@@ -29,7 +29,7 @@ returns-then-not-stored g c = record {
       does_so (Ok tt) c.in_ok-set_price.ensures.does
       (λ tables stands. (
         stands,
-        repriced c.args.period c.args.stored.now.name (stored_entry c.args.stored.now).1
-            c.args.priced.now tables stands false (sym c.if-not-stored.true),
+        repriced c.args.period c.args.stored.now.name (stored_entry c.args.stored.now).1 tables
+            stands c.args.priced.now false (sym c.if-not-stored.true),
       ));
 }

@@ -7,7 +7,7 @@ use Rattle.table_ledger.proofs.CommitLemmas.{committed, uncommitted}
 use Rattle.table_ledger.proofs.Remembered.{remembers_same}
 use Rattle.table_ledger.proofs.TariffTries.{tariff_full, tariff_is_event}
 use Rattle.table_ledger.proofs.StageLemmas.{stage_steps}
-use Rattle.table_ledger.proofs.TryLemmas.{saw_found, saw_none, try_answered, try_refused}
+use Rattle.table_ledger.proofs.TryLemmas.{saw_found, saw_none, saw_then, try_answered, try_refused}
 use Rattle.table_ledger.proofs.TryLemmas.{try_stopped}
 use Rattle.table_ledger.proofs.tariff.put_in_force.Goals as goal
 
@@ -21,11 +21,12 @@ returns-in_default g c = record {
   tries =
       λ naming.
       let text = c.args.text.now in
-      try_answered _ (saw_found (rw c.in_default.is at c.in_ok-amount.ensures.looks))
+      try_answered _ (saw_then (saw_found c.in_ok-many.ensures)
+      (saw_found (rw c.in_default.is at c.in_ok-amount.ensures.looks)))
       (record { stored = refl; served = refl })
       (λ book at known. makes_refused (λ (ruled : Ruled). ruled) (tariff_outcome text book) Full
       (tariff_full c.args.summary.now text c.args.tariff c.requires.said naming _ book at
-      c.requires.done known));
+      c.requires.done known.1));
 }
 
 -- the commit is refused
@@ -35,10 +36,11 @@ returns-in_err-commit_written g c = record {
       λ naming.
       let day = dated c.tariff.view_is c.tariff.invariant in
       uncommitted g.S.Store _ _ c.from_residual-in_err-commit_written.ensures.0
-      (stage_steps _ (saw_found (rw c.in-Some.is at c.in_ok-amount.ensures.looks))
+      (stage_steps _ (saw_then (saw_found c.in_ok-many.ensures)
+      (saw_found (rw c.in-Some.is at c.in_ok-amount.ensures.looks)))
       c.write_tariff-written.ensures
       (λ book at known. tariff_is_event c.args.summary.now c.args.text.now c.args.tariff
-      c.requires.said naming _ book at c.requires.done c.in-Some.amount known day
+      c.requires.said naming _ book at c.requires.done c.in-Some.amount known.1 day
       c.open_number-period.result c.open_number-period.ensures.number))
       c.in_err-commit_written.ensures
       (remembers_same c.in_ok-own.ensures.same refl refl refl);
@@ -52,10 +54,11 @@ returns g c = record {
       let terms = c.args.tariff in
       let day = dated c.tariff.view_is c.tariff.invariant in
       committed g.S.Store
-      (stage_steps _ (saw_found (rw c.in-Some.is at c.in_ok-amount.ensures.looks))
+      (stage_steps _ (saw_then (saw_found c.in_ok-many.ensures)
+      (saw_found (rw c.in-Some.is at c.in_ok-amount.ensures.looks)))
       c.write_tariff-written.ensures
       (λ book at known. tariff_is_event c.args.summary.now c.args.text.now terms
-      c.requires.said naming _ book at c.requires.done c.in-Some.amount known day
+      c.requires.said naming _ book at c.requires.done c.in-Some.amount known.1 day
       c.open_number-period.result c.open_number-period.ensures.number))
       c.in_ok-commit_written.ensures (record {
         rulings = c.put_tariff.ensures ∙ (λ i. with_tariff (Some (c.in_ok-own.ensures.own i)) terms
@@ -66,15 +69,25 @@ returns g c = record {
       });
 }
 
-pub returns-in_err-amount : goal.returns-in_err-amount
-returns-in_err-amount g c = record {
-  tries =
-      λ naming. try_refused _ c.from_residual.ensures.0 saw_none c.in_err-amount.ensures.looks;
+-- the charge rows are not read, because the store failed
+pub returns-in_err-many : goal.returns-in_err-many
+returns-in_err-many g c = record {
+  tries = λ naming. try_refused _ c.from_residual.ensures.0 saw_none c.in_err-many.ensures;
 }
 
+-- nor the records
+pub returns-in_err-amount : goal.returns-in_err-amount
+returns-in_err-amount g c = record {
+  tries = λ naming.
+      try_refused _ c.from_residual-in_err-amount.ensures.0 (saw_found c.in_ok-many.ensures)
+      c.in_err-amount.ensures.looks;
+}
+
+-- or there is too little memory
 pub returns-in_err-own : goal.returns-in_err-own
 returns-in_err-own g c = record {
   tries = λ naming.
-      try_stopped _ c.from_residual-in_err-own.ensures.0 (saw_found c.in_ok-amount.ensures.looks)
+      try_stopped _ c.from_residual-in_err-own.ensures.0
+      (saw_then (saw_found c.in_ok-many.ensures) (saw_found c.in_ok-amount.ensures.looks))
       (remembers_same c.in_err-own.ensures.same refl refl refl);
 }

@@ -1,8 +1,8 @@
-use Rattle.std.proofs.Common.{◌∙◌, Some, sym}
+use Rattle.std.proofs.Common.{◌∙◌, Ok, Some, sym}
 use Rattle.std.specs.FinMap.{keys}
 use Rattle.table_model.specs.Steps.{put_tariff_row, set_sums}
 use Rattle.table_model.specs.TableChanges.{reprice_step, walk}
-use Rattle.table_ledger.proofs.StepLemmas.{does_both, does_so}
+use Rattle.table_ledger.proofs.StepLemmas.{does_so, does_then}
 use Rattle.table_ledger.proofs.Refusals.{does_failed, does_failed_next}
 use Rattle.book_model.proofs.DayLemmas.{day_kept}
 use Rattle.table_ledger.proofs.tariff.write_tariff.Goals as goal
@@ -13,12 +13,14 @@ returns g c =
     let terms = c.args.tariff.now in
     let day = day_kept c.effective.result c.effective.ensures.day ∙ c.effective.ensures.value in
     does_so c.set_sums.result
-    (does_both (does_both c.in_ok-reprice_all.ensures.does c.in_ok-put_tariff.ensures.does)
-    c.set_sums.ensures.does)
-    (λ tables counts. (
-      tt,
+    (does_then c.set_sums.result
+    (does_then (Ok tt) c.in_ok-reprice_all.ensures.does c.in_ok-put_tariff.ensures.does
+    (λ tables takes. (takes, tt)))
+    c.set_sums.ensures.does (λ tables takes. (takes, tt)))
+    (λ tables known. (
+      known.0,
       λ i.
-          set_sums (sym counts i) c.args.sums.now.amount
+          set_sums (sym known.1 i) c.args.sums.now.amount
           (put_tariff_row (day i) (Some c.args.text.now)
           (walk (reprice_step c.args.period terms) (keys tables.records) tables)),
     ))

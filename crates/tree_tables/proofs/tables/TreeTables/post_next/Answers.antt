@@ -1,9 +1,10 @@
 use Rattle.std.proofs.Common.{true, false, subst, w32}
 use Rattle.std.proofs.lemmas.Int.{to_z-of_z}
 use Rattle.table_model.specs.RowChanges.{post_by}
+use Rattle.table_model.proofs.PostedRows.{post_again}
 use Rattle.tree_tables.specs.Walks.{RenewsRow}
 use Rattle.tree_rows.proofs.Calls.{clean_before}
-use Rattle.tree_tables.proofs.Renewing.{post_again, renews_kept, renews_none, renews_one}
+use Rattle.tree_tables.proofs.Renewing.{renews_kept, renews_none, renews_one}
 use Rattle.tree_tables.proofs.tables.TreeTables.post_next.Goals as goal
 
 -- no record is left

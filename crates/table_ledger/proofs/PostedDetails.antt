@@ -1,0 +1,272 @@
+-- The details of a period whose records are posted one after another, and the lines that come
+-- before them.
+use Rattle.std.proofs.Common.{◌≡◌, ◌∙◌, ◌+◌, ◌<◌, ℕ, ℤ, List, [], ◌∷◌, ◌++◌, ◌&&◌, ◌||◌, Bool}
+use Rattle.std.proofs.Common.{true, false, true≢false, cond, not, Option, Some, None, inl, inr}
+use Rattle.std.proofs.Common.{is_some, map, refl, sym, ap, subst, take, length, get_or}
+use Rattle.std.proofs.Math.Bool.{or-true}
+use Rattle.std.specs.Prelude.{int_lt, slice_index_or}
+use Rattle.std.specs.FinMap.{contains_key, get}
+use Rattle.std.specs.FinMap.Entries.{is_some-find}
+use Rattle.std.specs.List.{list_any}
+use Rattle.std.specs.Option.{option_map, option_map_or}
+use Rattle.std.proofs.lemmas.Bool.{and_parts}
+use Rattle.std.proofs.lemmas.List.{map-append, take_more}
+use Rattle.std.proofs.lemmas.List.Folds.{list_any-append}
+use Rattle.std.proofs.lemmas.List.Sums.{fold-append}
+use Rattle.std.proofs.lemmas.Simd.{map-map}
+use Rattle.sqlite_trees.specs.Tree.{Trees}
+use Rattle.book_core.specs.Effects.{is_after}
+use Rattle.book_model.specs.Words.{by_bytes, comes_after, is_asked}
+use Rattle.book_model.specs.declared.detail.Detail.{Detail}
+use Rattle.book_model.proofs.RecordSets.{is, is_itself}
+use Rattle.table_model.specs.CountedRead.{is_day_between}
+use Rattle.table_model.specs.DetailsRead.{FindsLeast, IsDetail, detail_shown}
+use Rattle.table_model.specs.PostedLaws.{PostsTouched, is_touched}
+use Rattle.table_model.specs.RowChanges.{post_by}
+use Rattle.table_model.specs.Steps.{post_each, post_row, post_rows}
+use Rattle.table_model.specs.Tables.{RecordRow, Tables}
+use Rattle.table_model.proofs.PostedRows.{post_again, post_stays, posted_found, posted_those}
+use Rattle.table_model.proofs.PostedRows.{rest_stays}
+use Rattle.tree_rows.proofs.Taking.{some_is}
+use Rattle.tree_tables.specs.Answers.{ListsLines}
+use Rattle.tree_tables.specs.Holds.{Holds}
+use Rattle.tree_tables.specs.Stored.{signed_name}
+use Rattle.tree_tables.specs.declared.line_rows.StoredLine.{StoredLine}
+use Rattle.tree_tables.proofs.Posting.{posted_shown}
+use Rattle.table_ledger.specs.DetailReads.{seeks}
+use Rattle.table_ledger.specs.Posting.{RestIsPosted, names_in}
+use Rattle.table_ledger.specs.declared.details.Sought.{Sought}
+use Rattle.table_ledger.proofs.CountTestLemmas.{line_listed}
+use Rattle.table_ledger.proofs.DetailTries.{after_or_named}
+use Rattle.table_ledger.proofs.Underway.{Shows}
+
+-- ---- lines
+
+-- the record of one line more is posted
+pub line_posted : (day : ℤ) (lines : List StoredLine) (i : ℕ) (any : StoredLine) (tables : Tables)
+    → i < length lines
+    → post_row day (slice_index_or lines i any).name
+    (post_each day (names_in (take i lines)) tables)
+    ≡ post_each day (names_in (take (i + 1) lines)) tables
+line_posted day lines i any tables within =
+    sym (ap (λ (some : List StoredLine). post_each day (names_in some) tables)
+    (take_more lines i any within)
+    ∙ ap (λ names. post_each day names tables)
+    (map-append (λ (line : StoredLine). line.name) (take i lines) (get_or lines i any ∷ []))
+    ∙ fold-append (λ (so_far : Tables) (name : List ℕ). post_row day name so_far) tables
+    (names_in (take i lines)) ((get_or lines i any).name ∷ []))
+
+-- a period has a line of a record where its name is among those that are listed
+line_there : (period : ℕ) (tables : Tables) (lines : List StoredLine) (name : List ℕ)
+    → ListsLines period tables lines
+    → contains_key tables.lines (period, name) ≡ list_any (is name) (names_in lines)
+line_there period tables lines name lists =
+    ap (λ found. is_some found) (sym (line_listed period tables lines name lists))
+    ∙ is_some-find by_bytes name (map signed_name lines)
+    ∙ ap (list_any (is name))
+    (map-map (λ (entry : List ℕ × Bool). entry.0) signed_name lines)
+
+module _ (period : ℕ) (last : Option ℤ) (day : ℤ) (tables : Tables) (lines : List StoredLine)
+    (touched : PostsTouched period last tables) (lists : ListsLines period tables lines)
+  where
+    abbrev line_names : List (List ℕ)
+    line_names = names_in lines
+
+    abbrev after_lines : Tables
+    after_lines = post_each day line_names tables
+
+    -- a record that was posted is
+    was_posted : (row : RecordRow) (had : Option RecordRow)
+        → option_map (post_by day) had ≡ Some row → post_by day row ≡ row
+    was_posted row None was = cc
+    was_posted row (Some one) was =
+        let same = some_is (post_by day one) row was in
+        ap (post_by day) (sym same) ∙ post_again day one ∙ same
+
+    -- one that has no line, and is not counted, the period does not touch
+    untouched : (name : List ℕ) (row : RecordRow) → list_any (is name) line_names ≡ false
+        → (is_after last row.priced.day && contains_key after_lines.counted name) ≡ false
+        → is_touched period last tables name row ≡ false
+    untouched name row out none =
+        elim (is_after last row.priced.day) as (λ late. is_after last row.priced.day ≡ late
+        → cond late (contains_key tables.counted name) (contains_key tables.lines (period, name))
+        ≡ false) [
+          | true ↦ λ late.
+              sym (ap (λ (all : Tables). contains_key all.counted name)
+              (rest_stays day line_names tables))
+              ∙ sym (ap (λ b. b && contains_key after_lines.counted name) late) ∙ none
+          | false ↦ λ early. line_there period tables lines name lists ∙ out
+        ] refl
+
+    by_name : (name : List ℕ) (row : RecordRow) → get after_lines.records name ≡ Some row
+        → (is_after last row.priced.day && contains_key after_lines.counted name) ≡ false
+        → (among : Bool) → list_any (is name) line_names ≡ among
+        → cond among (option_map (post_by day) (get tables.records name)) (get tables.records name)
+        ≡ Some row
+        → post_by day row ≡ row
+    by_name name row found none true among was = was_posted row (get tables.records name) was
+    by_name name row found none false out was =
+        post_stays day row (touched name row was (untouched name row out none))
+
+    -- So where the records of all lines of the period are posted, those that are counted are left.
+    pub rest_posted : RestIsPosted last day after_lines
+    rest_posted name row found none =
+        by_name name row found none (list_any (is name) line_names) refl
+        (sym (posted_found day line_names tables name) ∙ found)
+
+-- ---- details
+
+-- the details of a period after one, or all
+abbrev pub days_after : Option ℤ → ℤ → Option Detail → Sought
+days_after last day passed =
+    record { close = last; through = Some day; centre = None; last = passed }
+
+module _ (day : ℤ) (names : List (List ℕ)) (tables : Tables) (detail : Detail)
+    (there : IsDetail tables detail)
+  where
+    abbrev with_posted : Tables
+    with_posted = post_each day names tables
+
+    still_counted : contains_key with_posted.counted detail.name ≡ true
+    still_counted =
+        ap (λ (all : Tables). contains_key all.counted detail.name) (rest_stays day names tables)
+        ∙ there.counted
+
+    by_row : (b : Bool)
+        → get with_posted.records detail.name
+        ≡ cond b (option_map (post_by day) (get tables.records detail.name))
+        (get tables.records detail.name)
+        → IsDetail with_posted detail
+    by_row true found = record {
+      row = post_by day there.row;
+      held = found ∙ ap (option_map (post_by day)) there.held;
+      counted = still_counted;
+      shown = posted_shown day detail.name there.row ∙ there.shown;
+    }
+    by_row false found = record {
+      row = there.row;
+      held = found ∙ there.held;
+      counted = still_counted;
+      shown = there.shown;
+    }
+
+    -- a record that is posted has the same detail
+    posted_detail : IsDetail with_posted detail
+    posted_detail =
+        by_row (list_any (is detail.name) names) (posted_found day names tables detail.name)
+
+module _ (last : Option ℤ) (day : ℤ) (passed : Option Detail) where
+  -- Of the details of the period those that do not come after one are posted: the trees hold the
+  -- tables with the records of some names posted, and theirs are among them.
+  pub record PostedSo (tables : Tables) (trees : Trees) : Type 0 where
+    pub names : List (List ℕ)
+    pub holds : Holds trees (post_each day names tables)
+    pub done : (detail : Detail) → IsDetail tables detail
+        → is_day_between last (Some day) detail.priced.day ≡ true
+        → comes_after passed detail ≡ false → list_any (is detail.name) names ≡ true
+
+  -- a detail of the period is sought where it comes after the last one
+  sought_where : (detail : Detail) → is_day_between last (Some day) detail.priced.day ≡ true
+      → seeks (days_after last day passed) detail ≡ comes_after passed detail
+  sought_where detail between =
+      ap (λ b. b && (is_asked None detail && comes_after passed detail)) between
+
+  -- where none is left, each record is posted that the period counts, and the others were
+  pub posted_all : (tables : Tables) (trees : Trees) → RestIsPosted last day tables
+      → PostedSo tables trees
+      → Shows trees (λ now. FindsLeast (seeks (days_after last day passed)) now None)
+      → Holds trees (post_rows day tables)
+  posted_all tables trees rest so_far finds =
+      subst (Holds trees) (posted_those day so_far.names tables (λ name row found out.
+      left name row found out (is_after last row.priced.day && contains_key tables.counted name)
+      refl))
+      so_far.holds
+    where
+      after_is : (close : Option ℤ) (its : ℤ)
+          → is_after close its ≡ option_map_or (λ one. int_lt one its) close true
+      after_is None its = refl
+      after_is (Some one) its = refl
+
+      -- none that is dated by the day is left
+      none_left : (name : List ℕ) (row : RecordRow) → get tables.records name ≡ Some row
+          → list_any (is name) so_far.names ≡ false → is_after last row.priced.day ≡ true
+          → contains_key tables.counted name ≡ true → int_lt day row.priced.day ≡ false → ⊥
+      none_left name row found out late counted early =
+          let detail : Detail = detail_shown (name, row) in
+          let there : IsDetail tables detail =
+          record { row = row; held = found; counted = counted; shown = refl } in
+          let between : is_day_between last (Some day) row.priced.day ≡ true =
+          (λ i. (sym (after_is last row.priced.day) ∙ late) i && not (early i)) in
+          true≢false (sym (so_far.done detail there between
+          (sym (sought_where detail between)
+          ∙ finds (post_each day so_far.names tables) so_far.holds detail
+          (posted_detail day so_far.names tables detail there)))
+          ∙ out)
+
+      left : (name : List ℕ) (row : RecordRow) → get tables.records name ≡ Some row
+          → list_any (is name) so_far.names ≡ false → (counts : Bool)
+          → (is_after last row.priced.day && contains_key tables.counted name) ≡ counts
+          → post_by day row ≡ row
+      left name row found out false none = rest name row found none
+      left name row found out true both =
+          let parts = and_parts (is_after last row.priced.day) (contains_key tables.counted name)
+          both in
+          elim (int_lt day row.priced.day) as (λ late. int_lt day row.priced.day ≡ late
+          → cond late row (record row { posted = row.charged }) ≡ row) [
+            | true ↦ λ late. refl
+            | false ↦ λ early. absurd (none_left name row found out parts.0 parts.1 early)
+          ] refl
+
+-- none is posted before the first
+pub posted_none : (last : Option ℤ) (day : ℤ) (tables : Tables) (trees : Trees)
+    → Holds trees tables → PostedSo last day None tables trees
+posted_none last day tables trees holds = record {
+  names = [];
+  holds = holds;
+  done = λ detail there between behind. absurd (true≢false behind);
+}
+
+-- The next one is found.
+module _ (last : Option ℤ) (day : ℤ) (passed : Option Detail) (found : Detail) (tables : Tables)
+    (trees : Trees) (so_far : PostedSo last day passed tables trees)
+    (finds : Shows trees (λ now. FindsLeast (seeks (days_after last day passed)) now (Some found)))
+  where
+    abbrev before : List (List ℕ)
+    before = so_far.names
+
+    abbrev at_found : Tables
+    at_found = post_each day before tables
+
+    -- one that does not come after it is it, or one of those before
+    among : (detail : Detail) → IsDetail tables detail
+        → is_day_between last (Some day) detail.priced.day ≡ true
+        → comes_after (Some found) detail ≡ false → (after : Bool)
+        → comes_after passed detail ≡ after
+        → (list_any (is detail.name) before || (is detail.name found.name || false)) ≡ true
+    among detail there between behind false early =
+        ap (λ b. b || (is detail.name found.name || false)) (so_far.done detail there between early)
+    among detail there between behind true after =
+        elim (after_or_named detail found ((finds at_found so_far.holds).least detail
+        (posted_detail day before tables detail there)
+        (sought_where last day passed detail between ∙ after))) [
+          | inl later ↦ absurd (true≢false (sym later ∙ behind))
+          | inr same ↦
+              ap (λ b. list_any (is detail.name) before || (b || false))
+              (ap (is detail.name) (sym same) ∙ is_itself detail.name)
+              ∙ or-true (list_any (is detail.name) before)
+        ]
+
+    -- it is posted
+    pub posted_on : (later : Trees)
+        → Shows trees (λ now. Unit {0} → Holds later (post_row day found.name now))
+        → PostedSo last day (Some found) tables later
+    posted_on later makes = record {
+      names = before ++ found.name ∷ [];
+      holds = subst (Holds later)
+          (sym (fold-append (λ (one : Tables) (name : List ℕ). post_row day name one) tables before
+          (found.name ∷ [])))
+          (makes at_found so_far.holds tt);
+      done = λ detail there between behind.
+          list_any-append (is detail.name) before (found.name ∷ [])
+          ∙ among detail there between behind (comes_after passed detail) refl;
+    }

@@ -1,0 +1,121 @@
+-- Walks, as calls on a store make them: a look, then a step by what it has answered, and so on.
+use Rattle.std.proofs.Common.{Result, Ok, Err, refl, sym, subst}
+use Rattle.std.specs.Prelude.{IsErr}
+use Rattle.sqlite_trees.specs.Tree.{Trees}
+use Rattle.sqlite_trees.specs.View.{OnlyWrites}
+use Rattle.sqlite_trees.specs.declared.error.StoreError.{StoreError}
+use Rattle.table_model.specs.Tables.{Tables}
+use Rattle.tree_tables.specs.Holds.{Holds}
+use Rattle.tree_tables.specs.States.{HasCleanDisk, State, Survives}
+use Rattle.tree_tables.specs.Steps.{Does, Looks}
+use Rattle.tree_tables.proofs.Looking.{does_err, held_after_look, kept_after, kept_by, only_both}
+use Rattle.tree_tables.proofs.Looking.{only_looks, survives_both, was_clean}
+use Rattle.table_ledger.proofs.SurvivalLemmas.{survives_none}
+use Rattle.table_ledger.proofs.UnchangedStores.{trees_same}
+
+-- A walk has come so far: nothing is committed; and by the tables before the walk, where the premise
+-- holds of them, this is said of the trees as they are now.
+pub record WalksTo (When : Tables → Type 0) (Come : Tables → Trees → Type 0) (old new : State)
+    : Type 0 where
+  pub survives : Survives old new (λ trees. ⊥)
+  pub only : HasCleanDisk new → OnlyWrites old.view new.view
+  pub come : HasCleanDisk new → (tables : Tables) → Holds old.view.trees tables → When tables
+      → Come tables new.view.trees
+
+module _ {When : Tables → Type 0} {Come : Tables → Trees → Type 0} where
+  -- before the first look
+  pub walks_none : (state : State)
+      → ((tables : Tables) → Holds state.view.trees tables → When tables
+      → Come tables state.view.trees)
+      → WalksTo When Come state state
+  walks_none state starts = record {
+    survives = survives_none;
+    only = λ clean. refl;
+    come = λ clean. starts;
+  }
+
+  module _ {old mid : State} (walks : WalksTo When Come old mid) where
+    -- a look leaves the walk where it is
+    pub walks_still : {A : Type 0} {new : State} {Answers : Tables → A → Type 0} {answer : A}
+        → Looks (Ok answer) mid new Answers → WalksTo When Come old new
+    walks_still {new = new} looks = record {
+      survives = survives_both walks.survives looks.survives;
+      only = λ clean.
+          only_both old.view (walks.only (was_clean looks.survives clean))
+          (only_looks mid.view (looks.found clean).same);
+      come = λ clean tables holds when.
+          subst (Come tables) (sym (trees_same mid.view new.view (looks.found clean).same))
+          (walks.come (was_clean looks.survives clean) tables holds when);
+    }
+
+    -- a look is answered, and the step by it is taken
+    pub walks_on : {A T : Type 0} {seen new : State} {Answers : Tables → A → Type 0} {answer : A}
+        {Before : Tables → Type 0} {change : Tables → Tables} {done : T}
+        {Next : Tables → Trees → Type 0}
+        → Looks (Ok answer) mid seen Answers → Does (Ok done) seen new Before change
+        → ((tables : Tables) → Come tables mid.view.trees
+        → ((now : Tables) → Holds mid.view.trees now
+        → Answers now answer × (Before now → Holds new.view.trees (change now)))
+        → Next tables new.view.trees)
+        → WalksTo When Next old new
+    walks_on looks does goes = record {
+      survives = survives_both walks.survives (survives_both looks.survives does.survives);
+      only = λ clean.
+          let behind = was_clean does.survives clean in
+          only_both old.view (walks.only (was_clean looks.survives behind))
+          (only_both mid.view (only_looks mid.view (looks.found behind).same)
+          (does.done clean).only);
+      come = λ clean tables holds when.
+          let behind = was_clean does.survives clean in
+          let look = looks.found behind in
+          goes tables (walks.come (was_clean looks.survives behind) tables holds when)
+          (λ now held. (
+            look.known now held,
+            λ before. (does.done clean).made now (held_after_look mid.view look.same held) before,
+          ));
+    }
+
+    -- a look finds that there is no more to do
+    pub walks_all : {A T : Type 0} {new : State} {Answers : Tables → A → Type 0} {answer : A}
+        {change : Tables → Tables} {done : T} → Looks (Ok answer) mid new Answers
+        → ((tables : Tables) → Come tables mid.view.trees
+        → ((now : Tables) → Holds mid.view.trees now → Answers now answer)
+        → Holds mid.view.trees (change tables))
+        → Does (Ok done) old new When change
+    walks_all looks ends = record {
+      survives = survives_both walks.survives looks.survives;
+      done = λ clean.
+          let before = was_clean looks.survives clean in
+          let look = looks.found clean in
+          record {
+            only = only_both old.view (walks.only before) (only_looks mid.view look.same);
+            made = λ tables holds when.
+                held_after_look mid.view look.same
+                (ends tables (walks.come before tables holds when) look.known);
+          };
+      refused = λ clean. tt;
+    }
+
+    -- it is given up
+    pub walks_no_more : {T : Type 0} {Then : Tables → Type 0} {change : Tables → Tables}
+        (result : Result T StoreError) → IsErr result → Does result old mid Then change
+    walks_no_more result failed =
+        does_err result failed walks.survives (λ clean. kept_by (walks.only clean))
+
+    -- a step in it fails
+    pub walks_fail : {T U : Type 0} {new : State} {Then Other : Tables → Type 0}
+        {change other : Tables → Tables} {why : StoreError} (result : Result T StoreError)
+        → IsErr result → Does {T = U} (Err why) mid new Other other
+        → Does result old new Then change
+    walks_fail result failed does =
+        does_err result failed (survives_both walks.survives does.survives) (λ clean.
+        kept_after (walks.only (was_clean does.survives clean)) (does.refused clean))
+
+    -- a look in it fails
+    pub walks_blind : {A T : Type 0} {new : State} {Answers : Tables → A → Type 0}
+        {Then : Tables → Type 0} {change : Tables → Tables} {why : StoreError}
+        (result : Result T StoreError) → IsErr result → Looks {A = A} (Err why) mid new Answers
+        → Does result old new Then change
+    walks_blind result failed looks =
+        does_err result failed (survives_both walks.survives looks.survives) (λ clean.
+        kept_after (walks.only (was_clean looks.survives clean)) (looks.refused clean))

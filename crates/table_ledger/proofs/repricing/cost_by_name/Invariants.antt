@@ -1,0 +1,14 @@
+use Rattle.std.proofs.Common.{◌≤◌}
+use Rattle.book_model.specs.Words.{most_cost}
+use Rattle.tree_tables.specs.States.{state}
+use Rattle.table_ledger.specs.Commits.{Saw}
+use Rattle.table_ledger.proofs.NameSums.{SumsTo}
+use Rattle.table_ledger.proofs.repricing.cost_by_name.Given as goal
+
+-- what the records up to the last name cost together, which the books can hold
+abbrev pub invariant-records : goal.invariant-records
+invariant-records g l = record {
+  saw : Saw (state g.S.Store l.fn.tables.store) (state g.S.Store l.tables.store)
+      (SumsTo l.fn.tariff l.last l.cost);
+  small : l.cost ≤ most_cost;
+}

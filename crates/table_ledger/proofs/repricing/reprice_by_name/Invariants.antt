@@ -1,0 +1,13 @@
+use Rattle.table_model.specs.TableChanges.{reprice_step}
+use Rattle.tree_tables.specs.States.{state}
+use Rattle.tree_tables.specs.Steps.{Always}
+use Rattle.table_ledger.proofs.Walks.{WalksTo}
+use Rattle.table_ledger.proofs.WalksOf.{HasWalked}
+use Rattle.table_ledger.proofs.repricing.reprice_by_name.Given as goal
+
+-- the records up to the last name have their new prices
+abbrev pub invariant-records : goal.invariant-records
+invariant-records g l =
+    WalksTo Always
+    (HasWalked (λ tables now. Unit {0}) (λ tables. reprice_step l.fn.period l.fn.tariff) l.last)
+    (state g.S.Store l.fn.tables.store) (state g.S.Store l.tables.store)

@@ -1,0 +1,44 @@
+use Rattle.std.proofs.Common.{◌∙◌, subst, sym, w32}
+use Rattle.std.proofs.lemmas.Int.{to_z-of_z}
+use Rattle.tree_tables.specs.declared.detail_rows.DetailStart.TheVariants.{Day}
+use Rattle.tree_tables.specs.LateRecords.{FindsCounted, LateFit}
+use Rattle.tree_tables.proofs.LateWalk.{among_details, next_by_mark, past_marks}
+use Rattle.tree_tables.proofs.Looking.{err_on, err_so, fails_after_look, looks_after_look, looks_so}
+use Rattle.tree_tables.proofs.Looking.{looks_told}
+use Rattle.tree_tables.proofs.tables.TreeTables.next_late.Goals as goal
+
+-- the walk goes on among the details
+pub returns-in-Some : goal.returns-in-Some
+returns-in-Some g c = record {
+  looks = looks_told c.next_counted.result c.next_counted.ensures.looks
+      (λ tables found counted. among_details c.args.first c.args.last.now tables c.in-Some.start
+      (sym c.next_start.ensures ∙ c.in-Some.is) found counted);
+  cause = c.next_counted.ensures.cause;
+}
+
+-- or among the records that are not charged
+pub returns-in-Some-2-clause-looks : goal.returns-in-Some-2-clause-looks
+returns-in-Some-2-clause-looks g c =
+    looks_so (rw c.in-Some-2.is at c.in_ok-stored.ensures.looks)
+    (λ tables next. next_by_mark c.args.first c.args.last.now tables
+    (sym c.next_start.ensures ∙ c.in_default.is) c.in-Some-2.stored next)
+
+pub returns-in_err-stored-clause-cause : goal.returns-in_err-stored-clause-cause
+returns-in_err-stored-clause-cause g c =
+    err_on _ c.from_residual.result c.from_residual.ensures.1 (λ clean tables holds fit.
+    c.in_err-stored.ensures.cause clean tables holds fit.records)
+
+-- of which none is left: it goes on with the first detail
+pub returns : goal.returns
+returns g c =
+    let none = rw c.in_default-2.is at c.in_ok-stored.ensures.looks in
+    record {
+      looks = looks_after_look c.next_counted-2.result none c.next_counted-2.ensures.looks
+          (λ tables found past counted. past_marks c.args.first c.args.last.now tables
+          (sym c.next_start.ensures ∙ c.in_default.is) past found
+          (subst (λ day. FindsCounted (Day day) tables found)
+          (to_z-of_z w32 c.args.first c.ranges.first) counted));
+      cause = err_so c.next_counted-2.result c.next_counted-2.ensures.cause (λ error cause.
+          fails_after_look {When = LateFit} error none c.next_counted-2.ensures.looks.survives
+          (λ clean tables holds past fit. cause clean tables holds fit));
+    }
