@@ -72,7 +72,7 @@ sum_by-keys_le {X} {K} {eq} laws ks apart key f xs =
     omega arith
 
 -- what each row sums of the prices at its key is over all rows no more than over all prices
-sum_by-rows_of_le : (g : ChargeRow → ℕ) (f : Priced → ℕ) (prices : List Priced)
+pub sum_by-rows_of_le : (g : ChargeRow → ℕ) (f : Priced → ℕ) (prices : List Priced)
     → ((key : RowKey) → g (row_at prices key) ≡ sum_by f (charged_at prices key))
     → sum_by g (rows_of prices) ≤ sum_by f prices
 sum_by-rows_of_le g f prices each =

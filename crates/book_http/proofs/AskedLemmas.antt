@@ -9,8 +9,10 @@ use Rattle.smf_frames.specs.declared.dump.Layout.{Layout}
 use Rattle.book_core.specs.Ledgers.{Seen}
 use Rattle.book_core.specs.Transition.{Transition, NoEvent, IsTransition}
 use Rattle.book_core.proofs.TransitionLemmas.{no_work, work_as}
+use Rattle.book_reports.specs.declared.streamed_details.DetailReport.{DetailReport}
 use Rattle.book_reports.specs.declared.what_if.WhatIf.{WhatIf}
-use Rattle.book_http.specs.declared.answer.Answer.{Answer}
+use Rattle.book_http.specs.declared.answer.ToSend.{ToSend}
+use Rattle.book_http.specs.declared.answer.ToSend.TheVariants as to_send
 use Rattle.book_http.specs.declared.answering.ReadFailed.{ReadFailed}
 use Rattle.book_http.specs.declared.asked.Asked.{Asked}
 use Rattle.book_http.specs.declared.asked.Asked.TheVariants as asks
@@ -27,8 +29,8 @@ use Rattle.book_http.specs.Routes.{path_of, route}
 use Rattle.book_http.specs.Answer.{AnswersImport, AnswersWhatIf, AnswersBody, AnswersAsked}
 use Rattle.book_http.specs.Answer.{RefusesRequest, UnlessBad, UnlessMemory, done, no_memory}
 use Rattle.book_http.specs.Bodies.{BodyComes, body_status}
-use Rattle.book_http.specs.Replies.{Reply, refusal, reply_of}
-use Rattle.book_http.specs.Served.{IsAnswerTo}
+use Rattle.book_http.specs.Replies.{Reply, SendsReply, refusal, reply_of}
+use Rattle.book_http.specs.Served.{IsAnswerTo, IsMeasured, IsToSendTo, Measures}
 
 -- nothing is done, and a refusal is the reply
 pub refuses : (seen : Seen) (reply : Reply) → IsTransition seen seen (RefusesRequest reply reply)
@@ -115,13 +117,14 @@ module _ (seen : Seen) (ended : Bool) (wanted : Asked) (size : ℕ)
   told_refused came Read is_end short = λ more none. wanting seen _
   told_refused came Memory is_end short = λ more none. wanting seen _
 
-  pub body_refused : (came : List ℕ) (fault : BodyFault) (told : Result Answer ReadFailed)
+  pub body_refused : (came : List ℕ) (fault : BodyFault) (told : Result ToSend ReadFailed)
       → (fault ≡ Short → ended ≡ true)
       → BodyComes {A = List ℕ} (λ body. body) size came (Err fault)
-      → IfOk told (λ answer. reply_of answer ≡ refusal (body_status fault))
-      → IfOk told (λ answer. IsAnswerTo seen seen ended wanted came (reply_of answer))
+      → IfOk told (λ sent. SendsReply sent (refusal (body_status fault)))
+      → IfOk told (λ sent. IsToSendTo seen seen ended wanted came sent)
   body_refused came fault (Err failed) is_end short is = tt
-  body_refused came fault (Ok answer) is_end short is =
+  body_refused came fault (Ok (to_send.Details details size)) is_end short is = absurd is
+  body_refused came fault (Ok (to_send.Answer answer)) is_end short is =
       subst (λ reply. IsAnswerTo seen seen ended wanted came reply) (sym is)
       (told_refused came fault is_end short)
 
@@ -134,6 +137,17 @@ at_once old new ended asked other behind reply is work more none =
     answered old new asked (behind ++ more) reply
     (subst (λ asked. IsTransition old new (AnswersAsked old.naming asked (behind ++ more) reply)) (sym is)
     (work (behind ++ more)))
+
+-- what became of details that were measured
+pub details_due : (old new : Seen) (ended : Bool) (wanted : Asked) (behind : List ℕ)
+    (details : DetailReport) (sent : ToSend) → wanted ≡ asks.Details details
+    → Measures old new details sent → IsToSendTo old new ended wanted behind sent
+details_due old new ended wanted behind details (to_send.Answer answer) is refused =
+    at_once old new ended wanted (asks.Details details) behind (reply_of answer) is (λ more. refused)
+details_due old new ended wanted behind details (to_send.Details other size) is measured = (
+  is ∙ ap asks.Details (sym measured.0),
+  subst (λ wanted. IsMeasured old new wanted size) (sym measured.0) measured.1,
+)
 
 -- what a head asks, by what was found in it
 pub asked_by : (head : RequestHead) (method target : List ℕ) (body : Framing) (origin : Bool)

@@ -1,6 +1,6 @@
 -- What requests do to the books, one after another.
 use Rattle.std.proofs.Common.{◌≡◌, ◌∙◌, ℕ, Bool, true, false, List, [], ◌++◌, length, take, None}
-use Rattle.std.proofs.Common.{ltb, not, refl, sym, ap, subst, inl, inr, Result, Ok, Err}
+use Rattle.std.proofs.Common.{ltb, not, refl, sym, ap, subst, inl, inr, Option, Result, Ok, Err}
 use Rattle.std.specs.Str.{is_utf8}
 use Rattle.httparse.specs.Grammar.{RequestHead}
 use Rattle.smf_frames.specs.declared.dump.Layout.{Layout}
@@ -18,8 +18,10 @@ use Rattle.book_import.specs.Dumps.{stop_after}
 use Rattle.book_import.specs.Imports.{Imports}
 use Rattle.book_import.proofs.RepeatLemmas.{twice_is_once}
 use Rattle.book_reports.specs.declared.report.Report.{Report}
+use Rattle.book_reports.specs.declared.streamed_details.DetailReport.{DetailReport}
 use Rattle.book_reports.specs.declared.what_if.WhatIf.{WhatIf}
 use Rattle.book_reports.specs.BookTexts.{report_outcome}
+use Rattle.book_reports.specs.StreamedDetails.{detail_text_outcome}
 use Rattle.book_reports.specs.WhatIfTexts.{what_if_report}
 use Rattle.office.specs.Requests.{Dump, Response, Ruling, Count, Text, response_outcome}
 use Rattle.office.specs.Requests.{Receives, whole_dump}
@@ -30,12 +32,14 @@ use Rattle.book_http.specs.declared.answer_head.BodyKind.{BodyKind}
 use Rattle.book_http.specs.declared.answer_head.BodyKind.TheVariants as kinds
 use Rattle.book_http.specs.Asked.{asked}
 use Rattle.book_http.specs.Answer.{office_reply, AnswersOffice, AnswersReport, AnswersImport}
-use Rattle.book_http.specs.Answer.{AnswersWhatIf, AnswersBody, AnswersAsked, Prices, UnlessBad}
-use Rattle.book_http.specs.Answer.{Answers, done, no_memory, no_head, a_head, what_if_kind}
+use Rattle.book_http.specs.Answer.{AnswersDetails, AnswersWhatIf, AnswersBody, AnswersAsked, Prices}
+use Rattle.book_http.specs.Answer.{UnlessBad}
+use Rattle.book_http.specs.Answer.{Answers, done, no_memory, no_head, a_head, form_kind}
 use Rattle.book_http.specs.Head.{HasHead}
 use Rattle.book_http.specs.Laws.{IsUnhindered, RequestTwiceIsOnce, RequestsMakeHistory}
 use Rattle.book_http.specs.Replies.{Reply}
-use Rattle.book_http.specs.Served.{IsDone}
+use Rattle.book_http.specs.declared.served.Served.{Served}
+use Rattle.book_http.specs.Served.{IsDone, SendsAsRead}
 use Rattle.book_http.proofs.HeadLemmas.{head_unique}
 
 -- a text that is no event makes none
@@ -57,6 +61,13 @@ pub report_none : (naming : Naming) (asked : Report) (reply : Reply) (was : Bool
 report_none naming asked reply was before events is answers =
     text_none _ (report_outcome naming asked) reply was before events is refl answers
 
+-- nor are details
+pub details_none : (naming : Naming) (wanted : DetailReport) (reply : Reply) (was : Bool) (before : Book)
+    (events : List Event) (is : Bool) → AnswersDetails naming wanted reply was before events is
+    → events ≡ []
+details_none naming wanted reply was before events is answers =
+    text_none _ (detail_text_outcome wanted naming) reply was before events is refl answers
+
 -- where a bad request is refused, and with any other nothing is done, nothing is done
 unless_none : (bad : Bool) (Made : Transition) (reply : Reply) (was : Bool) (before : Book)
     (events : List Event) (is : Bool) → (Made was before events is → events ≡ [])
@@ -69,7 +80,7 @@ what_if_none : (what_if : WhatIf) (body : List ℕ) (reply : Reply) (was : Bool)
     (events : List Event) (is : Bool) → AnswersWhatIf what_if body reply was before events is
     → events ≡ []
 what_if_none what_if body reply was before events is =
-    unless_none (not (is_utf8 body)) (AnswersOffice (what_if_kind what_if.form) (Prices what_if body) reply)
+    unless_none (not (is_utf8 body)) (AnswersOffice (form_kind what_if.form) (Prices what_if body) reply)
     reply was before events is
     (text_none _ (what_if_report what_if body) reply was before events is refl)
 
@@ -140,6 +151,10 @@ asked_twice (asks.Report report) naming behind once twice before first second be
     unhindered two =
     nothing_more before first second
     (report_none naming report twice between (after_all first before) second is two)
+asked_twice (asks.Details wanted) naming behind once twice before first second between is one
+    unhindered two =
+    nothing_more before first second
+    (details_none naming wanted twice between (after_all first before) second is two)
 asked_twice (asks.WhatIf what_if size) naming behind once twice before first second between is one
     unhindered two =
     nothing_more before first second
@@ -208,6 +223,9 @@ asked_answered (asks.OtherMethod method) naming behind reply past was events is 
 asked_answered (asks.Report report) naming behind reply past was events is made =
     none_answered naming past events
     (report_none naming report reply was (book_after past) events is made)
+asked_answered (asks.Details wanted) naming behind reply past was events is made =
+    none_answered naming past events
+    (details_none naming wanted reply was (book_after past) events is made)
 asked_answered (asks.WhatIf what_if size) naming behind reply past was events is made =
     none_answered naming past events
     (what_if_body_none what_if size behind reply was (book_after past) events is made)
@@ -242,5 +260,18 @@ request_done old new bytes reply work = record {
   work = work;
   history =
       follows old new (Answers old.naming bytes reply) (request_answered old.naming bytes reply)
+      work;
+}
+
+-- nor does it matter that the answer is sent while it is read
+pub sent_done : (old new : Seen) (bytes : List ℕ) (held holds : Option (List ℕ)) (served : Served)
+    → IsTransition old new (SendsAsRead old.naming bytes held holds served)
+    → IsDone old new (SendsAsRead old.naming bytes held holds served)
+sent_done old new bytes held holds served work = record {
+  work = work;
+  history =
+      follows old new (SendsAsRead old.naming bytes held holds served)
+      (λ past was events is made.
+      request_answered old.naming bytes made.reply past was events was made.answer)
       work;
 }

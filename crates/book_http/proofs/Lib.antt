@@ -2,6 +2,7 @@ pub mod AnswerLemmas
 pub mod AskedLemmas
 pub mod BodyLemmas
 pub mod ServedPathLemmas
+pub mod FormPathLemmas
 pub mod FramingLemmas
 pub mod HeadLemmas
 pub mod LawLemmas
@@ -17,3 +18,4 @@ pub mod RouteLemmas
 pub mod RouterLemmas
 pub mod ServeLemmas
 pub mod SlashLemmas
+pub mod StreamLemmas

@@ -23,7 +23,7 @@ use Rattle.book_http.specs.Head.{HasHead, HasNoHead}
 use Rattle.book_http.specs.Laws.{IsUnhindered, IsWhole, RequestsAreMended}
 use Rattle.book_http.specs.Replies.{Reply}
 use Rattle.book_http.proofs.HeadLemmas.{head_unique}
-use Rattle.book_http.proofs.LawLemmas.{import_counted, report_none, what_if_body_none}
+use Rattle.book_http.proofs.LawLemmas.{details_none, import_counted, report_none, what_if_body_none}
 
 -- three requests that did nothing
 none_at_all : (before : Book) (first second all : List Event) → first ≡ [] → second ≡ [] → all ≡ []
@@ -105,6 +105,15 @@ asked_mended (asks.Report report) naming behind once twice alone before first se
     ])
     (report_none naming report twice false (after_all first before) second is two)
     (report_none naming report alone false before all end single)
+asked_mended (asks.Details wanted) naming behind once twice alone before first second all between is
+    end one two whole single unhindered =
+    none_at_all before first second all
+    (elim one [
+      | inl none ↦ none
+      | inr made ↦ details_none naming wanted once false before first between made
+    ])
+    (details_none naming wanted twice false (after_all first before) second is two)
+    (details_none naming wanted alone false before all end single)
 asked_mended (asks.WhatIf what_if size) naming behind once twice alone before first second all
     between is end one two whole single unhindered =
     none_at_all before first second all

@@ -1,11 +1,9 @@
 -- What a path is found to be for is what has that path, and what has it is found.
-use Rattle.std.proofs.Common.{◌≡◌, ◌<◌, ℕ, true, List, [], ◌∷◌, ◌++◌, codes, refl}
+use Rattle.std.proofs.Common.{◌≡◌, ◌<◌, ℕ, List, ◌∷◌, ◌++◌, codes, refl}
 use Rattle.std.proofs.Common.{ap, ◌∙◌, Option, Some, None, IfSome, ℤ}
 use Rattle.std.specs.Option.{option_and_then}
 use Rattle.std.specs.Prelude.{decimal, option_map}
 use Rattle.matchit.proofs.OnLiterals.{matchit_on_literals}
-use Rattle.matchit.specs.Router.{RouteOf}
-use Rattle.matchit.specs.Rows.{catch_all_token}
 use Rattle.smf_frames.specs.declared.dump.Layout.TheVariants.{Rdw, Bdw}
 use Rattle.smf_text.specs.Day.{IsDay, day_of_text_of, day_text_of}
 use Rattle.smf_text.specs.Names.{IsName}
@@ -19,20 +17,19 @@ use Rattle.book_reports.specs.declared.report.PeriodReport.TheVariants as of_per
 use Rattle.book_reports.specs.declared.report.Report.TheVariants.{Statement, StatementTable}
 use Rattle.book_reports.specs.declared.report.Report.TheVariants.{AdjustmentList, AdjustmentTable}
 use Rattle.book_reports.specs.declared.report.Report.TheVariants.{DisputeList, DisputeTable}
-use Rattle.book_reports.specs.declared.report.Report.TheVariants.{OfCentre, PeriodList}
+use Rattle.book_reports.specs.declared.report.Report.TheVariants.{Bill, OfCentre, PeriodList}
 use Rattle.book_reports.specs.declared.report.Report.TheVariants.{Record, RulingList, TariffText}
-use Rattle.book_reports.specs.declared.what_if.StatementForm.{StatementForm}
 use Rattle.book_reports.specs.declared.what_if.StatementForm.TheVariants as shown_as
 use Rattle.book_http.specs.declared.route.Route.{Route}
 use Rattle.book_http.specs.declared.route.Route.TheVariants as route_to
-use Rattle.book_http.specs.Paths.{IsPathPeriod, IsPathOf, period_path, period_text, what_if_path}
+use Rattle.book_http.specs.Paths.{IsPathPeriod, IsPathOf, period_path, period_text}
 use Rattle.book_http.specs.Routes.{page_of, path_rest, period_after, report_after, report_on, route}
-use Rattle.book_http.specs.Routes.{route_at, route_on, route_rows, tariff_after, what_if_after}
-use Rattle.book_http.specs.Routes.{what_if_on}
-use Rattle.book_http.proofs.NamedPeriodLemmas.{IsNamedAfter, after_found, after_named, after_number}
-use Rattle.book_http.proofs.NamedPeriodLemmas.{text_begins}
-use Rattle.book_http.proofs.ServedPathLemmas.{begun_found, is_plain_along, numbered_found, rows_along}
-use Rattle.book_http.proofs.PeriodLemmas.{decimal_digits, rest_found, rest_named}
+use Rattle.book_http.specs.Routes.{route_at, route_on, route_rows, tariff_after}
+use Rattle.book_http.proofs.FormPathLemmas.{details_found, details_served, on_page, page_numbered}
+use Rattle.book_http.proofs.FormPathLemmas.{what_if_found, what_if_served}
+use Rattle.book_http.proofs.NamedPeriodLemmas.{IsNamedAfter, after_found, after_named}
+use Rattle.book_http.proofs.ServedPathLemmas.{begun_found}
+use Rattle.book_http.proofs.PeriodLemmas.{rest_found, rest_named}
 use Rattle.book_http.proofs.RecordPathLemmas.{name_found, name_page, record_served}
 use Rattle.book_http.proofs.RouterLemmas.{page_found, plain_path}
 
@@ -62,19 +59,6 @@ after_served asked path =
     report_served asked path (period_after (period_path asked) path)
     (after_named (period_path asked) path)
 
--- what that would have cost
-priced_served : (form : StatementForm) (path : List ℕ) (found : Option (ℕ × Option (List ℕ)))
-    → IfSome found (IsNamedAfter (what_if_path form) path)
-    → IfSome (option_map (λ named. what_if_on form named.0 named.1) found) (IsPathOf path)
-priced_served form path None is = tt
-priced_served form path (Some named) is = ((is.1, is.2), is.0)
-
-what_if_served : (form : StatementForm) (path : List ℕ)
-    → IfSome (what_if_after form (what_if_path form) path) (IsPathOf path)
-what_if_served form path =
-    priced_served form path (period_after (what_if_path form) path)
-    (after_named (what_if_path form) path)
-
 -- a tariff
 day_served : (path rest : List ℕ) (found : Option ℤ) → path ≡ codes "/tariff/" ++ rest
     → IfSome found (λ day. (rest ≡ day_text_of day) × IsDay day)
@@ -101,6 +85,8 @@ page_route page.Statement path h = after_served of_period.Statement path
 page_route page.StatementCsv path h = after_served of_period.StatementTable path
 page_route page.Adjustments path h = after_served of_period.AdjustmentList path
 page_route page.AdjustmentsCsv path h = after_served of_period.AdjustmentTable path
+page_route page.Details path h = details_served shown_as.Text path
+page_route page.DetailsCsv path h = details_served shown_as.Table path
 page_route page.Disputes path h = (tt, h)
 page_route page.DisputesCsv path h = (tt, h)
 page_route page.Record path h = record_served path
@@ -137,27 +123,6 @@ at_page of_period.StatementTable path = refl
 at_page of_period.AdjustmentList path = refl
 at_page of_period.AdjustmentTable path = refl
 
--- the page of what that would have cost
-abbrev what_if_page : StatementForm → Page
-what_if_page shown_as.Text = page.WhatIf
-what_if_page shown_as.Table = page.WhatIfCsv
-
-at_what_if_page : (form : StatementForm) (path : List ℕ)
-    → route_at (what_if_page form) path ≡ what_if_after form (what_if_path form) path
-unfolding route_at
-at_what_if_page shown_as.Text path = refl
-at_what_if_page shown_as.Table path = refl
-
--- a path that names a period after a prefix is found there
-page_numbered : (front : List ℕ) (n : ℕ) (centre : Option (List ℕ)) (key : RouteOf Page)
-    → is_plain_along front route_rows ≡ true
-    → rows_along front route_rows ≡ (catch_all_token ∷ [], key) ∷ [] → IsPathPeriod n
-    → page_of (front ++ period_text n centre) ≡ Some key.value
-page_numbered front n centre key plain ends named =
-    let shown = decimal_digits n named in
-    ap (λ text. page_of (front ++ text)) (text_begins n centre)
-    ∙ numbered_found front (decimal n) (after_number centre) key plain ends shown.0 shown.1
-
 period_page : (asked : PeriodReport) (n : ℕ) (centre : Option (List ℕ)) → IsPathPeriod n
     → page_of (period_path asked ++ period_text n centre) ≡ Some (page_for asked)
 unfolding matchit_on_literals route_rows
@@ -169,14 +134,6 @@ period_page of_period.AdjustmentList n centre named =
     page_numbered (codes "/adjustments/") n centre _ refl refl named
 period_page of_period.AdjustmentTable n centre named =
     page_numbered (codes "/adjustments-csv/") n centre _ refl refl named
-
-priced_page : (form : StatementForm) (n : ℕ) (centre : Option (List ℕ)) → IsPathPeriod n
-    → page_of (what_if_path form ++ period_text n centre) ≡ Some (what_if_page form)
-unfolding matchit_on_literals route_rows
-priced_page shown_as.Text n centre named =
-    page_numbered (codes "/what-if/") n centre _ refl refl named
-priced_page shown_as.Table n centre named =
-    page_numbered (codes "/what-if-csv/") n centre _ refl refl named
 
 periods_found : page_of (codes "/periods") ≡ Some page.Periods
 unfolding matchit_on_literals route_rows page_of
@@ -207,11 +164,6 @@ import_bdw_found : page_of (codes "/import-bdw") ≡ Some page.ImportBdw
 unfolding matchit_on_literals route_rows page_of
 import_bdw_found = refl
 
--- a path of this page is for what the page says there
-on_page : (found : Page) (path : List ℕ) (asked : Route) → page_of path ≡ Some found
-    → route_at found path ≡ Some asked → route path ≡ Some asked
-on_page found path asked is_page is_for = ap (λ p. route_on p path) is_page ∙ is_for
-
 -- a period that is named asks for the report on it
 report_found : (asked : PeriodReport) (n : ℕ) (centre : Option (List ℕ)) → IsPathPeriod n
     → IfSome centre IsName
@@ -224,17 +176,6 @@ report_found asked n centre named is_one =
     (at_page asked path
     ∙ ap (option_map (λ (named : ℕ × Option (List ℕ)). route_to.Report (report_on asked named.0 named.1)))
     (after_found (period_path asked) n centre named is_one))
-
--- and for what it would have cost
-what_if_found : (form : StatementForm) (n : ℕ) (centre : Option (List ℕ)) → IsPathPeriod n
-    → IfSome centre IsName
-    → route (what_if_path form ++ period_text n centre) ≡ Some (what_if_on form n centre)
-what_if_found form n centre named is_one =
-    let path = what_if_path form ++ period_text n centre in
-    on_page (what_if_page form) path (what_if_on form n centre) (priced_page form n centre named)
-    (at_what_if_page form path
-    ∙ ap (option_map (λ (named : ℕ × Option (List ℕ)). what_if_on form named.0 named.1))
-    (after_found (what_if_path form) n centre named is_one))
 
 -- a day asks for its tariff
 tariff_found : (day : ℤ) → IsDay day
@@ -282,6 +223,9 @@ path_found path (route_to.Report (Record name)) it =
 path_found path (route_to.Report RulingList) it =
     ap route it.1 ∙ on_page page.Rulings _ _ rulings_found refl
 path_found path (route_to.Report (TariffText day)) it = ap route it.1 ∙ tariff_found day it.0
+path_found path (route_to.Report (Bill form n centre)) it = absurd it.0
+path_found path (route_to.Details details) it =
+    ap route it.1 ∙ details_found details.form details.period details.centre it.0.0 it.0.1
 path_found path (route_to.WhatIf what_if) it =
     ap route it.1 ∙ what_if_found what_if.form what_if.period what_if.centre it.0.0 it.0.1
 path_found path (route_to.Import Rdw) it = ap route it.1 ∙ on_page page.Import _ _ import_found refl

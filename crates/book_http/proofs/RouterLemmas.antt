@@ -189,6 +189,8 @@ plain_path page.Statement = None
 plain_path page.StatementCsv = None
 plain_path page.Adjustments = None
 plain_path page.AdjustmentsCsv = None
+plain_path page.Details = None
+plain_path page.DetailsCsv = None
 plain_path page.Disputes = Some (codes "/disputes")
 plain_path page.DisputesCsv = Some (codes "/disputes-csv")
 plain_path page.Record = None
@@ -210,7 +212,13 @@ rows_are_plain = (
   tt,
   (
     tt,
-    ((refl, refl), ((refl, refl), ((refl, refl), ((refl, refl), ((refl, refl), (tt, ((refl, refl), (tt, (tt, (tt, (tt, (tt, tt)))))))))))),
+    (
+      tt,
+      (
+        tt,
+        ((refl, refl), ((refl, refl), ((refl, refl), ((refl, refl), ((refl, refl), (tt, ((refl, refl), (tt, (tt, (tt, (tt, (tt, tt)))))))))))),
+      ),
+    ),
   ),
 )
 
@@ -220,7 +228,13 @@ rows_stand = (
   refl,
   (
     refl,
-    (refl, (refl, (refl, (refl, (refl, (refl, (refl, (refl, (refl, (refl, (refl, (refl, tt)))))))))))),
+    (
+      refl,
+      (
+        refl,
+        (refl, (refl, (refl, (refl, (refl, (refl, (refl, (refl, (refl, (refl, (refl, (refl, tt)))))))))))),
+      ),
+    ),
   ),
 )
 

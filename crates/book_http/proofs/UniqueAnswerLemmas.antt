@@ -21,6 +21,7 @@ use Rattle.book_import.specs.Receipts.{is_stop_of_books}
 use Rattle.book_reports.specs.declared.report.Report.{Report}
 use Rattle.book_reports.specs.declared.what_if.WhatIf.{WhatIf}
 use Rattle.book_reports.specs.BookTexts.{report_outcome}
+use Rattle.book_reports.specs.StreamedDetails.{detail_text_outcome}
 use Rattle.book_reports.specs.WhatIfTexts.{what_if_report}
 use Rattle.office.specs.Requests.{Response, Text, response_outcome, whole_dump}
 use Rattle.book_http.specs.declared.answer_head.BodyKind.{BodyKind}
@@ -28,7 +29,7 @@ use Rattle.book_http.specs.declared.answer_head.BodyKind.TheVariants as kinds
 use Rattle.book_http.specs.declared.asked.Asked.{Asked}
 use Rattle.book_http.specs.declared.asked.Asked.TheVariants as asks
 use Rattle.book_http.specs.declared.status.Status.TheVariants.{Unavailable}
-use Rattle.book_http.specs.Answer.{office_reply, body_kind, what_if_kind, AnswersOffice}
+use Rattle.book_http.specs.Answer.{office_reply, body_kind, form_kind, AnswersOffice}
 use Rattle.book_http.specs.Answer.{AnswersImport, AnswersWhatIf, AnswersAsked}
 use Rattle.book_http.specs.Answer.{Prices, RefusesRequest, UnlessBad, UnlessMemory, done}
 use Rattle.book_http.specs.Answer.{no_memory, no_head, a_head}
@@ -102,7 +103,7 @@ what_ifs_same : (what_if : WhatIf) (body : List ℕ) (one other : Reply) (was : 
     → AnswersWhatIf what_if body other was before second is_other → other.status ≢ Unavailable
     → IsSame one other first second
 what_ifs_same what_if body one other was before first second is_one is_other =
-    let kind = what_if_kind what_if.form in
+    let kind = form_kind what_if.form in
     unless_same (not (is_utf8 body)) (AnswersOffice kind (Prices what_if body)) one other was before
     first second is_one is_other
     (texts_same kind (what_if_report what_if body) one other was before first second is_one is_other
@@ -182,6 +183,10 @@ asked_same (asks.Report report) naming behind one other was before first second 
     served b served_too =
     texts_same (body_kind report) (report_outcome naming report) one other was before first second
     is_one is_other refl a served b served_too
+asked_same (asks.Details wanted) naming behind one other was before first second is_one is_other a
+    served b served_too =
+    texts_same (form_kind wanted.form) (detail_text_outcome wanted naming) one other was before first
+    second is_one is_other refl a served b served_too
 asked_same (asks.WhatIf what_if size) naming behind one other was before first second is_one is_other
     a served b served_too =
     let body = take size behind in

@@ -15,9 +15,11 @@ use Rattle.book_reports.specs.declared.report.PeriodReport.TheVariants.{Adjustme
 use Rattle.book_reports.specs.declared.report.PeriodReport.TheVariants.{StatementTable}
 use Rattle.book_reports.specs.declared.report.Report.{Report}
 use Rattle.book_reports.specs.declared.report.Report.TheVariants as report
+use Rattle.book_reports.specs.declared.streamed_details.DetailReport.{DetailReport}
 use Rattle.book_reports.specs.declared.what_if.StatementForm.{StatementForm}
 use Rattle.book_reports.specs.declared.what_if.StatementForm.TheVariants as shown_as
 use Rattle.book_reports.specs.declared.what_if.WhatIf.{WhatIf}
+use Rattle.book_reports.specs.StreamedDetails.{detail_text_outcome}
 use Rattle.book_reports.specs.WhatIfTexts.{what_if_report}
 use Rattle.office.specs.declared.request.Asked.TheVariants as requests
 use Rattle.office.specs.Requests as tells
@@ -39,9 +41,10 @@ body_kind (report.OfCentre StatementTable period centre) = Csv
 body_kind (report.OfCentre AdjustmentTable period centre) = Csv
 body_kind report = Text
 
-abbrev pub what_if_kind : StatementForm → BodyKind
-what_if_kind shown_as.Text = Text
-what_if_kind shown_as.Table = Csv
+-- that of details, and of what a period would have cost
+abbrev pub form_kind : StatementForm → BodyKind
+form_kind shown_as.Text = Text
+form_kind shown_as.Table = Csv
 
 -- What the office answered, as a reply. No ruling is asked over HTTP. A tariff that is refused, or by
 -- which records cost more than books hold, is the request's fault.
@@ -66,6 +69,15 @@ pub record AnswersOffice (kind : BodyKind) (Making : Result Response LedgerFault
 abbrev pub AnswersReport : Naming → Report → Reply → Transition
 AnswersReport naming report reply =
     AnswersOffice (body_kind report) (Asks naming (requests.Report report) no_dump) reply
+
+-- the text of the details that are wanted, as one call of the ledger
+abbrev pub ReadsDetails : Naming → DetailReport → Result Response LedgerFault → Transition
+ReadsDetails naming wanted =
+    Calls (λ told. told) (response_outcome tells.Text (detail_text_outcome wanted naming))
+
+abbrev pub AnswersDetails : Naming → DetailReport → Reply → Transition
+AnswersDetails naming wanted reply =
+    AnswersOffice (form_kind wanted.form) (ReadsDetails naming wanted) reply
 
 -- the import of a body, which is a whole dump
 abbrev pub AnswersImport : Naming → Layout → List ℕ → Reply → Transition
@@ -92,7 +104,7 @@ Prices what_if tariff =
 abbrev pub AnswersWhatIf : WhatIf → List ℕ → Reply → Transition
 AnswersWhatIf what_if body reply =
     UnlessBad (not (is_utf8 body))
-    (AnswersOffice (what_if_kind what_if.form) (Prices what_if body) reply) reply
+    (AnswersOffice (form_kind what_if.form) (Prices what_if body) reply) reply
 
 -- a body that ended early is bad; with one that is whole this is done
 abbrev pub AnswersBody : (List ℕ → Reply → Transition) → ℕ → List ℕ → Reply → Transition
@@ -104,6 +116,7 @@ abbrev pub AnswersAsked : Naming → Asked → List ℕ → Reply → Transition
 AnswersAsked naming (asks.Refusal status) behind reply = RefusesRequest (refusal status) reply
 AnswersAsked naming (asks.OtherMethod method) behind reply = RefusesRequest (other_method method) reply
 AnswersAsked naming (asks.Report report) behind reply = AnswersReport naming report reply
+AnswersAsked naming (asks.Details wanted) behind reply = AnswersDetails naming wanted reply
 AnswersAsked naming (asks.Import layout size) behind reply =
     AnswersBody (AnswersImport naming layout) size behind reply
 AnswersAsked naming (asks.WhatIf what_if size) behind reply =

@@ -9,7 +9,7 @@ use Rattle.book_http.specs.declared.framing.Framing.TheVariants.{Unframed, Frame
 use Rattle.book_http.specs.declared.method.Method.{Method}
 use Rattle.book_http.specs.declared.method.Method.TheVariants.{Get, Post}
 use Rattle.book_http.specs.declared.route.Route.{Route}
-use Rattle.book_http.specs.declared.route.Route.TheVariants.{Report, WhatIf, Import}
+use Rattle.book_http.specs.declared.route.Route.TheVariants.{Report, Details, WhatIf, Import}
 use Rattle.book_http.specs.declared.status.Status.{Status}
 use Rattle.book_http.specs.declared.status.Status.TheVariants.{BadRequest, Forbidden}
 use Rattle.book_http.specs.declared.status.Status.TheVariants.{NotFound, LengthRequired, TooLarge}
@@ -38,12 +38,14 @@ asked_body takes (Err status) = asks.Refusal status
 -- what is asked at a route by its method: a dump and a tariff are submitted alike
 abbrev pub asked_on : Route → Bool → Framing → Asked
 asked_on (Report report) origin body = asks.Report report
+asked_on (Details details) origin body = asks.Details details
 asked_on (WhatIf what_if) origin body = asked_body (asks.WhatIf what_if) (posted_size origin body)
 asked_on (Import layout) origin body = asked_body (asks.Import layout) (posted_size origin body)
 
 -- each route has one method
 abbrev pub method_of : Route → Method
 method_of (Report report) = Get
+method_of (Details details) = Get
 method_of (WhatIf what_if) = Post
 method_of (Import layout) = Post
 

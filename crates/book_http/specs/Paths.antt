@@ -9,7 +9,7 @@ use Rattle.book_reports.specs.declared.report.PeriodReport.TheVariants as of_per
 use Rattle.book_reports.specs.declared.report.Report.TheVariants.{Statement, StatementTable}
 use Rattle.book_reports.specs.declared.report.Report.TheVariants.{AdjustmentList, AdjustmentTable}
 use Rattle.book_reports.specs.declared.report.Report.TheVariants.{DisputeList, DisputeTable}
-use Rattle.book_reports.specs.declared.report.Report.TheVariants.{OfCentre, PeriodList}
+use Rattle.book_reports.specs.declared.report.Report.TheVariants.{Bill, OfCentre, PeriodList}
 use Rattle.book_reports.specs.declared.report.Report.TheVariants.{Record, RulingList, TariffText}
 use Rattle.book_reports.specs.declared.what_if.StatementForm.{StatementForm}
 use Rattle.book_reports.specs.declared.what_if.StatementForm.TheVariants as shown_as
@@ -21,8 +21,8 @@ abbrev pub IsPathPeriod : ℕ → Type 0
 IsPathPeriod n = (1 ≤ n) × (n ≤ 9999)
 
 -- what is served: each report that names no period, each record, the tariff of each day, and the other
--- reports of such a period, of the whole office and of each centre; what such a period would have
--- cost; imports
+-- reports of such a period but for bills, of the whole office and of each centre, and its details; what
+-- such a period would have cost; imports
 abbrev pub IsServedRoute : Route → Type 0
 IsServedRoute (route_to.Report PeriodList) = ⊤
 IsServedRoute (route_to.Report (Statement n)) = IsPathPeriod n
@@ -35,6 +35,8 @@ IsServedRoute (route_to.Report DisputeTable) = ⊤
 IsServedRoute (route_to.Report (Record name)) = ⊤
 IsServedRoute (route_to.Report RulingList) = ⊤
 IsServedRoute (route_to.Report (TariffText day)) = IsDay day
+IsServedRoute (route_to.Report (Bill form n centre)) = ⊥
+IsServedRoute (route_to.Details details) = IsPathPeriod details.period × IfSome details.centre IsName
 IsServedRoute (route_to.WhatIf what_if) = IsPathPeriod what_if.period × IfSome what_if.centre IsName
 IsServedRoute (route_to.Import layout) = ⊤
 
@@ -44,6 +46,11 @@ period_path of_period.Statement = codes "/statement/"
 period_path of_period.StatementTable = codes "/statement-csv/"
 period_path of_period.AdjustmentList = codes "/adjustments/"
 period_path of_period.AdjustmentTable = codes "/adjustments-csv/"
+
+-- where the details of a period are served
+abbrev pub details_path : StatementForm → List ℕ
+details_path shown_as.Text = codes "/details/"
+details_path shown_as.Table = codes "/details-csv/"
 
 -- where it is served what a period would have cost by a tariff that is submitted
 abbrev pub what_if_path : StatementForm → List ℕ
@@ -78,6 +85,9 @@ HasPath (route_to.Report DisputeTable) path = path ≡ codes "/disputes-csv"
 HasPath (route_to.Report (Record name)) path = IsPathOfRecord name path
 HasPath (route_to.Report RulingList) path = path ≡ codes "/rulings"
 HasPath (route_to.Report (TariffText day)) path = path ≡ codes "/tariff/" ++ day_text_of day
+HasPath (route_to.Report (Bill form n centre)) path = ⊥
+HasPath (route_to.Details details) path =
+    path ≡ details_path details.form ++ period_text details.period details.centre
 HasPath (route_to.WhatIf what_if) path =
     path ≡ what_if_path what_if.form ++ period_text what_if.period what_if.centre
 HasPath (route_to.Import Rdw) path = path ≡ codes "/import"

@@ -1,11 +1,13 @@
 -- Answers as values, and the bytes that go out for them.
-use Rattle.std.specs.Prelude.{List, ℕ, ◌++◌, length, Option, Some, None}
+use Rattle.std.specs.Prelude.{◌≡◌, List, ℕ, ◌++◌, length, Option, Some, None}
 use Rattle.book_import.specs.declared.receipt.Receipt.{Receipt}
 use Rattle.book_import.specs.declared.receipt.Stop.{Stop}
 use Rattle.book_import.specs.declared.receipt.Stop.TheVariants.{End, Frame}
 use Rattle.book_reports.specs.ReceiptLines.{receipt_line_text}
 use Rattle.book_http.specs.declared.answer.Answer.{Answer}
 use Rattle.book_http.specs.declared.answer.Answer.TheVariants as answer
+use Rattle.book_http.specs.declared.answer.ToSend.{ToSend}
+use Rattle.book_http.specs.declared.answer.ToSend.TheVariants as to_send
 use Rattle.book_http.specs.declared.answer_head.BodyKind.{BodyKind}
 use Rattle.book_http.specs.declared.answer_head.BodyKind.TheVariants.{Text}
 use Rattle.book_http.specs.declared.method.Method.{Method}
@@ -59,3 +61,8 @@ reply_of (answer.Report kind text) = success kind text.items
 reply_of (answer.Receipt receipt) = receipt_reply receipt
 reply_of (answer.Refusal status) = refusal status
 reply_of (answer.OtherMethod method) = other_method method
+
+-- what is to be sent is an answer that stands for this reply
+abbrev pub SendsReply : ToSend → Reply → Type 0
+SendsReply (to_send.Answer answer) reply = reply_of answer ≡ reply
+SendsReply (to_send.Details details size) reply = ⊥

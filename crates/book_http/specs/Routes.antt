@@ -1,4 +1,4 @@
--- How the route of a path is looked up, by matchit's reading of the fourteen route texts. That this
+-- How the route of a path is looked up, by matchit's reading of the sixteen route texts. That this
 -- finds what Paths says, and nothing else, is a clause of the function that looks it up.
 use Rattle.std.specs.Prelude.{ℕ, Bool, if◌then◌else◌, List, [], ◌∷◌, ◌==◌, codes, length, drop, nat_eq}
 use Rattle.std.specs.Prelude.{Option, Some, None, option_and_then, option_map, Result, Ok, Err}
@@ -85,6 +85,16 @@ abbrev pub report_after : PeriodReport → List ℕ → List ℕ → Option Rout
 report_after asked prefix path =
     option_map (λ named. route_to.Report (report_on asked named.0 named.1)) (period_after prefix path)
 
+-- the details of a period, of the whole office or of a centre
+abbrev pub details_on : StatementForm → ℕ → Option (List ℕ) → Route
+details_on form number centre =
+    route_to.Details (record { form = form; period = number; centre = centre })
+
+-- those that a path asks for after its prefix
+abbrev pub details_after : StatementForm → List ℕ → List ℕ → Option Route
+details_after form prefix path =
+    option_map (λ named. details_on form named.0 named.1) (period_after prefix path)
+
 -- what is asked of a period and a tariff, of the whole office or of a centre
 abbrev pub what_if_on : StatementForm → ℕ → Option (List ℕ) → Route
 what_if_on form number centre =
@@ -117,6 +127,8 @@ route_at page.Adjustments path =
     report_after of_period.AdjustmentList (codes "/adjustments/") path
 route_at page.AdjustmentsCsv path =
     report_after of_period.AdjustmentTable (codes "/adjustments-csv/") path
+route_at page.Details path = details_after shown_as.Text (codes "/details/") path
+route_at page.DetailsCsv path = details_after shown_as.Table (codes "/details-csv/") path
 route_at page.Disputes path = Some (route_to.Report report_of.DisputeList)
 route_at page.DisputesCsv path = Some (route_to.Report report_of.DisputeTable)
 route_at page.Record path = record_after (codes "/record/") path
@@ -136,7 +148,7 @@ with_scan (Err error) value rows = rows
 abbrev pub with_route : List ℕ → Page → RowsOf (RouteOf Page) → RowsOf (RouteOf Page)
 with_route text value rows = with_scan (parse_route text) value rows
 
--- the fourteen routes
+-- the sixteen routes
 unfoldable pub route_rows : RowsOf (RouteOf Page)
 route_rows =
     with_route (codes "/import-bdw") page.ImportBdw
@@ -148,11 +160,13 @@ route_rows =
     (with_route (codes "/record/{*rest}") page.Record
     (with_route (codes "/disputes-csv") page.DisputesCsv
     (with_route (codes "/disputes") page.Disputes
+    (with_route (codes "/details-csv/{*rest}") page.DetailsCsv
+    (with_route (codes "/details/{*rest}") page.Details
     (with_route (codes "/adjustments-csv/{*rest}") page.AdjustmentsCsv
     (with_route (codes "/adjustments/{*rest}") page.Adjustments
     (with_route (codes "/statement-csv/{*rest}") page.StatementCsv
     (with_route (codes "/statement/{*rest}") page.Statement
-    (with_route (codes "/periods") page.Periods [])))))))))))))
+    (with_route (codes "/periods") page.Periods [])))))))))))))))
 
 -- the page of a path
 unfoldable pub page_of : List ℕ → Option Page

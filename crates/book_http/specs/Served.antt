@@ -1,19 +1,32 @@
 -- What became of one request, however its bytes came.
-use Rattle.std.specs.Prelude.{◌≡◌, ◌<◌, ℕ, Bool, true, false, List, [], ◌++◌, length, take, Option}
-use Rattle.std.specs.Prelude.{Result, Err}
+use Rattle.std.specs.Prelude.{◌≡◌, ◌⊎◌, ◌<◌, ℕ, Bool, true, false, List, [], ◌++◌, length, take}
+use Rattle.std.specs.Prelude.{Option, Result, Ok, Err}
 use Rattle.std.specs.Io.KnownBytes.{Appends}
+use Rattle.httparse.specs.Grammar.{RequestHead}
 use Rattle.streams.specs.InputOutput.{Output}
+use Rattle.book_model.specs.Words.{Book, Event, Naming}
+use Rattle.book_core.specs.Calls.{Calls}
 use Rattle.book_core.specs.Ledgers.{Seen, Books}
 use Rattle.book_core.specs.Transition.{Transition, IsTransition}
 use Rattle.book_core.specs.Follow.{FollowsHistory}
+use Rattle.book_reports.specs.declared.fault.ReportFault.{ReportFault}
+use Rattle.book_reports.specs.declared.fault.ReportFault.TheVariants.{Write}
+use Rattle.book_reports.specs.declared.streamed_details.DetailReport.{DetailReport}
+use Rattle.book_reports.specs.StreamedDetails.{detail_answer, detail_length_outcome}
+use Rattle.book_http.specs.declared.answer.ToSend.{ToSend}
+use Rattle.book_http.specs.declared.answer.ToSend.TheVariants as to_send
 use Rattle.book_http.specs.declared.asked.Asked.{Asked}
+use Rattle.book_http.specs.declared.asked.Asked.TheVariants as asks
 use Rattle.book_http.specs.declared.served.Served.{Served}
 use Rattle.book_http.specs.declared.served.Served.TheVariants.{Closed, ReadFault, WriteFault}
-use Rattle.book_http.specs.declared.served.Served.TheVariants.{Answered}
+use Rattle.book_http.specs.declared.served.Served.TheVariants.{Answered, Cut}
 use Rattle.book_http.specs.declared.served.Unanswered.{Unanswered}
 use Rattle.book_http.specs.declared.served.Unanswered.TheVariants.{Failed}
-use Rattle.book_http.specs.Answer.{Answers, AnswersAsked, UnlessMemory}
-use Rattle.book_http.specs.Replies.{Reply, reply_bytes}
+use Rattle.book_http.specs.declared.status.Status.TheVariants.{Done}
+use Rattle.book_http.specs.Answer.{Answers, AnswersAsked, AnswersDetails, UnlessMemory, form_kind}
+use Rattle.book_http.specs.Asked.{asked}
+use Rattle.book_http.specs.Head.{HasHead}
+use Rattle.book_http.specs.Replies.{Reply, reply_bytes, reply_of, success}
 use Rattle.book_http.specs.Statuses.{status_code}
 
 -- Such work was done, and where the books were those of a history, they are those of that history
@@ -35,15 +48,94 @@ IsAnswerTo old new ended asked behind reply =
     (more : List ℕ) → (ended ≡ true → more ≡ [])
     → IsTransition old new (UnlessMemory (AnswersAsked old.naming asked (behind ++ more) reply) reply)
 
+-- a prefix of the reply was written that is not the whole
+abbrev pub IsBegun : Reply → Option (List ℕ) → Option (List ℕ) → Type 0
+IsBegun reply held holds =
+    (count : ℕ) × (count < length (reply_bytes reply))
+    × Appends held holds (take count (reply_bytes reply))
+
 -- A reply was written to a writer, where what this holds is known: the whole; or, where a write
 -- failed, a prefix that is not the whole.
 abbrev pub IsSent : Reply → Option (List ℕ) → Option (List ℕ) → Served → Type 0
 IsSent reply held holds (Answered status) =
     (status ≡ status_code reply.status) × Appends held holds (reply_bytes reply)
-IsSent reply held holds WriteFault =
-    (count : ℕ) × (count < length (reply_bytes reply))
-    × Appends held holds (take count (reply_bytes reply))
+IsSent reply held holds WriteFault = IsBegun reply held holds
 IsSent reply held holds served = ⊥
+
+-- ---- details, whose text is sent while it is read
+
+-- so many bytes the text of these details has, by a call of the ledger
+abbrev pub IsMeasured : Seen → Seen → DetailReport → ℕ → Type 0
+IsMeasured old new wanted size =
+    IsTransition old new
+    (Calls (λ size. size) (detail_length_outcome wanted old.naming) (Ok size))
+
+-- these details were measured, or the ledger answered why there are none
+abbrev pub Measures : Seen → Seen → DetailReport → ToSend → Type 0
+Measures old new wanted (to_send.Answer answer) =
+    IsTransition old new (AnswersDetails old.naming wanted (reply_of answer))
+Measures old new wanted (to_send.Details other size) =
+    (other ≡ wanted) × IsMeasured old new wanted size
+
+-- What is to be sent is the answer to what a head asks, by the bytes after it; or the text of details,
+-- which the head asks for and which were measured.
+abbrev pub IsToSendTo : Seen → Seen → Bool → Asked → List ℕ → ToSend → Type 0
+IsToSendTo old new ended wanted behind (to_send.Answer answer) =
+    IsAnswerTo old new ended wanted behind (reply_of answer)
+IsToSendTo old new ended wanted behind (to_send.Details details size) =
+    (wanted ≡ asks.Details details) × IsMeasured old new details size
+
+-- the bytes begin with a head that asks for these details
+pub record AsksDetails (bytes : List ℕ) (details : DetailReport) : Type 0 where
+  pub head : RequestHead
+  pub behind : List ℕ
+  pub stands : HasHead bytes head behind
+  pub asks_them : asked head ≡ asks.Details details
+
+-- the same of a request, by the bytes that were taken
+abbrev pub IsToSend : Seen → Seen → Bool → List ℕ → ToSend → Type 0
+IsToSend old new ended taken (to_send.Answer answer) =
+    IsAnswer old new ended taken (reply_of answer)
+IsToSend old new ended taken (to_send.Details details size) =
+    AsksDetails taken details × IsMeasured old new details size
+
+-- A reply was written while its text was read: the whole; or, where a write, the books or memory failed,
+-- a prefix that is not the whole.
+abbrev pub IsSentAsRead : Reply → Option (List ℕ) → Option (List ℕ) → Served → Type 0
+IsSentAsRead reply held holds Cut = IsBegun reply held holds
+IsSentAsRead reply held holds served = IsSent reply held holds served
+
+-- the books or memory failed in the text
+abbrev pub is_cut : Served → Bool
+is_cut Cut = true
+is_cut served = false
+
+-- what became of a text, by what became of its writing
+abbrev pub served_as : Result (Unit {0}) ReportFault → Served
+served_as (Ok done) = Answered (status_code Done)
+served_as (Err Write) = WriteFault
+served_as (Err fault) = Cut
+
+-- The text of details was sent behind a head that announces so many bytes, if it has so many. That is
+-- no event, and books that did not fail in it stay open.
+pub record SendsDetails (wanted : DetailReport) (size : ℕ) (naming : Naming)
+    (held holds : Option (List ℕ)) (served : Served) (was : Bool) (before : Book)
+    (events : List Event) (is : Bool) : Type 0 where
+  pub none : events ≡ []
+  pub sent : (text : List ℕ) → detail_answer wanted naming before ≡ Ok text → length text ≡ size
+      → IsSentAsRead (success (form_kind wanted.form) text) held holds served
+  pub stands : is_cut served ≡ false → is ≡ was
+
+-- A request was answered, and the answer was sent while it was read. Books that did not fail in it stay
+-- as they were.
+pub record SendsAsRead (naming : Naming) (bytes : List ℕ) (held holds : Option (List ℕ))
+    (served : Served) (was : Bool) (before : Book) (events : List Event) (is : Bool) : Type 0 where
+  pub reply : Reply
+  pub answer : Answers naming bytes reply was before events was
+  pub sent : IsSentAsRead reply held holds served
+  pub stands : is_cut served ≡ false → is ≡ was
+
+-- ---- a request as a whole
 
 -- a request was answered, by the bytes that were taken from the reader, and the answer was sent
 pub record IsReplied (books : Books) (taken : List ℕ) (ended : Bool) (output : Output)
@@ -52,12 +144,22 @@ pub record IsReplied (books : Books) (taken : List ℕ) (ended : Bool) (output :
   pub answer : IsAnswer books.old books.new ended taken reply
   pub sent : IsSent reply output.old.holds output.new.holds served
 
+-- details were asked for, and sent while they were read
+pub record IsStreamed (books : Books) (taken : List ℕ) (ended : Bool) (output : Output)
+    (served : Served) : Type 0 where
+  pub details : DetailReport
+  pub begins : AsksDetails taken details
+  pub done : (more : List ℕ) → (ended ≡ true → more ≡ [])
+      → IsDone books.old books.new (SendsAsRead books.old.naming (taken ++ more)
+      output.old.holds output.new.holds served)
+
 -- What was served. Where the input ended before its first byte, or a read failed, nothing is
 -- answered.
 abbrev pub IsServed : Books → List ℕ → Bool → Output → Served → Type 0
 IsServed books taken ended output Closed = (taken ≡ []) × (ended ≡ true)
 IsServed books taken ended output ReadFault = Unit {0}
-IsServed books taken ended output served = IsReplied books taken ended output served
+IsServed books taken ended output served =
+    IsReplied books taken ended output served ⊎ IsStreamed books taken ended output served
 
 -- nothing was answered
 abbrev pub is_unanswered : Served → Bool

@@ -10,14 +10,14 @@ ghost use Rattle.book_http.specs.Asked.{IsServable};
 ghost use Rattle.book_http.specs.Bodies.{body_status, is_failed_read, most_body_bytes};
 ghost use Rattle.book_http.specs.Head.{most_head_bytes};
 ghost use Rattle.book_http.specs.Reads.{ReadCall, bytes_read, AreReadsBetween, IsDueAfterHead};
-ghost use Rattle.book_http.specs.Replies.{refusal, reply_of};
+ghost use Rattle.book_http.specs.Replies.{SendsReply, refusal};
 ghost use Rattle.book_http.specs.Requests.{DescribesHead};
-ghost use Rattle.book_http.specs.Served.{IsAnswerTo};
+ghost use Rattle.book_http.specs.Served.{IsToSendTo};
 
-use crate::answer::Answer;
+use crate::answer::{Answer, ToSend};
 use crate::asked::{Asked, asked_framed};
 use crate::body::{BodyFault, read_body};
-use crate::office_answers::{answer_import, answer_report, answer_what_if};
+use crate::office_answers::{answer_import, answer_report, answer_what_if, measure_details};
 use crate::request::Request;
 use crate::route::find_route;
 use crate::status::Status;
@@ -30,13 +30,13 @@ use streams::Reader;
 pub struct ReadFailed;
 
 /// Answers a request without its whole body: nothing is done of it.
-fn refuse_body(fault: BodyFault) -> Result<Answer, ReadFailed>
-    ensures refused { IfOk result (λ answer. reply_of answer ≡ refusal (body_status fault)) }
+fn refuse_body(fault: BodyFault) -> Result<ToSend, ReadFailed>
+    ensures refused { IfOk result (λ sent. SendsReply sent (refusal (body_status fault))) }
     ensures failed { is_err result ≡ is_failed_read fault }
 {
     match fault {
-        BodyFault::Short => Ok(Answer::Refusal(Status::BadRequest)),
-        BodyFault::Memory => Ok(Answer::Refusal(Status::Unavailable)),
+        BodyFault::Short => Ok(ToSend::Answer(Answer::Refusal(Status::BadRequest))),
+        BodyFault::Memory => Ok(ToSend::Answer(Answer::Refusal(Status::Unavailable))),
         BodyFault::Read => Err(ReadFailed),
     }
 }
@@ -49,15 +49,15 @@ fn answer_asked<R: Reader + Drop, L: Ledger>(
     front: &[u8],
     asked: Asked,
     ledger: &mut L,
-) -> Result<Answer, ReadFailed>
+) -> Result<ToSend, ReadFailed>
     requires limit { IsServable asked }
     requires asked { reads_of source.old ≤ 2 ^ 62 + most_head_bytes }
     requires failed { has_failed source.old ≡ false }
     requires ended { has_ended source.old ≡ false }
     ensures answer { (reads : List (ReadCall R)) × AreReadsBetween R.remaining R.may_answer
         (λ came room. IsDueAfterHead asked (front.now ++ came) room) source.old source.new reads
-        × IfOk result (λ answer. IsAnswerTo (L.seen ledger.old) (L.seen ledger.new)
-        (has_ended source.new) asked (front.now ++ bytes_read reads) (reply_of answer)) }
+        × IfOk result (λ sent. IsToSendTo (L.seen ledger.old) (L.seen ledger.new)
+        (has_ended source.new) asked (front.now ++ bytes_read reads) sent) }
     ensures none { OnErr result (ledger.new ≡ ledger.old) }
     ensures failed { has_failed source.new ≡ is_err result }
     ensures asked { reads_of source.new ≤ reads_of source.old + most_body_bytes }
@@ -65,17 +65,18 @@ fn answer_asked<R: Reader + Drop, L: Ledger>(
         (has_ended source.new) (R.remaining (reader_of source.new)) }
 {
     match asked {
-        Asked::Report(report) => Ok(answer_report(alloc, ledger, report)),
+        Asked::Report(report) => Ok(ToSend::Answer(answer_report(alloc, ledger, report))),
+        Asked::Details(details) => Ok(measure_details(alloc, ledger, &details)),
         Asked::WhatIf(what_if, size) => match read_body(alloc, source, front, size as usize) {
-            Ok(body) => Ok(answer_what_if(alloc, ledger, what_if, body)),
+            Ok(body) => Ok(ToSend::Answer(answer_what_if(alloc, ledger, what_if, body))),
             Err(fault) => refuse_body(fault),
         },
         Asked::Import(layout, size) => match read_body(alloc, source, front, size as usize) {
-            Ok(body) => Ok(answer_import(alloc, ledger, layout, body)),
+            Ok(body) => Ok(ToSend::Answer(answer_import(alloc, ledger, layout, body))),
             Err(fault) => refuse_body(fault),
         },
-        Asked::Refusal(status) => Ok(Answer::Refusal(status)),
-        Asked::OtherMethod(method) => Ok(Answer::OtherMethod(method)),
+        Asked::Refusal(status) => Ok(ToSend::Answer(Answer::Refusal(status))),
+        Asked::OtherMethod(method) => Ok(ToSend::Answer(Answer::OtherMethod(method))),
     }
 }
 
@@ -85,7 +86,7 @@ pub fn answer_request<R: Reader + Drop, L: Ledger>(
     source: &mut Source<R>,
     request: &Request<'_>,
     ledger: &mut L,
-) -> Result<Answer, ReadFailed>
+) -> Result<ToSend, ReadFailed>
     requires text { IsUtf8 request.now.target.now }
     requires asked { reads_of source.old ≤ 2 ^ 62 + most_head_bytes }
     requires failed { has_failed source.old ≡ false }
@@ -95,9 +96,9 @@ pub fn answer_request<R: Reader + Drop, L: Ledger>(
         → (reads : List (ReadCall R)) × AreReadsBetween R.remaining R.may_answer
         (λ came room. IsDueAfterHead (spec.asked head) (request.now.behind.now ++ came) room)
         source.old source.new reads
-        × IfOk result (λ answer. IsAnswerTo (L.seen ledger.old) (L.seen ledger.new)
+        × IfOk result (λ sent. IsToSendTo (L.seen ledger.old) (L.seen ledger.new)
         (has_ended source.new) (spec.asked head) (request.now.behind.now ++ bytes_read reads)
-        (reply_of answer)) }
+        sent) }
     ensures none { OnErr result (ledger.new ≡ ledger.old) }
     ensures failed { has_failed source.new ≡ is_err result }
     ensures asked { reads_of source.new ≤ reads_of source.old + most_body_bytes }
@@ -105,7 +106,7 @@ pub fn answer_request<R: Reader + Drop, L: Ledger>(
         (has_ended source.new) (R.remaining (reader_of source.new)) }
 {
     let Ok(found) = find_route(alloc, request.target) else {
-        return Ok(Answer::Refusal(Status::Unavailable));
+        return Ok(ToSend::Answer(Answer::Refusal(Status::Unavailable)));
     };
     let asked = asked_framed(request.framing, found, request.method, request.has_origin);
     answer_asked(alloc, source, request.behind, asked, ledger)

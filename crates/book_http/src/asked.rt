@@ -10,6 +10,7 @@ use crate::framing::Framing;
 use crate::method::{Method, is_method};
 use crate::route::Route;
 use crate::status::Status;
+use book_reports::DetailReport;
 use office::{Report, WhatIf};
 use smf_frames::Layout;
 
@@ -18,6 +19,8 @@ use smf_frames::Layout;
 pub enum Asked {
     /// A report.
     Report(Report),
+    /// The details of a period.
+    Details(DetailReport),
     /// What a period would have cost by the tariff that is a body with this many bytes.
     WhatIf(WhatIf, u64),
     /// The import of a body with this many bytes.
@@ -61,6 +64,7 @@ fn asked_on(route: &Route, has_origin: bool, framing: Framing) -> Asked
 {
     match route {
         Route::Report(report) => Asked::Report(*report),
+        Route::Details(details) => Asked::Details(*details),
         Route::WhatIf(what_if) => match posted_size(has_origin, framing) {
             Ok(size) => Asked::WhatIf(*what_if, size),
             Err(status) => Asked::Refusal(status),
@@ -78,6 +82,7 @@ fn method_of(route: &Route) -> Method
 {
     match route {
         Route::Report(_) => Method::Get,
+        Route::Details(_) => Method::Get,
         Route::WhatIf(_) => Method::Post,
         Route::Import(_) => Method::Post,
     }

@@ -1,5 +1,5 @@
 //! What the office answers, as answers to requests: a report, what a period would have cost by the
-//! tariff that a body is, or the import of a body.
+//! tariff that a body is, or the import of a body; and how many bytes the text of details has.
 
 ghost use Rattle.std.specs.Prelude.{◌≡◌};
 ghost use Rattle.book_core.specs.Transition.{IsTransition};
@@ -7,11 +7,13 @@ ghost use Rattle.office.specs.Requests.{response_by};
 ghost use Rattle.book_http.specs.Answer as spec;
 ghost use Rattle.book_http.specs.Answer.{AnswersImport, AnswersReport, AnswersWhatIf, office_reply};
 ghost use Rattle.book_http.specs.Replies.{reply_of};
+ghost use Rattle.book_http.specs.Served.{Measures};
 
-use crate::answer::Answer;
+use crate::answer::{Answer, ToSend};
 use crate::answer_head::BodyKind;
 use crate::status::Status;
 use book_core::{Ledger, LedgerFault};
+use book_reports::{DetailReport, details_length};
 use office::{Asked, PeriodReport, Report, StatementForm, WhatIf, ask_without_reader};
 use smf_frames::Layout;
 use std::alloc::Global;
@@ -32,9 +34,9 @@ fn body_kind(report: &Report) -> BodyKind
     }
 }
 
-/// The form of what a period would have cost.
-fn what_if_kind(form: StatementForm) -> BodyKind
-    ensures { result ≡ spec.what_if_kind form }
+/// The form of details, and of what a period would have cost.
+pub fn form_kind(form: StatementForm) -> BodyKind
+    ensures { result ≡ spec.form_kind form }
 {
     match form {
         StatementForm::Text => BodyKind::Text,
@@ -68,6 +70,20 @@ pub fn answer_report<L: Ledger>(alloc: Global, ledger: &mut L, report: Report) -
     answer_of(kind, ask_without_reader(alloc, ledger, &asked))
 }
 
+/// Measures the text of details, which is sent while it is read. A period that is not there is
+/// refused.
+pub fn measure_details<L: Ledger>(alloc: Global, ledger: &mut L, details: &DetailReport) -> ToSend
+    ensures { Measures (L.seen ledger.old) (L.seen ledger.new) details.now result }
+{
+    match details_length(alloc, ledger, *details) {
+        Ok(size) => ToSend::Details(*details, size),
+        Err(fault) => {
+            let kind = form_kind(details.form);
+            ToSend::Answer(answer_of(kind, Err(fault)))
+        }
+    }
+}
+
 /// Answers what a period would have cost by the tariff that a body is.
 pub fn answer_what_if<L: Ledger>(
     alloc: Global,
@@ -81,7 +97,7 @@ pub fn answer_what_if<L: Ledger>(
     let Ok(tariff) = String::from_utf8(body) else {
         return Answer::Refusal(Status::BadRequest);
     };
-    let kind = what_if_kind(report.form);
+    let kind = form_kind(report.form);
     let asked = Asked::WhatIf { report, tariff };
     answer_of(kind, ask_without_reader(alloc, ledger, &asked))
 }

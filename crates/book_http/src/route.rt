@@ -7,7 +7,7 @@ ghost use Rattle.book_http.specs.Routes as spec;
 ghost use Rattle.book_http.specs.Routes.{route_rows};
 
 use crate::decimal_value::decimal_value;
-use book_reports::name_of_text;
+use book_reports::{DetailReport, name_of_text};
 use matchit::{InsertError, Router};
 use office::{PeriodReport, Report, StatementForm, WhatIf, centre_named, report_of_all};
 use smf_frames::Layout;
@@ -20,6 +20,8 @@ use std::str;
 pub enum Route {
     /// A report is read there.
     Report(Report),
+    /// The details of a period are read there.
+    Details(DetailReport),
     /// A tariff is submitted there: what a period would have cost by it is read.
     WhatIf(WhatIf),
     /// A dump in this layout is submitted there.
@@ -39,6 +41,10 @@ pub enum Page {
     Adjustments,
     /// The adjustments of a period as rows with commas.
     AdjustmentsCsv,
+    /// The details of a period.
+    Details,
+    /// The details of a period as rows with commas.
+    DetailsCsv,
     /// The list of the disputes.
     Disputes,
     /// The records in dispute as rows with commas.
@@ -79,6 +85,8 @@ fn pages(alloc: Global) -> Result<Router<Page>, InsertError>
     let router = with_page(router, "/statement-csv/{*rest}", Page::StatementCsv)?;
     let router = with_page(router, "/adjustments/{*rest}", Page::Adjustments)?;
     let router = with_page(router, "/adjustments-csv/{*rest}", Page::AdjustmentsCsv)?;
+    let router = with_page(router, "/details/{*rest}", Page::Details)?;
+    let router = with_page(router, "/details-csv/{*rest}", Page::DetailsCsv)?;
     let router = with_page(router, "/disputes", Page::Disputes)?;
     let router = with_page(router, "/disputes-csv", Page::DisputesCsv)?;
     let router = with_page(router, "/record/{*rest}", Page::Record)?;
@@ -183,6 +191,18 @@ fn report_after(asked: PeriodReport, prefix: &str, path: &str) -> Option<Route>
     Some(Route::Report(report_on(asked, period, centre)))
 }
 
+/// The details that a path asks for after its prefix.
+fn details_after(form: StatementForm, prefix: &str, path: &str) -> Option<Route>
+    ensures { result ≡ spec.details_after form prefix.now path.now }
+{
+    let (period, centre) = period_after(prefix, path)?;
+    Some(Route::Details(DetailReport {
+        form,
+        period,
+        centre,
+    }))
+}
+
 /// What a path asks of a period and a tariff after its prefix.
 fn what_if_after(form: StatementForm, prefix: &str, path: &str) -> Option<Route>
     ensures { result ≡ spec.what_if_after form prefix.now path.now }
@@ -226,6 +246,8 @@ fn route_at(page: Page, path: &str) -> Option<Route>
         Page::AdjustmentsCsv => {
             report_after(PeriodReport::AdjustmentTable, "/adjustments-csv/", path)
         }
+        Page::Details => details_after(StatementForm::Text, "/details/", path),
+        Page::DetailsCsv => details_after(StatementForm::Table, "/details-csv/", path),
         Page::Disputes => Some(Route::Report(Report::DisputeList)),
         Page::DisputesCsv => Some(Route::Report(Report::DisputeTable)),
         Page::Record => record_after("/record/", path),

@@ -1,19 +1,26 @@
-//! How an answer is written. Beside a report's own text it takes no memory.
+//! How an answer is written. Beside a report's own text, or lines of details that wait, it takes no
+//! memory.
 
 ghost use Rattle.std.specs.Prelude.{◌≡◌, false};
 ghost use Rattle.streams.specs.Sinks.{writer_of, has_failed};
+ghost use Rattle.book_core.specs.Transition.{IsTransition};
 ghost use Rattle.book_http.specs.Replies.{reply_of};
 ghost use Rattle.book_http.specs.Replies as spec;
-ghost use Rattle.book_http.specs.Served.{IsSent, is_write_fault};
+ghost use Rattle.book_http.specs.Served as outcomes;
+ghost use Rattle.book_http.specs.Served.{IsSent, SendsDetails, is_unanswered, is_write_fault};
 
 use crate::answer::Answer;
 use crate::answer_head::{BodyKind, answer_head, status_body};
 use crate::method::Method;
+use crate::office_answers::form_kind;
 use crate::served::Served;
 use crate::status::Status;
-use book_core::Sink;
+use book_core::{Ledger, Sink};
 use book_import::Stop;
-use book_reports::{receipt_line_text, write_bytes, write_text};
+use book_reports::{
+    DetailReport, ReportFault, receipt_line_text, write_bytes, write_details, write_text,
+};
+use std::alloc::Global;
 use std::io::Write;
 
 /// The status that the stop of an import has.
@@ -92,4 +99,38 @@ pub fn send<W: Write + Drop>(sink: &mut Sink<W>, answer: &Answer) -> Served
             )
         }
     }
+}
+
+/// What became of a text, by what became of its writing.
+fn served_as(told: Result<(), ReportFault>) -> Served
+    ensures { result ≡ outcomes.served_as told }
+{
+    match told {
+        Ok(()) => Served::Answered(Status::Done.code()),
+        Err(ReportFault::Write) => Served::WriteFault,
+        Err(_) => Served::Cut,
+    }
+}
+
+/// Writes the text of details while they are read, behind a head that announces so many bytes. So a
+/// client sees whether the text came whole.
+pub fn send_details<L: Ledger, W: Write + Drop>(
+    alloc: Global,
+    ledger: &mut L,
+    details: DetailReport,
+    size: usize,
+    sink: &mut Sink<W>,
+) -> Served
+    requires { has_failed sink.old ≡ false }
+    ensures sent { IsTransition (L.seen ledger.old) (L.seen ledger.new)
+        (SendsDetails details size (L.seen ledger.old).naming
+        (W.contents (writer_of sink.old)) (W.contents (writer_of sink.new)) result) }
+    ensures failed { has_failed sink.new ≡ is_write_fault result }
+    ensures answered { is_unanswered result ≡ false }
+{
+    let head = answer_head(Status::Done, form_kind(details.form), None, size);
+    let Ok(()) = write_text(sink, head.as_str()) else {
+        return Served::WriteFault;
+    };
+    served_as(write_details(alloc, ledger, details, sink))
 }

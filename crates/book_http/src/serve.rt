@@ -10,15 +10,14 @@ ghost use Rattle.book_core.specs.Ledgers.{books};
 ghost use Rattle.book_http.specs.Bodies.{most_body_bytes};
 ghost use Rattle.book_http.specs.Head.{most_head_bytes};
 ghost use Rattle.book_http.specs.Reads.{ReadCall, bytes_read, AreReadsBetween, IsDue};
-ghost use Rattle.book_http.specs.Replies.{reply_of};
-ghost use Rattle.book_http.specs.Served.{IsAnswer, IsServed};
+ghost use Rattle.book_http.specs.Served.{IsServed, IsToSend};
 ghost use Rattle.book_http.specs.Served.{is_failed, is_read_fault, is_unanswered, is_write_fault};
 
-use crate::answer::Answer;
+use crate::answer::{Answer, ToSend};
 use crate::answering::answer_request;
 use crate::head::{HeadRead, MAX_FIELDS, MAX_HEAD, read_head};
 use crate::request::request_in;
-use crate::sending::send;
+use crate::sending::{send, send_details};
 use crate::served::{Served, Unanswered};
 use crate::status::Status;
 use book_core::{Ledger, Sink, Source};
@@ -32,14 +31,14 @@ fn read_and_answer<R: Reader + Drop, L: Ledger>(
     alloc: Global,
     source: &mut Source<R>,
     ledger: &mut L,
-) -> Result<Answer, Unanswered>
+) -> Result<ToSend, Unanswered>
     requires asked { reads_of source.old ≤ 2 ^ 62 }
     requires failed { has_failed source.old ≡ false }
     requires ended { has_ended source.old ≡ false }
     ensures answer { (reads : List (ReadCall R))
         × AreReadsBetween R.remaining R.may_answer IsDue source.old source.new reads
-        × IfOk result (λ answer. IsAnswer (L.seen ledger.old) (L.seen ledger.new)
-        (has_ended source.new) (bytes_read reads) (reply_of answer))
+        × IfOk result (λ sent. IsToSend (L.seen ledger.old) (L.seen ledger.new)
+        (has_ended source.new) (bytes_read reads) sent)
         × (IsErrOf result Unanswered.Closed → bytes_read reads ≡ []) }
     ensures closed { IsErrOf result Unanswered.Closed → has_ended source.new ≡ true }
     ensures none { OnErr result (ledger.new ≡ ledger.old) }
@@ -54,19 +53,20 @@ fn read_and_answer<R: Reader + Drop, L: Ledger>(
     match read_head(source, &mut buffer, &mut fields) {
         HeadRead::Closed => Err(Unanswered::Closed),
         HeadRead::Failed => Err(Unanswered::Failed),
-        HeadRead::Refused => Ok(Answer::Refusal(Status::BadRequest)),
+        HeadRead::Refused => Ok(ToSend::Answer(Answer::Refusal(Status::BadRequest))),
         HeadRead::Whole(whole) => {
             let request = request_in(&buffer[..whole.filled], &fields, whole.spans);
-            let Ok(answer) = answer_request(alloc, source, &request, ledger) else {
+            let Ok(sent) = answer_request(alloc, source, &request, ledger) else {
                 return Err(Unanswered::Failed);
             };
-            Ok(answer)
+            Ok(sent)
         }
     }
 }
 
 /// Serves one request: reads it, does what it asks of the books, and writes the answer. Bytes after
 /// the request are not looked at. What a request did stays done where its answer can't be written.
+/// Details are read twice: to announce how many bytes their text has, and to send it.
 pub fn serve_one<R: Reader + Drop, W: Write + Drop, L: Ledger>(
     alloc: Global,
     source: &mut Source<R>,
@@ -79,9 +79,10 @@ pub fn serve_one<R: Reader + Drop, W: Write + Drop, L: Ledger>(
     requires open { sinks.has_failed sink.old ≡ false }
 
     // The books did what the request asks, and the writer has the answer, or a prefix of it: by the
-    // bytes that the reads gave, whatever may follow them. Each read was due: while there was no
-    // head, or for the rest of the body of an import or a tariff that is served. Where the source
-    // has ended, these are all the bytes of a reader whose bytes are known.
+    // bytes that the reads gave, whatever may follow them; of details, which are read twice, where
+    // the books' storage is honest. Each read was due: while there was no head, or for the rest of
+    // the body of an import or a tariff that is served. Where the source has ended, these are all
+    // the bytes of a reader whose bytes are known.
     ensures served { (reads : List (ReadCall R))
         × AreReadsBetween R.remaining R.may_answer IsDue source.old source.new reads
         × IsServed (books L.seen ledger.old ledger.new) (bytes_read reads) (has_ended source.new)
@@ -98,7 +99,8 @@ pub fn serve_one<R: Reader + Drop, W: Write + Drop, L: Ledger>(
     ensures written { sinks.has_failed sink.new ≡ is_write_fault result }
 {
     match read_and_answer(alloc, source, ledger) {
-        Ok(answer) => send(sink, &answer),
+        Ok(ToSend::Answer(answer)) => send(sink, &answer),
+        Ok(ToSend::Details(details, size)) => send_details(alloc, ledger, details, size, sink),
         Err(Unanswered::Closed) => Served::Closed,
         Err(Unanswered::Failed) => Served::ReadFault,
     }

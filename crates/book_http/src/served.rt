@@ -7,6 +7,8 @@ pub enum Served {
     ReadFault,
     /// A write failed: the writer has a prefix of the answer. What the request did stays done.
     WriteFault,
+    /// The books or memory failed in the text of an answer: the writer has a prefix of it.
+    Cut,
     /// The answer was written, with this status.
     Answered(u16),
 }

@@ -1,5 +1,5 @@
 -- What is summed over the centres.
-use Rattle.std.proofs.Common.{◌≡◌, ℕ, List, sym, ◌∙◌, subst, map}
+use Rattle.std.proofs.Common.{◌≡◌, ℕ, List, sym, ◌∙◌, subst, map, true}
 use Rattle.std.specs.Prelude.{filter, sum_by}
 use Rattle.std.specs.List.{IsDistinct, list_any}
 use Rattle.std.proofs.lemmas.Cmp.{nat_list_cmp_total, nat_list_eq_equiv}
@@ -10,23 +10,34 @@ use Rattle.book_model.proofs.SetLemmas.{any_tied-members, members_rise, same_byt
 use Rattle.book_laws.specs.CentreLaws.{CentresAddUp}
 use Rattle.book_laws.proofs.RowSums.{sum_by-keys}
 
--- sums over what each centre has are together the sum over all
+-- sums over what each of some centres has are together the sum over all, where these are all
+pub by_centres : {X : Type 0} (named : List (List ℕ)) (centre : X → List ℕ) (part : X → ℕ)
+    (xs : List X)
+    → ((x : X) → list_any (λ y. same_bytes (centre x) (centre y)) xs ≡ true
+    → list_any (same_bytes (centre x)) named ≡ true)
+    → sum_by (λ one. sum_by part (filter (λ x. same_bytes (centre x) one) xs))
+    (members (set_of by_bytes named))
+    ≡ sum_by part xs
+by_centres named centre part xs all =
+    let centres : List (List ℕ) = members (set_of by_bytes named) in
+    let apart : IsDistinct same_bytes centres =
+    subst (λ same. IsDistinct same centres) (sym same_bytes-by_cmp)
+    (IsDistinct-from_sorted by_bytes centres
+    (members_rise nat_list_cmp_total (set_of by_bytes named))) in
+    sum_by-keys nat_list_eq_equiv centres apart centre part xs (λ x among.
+    (λ i. list_any (same_bytes-by_cmp i (centre x)) centres)
+    ∙ any_tied-members nat_list_cmp_total named (centre x)
+    ∙ (λ i. list_any (sym same_bytes-by_cmp i (centre x)) named)
+    ∙ all x among)
+
+-- so it is with the centres of all
 by_centre : {X : Type 0} (centre : X → List ℕ) (part : X → ℕ) (xs : List X)
     → sum_by (λ one. sum_by part (filter (λ x. same_bytes (centre x) one) xs))
     (members (set_of by_bytes (map centre xs)))
     ≡ sum_by part xs
 by_centre centre part xs =
-    let centres : List (List ℕ) = members (set_of by_bytes (map centre xs)) in
-    let apart : IsDistinct same_bytes centres =
-    subst (λ same. IsDistinct same centres) (sym same_bytes-by_cmp)
-    (IsDistinct-from_sorted by_bytes centres
-    (members_rise nat_list_cmp_total (set_of by_bytes (map centre xs)))) in
-    sum_by-keys nat_list_eq_equiv centres apart centre part xs (λ x among.
-    (λ i. list_any (same_bytes-by_cmp i (centre x)) centres)
-    ∙ any_tied-members nat_list_cmp_total (map centre xs) (centre x)
-    ∙ (λ i. list_any (sym same_bytes-by_cmp i (centre x)) (map centre xs))
-    ∙ list_any-map (same_bytes (centre x)) centre xs
-    ∙ among)
+    by_centres (map centre xs) centre part xs (λ x among.
+    list_any-map (same_bytes (centre x)) centre xs ∙ among)
 
 -- the law
 pub centres_add_up : CentresAddUp

@@ -132,7 +132,7 @@ counted_is_read naming history bytes answered =
     omega arith
 
 -- the days of closes rise
-closes_rise : (naming : Naming) (history : List Event) → IsMadeByCalls naming history
+pub closes_rise : (naming : Naming) (history : List Event) → IsMadeByCalls naming history
     → IsStrictlySortedBy int_cmp (book_after history).rulings.closes
 unfolding IsStrictlySortedBy
 closes_rise naming [] answered = tt

@@ -2,9 +2,9 @@
 -- they refuse; sums over rows and over a period's sets; the amounts of periods; the lines that are
 -- read; and closed periods. Runs, from these; calls one after another, and what they leave; the
 -- lists of all periods; the lines of a statement; single centres; details, which records are counted,
--- what is kept of them, and that they stay; rows by another tariff, and their lines. Single records:
--- their lives, and how their prices came about. Single answers: to calls, reports, imports, and
--- lists of requests.
+-- what is kept of them, and that they stay; bills, and that they stay; rows by another tariff, and
+-- their lines. Single records: their lives, and how their prices came about. Single answers: to calls,
+-- reports, imports, and lists of requests.
 pub mod PeriodLemmas
 pub mod NetLemmas
 pub mod WrongPeriodLemmas
@@ -24,6 +24,11 @@ pub mod DetailLemmas
 pub mod CountedLemmas
 pub mod KeptLemmas
 pub mod StayLemmas
+pub mod BillLemmas
+pub mod HeldBackLemmas
+pub mod TariffStays
+pub mod TurnStays
+pub mod BillStays
 pub mod OtherPriceLemmas
 pub mod OtherWorkLemmas
 pub mod OtherWidthLemmas

@@ -1,15 +1,19 @@
 -- Details of closed periods stay, and come one after another.
 use Rattle.std.proofs.Common.{◌≡◌, ℕ, List, [], ◌∷◌, ◌++◌, refl, sym, ap, ◌∙◌, subst, true, false}
-use Rattle.std.proofs.Common.{true≢false, Option, Some, None, arith}
-use Rattle.std.specs.Prelude.{ℤ, ◌<ℤ◌, MatchOption}
+use Rattle.std.proofs.Common.{true≢false, Bool, cond, Option, Some, None, suc, length, append-nil, arith}
+use Rattle.std.specs.Prelude.{ℤ, ◌<ℤ◌, int_lt, filter, MatchOption}
 use Rattle.std.specs.List.Sorted.{IsStrictlySortedBy}
 use Rattle.std.specs.Option.{ok_or, option_map}
 use Rattle.std.proofs.lemmas.Int.{ints}
+use Rattle.std.proofs.lemmas.List.Elements.{filter-append}
+use Rattle.smf_type30.specs.Usage.{day_of}
 use Rattle.book_model.specs.declared.fault.LedgerFault.TheVariants.{NoSuchPeriod}
-use Rattle.book_model.specs.Words.{Book, Event, IsMadeByCalls, Naming, Period, PeriodClosed}
+use Rattle.book_model.specs.Words.{AreAllDatedThrough, Book, Event, IsMadeByCalls, Naming, Period}
+use Rattle.book_model.specs.Words.{PeriodClosed}
 use Rattle.book_model.specs.Words.{RecordChosen, RecordKept, Rulings, SecondRuleAdopted}
 use Rattle.book_model.specs.Words.{TariffAccepted, book_after, is_dated_after}
-use Rattle.book_model.specs.Words.{last_close, members, no_event, open_number, period_of, price_in}
+use Rattle.book_model.specs.Words.{last_close, members, no_event, open_number, period_of, period_on}
+use Rattle.book_model.specs.Words.{price_in}
 use Rattle.book_model.specs.Words.{set_of}
 use Rattle.book_model.proofs.CallLemmas.{calls_go_forward, closed_prices_stay}
 use Rattle.book_model.proofs.DetailLemmas.{asked_rise, details_rise}
@@ -20,6 +24,7 @@ use Rattle.book_model.proofs.SetChanges.{pick-agree}
 use Rattle.book_laws.proofs.ClosedLemmas.{closed_stays, found_past, past_period}
 use Rattle.book_model.specs.Details.{by_detail, detail_by, detail_of, details_asked, details_for}
 use Rattle.book_model.specs.Details.{details_of, next_after}
+use Rattle.book_laws.specs.ClosedPeriods.{IsClosed}
 use Rattle.book_laws.specs.DetailStays.{DetailsStay, NextIsNext}
 
 -- what is dated no later than one close is dated no later than a later one
@@ -29,25 +34,39 @@ later_still : (last : Option ℤ) (day : ℤ) (bytes : List ℕ)
 later_still None day bytes later early = absurd (true≢false early)
 later_still (Some close) day bytes later early = grind (arith, ints)
 
--- A record that is dated no later than the last close of some books stays so, and costs the same,
--- whatever calls follow.
-record Keeps (old new : Book) (bytes : List ℕ) : Type 0 where
-  early : is_dated_after (last_close new.rulings) bytes ≡ false
-  price : price_in new.rulings bytes ≡ price_in old.rulings bytes
+-- one more close is none of those before a day that it is not before
+place_stays : (closes : List ℤ) (close day : ℤ) → int_lt close day ≡ false
+    → period_on (closes ++ close ∷ []) day ≡ period_on closes day
+place_stays closes close day late =
+    let before : ℤ → Bool = λ one. int_lt one day in
+    ap (λ (days : List ℤ). suc (length days))
+    (filter-append before closes (close ∷ [])
+    ∙ ap (λ b. filter before closes ++ cond b (close ∷ []) []) late
+    ∙ append-nil (filter before closes))
 
-keeps : (naming : Naming) (later earlier : List Event) (bytes : List ℕ)
+-- A record that is dated no later than the last close of some books stays so, costs the same, and
+-- belongs to the same period, whatever calls follow.
+pub record Keeps (old new : Book) (bytes : List ℕ) : Type 0 where
+  pub early : is_dated_after (last_close new.rulings) bytes ≡ false
+  pub price : price_in new.rulings bytes ≡ price_in old.rulings bytes
+  pub place : period_on new.rulings.closes (day_of bytes)
+      ≡ period_on old.rulings.closes (day_of bytes)
+
+pub keeps : (naming : Naming) (later earlier : List Event) (bytes : List ℕ)
     → IsMadeByCalls naming (later ++ earlier)
     → is_dated_after (last_close (book_after earlier).rulings) bytes ≡ false
     → Keeps (book_after earlier) (book_after (later ++ earlier)) bytes
-keeps naming [] earlier bytes answered early = record { early = early; price = refl }
+keeps naming [] earlier bytes answered early =
+    record { early = early; price = refl; place = refl }
 keeps naming (RecordKept new ∷ later) earlier bytes answered early =
     let before = keeps naming later earlier bytes answered.1 early in
-    record { early = before.early; price = before.price }
+    record { early = before.early; price = before.price; place = before.place }
 keeps naming (TariffAccepted (Some text) terms ∷ later) earlier bytes answered early =
     let before = keeps naming later earlier bytes answered.1 early in record {
       early = before.early;
       price = closed_prices_stay (book_after (later ++ earlier)) text terms bytes answered.0
           before.early ∙ before.price;
+      place = before.place;
     }
 keeps naming (TariffAccepted None terms ∷ later) earlier bytes none early =
     let before = keeps naming later earlier bytes (subst (IsMadeByCalls naming) (sym none) tt) early in
@@ -57,21 +76,23 @@ keeps naming (TariffAccepted None terms ∷ later) earlier bytes none early =
     absurd (true≢false never)
 keeps naming (PeriodClosed day ∷ later) earlier bytes answered early =
     let before = keeps naming later earlier bytes answered.1 early in
-    let book : Book = book_after (later ++ earlier) in record {
+    let book : Book = book_after (later ++ earlier) in
+    let late = later_still (last_close book.rulings) day bytes
+    (calls_go_forward.close book (open_number book) day answered.0) before.early in record {
       early = ap (λ close. is_dated_after close bytes) (last_or-behind None book.rulings.closes day)
-          ∙ later_still (last_close book.rulings) day bytes
-          (calls_go_forward.close book (open_number book) day answered.0) before.early;
+          ∙ late;
       price = before.price;
+      place = place_stays book.rulings.closes day (day_of bytes) late ∙ before.place;
     }
 keeps naming (RecordChosen chosen ∷ later) earlier bytes answered early =
     let before = keeps naming later earlier bytes answered.1 early in
-    record { early = before.early; price = before.price }
+    record { early = before.early; price = before.price; place = before.place }
 keeps naming (SecondRuleAdopted ∷ later) earlier bytes answered early =
     let before = keeps naming later earlier bytes answered.1 early in
-    record { early = before.early; price = before.price }
+    record { early = before.early; price = before.price; place = before.place }
 
 -- so were the calls before them answered
-answered_before : (naming : Naming) (later earlier : List Event)
+pub answered_before : (naming : Naming) (later earlier : List Event)
     → IsMadeByCalls naming (later ++ earlier) → IsMadeByCalls naming earlier
 answered_before naming [] earlier answered = answered
 answered_before naming (RecordKept new ∷ later) earlier answered =
@@ -87,27 +108,47 @@ answered_before naming (RecordChosen chosen ∷ later) earlier answered =
 answered_before naming (SecondRuleAdopted ∷ later) earlier answered =
     answered_before naming later earlier answered.1
 
+-- A closed period stays the one of its number, with its details.
+pub record KeepsPeriod (naming : Naming) (number : ℕ) (old new : Book) : Type 0 where
+  pub period : Period
+  pub dated : AreAllDatedThrough (last_close old.rulings) period
+  pub was : period_of old number ≡ Some period
+  pub is : period_of new number ≡ Some period
+  pub details : details_of naming new.rulings period ≡ details_of naming old.rulings period
+
+pub keeps_period : (naming : Naming) (later earlier : List Event) (number : ℕ)
+    → IsMadeByCalls naming (later ++ earlier) → IsClosed number (book_after earlier)
+    → KeepsPeriod naming number (book_after earlier) (book_after (later ++ earlier))
+keeps_period naming later earlier number answered closed =
+    let old : Book = book_after earlier in
+    let new : Book = book_after (later ++ earlier) in
+    let sound = sound_after naming earlier (answered_before naming later earlier answered) in
+    let there = past_period naming number old sound closed in
+    let was : period_of old number ≡ Some there.0 = found_past number old closed ∙ there.1 in
+    record {
+      period = there.0;
+      dated = there.2;
+      was = was;
+      is = (closed_stays naming later earlier number answered closed).period ∙ was;
+      details =
+          ap (λ details. members (set_of by_detail details))
+          (pick-agree (detail_of naming new.rulings) (detail_of naming old.rulings) there.0.counted
+          (λ bytes counted. ap (option_map (detail_by naming bytes))
+          (keeps naming later earlier bytes answered (there.2.counted bytes counted)).price));
+    }
+
 -- the law
 pub details_stay : DetailsStay
 details_stay naming later earlier number centre answered closed =
     let old : Book = book_after earlier in
     let new : Book = book_after (later ++ earlier) in
-    let sound = sound_after naming earlier (answered_before naming later earlier answered) in
-    let there = past_period naming number old sound closed in
-    let period : Period = there.0 in
-    let was : period_of old number ≡ Some period = found_past number old closed ∙ there.1 in
-    let is = (closed_stays naming later earlier number answered closed).period ∙ was in
-    let same : details_of naming new.rulings period ≡ details_of naming old.rulings period =
-    ap (λ details. members (set_of by_detail details))
-    (pick-agree (detail_of naming new.rulings) (detail_of naming old.rulings) period.counted
-    (λ bytes counted. ap (option_map (detail_by naming bytes))
-    (keeps naming later earlier bytes answered (there.2.counted bytes counted)).price)) in
+    let kept = keeps_period naming later earlier number answered closed in
     let by = λ (ruled : Rulings) (found : Option Period).
     no_event (ok_or (option_map (λ period. details_asked centre (details_of naming ruled period))
     found) NoSuchPeriod) in
-    ap (by new.rulings) is
-    ∙ ap (λ details. no_event (ok_or (Some (details_asked centre details)) NoSuchPeriod)) same
-    ∙ sym (ap (by old.rulings) was)
+    ap (by new.rulings) kept.is
+    ∙ ap (λ details. no_event (ok_or (Some (details_asked centre details)) NoSuchPeriod)) kept.details
+    ∙ sym (ap (by old.rulings) kept.was)
 
 -- the law
 pub next_is_next : NextIsNext

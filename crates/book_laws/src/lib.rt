@@ -1,6 +1,7 @@
 //! Laws of the books: whole histories, runs of requests, and single calls.
 #![tactic(auto)]
 
+mod bills;
 mod calls;
 mod centres;
 mod details;
@@ -9,6 +10,7 @@ mod other_prices;
 mod records;
 mod runs;
 
+pub use bills::{bills_add_up, bills_split_statements, closed_bills_stay, held_back_bounds};
 pub use calls::{
     one_answer, one_book, one_prefix, one_receipt, one_refusal, one_refused_report, one_run,
     one_text, refusal_changes_nothing,

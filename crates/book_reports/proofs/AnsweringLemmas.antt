@@ -1,6 +1,6 @@
 -- Reports that books may refuse, written while books are read: what they come to by calls that
 -- answered, and by one that was refused.
-use Rattle.std.proofs.Common.{◌≡◌, ◌∙◌, ◌⊎◌, true, List, [], ◌++◌, refl, sym, ap, subst}
+use Rattle.std.proofs.Common.{◌≡◌, ◌<◌, ◌∙◌, ◌⊎◌, true, List, [], ◌++◌, length, refl, sym, ap, subst}
 use Rattle.std.proofs.Common.{Option, None, Result, Ok, Err, inl, inr, ℕ}
 use Rattle.std.specs.Prelude.{IfErr}
 use Rattle.std.proofs.KnownBytes.{Appends-nil}
@@ -14,9 +14,10 @@ use Rattle.book_core.proofs.TransitionLemmas.{work_as, work_then}
 use Rattle.book_reports.specs.declared.fault.ReportFault.{ReportFault}
 use Rattle.book_reports.specs.declared.fault.ReportFault.TheVariants as report
 use Rattle.book_reports.specs.Faults.{report_fault_of}
-use Rattle.book_reports.specs.StreamedAnswers.{WritesAnswer, WritesOrRefuses}
+use Rattle.book_reports.specs.StreamedAnswers.{WritesAnswer, WritesAnswerUntil, WritesOrRefuses}
+use Rattle.book_reports.specs.StreamedAnswers.{WritesUntilOrRefuses}
 use Rattle.book_reports.specs.StreamedRulings.{is_hindrance, refusal_in}
-use Rattle.book_reports.specs.Writing.{WritesPrefix, is_write_or_memory}
+use Rattle.book_reports.specs.Writing.{WritesUntil, is_write_or_memory}
 use Rattle.book_reports.proofs.ReadingLemmas.{IsReading, goes_on, reopens_alike}
 use Rattle.book_reports.proofs.StreamingLemmas.{alike_refusal, unrefused, unrefused_hinders, was_open}
 
@@ -40,29 +41,57 @@ passed_on : (fault : LedgerFault)
 passed_on ledger.Memory = inr refl
 passed_on fault = inl refl
 
+-- some byte is in each text that is answered
+abbrev pub HasBytes : Result (List ℕ) LedgerFault → Type 0
+HasBytes said = (text : List ℕ) → said ≡ Ok text → 0 < length text
+
 -- before a byte is written, a report may be hindered, whatever is answered, or refused
 pub unwritten : (said : Result (List ℕ) LedgerFault) (fault : LedgerFault)
-    (held : Option (List ℕ)) → IsRefusedBy fault said
-    → WritesOrRefuses said held held (Err (report_fault_of fault))
-unwritten (Ok text) fault held (inl hinders) = ((0, Appends-nil held), hinders)
-unwritten (Err refused) fault held (inl hinders) = (refl, inr hinders)
-unwritten said fault held (inr is) =
-    subst (λ said. WritesOrRefuses said held held (Err (report_fault_of fault))) (sym is)
+    (held : Option (List ℕ)) → HasBytes said → IsRefusedBy fault said
+    → WritesUntilOrRefuses said held held (Err (report_fault_of fault))
+unwritten (Ok text) fault held some (inl hinders) =
+    ((0, some text refl, Appends-nil held), hinders)
+unwritten (Err refused) fault held some (inl hinders) = (refl, inr hinders)
+unwritten said fault held some (inr is) =
+    subst (λ said. WritesUntilOrRefuses said held held (Err (report_fault_of fault))) (sym is)
     (refl, passed_on fault)
 
 -- then a prefix of the text may be written before a hindrance
 pub cut_by : (said : Result (List ℕ) LedgerFault) (text : List ℕ) (fault : LedgerFault)
     (held holds : Option (List ℕ)) → said ≡ Ok text
-    → WritesPrefix {A = Unit {0}} text held holds (Err (report_fault_of fault))
+    → WritesUntil {A = Unit {0}} text held holds (Err (report_fault_of fault))
     → IsRefusedBy fault said
-    → WritesOrRefuses said held holds (Err (report_fault_of fault))
+    → WritesUntilOrRefuses said held holds (Err (report_fault_of fault))
 cut_by said text fault held holds is cut (inl hinders) =
-    subst (λ said. WritesOrRefuses said held holds (Err (report_fault_of fault))) (sym is)
+    subst (λ said. WritesUntilOrRefuses said held holds (Err (report_fault_of fault))) (sym is)
     (cut, hinders)
 cut_by said text fault held holds is cut (inr refused) = absurd (never (sym is ∙ refused))
   where
     never : ◌≡◌ {A = Result (List ℕ) LedgerFault} (Ok text) (Err fault) → ⊥
     never same = cc
+
+-- what was written is a prefix in any case
+until_or_refuses : (said : Result (List ℕ) LedgerFault) (held holds : Option (List ℕ))
+    (result : Result (Unit {0}) ReportFault) → WritesUntilOrRefuses said held holds result
+    → WritesOrRefuses said held holds result
+until_or_refuses (Ok text) held holds (Ok done) it = it
+until_or_refuses (Ok text) held holds (Err fault) it = ((it.0.0, it.0.2), it.1)
+until_or_refuses (Err refused) held holds result it = it
+
+pub until_written : (answer : Naming → Book → Result (List ℕ) LedgerFault) (old new : Seen)
+    (held holds : Option (List ℕ)) (result : Result (Unit {0}) ReportFault)
+    → IsTransition old new (WritesAnswerUntil answer old.naming held holds result)
+    → IsTransition old new (WritesAnswer answer old.naming held holds result)
+until_written answer old new held holds result work =
+    work_as old new (WritesAnswerUntil answer old.naming held holds result)
+    (WritesAnswer answer old.naming held holds result)
+    (λ was before events is wrote. record {
+      none = wrote.none;
+      written = until_or_refuses (answer old.naming before) held holds result wrote.written;
+      unread = wrote.unread;
+      reopens = wrote.reopens;
+    })
+    work
 
 module _ {V A : Type 0} {view : V → A} {outcome : Book → Outcome A} {old new : Seen} {value : V}
     (reading : IsReading outcome) (call : IsCall view old new (Ok value) outcome)
@@ -72,16 +101,16 @@ module _ {V A : Type 0} {view : V → A} {outcome : Book → Outcome A} {old new
   where
     -- a call answered this, and so much of the text was written
     pub answer_written : ((book : Book) → (outcome book).answer ≡ Ok (view value)
-        → (text : List ℕ) × (answer old.naming book ≡ Ok text) × WritesPrefix text held holds result)
-        → IsTransition old new (WritesAnswer answer old.naming held holds result)
+        → (text : List ℕ) × (answer old.naming book ≡ Ok text) × WritesUntil text held holds result)
+        → IsTransition old new (WritesAnswerUntil answer old.naming held holds result)
     answer_written writes =
         work_as old new (Calls view outcome (Ok value))
-        (WritesAnswer answer old.naming held holds result)
+        (WritesAnswerUntil answer old.naming held holds result)
         (λ was before events is called.
         let it = writes before called.makes.0 in
         record {
           none = called.makes.1 ∙ ap listed (reading before);
-          written = subst (λ said. WritesOrRefuses said held holds result) (sym it.1)
+          written = subst (λ said. WritesUntilOrRefuses said held holds result) (sym it.1)
               (it.2, unrefused_hinders result plain);
           unread = was_open was called.reopens.reopen;
           reopens = reopens_alike (Ok value) (refusal_in result) was is
@@ -95,18 +124,20 @@ module _ {V A : Type 0} {view : V → A} {outcome : Book → Outcome A} {old new
     (answer : Naming → Book → Result (List ℕ) LedgerFault) (held : Option (List ℕ))
   where
     -- the first call was refused, and nothing was written
-    pub answer_unread : ((book : Book) → IsRefusedBy fault (outcome book).answer
+    pub answer_unread : ((book : Book) → HasBytes (answer old.naming book))
+        → ((book : Book) → IsRefusedBy fault (outcome book).answer
         → IsRefusedBy fault (answer old.naming book))
         → IsTransition old new
-        (WritesAnswer answer old.naming held held (Err (report_fault_of fault)))
-    answer_unread refuses =
+        (WritesAnswerUntil answer old.naming held held (Err (report_fault_of fault)))
+    answer_unread some refuses =
         work_as old new (Calls view outcome (Err fault))
-        (WritesAnswer answer old.naming held held (Err (report_fault_of fault)))
+        (WritesAnswerUntil answer old.naming held held (Err (report_fault_of fault)))
         (λ was before events is called.
         let said = refused_by view (outcome before) fault events (reading before) called.makes in
         record {
           none = said.0;
-          written = unwritten (answer old.naming before) fault held (refuses before said.1);
+          written = unwritten (answer old.naming before) fault held (some before)
+              (refuses before said.1);
           unread = λ reopen. refl;
           reopens = reopens_alike (Err fault) (refusal_in (Err (report_fault_of fault))) was is
               (alike_refusal fault) called.reopens;
@@ -122,13 +153,13 @@ module _ {V A W B : Type 0} {view : V → A} {outcome : Book → Outcome A} {sho
     -- calls were answered, and the next was refused: all are of one book
     pub answer_refused : ((book : Book) → (outcome book).answer ≡ Ok (view value)
         → IsRefusedBy fault (other book).answer
-        → WritesOrRefuses (answer old.naming book) held holds (Err (report_fault_of fault)))
+        → WritesUntilOrRefuses (answer old.naming book) held holds (Err (report_fault_of fault)))
         → IsTransition old new
-        (WritesAnswer answer old.naming held holds (Err (report_fault_of fault)))
+        (WritesAnswerUntil answer old.naming held holds (Err (report_fault_of fault)))
     answer_refused writes =
         work_as old new
         (Then (Calls view outcome (Ok value)) (Calls show other (Err fault)))
-        (WritesAnswer answer old.naming held holds (Err (report_fault_of fault)))
+        (WritesAnswerUntil answer old.naming held holds (Err (report_fault_of fault)))
         (λ was before events is both.
         let middle = after_all both.early before in
         let late = refused_by show (other middle) fault both.late (quiet middle) both.next.makes in

@@ -1,6 +1,6 @@
 -- The text of details, which is written as they are read.
-use Rattle.std.proofs.Common.{◌≡◌, ◌∙◌, ℕ, ◌+◌, ℤ, true, List, [], ◌∷◌, ◌++◌, take, drop}
-use Rattle.std.proofs.Common.{refl, sym, ap, subst, append_assoc, append-nil, length-append}
+use Rattle.std.proofs.Common.{◌≡◌, ◌∙◌, ℕ, ◌+◌, ◌<◌, ℤ, true, List, [], ◌∷◌, ◌++◌, length, take, drop}
+use Rattle.std.proofs.Common.{refl, sym, ap, subst, append_assoc, append-nil, length-append, arith}
 use Rattle.std.proofs.Common.{Option, Some, None, Result, Ok, Err, inl, inr}
 use Rattle.std.specs.Prelude.{IfErr, flat_map}
 use Rattle.std.specs.Io.KnownBytes.{Appends}
@@ -14,7 +14,10 @@ use Rattle.book_model.specs.Words.{Book, Naming, next_after, next_detail_outcome
 use Rattle.book_core.specs.Ledgers.{Seen}
 use Rattle.book_core.specs.Calls.{IsCall}
 use Rattle.book_core.specs.Transition.{IsTransition}
+use Rattle.report_texts.specs.DetailLists.{detail_line}
 use Rattle.report_texts.specs.DetailTables.{detail_row, details_heading}
+use Rattle.report_texts.specs.Periods.{title_line}
+use Rattle.report_texts.specs.Tables.{fields_line}
 use Rattle.book_reports.specs.declared.fault.ReportFault.{ReportFault}
 use Rattle.book_reports.specs.declared.streamed_details.DetailReport.{DetailReport}
 use Rattle.book_reports.specs.declared.streamed_details.Sums.{Sums}
@@ -22,18 +25,20 @@ use Rattle.book_reports.specs.declared.what_if.StatementForm.{StatementForm}
 use Rattle.book_reports.specs.declared.what_if.StatementForm.TheVariants as form
 use Rattle.book_reports.specs.BookTexts.{closed_through, closed_through_outcome, shown_by}
 use Rattle.book_reports.specs.Faults.{report_fault_of}
-use Rattle.book_reports.specs.StreamedAnswers.{WritesAnswer}
+use Rattle.book_reports.specs.StreamedAnswers.{WritesAnswerUntil}
 use Rattle.book_reports.specs.StreamedDetails.{WritesSomeDetails, detail_answer, details_end}
 use Rattle.book_reports.specs.StreamedDetails.{details_head, details_part, details_text, end_in}
 use Rattle.book_reports.specs.StreamedDetails.{head_in, part_in, sums_of, text_in, with_detail}
 use Rattle.book_reports.specs.StreamedRulings.{WritesFirst}
-use Rattle.book_reports.specs.Writing.{WritesPrefix, is_write_or_memory}
-use Rattle.book_reports.proofs.AnsweringLemmas.{IsRefusedBy, answer_refused, answer_unread}
+use Rattle.book_reports.specs.Writing.{WritesPrefix, WritesUntil, is_write_or_memory}
+use Rattle.book_reports.proofs.AnsweringLemmas.{HasBytes, IsRefusedBy, answer_refused, answer_unread}
 use Rattle.book_reports.proofs.AnsweringLemmas.{answer_written, cut_by, unwritten}
 use Rattle.book_reports.proofs.DetailReading.{HasRead, Reads, all_details, first_details, first_read}
 use Rattle.book_reports.proofs.DetailReading.{next_shown, one_more_read, read_and, reads, refused_back}
+use Rattle.book_reports.proofs.DetailReading.{shown_back}
 use Rattle.book_reports.proofs.RulingReading.{all_taken, next_taken}
-use Rattle.book_reports.proofs.StreamedLemmas.{is_prefix, none_written, rest_written, then_written}
+use Rattle.book_reports.proofs.StreamedLemmas.{is_prefix, is_short, none_written, rest_until}
+use Rattle.book_reports.proofs.StreamedLemmas.{rest_written, some_before, then_written}
 use Rattle.book_reports.proofs.StreamedLemmas.{written_as, written_of_more}
 
 -- ---- texts
@@ -47,6 +52,23 @@ sums_more read detail = λ i. record {
   blocks = sym (sum_by_push (λ (one : Detail). one.priced.excp) read detail) i;
   amount = sym (sum_by_push (λ (one : Detail). one.priced.amount) read detail) i;
 }
+
+-- each line has bytes
+part_in_some : (shape : StatementForm) (report : DetailReport) (detail : Detail)
+    → 0 < length (part_in shape report detail)
+unfolding detail_line fields_line
+part_in_some form.Text report detail = simp length-append (omega arith)
+part_in_some form.Table report detail = simp length-append (omega arith)
+
+pub part_some : (report : DetailReport) (detail : Detail) → 0 < length (details_part report detail)
+part_some report detail = part_in_some report.form report detail
+
+-- so has what stands above them
+head_in_some : (shape : StatementForm) (report : DetailReport) (through : Option ℤ)
+    → 0 < length (head_in shape report through)
+unfolding title_line details_heading
+head_in_some form.Text report through = simp length-append (omega arith)
+head_in_some form.Table report through = simp length-append (omega arith)
 
 -- the parts are the text
 whole_in : (shape : StatementForm) (report : DetailReport) (through : Option ℤ)
@@ -63,7 +85,7 @@ module _ (report : DetailReport) (through : Option ℤ) where
   abbrev pub so_far : List Detail → List ℕ
   so_far read = details_head report through ++ flat_map (details_part report) read
 
-  whole_text : (details : List Detail)
+  pub whole_text : (details : List Detail)
       → so_far details ++ details_end report (sums_of details)
       ≡ details_text report through details
   whole_text details = whole_in report.form report through details
@@ -77,7 +99,7 @@ module _ (report : DetailReport) (through : Option ℤ) where
       (sym (flat_map-append (details_part report) read rest))
 
   -- one line more
-  so_far_with : (read : List Detail) (detail : Detail)
+  pub so_far_with : (read : List Detail) (detail : Detail)
       → so_far read ++ details_part report detail ≡ so_far (read ++ detail ∷ [])
   so_far_with read detail =
       ap (λ line. so_far read ++ line) (sym (append-nil (details_part report detail)))
@@ -102,9 +124,12 @@ module _ (report : DetailReport) (through : Option ℤ) where
   cut_before : (all : List Detail) (count : ℕ) (read : List Detail) (left : List ℕ)
       (held holds : Option (List ℕ)) → take count all ≡ read
       → WritesFirst (so_far read) left held holds
-      → (prefix : ℕ) × Appends held holds (take prefix (details_text report through all))
-  cut_before all count read left held holds is written =
-      is_prefix (details_text report through all) (left ++ behind all count) held holds
+      → 0 < length left
+      → (prefix : ℕ) × (prefix < length (details_text report through all))
+      × Appends held holds (take prefix (details_text report through all))
+  cut_before all count read left held holds is written some =
+      is_short (details_text report through all) (left ++ behind all count) held holds
+      (some_before left (behind all count) some)
       (written_as (so_far read ++ behind all count) (details_text report through all)
       (left ++ behind all count) held holds (text_parts all count read is)
       (written_of_more (so_far read) left (behind all count) held holds written))
@@ -130,6 +155,24 @@ module _ (report : DetailReport) (through : Option ℤ) where
       (rest_written (so_far read ++ end) (waits ++ end) held had has result
       (written_of_more (so_far read) waits end held had lines) flushed)
 
+  pub ended_until : (read : List Detail) (waits : List ℕ) (held had has : Option (List ℕ))
+      (result : Result (Unit {0}) ReportFault) → WritesFirst (so_far read) waits held had
+      → WritesUntil (waits ++ details_end report (sums_of read)) had has result
+      → WritesUntil (details_text report through read) held has result
+  ended_until read waits held had has result lines flushed =
+      let end = details_end report (sums_of read) in
+      subst (λ text. WritesUntil text held has result) (whole_text read)
+      (rest_until (so_far read ++ end) (waits ++ end) held had has result
+      (written_of_more (so_far read) waits end held had lines) flushed)
+
+  -- the text has bytes too
+  text_some : (details : List Detail) → 0 < length (details_text report through details)
+  text_some details =
+      subst (λ text. 0 < length text) (whole_text details)
+      (some_before (so_far details) (details_end report (sums_of details))
+      (some_before (details_head report through) (flat_map (details_part report) details)
+      (head_in_some report.form report through)))
+
   -- the lines so far were written but for what waits, and then of one more line too
   line_written : (read : List Detail) (detail : Detail) (waits left : List ℕ)
       (held had has : Option (List ℕ)) → WritesFirst (so_far read) waits held had
@@ -145,13 +188,21 @@ module _ (report : DetailReport) (through : Option ℤ) where
 -- ---- what the calls did
 
 -- the text is answered where the details are
-text_answered : (report : DetailReport) (naming : Naming) (book : Book) (through : Option ℤ)
+pub text_answered : (report : DetailReport) (naming : Naming) (book : Book) (through : Option ℤ)
     (count : ℕ) (read : List Detail) (next : Option Detail)
     (it : Reads report naming book through count read next)
     → detail_answer report naming book ≡ Ok (details_text report through it.details)
 text_answered report naming book through count read next it =
     ap (shown_by (details_text report (closed_through book report.period))) it.answered
     ∙ ap (λ day. Ok (details_text report day it.details)) it.closed
+
+-- a text that is answered has bytes
+answer_some : (report : DetailReport) (naming : Naming) (book : Book)
+    → HasBytes (detail_answer report naming book)
+answer_some report naming book text is =
+    let through = closed_through book report.period in
+    let it = shown_back (details_text report through) (all_details report naming book) text is in
+    subst (λ text. 0 < length text) it.2 (text_some report through it.0)
 
 -- a refusal of the next detail is one of the text
 refused_alike : (report : DetailReport) (naming : Naming) (last : Option Detail) (book : Book)
@@ -169,9 +220,10 @@ pub none_read : (report : DetailReport) (old new : Seen) (fault : LedgerFault)
     (held : Option (List ℕ))
     → IsCall (λ day. day) old new (Err fault) (closed_through_outcome report.period)
     → IsTransition old new
-    (WritesAnswer (detail_answer report) old.naming held held (Err (report_fault_of fault)))
+    (WritesAnswerUntil (detail_answer report) old.naming held held (Err (report_fault_of fault)))
 none_read report old new fault held call =
     answer_unread (λ book. refl) fault call (detail_answer report) held
+    (answer_some report old.naming)
     (λ book said. elim said [ inl hinders ↦ inl hinders | inr is ↦ absurd (never book is) ])
   where
     never : (book : Book)
@@ -186,14 +238,14 @@ pub first_refused : (report : DetailReport) (old mid new : Seen) (through : Opti
     → IsCall (λ found. found) mid new (Err fault)
     (next_detail_outcome mid.naming report.period report.centre None)
     → IsTransition old new
-    (WritesAnswer (detail_answer report) old.naming held held (Err (report_fault_of fault)))
+    (WritesAnswerUntil (detail_answer report) old.naming held held (Err (report_fault_of fault)))
 first_refused report old mid new through fault held day call =
     answer_refused (λ book. refl) day (λ book. refl) fault
     (subst (λ naming. IsCall (λ found. found) mid new (Err fault)
     (next_detail_outcome naming report.period report.centre None)) day.work.naming call)
     (detail_answer report) held held
     (λ book early said.
-    unwritten (detail_answer report old.naming book) fault held
+    unwritten (detail_answer report old.naming book) fault held (answer_some report old.naming book)
     (refused_alike report old.naming None book fault said))
 
 -- the first detail was read, and nothing is written
@@ -203,7 +255,7 @@ pub text_unbegun : (report : DetailReport) (old mid new : Seen) (through : Optio
     → IsCall (λ day. day) old mid (Ok through) (closed_through_outcome report.period)
     → IsCall (λ found. found) mid new (Ok next)
     (next_detail_outcome mid.naming report.period report.centre None)
-    → IsTransition old new (WritesAnswer (detail_answer report) old.naming held held (Err fault))
+    → IsTransition old new (WritesAnswerUntil (detail_answer report) old.naming held held (Err fault))
 text_unbegun report old mid new through next held fault plain day call =
     answer_written (λ book. refl) (first_read report old mid new through next day call).call
     (detail_answer report) held held (Err fault) plain
@@ -211,7 +263,7 @@ text_unbegun report old mid new through next held fault plain day call =
     let all = reads report old.naming book through 0 [] next is in (
       details_text report through all.details,
       text_answered report old.naming book through 0 [] next all,
-      (0, Appends-nil held),
+      (0, text_some report through all.details, Appends-nil held),
     ))
 
 -- ---- the text, detail by detail
@@ -225,6 +277,7 @@ pub record WritesSoFar (report : DetailReport) (old new : Seen) (next : Option D
   pub far : HasRead report old new through count read next
   pub summed : sums ≡ sums_of read
   pub lines : WritesFirst (so_far report through read) waits held holds
+  pub some : 0 < length waits
 
 -- the first calls were made, and what stands above the details waits
 pub text_begun : (report : DetailReport) (old mid new : Seen) (through : Option ℤ)
@@ -242,6 +295,7 @@ text_begun report old mid new through next waits held is day call = record {
   summed = refl;
   lines = subst (λ text. WritesFirst text waits held held)
       (is ∙ sym (append-nil (details_head report through))) (none_written waits held);
+  some = subst (λ text. 0 < length text) (sym is) (head_in_some report.form report through);
 }
 
 module _ {report : DetailReport} {old mid : Seen} {next : Option Detail} {sums : Sums}
@@ -256,14 +310,15 @@ module _ {report : DetailReport} {old mid : Seen} {next : Option Detail} {sums :
 
     -- it went no further
     pub text_stopped : (fault : ReportFault) → is_write_or_memory fault ≡ true
-        → IsTransition old mid (WritesAnswer (detail_answer report) old.naming held had (Err fault))
+        → IsTransition old mid (WritesAnswerUntil (detail_answer report) old.naming held had (Err fault))
     text_stopped fault plain =
         answer_written (λ book. refl) it.far.call (detail_answer report) held had (Err fault) plain
         (λ book is.
         let all = its_reads book is in (
           details_text report it.through all.details,
           text_answered report old.naming book it.through it.count it.read next all,
-          cut_before report it.through all.details it.count it.read waits held had all.front it.lines,
+          cut_before report it.through all.details it.count it.read waits held had all.front it.lines
+              it.some,
         ))
 
     pub some_stopped : (fault : ReportFault) → WritesSomeDetails report held had (Err fault)
@@ -273,8 +328,8 @@ module _ {report : DetailReport} {old mid : Seen} {next : Option Detail} {sums :
     -- it has ended, and what waits and what stands below was written, or a prefix of that
     pub text_ended : (has : Option (List ℕ)) (result : Result (Unit {0}) ReportFault) → next ≡ None
         → IfErr result (λ fault. is_write_or_memory fault ≡ true)
-        → WritesPrefix (waits ++ details_end report sums) had has result
-        → IsTransition old mid (WritesAnswer (detail_answer report) old.naming held has result)
+        → WritesUntil (waits ++ details_end report sums) had has result
+        → IsTransition old mid (WritesAnswerUntil (detail_answer report) old.naming held has result)
     text_ended has result last plain flushed =
         answer_written (λ book. refl) it.far.call (detail_answer report) held has result plain
         (λ book is.
@@ -283,9 +338,9 @@ module _ {report : DetailReport} {old mid : Seen} {next : Option Detail} {sums :
         sym all.front ∙ all_taken all.details it.count (all.there ∙ last) in (
           details_text report it.through all.details,
           text_answered report old.naming book it.through it.count it.read next all,
-          subst (λ details. WritesPrefix (details_text report it.through details) held has result) same
-              (ended report it.through it.read waits held had has result it.lines
-              (subst (λ sums. WritesPrefix (waits ++ details_end report sums) had has result)
+          subst (λ details. WritesUntil (details_text report it.through details) held has result) same
+              (ended_until report it.through it.read waits held had has result it.lines
+              (subst (λ sums. WritesUntil (waits ++ details_end report sums) had has result)
               it.summed flushed)),
         ))
 
@@ -300,7 +355,7 @@ module _ {report : DetailReport} {old mid : Seen} {next : Option Detail} {sums :
     )
 
     module _ (detail : Detail) (is : next ≡ Some detail) (left : List ℕ) (has : Option (List ℕ))
-        (line : WritesFirst (waits ++ details_part report detail) left had has)
+        (line : WritesFirst (waits ++ details_part report detail) left had has) (some : 0 < length left)
       where
         abbrev more : List Detail
         more = it.read ++ detail ∷ []
@@ -317,7 +372,7 @@ module _ {report : DetailReport} {old mid : Seen} {next : Option Detail} {sums :
         -- a line was not written, or not whole
         pub text_cut : (fault : ReportFault) → is_write_or_memory fault ≡ true
             → IsTransition old mid
-            (WritesAnswer (detail_answer report) old.naming held has (Err fault))
+            (WritesAnswerUntil (detail_answer report) old.naming held has (Err fault))
         text_cut fault plain =
             answer_written (λ book. refl) it.far.call (detail_answer report) held has (Err fault)
             plain
@@ -326,7 +381,7 @@ module _ {report : DetailReport} {old mid : Seen} {next : Option Detail} {sums :
               details_text report it.through all.details,
               text_answered report old.naming book it.through it.count it.read next all,
               cut_before report it.through all.details (it.count + 1) more left held has
-                  (more_front book all) more_lines,
+                  (more_front book all) more_lines some,
             ))
 
         pub some_cut : (fault : ReportFault) → WritesSomeDetails report held has (Err fault)
@@ -338,7 +393,7 @@ module _ {report : DetailReport} {old mid : Seen} {next : Option Detail} {sums :
             → IsCall (λ found. found) mid new (Err fault)
             (next_detail_outcome mid.naming report.period report.centre (Some detail))
             → IsTransition old new
-            (WritesAnswer (detail_answer report) old.naming held has (Err (report_fault_of fault)))
+            (WritesAnswerUntil (detail_answer report) old.naming held has (Err (report_fault_of fault)))
         text_refused new fault call =
             answer_refused (λ book. refl) it.far.call (λ book. refl) fault
             (subst (λ naming. IsCall (λ found. found) mid new (Err fault)
@@ -351,7 +406,7 @@ module _ {report : DetailReport} {old mid : Seen} {next : Option Detail} {sums :
             fault held has
             (text_answered report old.naming book it.through it.count it.read next all)
             (cut_before report it.through all.details (it.count + 1) more left held has
-            (more_front book all) more_lines)
+            (more_front book all) more_lines some)
             (refused_alike report old.naming (Some detail) book fault said))
 
         -- or it goes on
@@ -369,4 +424,5 @@ module _ {report : DetailReport} {old mid : Seen} {next : Option Detail} {sums :
           summed = counted ∙ ap (λ sums. with_detail sums detail) it.summed
               ∙ sums_more it.read detail;
           lines = more_lines;
+          some = some;
         }

@@ -151,46 +151,49 @@ none_more_of old mid new total count read from far call = record {
       (dispute_outcome naming from)) far.call.work.naming call);
 }
 
--- ---- how many there are
+-- ---- what they come to
 
--- no more are left: so many there are
-pub all_counted : (old new : Seen) (count : ℕ) (read : List Disputed)
-    → HasRead old new count read None → length read ≡ count
-    → IsCall (λ count. count) old new (Ok count) (dispute_count_outcome old.naming)
-all_counted old new count read far many =
-    read_as (λ book. refl) (λ book. refl) (record { reopen = refl; store = refl })
-    (λ book is.
-    let all = all_of old.naming book in
-    let parts = both_parts (take count all) read (slice_get all count) None is in
-    ap Ok (ap length (sym (all_taken all count parts.1) ∙ parts.0) ∙ many))
-    far.call
+module _ {V A : Type 0} (view : V → A) (sum : List Disputed → A) where
+  -- what all disputes of a book come to
+  abbrev pub sum_of_all : Naming → Book → Outcome A
+  sum_of_all naming book = no_event (Ok (sum (all_of naming book)))
 
--- memory ran out after some were read
-pub count_stopped : (old new : Seen) (count : ℕ) (read : List Disputed) (next : Option Dispute)
-    (result : Result ℕ LedgerFault) → result ≡ Err Memory → HasRead old new count read next
-    → IsCall (λ count. count) old new result (dispute_count_outcome old.naming)
-count_stopped old new count read next result is far =
-    subst (λ result. IsCall (λ count. count) old new result (dispute_count_outcome old.naming))
-    (sym is)
-    (read_as (λ book. refl) (λ book. refl) (record { reopen = refl; store = refl })
-    (λ book said. tt) far.call)
+  -- no more are left: that is what they come to
+  pub all_summed : (old new : Seen) (count : ℕ) (read : List Disputed) (value : V)
+      → HasRead old new count read None → sum read ≡ view value
+      → IsCall view old new (Ok value) (sum_of_all old.naming)
+  all_summed old new count read value far summed =
+      read_as (λ book. refl) (λ book. refl) (record { reopen = refl; store = refl })
+      (λ book is.
+      let all = all_of old.naming book in
+      let parts = both_parts (take count all) read (slice_get all count) None is in
+      ap Ok (ap sum (sym (all_taken all count parts.1) ∙ parts.0) ∙ summed))
+      far.call
 
--- the ledger refused the next call
-pub count_refused : (old mid new : Seen) (count : ℕ) (read : List Disputed) (next : Option Dispute)
-    (from : List ℕ) (fault : LedgerFault) → HasRead old mid count read next
-    → IsCall (option_map dispute_shown) mid new (Err fault) (dispute_outcome mid.naming from)
-    → IsCall (λ count. count) old new (Err fault) (dispute_count_outcome old.naming)
-count_refused old mid new count read next from fault far call =
-    read_then (λ book. refl) (λ book. refl) (λ book. refl) (fault_alike fault)
-    (λ book early. fault_tells (option_map dispute_shown) (λ count. count) fault (λ never. cc))
-    far.call
-    (subst (λ naming. IsCall (option_map dispute_shown) mid new (Err fault)
-    (dispute_outcome naming from)) far.call.work.naming call)
+  -- memory ran out after some were read
+  pub sum_stopped : (old new : Seen) (count : ℕ) (read : List Disputed) (next : Option Dispute)
+      → HasRead old new count read next
+      → IsCall view old new (Err Memory) (sum_of_all old.naming)
+  sum_stopped old new count read next far =
+      read_as (λ book. refl) (λ book. refl) (record { reopen = refl; store = refl })
+      (λ book said. tt) far.call
 
--- or the first
-pub count_unread : (old new : Seen) (fault : LedgerFault)
-    → IsCall (option_map dispute_shown) old new (Err fault) (dispute_outcome old.naming [])
-    → IsCall (λ count. count) old new (Err fault) (dispute_count_outcome old.naming)
-count_unread old new fault call =
-    read_as (λ book. refl) (λ book. refl) (fault_alike fault)
-    (λ book. fault_tells (option_map dispute_shown) (λ count. count) fault (λ never. cc)) call
+  -- the ledger refused the next call
+  pub sum_refused : (old mid new : Seen) (count : ℕ) (read : List Disputed) (next : Option Dispute)
+      (from : List ℕ) (fault : LedgerFault) → HasRead old mid count read next
+      → IsCall (option_map dispute_shown) mid new (Err fault) (dispute_outcome mid.naming from)
+      → IsCall view old new (Err fault) (sum_of_all old.naming)
+  sum_refused old mid new count read next from fault far call =
+      read_then (λ book. refl) (λ book. refl) (λ book. refl) (fault_alike fault)
+      (λ book early. fault_tells (option_map dispute_shown) view fault (λ never. cc))
+      far.call
+      (subst (λ naming. IsCall (option_map dispute_shown) mid new (Err fault)
+      (dispute_outcome naming from)) far.call.work.naming call)
+
+  -- or the first
+  pub sum_unread : (old new : Seen) (fault : LedgerFault)
+      → IsCall (option_map dispute_shown) old new (Err fault) (dispute_outcome old.naming [])
+      → IsCall view old new (Err fault) (sum_of_all old.naming)
+  sum_unread old new fault call =
+      read_as (λ book. refl) (λ book. refl) (fault_alike fault)
+      (λ book. fault_tells (option_map dispute_shown) view fault (λ never. cc)) call

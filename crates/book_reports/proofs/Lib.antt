@@ -13,7 +13,14 @@ pub mod DisputeLemmas
 pub mod AnsweringLemmas
 pub mod DetailReading
 pub mod DetailLemmas
+pub mod DetailLengths
 pub mod TariffLemmas
 pub mod WhatIfLemmas
 pub mod FigureLemmas
 pub mod RecordNameLemmas
+pub mod ShownLemmas
+pub mod WorkLemmas
+pub mod BillLineLemmas
+pub mod HeldLemmas
+pub mod KeptTariffLemmas
+pub mod BillLemmas

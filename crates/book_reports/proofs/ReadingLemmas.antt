@@ -23,7 +23,7 @@ Tells view (Err Reopen) answer = Unit {0}
 Tells view (Err fault) answer = answer ≡ Err fault
 
 -- a call that reads makes no event
-told : {V A : Type 0} (view : V → A) (outcome : Outcome A) (result : Result V LedgerFault)
+pub told : {V A : Type 0} (view : V → A) (outcome : Outcome A) (result : Result V LedgerFault)
     (events : List Event) → outcome.event ≡ None → Makes view outcome result events
     → (events ≡ []) × Tells view result outcome.answer
 told view outcome (Ok value) events none makes = (makes.1 ∙ ap listed none, makes.0)
@@ -34,7 +34,7 @@ told view outcome (Err Reopen) events none makes = (makes, tt)
 told view outcome (Err fault) events none makes = (makes.1, makes.0)
 
 -- and is made from what it shows
-made : {V A : Type 0} (view : V → A) (outcome : Outcome A) (result : Result V LedgerFault)
+pub made : {V A : Type 0} (view : V → A) (outcome : Outcome A) (result : Result V LedgerFault)
     (events : List Event) → outcome.event ≡ None → events ≡ []
     → Tells view result outcome.answer → Makes view outcome result events
 made view outcome (Ok value) events none no_events tells =

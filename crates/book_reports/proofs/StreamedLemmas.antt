@@ -1,13 +1,14 @@
 -- Texts that are written in part.
-use Rattle.std.proofs.Common.{◌≡◌, ◌∙◌, ℕ, List, [], ◌++◌, length, take, drop}
-use Rattle.std.proofs.Common.{refl, sym, ap, subst, append_assoc, Option, Result, Ok, Err}
+use Rattle.std.proofs.Common.{◌≡◌, ◌∙◌, ℕ, ◌<◌, ◌-◌, List, [], ◌++◌, length, take, drop, arith}
+use Rattle.std.proofs.Common.{refl, sym, ap, subst, append_assoc, length-append, length-drop, Option}
+use Rattle.std.proofs.Common.{Result, Ok, Err}
 use Rattle.std.proofs.lemmas.List.{take-append-drop}
 use Rattle.std.proofs.Math.Seq.{take-append_seam}
 use Rattle.std.specs.Io.KnownBytes.{Appends}
 use Rattle.std.proofs.KnownBytes.{Appends-nil, Appends-trans}
 use Rattle.book_reports.specs.declared.fault.ReportFault.{ReportFault}
 use Rattle.book_reports.specs.StreamedRulings.{WritesFirst}
-use Rattle.book_reports.specs.Writing.{WritesPrefix}
+use Rattle.book_reports.specs.Writing.{WritesPrefix, WritesUntil}
 
 -- nothing was written
 pub none_written : (text : List ℕ) (held : Option (List ℕ)) → WritesFirst text text held held
@@ -66,3 +67,41 @@ rest_written text rest held had has (Ok done) written grown =
 rest_written text rest held had has (Err fault) written cut =
     let part = first_written rest cut.0 had has cut.1 in
     is_prefix text part.0 held has (then_written text rest part.0 held had has written part.1)
+
+-- ---- what was not written is not empty
+
+pub some_behind : (first next : List ℕ) → 0 < length next → 0 < length (first ++ next)
+some_behind first next some = rw length-append (omega arith)
+
+pub some_before : (first next : List ℕ) → 0 < length first → 0 < length (first ++ next)
+some_before first next some = rw length-append (omega arith)
+
+some_dropped : (count : ℕ) (text : List ℕ) → count < length text → 0 < length (drop count text)
+some_dropped count text few = rw length-drop (omega arith)
+
+-- then what was written is not the whole text
+pub is_short : (text left : List ℕ) (held holds : Option (List ℕ)) → 0 < length left
+    → WritesFirst text left held holds
+    → (count : ℕ) × (count < length text) × Appends held holds (take count text)
+is_short text left held holds some written =
+    let long : length written.first < length (written.first ++ left) =
+    rw length-append (omega arith) in (
+      length written.first,
+      subst (λ text. length written.first < length text) (sym written.parts) long,
+      subst (Appends held holds)
+          (sym (ap (take (length written.first)) written.parts
+          ∙ take-append_seam written.first left)) written.grown,
+    )
+
+-- the rest of a text was written, or a prefix of the rest that is not all of it
+pub rest_until : {A : Type 0} (text rest : List ℕ) (held had has : Option (List ℕ))
+    (result : Result A ReportFault) → WritesFirst text rest held had
+    → WritesUntil rest had has result → WritesUntil text held has result
+unfolding first_written
+rest_until text rest held had has (Ok done) written grown =
+    subst (Appends held has) (sym written.parts)
+    (Appends-trans held had has written.first rest written.grown grown)
+rest_until text rest held had has (Err fault) written cut =
+    let part = first_written rest cut.0 had has cut.2 in
+    is_short text part.0 held has (some_dropped cut.0 rest cut.1)
+    (then_written text rest part.0 held had has written part.1)

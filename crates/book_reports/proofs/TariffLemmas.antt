@@ -27,16 +27,16 @@ use Rattle.book_reports.proofs.RulingReading.{HasRead, all_taken, first_read, ne
 use Rattle.book_reports.proofs.RulingReading.{one_more_read, read_parts}
 
 -- a ruling is a tariff
-abbrev IsTariff : RulingSeen → Type 0
+abbrev pub IsTariff : RulingSeen → Type 0
 IsTariff (TariffSeen day text) = Unit {0}
 IsTariff other = ⊥
 
 -- so is each of these
-abbrev AreTariffs : List RulingSeen → Type 0
+abbrev pub AreTariffs : List RulingSeen → Type 0
 AreTariffs [] = Unit {0}
 AreTariffs (ruling ∷ later) = IsTariff ruling × AreTariffs later
 
-are_tariffs : (tariffs : List AcceptedTerms) → AreTariffs (tariffs_seen tariffs)
+pub are_tariffs : (tariffs : List AcceptedTerms) → AreTariffs (tariffs_seen tariffs)
 are_tariffs [] = tt
 are_tariffs (tariff ∷ later) = by tariff.text (are_tariffs later)
   where
@@ -66,7 +66,7 @@ is_false true never = absurd (never refl)
 is_false false never = refl
 
 -- a ruling that is the tariff of no day is none
-no_tariff : (found : RulingSeen) → ((day : ℤ) → text_on day found ≡ None) → IsTariff found → ⊥
+pub no_tariff : (found : RulingSeen) → ((day : ℤ) → text_on day found ≡ None) → IsTariff found → ⊥
 no_tariff (TariffSeen day text) none is =
     let same = (Decides-int_eq day day).1 refl in
     cc (none day, ap (λ (same : Bool). if same then Some text else None) same)

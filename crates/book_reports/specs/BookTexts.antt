@@ -1,5 +1,5 @@
 -- The texts about books: each is read from a book, which is no event.
-use Rattle.std.specs.Prelude.{◌≡◌, ℕ, ◌-◌, ℤ, if◌then◌else◌, List, slice_get, Option, Some, None, Result}
+use Rattle.std.specs.Prelude.{◌≡◌, ℕ, if◌then◌else◌, List, Option, Some, None, Result}
 use Rattle.std.specs.Prelude.{Ok, Err, IfOk, IfErr}
 use Rattle.std.specs.Option.{ok_or}
 use Rattle.std.specs.Result.{MatchResult}
@@ -31,19 +31,9 @@ use Rattle.book_reports.specs.declared.report.Report.TheVariants.{AdjustmentList
 use Rattle.book_reports.specs.declared.report.Report.TheVariants.{DisputeList, DisputeTable}
 use Rattle.book_reports.specs.declared.report.Report.TheVariants.{OfCentre, PeriodList}
 use Rattle.book_reports.specs.declared.report.Report.TheVariants.{Record, RulingList, TariffText}
-
--- the answer with its value shown; a refusal stays one
-abbrev pub shown_by : {V A : Type 0} → (V → A) → Result V LedgerFault → Result A LedgerFault
-shown_by show (Ok value) = Ok (show value)
-shown_by show (Err fault) = Err fault
-
--- the day that a period was closed through, if it is closed
-abbrev pub closed_through : Book → ℕ → Option ℤ
-closed_through book period = slice_get book.rulings.closes (period - 1)
-
--- that day, as a ledger is asked for it
-abbrev pub closed_through_outcome : ℕ → Book → Outcome (Option ℤ)
-closed_through_outcome period book = no_event (Ok (closed_through book period))
+use Rattle.book_reports.specs.declared.report.Report.TheVariants.{Bill}
+use Rattle.book_reports.specs.Bills.{bill_answer}
+pub use Rattle.book_reports.specs.Shown.{closed_through, closed_through_outcome, shown_by}
 
 -- what a period has of the whole office
 abbrev pub report_of_all : PeriodReport → ℕ → Report
@@ -96,6 +86,7 @@ report_answer naming RulingList book = Ok (ruling_text naming book)
 report_answer naming (TariffText day) book = ok_or (tariff_text_on day book.rulings) NoSuchTariff
 report_answer naming (Record name) book =
     shown_by (record_text name) (trail_outcome naming name book).answer
+report_answer naming (Bill form period centre) book = bill_answer naming form period centre book
 
 -- what a ledger is asked about one centre
 abbrev pub centre_outcome : Naming → PeriodReport → ℕ → List ℕ → Book → Outcome (List ℕ)

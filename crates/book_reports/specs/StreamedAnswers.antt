@@ -6,7 +6,7 @@ use Rattle.book_core.specs.Calls.{Reopens}
 use Rattle.book_reports.specs.declared.fault.ReportFault.{ReportFault}
 use Rattle.book_reports.specs.declared.fault.ReportFault.TheVariants.{Ledger}
 use Rattle.book_reports.specs.StreamedRulings.{is_hindrance, refusal_in}
-use Rattle.book_reports.specs.Writing.{WritesPrefix}
+use Rattle.book_reports.specs.Writing.{WritesPrefix, WritesUntil}
 
 -- The text was written, or a prefix of it before a fault that may hinder any report. Or the books
 -- refused it, or were hindered before, and nothing was written.
@@ -25,6 +25,23 @@ pub record WritesAnswer (answer : Naming → Book → Result (List ℕ) LedgerFa
     (before : Book) (events : List Event) (is : Bool) : Type 0 where
   pub none : events ≡ []
   pub written : WritesOrRefuses (answer naming before) held holds result
+  pub unread : was ≡ true → holds ≡ held
+  pub reopens : Reopens (refusal_in result) was is
+
+-- The same, where a prefix that was written is not the whole.
+abbrev pub WritesUntilOrRefuses : Result (List ℕ) LedgerFault → Option (List ℕ) → Option (List ℕ)
+    → Result (Unit {0}) ReportFault → Type 0
+WritesUntilOrRefuses (Ok text) held holds result =
+    WritesUntil text held holds result × IfErr result (λ fault. is_hindrance fault ≡ true)
+WritesUntilOrRefuses (Err refused) held holds result =
+    (holds ≡ held)
+    × IsErrAnd result (λ fault. (fault ≡ Ledger refused) ⊎ (is_hindrance fault ≡ true))
+
+pub record WritesAnswerUntil (answer : Naming → Book → Result (List ℕ) LedgerFault)
+    (naming : Naming) (held holds : Option (List ℕ)) (result : Result (Unit {0}) ReportFault)
+    (was : Bool) (before : Book) (events : List Event) (is : Bool) : Type 0 where
+  pub none : events ≡ []
+  pub written : WritesUntilOrRefuses (answer naming before) held holds result
   pub unread : was ≡ true → holds ≡ held
   pub reopens : Reopens (refusal_in result) was is
 

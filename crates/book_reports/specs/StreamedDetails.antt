@@ -3,7 +3,7 @@
 use Rattle.std.specs.Prelude.{ℕ, ◌+◌, List, [], length, sum_by, Option, Result, ℤ}
 use Rattle.book_model.specs.declared.detail.Detail.{Detail}
 use Rattle.book_model.specs.declared.fault.LedgerFault.{LedgerFault}
-use Rattle.book_model.specs.Words.{Book, Naming, details_outcome}
+use Rattle.book_model.specs.Words.{Book, Naming, Outcome, details_outcome, no_event}
 use Rattle.report_texts.specs.DetailLists.{detail_head, detail_line, detail_list_text, detail_total}
 use Rattle.report_texts.specs.DetailTables.{detail_row, detail_table, details_heading}
 use Rattle.book_reports.specs.declared.fault.ReportFault.{ReportFault}
@@ -70,6 +70,13 @@ abbrev pub detail_answer : DetailReport → Naming → Book → Result (List ℕ
 detail_answer report naming book =
     shown_by (details_text report (closed_through book report.period))
     (details_outcome naming report.period report.centre book).answer
+
+-- the same as one call of a ledger, and how many bytes that text has
+abbrev pub detail_text_outcome : DetailReport → Naming → Book → Outcome (List ℕ)
+detail_text_outcome report naming book = no_event (detail_answer report naming book)
+
+abbrev pub detail_length_outcome : DetailReport → Naming → Book → Outcome ℕ
+detail_length_outcome report naming book = no_event (shown_by length (detail_answer report naming book))
 
 -- whatever the book is, what was written is the text of some details, or a prefix of one
 abbrev pub WritesSomeDetails : DetailReport → Option (List ℕ) → Option (List ℕ)

@@ -1,5 +1,6 @@
 -- A text that is written while it is made; and the list of a ledger's rulings, which is written so.
-use Rattle.std.specs.Prelude.{◌≡◌, Bool, true, false, ℕ, List, [], ◌++◌, Option, IfErr, Result, Ok, Err}
+use Rattle.std.specs.Prelude.{◌≡◌, ◌<◌, Bool, true, false, ℕ, List, [], ◌++◌, length, Option, IfErr}
+use Rattle.std.specs.Prelude.{Result, Ok, Err}
 use Rattle.std.specs.Io.KnownBytes.{Appends}
 use Rattle.book_model.specs.declared.fault.LedgerFault.{LedgerFault}
 use Rattle.book_model.specs.declared.fault.LedgerFault.TheVariants as ledger
@@ -23,6 +24,13 @@ abbrev pub WritesAllBut : List ℕ → List ℕ → Option (List ℕ) → Option
     → Result (Unit {0}) ReportFault → Type 0
 WritesAllBut text rest held holds (Ok done) = WritesFirst text rest held holds
 WritesAllBut text rest held holds (Err fault) = (left : List ℕ) × WritesFirst text left held holds
+
+-- and something was not: this rest, or, before a fault, some rest
+abbrev pub LeavesSome : List ℕ → List ℕ → Option (List ℕ) → Option (List ℕ)
+    → Result (Unit {0}) ReportFault → Type 0
+LeavesSome text rest held holds (Ok done) = 0 < length rest
+LeavesSome text rest held holds (Err fault) =
+    (left : List ℕ) × (0 < length left) × WritesFirst text left held holds
 
 -- what the ledger answered at the end of a report: that it refused a call, or nothing of the kind
 abbrev pub refusal_in : Result (Unit {0}) ReportFault → Result (Unit {0}) LedgerFault

@@ -32,6 +32,13 @@ abbrev pub WritesPrefix :
 WritesPrefix text held holds (Ok value) = Appends held holds text
 WritesPrefix text held holds (Err fault) = (count : ℕ) × Appends held holds (take count text)
 
+-- The same, where the prefix is not the whole.
+abbrev pub WritesUntil :
+    {A : Type 0} → List ℕ → Option (List ℕ) → Option (List ℕ) → Result A ReportFault → Type 0
+WritesUntil text held holds (Ok value) = Appends held holds text
+WritesUntil text held holds (Err fault) =
+    (count : ℕ) × (count < length text) × Appends held holds (take count text)
+
 -- the fault is that of the writer
 abbrev pub is_write_fault : {A : Type 0} → Result A ReportFault → Bool
 is_write_fault (Err Write) = true

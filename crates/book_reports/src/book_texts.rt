@@ -7,6 +7,7 @@ ghost use Rattle.book_model.specs.Words.{IsDay};
 ghost use Rattle.book_core.specs.Calls.{IsCall};
 ghost use Rattle.book_reports.specs.BookTexts as spec;
 
+use crate::bills::bill_report;
 use crate::report::{PeriodReport, Report};
 use crate::ruling_texts::{ruling_list, tariff_text};
 use book_core::{Ledger, LedgerFault};
@@ -132,5 +133,10 @@ pub fn report_text<L: Ledger>(
             ledger.trail_of(alloc, &name),
             |trail| Ok(record_text(alloc, &name, trail)?.into_bytes()),
         ),
+        Report::Bill {
+            form,
+            period,
+            centre,
+        } => bill_report(alloc, ledger, form, period, centre),
     }
 }

@@ -2,11 +2,18 @@
 //! what a writer gains from them.
 #![tactic(auto)]
 
+mod bill_lines;
+mod bill_tariffs;
+mod bill_work;
+mod bills;
 mod book_texts;
 mod check_lists;
+mod detail_lengths;
 mod fault;
 mod figures;
+mod held_back;
 mod output;
+mod period_days;
 mod receipt_lines;
 mod record_names;
 mod report;
@@ -20,6 +27,7 @@ mod what_if;
 
 pub use book_texts::report_text;
 pub use check_lists::{push_last_line, push_record_line};
+pub use detail_lengths::details_length;
 pub use fault::ReportFault;
 pub use figures::{OpenPeriod, open_period, period_figures, rows_of_period};
 pub use output::{write_bytes, write_text};

@@ -3,6 +3,7 @@
 ghost use Rattle.std.specs.Prelude.{◌≡◌};
 ghost use Rattle.book_reports.specs.BookTexts as spec;
 
+use crate::what_if::StatementForm;
 use smf_text::Name;
 
 /// What a period has of the whole office, and of each centre.
@@ -47,6 +48,12 @@ pub enum Report {
     TariffText(i32),
     /// What stands behind the price of the record of a name, and what became of the record.
     Record([u8; 32]),
+    /// The bill of a period: of one centre, or where none is named what each centre owes.
+    Bill {
+        form: StatementForm,
+        period: u16,
+        centre: Option<Name>,
+    },
 }
 
 /// What a period has of the whole office.

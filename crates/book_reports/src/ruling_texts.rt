@@ -35,7 +35,7 @@ pub(crate) fn ruling_list<L: Ledger>(alloc: Global, ledger: &mut L) -> Result<Ve
 }
 
 /// The first day and the text of a tariff, if the ruling is one.
-fn tariff_in(ruling: Option<ListedRuling>) -> Option<(i32, String)>
+pub(crate) fn tariff_in(ruling: Option<ListedRuling>) -> Option<(i32, String)>
     ensures tariff { IfSome result (λ found. option_map ruling_shown ruling
         ≡ Some (TariffSeen found.0 (string_bytes found.1))) }
     ensures other { IfNone result ((day : ℤ)

@@ -1,16 +1,17 @@
 //! The details of a period, written as they are read: a list of millions of lines is never made
 //! whole. What is held of it is one detail, and the lines that wait to be written.
 
-ghost use Rattle.std.specs.Prelude.{◌≡◌, ◌++◌, IfErr, IfOk, IfSome, OnOk, false, true};
+ghost use Rattle.std.specs.Prelude.{◌≡◌, ◌++◌, ◌<◌, IfErr, IfOk, IfSome, OnOk, false, length, true};
 ghost use Rattle.std.specs.Option.{ForSome};
 ghost use Rattle.streams.specs.Sinks.{has_failed, writer_of};
 ghost use Rattle.book_model.specs.Words.{IsDay, ShowsDetail, next_detail_outcome};
 ghost use Rattle.book_core.specs.Calls.{IsCall, Reopens};
 ghost use Rattle.book_core.specs.Transition.{IsTransition};
-ghost use Rattle.book_reports.specs.StreamedAnswers.{WritesAnswer};
+ghost use Rattle.book_reports.specs.StreamedAnswers.{WritesAnswerUntil};
 ghost use Rattle.book_reports.specs.StreamedDetails as spec;
-ghost use Rattle.book_reports.specs.StreamedRulings.{WritesAllBut, refusal_in};
-ghost use Rattle.book_reports.specs.Writing.{WritesPrefix, is_write_fault, is_write_or_memory};
+ghost use Rattle.book_reports.specs.StreamedRulings.{LeavesSome, WritesAllBut, refusal_in};
+ghost use Rattle.book_reports.specs.Writing.{WritesPrefix, WritesUntil, is_write_fault};
+ghost use Rattle.book_reports.specs.Writing.{is_write_or_memory};
 
 use crate::book_texts::closed_through;
 use crate::fault::ReportFault;
@@ -39,11 +40,11 @@ pub(crate) struct Sums {
     count: u64,
     cpu: u64,
     blocks: u64,
-    amount: u64,
+    pub(crate) amount: u64,
 }
 
 /// The sums of no details.
-const NO_SUMS: Sums = Sums {
+pub(crate) const NO_SUMS: Sums = Sums {
     count: 0,
     cpu: 0,
     blocks: 0,
@@ -51,10 +52,10 @@ const NO_SUMS: Sums = Sums {
 };
 
 /// More details than any books have.
-const MOST_DETAILS: u64 = 1 << 32;
+pub(crate) const MOST_DETAILS: u64 = 1 << 32;
 
 /// The sums with one more detail, if 64 bits hold them. Those of sound books do.
-fn with_detail(sums: Sums, detail: &Detail) -> Option<Sums>
+pub(crate) fn with_detail(sums: Sums, detail: &Detail) -> Option<Sums>
     ensures { IfSome result (λ more. more ≡ spec.with_detail sums detail.now) }
 {
     Some(Sums {
@@ -66,7 +67,7 @@ fn with_detail(sums: Sums, detail: &Detail) -> Option<Sums>
 }
 
 /// What stands above the details.
-fn head_of(
+pub(crate) fn head_of(
     alloc: Global,
     report: &DetailReport,
     through: Option<i32>,
@@ -83,7 +84,11 @@ fn head_of(
 }
 
 /// The line of a detail.
-fn part_of(alloc: Global, report: &DetailReport, detail: &Detail) -> Result<Vec<u8>, AllocError>
+pub(crate) fn part_of(
+    alloc: Global,
+    report: &DetailReport,
+    detail: &Detail,
+) -> Result<Vec<u8>, AllocError>
     requires { IsDay detail.now.priced.day }
     ensures { IfOk result (λ part. part.items ≡ spec.details_part report.now detail.now) }
 {
@@ -98,7 +103,11 @@ fn part_of(alloc: Global, report: &DetailReport, detail: &Detail) -> Result<Vec<
 }
 
 /// What stands below the details.
-fn end_of(alloc: Global, report: &DetailReport, sums: Sums) -> Result<Vec<u8>, AllocError>
+pub(crate) fn end_of(
+    alloc: Global,
+    report: &DetailReport,
+    sums: Sums,
+) -> Result<Vec<u8>, AllocError>
     ensures { IfOk result (λ end. end.items ≡ spec.details_end report.now sums) }
 {
     match report.form {
@@ -131,6 +140,10 @@ fn push_detail<W: Write + Drop>(
         (waiting.old.items ++ spec.details_part report.now detail.now)
         waiting.new.items (W.contents (writer_of sink.old)) (W.contents (writer_of sink.new))
         result }
+    ensures left { LeavesSome
+        (waiting.old.items ++ spec.details_part report.now detail.now)
+        waiting.new.items (W.contents (writer_of sink.old)) (W.contents (writer_of sink.new))
+        result }
     ensures failed { has_failed sink.new ≡ is_write_fault result }
     ensures fault { IfErr result (λ fault. is_write_or_memory fault ≡ true) }
 {
@@ -153,6 +166,9 @@ fn write_end<W: Write + Drop>(
     requires { has_failed sink.old ≡ false }
     ensures written { WritesPrefix (waiting.old.items ++ spec.details_end report.now sums)
         (W.contents (writer_of sink.old)) (W.contents (writer_of sink.new)) result }
+    ensures until { 0 < length waiting.old.items
+        → WritesUntil (waiting.old.items ++ spec.details_end report.now sums)
+        (W.contents (writer_of sink.old)) (W.contents (writer_of sink.new)) result }
     ensures failed { has_failed sink.new ≡ is_write_fault result }
     ensures fault { IfErr result (λ fault. is_write_or_memory fault ≡ true) }
 {
@@ -162,7 +178,7 @@ fn write_end<W: Write + Drop>(
 }
 
 /// The first of the details that comes after one, or the first of all.
-fn detail_after<L: Ledger>(
+pub(crate) fn detail_after<L: Ledger>(
     ledger: &mut L,
     report: &DetailReport,
     last: Option<Detail>,
@@ -174,10 +190,10 @@ fn detail_after<L: Ledger>(
     ledger.next_detail(report.period, report.centre, last)
 }
 
-/// Writes the details of a period, of the office or of one centre: all of them, or a prefix before
-/// a fault. The first detail is asked for before anything else, so that a period that is not there
-/// is refused before any byte; nobody changes the books meanwhile. Nothing is written after a write
-/// that failed.
+/// Writes the details of a period, of the office or of one centre: all of them, or, before a fault,
+/// a prefix of their text that is not the whole. The first detail is asked for before anything
+/// else, so that a period that is not there is refused before any byte; nobody changes the books
+/// meanwhile. Nothing is written after a write that failed.
 pub fn write_details<L: Ledger, W: Write + Drop>(
     alloc: Global,
     ledger: &mut L,
@@ -185,7 +201,7 @@ pub fn write_details<L: Ledger, W: Write + Drop>(
     sink: &mut Sink<W>,
 ) -> Result<(), ReportFault>
     ensures written { IsTransition (L.seen ledger.old) (L.seen ledger.new)
-        (WritesAnswer (spec.detail_answer report) (L.seen ledger.old).naming
+        (WritesAnswerUntil (spec.detail_answer report) (L.seen ledger.old).naming
         (W.contents (writer_of sink.old)) (W.contents (writer_of sink.new)) result) }
     ensures reopens { Reopens (refusal_in result)
         (L.seen ledger.old).must_reopen (L.seen ledger.new).must_reopen }

@@ -29,7 +29,7 @@ pub enum DisputeForm {
 }
 
 /// More disputes than any books have.
-const MOST_DISPUTES: u64 = 1 << 32;
+pub(crate) const MOST_DISPUTES: u64 = 1 << 32;
 
 /// What stands above so many disputes.
 fn head_of(alloc: Global, form: DisputeForm, count: u64) -> Result<Vec<u8>, AllocError>
@@ -63,7 +63,7 @@ fn part_of(
 }
 
 /// The bytes from which the dispute after this one is the first: a zero byte behind its identity.
-fn bytes_after(dispute: Dispute) -> Result<Vec<u8>, AllocError>
+pub(crate) fn bytes_after(dispute: Dispute) -> Result<Vec<u8>, AllocError>
     ensures { IfOk result (λ bytes. bytes.items ≡ dispute.identity.items ++ 0 ∷ []) }
 {
     let mut bytes = dispute.identity;

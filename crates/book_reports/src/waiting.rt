@@ -1,9 +1,10 @@
 //! What waits to be written, of a text that is written while it is made.
 
-ghost use Rattle.std.specs.Prelude.{◌≡◌, ◌++◌, [], IfErr, OnOk, false, true};
+ghost use Rattle.std.specs.Prelude.{◌≡◌, ◌++◌, ◌<◌, [], IfErr, OnOk, false, length, true};
 ghost use Rattle.streams.specs.Sinks.{has_failed, writer_of};
-ghost use Rattle.book_reports.specs.StreamedRulings.{WritesAllBut};
-ghost use Rattle.book_reports.specs.Writing.{WritesPrefix, is_write_fault, is_write_or_memory};
+ghost use Rattle.book_reports.specs.StreamedRulings.{LeavesSome, WritesAllBut};
+ghost use Rattle.book_reports.specs.Writing.{WritesPrefix, WritesUntil, is_write_fault};
+ghost use Rattle.book_reports.specs.Writing.{is_write_or_memory};
 
 use crate::fault::ReportFault;
 use crate::output::write_bytes;
@@ -21,6 +22,8 @@ pub(crate) fn flush<W: Write + Drop>(
     requires { has_failed sink.old ≡ false }
     ensures written { WritesPrefix waiting.old.items
         (W.contents (writer_of sink.old)) (W.contents (writer_of sink.new)) result }
+    ensures until { WritesUntil waiting.old.items
+        (W.contents (writer_of sink.old)) (W.contents (writer_of sink.new)) result }
     ensures waits { OnOk result (waiting.new.items ≡ []) }
     ensures failed { has_failed sink.new ≡ is_write_fault result }
     ensures fault { IfErr result (λ fault. fault ≡ ReportFault.Write) }
@@ -30,7 +33,22 @@ pub(crate) fn flush<W: Write + Drop>(
     Ok(())
 }
 
-/// Adds a part to what waits, and writes it where enough waits.
+/// Writes what waits, where it is much.
+fn flush_much<W: Write + Drop>(waiting: &mut Vec<u8>, sink: &mut Sink<W>) -> Result<(), ReportFault>
+    requires { has_failed sink.old ≡ false }
+    ensures written { WritesAllBut waiting.old.items waiting.new.items
+        (W.contents (writer_of sink.old)) (W.contents (writer_of sink.new)) result }
+    ensures failed { has_failed sink.new ≡ is_write_fault result }
+    ensures fault { IfErr result (λ fault. fault ≡ ReportFault.Write) }
+{
+    if waiting.len() > MOST_WAITING {
+        flush(waiting, sink)?;
+    }
+    Ok(())
+}
+
+/// Adds a part to what waits. Where much waits, that is written before: so of a text whose parts
+/// are not empty something waits until its end.
 pub(crate) fn push_part<W: Write + Drop>(
     waiting: &mut Vec<u8>,
     part: &[u8],
@@ -39,12 +57,13 @@ pub(crate) fn push_part<W: Write + Drop>(
     requires { has_failed sink.old ≡ false }
     ensures written { WritesAllBut (waiting.old.items ++ part.now) waiting.new.items
         (W.contents (writer_of sink.old)) (W.contents (writer_of sink.new)) result }
+    ensures left { 0 < length part.now
+        → LeavesSome (waiting.old.items ++ part.now) waiting.new.items
+        (W.contents (writer_of sink.old)) (W.contents (writer_of sink.new)) result }
     ensures failed { has_failed sink.new ≡ is_write_fault result }
     ensures fault { IfErr result (λ fault. is_write_or_memory fault ≡ true) }
 {
+    flush_much(waiting, sink)?;
     waiting.extend_from_slice(part)?;
-    if waiting.len() > MOST_WAITING {
-        flush(waiting, sink)?;
-    }
     Ok(())
 }

@@ -1,6 +1,6 @@
 -- How connections are served.
 use Rattle.std.proofs.Common.{◌≡◌, ◌∙◌, Bool, true, false, List, [], ◌∷◌, ◌++◌, ℕ, ◌+◌, refl, sym}
-use Rattle.std.proofs.Common.{subst, Some, None, Result, Ok, Err}
+use Rattle.std.proofs.Common.{subst, inl, inr, Some, None, Result, Ok, Err}
 use Rattle.std.proofs.Common.{true≢false, length, add-zero, arith, Vec, ℤ, ◌<◌}
 use Rattle.std.specs.Prelude.{IsErr}
 use Rattle.std.specs.Global.{Global}
@@ -14,10 +14,15 @@ use Rattle.book_core.specs.Transition.{Transition, NoEvent, Then, IsTransition}
 use Rattle.book_core.proofs.TransitionLemmas.{no_work, work_as, work_then}
 use Rattle.book_http.specs.declared.served.Served.{Served}
 use Rattle.book_http.specs.declared.served.Served.TheVariants as served
-use Rattle.book_http.specs.Served.{IsReplied, IsServed, is_unanswered}
+use Rattle.book_http.specs.Answer.{Answers}
+use Rattle.book_http.specs.Replies.{Reply}
+use Rattle.book_http.specs.Served.{IsReplied, IsSentAsRead, IsServed, IsStreamed, SendsAsRead, is_cut}
+use Rattle.book_http.specs.Served.{is_unanswered}
+use Rattle.book_http.specs.Statuses.{status_code}
 use Rattle.chargectl.specs.ServedLines.{Gains}
 use Rattle.chargectl.proofs.ServedLineLemmas.{gains_nil, gains_then}
-use Rattle.chargectl.specs.Serving.{ServesOne, Looks, Turn, GoesOn, MayTurn, SomeServed}
+use Rattle.chargectl.specs.Serving.{CutsReply, Replies, ServesOne, Looks, Turn, GoesOn, MayTurn}
+use Rattle.chargectl.specs.Serving.{SomeServed}
 use Rattle.chargectl.specs.Serving.{ServesEach, ServesUpTo, IsUnderway, IsSession, IsAccepted, IsNext}
 use Rattle.chargectl.specs.Serving.{IsTurn, IsServing, line_of, lines_of, may_have_failed, is_answered}
 use Rattle.chargectl.specs.declared.serve.Taken.{Taken}
@@ -80,6 +85,38 @@ unwritten books taken ended output it =
     })
     (it.answer [] (λ _. refl)).work
 
+-- a request whose answer was sent while it was read, and not cut off
+sent_as_read : (books : Books) (taken : List ℕ) (ended : Bool) (output : Output) (what : Served)
+    (IsFor : Reply → Type 0) → is_cut what ≡ false
+    → ((reply : Reply) → IsSentAsRead reply output.old.holds output.new.holds what → IsFor reply)
+    → IsStreamed books taken ended output what
+    → IsTransition books.old books.new (Replies books.old.naming IsFor)
+sent_as_read books taken ended output what IsFor whole is_for it =
+    let naming = books.old.naming in
+    work_as books.old books.new
+    (SendsAsRead naming (taken ++ []) output.old.holds output.new.holds what) (Replies naming IsFor)
+    (λ was before events is sent. record {
+      bytes = taken ++ [];
+      reply = sent.reply;
+      status = is_for sent.reply sent.sent;
+      made = subst (λ now. Answers naming (taken ++ []) sent.reply was before events now)
+          (sym (sent.stands whole)) sent.answer;
+    })
+    (it.done [] (λ _. refl)).work
+
+-- and one whose answer was
+cut_off : (books : Books) (taken : List ℕ) (ended : Bool) (output : Output)
+    → IsStreamed books taken ended output served.Cut
+    → IsTransition books.old books.new (CutsReply books.old.naming)
+cut_off books taken ended output it =
+    let naming = books.old.naming in
+    work_as books.old books.new
+    (SendsAsRead naming (taken ++ []) output.old.holds output.new.holds served.Cut)
+    (CutsReply naming)
+    (λ was before events is sent.
+    record { bytes = taken ++ []; reply = sent.reply; made = sent.answer })
+    (it.done [] (λ _. refl)).work
+
 -- whatever became of a connection
 pub served_one : {L : Type 0} (seen : L → Seen) (old new : L) (taken : List ℕ) (ended : Bool)
     (output : Output) (what : Served)
@@ -92,10 +129,20 @@ served_one seen old new taken ended output served.Closed is none =
 served_one seen old new taken ended output served.ReadFault is none =
     subst (λ ledger. IsTransition (seen old) (seen ledger) NoEvent) (sym (none refl))
     (no_work (seen old))
-served_one seen old new taken ended output served.WriteFault is none =
+served_one seen old new taken ended output served.WriteFault (inl is) none =
     unwritten (record { old = seen old; new = seen new }) taken ended output is
-served_one seen old new taken ended output (served.Answered status) is none =
+served_one seen old new taken ended output served.WriteFault (inr is) none =
+    sent_as_read (record { old = seen old; new = seen new }) taken ended output served.WriteFault
+    (λ reply. Unit {0}) refl (λ reply sent. tt) is
+served_one seen old new taken ended output served.Cut (inl is) none = absurd is.sent
+served_one seen old new taken ended output served.Cut (inr is) none =
+    cut_off (record { old = seen old; new = seen new }) taken ended output is
+served_one seen old new taken ended output (served.Answered status) (inl is) none =
     replied (record { old = seen old; new = seen new }) taken ended output status is
+served_one seen old new taken ended output (served.Answered status) (inr is) none =
+    sent_as_read (record { old = seen old; new = seen new }) taken ended output
+    (served.Answered status) (λ reply. status ≡ status_code reply.status) refl
+    (λ reply sent. sent.0) is
 
 -- no connection came
 pub none_accepted : (seen : Seen) (result : Result Served Error) → IsErr result
@@ -301,6 +348,7 @@ status_of (served.Answered status) is = (status, refl)
 status_of served.Closed is = absurd (true≢false (sym is))
 status_of served.ReadFault is = absurd (true≢false (sym is))
 status_of served.WriteFault is = absurd (true≢false (sym is))
+status_of served.Cut is = absurd (true≢false (sym is))
 
 -- a session, by what is left
 pub session_one : (old new : Seen) (due left : ℕ) (held holds : WriterSeen) (failed : Bool)

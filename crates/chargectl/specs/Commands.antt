@@ -13,7 +13,7 @@ use Rattle.book_core.specs.Transition.{Transition}
 use Rattle.book_reports.specs.declared.report.PeriodReport.{PeriodReport}
 use Rattle.book_reports.specs.declared.report.Report.{Report}
 use Rattle.book_reports.specs.declared.report.Report.TheVariants.{OfCentre, PeriodList, TariffText}
-use Rattle.book_reports.specs.declared.report.Report.TheVariants.{Record}
+use Rattle.book_reports.specs.declared.report.Report.TheVariants.{Bill, Record}
 use Rattle.book_reports.specs.declared.what_if.StatementForm.{StatementForm}
 use Rattle.book_reports.specs.declared.what_if.WhatIf.{WhatIf}
 use Rattle.book_reports.specs.BookTexts.{centre_named, report_of_all}
@@ -46,6 +46,12 @@ period_report report period None = Some (report_of_all report period)
 period_report report period (Some centre) =
     option_map (OfCentre report period) (centre_named centre.now)
 
+-- the bill of the centre that is named, if that is a name, or that of the whole office
+abbrev pub bill_report : StatementForm → ℕ → Option (Bor (List ℕ)) → Option Report
+bill_report form period None = Some (Bill form period None)
+bill_report form period (Some centre) =
+    option_map (λ named. Bill form period (Some named)) (centre_named centre.now)
+
 -- a statement in this form by other prices, of one centre or of the whole office
 abbrev pub what_if_for : StatementForm → ℕ → Option (List ℕ) → WhatIf
 what_if_for form period centre = record { form = form; period = period; centre = centre }
@@ -68,6 +74,8 @@ IsAskedBy (book.OfPeriod report period centre) (asks.Report printed) =
     period_report report period centre ≡ Some printed
 IsAskedBy (book.WhatIf form period centre file) (asks.WhatIf report text) =
     what_if_of form period centre ≡ Some report
+IsAskedBy (book.Bill form period centre) (asks.Report printed) =
+    bill_report form period centre ≡ Some printed
 IsAskedBy (book.TariffText date) (asks.Report printed) =
     option_map TariffText (day_of_text_of date.now) ≡ Some printed
 IsAskedBy (book.Record name) (asks.Report printed) =
@@ -167,6 +175,8 @@ AsksNothing (book.OfPeriod report period centre) why =
     IsWordFault (period_report report period centre) IsShelfFault why
 AsksNothing (book.WhatIf form period centre file) why =
     IsWordFault (what_if_of form period centre) IsTariffFault why
+AsksNothing (book.Bill form period centre) why =
+    IsWordFault (bill_report form period centre) IsShelfFault why
 AsksNothing (book.Record name) why = IsWordFault (name_in name.now) IsShelfFault why
 AsksNothing (book.TariffText date) why = IsWordFault (day_of_text_of date.now) IsShelfFault why
 AsksNothing request why = IsShelfFault why

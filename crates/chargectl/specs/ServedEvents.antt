@@ -17,6 +17,8 @@ one_answered naming (served.Answered status) = λ history was events is it answe
     (requests_make_history naming history it.bytes it.reply was events is answered it.made).answered
 one_answered naming served.WriteFault = λ history was events is it answered.
     (requests_make_history naming history it.bytes it.reply was events is answered it.made).answered
+one_answered naming served.Cut = λ history was events is it answered.
+    (requests_make_history naming history it.bytes it.reply was events was answered it.made).answered
 one_answered naming served.Closed = none_answered naming
 one_answered naming served.ReadFault = none_answered naming
 

@@ -34,18 +34,28 @@ pub record Replies (naming : Naming) (IsFor : Reply → Type 0) (was : Bool) (be
   pub status : IsFor reply
   pub made : Answers naming bytes reply was before events is
 
+-- The same, and the books or memory failed in the text of the reply, which is no event.
+pub record CutsReply (naming : Naming) (was : Bool) (before : Book) (events : List Event) (is : Bool)
+    : Type 0 where
+  pub bytes : List ℕ
+  pub reply : Reply
+  pub made : Answers naming bytes reply was before events was
+
 -- What one connection does to the books, by what became of it: an answer with a status did what the
--- request asks; so did one that could not be written; and else nothing is done.
+-- request asks; so did one that could not be written, or whose text was cut off; and else nothing is
+-- done.
 abbrev pub ServesOne : Naming → Served → Transition
 ServesOne naming (served.Answered status) = Replies naming (λ reply. status ≡ status_code reply.status)
 ServesOne naming served.WriteFault = Replies naming (λ reply. Unit {0})
+ServesOne naming served.Cut = CutsReply naming
 ServesOne naming served.Closed = NoEvent
 ServesOne naming served.ReadFault = NoEvent
 
--- the books may have failed: they could not answer, or what they answered was not written
+-- the books may have failed: they could not answer, or what they answered was not written whole
 abbrev pub may_have_failed : Served → Bool
 may_have_failed (served.Answered status) = status == 503
 may_have_failed served.WriteFault = true
+may_have_failed served.Cut = true
 may_have_failed served.Closed = false
 may_have_failed served.ReadFault = false
 
@@ -105,6 +115,7 @@ abbrev pub line_of : Served → List ℕ
 line_of served.Closed = codes "CLOSED\n"
 line_of served.ReadFault = codes "READ\n"
 line_of served.WriteFault = codes "WRITE\n"
+line_of served.Cut = codes "CUT\n"
 line_of (served.Answered status) = codes "SERVED " ++ decimal status ++ codes "\n"
 
 -- their lines in order, the newest last

@@ -19,7 +19,7 @@ use crate::first_bytes::{LookedAt, look_at};
 use crate::help_lines::{Said, help};
 use crate::progress::{WatchedReader, clear_line};
 use crate::report_commands::{
-    report_period, report_periods, report_record, report_tariff, what_if,
+    report_bill, report_period, report_periods, report_record, report_tariff, what_if,
 };
 use crate::serve::serve;
 use crate::streamed_lists::{StreamedList, disputes_by, list_details, write_list};
@@ -148,6 +148,14 @@ fn run_on_books<S: AuditedRepository, O: Write + Drop>(
             let (listed, output) = list_details(rt, repository, book, csv, period, centre, output);
             (Ended::settled(listed), output)
         }
+        BookRequest::Bill {
+            form,
+            period,
+            centre,
+        } => tell(
+            report_bill(rt, repository, book, form, period, centre),
+            output,
+        ),
         BookRequest::Disputes { csv } => {
             let (listed, output) = write_list(rt, repository, book, disputes_by(csv), output);
             (Ended::settled(listed), output)

@@ -106,6 +106,48 @@ fn period_report(report: PeriodReport, period: u16, centre: Option<&str>) -> Opt
     }
 }
 
+/// Makes a bill, of one centre or of the whole office.
+pub(crate) fn report_bill<S: Repository>(
+    rt: &HostRuntime,
+    repository: &mut S,
+    book: &str,
+    form: StatementForm,
+    period: u16,
+    centre: Option<&str>,
+) -> Result<Answered, CommandFault>
+    ensures { ComesOf (BookRequest.Bill form period centre.entry) book.now
+        (S.shelf repository.old) (S.shelf repository.new) result }
+{
+    let made = match bill_of(form, period, centre) {
+        Some(made) => made,
+        None => return Err(CommandFault::Argument),
+    };
+    repository.expect(book)?;
+    let asked = Asked::Report(made);
+    Ok(ask_books(rt, repository, book, asked, io::empty()))
+}
+
+/// The bill, of the whole office where no centre is named. `None`: the text is no name.
+fn bill_of(form: StatementForm, period: u16, centre: Option<&str>) -> Option<Report>
+    ensures { result ≡ spec.bill_report form period centre.entry }
+{
+    match centre {
+        Some(text) => {
+            let centre = centre_named(text)?;
+            Some(Report::Bill {
+                form,
+                period,
+                centre: Some(centre),
+            })
+        }
+        None => Some(Report::Bill {
+            form,
+            period,
+            centre: None,
+        }),
+    }
+}
+
 /// Makes a period's statement by the prices of a tariff file, of one centre or of the whole office.
 /// The file is not put in force.
 pub(crate) fn what_if<S: Repository>(

@@ -352,13 +352,13 @@ fn serve_and_look<C: Connections, L: Ledger, O: Write + Drop>(
     Ok(must_reopen(books))
 }
 
-/// The books may have failed: they could not answer, or what they answered was not written.
+/// The books may have failed: they could not answer, or what they answered was not written whole.
 fn may_have_failed(served: Served) -> bool
     ensures { result ≡ spec.may_have_failed served }
 {
     match served {
         Served::Answered(status) => status == UNAVAILABLE,
-        Served::WriteFault => true,
+        Served::WriteFault | Served::Cut => true,
         Served::Closed | Served::ReadFault => false,
     }
 }
@@ -401,6 +401,7 @@ fn say_served<O: Write + Drop>(lines: &mut ServedLines<O>, served: Served)
         Served::Closed => lines.write("CLOSED\n"),
         Served::ReadFault => lines.write("READ\n"),
         Served::WriteFault => lines.write("WRITE\n"),
+        Served::Cut => lines.write("CUT\n"),
         Served::Answered(status) => {
             let line = status_line(status);
             lines.write(line.as_str());

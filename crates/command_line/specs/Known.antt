@@ -130,6 +130,7 @@ known_table = (
     (codes "statement", book ∷ period ∷ csv ∷ centre ∷ prices ∷ []) ∷
     (codes "adjustments", book ∷ period ∷ csv ∷ centre ∷ []) ∷
     (codes "details", book ∷ period ∷ csv ∷ centre ∷ []) ∷
+    (codes "bill", book ∷ period ∷ csv ∷ centre ∷ []) ∷
     (codes "disputes", book ∷ csv ∷ []) ∷
     (codes "record", book ∷ record_name ∷ []) ∷
     (codes "periods", book ∷ []) ∷

@@ -159,6 +159,9 @@ IsOfBooks name rows (book.WhatIf form period centre file) =
 IsOfBooks name rows (book.Details csv period centre) =
     (name ≡ codes "details") × IsNumber rows (codes "period") period
     × IsFlag rows (codes "csv") csv × IsCentre rows centre
+IsOfBooks name rows (book.Bill form period centre) =
+    (name ≡ codes "bill") × IsNumber rows (codes "period") period × IsForm rows form
+    × IsCentre rows centre
 IsOfBooks name rows (book.Disputes csv) =
     (name ≡ codes "disputes") × IsFlag rows (codes "csv") csv
 IsOfBooks name rows (book.Record digest) =

@@ -243,7 +243,7 @@ const NUMBER: Argument = Argument::Last(
 );
 
 /// The commands in the order of the program's help.
-pub(crate) static KNOWN_COMMANDS: [KnownCommand; 21] = [
+pub(crate) static KNOWN_COMMANDS: [KnownCommand; 22] = [
     KnownCommand {
         name: "trial",
         about: "Prices a dump from standard input in new books, and prints their statement",
@@ -297,6 +297,11 @@ pub(crate) static KNOWN_COMMANDS: [KnownCommand; 21] = [
     KnownCommand {
         name: "details",
         about: "Prints each record that a period counts, and what it costs",
+        words: &[BOOK, PERIOD, CSV, CENTRE],
+    },
+    KnownCommand {
+        name: "bill",
+        about: "Prints the bill of a centre for a period, or what each centre owes",
         words: &[BOOK, PERIOD, CSV, CENTRE],
     },
     KnownCommand {

@@ -99,7 +99,7 @@ fn service_in<'a>(name: &str, found: &ArgMatches<'a>) -> Option<Request<'a>>
     }
 }
 
-/// The records of a period, what became of one, the periods, or what was ruled.
+/// The records or the bill of a period, what became of a record, the periods, or what was ruled.
 fn list_in<'a>(name: &str, found: &ArgMatches<'a>) -> Option<Request<'a>>
     ensures request { IfSome result (IsOfCommand name.now (rows_in found.now)) }
     ensures some { HasWordsOf name.now (rows_in found.now)
@@ -110,6 +110,7 @@ fn list_in<'a>(name: &str, found: &ArgMatches<'a>) -> Option<Request<'a>>
 {
     match name {
         "details" => of_books_in(found, details_in(found)),
+        "bill" => of_books_in(found, bill_in(found)),
         "record" => of_books_in(found, record_in(found)),
         "periods" => of_books_in(found, Some(BookRequest::Periods)),
         "rulings" => of_books_in(found, Some(BookRequest::Rulings)),
@@ -405,6 +406,30 @@ fn details_of<'a>(found: &ArgMatches<'a>, csv: bool, period: u16) -> BookRequest
     let centre = text_in(found, "centre");
     BookRequest::Details {
         csv,
+        period,
+        centre,
+    }
+}
+
+/// The bill of the centre that is named, or what each centre owes.
+fn bill_in<'a>(found: &ArgMatches<'a>) -> Option<BookRequest<'a>>
+    ensures asked { IfSome result (IsOfBooks (codes "bill") (rows_in found.now)) }
+    ensures some { HasWord (rows_in found.now) known.period
+        → HasWord (rows_in found.now) known.csv → IsSome result }
+{
+    let period = number_in(found, "period")?;
+    let csv = flag_in(found, "csv")?;
+    Some(bill_of(found, statement_form(csv), period))
+}
+
+fn bill_of<'a>(found: &ArgMatches<'a>, form: StatementForm, period: u16) -> BookRequest<'a>
+    ensures { IsNumber (rows_in found.now) (codes "period") period
+        → IsForm (rows_in found.now) form
+        → IsOfBooks (codes "bill") (rows_in found.now) result }
+{
+    let centre = text_in(found, "centre");
+    BookRequest::Bill {
+        form,
         period,
         centre,
     }

@@ -156,6 +156,14 @@ pub enum BookRequest<'a> {
         /// The name of the one centre that they are of; None stands for the whole office.
         centre: Option<&'a str>,
     },
+    /// A bill printed: that of a centre, or what each centre owes.
+    Bill {
+        form: StatementForm,
+        /// The number of the period.
+        period: u16,
+        /// The name of the one centre that it is of; None stands for the whole office.
+        centre: Option<&'a str>,
+    },
     /// The disputes printed.
     Disputes {
         /// As a table of comma-separated values.

@@ -1,5 +1,5 @@
 -- What one centre has of a period can be shown, where all that the period has can.
-use Rattle.std.proofs.Common.{◌≡◌, ◌+◌, ◌<◌, ◌^◌, ℕ, Bool, List, arith, refl}
+use Rattle.std.proofs.Common.{◌≡◌, ◌+◌, ◌<◌, ◌≤◌, ◌^◌, ℕ, Bool, List, arith, refl}
 use Rattle.std.specs.Prelude.{filter, not, sum_by}
 use Rattle.std.proofs.lemmas.List.Elements.{All-filter}
 use Rattle.std.proofs.lemmas.List.Filters.{sum_by-filter_both}
@@ -8,11 +8,17 @@ use Rattle.book_model.specs.declared.row.ChargeRow.{ChargeRow}
 use Rattle.book_model.specs.Words.{AreLines, AreRows, IsDay}
 
 -- a sum over some is within the sum over all
+pub filter_most : {X : Type 0} (p : X → Bool) (f : X → ℕ) (xs : List X)
+    → sum_by f (filter p xs) ≤ sum_by f xs
+filter_most p f xs =
+    let both : sum_by f (filter p xs) + sum_by f (filter (λ x. not (p x)) xs) ≡ sum_by f xs =
+    sum_by-filter_both p (λ x. not (p x)) (λ x. refl) f xs in
+    omega arith
+
 filter_within : {X : Type 0} (p : X → Bool) (f : X → ℕ) (xs : List X) (most : ℕ)
     → sum_by f xs < most → sum_by f (filter p xs) < most
 filter_within p f xs most fits =
-    let both : sum_by f (filter p xs) + sum_by f (filter (λ x. not (p x)) xs) ≡ sum_by f xs =
-    sum_by-filter_both p (λ x. not (p x)) (λ x. refl) f xs in
+    let within : sum_by f (filter p xs) ≤ sum_by f xs = filter_most p f xs in
     omega arith
 
 pub filtered_rows : (p : ChargeRow → Bool) (rows : List ChargeRow) → AreRows rows

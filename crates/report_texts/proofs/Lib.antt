@@ -8,3 +8,4 @@ pub mod CentreLemmas
 pub mod FigureLemmas
 pub mod AccountLines
 pub mod DifferenceLemmas
+pub mod ChargeLemmas

@@ -1,5 +1,6 @@
 -- Texts in columns, and numbers with decimal places. A text is its bytes.
 use Rattle.std.specs.Prelude.{ℕ, ◌-◌, ◌/◌, ◌%◌, List, ◌++◌, length, replicate, codes}
+use Rattle.std.specs.Prelude.{Option, Some, None}
 use Rattle.std.specs.Fmt.{decimal}
 use Rattle.std.specs.Str.{byte}
 
@@ -21,6 +22,11 @@ right_aligned width text = blanks (width - length text) ++ text
 -- a number in a given count of digits, zeros before it
 abbrev pub digits_in : ℕ → ℕ → List ℕ
 digits_in width number = replicate (width - length (decimal number)) (byte "0") ++ decimal number
+
+-- a number, or `-` where there is none
+unfoldable pub number_text : Option ℕ → List ℕ
+number_text None = codes "-"
+number_text (Some number) = decimal number
 
 -- hundredths of a second, in seconds
 unfoldable pub seconds_text : ℕ → List ℕ

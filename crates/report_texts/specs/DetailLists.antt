@@ -7,16 +7,11 @@ use Rattle.hex.specs.Hex.{encode_lower}
 use Rattle.book_model.specs.Words.{day_text_of, show_text}
 use Rattle.book_model.specs.declared.detail.Detail.{Detail}
 use Rattle.report_texts.specs.Columns.{newline, left_aligned, right_aligned}
-use Rattle.report_texts.specs.Columns.{seconds_text, amount_text}
+use Rattle.report_texts.specs.Columns.{number_text, seconds_text, amount_text}
 use Rattle.report_texts.specs.Centres.{centre_title}
 use Rattle.report_texts.specs.Moments.{time_text}
 use Rattle.report_texts.specs.Periods.{title_line}
 use Rattle.report_texts.specs.Statements.{key_columns, number_columns, work_columns}
-
--- the number of the step that ended; where a job ended there is none
-unfoldable pub ended_text : Option ℕ → List ℕ
-ended_text None = codes "-"
-ended_text (Some step) = decimal step
 
 -- the columns that say which work it is: its time, its job, its program and its JES job id
 unfoldable pub job_columns : List ℕ → List ℕ → List ℕ → List ℕ → List ℕ
@@ -35,10 +30,11 @@ detail_job detail =
     job_columns (time_text detail.time) (show_text detail.job) (show_text detail.program)
     (show_text detail.job_id)
 
--- and how much work that is, and what it costs
+-- the number of the step that ended, which a job has none of; how much work that is; and what it
+-- costs
 unfoldable pub detail_work : Detail → List ℕ
 detail_work detail =
-    work_columns (ended_text detail.step) (seconds_text detail.priced.cpu)
+    work_columns (number_text detail.step) (seconds_text detail.priced.cpu)
     (decimal detail.priced.excp)
     ++ right_aligned 21 (amount_text detail.priced.amount)
 

@@ -4,8 +4,7 @@ use Rattle.std.specs.Fmt.{decimal}
 use Rattle.hex.specs.Hex.{encode_lower}
 use Rattle.book_model.specs.Words.{day_text_of, show_text}
 use Rattle.book_model.specs.declared.detail.Detail.{Detail}
-use Rattle.report_texts.specs.Columns.{amount_text, newline, seconds_text}
-use Rattle.report_texts.specs.DetailLists.{ended_text}
+use Rattle.report_texts.specs.Columns.{amount_text, newline, number_text, seconds_text}
 use Rattle.report_texts.specs.Moments.{time_text}
 use Rattle.report_texts.specs.Tables.{fields_line}
 
@@ -23,7 +22,7 @@ where_fields detail =
 unfoldable pub job_fields : Detail → List (List ℕ)
 job_fields detail =
     time_text detail.time ∷ show_text detail.job ∷ show_text detail.program
-    ∷ show_text detail.job_id ∷ ended_text detail.step ∷ []
+    ∷ show_text detail.job_id ∷ number_text detail.step ∷ []
 
 -- how much work that is, what it costs, and which record it is
 unfoldable pub cost_fields : Detail → List (List ℕ)

@@ -29,7 +29,12 @@ pub(crate) fn signed_text(alloc: Global, charged: u64, taken: u64) -> Result<Str
 
 /// Appends the column of a signed amount.
 #[tactic(auto, unfolding(crate::specs::AdjustmentLists::signed_column))]
-fn push_signed(alloc: Global, out: &mut String, charged: u64, taken: u64) -> Result<(), AllocError>
+pub(crate) fn push_signed(
+    alloc: Global,
+    out: &mut String,
+    charged: u64,
+    taken: u64,
+) -> Result<(), AllocError>
     ensures { OnOk result (string_bytes out.new
         ≡ string_bytes out.old ++ spec.signed_column charged taken) }
 {
@@ -68,7 +73,7 @@ pub(crate) fn reversed_amount(line: &Line) -> u64
 
 /// Appends which record a line is of, and ends the line.
 #[tactic(auto, unfolding(crate::specs::AdjustmentLists::name_columns))]
-fn push_record(alloc: Global, out: &mut String, line: &Line) -> Result<(), AllocError>
+pub(crate) fn push_record(alloc: Global, out: &mut String, line: &Line) -> Result<(), AllocError>
     ensures { OnOk result (string_bytes out.new
         ≡ string_bytes out.old ++ spec.name_columns line.now) }
 {
@@ -88,7 +93,11 @@ pub(crate) fn word_of(line: &Line) -> &'static str
 
 /// Appends the columns that say what a line does, and where its record is charged, of a line.
 #[tactic(auto, unfolding(crate::specs::AdjustmentLists::line_place))]
-fn push_line_place(alloc: Global, out: &mut String, line: &Line) -> Result<(), AllocError>
+pub(crate) fn push_line_place(
+    alloc: Global,
+    out: &mut String,
+    line: &Line,
+) -> Result<(), AllocError>
     requires { IsDay line.now.priced.day }
     ensures { OnOk result (string_bytes out.new
         ≡ string_bytes out.old ++ spec.line_place line.now) }
@@ -141,7 +150,7 @@ pub(crate) fn sums(lines: &[Line]) -> (u64, u64)
 
 /// Appends the line below the others.
 #[tactic(auto, unfolding(crate::specs::AdjustmentLists::sum_line))]
-fn push_sum(alloc: Global, out: &mut String, lines: &[Line]) -> Result<(), AllocError>
+pub(crate) fn push_sum(alloc: Global, out: &mut String, lines: &[Line]) -> Result<(), AllocError>
     requires { AreLines lines.now }
     ensures { OnOk result (string_bytes out.new ≡ string_bytes out.old ++ spec.sum_line lines.now) }
 {

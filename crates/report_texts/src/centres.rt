@@ -23,7 +23,7 @@ pub(crate) fn keep_rows(rows: &mut Vec<ChargeRow>, centre: Name)
 }
 
 /// Keeps the lines of the centre, in their order.
-fn keep_lines(lines: &mut Vec<Line>, centre: Name)
+pub fn keep_lines(lines: &mut Vec<Line>, centre: Name)
     requires { AreLines lines.old.items }
     ensures kept { lines.new.items ≡ spec.lines_of_centre centre lines.old.items }
     ensures lines { AreLines lines.new.items }

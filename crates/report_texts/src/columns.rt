@@ -51,6 +51,17 @@ pub fn push_number(out: &mut String, number: u64) -> Result<(), AllocError>
     write!(out, "{number}")
 }
 
+/// A number, or `-` where there is none.
+#[tactic(auto, unfolding(crate::specs::Columns::number_text))]
+pub(crate) fn number_text(alloc: Global, number: Option<u16>) -> Result<String, AllocError>
+    ensures { IfOk result (λ text. string_bytes text ≡ spec.number_text number) }
+{
+    match number {
+        None => String::from_str(alloc, "-"),
+        Some(number) => number.to_string(alloc),
+    }
+}
+
 /// Hundredths of a second, in seconds.
 #[tactic(auto, using(crate::proofs::ColumnLemmas::places_written), unfolding(crate::specs::Columns::seconds_text))]
 pub(crate) fn seconds_text(alloc: Global, hundredths: u64) -> Result<String, AllocError>

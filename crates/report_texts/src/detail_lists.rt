@@ -7,7 +7,7 @@ ghost use Rattle.book_model.specs.Words.{IsDay};
 ghost use Rattle.report_texts.specs.DetailLists as spec;
 
 use crate::centres::centre_title;
-use crate::columns::{push_left_aligned, push_right_aligned, seconds_text};
+use crate::columns::{number_text, push_left_aligned, push_right_aligned, seconds_text};
 use crate::moments::time_text;
 use crate::parts::{push_money, push_name};
 use crate::periods::title_text;
@@ -15,17 +15,6 @@ use crate::statements::{push_key, push_numbers, push_work};
 use book_model::Detail;
 use smf_text::{Name, day_text, show};
 use std::alloc::{AllocError, Global};
-
-/// The number of the step that ended, or that there is none.
-#[tactic(auto, unfolding(crate::specs::DetailLists::ended_text))]
-pub(crate) fn ended_text(alloc: Global, step: Option<u16>) -> Result<String, AllocError>
-    ensures { IfOk result (λ text. string_bytes text ≡ spec.ended_text step) }
-{
-    match step {
-        None => String::from_str(alloc, "-"),
-        Some(step) => step.to_string(alloc),
-    }
-}
 
 /// Appends the columns that say which work it is.
 #[tactic(auto, unfolding(crate::specs::DetailLists::job_columns))]
@@ -86,7 +75,7 @@ fn push_detail_work(alloc: Global, out: &mut String, detail: &Detail) -> Result<
     ensures { OnOk result (string_bytes out.new
         ≡ string_bytes out.old ++ spec.detail_work detail.now) }
 {
-    let step = ended_text(alloc, detail.step)?;
+    let step = number_text(alloc, detail.step)?;
     let cpu = seconds_text(alloc, detail.priced.cpu)?;
     let blocks = detail.priced.excp.to_string(alloc)?;
     push_work(out, step.as_str(), cpu.as_str(), blocks.as_str())?;

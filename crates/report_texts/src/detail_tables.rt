@@ -7,8 +7,7 @@ ghost use Rattle.csv.specs.Records.{fields_of};
 ghost use Rattle.report_texts.specs.DetailTables as spec;
 ghost use Rattle.report_texts.specs.Tables.{AddsRows, IsBetweenRows};
 
-use crate::columns::{amount_text, seconds_text};
-use crate::detail_lists::ended_text;
+use crate::columns::{amount_text, number_text, seconds_text};
 use crate::fields::{add_day, add_name, add_number, add_shown};
 use crate::moments::time_text;
 use crate::tables::{into_bytes, new_table, write_fields, write_row};
@@ -49,7 +48,7 @@ fn add_job(alloc: Global, row: &mut StringRecord, detail: &Detail) -> Result<(),
     add_shown(alloc, row, &detail.job)?;
     add_shown(alloc, row, &detail.program)?;
     add_shown(alloc, row, &detail.job_id)?;
-    row.push_field(ended_text(alloc, detail.step)?.as_str())
+    row.push_field(number_text(alloc, detail.step)?.as_str())
 }
 
 /// Adds how much work that is, what it costs, and which record it is.

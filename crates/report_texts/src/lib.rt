@@ -3,7 +3,10 @@
 
 mod adjustment_lists;
 mod adjustment_tables;
+mod bill_tables;
+mod bill_texts;
 mod centres;
+mod charges;
 mod columns;
 mod detail_lists;
 mod detail_tables;
@@ -14,6 +17,7 @@ mod fields;
 mod figures;
 mod life_lines;
 mod moments;
+mod office_bills;
 mod parts;
 mod period_lists;
 mod periods;
@@ -28,9 +32,13 @@ mod what_ifs;
 
 pub use adjustment_lists::adjustment_list_text;
 pub use adjustment_tables::adjustment_table;
+pub use bill_tables::{bill_table, office_bill_table};
+pub use bill_texts::bill_text;
 pub use centres::{
-    centre_adjustment_table, centre_adjustments_text, centre_statement_table, centre_statement_text,
+    centre_adjustment_table, centre_adjustments_text, centre_statement_table,
+    centre_statement_text, keep_lines,
 };
+pub use charges::Charges;
 pub use columns::push_number;
 pub use detail_lists::{detail_head, detail_total, push_detail_line};
 pub use detail_tables::{detail_row, detail_table_head};
@@ -38,6 +46,7 @@ pub use dispute_lists::{dispute_list_head, dispute_list_text, push_dispute};
 pub use dispute_tables::{dispute_rows, dispute_table, dispute_table_head};
 pub use dry_runs::{TriedRuling, dry_run_text};
 pub use figures::{Figures, figures_of, record_count, record_count_from};
+pub use office_bills::office_bill_text;
 pub use period_lists::period_list_text;
 pub use record_texts::record_text;
 pub use ruling_lists::{push_ruling_line, ruling_list_head};

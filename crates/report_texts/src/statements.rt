@@ -46,7 +46,7 @@ pub(crate) fn push_work(
 }
 
 /// Appends the column that says what it costs, and ends the line.
-fn push_amount(out: &mut String, amount: &str) -> Result<(), AllocError>
+pub(crate) fn push_amount(out: &mut String, amount: &str) -> Result<(), AllocError>
     ensures { OnOk result (string_bytes out.new
         ≡ string_bytes out.old ++ spec.amount_column amount.now) }
 {

@@ -38,3 +38,7 @@ most_account_prefix = 16
 -- (SA38-0667, type 30, identification section)
 abbrev pub most_job_prefix : ℕ
 most_job_prefix = 8
+
+-- the most characters of each text in a letterhead
+abbrev pub most_letters : ℕ
+most_letters = 40

@@ -2,7 +2,7 @@
 
 ghost use Rattle.std.specs.Prelude.{◌≡◌, ◌≤◌, map, option_map, IfOk, IfSome, MatchResult, Ok, Err};
 ghost use Rattle.smf_text.specs.Names.{IsName};
-ghost use Rattle.toml.specs.Data.{as_table};
+ghost use Rattle.toml.specs.Data.{as_table, get_member};
 ghost use Rattle.toml.specs.View.{table_view, view};
 ghost use Rattle.tariff_rules.specs.Document as spec;
 
@@ -11,12 +11,20 @@ use crate::key::Key;
 use smf_text::Name;
 use toml::{Table, Value};
 
+/// What the table has at the key of this text.
+pub(crate) fn member_at<'a>(table: &'a Table, key: &str) -> Option<&'a Value>
+    ensures { option_map (λ value. view value.now) result
+        ≡ get_member key.now (table_view table.now) }
+{
+    table.get(key)
+}
+
 /// What the table has at a key that need not be there.
 pub(crate) fn value_at<'a>(table: &'a Table, key: Key) -> Option<&'a Value>
     ensures { option_map (λ value. view value.now) result
         ≡ spec.value_at (table_view table.now) key }
 {
-    table.get(key.text())
+    member_at(table, key.text())
 }
 
 /// What the table has at a key that has to be there.

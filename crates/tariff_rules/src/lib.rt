@@ -6,6 +6,7 @@ mod clock;
 mod document;
 mod fault;
 mod key;
+mod letterhead;
 mod prefix;
 mod priced;
 mod rates;
@@ -16,8 +17,9 @@ mod tariff;
 
 pub use fault::TariffFault;
 pub use key::Key;
+pub use letterhead::Letterhead;
 pub use priced::{Priced, price};
-pub use rates::MAX_RATE;
+pub use rates::{MAX_RATE, Rates};
 pub use reckoning::{Reckoning, reckon};
 pub use shift::MAX_PERCENT;
 pub use tariff::{Entry, MAX_CENTRES, MAX_SHIFTS, MAX_TEXT, Tariff};

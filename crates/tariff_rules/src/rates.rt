@@ -27,7 +27,7 @@ const RECORD_PARTS: u128 = 1000;
 /// The rates of one kind of record, in ten-thousandths of the money unit: of a CPU second, of
 /// 1,000 blocks, of the record itself.
 #[derive(Clone, Copy, Debug)]
-pub(crate) struct Rates {
+pub struct Rates {
     cpu: u64,
     excp: u64,
     record_fee: u64,
@@ -62,21 +62,21 @@ impl Rates {
     }
 
     /// The rate of a CPU second.
-    pub(crate) fn cpu(self) -> u64
+    pub fn cpu(self) -> u64
         ensures { result ≡ self.cpu }
     {
         self.cpu
     }
 
     /// The rate of 1,000 blocks.
-    pub(crate) fn excp(self) -> u64
+    pub fn excp(self) -> u64
         ensures { result ≡ self.excp }
     {
         self.excp
     }
 
     /// The rate of the record itself.
-    pub(crate) fn record_fee(self) -> u64
+    pub fn record_fee(self) -> u64
         ensures { result ≡ self.record_fee }
     {
         self.record_fee

@@ -84,6 +84,20 @@ impl Tariff {
         self.effective
     }
 
+    /// The rates of steps.
+    pub fn step_rates(&self) -> Rates
+        ensures { result ≡ self.now.step }
+    {
+        self.step
+    }
+
+    /// The rates of jobs.
+    pub fn job_rates(&self) -> Rates
+        ensures { result ≡ self.now.job }
+    {
+        self.job
+    }
+
     /// The rates for records of a subtype.
     pub(crate) fn rates_for(&self, subtype: u16) -> Rates
         ensures { result ≡ spec.rates_for self.now subtype }

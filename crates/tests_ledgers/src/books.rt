@@ -9,7 +9,7 @@ use crate::lines::BookLines;
 use crate::names::name_in;
 use crate::request_lists::{push_answers, push_repeated};
 use crate::text_writing::push_text;
-use crate::texts::{BookText, TextOf, details_of, trail_of};
+use crate::texts::{BookText, TextOf, bill_of, details_of, trail_of};
 use crate::what_ifs::push_what_if;
 use book_core::{Ledger, Ruled, Source};
 use book_import::import;
@@ -193,6 +193,9 @@ impl BookLines {
             "record" => self.push_book_text(alloc, ledger, trail_of(named, words)?, out),
             "details" | "details-table" => {
                 self.push_book_text(alloc, ledger, details_of(ask.verb, words)?, out)
+            }
+            "bill" | "bill-table" => {
+                self.push_book_text(alloc, ledger, bill_of(ask.verb, words)?, out)
             }
             _ => self.push_book_text(alloc, ledger, BookText::of(ask.verb, words)?, out),
         }

@@ -16,7 +16,8 @@
 //! | `list TIMES`, with such a body, all of it that many times in one list | the same |
 //! | `statement PERIOD`, `table PERIOD`, `adjustments PERIOD`, `disputes`, `periods` | the text |
 //! | `details PERIOD`, `details-table PERIOD` | the text, and its comma-separated values |
-//! | these two and the first three with `PERIOD CENTRE` | the text of the centre |
+//! | `bill PERIOD`, `bill-table PERIOD` | the same |
+//! | these four and the first three with `PERIOD CENTRE` | the text of the centre |
 //! | `record RECORD`, or 64 hexadecimal digits | the record's trail |
 //! | `what-if PERIOD TEXT..`, with a body before the texts | what it would have cost by that |
 //! | `what-if-table PERIOD TEXT..` | the same as comma-separated values |

@@ -9,6 +9,7 @@ use book_reports::{
     DetailReport, PeriodReport, Report, adjustment_list, dispute_list, period_list, statement,
     statement_csv, write_details, write_report,
 };
+use smf_text::Name;
 use std::alloc::Global;
 use tests_scripts::{LimitedWriter, Limits, LineFault, LineResult, Named};
 
@@ -20,7 +21,7 @@ pub(crate) enum BookText {
     Adjustments(u16),
     /// The details of a period, or of one centre in it.
     Details(DetailReport),
-    /// What a period has of one centre, or the trail of a record.
+    /// What a period has of one centre, a bill, or the trail of a record.
     Report(Report),
     Disputes,
     Periods,
@@ -54,16 +55,31 @@ fn of_centre(report: PeriodReport, period: &str, centre: &str) -> LineResult<Boo
     }))
 }
 
+/// A period, and one centre in it, if words name one.
+fn place_in(words: &[&str]) -> LineResult<(u16, Option<Name>)> {
+    match *words {
+        [period] => Ok((period.parse::<u16>()?, None)),
+        [period, centre] => Ok((period.parse::<u16>()?, Some(centre_in(centre)?))),
+        _ => Err(LineFault::NotUnderstood),
+    }
+}
+
 /// The details of a period, or of one centre in it.
 pub(crate) fn details_of(verb: &str, words: &[&str]) -> LineResult<BookText> {
-    let (period, centre) = match *words {
-        [period] => (period, None),
-        [period, centre] => (period, Some(centre_in(centre)?)),
-        _ => return Err(LineFault::NotUnderstood),
-    };
+    let (period, centre) = place_in(words)?;
     Ok(BookText::Details(DetailReport {
         form: form_of(verb),
-        period: period.parse::<u16>()?,
+        period,
+        centre,
+    }))
+}
+
+/// The bill of the office for a period, or of one centre.
+pub(crate) fn bill_of(verb: &str, words: &[&str]) -> LineResult<BookText> {
+    let (period, centre) = place_in(words)?;
+    Ok(BookText::Report(Report::Bill {
+        form: form_of(verb),
+        period,
         centre,
     }))
 }

@@ -9,7 +9,7 @@ use tests_scripts::{Ask, LineFault, LineResult, Named};
 /// The form in which a verb asks for a text.
 pub(crate) fn form_of(verb: &str) -> StatementForm {
     match verb {
-        "what-if-table" | "details-table" => StatementForm::Table,
+        "what-if-table" | "details-table" | "bill-table" => StatementForm::Table,
         _ => StatementForm::Text,
     }
 }

@@ -44,6 +44,7 @@ pub(crate) fn push_served(out: &mut Vec<u8>, served: Served) -> LineResult {
         Served::Closed => writeln!(out, "CLOSED")?,
         Served::ReadFault => writeln!(out, "READ")?,
         Served::WriteFault => writeln!(out, "WRITE")?,
+        Served::Cut => writeln!(out, "CUT")?,
         Served::Answered(status) => writeln!(out, "SERVED {status}")?,
     }
     Ok(())

@@ -3,7 +3,8 @@ use Rattle.book_http.specs.declared.asked.Asked.TheVariants as asks
 use Rattle.book_http.specs.Answer.{AnswersImport, AnswersWhatIf}
 use Rattle.book_http.specs.Reads.{bytes_read}
 use Rattle.book_http.specs.Replies.{refusal, other_method, reply_of}
-use Rattle.book_http.proofs.AskedLemmas.{at_once, body_refused, refuses, whole_dump_answered}
+use Rattle.book_http.proofs.AskedLemmas.{at_once, body_refused, details_due, refuses}
+use Rattle.book_http.proofs.AskedLemmas.{whole_dump_answered}
 use Rattle.book_http.proofs.AskedLemmas.{whole_tariff_answered}
 use Rattle.book_http.proofs.BodyLemmas.{fault_comes}
 use Rattle.book_http.proofs.ReadLemmas.{not_read}
@@ -17,6 +18,16 @@ returns-in-Report-clause-answer g c =
       not_read _ _ _ _,
       at_once old new _ c.args.asked (asks.Report c.in-Report.report) (c.args.front.now ++ [])
           (reply_of c.answer_report.result) c.in-Report.is (λ more. c.answer_report.ensures),
+    )
+
+pub returns-in-Details-clause-answer : goal.returns-in-Details-clause-answer
+returns-in-Details-clause-answer g c =
+    let old = g.L.Ledger.seen c.args.ledger.now in
+    let new = g.L.Ledger.seen c.measure_details.new.ledger in (
+      [],
+      not_read _ _ _ _,
+      details_due old new _ c.args.asked (c.args.front.now ++ []) c.in-Details.details
+          c.measure_details.result c.in-Details.is c.measure_details.ensures,
     )
 
 pub returns-in-Ok-clause-answer : goal.returns-in-Ok-clause-answer

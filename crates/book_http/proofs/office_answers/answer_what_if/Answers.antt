@@ -7,7 +7,7 @@ use Rattle.book_core.proofs.TransitionLemmas.{work_as}
 use Rattle.office.specs.Requests.{response_by}
 use Rattle.book_http.specs.declared.status.Status.TheVariants.{BadRequest}
 use Rattle.book_http.specs.Answer.{AnswersOffice, AnswersWhatIf, Prices, UnlessBad, office_reply}
-use Rattle.book_http.specs.Answer.{what_if_kind}
+use Rattle.book_http.specs.Answer.{form_kind}
 use Rattle.book_http.specs.Replies.{refusal, reply_of}
 use Rattle.book_http.proofs.AskedLemmas.{refuses}
 use Rattle.book_http.proofs.office_answers.answer_what_if.Goals as goal
@@ -22,7 +22,7 @@ returns-in_default g c =
     false_from_ne_true (is_utf8 body)
     (λ is. true≢false (sym (c.in_default.ensures.succeeds (IsUtf8-from_is_utf8 body is)))) in
     subst (λ utf8. IsTransition seen seen
-    (UnlessBad (not utf8) (AnswersOffice (what_if_kind what_if.form) (Prices what_if body) reply) reply))
+    (UnlessBad (not utf8) (AnswersOffice (form_kind what_if.form) (Prices what_if body) reply) reply))
     (sym other) (refuses seen reply)
 
 pub returns : goal.returns
@@ -34,7 +34,7 @@ returns g c =
     let reply = reply_of c.answer_of.result in
     let tariff = c.in-Ok.tariff in
     let text = string_bytes tariff in
-    let kind = what_if_kind what_if.form in
+    let kind = form_kind what_if.form in
     let is_text : is_utf8 text ≡ true = is_utf8-from_IsUtf8 text (IsUtf8-string_bytes tariff) in
     let priced =
     work_as old new _ (AnswersOffice kind (Prices what_if text) reply)
@@ -42,7 +42,7 @@ returns g c =
       told = told;
       made = asked;
       replied =
-          c.answer_of.ensures ∙ ap (λ kind. office_reply kind told) c.what_if_kind-kind.ensures;
+          c.answer_of.ensures ∙ ap (λ kind. office_reply kind told) c.form_kind-kind.ensures;
     })
     c.ask_without_reader.ensures in
     let answered : IsTransition old new (AnswersWhatIf what_if text reply) =

@@ -6,21 +6,23 @@ use Rattle.book_http.proofs.route.pages.Goals as goal
 pub returns : goal.returns
 unfolding route_rows
 returns c =
-    let thirteen =
-    c.in_ok-router-13.ensures
-    ∙ ap (with_route (codes "/import") page.Import) (c.in_ok-router-12.ensures
-    ∙ ap (with_route (codes "/what-if-csv/{*rest}") page.WhatIfCsv) (c.in_ok-router-11.ensures
-    ∙ ap (with_route (codes "/what-if/{*rest}") page.WhatIf) (c.in_ok-router-10.ensures
-    ∙ ap (with_route (codes "/tariff/{*rest}") page.Tariff) (c.in_ok-router-9.ensures
-    ∙ ap (with_route (codes "/rulings") page.Rulings) (c.in_ok-router-8.ensures
-    ∙ ap (with_route (codes "/record/{*rest}") page.Record) (c.in_ok-router-7.ensures
-    ∙ ap (with_route (codes "/disputes-csv") page.DisputesCsv) (c.in_ok-router-6.ensures
-    ∙ ap (with_route (codes "/disputes") page.Disputes) (c.in_ok-router-5.ensures
+    let fifteen =
+    c.in_ok-router-15.ensures
+    ∙ ap (with_route (codes "/import") page.Import) (c.in_ok-router-14.ensures
+    ∙ ap (with_route (codes "/what-if-csv/{*rest}") page.WhatIfCsv) (c.in_ok-router-13.ensures
+    ∙ ap (with_route (codes "/what-if/{*rest}") page.WhatIf) (c.in_ok-router-12.ensures
+    ∙ ap (with_route (codes "/tariff/{*rest}") page.Tariff) (c.in_ok-router-11.ensures
+    ∙ ap (with_route (codes "/rulings") page.Rulings) (c.in_ok-router-10.ensures
+    ∙ ap (with_route (codes "/record/{*rest}") page.Record) (c.in_ok-router-9.ensures
+    ∙ ap (with_route (codes "/disputes-csv") page.DisputesCsv) (c.in_ok-router-8.ensures
+    ∙ ap (with_route (codes "/disputes") page.Disputes) (c.in_ok-router-7.ensures
+    ∙ ap (with_route (codes "/details-csv/{*rest}") page.DetailsCsv) (c.in_ok-router-6.ensures
+    ∙ ap (with_route (codes "/details/{*rest}") page.Details) (c.in_ok-router-5.ensures
     ∙ ap (with_route (codes "/adjustments-csv/{*rest}") page.AdjustmentsCsv) (c.in_ok-router-4.ensures
     ∙ ap (with_route (codes "/adjustments/{*rest}") page.Adjustments) (c.in_ok-router-3.ensures
     ∙ ap (with_route (codes "/statement-csv/{*rest}") page.StatementCsv) (c.in_ok-router-2.ensures
     ∙ ap (with_route (codes "/statement/{*rest}") page.Statement) (c.in_ok-router.ensures
-    ∙ ap (with_route (codes "/periods") page.Periods) c.new.ensures)))))))))))) in
-    subst (λ rows. IfOk c.with_page-14.result
-    (λ router. router ≡ with_route (codes "/import-bdw") page.ImportBdw rows)) thirteen
-    c.with_page-14.ensures
+    ∙ ap (with_route (codes "/periods") page.Periods) c.new.ensures)))))))))))))) in
+    subst (λ rows. IfOk c.with_page-16.result
+    (λ router. router ≡ with_route (codes "/import-bdw") page.ImportBdw rows)) fifteen
+    c.with_page-16.ensures

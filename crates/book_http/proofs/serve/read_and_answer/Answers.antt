@@ -2,10 +2,9 @@ use Rattle.std.proofs.Common.{rules, sym, ap, ◌∙◌, subst, ◌++◌, take, 
 use Rattle.streams.specs.Sources.{has_ended}
 use Rattle.book_http.specs.Asked.{asked}
 use Rattle.book_http.specs.Reads.{bytes_read, IsDue, IsDueAfterHead}
-use Rattle.book_http.specs.Replies.{reply_of}
-use Rattle.book_http.specs.Served.{IsAnswer}
+use Rattle.book_http.specs.Served.{IsToSend}
 use Rattle.book_http.proofs.ReadLemmas.{behind_head, head_read, read_behind}
-use Rattle.book_http.proofs.ServeLemmas.{refused_answer, head_answer}
+use Rattle.book_http.proofs.ServeLemmas.{head_to_send, refused_answer}
 use Rattle.book_http.proofs.serve.read_and_answer.Goals as goal
 
 pub returns-in-Closed-clause-answer : goal.returns-in-Closed-clause-answer
@@ -50,7 +49,6 @@ returns-in-Ok-clause-answer g c =
     let read = c.in-Whole.ensures.reads in
     let told = rw request.ensures.behind at
     c.in-Ok.ensures.answer head.0 (request.ensures.says head.0 head.1.parts) in
-    let reply = reply_of c.in-Ok.answer in
     let both =
     read_behind _ _ IsDue (λ came room. IsDueAfterHead (asked head.0) (behind ++ came) room)
     c.args.source.now c.read_head.new.source c.answer_request.new.source told.0 read.0
@@ -58,9 +56,9 @@ returns-in-Ok-clause-answer g c =
     let came = both.1 ∙ ap (λ bytes. bytes ++ bytes_read told.0) read.2 in (
       told.0 ++ read.0,
       both.0,
-      subst (λ taken. IsAnswer old new ended taken reply) (sym came)
-          (head_answer old new ended front behind (bytes_read told.0) head.0 reply head.1.is_head
-          told.2),
+      subst (λ taken. IsToSend old new ended taken c.in-Ok.sent) (sym came)
+          (head_to_send old new ended front behind (bytes_read told.0) head.0 c.in-Ok.sent
+          head.1.is_head told.2),
       search rules,
     )
 

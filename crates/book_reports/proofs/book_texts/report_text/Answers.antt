@@ -79,6 +79,10 @@ returns-in-OfCentre g c = rw c.in-OfCentre.is c.centre_text.ensures
 pub returns-in-RulingList : goal.returns-in-RulingList
 returns-in-RulingList g c = rw c.in-RulingList.is c.ruling_list.ensures
 
+-- so is a bill
+pub returns-in-Bill : goal.returns-in-Bill
+returns-in-Bill g c = rw c.in-Bill.is c.bill_report.ensures
+
 pub returns-in-TariffText : goal.returns-in-TariffText
 returns-in-TariffText g c =
     let fits : SFits w32 c.in-TariffText.day = search rules in

@@ -78,7 +78,8 @@ details-init g c = record {
 pub returns-in_default-clause-written : goal.returns-in_default-clause-written
 returns-in_default-clause-written g c =
     text_ended c.details.invariant.far (g.W.Write.contents (writer_of c.write_end.new.sink))
-    c.write_end.result c.in_default.is c.write_end.ensures.fault c.write_end.ensures.written
+    c.write_end.result c.in_default.is c.write_end.ensures.fault
+    (c.write_end.ensures.until c.details.invariant.far.some)
 
 pub returns-in_default-clause-some : goal.returns-in_default-clause-some
 returns-in_default-clause-some g c =
@@ -90,20 +91,20 @@ pub returns-in_err-push_detail-clause-written : goal.returns-in_err-push_detail-
 returns-in_err-push_detail-clause-written g c =
     let failed = err_from_is_err_and c.from_residual-in_err-push_detail.result
     c.from_residual-in_err-push_detail.ensures.1 in
-    let line = c.in_err-push_detail.ensures.written in
+    let line = c.in_err-push_detail.ensures.left in
     rw (failed.1, failed.2)
     (text_cut c.details.invariant.far c.in-Some.detail c.in-Some.is line.0
-    (g.W.Write.contents (writer_of c.push_detail.new.sink)) line.1
+    (g.W.Write.contents (writer_of c.push_detail.new.sink)) line.2 line.1
     c.in_err-push_detail.field-0.0 c.in_err-push_detail.ensures.fault)
 
 pub returns-in_err-push_detail-clause-some : goal.returns-in_err-push_detail-clause-some
 returns-in_err-push_detail-clause-some g c =
     let failed = err_from_is_err_and c.from_residual-in_err-push_detail.result
     c.from_residual-in_err-push_detail.ensures.1 in
-    let line = c.in_err-push_detail.ensures.written in
+    let line = c.in_err-push_detail.ensures.left in
     rw failed.1
     (some_cut c.details.invariant.far c.in-Some.detail c.in-Some.is line.0
-    (g.W.Write.contents (writer_of c.push_detail.new.sink)) line.1 failed.0)
+    (g.W.Write.contents (writer_of c.push_detail.new.sink)) line.2 line.1 failed.0)
 
 -- the ledger refuses the next one
 pub returns-in_err-next-2-clause-written : goal.returns-in_err-next-2-clause-written
@@ -113,7 +114,8 @@ returns-in_err-next-2-clause-written g c =
     rw (failed.1, failed.2)
     (text_refused c.details.invariant.far c.in-Some.detail c.in-Some.is
     c.push_detail.new.waiting.items (g.W.Write.contents (writer_of c.push_detail.new.sink))
-    c.in_ok-push_detail.ensures.written (g.L.Ledger.seen c.detail_after-in-details.new.ledger)
+    c.in_ok-push_detail.ensures.written c.in_ok-push_detail.ensures.left
+    (g.L.Ledger.seen c.detail_after-in-details.new.ledger)
     c.in_err-next-2.field-0.0 c.in_err-next-2.ensures.detail)
 
 pub returns-in_err-next-2-clause-some : goal.returns-in_err-next-2-clause-some
@@ -123,7 +125,7 @@ returns-in_err-next-2-clause-some g c =
     rw failed.1
     (some_cut c.details.invariant.far c.in-Some.detail c.in-Some.is
     c.push_detail.new.waiting.items (g.W.Write.contents (writer_of c.push_detail.new.sink))
-    c.in_ok-push_detail.ensures.written failed.0)
+    c.in_ok-push_detail.ensures.written c.in_ok-push_detail.ensures.left failed.0)
 
 -- or it goes on
 pub details-preserved : goal.details-preserved
@@ -132,7 +134,8 @@ details-preserved g c = record {
   shown = c.in_ok-next-2.ensures.shown;
   far = text_more c.details.invariant.far c.in-Some.detail c.in-Some.is
       c.push_detail.new.waiting.items (g.W.Write.contents (writer_of c.push_detail.new.sink))
-      c.in_ok-push_detail.ensures.written (g.L.Ledger.seen c.detail_after-in-details.new.ledger)
+      c.in_ok-push_detail.ensures.written c.in_ok-push_detail.ensures.left
+      (g.L.Ledger.seen c.detail_after-in-details.new.ledger)
       c.in_ok-next-2.next c.push_detail.new.sums c.in_ok-push_detail.ensures.sums
       c.in_ok-next-2.ensures.detail;
 }

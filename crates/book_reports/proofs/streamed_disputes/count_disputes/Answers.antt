@@ -1,16 +1,18 @@
-use Rattle.std.proofs.Common.{◌+◌, ◌++◌, ◌∷◌, [], ap, length, length-append, refl, ◌∙◌}
+use Rattle.std.proofs.Common.{ℕ, ◌+◌, ◌++◌, ◌∷◌, [], ap, length, length-append, refl, ◌∙◌}
 use Rattle.std.specs.Prelude.{option_map}
 use Rattle.std.proofs.lemmas.Result.{err_from_is_err_and}
 use Rattle.book_model.specs.Words.{dispute_shown}
-use Rattle.book_reports.proofs.DisputeReading.{all_counted, count_refused, count_stopped, count_unread}
-use Rattle.book_reports.proofs.DisputeReading.{first_read, one_more_read}
+use Rattle.book_reports.proofs.DisputeReading.{all_summed, first_read, one_more_read, sum_refused}
+use Rattle.book_reports.proofs.DisputeReading.{sum_stopped, sum_unread}
 use Rattle.book_reports.proofs.streamed_disputes.count_disputes.Goals as goal
 
 -- the first call is refused
 pub returns-in_err-next : goal.returns-in_err-next
 returns-in_err-next g c =
     let failed = err_from_is_err_and c.from_residual.result c.from_residual.ensures.1 in
-    rw (failed.1, failed.2) (count_unread _ _ c.in_err-next.field-0.0 c.in_err-next.ensures.dispute)
+    rw (failed.1, failed.2)
+    (sum_unread (λ (count : ℕ). count) length _ _ c.in_err-next.field-0.0
+    c.in_err-next.ensures.dispute)
 
 pub loop-before-init : goal.loop-before-init
 loop-before-init g c = ([], refl, first_read _ _ c.in_ok-next.next c.in_ok-next.ensures.dispute)
@@ -19,7 +21,8 @@ loop-before-init g c = ([], refl, first_read _ _ c.in_ok-next.next c.in_ok-next.
 pub returns-in_default : goal.returns-in_default
 returns-in_default g c =
     let it = c.loop-before.invariant in
-    all_counted _ _ c.loop-before.before it.0 (rw c.in_default.is at it.2) it.1
+    all_summed (λ (count : ℕ). count) length _ _ c.loop-before.before it.0 c.loop-before.before
+    (rw c.in_default.is at it.2) it.1
 
 -- one more
 pub loop-before-preserved : goal.loop-before-preserved
@@ -40,8 +43,9 @@ returns-in_err-next-2 g c =
     let failed = err_from_is_err_and c.from_residual-in_err-next-2.result
     c.from_residual-in_err-next-2.ensures.1 in
     rw (failed.1, failed.2)
-    (count_refused _ _ _ c.loop-before.before it.0 c.loop-before.next c.in_ok-from.from.items
-    c.in_err-next-2.field-0.0 it.2 (rw c.deref.ensures.value at c.in_err-next-2.ensures.dispute))
+    (sum_refused (λ (count : ℕ). count) length _ _ _ c.loop-before.before it.0 c.loop-before.next
+    c.in_ok-from.from.items c.in_err-next-2.field-0.0 it.2
+    (rw c.deref.ensures.value at c.in_err-next-2.ensures.dispute))
 
 -- memory ran out
 pub returns-in_err-from : goal.returns-in_err-from
@@ -50,10 +54,10 @@ returns-in_err-from g c =
     let failed = err_from_is_err_and c.from_residual-in_err-from.result
     c.from_residual-in_err-from.ensures.1 in
     rw (failed.1, failed.2)
-    (count_stopped _ _ c.loop-before.before it.0 c.loop-before.next _ refl it.2)
+    (sum_stopped (λ (count : ℕ). count) length _ _ c.loop-before.before it.0 c.loop-before.next it.2)
 
 -- there are too many
 pub returns : goal.returns
 returns g c =
     let it = c.loop-before.invariant in
-    count_stopped _ _ c.loop-before.before it.0 c.loop-before.next _ refl it.2
+    sum_stopped (λ (count : ℕ). count) length _ _ c.loop-before.before it.0 c.loop-before.next it.2

@@ -1,7 +1,14 @@
 use Rattle.book_reports.specs.BookTexts.{ruling_text}
+use Rattle.book_reports.specs.StreamedDetails.{detail_answer}
 use Rattle.book_reports.specs.StreamedDisputes.{dispute_report}
+use Rattle.book_reports.proofs.AnsweringLemmas.{until_written}
 use Rattle.chargectl.proofs.StreamedListLemmas.{text_answered}
 use Rattle.chargectl.proofs.streamed_lists.write_of.Goals as goal
+
+pub returns-in-Details-clause-written : goal.returns-in-Details-clause-written
+returns-in-Details-clause-written g c =
+    rw c.in-Details.is
+    (until_written (detail_answer c.in-Details.report) _ _ _ _ _ c.write_details.ensures.written)
 
 pub returns-in-Rulings-clause-written : goal.returns-in-Rulings-clause-written
 returns-in-Rulings-clause-written g c =

@@ -19,6 +19,19 @@ returns-in-details-clause-some c =
     let words = subst (λ n. HasWordsOf n (rows_in c.args.found.now)) c.in-details.is has in
     c.of_books_in.ensures.some words.0 (c.details_in.ensures.some words.1.0 words.1.1.0)
 
+pub returns-in-bill-clause-request : goal.returns-in-bill-clause-request
+returns-in-bill-clause-request c =
+    c.of_books_in-in-bill.ensures.request c.args.name.now
+    (subst (λ n. IfSome c.bill_in.result (IsOfBooks n (rows_in c.args.found.now)))
+    (sym c.in-bill.is) c.bill_in.ensures.asked)
+
+pub returns-in-bill-clause-some : goal.returns-in-bill-clause-some
+unfolding known_table
+returns-in-bill-clause-some c =
+    λ has others.
+    let words = subst (λ n. HasWordsOf n (rows_in c.args.found.now)) c.in-bill.is has in
+    c.of_books_in-in-bill.ensures.some words.0 (c.bill_in.ensures.some words.1.0 words.1.1.0)
+
 pub returns-in-record-clause-request : goal.returns-in-record-clause-request
 returns-in-record-clause-request c =
     c.of_books_in-in-record.ensures.request c.args.name.now

@@ -1,11 +1,8 @@
 use Rattle.std.proofs.Common.{◌∙◌, ap}
 use Rattle.toml.specs.Data.{get_member}
-use Rattle.toml.specs.View.{members_view}
-use Rattle.toml.proofs.Views.{table_get}
+use Rattle.toml.specs.View.{table_view}
 use Rattle.tariff_rules.proofs.document.value_at.Goals as goal
 
 pub returns : goal.returns
 returns c =
-    let entries = c.args.table.now.entries in
-    let found = table_get c.get.result c.text.result.now entries c.get.ensures.value in
-    found ∙ ap (λ k. get_member k (members_view entries)) c.text.ensures
+    c.member_at.ensures ∙ ap (λ key. get_member key (table_view c.args.table.now)) c.text.ensures

@@ -1,0 +1,24 @@
+use Rattle.std.proofs.Common.{◌∙◌, ap, refl, Err}
+use Rattle.book_core.proofs.TransitionLemmas.{work_as}
+use Rattle.book_http.specs.Answer.{AnswersDetails, office_reply}
+use Rattle.book_http.specs.Replies.{reply_of}
+use Rattle.book_http.proofs.StreamLemmas.{text_refused}
+use Rattle.book_http.proofs.office_answers.measure_details.Goals as goal
+
+pub returns-in-Ok : goal.returns-in-Ok
+returns-in-Ok g c = (refl, c.in-Ok.ensures.work)
+
+pub returns-in-Err : goal.returns-in-Err
+returns-in-Err g c =
+    let old = g.L.Ledger.seen c.args.ledger.now in
+    let new = g.L.Ledger.seen c.details_length.new.ledger in
+    let details = c.args.details.now in
+    let fault = c.in-Err.fault in
+    work_as old new _ (AnswersDetails old.naming details (reply_of c.answer_of.result))
+    (λ was before events is called. record {
+      told = Err fault;
+      made = called;
+      replied = c.answer_of.ensures
+          ∙ ap (λ kind. office_reply kind (Err fault)) c.form_kind-kind.ensures;
+    })
+    (text_refused details old new fault c.in-Err.ensures).work

@@ -1,0 +1,41 @@
+use Rattle.std.proofs.Common.{◌∙◌, ap, sym, subst, None}
+use Rattle.std.specs.Io.KnownBytes.{Appends}
+use Rattle.streams.specs.Sinks.{writer_of}
+use Rattle.book_http.specs.declared.status.Status.TheVariants.{Done}
+use Rattle.book_http.specs.AnswerHead.{answer_head}
+use Rattle.book_http.specs.Served.{is_unanswered, is_write_fault}
+use Rattle.book_http.proofs.StreamLemmas.{details_sent, fails_alike, head_sent, is_begun}
+use Rattle.book_http.proofs.sending.send_details.Goals as goal
+
+-- the head is not written, or not whole
+pub returns-in_default-clause-sent : goal.returns-in_default-clause-sent
+returns-in_default-clause-sent g c =
+    let held = g.W.Write.contents (writer_of c.args.sink.now) in
+    let holds = g.W.Write.contents (writer_of c.write_text.new.sink) in
+    let kind = c.form_kind.ensures in
+    let text = c.as_str.ensures.value ∙ c.answer_head-head.ensures
+    ∙ ap (λ kind. answer_head Done kind None c.args.size) kind in
+    let front = rw text at c.in_default.ensures.prefix in
+    head_sent c.args.details c.args.size (g.L.Ledger.seen c.args.ledger.now) held holds front.0 front.1
+    front.2
+
+-- the text is written, or a prefix of it
+pub returns-clause-sent : goal.returns-clause-sent
+returns-clause-sent g c =
+    let held = g.W.Write.contents (writer_of c.args.sink.now) in
+    let between = g.W.Write.contents (writer_of c.write_text.new.sink) in
+    let holds = g.W.Write.contents (writer_of c.write_details.new.sink) in
+    let text = c.as_str.ensures.value ∙ c.answer_head-head.ensures
+    ∙ ap (λ kind. answer_head Done kind None c.args.size) c.form_kind.ensures in
+    details_sent c.args.details c.args.size _ _ held between holds c.write_details.result
+    c.served_as.result c.served_as.ensures
+    (subst (Appends held between) text c.in-Ok.ensures.whole.0) c.write_details.ensures.written
+
+pub returns-clause-failed : goal.returns-clause-failed
+returns-clause-failed g c =
+    c.write_details.ensures.failed c.in-Ok.ensures.whole.1
+    ∙ fails_alike c.write_details.result ∙ ap is_write_fault (sym c.served_as.ensures)
+
+pub returns-clause-answered : goal.returns-clause-answered
+returns-clause-answered g c =
+    ap is_unanswered c.served_as.ensures ∙ is_begun c.write_details.result

@@ -1,0 +1,207 @@
+-- The bills of closed periods stay.
+use Rattle.std.proofs.Common.{◌≡◌, ℕ, zero, suc, ◌<◌, List, [], ◌∷◌, ◌++◌, length, refl, sym, ap}
+use Rattle.std.proofs.Common.{◌∙◌, true, false, true≢false, Bool, ◌||◌, Option, Some, None, is_some}
+use Rattle.std.proofs.Common.{arith}
+use Rattle.std.specs.Prelude.{All, ℤ, pos, if◌then◌else◌}
+use Rattle.std.specs.FinMap as map
+use Rattle.std.specs.List.{cons_option, filter_map, list_any}
+use Rattle.std.specs.Option.{ok_or, option_and_then, option_map}
+use Rattle.std.specs.Result.{result_ok}
+use Rattle.std.proofs.Math.Bool.{or-true}
+use Rattle.std.proofs.lemmas.List.Elements.{All-append, All-cons, All-filter, All-nil}
+use Rattle.std.proofs.lemmas.List.Sorted.{All-permutation, IsPermutation-sym}
+use Rattle.std.proofs.lemmas.Option.{slice_get-get_or}
+use Rattle.smf_type30.specs.Usage.{day_of, job_of}
+use Rattle.tariff_rules.specs.declared.priced.Priced.{Priced}
+use Rattle.book_model.specs.declared.bill.HeldBack.{HeldBack}
+use Rattle.book_model.specs.declared.fault.LedgerFault.TheVariants.{NoSuchPeriod, NoSuchRecord}
+use Rattle.book_model.specs.declared.line.Line.{Line}
+use Rattle.book_model.specs.Words.{AreHeld, Book, IsSound, Naming}
+use Rattle.book_model.specs.Words.{Period, Records, Rulings, Terms, bill_of, billed_line, billed_lines}
+use Rattle.book_model.specs.Words.{billed_tariff, book_after, charged_before, details_asked}
+use Rattle.book_model.specs.Words.{disputes_in, has, held_back_in, held_back_of, in_force, is_dated_after}
+use Rattle.book_model.specs.Words.{jobs_of, last_close, letterhead_among, life_of, lines_for, lines_of}
+use Rattle.book_model.specs.Words.{members, name_of, no_event, period_by_trail, period_of_line}
+use Rattle.book_model.specs.Words.{period_on, price_by, price_in, reckoning_by, record_named, same_bytes}
+use Rattle.book_model.specs.Words.{steps_of, trail_by, trail_of, work_rows}
+use Rattle.book_model.proofs.CountedDays.{through_at}
+use Rattle.book_model.proofs.LineOrder.{line_by, line_of}
+use Rattle.book_model.proofs.ListLemmas.{map-agree}
+use Rattle.book_model.proofs.MadeByCallsLemmas.{sound_after}
+use Rattle.book_model.proofs.RecordSets.{is, is_first}
+use Rattle.book_model.proofs.SamePriceLemmas.{same_lines}
+use Rattle.report_texts.specs.Centres.{lines_of_centre}
+use Rattle.table_model.proofs.TrailLemmas.{named_itself}
+use Rattle.book_laws.specs.BillLaws.{ClosedBillsStay}
+use Rattle.book_laws.specs.PeriodLines.{AreReadOnce, both_lines}
+use Rattle.book_laws.proofs.BillLemmas.{of_period}
+use Rattle.book_laws.proofs.ReadLemmas.{all_held, lines_once}
+use Rattle.book_laws.proofs.StayLemmas.{answered_before, keeps, keeps_period}
+use Rattle.book_laws.proofs.TariffStays.{keeps_tariffs, tariffs_stay}
+use Rattle.book_laws.proofs.TurnStays.{charge_stays}
+
+-- the period that a line speaks of, by the record of its name
+module _ (naming : Naming) (book : Book) (sound : IsSound naming book) (number : ℕ) (line : Line)
+    (bytes : List ℕ) (there : has book.held bytes ≡ true) (named : line.name ≡ name_of naming bytes)
+  where
+    abbrev told : Option ℕ
+    told =
+        if line.plus then Some (period_on book.rulings.closes (day_of bytes))
+        else charged_before number (life_of book bytes)
+
+    by_terms : (terms : Option Terms)
+        → is_some (option_map (λ terms. price_by terms bytes) terms) ≡ true
+        → option_and_then (period_by_trail number line)
+        (result_ok (ok_or
+        (option_map (trail_by naming book bytes) (option_map (λ terms. reckoning_by terms bytes) terms))
+        NoSuchRecord))
+        ≡ told
+    by_terms None never = absurd (true≢false (sym never))
+    by_terms (Some terms) some = refl
+
+    period_told : period_of_line naming book number line ≡ told
+    period_told =
+        let by : Option (List ℕ) → Option ℕ = λ found.
+        option_and_then (period_by_trail number line)
+        (result_ok (ok_or (option_and_then (trail_of naming book) found) NoSuchRecord)) in
+        ap (λ name. by (record_named naming book.held name)) named
+        ∙ ap by (named_itself naming book sound bytes there)
+        ∙ by_terms (in_force (day_of bytes) book.rulings.tariffs) (sound.priced bytes there)
+
+-- what holds of a line of each record, with any price, holds of the lines
+module _ (naming : Naming) (rulings : Rulings) (P : Line → Type 0) (plus : Bool) where
+  abbrev line_with : List ℕ → Priced → Line
+  line_with bytes priced = record {
+    plus = plus;
+    name = name_of naming bytes;
+    job = job_of bytes;
+    priced = priced;
+  }
+
+  each_given : (ks : List (List ℕ))
+      → ((k : List ℕ) → list_any (is k) ks ≡ true → (priced : Priced) → P (line_with k priced))
+      → All P (filter_map (line_of naming rulings plus) ks)
+  each_given [] holds = All-nil P
+  each_given (k ∷ ks) holds =
+      let rest =
+      each_given ks
+      (λ other among. holds other (ap (λ b. is other k || b) among ∙ or-true (is other k))) in
+      let others : List Line = filter_map (line_of naming rulings plus) ks in
+      elim (price_in rulings k)
+      as (λ price. All P (cons_option (line_by naming rulings plus k price) others)) [
+        | None ↦ rest
+        | Some priced ↦ All-cons P (line_with k priced) others (holds k (is_first k ks) priced) rest
+      ]
+
+  each_line : (records : Records)
+      → ((bytes : List ℕ) → has records bytes ≡ true → (priced : Priced) → P (line_with bytes priced))
+      → All P (lines_for naming rulings plus records)
+  each_line records holds =
+      each_given (members records)
+      (λ k among. holds k (map.contains_key-keys records k ∙ among))
+
+-- what holds of a line of each record that a period adds or reverses holds of its lines
+each_of_period : (naming : Naming) (rulings : Rulings) (period : Period) (P : Line → Type 0)
+    → AreReadOnce naming rulings period
+    → ((bytes : List ℕ) → has period.added bytes ≡ true → (priced : Priced)
+    → P (line_with naming rulings P true bytes priced))
+    → ((bytes : List ℕ) → has period.taken bytes ≡ true → (priced : Priced)
+    → P (line_with naming rulings P false bytes priced))
+    → All P (lines_of naming rulings period)
+each_of_period naming rulings period P read added taken =
+    All-permutation P (both_lines naming rulings period) (lines_of naming rulings period)
+    (IsPermutation-sym (lines_of naming rulings period) (both_lines naming rulings period) read.same)
+    (All-append P (lines_for naming rulings true period.added)
+    (lines_for naming rulings false period.taken)
+    (each_line naming rulings P true period.added added)
+    (each_line naming rulings P false period.taken taken))
+
+-- lines of which each is billed alike are billed alike
+billed_alike : (naming : Naming) (one other : Book) (number : ℕ) (centre : Option (List ℕ))
+    (lines : List Line)
+    → All (λ line. billed_line naming one number line ≡ billed_line naming other number line) lines
+    → billed_lines naming one number centre lines ≡ billed_lines naming other number centre lines
+billed_alike naming one other number None lines alike = refl
+billed_alike naming one other number (Some centre) lines alike =
+    map-agree (billed_line naming one number) (billed_line naming other number)
+    (lines_of_centre centre lines)
+    (All-filter (λ (line : Line). same_bytes line.priced.centre centre)
+    (λ line. billed_line naming one number line ≡ billed_line naming other number line) lines alike)
+
+-- a closed period holds nothing back
+none_held_back : (naming : Naming) (book : Book) (k : ℕ) (centre : Option (List ℕ))
+    → k < length book.rulings.closes → held_back_of naming book (suc k) centre ≡ None
+none_held_back naming book k centre within =
+    let day : ℤ = pos 0 in
+    let closed = through_at (suc k) book.rulings ∙ slice_get-get_or book.rulings.closes k day within in
+    let held : HeldBack = held_back_in centre (disputes_in naming book.rulings book.held) in
+    ap (λ (through : Option ℤ). if is_some through then None else Some held) closed
+
+-- the law
+pub closed_bills_stay : ClosedBillsStay
+closed_bills_stay naming later earlier zero centre answered closed =
+    let some = closed.is_numbered in
+    absurd (omega arith)
+closed_bills_stay naming later earlier (suc k) centre answered closed =
+    let old : Book = book_after earlier in
+    let new : Book = book_after (later ++ earlier) in
+    let kept = keeps_period naming later earlier (suc k) answered closed in
+    let period : Period = kept.period in
+    let before = answered_before naming later earlier answered in
+    let was_sound = sound_after naming earlier before in
+    let is_sound = sound_after naming (later ++ earlier) answered in
+    let past = closed.is_past in
+    let within : k < length old.rulings.closes = omega arith in
+    let as_many = was_sound.closed in
+    let was_held : AreHeld old.held period =
+    of_period (AreHeld old.held) naming old was_sound (all_held naming old was_sound) (suc k) period
+    kept.was in
+    let is_held : AreHeld new.held period =
+    of_period (AreHeld new.held) naming new is_sound (all_held naming new is_sound) (suc k) period
+    kept.is in
+    let read = of_period (λ period. AreReadOnce naming old.rulings period) naming old was_sound
+    (lines_once naming old was_sound) (suc k) period kept.was in
+    let alike = λ (bytes : List ℕ) (early : is_dated_after (last_close old.rulings) bytes ≡ false).
+    (keeps naming later earlier bytes answered early).price in
+    let lines = same_lines new.rulings old.rulings (last_close old.rulings) alike naming period
+    kept.dated in
+    let P : Line → Type 0 = λ line.
+    billed_line naming new (suc k) line ≡ billed_line naming old (suc k) line in
+    let one : (plus : Bool) (bytes : List ℕ) → has old.held bytes ≡ true
+    → has new.held bytes ≡ true → is_dated_after (last_close old.rulings) bytes ≡ false
+    → (priced : Priced) → P (line_with naming old.rulings P plus bytes priced) =
+    λ plus bytes was now early priced.
+    let line : Line = line_with naming old.rulings P plus bytes priced in
+    let place = (keeps naming later earlier bytes answered early).place in
+    let charges = charge_stays (suc k) bytes naming later earlier answered (omega arith) in
+    let same : period_of_line naming new (suc k) line ≡ period_of_line naming old (suc k) line =
+    period_told naming new is_sound (suc k) line bytes now refl
+    ∙ (λ i. if plus then Some (place i) else charges i)
+    ∙ sym (period_told naming old was_sound (suc k) line bytes was refl) in
+    ap (λ (period : Option ℕ). record { line = line; period = period }) same in
+    let each : All P (lines_of naming old.rulings period) =
+    each_of_period naming old.rulings period P read
+    (λ bytes there priced. one true bytes (was_held.added bytes there) (is_held.added bytes there)
+    (kept.dated.added bytes there) priced)
+    (λ bytes there priced. one false bytes (was_held.taken bytes there) (is_held.taken bytes there)
+    (kept.dated.taken bytes there) priced) in
+    let billed = ap (billed_lines naming new (suc k) centre) lines
+    ∙ billed_alike naming new old (suc k) centre (lines_of naming old.rulings period) each in
+    let tariffs = tariffs_stay naming later earlier k answered within in
+    let still = (keeps_tariffs naming later earlier k answered within).within in
+    let none = none_held_back naming new k centre still
+    ∙ sym (none_held_back naming old k centre within) in
+    let same : bill_of naming new (suc k) centre period ≡ bill_of naming old (suc k) centre period =
+    λ i. record {
+      steps = work_rows (steps_of (details_asked centre (kept.details i)));
+      jobs = work_rows (jobs_of (details_asked centre (kept.details i)));
+      lines = billed i;
+      held_back = none i;
+      tariffs = filter_map billed_tariff (tariffs i);
+      letterhead = letterhead_among (tariffs i);
+    } in
+    let by = λ (book : Book) (found : Option Period).
+    no_event (ok_or (option_map (bill_of naming book (suc k) centre) found) NoSuchPeriod) in
+    ap (by new) kept.is
+    ∙ ap (λ bill. no_event (ok_or (Some bill) NoSuchPeriod)) same
+    ∙ sym (ap (by old) kept.was)

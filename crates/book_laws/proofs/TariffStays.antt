@@ -1,0 +1,217 @@
+-- The tariffs of a closed period's days stay: those that come later begin after these days.
+use Rattle.std.proofs.Common.{◌≡◌, ℕ, zero, suc, ◌-◌, ◌<◌, List, [], ◌∷◌, ◌++◌, length, get_or, refl}
+use Rattle.std.proofs.Common.{sym, ap, ◌∙◌, subst, true, false, Bool, cond, not, ◌||◌, Some}
+use Rattle.std.proofs.Common.{None, append-nil, arith}
+use Rattle.std.specs.Prelude.{ℤ, pos, ◌+ℤ◌, ◌<ℤ◌, int_lt, filter, slice_get, MatchOption}
+use Rattle.std.specs.Prelude.{if◌then◌else◌}
+use Rattle.std.specs.List.{last_or, list_any}
+use Rattle.std.specs.List.Sorted.{IsStrictlySortedBy}
+use Rattle.std.specs.Option.{option_map}
+use Rattle.std.specs.Ordering.{int_cmp}
+use Rattle.std.proofs.lemmas.Int.{ints}
+use Rattle.std.proofs.lemmas.List.{length-append}
+use Rattle.std.proofs.lemmas.List.Elements.{filter-append, filter_map-append}
+use Rattle.std.proofs.lemmas.List.Folds.{list_any-append}
+use Rattle.std.proofs.lemmas.Map.Keys.{Less-from_sorted}
+use Rattle.std.proofs.lemmas.Option.{get_or_from_slice_get, slice_get-get_or, slice_get_within}
+use Rattle.book_model.specs.Words.{AcceptedTerms, Book, Event, IsMadeByCalls, Naming, PeriodClosed}
+use Rattle.book_model.specs.Words.{RecordChosen, RecordKept, Rulings, RulingSeen, SecondRuleAdopted}
+use Rattle.book_model.specs.Words.{TariffAccepted, TariffSeen, Terms, begins_by, book_after}
+use Rattle.book_model.specs.Words.{in_force_from, tariff_seen, tariffs_from, tariffs_in, tariffs_seen}
+use Rattle.book_model.specs.Words.{tariffs_through}
+use Rattle.book_model.specs.RulingAnswers.{through_of}
+use Rattle.book_model.proofs.CallLemmas.{calls_go_forward}
+use Rattle.book_model.proofs.CountedDays.{close_at, through_at}
+use Rattle.book_model.proofs.ListLemmas.{slice_get-front}
+use Rattle.table_model.proofs.CloseOrder.{earlier as is_earlier, first_earlier}
+use Rattle.book_laws.proofs.CountedLemmas.{closes_rise}
+
+-- of rising days one that stands before another is earlier
+rise_at : (days : List ℤ) (j k : ℕ) (one other : ℤ) → IsStrictlySortedBy int_cmp days → j < k
+    → slice_get days j ≡ Some one → slice_get days k ≡ Some other → one <ℤ other
+rise_at days j k one other rising before first second =
+    let less = Less-from_sorted int_cmp days j k (pos 0) rising before
+    (slice_get_within days k other second) in
+    let first_is = get_or_from_slice_get days j one (pos 0) first in
+    let second_is = get_or_from_slice_get days k other (pos 0) second in
+    is_earlier one other ((λ i. int_cmp (sym first_is i) (sym second_is i)) ∙ less)
+
+-- what is later than the last of them is later than each
+after_each : (days : List ℤ) (k : ℕ) (one day : ℤ) → IsStrictlySortedBy int_cmp days
+    → slice_get days k ≡ Some one
+    → MatchOption (last_or None days) (Unit {0}) (λ last. last <ℤ day) → one <ℤ day
+unfolding IsStrictlySortedBy
+after_each [] k one day rising found later = cc
+after_each (first ∷ days) zero one day rising found later =
+    let same : first ≡ one = cc in
+    subst (λ (one : ℤ). one <ℤ day) same (first_earlier first days day rising later)
+after_each (first ∷ []) (suc k) one day rising found later = cc
+after_each (first ∷ next ∷ days) (suc k) one day rising found later =
+    after_each (next ∷ days) k one day rising.1 found later
+
+-- a tariff that begins later has not begun
+is_under : (last day : ℤ) → last <ℤ day → int_lt last day ≡ true
+is_under last day later = grind (arith, ints)
+
+not_begun : (last day : ℤ) (text : List ℕ) → last <ℤ day
+    → begins_by last (TariffSeen day text) ≡ false
+not_begun last day text later = ap not (is_under last day later)
+
+-- the day after a close comes no later than the next close
+next_under : (close last day : ℤ) → close <ℤ last → last <ℤ day → (close +ℤ pos 1) <ℤ day
+next_under close last day before after = omega (arith, ints)
+
+-- a tariff that has not begun ends no other
+late_behind : (day : ℤ) (one : RulingSeen) → begins_by day one ≡ false → (tariffs : List RulingSeen)
+    → in_force_from day (tariffs ++ one ∷ []) ≡ in_force_from day tariffs ++ one ∷ []
+late_behind day one late [] = refl
+late_behind day one late (first ∷ later) =
+    let rest = late_behind day one late later in
+    let begun : List RulingSeen → Bool = list_any (begins_by day) in
+    let same : begun (later ++ one ∷ []) ≡ begun later =
+    list_any-append (begins_by day) later (one ∷ [])
+    ∙ ap (λ b. begun later || (b || false)) late ∙ or_none (begun later) in
+    (λ i. if same i then rest i else first ∷ (later ++ one ∷ [])) ∙ by_later (begun later)
+  where
+    or_none : (b : Bool) → (b || (false || false)) ≡ b
+    or_none true = refl
+    or_none false = refl
+
+    by_later : (b : Bool)
+        → (if b then in_force_from day later ++ one ∷ [] else first ∷ (later ++ one ∷ []))
+        ≡ (if b then in_force_from day later else first ∷ later) ++ one ∷ []
+    by_later true = refl
+    by_later false = refl
+
+-- the first day after a close
+abbrev pub day_after : ℤ → ℤ
+day_after close = close +ℤ pos 1
+
+-- the tariffs in force on the days of the period after so many closes
+abbrev pub tariffs_at : ℕ → List ℤ → List AcceptedTerms → List RulingSeen
+tariffs_at k closes tariffs =
+    tariffs_through (slice_get closes k)
+    (tariffs_from (option_map day_after (close_at closes k)) (tariffs_seen tariffs))
+
+tariffs_are : (k : ℕ) (rulings : Rulings)
+    → tariffs_in (suc k) rulings ≡ tariffs_at k rulings.closes rulings.tariffs
+tariffs_are k rulings =
+    let place : suc k - 1 ≡ k = omega arith in
+    let before : through_of (suc k - 1) rulings ≡ close_at rulings.closes k =
+    ap (λ n. through_of n rulings) place ∙ through_at k rulings in
+    let at = through_at (suc k) rulings in
+    λ i. tariffs_through (at i)
+    (tariffs_from (option_map day_after (before i)) (tariffs_seen rulings.tariffs))
+
+-- one more close changes none of them
+before_stays : (closes : List ℤ) (day : ℤ) (k : ℕ) → k < length closes
+    → close_at (closes ++ day ∷ []) k ≡ close_at closes k
+before_stays closes day zero within = refl
+before_stays closes day (suc k) within = slice_get-front closes day k (omega arith)
+
+close_leaves : (closes : List ℤ) (tariffs : List AcceptedTerms) (day : ℤ) (k : ℕ)
+    → k < length closes → tariffs_at k (closes ++ day ∷ []) tariffs ≡ tariffs_at k closes tariffs
+close_leaves closes tariffs day k within =
+    let at = slice_get-front closes day k within in
+    let before = before_stays closes day k within in
+    λ i. tariffs_through (at i)
+    (tariffs_from (option_map day_after (before i)) (tariffs_seen tariffs))
+
+-- nor does one more tariff: it begins after the first day of the period,
+from_first : (closes : List ℤ) (k : ℕ) (last day : ℤ) (text : List ℕ) (tariffs : List RulingSeen)
+    → IsStrictlySortedBy int_cmp closes → slice_get closes k ≡ Some last → last <ℤ day
+    → tariffs_from (option_map day_after (close_at closes k)) (tariffs ++ TariffSeen day text ∷ [])
+    ≡ tariffs_from (option_map day_after (close_at closes k)) tariffs ++ TariffSeen day text ∷ []
+from_first closes zero last day text tariffs rising there after = refl
+from_first closes (suc k) last day text tariffs rising there after =
+    let within = slice_get_within closes (suc k) last there in
+    let close : ℤ = get_or closes k (pos 0) in
+    let at : slice_get closes k ≡ Some close = slice_get-get_or closes k (pos 0) (omega arith) in
+    let before = rise_at closes k (suc k) close last rising (omega arith) at there in
+    let late = not_begun (day_after close) day text (next_under close last day before after) in
+    let one : RulingSeen = TariffSeen day text in
+    ap (λ close. tariffs_from (option_map day_after close) (tariffs ++ one ∷ [])) at
+    ∙ late_behind (day_after close) one late tariffs
+    ∙ sym (ap (λ close. tariffs_from (option_map day_after close) tariffs ++ one ∷ []) at)
+
+-- and after its last
+tariff_leaves : (closes : List ℤ) (tariffs : List AcceptedTerms) (text : List ℕ) (terms : Terms)
+    (k : ℕ) → IsStrictlySortedBy int_cmp closes → k < length closes
+    → MatchOption (last_or None closes) (Unit {0}) (λ close. close <ℤ terms.effective)
+    → tariffs_at k closes (tariffs ++ record { text = Some text; terms = terms } ∷ [])
+    ≡ tariffs_at k closes tariffs
+tariff_leaves closes tariffs text terms k rising within later =
+    let last : ℤ = get_or closes k (pos 0) in
+    let there : slice_get closes k ≡ Some last = slice_get-get_or closes k (pos 0) within in
+    let after = after_each closes k last terms.effective rising there later in
+    let one : RulingSeen = TariffSeen terms.effective text in
+    let accepted : AcceptedTerms = record { text = Some text; terms = terms } in
+    let front : List RulingSeen =
+    tariffs_from (option_map day_after (close_at closes k)) (tariffs_seen tariffs) in
+    ap (λ seen. tariffs_through (slice_get closes k)
+    (tariffs_from (option_map day_after (close_at closes k)) seen))
+    (filter_map-append tariff_seen tariffs (accepted ∷ []))
+    ∙ ap (tariffs_through (slice_get closes k))
+    (from_first closes k last terms.effective text (tariffs_seen tariffs) rising there after)
+    ∙ ap (λ through. tariffs_through through (front ++ one ∷ [])) there
+    ∙ filter-append (begins_by last) front (one ∷ [])
+    ∙ ap (λ b. filter (begins_by last) front ++ cond b (one ∷ []) [])
+    (not_begun last terms.effective text after)
+    ∙ append-nil (filter (begins_by last) front)
+    ∙ sym (ap (λ through. tariffs_through through front) there)
+
+-- So the tariffs of a closed period stay, whatever calls follow.
+pub record KeepsTariffs (k : ℕ) (old new : Book) : Type 0 where
+  pub within : k < length new.rulings.closes
+  pub same : tariffs_at k new.rulings.closes new.rulings.tariffs
+      ≡ tariffs_at k old.rulings.closes old.rulings.tariffs
+
+pub keeps_tariffs : (naming : Naming) (later earlier : List Event) (k : ℕ)
+    → IsMadeByCalls naming (later ++ earlier)
+    → k < length (book_after earlier).rulings.closes
+    → KeepsTariffs k (book_after earlier) (book_after (later ++ earlier))
+keeps_tariffs naming [] earlier k answered within = record { within = within; same = refl }
+keeps_tariffs naming (RecordKept new ∷ later) earlier k answered within =
+    let before = keeps_tariffs naming later earlier k answered.1 within in
+    record { within = before.within; same = before.same }
+keeps_tariffs naming (TariffAccepted (Some text) terms ∷ later) earlier k answered within =
+    let before = keeps_tariffs naming later earlier k answered.1 within in
+    let book : Book = book_after (later ++ earlier) in record {
+      within = before.within;
+      same =
+          tariff_leaves book.rulings.closes book.rulings.tariffs text terms k
+          (closes_rise naming (later ++ earlier) answered.1) before.within
+          (calls_go_forward.tariff book text terms answered.0)
+          ∙ before.same;
+    }
+keeps_tariffs naming (TariffAccepted None terms ∷ later) earlier k none within =
+    let before =
+    keeps_tariffs naming later earlier k (subst (IsMadeByCalls naming) (sym none) tt) within in
+    let never = subst (λ history. k < length (book_after history).rulings.closes) none
+    before.within in
+    absurd (omega arith)
+keeps_tariffs naming (PeriodClosed day ∷ later) earlier k answered within =
+    let before = keeps_tariffs naming later earlier k answered.1 within in
+    let book : Book = book_after (later ++ earlier) in
+    let more = length-append book.rulings.closes (day ∷ []) in
+    let still = before.within in record {
+      within = omega arith;
+      same = close_leaves book.rulings.closes book.rulings.tariffs day k before.within
+          ∙ before.same;
+    }
+keeps_tariffs naming (RecordChosen chosen ∷ later) earlier k answered within =
+    let before = keeps_tariffs naming later earlier k answered.1 within in
+    record { within = before.within; same = before.same }
+keeps_tariffs naming (SecondRuleAdopted ∷ later) earlier k answered within =
+    let before = keeps_tariffs naming later earlier k answered.1 within in
+    record { within = before.within; same = before.same }
+
+pub tariffs_stay : (naming : Naming) (later earlier : List Event) (k : ℕ)
+    → IsMadeByCalls naming (later ++ earlier)
+    → k < length (book_after earlier).rulings.closes
+    → tariffs_in (suc k) (book_after (later ++ earlier)).rulings
+    ≡ tariffs_in (suc k) (book_after earlier).rulings
+tariffs_stay naming later earlier k answered within =
+    tariffs_are k (book_after (later ++ earlier)).rulings
+    ∙ (keeps_tariffs naming later earlier k answered within).same
+    ∙ sym (tariffs_are k (book_after earlier).rulings)

@@ -1,0 +1,111 @@
+-- The laws of bills: a bill splits what the statement and the adjustments show, the bills of all
+-- centres add up to the office's, what is held back bounds what is charged later, and the bill of a
+-- closed period stays.
+use Rattle.std.specs.Prelude.{◌≡◌, ℕ, ◌+◌, ◌≤◌, ℤ, pos, ◌+ℤ◌, ◌-ℤ◌, List, [], ◌∷◌, ◌++◌, map}
+use Rattle.std.specs.Prelude.{sum_by, All, Contains, Option, Some, None}
+use Rattle.book_model.specs.declared.bill.HeldBack.{HeldBack}
+use Rattle.book_model.specs.declared.dispute.Variant.{Variant}
+use Rattle.book_model.specs.declared.line.Line.{Line}
+use Rattle.book_model.specs.declared.row.ChargeRow.{ChargeRow}
+use Rattle.book_model.specs.Words.{BillSeen, Book, Disputed, Event, IsMadeByCalls, IsSound, Naming}
+use Rattle.book_model.specs.Words.{Period, amount_for, bill_of, bill_outcome, book_after, held_back_in}
+use Rattle.book_model.specs.Words.{lines_of, period_of, rows_for}
+use Rattle.report_texts.specs.Centres.{lines_of_centre, rows_of_centre}
+use Rattle.report_texts.specs.Charges.{centres_of, charges_of, charges_of_centre, plain_lines}
+use Rattle.report_texts.specs.declared.charges.Charges.{Charges}
+use Rattle.book_laws.specs.ClosedPeriods.{IsClosed}
+
+-- of charge rows, those of the centre that is named, or all of them where none is
+abbrev pub rows_asked : Option (List ℕ) → List ChargeRow → List ChargeRow
+rows_asked None rows = rows
+rows_asked (Some centre) rows = rows_of_centre centre rows
+
+-- of adjustment lines, likewise
+abbrev pub lines_asked : Option (List ℕ) → List Line → List Line
+lines_asked None lines = lines
+lines_asked (Some centre) lines = lines_of_centre centre lines
+
+-- A bill splits rows: its steps and its jobs together are as many as these count, with their CPU
+-- times, their blocks and their amounts. Its lines are these lines.
+pub record Splits (bill : BillSeen) (rows : List ChargeRow) (lines : List Line) : Type 0 where
+  pub count : sum_by (λ row. row.count) bill.steps + sum_by (λ row. row.count) bill.jobs
+      ≡ sum_by (λ row. row.count) rows
+  pub cpu : sum_by (λ row. row.cpu) bill.steps + sum_by (λ row. row.cpu) bill.jobs
+      ≡ sum_by (λ row. row.cpu) rows
+  pub blocks : sum_by (λ row. row.blocks) bill.steps + sum_by (λ row. row.blocks) bill.jobs
+      ≡ sum_by (λ row. row.blocks) rows
+  pub amount : sum_by (λ row. row.amount) bill.steps + sum_by (λ row. row.amount) bill.jobs
+      ≡ sum_by (λ row. row.amount) rows
+  pub adjustments : plain_lines bill.lines ≡ lines
+
+-- In sound books the bill of a period, for a centre or for the office, splits the rows of the period's
+-- statement, and has the lines of its adjustments.
+abbrev pub BillsSplitStatements : Type 0
+BillsSplitStatements =
+    (naming : Naming) (book : Book) (number : ℕ) (period : Period) (centre : Option (List ℕ))
+    → IsSound naming book
+    → period_of book number ≡ Some period
+    → Splits (bill_of naming book number centre period)
+    (rows_asked centre (rows_for book.rulings period.counted))
+    (lines_asked centre (lines_of naming book.rulings period))
+
+-- what a bill charges
+abbrev pub charges_in : BillSeen → Charges
+charges_in bill = charges_of bill.steps bill.jobs (plain_lines bill.lines)
+
+-- what is owed for charges, and for several together
+abbrev pub owed_for : Charges → ℤ
+owed_for charges = pos (charges.steps + charges.jobs + charges.late) -ℤ pos charges.reversed
+
+abbrev pub owed_for_all : List Charges → ℤ
+owed_for_all [] = pos 0
+owed_for_all (charges ∷ others) = owed_for charges +ℤ owed_for_all others
+
+-- several charges add up to one
+pub record AddUpTo (shares : List Charges) (all : Charges) : Type 0 where
+  pub steps : sum_by (λ share. share.steps) shares ≡ all.steps
+  pub jobs : sum_by (λ share. share.jobs) shares ≡ all.jobs
+  pub late : sum_by (λ share. share.late) shares ≡ all.late
+  pub reversed : sum_by (λ share. share.reversed) shares ≡ all.reversed
+  pub owed : owed_for_all shares ≡ owed_for all
+
+-- The bill of each centre charges what the bill of the office, with these rows and lines, says that
+-- the centre is charged; and over the centres that the office's bill names, these add up to what it
+-- charges.
+pub record AreSharesOf (of_centre : List ℕ → BillSeen) (office : BillSeen) : Type 0 where
+  pub each : (centre : List ℕ) → charges_in (of_centre centre)
+      ≡ charges_of_centre centre office.steps office.jobs (plain_lines office.lines)
+  pub all : AddUpTo
+      (map (λ centre. charges_in (of_centre centre))
+      (centres_of office.steps office.jobs (plain_lines office.lines)))
+      (charges_in office)
+
+-- So it is with the bills of each period.
+abbrev pub BillsAddUp : Type 0
+BillsAddUp =
+    (naming : Naming) (book : Book) (number : ℕ) (period : Period)
+    → AreSharesOf (λ centre. bill_of naming book number (Some centre) period)
+    (bill_of naming book number None period)
+
+-- an amount is no less than the least that is held back, and no more than the greatest
+pub record IsWithin (held : HeldBack) (amount : ℕ) : Type 0 where
+  pub least : held.least ≤ amount
+  pub greatest : amount ≤ held.greatest
+
+-- Whatever is chosen, what a bill holds back bounds what the centre is then charged for all disputes.
+abbrev pub HeldBackBounds : Type 0
+HeldBackBounds =
+    (centre : Option (List ℕ)) (disputes : List Disputed) (chosen : Disputed → Variant)
+    → All (λ dispute. Contains dispute.members (chosen dispute)) disputes
+    → IsWithin (held_back_in centre disputes)
+    (sum_by (λ dispute. amount_for centre (chosen dispute)) disputes)
+
+-- What is closed never changes: whatever calls follow, the bill of a closed period is answered as it
+-- was, also after choices, the second rule of identity and tariffs that come late.
+abbrev pub ClosedBillsStay : Type 0
+ClosedBillsStay =
+    (naming : Naming) (later earlier : List Event) (number : ℕ) (centre : Option (List ℕ))
+    → IsMadeByCalls naming (later ++ earlier)
+    → IsClosed number (book_after earlier)
+    → bill_outcome naming number centre (book_after (later ++ earlier))
+    ≡ bill_outcome naming number centre (book_after earlier)

@@ -1,0 +1,26 @@
+//! Laws of bills, which hold of the definitions alone. Each is the contract of a function that does
+//! nothing.
+
+ghost use Rattle.book_laws.specs.BillLaws.{BillsAddUp, BillsSplitStatements, ClosedBillsStay};
+ghost use Rattle.book_laws.specs.BillLaws.{HeldBackBounds};
+
+/// A bill splits the rows of the statement into steps and jobs, and has the lines of the
+/// adjustments.
+pub fn bills_split_statements()
+    ensures { BillsSplitStatements }
+{}
+
+/// The bills of all centres add up to the office's.
+pub fn bills_add_up()
+    ensures { BillsAddUp }
+{}
+
+/// What is held back in dispute bounds what is charged for it, whatever is chosen.
+pub fn held_back_bounds()
+    ensures { HeldBackBounds }
+{}
+
+/// The bill of a closed period is answered as it was, whatever calls follow.
+pub fn closed_bills_stay()
+    ensures { ClosedBillsStay }
+{}

@@ -1,0 +1,57 @@
+use crate::line::Line;
+use crate::row::ChargeRow;
+use tariff_rules::{Letterhead, Rates};
+
+/// The charge rows of a period's records, those of steps and those of jobs apart.
+#[derive(Debug, Drop)]
+pub struct WorkRows {
+    /// The rows of the steps that ended.
+    pub steps: Vec<ChargeRow>,
+    /// The rows of the jobs that ended. What a job used is what its steps used.
+    pub jobs: Vec<ChargeRow>,
+}
+
+/// An adjustment line, as a bill shows it.
+#[derive(Clone, Copy, Debug, PartialEq, Eq)]
+pub struct BilledLine {
+    pub line: Line,
+    /// Of a plus line the number of the period that the record's day belongs to, of a minus line
+    /// that of the period that had charged the record.
+    pub period: Option<u16>,
+}
+
+/// What is held back while it is in dispute.
+#[derive(Clone, Copy, Debug, PartialEq, Eq)]
+pub struct HeldBack {
+    /// How many disputes there are.
+    pub disputes: u64,
+    /// The least amount that choices among their records come to, in ten-thousandths of the money
+    /// unit.
+    pub least: u64,
+    /// The greatest.
+    pub greatest: u64,
+}
+
+/// A tariff that is in force on a day of the period, by its rates.
+#[derive(Clone, Copy, Debug)]
+pub struct BilledTariff {
+    /// Its first day, in days since 1970-01-01.
+    pub day: i32,
+    pub step: Rates,
+    pub job: Rates,
+}
+
+/// The bill of a period, for a centre or for the whole office.
+#[derive(Debug, Drop)]
+pub struct Bill {
+    pub work: WorkRows,
+    /// What came late, and what was reversed.
+    pub lines: Vec<BilledLine>,
+    /// A closed period holds nothing back: what is decided later comes late in the period that is
+    /// open then.
+    pub held_back: Option<HeldBack>,
+    /// In the order of their days.
+    pub tariffs: Vec<BilledTariff>,
+    /// That of the last of these tariffs.
+    pub letterhead: Letterhead,
+}

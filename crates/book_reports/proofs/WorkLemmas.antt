@@ -1,0 +1,313 @@
+-- What was worked in a period: the rows of its steps and of its jobs, of details that are read one
+-- after another.
+use Rattle.std.proofs.Common.{◌≡◌, ◌∙◌, ℕ, ◌+◌, ◌<◌, ◌^◌, ℤ, Bool, true, false, List, [], ◌∷◌, ◌++◌}
+use Rattle.std.proofs.Common.{length, map, not, refl, sym, ap, subst, arith, append-nil, cond}
+use Rattle.std.proofs.Common.{Option, Some, None, Ok, Err, unwrap_or}
+use Rattle.std.specs.Prelude.{All, filter, is_some, sum_by}
+use Rattle.std.specs.BTreeMap.{insert_entry, is_at, values}
+use Rattle.std.specs.Map.{lookup}
+use Rattle.std.proofs.lemmas.List.{length-map, map-append}
+use Rattle.std.proofs.lemmas.List.Elements.{All-filter, All-map, All-push, filter-append}
+use Rattle.std.proofs.lemmas.List.Filters.{length-filter_both, sum_by-filter_both}
+use Rattle.std.proofs.lemmas.List.Folds.{fold-map}
+use Rattle.std.proofs.lemmas.Simd.{map-map}
+use Rattle.tariff_rules.specs.declared.priced.Priced.{Priced}
+use Rattle.book_model.specs.declared.bill.WorkRows.{WorkRows}
+use Rattle.book_model.specs.declared.detail.Detail.{Detail}
+use Rattle.book_model.specs.declared.fault.LedgerFault.{LedgerFault}
+use Rattle.book_model.specs.declared.fault.LedgerFault.TheVariants.{Memory}
+use Rattle.book_model.specs.declared.row.ChargeRow.{ChargeRow}
+use Rattle.book_model.specs.declared.row.RowKey.{RowKey}
+use Rattle.book_model.specs.Words.{AreRows, IsDay, by_key, is_step, jobs_of, key_of, keys_of}
+use Rattle.book_model.specs.Words.{next_after, next_detail_outcome, row_at, rows_of, steps_of}
+use Rattle.book_model.specs.Words.{work_rows}
+use Rattle.book_core.specs.Calls.{IsCall}
+use Rattle.book_core.specs.Ledgers.{Seen}
+use Rattle.book_core.proofs.KeyedRowLemmas.{keyed_rows-push, row_so_far}
+use Rattle.book_core.proofs.ListLimits.{rows_shown, sum_by-rows_of_le}
+use Rattle.book_reports.specs.declared.bill_work.WorkSums.{WorkSums}
+use Rattle.book_reports.specs.declared.streamed_details.DetailReport.{DetailReport}
+use Rattle.book_reports.specs.declared.what_if.StatementForm.TheVariants as form
+use Rattle.book_reports.specs.BillWork.{AreWork, IsWorkOf, work_outcome, work_seen, work_shown}
+use Rattle.book_reports.specs.BookTexts.{closed_through, closed_through_outcome, shown_by}
+use Rattle.book_reports.specs.StreamedDetails.{sums_of, with_detail}
+use Rattle.book_reports.specs.WorkSums.{AreSumsOf, SumsFit, keyed_rows, prices_of, with_price}
+use Rattle.book_reports.proofs.DetailLemmas.{sums_more}
+use Rattle.book_reports.proofs.DetailReading.{HasRead, all_details, first_read, next_shown}
+use Rattle.book_reports.proofs.DetailReading.{one_more_read, reads, refused_back}
+use Rattle.book_reports.proofs.ReadingLemmas.{fault_alike, fault_tells, read_as, read_then}
+use Rattle.book_reports.proofs.RulingReading.{all_taken}
+
+-- ---- rows, price by price
+
+-- a price joins the row that was found for its key
+pub price_joined : (prices : List Priced) (one : Priced) (rows : List (RowKey × ChargeRow))
+    (key : RowKey) (empty row more : ChargeRow) → rows ≡ keyed_rows prices → key ≡ key_of one
+    → empty ≡ row_at [] key → row ≡ unwrap_or (lookup (is_at (by_key key)) rows) empty
+    → more ≡ with_price row one
+    → insert_entry by_key rows key more ≡ keyed_rows (prices ++ one ∷ [])
+price_joined prices one rows key empty row more kept keyed is_empty found is =
+    let own : row ≡ row_at prices (key_of one) =
+    row_so_far prices rows key empty row kept is_empty found ∙ ap (row_at prices) keyed in
+    let joined = is ∙ ap (λ (row : ChargeRow). with_price row one) own in
+    (λ i. insert_entry by_key (kept i) (keyed i) (joined i)) ∙ sym (keyed_rows-push prices one)
+
+-- what some details of a kind cost, with one more detail that is of it, or is not
+kind_more : (kind : Detail → Bool) (details : List Detail) (detail : Detail) (is : Bool)
+    → kind detail ≡ is
+    → prices_of (filter kind (details ++ detail ∷ []))
+    ≡ prices_of (filter kind details) ++ prices_of (cond is (detail ∷ []) [])
+kind_more kind details detail is same =
+    ap prices_of (filter-append kind details (detail ∷ []))
+    ∙ map-append (λ (one : Detail). one.priced) (filter kind details) (filter kind (detail ∷ []))
+    ∙ ap (λ is. prices_of (filter kind details) ++ prices_of (cond is (detail ∷ []) [])) same
+
+module _ (work more : WorkSums) (details : List Detail) (detail : Detail)
+    (are : AreSumsOf work details) (day : IsDay detail.priced.day)
+    (all : more.all ≡ with_detail work.all detail) (fit : SumsFit more.all)
+  where
+    all_more : more.all ≡ sums_of (details ++ detail ∷ [])
+    all_more = all ∙ ap (λ sums. with_detail sums detail) are.all ∙ sums_more details detail
+
+    days_more : All (λ (one : Detail). IsDay one.priced.day) (details ++ detail ∷ [])
+    days_more = All-push (λ (one : Detail). IsDay one.priced.day) details detail are.days day
+
+    -- a step joins the steps
+    pub step_joined : is_some detail.step ≡ true
+        → more.steps.entries ≡ keyed_rows (prices_of (steps_of details) ++ detail.priced ∷ [])
+        → more.jobs ≡ work.jobs → AreSumsOf more (details ++ detail ∷ [])
+    step_joined step joined same = record {
+      steps = joined ∙ ap keyed_rows (sym (kind_more is_step details detail true step));
+      jobs = ap (λ jobs. jobs.entries) same ∙ are.jobs
+          ∙ ap keyed_rows (sym (kind_more (λ one. not (is_step one)) details detail false (ap not step)
+          ∙ append-nil (prices_of (jobs_of details))));
+      all = all_more;
+      fit = fit;
+      days = days_more;
+    }
+
+    -- and a job the jobs
+    pub job_joined : is_some detail.step ≡ false
+        → more.jobs.entries ≡ keyed_rows (prices_of (jobs_of details) ++ detail.priced ∷ [])
+        → more.steps ≡ work.steps → AreSumsOf more (details ++ detail ∷ [])
+    job_joined job joined same = record {
+      steps = ap (λ steps. steps.entries) same ∙ are.steps
+          ∙ ap keyed_rows (sym (kind_more is_step details detail false job
+          ∙ append-nil (prices_of (steps_of details))));
+      jobs = joined
+          ∙ ap keyed_rows (sym (kind_more (λ one. not (is_step one)) details detail true (ap not job)));
+      all = all_more;
+      fit = fit;
+      days = days_more;
+    }
+
+-- ---- the rows of all
+
+-- the rows under their keys are the rows
+rows_under_keys : (prices : List Priced)
+    → map (λ (entry : RowKey × ChargeRow). entry.1) (keyed_rows prices) ≡ rows_of prices
+rows_under_keys prices =
+    map-map (λ (entry : RowKey × ChargeRow). entry.1) (λ key. (key, row_at prices key))
+    (keys_of prices)
+
+-- a sum over what steps cost and one over what jobs cost come to that over all details
+both_sums : (f : Priced → ℕ) (details : List Detail)
+    → sum_by f (prices_of (steps_of details)) + sum_by f (prices_of (jobs_of details))
+    ≡ sum_by (λ (detail : Detail). f detail.priced) details
+both_sums f details =
+    let price : Detail → Priced = λ detail. detail.priced in
+    let steps = fold-map (λ n one. n + f one) price 0 (steps_of details) in
+    let jobs = fold-map (λ n one. n + f one) price 0 (jobs_of details) in
+    let both = sum_by-filter_both is_step (λ (detail : Detail). not (is_step detail)) (λ detail. refl)
+    (λ (detail : Detail). f detail.priced) details in
+    omega (arith, steps, jobs, both)
+
+-- there are as many steps and jobs as details
+both_counts : (details : List Detail)
+    → length (prices_of (steps_of details)) + length (prices_of (jobs_of details)) ≡ length details
+both_counts details =
+    let steps = length-map (steps_of details) (λ (detail : Detail). detail.priced) in
+    let jobs = length-map (jobs_of details) (λ (detail : Detail). detail.priced) in
+    let both = length-filter_both is_step (λ (detail : Detail). not (is_step detail))
+    (λ detail. refl) details in
+    omega (arith, steps, jobs, both)
+
+module _ (work : WorkSums) (details : List Detail) (are : AreSumsOf work details) where
+  -- what some of them cost is dated on days
+  dated : (kind : Detail → Bool) → All (λ (one : Priced). IsDay one.day) (prices_of (filter kind details))
+  dated kind =
+      All-map (λ (one : Priced). IsDay one.day) (λ (detail : Detail). detail.priced)
+      (filter kind details)
+      (All-filter kind (λ (detail : Detail). IsDay detail.priced.day) details are.days)
+
+  -- the rows of the steps can be shown, and those of the jobs
+  steps_shown : AreRows (work_rows (steps_of details))
+  steps_shown =
+      let count = ap (λ sums. sums.count) are.all in
+      let cpu = ap (λ sums. sums.cpu) are.all in
+      let blocks = ap (λ sums. sums.blocks) are.all in
+      let amount = ap (λ sums. sums.amount) are.all in
+      rows_shown (prices_of (steps_of details))
+      (record {
+        cpu = omega (arith, both_sums (λ one. one.cpu) details, cpu, are.fit.cpu);
+        blocks = omega (arith, both_sums (λ one. one.excp) details, blocks, are.fit.blocks);
+        amount = omega (arith, both_sums (λ one. one.amount) details, amount, are.fit.amount);
+      })
+      (omega (arith, both_counts details, count, are.fit.count)) (dated is_step)
+
+  jobs_shown : AreRows (work_rows (jobs_of details))
+  jobs_shown =
+      let count = ap (λ sums. sums.count) are.all in
+      let cpu = ap (λ sums. sums.cpu) are.all in
+      let blocks = ap (λ sums. sums.blocks) are.all in
+      let amount = ap (λ sums. sums.amount) are.all in
+      rows_shown (prices_of (jobs_of details))
+      (record {
+        cpu = omega (arith, both_sums (λ one. one.cpu) details, cpu, are.fit.cpu);
+        blocks = omega (arith, both_sums (λ one. one.excp) details, blocks, are.fit.blocks);
+        amount = omega (arith, both_sums (λ one. one.amount) details, amount, are.fit.amount);
+      })
+      (omega (arith, both_counts details, count, are.fit.count))
+      (dated (λ one. not (is_step one)))
+
+  -- and what they cost together fits
+  small_amount : sum_by (λ row. row.amount) (work_rows (steps_of details))
+      + sum_by (λ row. row.amount) (work_rows (jobs_of details)) < 2 ^ 63
+  small_amount =
+      let amount = ap (λ sums. sums.amount) are.all in
+      let steps = sum_by-rows_of_le (λ row. row.amount) (λ one. one.amount)
+      (prices_of (steps_of details)) (λ key. refl) in
+      let jobs = sum_by-rows_of_le (λ row. row.amount) (λ one. one.amount)
+      (prices_of (jobs_of details)) (λ key. refl) in
+      omega (arith, both_sums (λ one. one.amount) details, amount, are.fit.amount, steps, jobs)
+
+  -- so the sums are those of the rows
+  pub work_made : (rows : WorkRows) → rows.steps.items ≡ values work.steps
+      → rows.jobs.items ≡ values work.jobs → IsWorkOf details rows
+  work_made rows steps jobs =
+      let of_steps : rows.steps.items ≡ work_rows (steps_of details) =
+      steps ∙ ap (map (λ (entry : RowKey × ChargeRow). entry.1)) are.steps
+      ∙ rows_under_keys (prices_of (steps_of details)) in
+      let of_jobs : rows.jobs.items ≡ work_rows (jobs_of details) =
+      jobs ∙ ap (map (λ (entry : RowKey × ChargeRow). entry.1)) are.jobs
+      ∙ rows_under_keys (prices_of (jobs_of details)) in
+      record {
+        steps = of_steps;
+        jobs = of_jobs;
+        shown = subst (λ steps. AreWork steps rows.jobs.items) (sym of_steps)
+            (subst (λ jobs. AreWork (work_rows (steps_of details)) jobs) (sym of_jobs) (record {
+              step_rows = steps_shown;
+              job_rows = jobs_shown;
+              amount = small_amount;
+            }));
+      }
+
+-- ---- details in turn
+
+-- the details of a period, or of one centre in it
+abbrev pub report_on : ℕ → Option (List ℕ) → DetailReport
+report_on period centre = record { form = form.Text; period = period; centre = centre }
+
+-- details were read, and these are their sums
+pub record WorksSoFar (period : ℕ) (centre : Option (List ℕ)) (old new : Seen) (through : Option ℤ)
+    (next : Option Detail) (work : WorkSums) : Type 0 where
+  pub count : ℕ
+  pub read : List Detail
+  pub far : HasRead (report_on period centre) old new through count read next
+  pub sums : AreSumsOf work read
+
+-- so these are the rows of all
+work_is : (through : Option ℤ) (details : List Detail) (rows : WorkRows) → IsWorkOf details rows
+    → work_seen through details ≡ work_shown (record { through = through; rows = rows })
+work_is through details rows is = λ i. record {
+  through = through;
+  steps = sym is.steps i;
+  jobs = sym is.jobs i;
+}
+
+-- at first there are none
+pub work_begun : (period : ℕ) (centre : Option (List ℕ)) (old mid new : Seen) (through : Option ℤ)
+    (next : Option Detail) (work : WorkSums) → AreSumsOf work []
+    → IsCall (λ day. day) old mid (Ok through) (closed_through_outcome period)
+    → IsCall (λ found. found) mid new (Ok next) (next_detail_outcome mid.naming period centre None)
+    → WorksSoFar period centre old new through next work
+work_begun period centre old mid new through next work none day call = record {
+  count = 0;
+  read = [];
+  far = first_read (report_on period centre) old mid new through next day call;
+  sums = none;
+}
+
+-- the first detail was refused
+pub work_unbegun : (period : ℕ) (centre : Option (List ℕ)) (old mid new : Seen) (through : Option ℤ)
+    (fault : LedgerFault)
+    → IsCall (λ day. day) old mid (Ok through) (closed_through_outcome period)
+    → IsCall (λ found. found) mid new (Err fault)
+    (next_detail_outcome mid.naming period centre None)
+    → IsCall work_shown old new (Err fault) (work_outcome old.naming period centre)
+work_unbegun period centre old mid new through fault day call =
+    read_then (λ book. refl) (λ book. refl) (λ book. refl) (fault_alike fault)
+    (λ book early. fault_tells (λ found. found) work_shown fault
+    (λ said. ap (shown_by (work_seen (closed_through book period)))
+    (refused_back (next_after None) (all_details (report_on period centre) old.naming book) fault
+    (sym (next_shown (report_on period centre) old.naming None book) ∙ said))))
+    day
+    (subst (λ naming. IsCall (λ found. found) mid new (Err fault)
+    (next_detail_outcome naming period centre None)) day.work.naming call)
+
+module _ {period : ℕ} {centre : Option (List ℕ)} {old mid : Seen} {through : Option ℤ}
+    {next : Option Detail} {work : WorkSums}
+    (it : WorksSoFar period centre old mid through next work)
+  where
+    -- there are no more: these are the rows
+    pub work_ended : (rows : WorkRows) → next ≡ None
+        → ((details : List Detail) → AreSumsOf work details → IsWorkOf details rows)
+        → IsCall work_shown old mid (Ok (record { through = through; rows = rows }))
+        (work_outcome old.naming period centre)
+    work_ended rows last makes =
+        read_as (λ book. refl) (λ book. refl) (record { reopen = refl; store = refl })
+        (λ book said.
+        let all = reads (report_on period centre) old.naming book through it.count it.read next said in
+        let same : all.details ≡ it.read =
+        sym (all_taken all.details it.count (all.there ∙ last)) ∙ all.front in
+        ap (shown_by (work_seen (closed_through book period))) all.answered
+        ∙ (λ i. Ok (work_seen (all.closed i) (same i)))
+        ∙ ap Ok (work_is through it.read rows (makes it.read it.sums)))
+        it.far.call
+
+    -- there was no memory
+    pub work_stopped : IsCall work_shown old mid (Err Memory) (work_outcome old.naming period centre)
+    work_stopped =
+        read_as (λ book. refl) (λ book. refl) (record { reopen = refl; store = refl })
+        (λ book said. tt) it.far.call
+
+    -- the ledger refused the next call
+    pub work_refused : (new : Seen) (detail : Detail) (fault : LedgerFault)
+        → IsCall (λ found. found) mid new (Err fault)
+        (next_detail_outcome mid.naming period centre (Some detail))
+        → IsCall work_shown old new (Err fault) (work_outcome old.naming period centre)
+    work_refused new detail fault call =
+        read_then (λ book. refl) (λ book. refl) (λ book. refl) (fault_alike fault)
+        (λ book early. fault_tells (λ found. found) work_shown fault
+        (λ said. ap (shown_by (work_seen (closed_through book period)))
+        (refused_back (next_after (Some detail)) (all_details (report_on period centre) old.naming book) fault
+        (sym (next_shown (report_on period centre) old.naming (Some detail) book) ∙ said))))
+        it.far.call
+        (subst (λ naming. IsCall (λ found. found) mid new (Err fault)
+        (next_detail_outcome naming period centre (Some detail))) it.far.call.work.naming call)
+
+    -- or it goes on
+    pub work_more : (new : Seen) (detail : Detail) (after : Option Detail) (more : WorkSums)
+        → next ≡ Some detail
+        → ((details : List Detail) → AreSumsOf work details
+        → AreSumsOf more (details ++ detail ∷ []))
+        → IsCall (λ found. found) mid new (Ok after)
+        (next_detail_outcome mid.naming period centre (Some detail))
+        → WorksSoFar period centre old new through after more
+    work_more new detail after more is adds call = record {
+      count = it.count + 1;
+      read = it.read ++ detail ∷ [];
+      far = one_more_read (report_on period centre) old mid new through it.count it.read detail next after is
+          it.far call;
+      sums = adds it.read it.sums;
+    }

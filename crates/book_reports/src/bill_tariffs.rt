@@ -1,0 +1,175 @@
+//! The tariffs in force on the days of a period, and the letterhead of the last of them. They are
+//! read one at a time, in the order of their first days.
+
+ghost use Rattle.std.specs.Prelude.{◌≡◌, ◌++◌, [], All, IfErr, IfOk, OnOk};
+ghost use Rattle.std.specs.List.{cons_option};
+ghost use Rattle.book_model.specs.Words as words;
+ghost use Rattle.book_model.specs.Words.{IsDay, TariffSeen, letterhead_shown};
+ghost use Rattle.book_core.specs.Calls.{IsCall};
+ghost use Rattle.book_reports.specs.BillTariffs as spec;
+
+use crate::period_days::{PeriodDays, period_days};
+use crate::ruling_texts::tariff_in;
+use crate::streamed_rulings::MOST_RULINGS;
+use book_core::{Ledger, LedgerFault, Tariff, is_through};
+use book_model::BilledTariff;
+use std::alloc::{AllocError, Global};
+use tariff_rules::{Letterhead, TariffFault};
+
+/// The tariffs that are kept of those that were read, and the letterhead of the last of them.
+#[derive(Debug, Drop)]
+pub(crate) struct KeptTariffs {
+    pub(crate) tariffs: Vec<BilledTariff>,
+    pub(crate) letterhead: Letterhead,
+}
+
+/// A letterhead that says nothing.
+fn no_letterhead() -> Letterhead
+    ensures { letterhead_shown result ≡ words.no_letterhead }
+{
+    Letterhead {
+        office: None,
+        currency: None,
+    }
+}
+
+/// A tariff of this day has begun by the first day after a close, where there was one.
+fn has_begun_after(before: Option<i32>, day: i32) -> bool
+    ensures { result ≡ spec.has_begun_after before day }
+{
+    match before {
+        Some(close) => !(i64::from(close) + 1 < i64::from(day)),
+        None => false,
+    }
+}
+
+/// A tariff by its rates, where its text says some.
+fn billed_tariff(alloc: Global, day: i32, text: &str) -> Result<Option<BilledTariff>, LedgerFault>
+    ensures tariff { IfOk result (λ found.
+        found ≡ words.billed_tariff (TariffSeen day text.now)) }
+    ensures memory { IfErr result (λ fault. fault ≡ LedgerFault.Memory) }
+{
+    match Tariff::parse(alloc, text) {
+        Ok(tariff) => Ok(Some(BilledTariff {
+            day,
+            step: tariff.step_rates(),
+            job: tariff.job_rates(),
+        })),
+        Err(TariffFault::Memory) => Err(LedgerFault::Memory),
+        Err(_) => Ok(None),
+    }
+}
+
+/// A tariff joins others, if there is one.
+fn push_found(
+    tariffs: &mut Vec<BilledTariff>,
+    found: Option<BilledTariff>,
+) -> Result<(), AllocError>
+    ensures { OnOk result (tariffs.new.items ≡ tariffs.old.items ++ cons_option found []) }
+{
+    match found {
+        Some(tariff) => {
+            tariffs.push(tariff)?;
+            Ok(())
+        }
+        None => Ok(()),
+    }
+}
+
+impl KeptTariffs {
+    ghost use Rattle.std.specs.Prelude.{◌≡◌, ◌++◌, ◌∷◌, [], IfErr, OnOk};
+    ghost use Rattle.book_model.specs.Words.{IsDay, TariffSeen};
+    ghost use Rattle.book_reports.specs.BillTariffs.{HasKept, Tariffs, kept_of, left_by};
+
+    /// None yet.
+    fn new(alloc: Global) -> KeptTariffs
+        ensures { HasKept result [] }
+    {
+        KeptTariffs {
+            tariffs: Vec::new(alloc),
+            letterhead: no_letterhead(),
+        }
+    }
+
+    /// Those that are in force on none of the days go, where a tariff of this day comes.
+    fn leave(&mut self, before: Option<i32>, day: i32)
+        ensures { (read : Tariffs) → HasKept self.old read
+            → HasKept self.new (left_by before day read) }
+    {
+        if !has_begun_after(before, day) {
+            return;
+        }
+        self.tariffs.clear();
+        self.letterhead = no_letterhead();
+    }
+
+    /// One more.
+    fn push(&mut self, alloc: Global, day: i32, text: &str) -> Result<(), LedgerFault>
+        requires { IsDay day }
+        ensures pushed { OnOk result ((read : Tariffs) → HasKept self.old read
+            → HasKept self.new (read ++ TariffSeen day text.now ∷ [])) }
+        ensures memory { IfErr result (λ fault. fault ≡ LedgerFault.Memory) }
+    {
+        let letterhead = Letterhead::parse(alloc, text)?;
+        let found = billed_tariff(alloc, day, text)?;
+        push_found(&mut self.tariffs, found)?;
+        self.letterhead = letterhead;
+        Ok(())
+    }
+
+    /// One more is read, and kept if it is in force on some of the days.
+    fn join(
+        &mut self,
+        alloc: Global,
+        days: PeriodDays,
+        day: i32,
+        text: &str,
+    ) -> Result<(), LedgerFault>
+        requires { IsDay day }
+        ensures joined { OnOk result ((read : Tariffs) → HasKept self.old (kept_of days read)
+            → HasKept self.new (kept_of days (read ++ TariffSeen day text.now ∷ []))) }
+        ensures memory { IfErr result (λ fault. fault ≡ LedgerFault.Memory) }
+    {
+        self.leave(days.before, day);
+        if !is_through(days.through, day) {
+            return Ok(());
+        }
+        self.push(alloc, day, text)
+    }
+}
+
+/// The tariffs in force on some of the days. The tariffs come before all other rulings.
+fn tariffs_on<L: Ledger>(
+    alloc: Global,
+    ledger: &mut L,
+    days: PeriodDays,
+) -> Result<KeptTariffs, LedgerFault>
+    ensures tariffs { IsCall spec.tariffs_shown (L.seen ledger.old) (L.seen ledger.new) result
+        (spec.tariffs_on_outcome days) }
+    ensures days { IfOk result (λ kept. All (λ tariff. IsDay tariff.day) kept.tariffs.items) }
+{
+    let mut kept = KeptTariffs::new(alloc);
+    let mut next = ledger.ruling(0)?;
+    for before in 0..MOST_RULINGS {
+        let Some((day, text)) = tariff_in(next) else {
+            return Ok(kept);
+        };
+        kept.join(alloc, days, day, text.as_str())?;
+        next = ledger.ruling(before + 1)?;
+    }
+    Err(LedgerFault::Memory)
+}
+
+/// The tariffs in force on some of the days of a period.
+pub(crate) fn billed_tariffs<L: Ledger>(
+    alloc: Global,
+    ledger: &mut L,
+    period: u16,
+) -> Result<KeptTariffs, LedgerFault>
+    ensures tariffs { IsCall spec.tariffs_shown (L.seen ledger.old) (L.seen ledger.new) result
+        (spec.tariffs_outcome period) }
+    ensures days { IfOk result (λ kept. All (λ tariff. IsDay tariff.day) kept.tariffs.items) }
+{
+    let days = period_days(ledger, period)?;
+    tariffs_on(alloc, ledger, days)
+}

@@ -1,0 +1,184 @@
+//! What was worked in a period: the charge rows of the steps and those of the jobs among its
+//! details, which are read one at a time.
+
+ghost use Rattle.std.specs.Prelude.{◌≡◌, ◌++◌, ◌∷◌, [], IfErr, IfOk, IfSome, OnOk};
+ghost use Rattle.std.specs.BTreeMap.{values};
+ghost use Rattle.std.specs.Option.{ForSome};
+ghost use Rattle.book_model.specs.Words as words;
+ghost use Rattle.book_model.specs.Words.{IsDay};
+ghost use Rattle.book_core.specs.Calls.{IsCall};
+ghost use Rattle.book_reports.specs.BillWork as spec;
+ghost use Rattle.book_reports.specs.BillWork.{AreWork};
+ghost use Rattle.book_reports.specs.StreamedDetails as streamed;
+ghost use Rattle.book_reports.specs.WorkSums as keyed;
+ghost use Rattle.book_reports.specs.WorkSums.{Prices, SumsFit, keyed_rows};
+
+use crate::book_texts::closed_through;
+use crate::streamed_details::{MOST_DETAILS, NO_SUMS, Sums, with_detail};
+use book_core::{ChargeRow, Detail, Ledger, LedgerFault, RowKey, empty_row};
+use book_model::WorkRows;
+use smf_text::Name;
+use std::alloc::{AllocError, Global};
+use std::collections::BTreeMap;
+use tariff_rules::Priced;
+
+/// The first number that signed 64-bit integers do not hold.
+const SIGNED_END: u64 = 1 << 63;
+
+/// What was worked in a period.
+#[derive(Debug, Drop)]
+pub(crate) struct PeriodWork {
+    /// The day that the period was closed through, `None` if it is open.
+    pub(crate) through: Option<i32>,
+    pub(crate) rows: WorkRows,
+}
+
+/// The charge rows of some steps and jobs, under their keys, and what all of them come to.
+#[derive(Drop)]
+struct WorkSums {
+    steps: BTreeMap<RowKey, ChargeRow>,
+    jobs: BTreeMap<RowKey, ChargeRow>,
+    all: Sums,
+}
+
+/// The detail is of a step that ended, else of a job.
+fn is_step(detail: &Detail) -> bool
+    ensures { result ≡ words.is_step detail.now }
+{
+    detail.step.is_some()
+}
+
+/// Where a price is charged.
+fn key_of(priced: &Priced) -> RowKey
+    ensures { result ≡ words.key_of priced.now }
+{
+    RowKey {
+        day: priced.day,
+        centre: priced.centre,
+        shift: priced.shift,
+    }
+}
+
+/// The row with one more price, if 64 bits hold its sums.
+fn with_price(row: &ChargeRow, priced: &Priced) -> Option<ChargeRow>
+    ensures { IfSome result (λ more. more ≡ keyed.with_price row.now priced.now) }
+{
+    Some(ChargeRow {
+        day: row.day,
+        centre: row.centre,
+        shift: row.shift,
+        count: row.count.checked_add(1)?,
+        cpu: row.cpu.checked_add(priced.cpu)?,
+        blocks: row.blocks.checked_add(priced.excp)?,
+        amount: row.amount.checked_add(priced.amount)?,
+    })
+}
+
+/// A price joins the row of its key.
+fn add_price(rows: &mut BTreeMap<RowKey, ChargeRow>, priced: &Priced) -> Result<(), LedgerFault>
+    ensures joined { OnOk result ((prices : Prices) → rows.old.entries ≡ keyed_rows prices
+        → rows.new.entries ≡ keyed_rows (prices ++ priced.now ∷ [])) }
+    ensures fault { IfErr result (λ fault. fault ≡ LedgerFault.Memory) }
+{
+    let key = key_of(priced);
+    let row = rows.entry(key)?.or_insert(empty_row(key));
+    let Some(more) = with_price(row, priced) else {
+        return Err(LedgerFault::Memory);
+    };
+    *row = more;
+    Ok(())
+}
+
+/// The sums with one more detail, if they fit. Those of sound books do.
+fn fitting_sums(sums: Sums, detail: &Detail) -> Option<Sums>
+    ensures more { IfSome result (λ more. more ≡ streamed.with_detail sums detail.now) }
+    ensures fit { IfSome result SumsFit }
+{
+    let more = with_detail(sums, detail)?;
+    if more.amount < SIGNED_END {
+        Some(more)
+    } else {
+        None
+    }
+}
+
+/// The rows, by day, then centre, then shift.
+fn rows_in(alloc: Global, rows: BTreeMap<RowKey, ChargeRow>) -> Result<Vec<ChargeRow>, AllocError>
+    ensures { IfOk result (λ found. found.items ≡ values rows) }
+{
+    rows.into_values().collect(alloc)
+}
+
+impl WorkSums {
+    ghost use Rattle.std.specs.Prelude.{◌≡◌, ◌++◌, ◌∷◌, [], IfErr, IfOk, OnOk};
+    ghost use Rattle.book_model.specs.Words.{IsDay};
+    ghost use Rattle.book_reports.specs.BillWork.{IsWorkOf};
+    ghost use Rattle.book_reports.specs.WorkSums.{AreSumsOf, Details};
+
+    /// Of no details.
+    fn new(alloc: Global) -> WorkSums
+        ensures { AreSumsOf result [] }
+    {
+        let steps = BTreeMap::new(alloc);
+        let jobs = BTreeMap::new(alloc);
+        WorkSums {
+            steps,
+            jobs,
+            all: NO_SUMS,
+        }
+    }
+
+    /// One more detail. A job is no step: its times and blocks are those of its steps.
+    fn add(&mut self, detail: &Detail) -> Result<(), LedgerFault>
+        requires { IsDay detail.now.priced.day }
+        ensures added { OnOk result ((details : Details) → AreSumsOf self.old details
+            → AreSumsOf self.new (details ++ detail.now ∷ [])) }
+        ensures fault { IfErr result (λ fault. fault ≡ LedgerFault.Memory) }
+    {
+        let Some(all) = fitting_sums(self.all, detail) else {
+            return Err(LedgerFault::Memory);
+        };
+        self.all = all;
+        if is_step(detail) {
+            return add_price(&mut self.steps, &detail.priced);
+        }
+        add_price(&mut self.jobs, &detail.priced)
+    }
+
+    /// The rows of the steps and of the jobs.
+    fn into_rows(self, alloc: Global) -> Result<WorkRows, AllocError>
+        ensures { IfOk result (λ rows. (details : Details) → AreSumsOf self details
+            → IsWorkOf details rows) }
+    {
+        let steps = rows_in(alloc, self.steps)?;
+        let jobs = rows_in(alloc, self.jobs)?;
+        Ok(WorkRows { steps, jobs })
+    }
+}
+
+/// What was worked in a period, for the centre that is named or for the whole office.
+pub(crate) fn period_work<L: Ledger>(
+    alloc: Global,
+    ledger: &mut L,
+    period: u16,
+    centre: &Option<Name>,
+) -> Result<PeriodWork, LedgerFault>
+    ensures work { IsCall spec.work_shown (L.seen ledger.old) (L.seen ledger.new) result
+        (spec.work_outcome (L.seen ledger.old).naming period centre.now) }
+    ensures day { IfOk result (λ work. ForSome work.through IsDay) }
+    ensures rows { IfOk result (λ work. AreWork work.rows.steps.items work.rows.jobs.items) }
+{
+    let through = closed_through(ledger, period)?;
+    let mut next = ledger.next_detail(period, *centre, None)?;
+    let mut sums = WorkSums::new(alloc);
+    'details: for _ in 0..MOST_DETAILS {
+        let Some(detail) = next else {
+            let rows = sums.into_rows(alloc)?;
+            return Ok(PeriodWork { through, rows });
+        };
+        sums.add(&detail)?;
+        next = ledger.next_detail(period, *centre, Some(detail))?;
+    }
+    // Only a ledger that lies has more.
+    Err(LedgerFault::Memory)
+}

@@ -1,0 +1,129 @@
+//! The bill of a period, as a text or a table that a ledger answers by calls that change nothing:
+//! it is as one call.
+
+ghost use Rattle.std.specs.Prelude.{◌≡◌, IfOk};
+ghost use Rattle.std.specs.Option.{ForSome};
+ghost use Rattle.book_model.specs.Words.{IsDay, bill_shown};
+ghost use Rattle.book_core.specs.Calls.{IsCall};
+ghost use Rattle.report_texts.specs.Charges.{IsBill};
+ghost use Rattle.book_reports.specs.Bills as spec;
+
+use crate::bill_lines::billed_lines;
+use crate::bill_tariffs::billed_tariffs;
+use crate::bill_work::period_work;
+use crate::book_texts::made_of;
+use crate::held_back::held_back;
+use crate::what_if::StatementForm;
+use book_core::{Ledger, LedgerFault};
+use book_model::Bill;
+use report_texts::{bill_table, bill_text, office_bill_table, office_bill_text};
+use smf_text::Name;
+use std::alloc::{AllocError, Global};
+
+/// A bill.
+#[derive(Debug, Drop)]
+struct PeriodBill {
+    /// The day that its period was closed through, `None` if it is open.
+    through: Option<i32>,
+    bill: Bill,
+}
+
+/// The bill of a period, for the centre that is named or for the whole office.
+fn gathered<L: Ledger>(
+    alloc: Global,
+    ledger: &mut L,
+    period: u16,
+    centre: &Option<Name>,
+) -> Result<PeriodBill, LedgerFault>
+    ensures bill { IsCall spec.period_bill_shown (L.seen ledger.old) (L.seen ledger.new) result
+        (spec.period_bill_outcome (L.seen ledger.old).naming period centre.now) }
+    ensures day { IfOk result (λ found. ForSome found.through IsDay) }
+    ensures shown { IfOk result (λ found. IsBill (bill_shown found.bill)) }
+{
+    let work = period_work(alloc, ledger, period, centre)?;
+    let lines = billed_lines(alloc, ledger, period, centre)?;
+    let held = held_back(ledger, period, centre)?;
+    let kept = billed_tariffs(alloc, ledger, period)?;
+    Ok(PeriodBill {
+        through: work.through,
+        bill: Bill {
+            work: work.rows,
+            lines,
+            held_back: held,
+            tariffs: kept.tariffs,
+            letterhead: kept.letterhead,
+        },
+    })
+}
+
+/// The text of a bill of the office or of a centre.
+fn text_shown(
+    alloc: Global,
+    centre: &Option<Name>,
+    period: u16,
+    through: Option<i32>,
+    bill: &Bill,
+) -> Result<Vec<u8>, AllocError>
+    requires through { ForSome through IsDay }
+    requires bill { IsBill (bill_shown bill.now) }
+    ensures { IfOk result (λ text. text.items
+        ≡ spec.text_in period centre.now (spec.bill_with through (bill_shown bill.now))) }
+{
+    match *centre {
+        None => Ok(office_bill_text(alloc, period, through, bill)?.into_bytes()),
+        Some(centre) => Ok(bill_text(alloc, centre, period, through, bill)?.into_bytes()),
+    }
+}
+
+/// Its table.
+fn table_shown(
+    alloc: Global,
+    centre: &Option<Name>,
+    period: u16,
+    bill: &Bill,
+) -> Result<Vec<u8>, AllocError>
+    requires { IsBill (bill_shown bill.now) }
+    ensures { IfOk result (λ table. table.items
+        ≡ spec.table_in period centre.now (bill_shown bill.now)) }
+{
+    match *centre {
+        None => office_bill_table(alloc, period, bill),
+        Some(_) => bill_table(alloc, period, bill),
+    }
+}
+
+/// A bill in the form that is asked for.
+fn shown(
+    alloc: Global,
+    form: StatementForm,
+    period: u16,
+    centre: &Option<Name>,
+    found: &PeriodBill,
+) -> Result<Vec<u8>, AllocError>
+    requires day { ForSome found.now.through IsDay }
+    requires bill { IsBill (bill_shown found.now.bill) }
+    ensures { IfOk result (λ text. text.items
+        ≡ spec.bill_in form period centre.now (spec.period_bill_shown found.now)) }
+{
+    match form {
+        StatementForm::Text => text_shown(alloc, centre, period, found.through, &found.bill),
+        StatementForm::Table => table_shown(alloc, centre, period, &found.bill),
+    }
+}
+
+/// The bill of a period, of one centre or of the whole office.
+pub(crate) fn bill_report<L: Ledger>(
+    alloc: Global,
+    ledger: &mut L,
+    form: StatementForm,
+    period: u16,
+    centre: Option<Name>,
+) -> Result<Vec<u8>, LedgerFault>
+    ensures { IsCall (λ text. text.items) (L.seen ledger.old) (L.seen ledger.new) result
+        (spec.bill_report (L.seen ledger.old).naming form period centre) }
+{
+    made_of(
+        gathered(alloc, ledger, period, &centre),
+        |found| shown(alloc, form, period, &centre, &found),
+    )
+}

@@ -1,0 +1,144 @@
+//! What is held back in dispute: how many disputes there are in which a centre would pay for some
+//! record, and the least and the greatest amount that choices come to. Disputes are read one at a
+//! time.
+
+ghost use Rattle.std.specs.Prelude.{◌≡◌, ◌++◌, ◌∷◌, [], IfSome};
+ghost use Rattle.book_model.specs.Words as words;
+ghost use Rattle.book_model.specs.Words.{dispute_shown, held_back_in};
+ghost use Rattle.book_core.specs.Calls.{IsCall};
+ghost use Rattle.book_reports.specs.HeldBack as spec;
+ghost use Rattle.book_reports.specs.HeldBack.{AllDisputes};
+
+use crate::period_days::{is_closed, period_days};
+use crate::streamed_disputes::{MOST_DISPUTES, bytes_after};
+use book_core::{Dispute, Ledger, LedgerFault, Variant};
+use book_model::HeldBack;
+use smf_text::Name;
+use tariff_rules::Priced;
+
+/// What no disputes hold back.
+const NOTHING: HeldBack = HeldBack {
+    disputes: 0,
+    least: 0,
+    greatest: 0,
+};
+
+/// The centre that is named pays it, or none is named.
+fn is_paid_by(centre: &Option<Name>, priced: &Priced) -> bool
+    ensures { result ≡ words.is_paid_by centre.now priced.now }
+{
+    match *centre {
+        Some(centre) => priced.centre == centre,
+        None => true,
+    }
+}
+
+/// What the centre is charged where the record is chosen.
+fn amount_for(centre: &Option<Name>, member: &Variant) -> u64
+    ensures { result ≡ words.amount_for centre.now member.now }
+{
+    if is_paid_by(centre, &member.priced) {
+        member.priced.amount
+    } else {
+        0
+    }
+}
+
+/// The centre would pay for some of the records.
+fn is_any_paid_by(centre: &Option<Name>, members: &[Variant]) -> bool
+    ensures { result ≡ spec.is_any_paid_by centre.now members.now }
+{
+    members
+        .iter()
+        .any(|member| is_paid_by(centre, &member.priced))
+}
+
+/// The least that it would pay for one of the records.
+fn least_of(centre: &Option<Name>, members: &[Variant]) -> u64
+    ensures { result ≡ spec.least_of centre.now members.now }
+{
+    let least = members
+        .iter()
+        .map(|member| amount_for(centre, member))
+        .min();
+    least.unwrap_or(0)
+}
+
+/// The greatest.
+fn greatest_of(centre: &Option<Name>, members: &[Variant]) -> u64
+    ensures { result ≡ spec.greatest_of centre.now members.now }
+{
+    let greatest = members
+        .iter()
+        .map(|member| amount_for(centre, member))
+        .max();
+    greatest.unwrap_or(0)
+}
+
+/// What is held back with one more dispute of these amounts, if 64 bits hold it.
+fn with_amounts(held: HeldBack, least: u64, greatest: u64) -> Option<HeldBack>
+    ensures { IfSome result (λ more. more ≡ spec.with_amounts held least greatest) }
+{
+    Some(HeldBack {
+        disputes: held.disputes.checked_add(1)?,
+        least: held.least.checked_add(least)?,
+        greatest: held.greatest.checked_add(greatest)?,
+    })
+}
+
+/// The same with one more dispute of any kind.
+fn with_dispute(held: HeldBack, centre: &Option<Name>, dispute: &Dispute) -> Option<HeldBack>
+    ensures { IfSome result (λ more. (disputes : AllDisputes) → held ≡ held_back_in centre.now disputes
+        → more ≡ held_back_in centre.now (disputes ++ dispute_shown dispute.now ∷ [])) }
+{
+    let members = dispute.members.as_slice();
+    if !is_any_paid_by(centre, members) {
+        return Some(held);
+    }
+    let least = least_of(centre, members);
+    let greatest = greatest_of(centre, members);
+    let Some(more) = with_amounts(held, least, greatest) else {
+        return None;
+    };
+    Some(more)
+}
+
+/// What all disputes hold back, for the centre that is named or for the whole office.
+fn held_in_all<L: Ledger>(ledger: &mut L, centre: &Option<Name>) -> Result<HeldBack, LedgerFault>
+    ensures { IsCall (λ held. held) (L.seen ledger.old) (L.seen ledger.new) result
+        (spec.held_in_outcome (L.seen ledger.old).naming centre.now) }
+{
+    let mut held = NOTHING;
+    let mut next = ledger.dispute_from(&[])?;
+    'disputes: for _ in 0..MOST_DISPUTES {
+        let Some(dispute) = next else {
+            return Ok(held);
+        };
+        let Some(more) = with_dispute(held, centre, &dispute) else {
+            return Err(LedgerFault::Memory);
+        };
+        held = more;
+        let from = bytes_after(dispute)?;
+        next = ledger.dispute_from(&from)?;
+    }
+    // Only a ledger that lies has more.
+    Err(LedgerFault::Memory)
+}
+
+/// What is held back of a period. A closed one holds nothing back: what is decided after its close
+/// comes late in the period that is open then, so its bill is final.
+pub(crate) fn held_back<L: Ledger>(
+    ledger: &mut L,
+    period: u16,
+    centre: &Option<Name>,
+) -> Result<Option<HeldBack>, LedgerFault>
+    ensures { IsCall (λ held. held) (L.seen ledger.old) (L.seen ledger.new) result
+        (spec.held_back_outcome (L.seen ledger.old).naming period centre.now) }
+{
+    let days = period_days(ledger, period)?;
+    if is_closed(days) {
+        return Ok(None);
+    }
+    let held = held_in_all(ledger, centre)?;
+    Ok(Some(held))
+}

@@ -1,0 +1,97 @@
+-- What a bill charges: its plain lines, what one centre has, and the centres, each in its place.
+use Rattle.std.proofs.Common.{◌≡◌, ◌∙◌, ℕ, List, [], ◌∷◌, ◌++◌, map, ap, arith, subst}
+use Rattle.std.proofs.Common.{append-nil, append_assoc, sym}
+use Rattle.std.specs.Prelude.{All}
+use Rattle.std.specs.BTreeSet.{insert_key}
+use Rattle.std.specs.List.{fold}
+use Rattle.std.proofs.lemmas.Cmp.{nat_list_cmp_total}
+use Rattle.std.proofs.lemmas.List.{get_or-map, length-map}
+use Rattle.std.proofs.lemmas.List.Sums.{sum_by-cons, sum_by_push}
+use Rattle.std.proofs.lemmas.Map.Lookups.{exact_bytes}
+use Rattle.book_model.specs.declared.bill.BilledLine.{BilledLine}
+use Rattle.book_model.specs.declared.line.Line.{Line}
+use Rattle.book_model.specs.declared.row.ChargeRow.{ChargeRow}
+use Rattle.book_model.specs.Words.{AreLines, BillSeen, IsDay, by_bytes, members, same_bytes}
+use Rattle.book_model.specs.Words.{set_of}
+use Rattle.book_model.proofs.SetLemmas.{members-empty, members-with, set_of-alike}
+use Rattle.book_model.proofs.SumsAlike.{SumsAlike}
+use Rattle.report_texts.specs.AdjustmentLists.{charged_amount}
+use Rattle.report_texts.specs.Charges.{FitCharges, IsBill, centres_of, charges_of}
+use Rattle.report_texts.specs.Charges.{charges_of_centre, plain_lines}
+use Rattle.report_texts.proofs.AmountLemmas.{charged_within}
+use Rattle.report_texts.proofs.CentreLemmas.{filter_most}
+
+-- the records of a bill's lines are dated on days, where those of the plain lines are
+pub billed_days : (billed : List BilledLine) → AreLines (plain_lines billed)
+    → All (λ (one : BilledLine). IsDay one.line.priced.day) billed
+billed_days billed are k one inside =
+    let line_of : BilledLine → Line = λ one. one.line in
+    subst (λ (line : Line). IsDay line.priced.day)
+    (get_or-map line_of billed k one one.line inside)
+    (are.days k one.line (simp length-map inside))
+
+-- what a bill that can be shown charges fits
+pub bill_fits : (bill : BillSeen) → IsBill bill
+    → FitCharges (charges_of bill.steps bill.jobs (plain_lines bill.lines))
+bill_fits bill is =
+    let late = charged_within (plain_lines bill.lines) in
+    omega (arith, is.amount, is.lines.amount)
+
+-- what one centre is charged fits, where all does
+pub centre_fits : (centre : List ℕ) (steps jobs : List ChargeRow) (lines : List Line)
+    → FitCharges (charges_of steps jobs lines)
+    → FitCharges (charges_of_centre centre steps jobs lines)
+centre_fits centre steps jobs lines fits =
+    let own_row = λ (row : ChargeRow). same_bytes row.centre centre in
+    let own_steps = filter_most own_row (λ row. row.amount) steps in
+    let own_jobs = filter_most own_row (λ row. row.amount) jobs in
+    let own_lines = filter_most (λ (line : Line). same_bytes line.priced.centre centre)
+    charged_amount lines in
+    omega arith
+
+-- one more name joins the others in its place
+one_more : (names : List (List ℕ)) (name : List ℕ)
+    → members (set_of by_bytes (names ++ name ∷ []))
+    ≡ insert_key by_bytes (members (set_of by_bytes names)) name
+one_more names name =
+    let alike : SumsAlike (names ++ name ∷ []) (name ∷ names) = record {
+      sums = λ f.
+          let last = sum_by_push f names name in
+          let first = sum_by-cons f name names in
+          omega arith;
+    } in
+    ap members (set_of-alike nat_list_cmp_total exact_bytes alike)
+    ∙ members-with nat_list_cmp_total (set_of by_bytes names) name
+
+-- names in order, with the names of some elements in their places
+abbrev pub joined : {X : Type 0} → (X → List ℕ) → List (List ℕ) → List X → List (List ℕ)
+joined name keys xs = fold (λ all x. insert_key by_bytes all (name x)) keys xs
+
+-- so the names of some are joined by those of others
+joined_members : {X : Type 0} (name : X → List ℕ) (names : List (List ℕ)) (xs : List X)
+    → joined name (members (set_of by_bytes names)) xs
+    ≡ members (set_of by_bytes (names ++ map name xs))
+joined_members name names [] =
+    ap (λ all. members (set_of by_bytes all)) (sym (append-nil names))
+joined_members name names (x ∷ xs) =
+    ap (λ keys. joined name keys xs) (sym (one_more names (name x)))
+    ∙ joined_members name (names ++ name x ∷ []) xs
+    ∙ ap (λ all. members (set_of by_bytes all)) (append_assoc names (name x ∷ []) (map name xs))
+
+-- the centres of steps, jobs and lines, joined in this order
+pub centres_joined : (steps jobs : List ChargeRow) (lines : List Line)
+    (none by_steps by_jobs all : List (List ℕ)) → none ≡ []
+    → by_steps ≡ joined (λ (row : ChargeRow). row.centre) none steps
+    → by_jobs ≡ joined (λ (row : ChargeRow). row.centre) by_steps jobs
+    → all ≡ joined (λ (line : Line). line.priced.centre) by_jobs lines
+    → all ≡ centres_of steps jobs lines
+centres_joined steps jobs lines none by_steps by_jobs all empty of_steps of_jobs of_lines =
+    let row_centre : ChargeRow → List ℕ = λ row. row.centre in
+    let line_centre : Line → List ℕ = λ line. line.priced.centre in
+    let first = of_steps
+    ∙ ap (λ keys. joined row_centre keys steps) (empty ∙ sym (members-empty by_bytes))
+    ∙ joined_members row_centre [] steps in
+    let second = of_jobs ∙ ap (λ keys. joined row_centre keys jobs) first
+    ∙ joined_members row_centre (map row_centre steps) jobs in
+    of_lines ∙ ap (λ keys. joined line_centre keys lines) second
+    ∙ joined_members line_centre (map row_centre steps ++ map row_centre jobs) lines

@@ -1,0 +1,11 @@
+use Rattle.std.proofs.Common.{take}
+use Rattle.std.specs.List.{flat_map}
+use Rattle.report_texts.specs.BillTables.{centre_row}
+use Rattle.report_texts.specs.Tables.{AddsRows}
+use Rattle.report_texts.proofs.bill_tables.write_centres.Given as goal
+
+-- the rows so far are written
+abbrev pub invariant-loop-centre : goal.invariant-loop-centre
+invariant-loop-centre l =
+    AddsRows l.initial.table l.table
+    (flat_map (centre_row l.period l.steps l.jobs l.lines) (take l.centre-index l.centre-items))

@@ -1,0 +1,22 @@
+use Rattle.std.proofs.Common.{◌≡◌, take}
+use Rattle.book_model.specs.declared.line.Line.{Line}
+use Rattle.book_model.specs.declared.row.ChargeRow.{ChargeRow}
+use Rattle.report_texts.proofs.ChargeLemmas.{joined}
+use Rattle.report_texts.proofs.charges.centres_of.Given as goal
+
+-- the centres so far have joined those that were there
+abbrev pub invariant-loop-step : goal.invariant-loop-step
+invariant-loop-step l =
+    l.centres.keys
+    ≡ joined (λ (row : ChargeRow). row.centre) l.initial.centres.keys (take l.step-index l.steps)
+
+abbrev pub invariant-loop-job : goal.invariant-loop-job
+invariant-loop-job l =
+    l.centres.keys
+    ≡ joined (λ (row : ChargeRow). row.centre) l.initial.centres.keys (take l.job-index l.jobs)
+
+abbrev pub invariant-loop-line : goal.invariant-loop-line
+invariant-loop-line l =
+    l.centres.keys
+    ≡ joined (λ (line : Line). line.priced.centre) l.initial.centres.keys
+    (take l.line-index l.lines)

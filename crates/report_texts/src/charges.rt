@@ -1,0 +1,113 @@
+//! What a bill charges, and what one centre has of that.
+
+ghost use Rattle.std.specs.Prelude.{◌≡◌, IfOk, string_bytes};
+ghost use Rattle.book_model.specs.Words.{AreLines, AreRows};
+ghost use Rattle.report_texts.specs.Charges as spec;
+ghost use Rattle.report_texts.specs.Charges.{FitCharges};
+
+use crate::adjustment_lists::signed_text;
+use crate::centres::{keep_lines, keep_rows};
+use crate::{adjustment_lists, statements};
+use book_model::{BilledLine, ChargeRow, Line};
+use smf_text::Name;
+use std::alloc::{AllocError, Global};
+use std::collections::BTreeSet;
+
+/// What is charged for steps and for jobs, what came late and what was reversed, in ten-thousandths of
+/// the money unit.
+#[derive(Clone, Copy, Debug)]
+pub struct Charges {
+    /// For steps.
+    pub steps: u64,
+    /// For jobs.
+    pub jobs: u64,
+    /// For what came late.
+    pub late: u64,
+    /// What was reversed.
+    pub reversed: u64,
+}
+
+/// A bill's lines, as a list of adjustments has them.
+pub(crate) fn plain_lines(alloc: Global, billed: &[BilledLine]) -> Result<Vec<Line>, AllocError>
+    ensures { IfOk result (λ lines. lines.items ≡ spec.plain_lines billed.now) }
+{
+    let mut lines = Vec::new(alloc);
+    for one in billed {
+        lines.push(one.line)?;
+    }
+    Ok(lines)
+}
+
+/// What rows of steps, rows of jobs and lines charge.
+pub(crate) fn charges_of(steps: &[ChargeRow], jobs: &[ChargeRow], lines: &[Line]) -> Charges
+    requires steps { AreRows steps.now }
+    requires jobs { AreRows jobs.now }
+    requires lines { AreLines lines.now }
+    ensures { result ≡ spec.charges_of steps.now jobs.now lines.now }
+{
+    let (_, _, _, of_steps) = statements::sums(steps);
+    let (_, _, _, of_jobs) = statements::sums(jobs);
+    let (late, reversed) = adjustment_lists::sums(lines);
+    Charges {
+        steps: of_steps,
+        jobs: of_jobs,
+        late,
+        reversed,
+    }
+}
+
+/// What the centre is charged of that.
+pub(crate) fn centre_charges(
+    alloc: Global,
+    centre: Name,
+    steps: &[ChargeRow],
+    jobs: &[ChargeRow],
+    lines: &[Line],
+) -> Result<Charges, AllocError>
+    requires steps { AreRows steps.now }
+    requires jobs { AreRows jobs.now }
+    requires lines { AreLines lines.now }
+    ensures { IfOk result (λ own.
+        own ≡ spec.charges_of_centre centre steps.now jobs.now lines.now) }
+{
+    let mut own_steps = Vec::from_slice(alloc, steps)?;
+    let mut own_jobs = Vec::from_slice(alloc, jobs)?;
+    let mut own_lines = Vec::from_slice(alloc, lines)?;
+    keep_rows(&mut own_steps, centre);
+    keep_rows(&mut own_jobs, centre);
+    keep_lines(&mut own_lines, centre);
+    Ok(charges_of(&own_steps, &own_jobs, &own_lines))
+}
+
+/// The centres of rows and lines, each once and in order.
+pub(crate) fn centres_of(
+    alloc: Global,
+    steps: &[ChargeRow],
+    jobs: &[ChargeRow],
+    lines: &[Line],
+) -> Result<Vec<Name>, AllocError>
+    ensures { IfOk result (λ centres.
+        centres.items ≡ spec.centres_of steps.now jobs.now lines.now) }
+{
+    let mut centres = BTreeSet::new(alloc);
+    for step in steps {
+        centres.insert(step.centre)?;
+    }
+    for job in jobs {
+        centres.insert(job.centre)?;
+    }
+    for line in lines {
+        centres.insert(line.priced.centre)?;
+    }
+    centres.into_iter().collect(alloc)
+}
+
+/// The sum owed: all that is charged, less what is reversed.
+#[tactic(auto, unfolding(crate::specs::Charges::owed_text))]
+pub(crate) fn owed_text(alloc: Global, charges: &Charges) -> Result<String, AllocError>
+    requires { FitCharges charges.now }
+    ensures { IfOk result (λ text. string_bytes text ≡ spec.owed_text charges.now) }
+{
+    let charged = charges.steps + charges.jobs + charges.late;
+    signed_text(alloc, charged, charges.reversed)
+}

@@ -1,0 +1,66 @@
+-- What a tariff file says of the office that bills by it. Both texts need not be there, and are
+-- never at fault.
+use Rattle.std.specs.Prelude.{ℕ, ◌&&◌, nat_le, nat_lt, Bool, if◌then◌else◌, List, length, codes}
+use Rattle.std.specs.Prelude.{Option, Some, None, string_bytes}
+use Rattle.std.specs.List.{list_all}
+use Rattle.std.specs.Option.{option_and_then, option_map, option_map_or}
+use Rattle.toml.specs.Data.{as_str, get_member, Members}
+use Rattle.toml.specs.Parse.{parse_document}
+use Rattle.tariff_rules.specs.Limits.{most_letters, most_text}
+use Rattle.tariff_rules.specs.declared.letterhead.Letterhead.{Letterhead}
+
+-- the name of the office, and the currency that it bills in
+pub record LetterheadSeen : Type 0 where
+  pub office : Option (List ℕ)
+  pub currency : Option (List ℕ)
+
+-- a letterhead as it is returned
+abbrev pub letterhead_shown : Letterhead → LetterheadSeen
+letterhead_shown letterhead = record {
+  office = option_map (λ text. string_bytes text) letterhead.office;
+  currency = option_map (λ text. string_bytes text) letterhead.currency;
+}
+
+-- neither text is there
+abbrev pub no_letterhead : LetterheadSeen
+no_letterhead = record { office = None; currency = None }
+
+-- the key of the one, and that of the other
+abbrev pub office_key : List ℕ
+office_key = codes "office"
+
+abbrev pub currency_key : List ℕ
+currency_key = codes "currency"
+
+-- the characters of ASCII from the blank to the tilde
+abbrev pub is_printable : ℕ → Bool
+is_printable c = nat_le 32 c && nat_le c 126
+
+-- one of them at least, and no more than a letterhead shows
+abbrev pub is_letters : List ℕ → Bool
+is_letters text =
+    nat_le 1 (length text) && nat_le (length text) most_letters && list_all is_printable text
+
+-- a text that can be shown; any other is as if it were not there
+abbrev pub if_letters : List ℕ → Option (List ℕ)
+if_letters text = if is_letters text then Some text else None
+
+-- the text at a key of a document
+unfoldable pub letters_at : Members → List ℕ → Option (List ℕ)
+letters_at document key =
+    option_and_then if_letters (option_and_then as_str (get_member key document))
+
+-- the letterhead of a document
+abbrev pub letterhead_of : Members → LetterheadSeen
+letterhead_of document = record {
+  office = letters_at document office_key;
+  currency = letters_at document currency_key;
+}
+
+-- the document that the text of a tariff file is, if it is one and not too long
+abbrev pub document_in : List ℕ → Option Members
+document_in text = if nat_lt most_text (length text) then None else parse_document text
+
+-- the letterhead of the text: neither part, where it is no document
+abbrev pub letterhead_in : List ℕ → LetterheadSeen
+letterhead_in text = option_map_or letterhead_of (document_in text) no_letterhead
