@@ -1,2 +1,11 @@
--- The lemmas: books that were copied.
+-- The lemmas: walks by key, over the trees of a store; rows by their columns; the rows of closes,
+-- tariffs, lines and records, and the charge rows that are due; books that were copied.
+pub mod WalkLemmas
+pub mod WalkSteps
+pub mod RowLemmas
+pub mod ClosedLemmas
+pub mod TariffLemmas
+pub mod LineLemmas
+pub mod RecordLemmas
+pub mod DayLemmas
 pub mod CopyLemmas

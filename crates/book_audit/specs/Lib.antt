@@ -2,9 +2,17 @@
 -- which record of an identity was chosen last; how a record is charged and posted; books that were
 -- copied; and what is printed.
 pub mod Trees
+pub mod Walks
+pub mod Rulings
 pub mod Rules
 pub mod Data
 pub mod Choices
 pub mod Marks
+pub mod Records
+pub mod Days
+pub mod Entries
+pub mod Lines
+pub mod ChoiceRows
+pub mod SoundTrees
 pub mod Copies
 pub mod Texts

@@ -16,9 +16,3 @@ is_posted_so charged posted true (Some true) = charged && not posted
 is_posted_so charged posted true (Some false) = not charged && posted
 is_posted_so charged posted false None = not posted
 is_posted_so charged posted false (Some plus) = false
-
--- Whether the period of a record's day counts it, by its mark and the first of its lines: as it was
--- charged before that.
-abbrev pub is_counted : Bool → Option Bool → Bool
-is_counted charged None = charged
-is_counted charged (Some plus) = not plus

@@ -1,17 +1,20 @@
 //! All trees of books.
 
-ghost use Rattle.std.specs.Prelude.{◌≡◌};
+ghost use Rattle.std.specs.Prelude.{◌≡◌, IfOk, OnOk};
 ghost use Rattle.sqlite_trees.specs.View.{IsClean};
-ghost use Rattle.tree_rows.specs.Calls.{CommitsNothing};
+ghost use Rattle.tree_rows.specs.Calls.{CommitsNothing, OnlyLooks};
+ghost use Rattle.tree_rows.specs.Rows.{IsUnchanged};
 ghost use Rattle.tree_tables.specs.Holds.{HasShapes};
+ghost use Rattle.book_audit.specs.SoundTrees.{AreSound};
 
 use crate::audited::{Audited, Counts};
 use crate::day_sums::{Places, check_rows};
-use crate::details::{check_details, read_first_lines};
+use crate::details::check_details;
+use crate::finding::{Place, Tree, Wrong};
 use crate::lines::check_lines;
 use crate::records::check_records;
-use crate::rulings::read_rulings;
-use crate::stop::Stop;
+use crate::ruled::read_rulings;
+use crate::stop::{Stop, unsound};
 use crate::trees::Trees;
 use crate::watch::Watch;
 use book_model::LedgerFault;
@@ -24,17 +27,22 @@ fn read_trees<S: Store, W: Watch>(
     trees: &mut Trees<S>,
     watch: &mut W,
 ) -> Result<Counts, Stop>
+    ensures sound { IfOk result (λ counts. IsClean (S.Store.view trees.new.store)
+        → AreSound (S.Store.view trees.old.store).trees counts) }
+    ensures same { OnOk result (OnlyLooks S.Store trees.old.store trees.new.store) }
     ensures quiet { CommitsNothing S.Store trees.old.store trees.new.store }
 {
     let rulings = read_rulings(alloc, trees, watch)?;
     let mut places = Places::new(alloc);
-    let mut counted = read_first_lines(alloc, trees)?;
-    let records = check_records(alloc, trees, &rulings, &mut places, &mut counted, watch)?;
-    let lines = check_lines(alloc, trees, &rulings, &mut places, watch)?;
-    let rows = check_rows(alloc, trees, &rulings, &mut places, watch)?;
-    check_details(alloc, trees, &mut counted, watch)?;
+    let held = check_records(alloc, trees, &rulings, &mut places, watch)?;
+    let lines = check_lines(alloc, trees, &rulings, watch)?;
+    if lines != held.lines {
+        return Err(unsound(Place::Tree(Tree::Lines), Wrong::Entries));
+    }
+    let rows = check_rows(alloc, trees, &rulings, places, watch)?;
+    check_details(alloc, trees, &rulings, watch)?;
     Ok(Counts {
-        records,
+        records: held.records,
         tariffs: rulings.tariffs.len() as u64,
         closes: rulings.closes.len() as u64,
         choices: u64::from(rulings.chosen.count),
@@ -51,6 +59,11 @@ pub fn audit_trees<S: Store, W: Watch>(
     watch: &mut W,
 ) -> (Result<Audited, LedgerFault>, S)
     requires { IsClean (S.Store.view store) → HasShapes (S.Store.view store) }
+    ensures sound { IfOk result.0 (λ audited. (counts : Counts) → audited ≡ Audited.Sound counts
+        → IsClean (S.Store.view result.1) → AreSound (S.Store.view store).trees counts) }
+    ensures same { IfOk result.0 (λ audited. (counts : Counts) → audited ≡ Audited.Sound counts
+        → IsClean (S.Store.view result.1)
+        → IsUnchanged (S.Store.view store) (S.Store.view result.1)) }
     ensures quiet { CommitsNothing S.Store store result.1 }
 {
     let mut trees = Trees::over(alloc, store);

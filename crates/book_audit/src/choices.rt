@@ -1,7 +1,11 @@
 //! The choices: which record was chosen last of each identity.
 
-ghost use Rattle.std.specs.Prelude.{◌≡◌, ◌≤◌, ◌+◌, None};
-ghost use Rattle.tree_rows.specs.Calls.{CommitsNothing};
+ghost use Rattle.std.specs.Prelude.{◌≡◌, ◌≤◌, ◌+◌, IfOk, None, OnOk, length};
+ghost use Rattle.sqlite_trees.specs.View.{IsClean};
+ghost use Rattle.tree_rows.specs.Calls.{CommitsNothing, OnlyLooks};
+ghost use Rattle.tree_tables.specs.Columns.{choice_columns};
+ghost use Rattle.book_audit.specs.ChoiceRows.{AreChoices, entry_of};
+ghost use Rattle.book_audit.specs.Entries.{AreCounted};
 
 use crate::entry_counts::check_entries;
 use crate::finding::{Place, Tree, Wrong};
@@ -22,7 +26,7 @@ const MAX_CHOICES: u64 = 1_000_000;
 
 /// A choice as its row says.
 #[derive(Clone, Copy)]
-struct Choice {
+pub(crate) struct Choice {
     number: u32,
     /// The name of the record that was chosen.
     name: [u8; 32],
@@ -31,7 +35,10 @@ struct Choice {
 }
 
 /// What the row of a choice says.
-fn choice_in(row: &Row) -> Result<Choice, StoreError> {
+fn choice_in(row: &Row) -> Result<Choice, StoreError>
+    requires { length row.now ≡ 3 }
+    ensures read { IfOk result (λ choice. row.now ≡ choice_columns (entry_of choice)) }
+{
     Ok(Choice {
         number: number_at(row, 0)?,
         name: hash_at(row, 1)?,
@@ -57,7 +64,8 @@ impl Chosen {
 
     /// No choices.
     fn new(alloc: Global) -> Chosen
-        ensures { (identity : List ℕ) → last_chosen result identity ≡ None }
+        ensures none { (identity : List ℕ) → last_chosen result identity ≡ None }
+        ensures count { result.count ≡ 0 }
     {
         Chosen {
             count: 0,
@@ -114,6 +122,7 @@ fn chosen_identity<S: Store>(
     rule: IdentityRule,
     choice: &Choice,
 ) -> Result<Vec<u8>, Stop>
+    ensures same { OnOk result (OnlyLooks S.Store trees.old.store trees.new.store) }
     ensures quiet { CommitsNothing S.Store trees.old.store trees.new.store }
 {
     let place = Place::Choice(choice.number);
@@ -144,6 +153,9 @@ fn check_choice<S: Store>(
     chosen: &mut Chosen,
     choice: &Choice,
 ) -> Result<(), Stop>
+    ensures number { OnOk result (choice.now.number ≡ chosen.old.count + 1) }
+    ensures count { OnOk result (chosen.new.count ≡ choice.now.number) }
+    ensures same { OnOk result (OnlyLooks S.Store trees.old.store trees.new.store) }
     ensures quiet { CommitsNothing S.Store trees.old.store trees.new.store }
 {
     let place = Place::Choice(choice.number);
@@ -171,12 +183,17 @@ pub(crate) fn read_choices<S: Store, W: Watch>(
     open_period: u16,
     watch: &mut W,
 ) -> Result<Chosen, Stop>
+    ensures choices { IfOk result (λ chosen. IsClean (S.Store.view trees.new.store)
+        → AreChoices ((S.Store.view trees.old.store).trees 8) chosen.count) }
+    ensures names { IfOk result (λ chosen. IsClean (S.Store.view trees.new.store)
+        → AreCounted Tree.ChoiceNames ((S.Store.view trees.old.store).trees 9) chosen.count) }
+    ensures same { OnOk result (OnlyLooks S.Store trees.old.store trees.new.store) }
     ensures quiet { CommitsNothing S.Store trees.old.store trees.new.store }
 {
     let tree = Tree::Choices;
     let mut walk = Walk::over(alloc, tree);
     let mut chosen = Chosen::new(alloc);
-    'choices: for count in 0..=MAX_CHOICES {
+    'choices: for count in 0..MAX_CHOICES + 1 {
         watch.read(tree, count);
         if !walk.next(trees)? {
             check_entries(alloc, trees, Tree::ChoiceNames, count, watch)?;

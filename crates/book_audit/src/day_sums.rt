@@ -1,16 +1,21 @@
 //! The sums of records by their places, against the charge rows.
 
-ghost use Rattle.std.specs.Prelude.{◌≡◌};
-ghost use Rattle.tree_rows.specs.Calls.{CommitsNothing};
+ghost use Rattle.std.specs.Prelude.{◌≡◌, [], IfOk, IfSome, List, OnOk, length, map, true};
+ghost use Rattle.sqlite_trees.specs.View.{IsClean};
+ghost use Rattle.tariff_rules.specs.declared.priced.Priced.{Priced as Price};
 ghost use Rattle.book_model.specs.Rows.{key_of};
+ghost use Rattle.book_model.specs.Words.{row_at, rows_of};
+ghost use Rattle.tree_rows.specs.Calls.{CommitsNothing, OnlyLooks};
+ghost use Rattle.tree_tables.specs.Columns.{day_columns};
+ghost use Rattle.book_audit.specs.Days.{due_entry, entry_of, keyed_rows, with_price};
 
 use crate::finding::{Place, Tree, Wrong};
 use crate::rulings::Rulings;
 use crate::stop::{Stop, met, unsound};
 use crate::trees::Trees;
-use crate::walk::{MOST_ROWS, Walk, endless};
+use crate::walk::Walk;
 use crate::watch::Watch;
-use book_model::RowKey;
+use book_model::{ChargeRow, RowKey};
 use sqlite_trees::error::StoreError;
 use sqlite_trees::store::Store;
 use sqlite_value::row::Row;
@@ -19,44 +24,11 @@ use std::collections::BTreeMap;
 use tariff_rules::Priced;
 use tree_tables::{DayKey, count_at, day_at, name_at, period_at};
 
-/// How many records there are at a place, and what they measure and cost together. All sums are
-/// taken modulo 2^64, as a record that a line reverses may come before it is counted.
-#[derive(Clone, Copy, PartialEq, Eq)]
-struct DaySums {
-    count: u64,
-    cpu: u64,
-    blocks: u64,
-    amount: u64,
-}
-
-/// For no records.
-const NOTHING: DaySums = DaySums {
-    count: 0,
-    cpu: 0,
-    blocks: 0,
-    amount: 0,
-};
-
-impl DaySums {
-    /// With one more record.
-    fn with(self, priced: &Priced) -> DaySums {
-        DaySums {
-            count: self.count.wrapping_add(1),
-            cpu: self.cpu.wrapping_add(priced.cpu),
-            blocks: self.blocks.wrapping_add(priced.excp),
-            amount: self.amount.wrapping_add(priced.amount),
-        }
-    }
-
-    /// With one record less.
-    fn without(self, priced: &Priced) -> DaySums {
-        DaySums {
-            count: self.count.wrapping_sub(1),
-            cpu: self.cpu.wrapping_sub(priced.cpu),
-            blocks: self.blocks.wrapping_sub(priced.excp),
-            amount: self.amount.wrapping_sub(priced.amount),
-        }
-    }
+/// A charge row with its period.
+#[derive(Clone, Copy)]
+pub(crate) struct DayRow {
+    period: u16,
+    sums: ChargeRow,
 }
 
 /// Where a record is charged.
@@ -70,119 +42,199 @@ pub(crate) fn place_of(priced: &Priced) -> RowKey
     }
 }
 
-/// The sums of records by their places.
+/// The row of a place before any record is counted there.
+fn empty_row(place: RowKey) -> ChargeRow
+    ensures { result ≡ row_at [] place }
+{
+    ChargeRow {
+        day: place.day,
+        centre: place.centre,
+        shift: place.shift,
+        count: 0,
+        cpu: 0,
+        blocks: 0,
+        amount: 0,
+    }
+}
+
+/// A row with one more record, where its sums fit 64 bits.
+fn row_with(row: &ChargeRow, priced: &Priced) -> Option<ChargeRow>
+    ensures { IfSome result (λ more. more ≡ with_price row.now priced.now) }
+{
+    Some(ChargeRow {
+        day: row.day,
+        centre: row.centre,
+        shift: row.shift,
+        count: row.count.checked_add(1)?,
+        cpu: row.cpu.checked_add(priced.cpu)?,
+        blocks: row.blocks.checked_add(priced.excp)?,
+        amount: row.amount.checked_add(priced.amount)?,
+    })
+}
+
+/// The charge rows of records, by their places.
 #[derive(Drop)]
 pub(crate) struct Places {
-    sums: BTreeMap<RowKey, DaySums>,
+    rows: BTreeMap<RowKey, ChargeRow>,
 }
 
 impl Places {
+    ghost use Rattle.std.specs.Prelude.{◌≡◌, ◌++◌, ◌∷◌, [], IfOk, List, true};
+    ghost use Rattle.book_model.specs.Words.{rows_of};
+    ghost use Rattle.tariff_rules.specs.declared.priced.Priced.{Priced as Price};
+    ghost use Rattle.book_audit.specs.Days.{keyed_rows};
+
     /// For no records.
-    pub(crate) fn new(alloc: Global) -> Places {
+    pub(crate) fn new(alloc: Global) -> Places
+        ensures { result.rows.entries ≡ keyed_rows [] }
+    {
         Places {
-            sums: BTreeMap::new(alloc),
+            rows: BTreeMap::new(alloc),
         }
     }
 
-    /// A record is counted at its place.
-    pub(crate) fn count(&mut self, priced: &Priced) -> Result<(), AllocError> {
-        let sums = self.sums.entry(place_of(priced))?.or_insert(NOTHING);
-        *sums = sums.with(priced);
-        Ok(())
+    /// A record is counted at its place, or answers that the sums there do not fit 64 bits.
+    pub(crate) fn count(&mut self, priced: &Priced) -> Result<bool, AllocError>
+        ensures { IfOk result (λ fits. fits ≡ true → (prices : List Price)
+            → self.old.rows.entries ≡ keyed_rows prices
+            → self.new.rows.entries ≡ keyed_rows (prices ++ priced.now ∷ [])) }
+    {
+        let place = place_of(priced);
+        let row = self.rows.entry(place)?.or_insert(empty_row(place));
+        let Some(more) = row_with(row, priced) else {
+            return Ok(false);
+        };
+        *row = more;
+        Ok(true)
     }
 
-    /// A record is no longer counted at its place.
-    pub(crate) fn discount(&mut self, priced: &Priced) -> Result<(), AllocError> {
-        let sums = self.sums.entry(place_of(priced))?.or_insert(NOTHING);
-        *sums = sums.without(priced);
-        Ok(())
-    }
-
-    /// What is wrong with the sums of a charge row. After this its place is done.
-    fn wrong_with(&mut self, place: &RowKey, said: DaySums) -> Option<Wrong> {
-        let sums = self.sums.remove(place).unwrap_or(NOTHING);
-        if said.count == 0 {
-            return Some(Wrong::NoCount);
-        }
-        if said != sums {
-            return Some(Wrong::Sums);
-        }
-        None
-    }
-
-    /// A place that has records and was not done.
-    fn left(&self) -> Option<RowKey> {
-        for (place, sums) in &self.sums {
-            if *sums != NOTHING {
-                return Some(*place);
-            }
-        }
-        None
+    /// The rows, in the order of their places.
+    fn into_rows(self, alloc: Global) -> Result<Vec<ChargeRow>, AllocError>
+        ensures { IfOk result (λ rows. (prices : List Price) → self.rows.entries ≡ keyed_rows prices
+            → rows.items ≡ rows_of prices) }
+    {
+        self.rows.into_values().collect(alloc)
     }
 }
 
-/// Where a charge row is.
-fn place_in(row: &Row) -> Result<DayKey, StoreError> {
-    Ok(DayKey {
+/// What a charge row says.
+fn row_in(row: &Row) -> Result<DayRow, StoreError>
+    requires { length row.now ≡ 8 }
+    ensures read { IfOk result (λ it. row.now ≡ day_columns (entry_of it)) }
+{
+    Ok(DayRow {
         period: period_at(row, 0)?,
-        place: RowKey {
+        sums: ChargeRow {
             day: day_at(row, 1)?,
             centre: name_at(row, 2)?,
             shift: name_at(row, 3)?,
+            count: count_at(row, 4)?,
+            cpu: count_at(row, 5)?,
+            blocks: count_at(row, 6)?,
+            amount: count_at(row, 7)?,
         },
     })
 }
 
-/// The sums of a charge row.
-fn sums_in(row: &Row) -> Result<DaySums, StoreError> {
-    Ok(DaySums {
-        count: count_at(row, 4)?,
-        cpu: count_at(row, 5)?,
-        blocks: count_at(row, 6)?,
-        amount: count_at(row, 7)?,
-    })
-}
-
-/// A charge row is the sum of its records, in the period of its day.
-fn check_row(rulings: &Rulings, places: &mut Places, row: &Row) -> Result<(), Stop> {
-    let spot = place_in(row).map_err(|error| met(Tree::Days, error))?;
-    let said = sums_in(row).map_err(|error| met(Tree::Days, error))?;
-    if spot.period != rulings.period_of(spot.place.day) {
-        return Err(unsound(Place::Day(spot), Wrong::Period));
-    }
-    match places.wrong_with(&spot.place, said) {
-        Some(wrong) => Err(unsound(Place::Day(spot), wrong)),
-        None => Ok(()),
+/// The place of a charge row.
+fn key_of(row: &DayRow) -> DayKey {
+    DayKey {
+        period: row.period,
+        place: place_in(&row.sums),
     }
 }
 
-/// Each place that has records had its charge row.
-fn check_left(rulings: &Rulings, places: &Places) -> Result<(), Stop> {
-    let Some(place) = places.left() else {
-        return Ok(());
-    };
-    let period = rulings.period_of(place.day);
-    Err(unsound(Place::Day(DayKey { period, place }), Wrong::NoRow))
+/// The place of sums.
+fn place_in(sums: &ChargeRow) -> RowKey {
+    RowKey {
+        day: sums.day,
+        centre: sums.centre,
+        shift: sums.shift,
+    }
 }
 
-/// Reads all charge rows, which must be the sums of the places. Returns how many there are.
+/// What is wrong with a charge row, where another is due, or none: it is not in the period of its
+/// day, counts no record, or is not the sum of its records; or there is no row for others.
+fn wrong_with(rulings: &Rulings, row: &DayRow, due: Option<&ChargeRow>) -> Stop {
+    let spot = key_of(row);
+    if row.period != rulings.period_of(row.sums.day) {
+        return unsound(Place::Day(spot), Wrong::Period);
+    }
+    if row.sums.count == 0 {
+        return unsound(Place::Day(spot), Wrong::NoCount);
+    }
+    if let Some(due) = due {
+        let place = place_in(due);
+        if place < spot.place {
+            let period = rulings.period_of(due.day);
+            return unsound(Place::Day(DayKey { period, place }), Wrong::NoRow);
+        }
+    }
+    unsound(Place::Day(spot), Wrong::Sums)
+}
+
+/// Whether the charge row is this one, in the period of its day.
+fn is_due(rulings: &Rulings, row: &DayRow, due: &ChargeRow) -> bool
+    ensures { result ≡ true → entry_of row.now ≡ due_entry rulings.now.closes.items due.now }
+{
+    row.period == rulings.period_of(due.day) && row.sums == *due
+}
+
+/// Reads all charge rows, which must be these, one after the other: the period of a day is no later
+/// than that of a later day, so they are in the order of their places.
+fn read_rows<S: Store, W: Watch>(
+    alloc: Global,
+    trees: &mut Trees<S>,
+    rulings: &Rulings,
+    due: &[ChargeRow],
+    watch: &mut W,
+) -> Result<(), Stop>
+    ensures rows { OnOk result (IsClean (S.Store.view trees.new.store)
+        → (S.Store.view trees.old.store).trees 4
+        ≡ map day_columns (map (due_entry rulings.now.closes.items) due.now)) }
+    ensures same { OnOk result (OnlyLooks S.Store trees.old.store trees.new.store) }
+    ensures quiet { CommitsNothing S.Store trees.old.store trees.new.store }
+{
+    let tree = Tree::Days;
+    let mut walk = Walk::over(alloc, tree);
+    'rows: for next in due {
+        watch.read(tree, 0);
+        if !walk.next(trees)? {
+            let place = place_in(next);
+            let period = rulings.period_of(next.day);
+            return Err(unsound(Place::Day(DayKey { period, place }), Wrong::NoRow));
+        }
+        let row = row_in(walk.row()).map_err(|error| met(tree, error))?;
+        if !is_due(rulings, &row, next) {
+            return Err(wrong_with(rulings, &row, Some(next)));
+        }
+    }
+    if walk.next(trees)? {
+        let row = row_in(walk.row()).map_err(|error| met(tree, error))?;
+        return Err(wrong_with(rulings, &row, None));
+    }
+    Ok(())
+}
+
+/// Reads all charge rows, which must be those of the records that were counted. Returns how many
+/// there are.
 pub(crate) fn check_rows<S: Store, W: Watch>(
     alloc: Global,
     trees: &mut Trees<S>,
     rulings: &Rulings,
-    places: &mut Places,
+    places: Places,
     watch: &mut W,
 ) -> Result<u64, Stop>
+    ensures rows { OnOk result (IsClean (S.Store.view trees.new.store) → (prices : List Price)
+        → places.rows.entries ≡ keyed_rows prices
+        → (S.Store.view trees.old.store).trees 4
+        ≡ map day_columns (map (due_entry rulings.now.closes.items) (rows_of prices))) }
+    ensures count { IfOk result (λ count. (prices : List Price)
+        → places.rows.entries ≡ keyed_rows prices → count ≡ length (rows_of prices)) }
+    ensures same { OnOk result (OnlyLooks S.Store trees.old.store trees.new.store) }
     ensures quiet { CommitsNothing S.Store trees.old.store trees.new.store }
 {
-    let mut walk = Walk::over(alloc, Tree::Days);
-    'rows: for count in 0..MOST_ROWS {
-        watch.read(Tree::Days, count);
-        if !walk.next(trees)? {
-            check_left(rulings, places)?;
-            return Ok(count);
-        }
-        check_row(rulings, places, walk.row())?;
-    }
-    Err(endless(Tree::Days))
+    let due = places.into_rows(alloc)?;
+    read_rows(alloc, trees, rulings, &due, watch)?;
+    Ok(due.len() as u64)
 }

@@ -1,13 +1,13 @@
 //! The details: a row for each record that some period counts.
 
-ghost use Rattle.std.specs.Prelude.{◌≡◌, IsTrue};
+ghost use Rattle.std.specs.Prelude.{◌≡◌, IsTrue, OnOk};
 ghost use Rattle.book_model.specs.Words as model;
-ghost use Rattle.tree_rows.specs.Calls.{CommitsNothing};
-ghost use Rattle.book_audit.specs.Marks as spec;
+ghost use Rattle.tree_rows.specs.Calls.{CommitsNothing, OnlyLooks};
 
 use crate::day_sums::place_of;
 use crate::finding::{DetailKey, Place, Tree, Wrong};
-use crate::lines::line_in;
+use crate::marks::past_in;
+use crate::rulings::Rulings;
 use crate::stop::{Stop, met, unsound};
 use crate::trees::Trees;
 use crate::walk::{MOST_ROWS, Walk, endless};
@@ -18,55 +18,7 @@ use smf_type30::Type30;
 use sqlite_trees::store::Store;
 use sqlite_value::row::Row;
 use std::alloc::Global;
-use std::collections::BTreeMap;
 use tree_tables::{StoredRecord, put_data, read_detail, usage_in};
-
-/// Which records are counted: by name, the first line of each record that has one.
-#[derive(Drop)]
-pub(crate) struct FirstLines {
-    /// Whether it is a plus line.
-    lines: BTreeMap<[u8; 32], bool>,
-    /// The bytes of the record that is looked at.
-    bytes: Vec<u8>,
-}
-
-/// Whether the period of a record's day counts it, by its mark and the first of its lines: it was
-/// charged then as it was before them.
-fn is_counted(charged: bool, line: Option<bool>) -> bool
-    ensures { result ≡ spec.is_counted charged line }
-{
-    match line {
-        Some(plus) => !plus,
-        None => charged,
-    }
-}
-
-/// Reads the lines, of which there are few: the first of each record counts.
-pub(crate) fn read_first_lines<S: Store>(
-    alloc: Global,
-    trees: &mut Trees<S>,
-) -> Result<FirstLines, Stop>
-    ensures quiet { CommitsNothing S.Store trees.old.store trees.new.store }
-{
-    let mut walk = Walk::over(alloc, Tree::Lines);
-    let mut lines = BTreeMap::new(alloc);
-    'lines: for _ in 0..MOST_ROWS {
-        if !walk.next(trees)? {
-            let bytes = Vec::new(alloc);
-            return Ok(FirstLines { lines, bytes });
-        }
-        let line = line_in(walk.row()).map_err(|error| met(Tree::Lines, error))?;
-        lines.entry(line.name)?.or_insert(line.plus);
-    }
-    Err(endless(Tree::Lines))
-}
-
-impl FirstLines {
-    /// Whether some period counts a record.
-    fn counts(&self, record: &StoredRecord) -> bool {
-        is_counted(record.charged, self.lines.get(&record.name).copied())
-    }
-}
 
 /// Where a row of details is.
 fn key_of(shown: &Detail) -> DetailKey {
@@ -77,19 +29,17 @@ fn key_of(shown: &Detail) -> DetailKey {
     }
 }
 
-/// A record that is counted has a row of details.
+/// A record that is counted has a row of details. What is in `bytes` is lost.
 pub(crate) fn check_has_detail<S: Store>(
     trees: &mut Trees<S>,
-    counted: &mut FirstLines,
+    bytes: &mut Vec<u8>,
     record: &StoredRecord,
 ) -> Result<(), Stop>
+    ensures same { OnOk result (OnlyLooks S.Store trees.old.store trees.new.store) }
     ensures quiet { CommitsNothing S.Store trees.old.store trees.new.store }
 {
-    if !counted.counts(record) {
-        return Ok(());
-    }
-    put_data(&mut counted.bytes, &record.data_bytes).map_err(|error| met(Tree::Records, error))?;
-    let usage = usage_in(&counted.bytes).map_err(|error| met(Tree::Records, error))?;
+    put_data(bytes, &record.data_bytes).map_err(|error| met(Tree::Records, error))?;
+    let usage = usage_in(bytes).map_err(|error| met(Tree::Records, error))?;
     let shown = detail_with(&record.name, &usage, record.priced);
     let found = trees
         .has_detail(&key_of(&shown))
@@ -126,9 +76,11 @@ fn shows(shown: &Detail, record: &StoredRecord, usage: &Type30<'_>) -> bool
 fn wrong_with<S: Store>(
     alloc: Global,
     trees: &mut Trees<S>,
-    counted: &mut FirstLines,
+    rulings: &Rulings,
+    bytes: &mut Vec<u8>,
     shown: &Detail,
 ) -> Result<Option<Wrong>, Stop>
+    ensures same { OnOk result (OnlyLooks S.Store trees.old.store trees.new.store) }
     ensures quiet { CommitsNothing S.Store trees.old.store trees.new.store }
 {
     let record = trees
@@ -137,28 +89,30 @@ fn wrong_with<S: Store>(
     let Some(record) = record else {
         return Ok(Some(Wrong::NoRecord));
     };
-    put_data(&mut counted.bytes, &record.data_bytes).map_err(|error| met(Tree::Records, error))?;
-    let usage = usage_in(&counted.bytes).map_err(|error| met(Tree::Records, error))?;
+    put_data(bytes, &record.data_bytes).map_err(|error| met(Tree::Records, error))?;
+    let usage = usage_in(bytes).map_err(|error| met(Tree::Records, error))?;
     if !shows(shown, &record, &usage) {
         return Ok(Some(Wrong::OtherDetail));
     }
-    if !counted.counts(&record) {
-        return Ok(Some(Wrong::NotCounted));
+    match past_in(trees, rulings, &record)? {
+        Some(past) if past.counted => Ok(None),
+        _ => Ok(Some(Wrong::NotCounted)),
     }
-    Ok(None)
 }
 
 /// A row of details is that of a record which some period counts.
 fn check_row<S: Store>(
     alloc: Global,
     trees: &mut Trees<S>,
-    counted: &mut FirstLines,
+    rulings: &Rulings,
+    bytes: &mut Vec<u8>,
     row: &Row,
 ) -> Result<(), Stop>
+    ensures same { OnOk result (OnlyLooks S.Store trees.old.store trees.new.store) }
     ensures quiet { CommitsNothing S.Store trees.old.store trees.new.store }
 {
     let shown = read_detail(row).map_err(|error| met(Tree::Details, error))?;
-    match wrong_with(alloc, trees, counted, &shown)? {
+    match wrong_with(alloc, trees, rulings, bytes, &shown)? {
         Some(wrong) => Err(unsound(Place::Detail(key_of(&shown)), wrong)),
         None => Ok(()),
     }
@@ -168,18 +122,20 @@ fn check_row<S: Store>(
 pub(crate) fn check_details<S: Store, W: Watch>(
     alloc: Global,
     trees: &mut Trees<S>,
-    counted: &mut FirstLines,
+    rulings: &Rulings,
     watch: &mut W,
 ) -> Result<(), Stop>
+    ensures same { OnOk result (OnlyLooks S.Store trees.old.store trees.new.store) }
     ensures quiet { CommitsNothing S.Store trees.old.store trees.new.store }
 {
     let mut walk = Walk::over(alloc, Tree::Details);
+    let mut bytes = Vec::new(alloc);
     'rows: for count in 0..MOST_ROWS {
         watch.read(Tree::Details, count);
         if !walk.next(trees)? {
             return Ok(());
         }
-        check_row(alloc, trees, counted, walk.row())?;
+        check_row(alloc, trees, rulings, &mut bytes, walk.row())?;
     }
     Err(endless(Tree::Details))
 }

@@ -1,6 +1,13 @@
 //! How many entries a tree has.
 
-ghost use Rattle.tree_rows.specs.Calls.{CommitsNothing};
+ghost use Rattle.std.specs.Prelude.{◌≡◌, IfOk, OnOk, length, true};
+ghost use Rattle.sqlite_trees.specs.View.{IsClean};
+ghost use Rattle.sqlite_value.specs.Order.{column};
+ghost use Rattle.tree_rows.specs.Calls.{CommitsNothing, OnlyLooks};
+ghost use Rattle.tree_tables.specs.Fits.{HasBytes, HasCount};
+ghost use Rattle.book_audit.specs.Entries.{AreCounted, IsEntry};
+ghost use Rattle.book_audit.specs.Trees.{tree_number};
+ghost use Rattle.book_audit.specs.Walks.{width};
 
 use crate::finding::{Place, Tree, Wrong};
 use crate::stop::{Stop, unsound};
@@ -8,15 +15,52 @@ use crate::trees::Trees;
 use crate::walk::{MOST_ROWS, Walk, endless};
 use crate::watch::Watch;
 use sqlite_trees::store::Store;
+use sqlite_value::row::Row;
+use sqlite_value::value::ValueRef;
 use std::alloc::Global;
+use tree_tables::count_at;
 
-/// How many rows a tree has.
+/// Whether a column has bytes.
+fn has_bytes(row: &Row, at: usize) -> bool
+    ensures { result ≡ true → HasBytes (column row.now at) }
+{
+    match row.get(at) {
+        ValueRef::Blob(_) => true,
+        _ => false,
+    }
+}
+
+/// Whether a column has a number that is not below 0.
+fn has_count(row: &Row, at: usize) -> bool
+    ensures { result ≡ true → HasCount (column row.now at) }
+{
+    count_at(row, at).is_ok()
+}
+
+/// Whether a row is an entry of a tree that finds the rows of a table: bytes, and a number before or
+/// after them, where it has one.
+fn is_entry(tree: Tree, row: &Row) -> bool
+    requires { length row.now ≡ width tree }
+    ensures { result ≡ true → IsEntry tree row.now }
+{
+    match tree {
+        Tree::Identities => has_bytes(row, 0) && has_bytes(row, 1),
+        Tree::Marks => has_count(row, 0) && has_bytes(row, 1) && has_bytes(row, 2),
+        Tree::ChoiceNames => has_bytes(row, 0) && has_count(row, 1),
+        _ => false,
+    }
+}
+
+/// How many entries a tree has that finds the rows of a table.
 fn count_rows<S: Store, W: Watch>(
     alloc: Global,
     trees: &mut Trees<S>,
     tree: Tree,
     watch: &mut W,
 ) -> Result<u64, Stop>
+    ensures counted { IfOk result (λ count. IsClean (S.Store.view trees.new.store)
+        → AreCounted tree ((S.Store.view trees.old.store).trees (tree_number tree)) count) }
+    ensures same { OnOk result (OnlyLooks S.Store trees.old.store trees.new.store) }
     ensures quiet { CommitsNothing S.Store trees.old.store trees.new.store }
 {
     let mut walk = Walk::over(alloc, tree);
@@ -24,6 +68,9 @@ fn count_rows<S: Store, W: Watch>(
         watch.read(tree, count);
         if !walk.next(trees)? {
             return Ok(count);
+        }
+        if !is_entry(tree, walk.row()) {
+            return Err(unsound(Place::Tree(tree), Wrong::Unreadable));
         }
     }
     Err(endless(tree))
@@ -37,6 +84,9 @@ pub(crate) fn check_entries<S: Store, W: Watch>(
     rows: u64,
     watch: &mut W,
 ) -> Result<(), Stop>
+    ensures counted { OnOk result (IsClean (S.Store.view trees.new.store)
+        → AreCounted tree ((S.Store.view trees.old.store).trees (tree_number tree)) rows) }
+    ensures same { OnOk result (OnlyLooks S.Store trees.old.store trees.new.store) }
     ensures quiet { CommitsNothing S.Store trees.old.store trees.new.store }
 {
     let entries = count_rows(alloc, trees, tree, watch)?;

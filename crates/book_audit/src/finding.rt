@@ -5,6 +5,7 @@ ghost use Rattle.sqlite_trees.specs.View.{View};
 ghost use Rattle.sqlite_value.specs.Keys.{plain};
 ghost use Rattle.tree_tables.specs.Holds.{HasShapes};
 ghost use Rattle.book_audit.specs.Trees.{tree_number};
+ghost use Rattle.book_audit.specs.Walks.{key_width, width};
 
 use book_model::RowKey;
 use sqlite_trees::store::Shape;
@@ -71,13 +72,29 @@ impl Tree {
     }
 
     /// How many of the first columns of a row are its key.
-    pub(crate) fn key_columns(self) -> usize {
+    pub(crate) fn key_columns(self) -> usize
+        ensures { result ≡ key_width self }
+    {
         match self {
             Tree::Book | Tree::Tariffs | Tree::Closes | Tree::Records | Tree::Choices => 1,
             Tree::Lines | Tree::Identities | Tree::ChoiceNames => 2,
             Tree::Marks => 3,
             Tree::Days => 4,
             Tree::Details => 5,
+        }
+    }
+
+    /// How many columns each of its rows has.
+    pub(crate) fn columns(self) -> usize
+        ensures { result ≡ width self }
+    {
+        match self {
+            Tree::Tariffs | Tree::Closes | Tree::Identities | Tree::ChoiceNames => 2,
+            Tree::Lines | Tree::Marks | Tree::Choices => 3,
+            Tree::Book => 5,
+            Tree::Days => 8,
+            Tree::Records => 11,
+            Tree::Details => 12,
         }
     }
 }
@@ -123,6 +140,8 @@ pub enum Wrong {
     Pages,
     /// A page or a row can't be read.
     Unreadable,
+    /// A row has another number of columns than those of its tree.
+    Columns,
     /// The rows are not in the order of their keys.
     Order,
     /// The tree has more than one row.
@@ -171,6 +190,10 @@ pub enum Wrong {
     Charged,
     /// The record is not posted as the last close charged it.
     Posted,
+    /// A line adds a record that was charged before it, or reverses one that was not.
+    Lines,
+    /// There are more records than books can hold, or they cost more.
+    Limits,
     /// A tree that finds the rows of a table has another number of entries.
     Entries,
     /// The record of a line or of a row of details is not held.

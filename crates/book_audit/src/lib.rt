@@ -16,6 +16,7 @@ mod marks;
 mod record_bytes;
 mod records;
 mod repository;
+mod ruled;
 mod rulings;
 mod stop;
 mod texts;

@@ -1,8 +1,11 @@
 //! The adjustment lines.
 
-ghost use Rattle.tree_rows.specs.Calls.{CommitsNothing};
+ghost use Rattle.std.specs.Prelude.{◌≡◌, IfOk, OnOk, length};
+ghost use Rattle.sqlite_trees.specs.View.{IsClean};
+ghost use Rattle.tree_rows.specs.Calls.{CommitsNothing, OnlyLooks};
+ghost use Rattle.tree_tables.specs.Columns.{line_columns};
+ghost use Rattle.book_audit.specs.Lines.{AreLines, line_entry};
 
-use crate::day_sums::Places;
 use crate::finding::{Place, Tree, Wrong};
 use crate::rulings::Rulings;
 use crate::stop::{Stop, met, unsound};
@@ -20,13 +23,16 @@ use tree_tables::{hash_at, mark_at, period_at};
 pub(crate) struct Line {
     period: u16,
     /// The name of the record.
-    pub(crate) name: [u8; 32],
+    name: [u8; 32],
     /// It adds the record, or reverses it.
-    pub(crate) plus: bool,
+    plus: bool,
 }
 
 /// What the row of a line says.
-pub(crate) fn line_in(row: &Row) -> Result<Line, StoreError> {
+fn line_in(row: &Row) -> Result<Line, StoreError>
+    requires { length row.now ≡ 3 }
+    ensures read { IfOk result (λ line. row.now ≡ line_columns (line_entry line)) }
+{
     Ok(Line {
         period: period_at(row, 0)?,
         name: hash_at(row, 1)?,
@@ -34,15 +40,14 @@ pub(crate) fn line_in(row: &Row) -> Result<Line, StoreError> {
     })
 }
 
-/// A line names a record that is held and is dated on or before the close before its period. The
-/// record's charge row counts it if the line reverses it, and does not if the line adds it.
+/// A line names a record that is held and is dated on or before the close before its period.
 fn check_line<S: Store>(
     alloc: Global,
     trees: &mut Trees<S>,
     rulings: &Rulings,
-    places: &mut Places,
     line: &Line,
 ) -> Result<(), Stop>
+    ensures same { OnOk result (OnlyLooks S.Store trees.old.store trees.new.store) }
     ensures quiet { CommitsNothing S.Store trees.old.store trees.new.store }
 {
     let place = Place::Line(line.period, line.name);
@@ -55,11 +60,6 @@ fn check_line<S: Store>(
     if !rulings.is_before(record.priced.day, line.period) {
         return Err(unsound(place, Wrong::LineDate));
     }
-    if line.plus {
-        places.discount(&record.priced)?;
-    } else {
-        places.count(&record.priced)?;
-    }
     Ok(())
 }
 
@@ -68,9 +68,11 @@ pub(crate) fn check_lines<S: Store, W: Watch>(
     alloc: Global,
     trees: &mut Trees<S>,
     rulings: &Rulings,
-    places: &mut Places,
     watch: &mut W,
 ) -> Result<u64, Stop>
+    ensures lines { IfOk result (λ count. IsClean (S.Store.view trees.new.store)
+        → AreLines ((S.Store.view trees.old.store).trees 5) count) }
+    ensures same { OnOk result (OnlyLooks S.Store trees.old.store trees.new.store) }
     ensures quiet { CommitsNothing S.Store trees.old.store trees.new.store }
 {
     let mut walk = Walk::over(alloc, Tree::Lines);
@@ -80,7 +82,7 @@ pub(crate) fn check_lines<S: Store, W: Watch>(
             return Ok(count);
         }
         let line = line_in(walk.row()).map_err(|error| met(Tree::Lines, error))?;
-        check_line(alloc, trees, rulings, places, &line)?;
+        check_line(alloc, trees, rulings, &line)?;
     }
     Err(endless(Tree::Lines))
 }

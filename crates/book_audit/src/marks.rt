@@ -1,8 +1,11 @@
 //! The marks of a record, and the trees that find it.
 
-ghost use Rattle.std.specs.Prelude.{◌≡◌};
-ghost use Rattle.tree_rows.specs.Calls.{CommitsNothing};
+ghost use Rattle.std.specs.Prelude.{◌≡◌, ◌≤◌, ◌-◌, IfOk, IfSome, None, OnOk};
+ghost use Rattle.sqlite_trees.specs.View.{IsClean};
+ghost use Rattle.tree_rows.specs.Calls.{CommitsNothing, OnlyLooks};
+ghost use Rattle.tree_tables.specs.Stored.{stored_entry};
 ghost use Rattle.book_audit.specs.Marks as spec;
+ghost use Rattle.book_audit.specs.Records.{GoesBack, HasPast, IsChargedRight};
 
 use crate::choices::Chosen;
 use crate::finding::{Place, Tree, Wrong};
@@ -39,27 +42,31 @@ fn is_posted_so(stored: &StoredRecord, is_closed: bool, line: Option<bool>) -> b
 fn wrong_by_trees<S: Store>(
     trees: &mut Trees<S>,
     chosen: &Chosen,
-    record: &StoredRecord,
+    stored: &StoredRecord,
 ) -> Result<Option<Wrong>, Stop>
+    ensures charged { IfOk result (λ wrong. wrong ≡ None → IsClean (S.Store.view trees.new.store)
+        → IsChargedRight ((S.Store.view trees.old.store).trees 6) chosen.now
+        (stored_entry stored.now)) }
+    ensures same { OnOk result (OnlyLooks S.Store trees.old.store trees.new.store) }
     ensures quiet { CommitsNothing S.Store trees.old.store trees.new.store }
 {
     if !trees
-        .has_identity(record)
+        .has_identity(stored)
         .map_err(|error| met(Tree::Identities, error))?
     {
         return Ok(Some(Wrong::NoIdentity));
     }
     if !trees
-        .has_mark(record)
+        .has_mark(stored)
         .map_err(|error| met(Tree::Marks, error))?
     {
         return Ok(Some(Wrong::NoMark));
     }
     let is_shared = trees
-        .is_shared(&record.identity)
+        .is_shared(&stored.identity)
         .map_err(|error| met(Tree::Identities, error))?;
-    let is_chosen = chosen.is_last(&record.identity, &record.name);
-    if record.charged != should_be_charged(is_shared, is_chosen) {
+    let is_chosen = chosen.is_last(&stored.identity, &stored.name);
+    if stored.charged != should_be_charged(is_shared, is_chosen) {
         return Ok(Some(Wrong::Charged));
     }
     Ok(None)
@@ -69,32 +76,106 @@ fn wrong_by_trees<S: Store>(
 fn is_posted_right<S: Store>(
     trees: &mut Trees<S>,
     rulings: &Rulings,
-    record: &StoredRecord,
+    stored: &StoredRecord,
 ) -> Result<bool, Stop>
+    ensures same { OnOk result (OnlyLooks S.Store trees.old.store trees.new.store) }
     ensures quiet { CommitsNothing S.Store trees.old.store trees.new.store }
 {
     let line = trees
-        .line_of(rulings.open_period(), &record.name)
+        .line_of(rulings.open_period(), &stored.name)
         .map_err(|error| met(Tree::Lines, error))?;
-    let is_closed = rulings.is_closed(record.priced.day);
-    Ok(is_posted_so(record, is_closed, line))
+    let is_closed = rulings.is_closed(stored.priced.day);
+    Ok(is_posted_so(stored, is_closed, line))
+}
+
+/// What the lines say of a record's past.
+#[derive(Clone, Copy)]
+pub(crate) struct Past {
+    /// The row of the period of its day counts it.
+    pub(crate) counted: bool,
+    /// How many lines name it.
+    pub(crate) lines: u16,
+}
+
+/// Whether a record was charged at the end of its own period, and how many lines name it: from the
+/// open period back, each line turns what was charged. None if a line adds a record that is not
+/// charged at the end of the line's period, or reverses one that is.
+fn past_of<S: Store>(
+    trees: &mut Trees<S>,
+    name: &[u8; 32],
+    charged: bool,
+    own: u16,
+    last: u16,
+) -> Result<Option<Past>, Stop>
+    requires { own ≤ last }
+    ensures past { IfOk result (λ past. IfSome past (λ it. IsClean (S.Store.view trees.new.store)
+        → GoesBack ((S.Store.view trees.old.store).trees 5) name.now last (last - own)
+        charged it.counted it.lines)) }
+    ensures same { OnOk result (OnlyLooks S.Store trees.old.store trees.new.store) }
+    ensures quiet { CommitsNothing S.Store trees.old.store trees.new.store }
+{
+    let mut now = charged;
+    let mut lines = 0;
+    for back in 0..last - own {
+        let line = trees
+            .line_of(last - back, name)
+            .map_err(|error| met(Tree::Lines, error))?;
+        if let Some(plus) = line {
+            if plus != now {
+                return Ok(None);
+            }
+            now = !plus;
+            lines += 1;
+        }
+    }
+    Ok(Some(Past {
+        counted: now,
+        lines,
+    }))
+}
+
+/// What the lines say of the past of a record; None if they do not turn what was charged.
+pub(crate) fn past_in<S: Store>(
+    trees: &mut Trees<S>,
+    rulings: &Rulings,
+    stored: &StoredRecord,
+) -> Result<Option<Past>, Stop>
+    ensures past { IfOk result (λ past. IfSome past (λ it. IsClean (S.Store.view trees.new.store)
+        → HasPast ((S.Store.view trees.old.store).trees 5) rulings.now.closes.items
+        (stored_entry stored.now) it.counted it.lines)) }
+    ensures same { OnOk result (OnlyLooks S.Store trees.old.store trees.new.store) }
+    ensures quiet { CommitsNothing S.Store trees.old.store trees.new.store }
+{
+    let open = rulings.open_period();
+    let own = rulings.period_of(stored.priced.day);
+    past_of(trees, &stored.name, stored.charged, own, open)
 }
 
 /// A record is found by its identity and its mark, is charged if it is alone in its identity or
-/// was chosen last of it, and is posted as the last close charged it.
+/// was chosen last of it, and is posted as the last close charged it. Its lines turn what was
+/// charged, one after the other.
 pub(crate) fn check_marks<S: Store>(
     trees: &mut Trees<S>,
     rulings: &Rulings,
-    record: &StoredRecord,
-) -> Result<(), Stop>
+    stored: &StoredRecord,
+) -> Result<Past, Stop>
+    ensures charged { OnOk result (IsClean (S.Store.view trees.new.store)
+        → IsChargedRight ((S.Store.view trees.old.store).trees 6) rulings.now.chosen
+        (stored_entry stored.now)) }
+    ensures past { IfOk result (λ past. IsClean (S.Store.view trees.new.store)
+        → HasPast ((S.Store.view trees.old.store).trees 5) rulings.now.closes.items
+        (stored_entry stored.now) past.counted past.lines) }
+    ensures same { OnOk result (OnlyLooks S.Store trees.old.store trees.new.store) }
     ensures quiet { CommitsNothing S.Store trees.old.store trees.new.store }
 {
-    if let Some(wrong) = wrong_by_trees(trees, &rulings.chosen, record)? {
-        return Err(unsound(Place::Record(record.name), wrong));
+    if let Some(wrong) = wrong_by_trees(trees, &rulings.chosen, stored)? {
+        return Err(unsound(Place::Record(stored.name), wrong));
     }
-    if is_posted_right(trees, rulings, record)? {
-        Ok(())
-    } else {
-        Err(unsound(Place::Record(record.name), Wrong::Posted))
+    if !is_posted_right(trees, rulings, stored)? {
+        return Err(unsound(Place::Record(stored.name), Wrong::Posted));
+    }
+    match past_in(trees, rulings, stored)? {
+        Some(past) => Ok(past),
+        None => Err(unsound(Place::Record(stored.name), Wrong::Lines)),
     }
 }

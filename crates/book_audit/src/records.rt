@@ -1,48 +1,99 @@
 //! The records.
 
-ghost use Rattle.tree_rows.specs.Calls.{CommitsNothing};
+ghost use Rattle.std.specs.Prelude.{◌≡◌, IfOk, OnOk, length};
+ghost use Rattle.sqlite_trees.specs.View.{IsClean};
+ghost use Rattle.tree_rows.specs.Calls.{CommitsNothing, OnlyLooks};
+ghost use Rattle.tree_tables.specs.Columns.{record_columns};
+ghost use Rattle.tree_tables.specs.Stored.{stored_entry};
+ghost use Rattle.book_audit.specs.Entries.{AreCounted};
+ghost use Rattle.book_audit.specs.Records.{AreRecords, Counts, HasPast, HasPrice, IsRight, counted_price};
 
 use crate::day_sums::Places;
-use crate::details::{FirstLines, check_has_detail};
+use crate::details::check_has_detail;
 use crate::entry_counts::check_entries;
 use crate::finding::{Place, Tree, Wrong};
-use crate::marks::check_marks;
+use crate::marks::{Past, check_marks};
 use crate::record_bytes::check_data;
 use crate::rulings::Rulings;
 use crate::stop::{Stop, met, unsound};
 use crate::trees::Trees;
-use crate::walk::{MOST_ROWS, Walk, endless};
+use crate::walk::Walk;
 use crate::watch::Watch;
+use book_core::{MAX_COST, MAX_HELD};
+use sqlite_trees::error::StoreError;
 use sqlite_trees::store::Store;
+use sqlite_value::row::Row;
 use std::alloc::Global;
-use tree_tables::{StoredRecord, read_record};
+use tariff_rules::Priced;
+use tree_tables::{StoredRecord, bytes_at, count_at, day_at, hash_at, mark_at, name_at};
 
-/// How many records there are, and what they cost together.
+/// How many records there are, what they cost together, and how many lines name them.
 #[derive(Clone, Copy)]
-struct Held {
-    records: u64,
+pub(crate) struct Held {
+    pub(crate) records: u64,
     amount: u64,
+    pub(crate) lines: u64,
 }
 
-/// A record is as its data, the tariffs and the other trees require. If it is charged, its place
-/// counts it.
+/// What the row of a record says that it costs.
+fn price_in(row: &Row) -> Result<Priced, StoreError>
+    ensures { IfOk result (HasPrice row.now) }
+{
+    Ok(Priced {
+        day: day_at(row, 3)?,
+        shift: name_at(row, 4)?,
+        centre: name_at(row, 5)?,
+        cpu: count_at(row, 6)?,
+        excp: count_at(row, 7)?,
+        amount: count_at(row, 8)?,
+    })
+}
+
+/// What the row of a record says, which has that and no more.
+fn record_in(alloc: Global, row: &Row) -> Result<StoredRecord, StoreError>
+    requires { length row.now ≡ 11 }
+    ensures read { IfOk result (λ stored. row.now ≡ record_columns (stored_entry stored)) }
+{
+    Ok(StoredRecord {
+        name: hash_at(row, 0)?,
+        priced: price_in(row)?,
+        charged: mark_at(row, 9)?,
+        posted: mark_at(row, 10)?,
+        identity: bytes_at(row, 1, alloc)?,
+        data_bytes: bytes_at(row, 2, alloc)?,
+    })
+}
+
+/// A record is as its data, the tariffs and the other trees require. If its own period counts it,
+/// its place does, and it has a row of details. What is in `bytes` is lost.
 fn check_record<S: Store>(
     alloc: Global,
     trees: &mut Trees<S>,
     rulings: &Rulings,
     places: &mut Places,
-    counted: &mut FirstLines,
-    record: &StoredRecord,
-) -> Result<(), Stop>
+    bytes: &mut Vec<u8>,
+    stored: &StoredRecord,
+) -> Result<Past, Stop>
+    ensures right { OnOk result (IsClean (S.Store.view trees.new.store)
+        → IsRight ((S.Store.view trees.old.store).trees 6) rulings.now (stored_entry stored.now)) }
+    ensures past { IfOk result (λ past. IsClean (S.Store.view trees.new.store)
+        → HasPast ((S.Store.view trees.old.store).trees 5) rulings.now.closes.items
+        (stored_entry stored.now) past.counted past.lines) }
+    ensures placed { IfOk result (λ past. Counts places.old.rows.entries places.new.rows.entries
+        (counted_price (stored_entry stored.now, past))) }
+    ensures same { OnOk result (OnlyLooks S.Store trees.old.store trees.new.store) }
     ensures quiet { CommitsNothing S.Store trees.old.store trees.new.store }
 {
-    check_data(alloc, rulings, record)?;
-    check_marks(trees, rulings, record)?;
-    check_has_detail(trees, counted, record)?;
-    if record.charged {
-        places.count(&record.priced)?;
+    check_data(alloc, rulings, stored)?;
+    let past = check_marks(trees, rulings, stored)?;
+    if !past.counted {
+        return Ok(past);
     }
-    Ok(())
+    check_has_detail(trees, bytes, stored)?;
+    if !places.count(&stored.priced)? {
+        return Err(unsound(Place::Tree(Tree::Days), Wrong::Limits));
+    }
+    Ok(past)
 }
 
 /// Reads all records, one at a time.
@@ -51,40 +102,60 @@ fn read_records<S: Store, W: Watch>(
     trees: &mut Trees<S>,
     rulings: &Rulings,
     places: &mut Places,
-    counted: &mut FirstLines,
     watch: &mut W,
 ) -> Result<Held, Stop>
+    ensures records { IfOk result (λ held. IsClean (S.Store.view trees.new.store)
+        → AreRecords (S.Store.view trees.old.store).trees rulings.now held.records held.amount
+        held.lines places.old.rows.entries places.new.rows.entries) }
+    ensures same { OnOk result (OnlyLooks S.Store trees.old.store trees.new.store) }
     ensures quiet { CommitsNothing S.Store trees.old.store trees.new.store }
 {
     let tree = Tree::Records;
     let mut walk = Walk::over(alloc, tree);
     let mut amount = 0u64;
-    'records: for records in 0..MOST_ROWS {
+    let mut lines = 0u64;
+    let mut bytes = Vec::new(alloc);
+    'records: for records in 0..MAX_HELD as u64 + 1 {
         watch.read(tree, records);
         if !walk.next(trees)? {
-            return Ok(Held { records, amount });
+            return Ok(Held {
+                records,
+                amount,
+                lines,
+            });
         }
-        let record = read_record(walk.row(), alloc).map_err(|error| met(tree, error))?;
-        check_record(alloc, trees, rulings, places, counted, &record)?;
-        // Each amount is the price of its record: no sum of that many comes near 2^64.
-        amount = amount.wrapping_add(record.priced.amount);
+        let record = record_in(alloc, walk.row()).map_err(|error| met(tree, error))?;
+        let past = check_record(alloc, trees, rulings, places, &mut bytes, &record)?;
+        if MAX_COST < record.priced.amount || MAX_COST - record.priced.amount < amount {
+            return Err(unsound(Place::Tree(tree), Wrong::Limits));
+        }
+        amount += record.priced.amount;
+        lines += u64::from(past.lines);
     }
-    Err(endless(tree))
+    Err(unsound(Place::Tree(tree), Wrong::Limits))
 }
 
-/// Reads all records and the trees that find them; the row of the book must be their sum. Returns
-/// how many there are.
+/// Reads all records and the trees that find them; the row of the book must be their sum.
 pub(crate) fn check_records<S: Store, W: Watch>(
     alloc: Global,
     trees: &mut Trees<S>,
     rulings: &Rulings,
     places: &mut Places,
-    counted: &mut FirstLines,
     watch: &mut W,
-) -> Result<u64, Stop>
+) -> Result<Held, Stop>
+    ensures records { IfOk result (λ held. IsClean (S.Store.view trees.new.store)
+        → AreRecords (S.Store.view trees.old.store).trees rulings.now held.records held.amount
+        held.lines places.old.rows.entries places.new.rows.entries) }
+    ensures identities { IfOk result (λ held. IsClean (S.Store.view trees.new.store)
+        → AreCounted Tree.Identities ((S.Store.view trees.old.store).trees 6) held.records) }
+    ensures marks { IfOk result (λ held. IsClean (S.Store.view trees.new.store)
+        → AreCounted Tree.Marks ((S.Store.view trees.old.store).trees 7) held.records) }
+    ensures held { IfOk result (λ held. held.records ≡ rulings.now.held) }
+    ensures amount { IfOk result (λ held. held.amount ≡ rulings.now.amount) }
+    ensures same { OnOk result (OnlyLooks S.Store trees.old.store trees.new.store) }
     ensures quiet { CommitsNothing S.Store trees.old.store trees.new.store }
 {
-    let held = read_records(alloc, trees, rulings, places, counted, watch)?;
+    let held = read_records(alloc, trees, rulings, places, watch)?;
     check_entries(alloc, trees, Tree::Identities, held.records, watch)?;
     check_entries(alloc, trees, Tree::Marks, held.records, watch)?;
     if held.records != rulings.held {
@@ -93,5 +164,5 @@ pub(crate) fn check_records<S: Store, W: Watch>(
     if held.amount != rulings.amount {
         return Err(unsound(Place::Tree(Tree::Book), Wrong::Amount));
     }
-    Ok(held.records)
+    Ok(held)
 }

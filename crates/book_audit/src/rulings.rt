@@ -1,15 +1,21 @@
 //! The row of the book, the tariffs, the closes and the choices.
 
-ghost use Rattle.std.specs.Prelude.{◌<◌, length};
-ghost use Rattle.tree_rows.specs.Calls.{CommitsNothing};
+ghost use Rattle.std.specs.List.{last_or};
+ghost use Rattle.std.specs.Prelude.{◌<◌, ◌≡◌, IfOk, IfSome, None, Ok, OnOk, length, string_bytes, true};
+ghost use Rattle.sqlite_trees.specs.View.{IsClean};
+ghost use Rattle.tree_rows.specs.Calls.{CommitsNothing, OnlyLooks};
+ghost use Rattle.book_model.specs.Words.{IsDay, terms_in};
+ghost use Rattle.tree_tables.specs.Columns.{closed_columns, tariff_columns};
+ghost use Rattle.tree_tables.specs.Stored.{close_entry, tariff_of};
+ghost use Rattle.book_audit.specs.Rulings.{AreClosed, AreTariffs, HasOneRow, IsBookRow, IsNextClose};
 
-use crate::choices::{Chosen, read_choices};
+use crate::choices::Chosen;
 use crate::finding::{Place, Tree, Wrong};
 use crate::identity_rule::IdentityRule;
 use crate::stop::{Stop, met, unsound};
 use crate::trees::Trees;
 use crate::walk::{MOST_ROWS, Walk, endless};
-use crate::watch::Watch;
+use book_core::is_after;
 use book_model::LedgerFault;
 use smf_text::{FIRST_DAY, LAST_DAY};
 use sqlite_trees::error::StoreError;
@@ -20,7 +26,7 @@ use tariff_rules::{Tariff, TariffFault};
 use tree_tables::{Close, StoredTariff, count_at, day_at, period_at, text_at};
 
 /// The highest number of closed periods.
-const MAX_CLOSES: usize = 9_998;
+pub(crate) const MAX_CLOSES: usize = 9_998;
 
 /// What the office ruled, and what the row of the book says of the records.
 #[derive(Drop)]
@@ -42,26 +48,36 @@ const BOOK_NUMBER: u64 = 1;
 
 /// What the row of the book says.
 #[derive(Clone, Copy)]
-struct BookRow {
-    rule: IdentityRule,
-    held: u64,
-    amount: u64,
+pub(crate) struct BookRow {
+    pub(crate) rule: IdentityRule,
+    pub(crate) held: u64,
+    pub(crate) amount: u64,
 }
 
 /// What the row of the book says. None if it has another number, or a rule that no books have.
-fn book_in(row: &Row) -> Result<Option<BookRow>, StoreError> {
+fn book_in(row: &Row) -> Result<Option<BookRow>, StoreError>
+    requires { length row.now ≡ 5 }
+    ensures read { IfOk result (λ book. IfSome book (IsBookRow row.now)) }
+{
     let number = count_at(row, 0)?;
-    let rule = IdentityRule::of(count_at(row, 1)?, count_at(row, 2)?);
+    let rule = count_at(row, 1)?;
+    let adopted = count_at(row, 2)?;
     let held = count_at(row, 3)?;
     let amount = count_at(row, 4)?;
-    Ok(match rule {
-        Some(rule) if number == BOOK_NUMBER => Some(BookRow { rule, held, amount }),
-        _ => None,
-    })
+    if number != BOOK_NUMBER {
+        return Ok(None);
+    }
+    let Some(rule) = IdentityRule::of(rule, adopted) else {
+        return Ok(None);
+    };
+    Ok(Some(BookRow { rule, held, amount }))
 }
 
 /// Reads the one row of the book. Trees without it hold no books.
-fn read_book<S: Store>(alloc: Global, trees: &mut Trees<S>) -> Result<BookRow, Stop>
+pub(crate) fn read_book<S: Store>(alloc: Global, trees: &mut Trees<S>) -> Result<BookRow, Stop>
+    ensures book { IfOk result (λ book. IsClean (S.Store.view trees.new.store)
+        → HasOneRow ((S.Store.view trees.old.store).trees 0) book) }
+    ensures same { OnOk result (OnlyLooks S.Store trees.old.store trees.new.store) }
     ensures quiet { CommitsNothing S.Store trees.old.store trees.new.store }
 {
     let tree = Tree::Book;
@@ -79,7 +95,10 @@ fn read_book<S: Store>(alloc: Global, trees: &mut Trees<S>) -> Result<BookRow, S
 }
 
 /// What the row of a tariff says.
-fn tariff_in(alloc: Global, row: &Row) -> Result<StoredTariff, StoreError> {
+fn tariff_in(alloc: Global, row: &Row) -> Result<StoredTariff, StoreError>
+    requires { length row.now ≡ 2 }
+    ensures read { IfOk result (λ stored. row.now ≡ tariff_columns (tariff_of stored)) }
+{
     Ok(StoredTariff {
         day: day_at(row, 0)?,
         body: text_at(row, 1, alloc)?,
@@ -87,16 +106,30 @@ fn tariff_in(alloc: Global, row: &Row) -> Result<StoredTariff, StoreError> {
 }
 
 /// The tariff of a row, which must have the text of a tariff with the row's day.
-fn parsed(alloc: Global, stored: &StoredTariff) -> Result<Tariff, Stop> {
-    match Tariff::parse(alloc, &stored.body) {
-        Err(TariffFault::Memory) => Err(Stop::Fault(LedgerFault::Memory)),
-        Ok(tariff) if tariff.effective() == stored.day => Ok(tariff),
-        _ => Err(unsound(Place::Tariff(stored.day), Wrong::TariffText)),
+fn parsed(alloc: Global, stored: &StoredTariff) -> Result<Tariff, Stop>
+    ensures says { IfOk result (λ tariff. terms_in (string_bytes stored.now.body) ≡ Ok tariff) }
+    ensures day { IfOk result (λ tariff. tariff.effective ≡ stored.now.day) }
+    ensures valid { IfOk result (λ tariff. IsDay tariff.effective) }
+{
+    let tariff = match Tariff::parse(alloc, &stored.body) {
+        Ok(tariff) => tariff,
+        Err(TariffFault::Memory) => return Err(Stop::Fault(LedgerFault::Memory)),
+        Err(_) => return Err(unsound(Place::Tariff(stored.day), Wrong::TariffText)),
+    };
+    if tariff.effective() != stored.day {
+        return Err(unsound(Place::Tariff(stored.day), Wrong::TariffText));
     }
+    Ok(tariff)
 }
 
 /// Reads the tariffs, which have their first days as keys.
-fn read_tariffs<S: Store>(alloc: Global, trees: &mut Trees<S>) -> Result<Vec<Tariff>, Stop>
+pub(crate) fn read_tariffs<S: Store>(
+    alloc: Global,
+    trees: &mut Trees<S>,
+) -> Result<Vec<Tariff>, Stop>
+    ensures tariffs { IfOk result (λ tariffs. IsClean (S.Store.view trees.new.store)
+        → AreTariffs ((S.Store.view trees.old.store).trees 1) tariffs.items) }
+    ensures same { OnOk result (OnlyLooks S.Store trees.old.store trees.new.store) }
     ensures quiet { CommitsNothing S.Store trees.old.store trees.new.store }
 {
     let tree = Tree::Tariffs;
@@ -107,30 +140,47 @@ fn read_tariffs<S: Store>(alloc: Global, trees: &mut Trees<S>) -> Result<Vec<Tar
             return Ok(tariffs);
         }
         let stored = tariff_in(alloc, walk.row()).map_err(|error| met(tree, error))?;
-        tariffs.push(parsed(alloc, &stored)?)?;
+        let tariff = parsed(alloc, &stored)?;
+        tariffs.push(tariff)?;
     }
     Err(endless(tree))
 }
 
 /// What the row of a close says.
-fn close_in(row: &Row) -> Result<Close, StoreError> {
+fn close_in(row: &Row) -> Result<Close, StoreError>
+    requires { length row.now ≡ 2 }
+    ensures read { IfOk result (λ close. row.now ≡ closed_columns (close_entry close)) }
+{
     Ok(Close {
         period: period_at(row, 0)?,
         through: day_at(row, 1)?,
     })
 }
 
+/// The last of some days, if there is one.
+#[tactic(auto, using(book_core::proofs::RulingLemmas::last_found))]
+fn last_of(days: &[i32]) -> Option<i32>
+    ensures { result ≡ last_or None days.now }
+{
+    days.last().copied()
+}
+
 /// Whether a close is the next one after those of these days: of the next period, through a later
 /// day.
-fn is_next(days: &[i32], close: &Close) -> bool {
-    let number = usize::from(close.period);
-    let is_day = FIRST_DAY <= close.through && close.through <= LAST_DAY;
-    let is_later = days.last().copied().is_none_or(|last| last < close.through);
-    number != 0 && number - 1 == days.len() && is_day && is_later
+fn is_next(days: &[i32], close: &Close) -> bool
+    ensures { result ≡ true → IsNextClose days.now close.now }
+{
+    usize::from(close.period) == days.len() + 1
+        && is_after(last_of(days), close.through)
+        && FIRST_DAY <= close.through
+        && close.through <= LAST_DAY
 }
 
 /// Reads the days of the closes.
-fn read_closes<S: Store>(alloc: Global, trees: &mut Trees<S>) -> Result<Vec<i32>, Stop>
+pub(crate) fn read_closes<S: Store>(alloc: Global, trees: &mut Trees<S>) -> Result<Vec<i32>, Stop>
+    ensures closed { IfOk result (λ days. IsClean (S.Store.view trees.new.store)
+        → AreClosed ((S.Store.view trees.old.store).trees 2) days.items) }
+    ensures same { OnOk result (OnlyLooks S.Store trees.old.store trees.new.store) }
     ensures quiet { CommitsNothing S.Store trees.old.store trees.new.store }
 {
     let tree = Tree::Closes;
@@ -149,39 +199,10 @@ fn read_closes<S: Store>(alloc: Global, trees: &mut Trees<S>) -> Result<Vec<i32>
     Err(endless(tree))
 }
 
-/// Reads the rulings of the office.
-pub(crate) fn read_rulings<S: Store, W: Watch>(
-    alloc: Global,
-    trees: &mut Trees<S>,
-    watch: &mut W,
-) -> Result<Rulings, Stop>
-    ensures quiet { CommitsNothing S.Store trees.old.store trees.new.store }
-{
-    let book = read_book(alloc, trees)?;
-    let tariffs = read_tariffs(alloc, trees)?;
-    let closes = read_closes(alloc, trees)?;
-    if closes.len() > MAX_CLOSES {
-        return Err(unsound(Place::Tree(Tree::Closes), Wrong::Closes));
-    }
-    let open = closes.len() as u16 + 1;
-    let BookRow { rule, held, amount } = book;
-    if !rule.is_by(open) {
-        return Err(unsound(Place::Tree(Tree::Book), Wrong::Rule));
-    }
-    let chosen = read_choices(alloc, trees, rule, open, watch)?;
-    Ok(Rulings {
-        rule,
-        tariffs,
-        closes,
-        chosen,
-        held,
-        amount,
-    })
-}
-
 impl Rulings {
-    ghost use Rattle.std.specs.Prelude.{◌≡◌, ◌+◌, length, option_copied};
+    ghost use Rattle.std.specs.Prelude.{◌≡◌, ◌≤◌, ◌+◌, length, option_copied};
     ghost use Rattle.book_audit.specs.Data.{in_force};
+    ghost use Rattle.book_audit.specs.Days.{period_from};
 
     /// The number of the open period.
     pub(crate) fn open_period(&self) -> u16
@@ -196,11 +217,18 @@ impl Rulings {
     }
 
     /// The period of a day: that of the first close through it or a later day.
-    pub(crate) fn period_of(&self, day: i32) -> u16 {
-        match self.closes.iter().position(|through| day <= *through) {
-            Some(before) => before as u16 + 1,
-            None => self.open_period(),
+    pub(crate) fn period_of(&self, day: i32) -> u16
+        ensures begun { result ≤ length self.now.closes.items + 1 }
+        ensures value { result ≡ period_from 1 self.now.closes.items day }
+    {
+        let mut period = 1;
+        'closes: for through in &self.closes {
+            if !(*through < day) {
+                return period;
+            }
+            period += 1;
         }
+        period
     }
 
     /// Whether a day is not after the close before a period.

@@ -15,6 +15,7 @@ fn wrong_text(wrong: Wrong) -> &'static str {
     match wrong {
         Wrong::Pages => "its pages are not those of sorted tables",
         Wrong::Unreadable => "a page or a row of it can't be read",
+        Wrong::Columns => "a row of it has more columns than its table, or fewer",
         Wrong::Order => "its rows do not stand in the order of their keys",
         Wrong::MoreRows => "it has more than one row",
         Wrong::Rule => "its row is not that of books of rule 1 or 2",
@@ -40,6 +41,8 @@ fn wrong_text(wrong: Wrong) -> &'static str {
         Wrong::Charged =>
             "charged does not say whether it is alone in its identity or chosen last of it",
         Wrong::Posted => "posted does not say whether the last close charged it",
+        Wrong::Lines => "its lines do not add and reverse it by turns",
+        Wrong::Limits => "it has more records than books can hold, or they cost more",
         Wrong::Entries => "it has not as many entries as its table has rows",
         Wrong::NoRecord => "no record of that name is held",
         Wrong::LineDate => "its record is not dated by the close before",

@@ -163,6 +163,11 @@ impl<S: Store> Trees<S> {
         period: u16,
         name: &[u8; 32],
     ) -> Result<Option<bool>, StoreError>
+        ensures found { IfOk result (λ line. IsClean (S.Store.view self.new.store)
+            → Finds (Int (pos period) ∷ Blob name.now ∷ [])
+            ((S.Store.view self.old.store).trees 5) self.new.found (is_some line)) }
+        ensures read { IfOk result (λ line. IfSome line (λ plus.
+            column self.new.found 2 ≡ Int (pos (flag plus)))) }
         ensures same { OnOk result (OnlyLooks S.Store self.old.store self.new.store) }
         ensures quiet { CommitsNothing S.Store self.old.store self.new.store }
     {

@@ -1,5 +1,7 @@
 //! A walk through a tree, a row at a time.
 
+ghost use Rattle.std.specs.Prelude.{◌≡◌, ◌≤◌, OnOk, length, take};
+
 use crate::finding::{Place, Tree, Wrong};
 use crate::stop::{Stop, met, unsound};
 use crate::trees::Trees;
@@ -12,7 +14,10 @@ use std::alloc::{AllocError, Global};
 pub(crate) const MOST_ROWS: u64 = 1 << 32;
 
 /// The first columns of a row become the key.
-fn take_key(key: &mut Row, row: &Row, columns: usize) -> Result<(), AllocError> {
+fn take_key(key: &mut Row, row: &Row, columns: usize) -> Result<(), AllocError>
+    requires { columns ≤ length row.now }
+    ensures { OnOk result (key.new ≡ take columns row.now) }
+{
     key.clear();
     for at in 0..columns {
         key.push(row.get(at))?;
@@ -29,15 +34,18 @@ pub(crate) struct Walk {
 }
 
 impl Walk {
-    ghost use Rattle.std.specs.Prelude.{◌≡◌, IfOk, OnOk};
+    ghost use Rattle.std.specs.Prelude.{◌≡◌, [], IfOk, List, OnOk, length, true};
     ghost use Rattle.sqlite_trees.specs.View.{IsClean};
+    ghost use Rattle.sqlite_value.specs.Order.{Row as Columns};
     ghost use Rattle.tree_rows.specs.Calls.{CommitsNothing, OnlyLooks};
-    ghost use Rattle.tree_rows.specs.Rows.{IsFirst};
-    ghost use Rattle.tree_tables.specs.Walks.{rows_past};
     ghost use Rattle.book_audit.specs.Trees.{tree_number};
+    ghost use Rattle.book_audit.specs.Walks.{HasWalked, WalksOn, width};
 
     /// Before the first row.
-    pub(crate) fn over(alloc: Global, tree: Tree) -> Walk {
+    pub(crate) fn over(alloc: Global, tree: Tree) -> Walk
+        ensures tree { result.tree ≡ tree }
+        ensures start { (rows : List Columns) → HasWalked tree result.key rows [] }
+    {
         Walk {
             tree,
             key: Row::new(alloc),
@@ -56,8 +64,13 @@ impl Walk {
     /// row before is unsound, so a walk ends whatever the tree holds.
     pub(crate) fn next<S: Store>(&mut self, trees: &mut Trees<S>) -> Result<bool, Stop>
         ensures next { IfOk result (λ there. IsClean (S.Store.view trees.new.store)
-            → IsFirst (rows_past self.old.key
-            ((S.Store.view trees.old.store).trees (tree_number self.old.tree))) self.new.row there) }
+            → (done : List Columns) → HasWalked self.old.tree self.old.key
+            ((S.Store.view trees.old.store).trees (tree_number self.old.tree)) done
+            → WalksOn self.old.tree self.new.key self.new.row
+            ((S.Store.view trees.old.store).trees (tree_number self.old.tree)) done there) }
+        ensures wide { IfOk result (λ there. there ≡ true
+            → length self.new.row ≡ width self.old.tree) }
+        ensures tree { self.new.tree ≡ self.old.tree }
         ensures same { OnOk result (OnlyLooks S.Store trees.old.store trees.new.store) }
         ensures quiet { CommitsNothing S.Store trees.old.store trees.new.store }
     {
@@ -67,6 +80,9 @@ impl Walk {
             .map_err(|error| met(tree, error))?;
         if !there {
             return Ok(false);
+        }
+        if self.row.len() != tree.columns() {
+            return Err(unsound(Place::Tree(tree), Wrong::Columns));
         }
         if !self.key.is_empty() && !self.row.cmp_prefix(Order::PLAIN, &self.key).is_gt() {
             return Err(unsound(Place::Tree(tree), Wrong::Order));

@@ -1,9 +1,92 @@
+use Rattle.std.proofs.Common.{◌≡◌, ◌∙◌, ◌++◌, ◌∷◌, [], ℤ, All, List, None, map, length, ap, rules, subst, sym, w32}
+use Rattle.std.specs.List.{last_or}
+use Rattle.std.specs.List.Sorted.{IsStrictlySortedBy}
+use Rattle.std.specs.Ordering.{int_cmp}
+use Rattle.std.proofs.lemmas.Int.{to_z-of_z}
+use Rattle.std.proofs.lemmas.List.Elements.{All-nil, All-push}
+use Rattle.sqlite_value.specs.Order.{Row}
+use Rattle.book_model.specs.Words.{IsDay}
+use Rattle.book_model.proofs.DayLemmas.{day_fits}
+use Rattle.table_model.proofs.CloseOrder.{rise_behind}
+use Rattle.table_model.specs.TablesOf.{close_entries}
+use Rattle.tree_tables.specs.Columns.{closed_columns}
+use Rattle.tree_tables.specs.Stored.{close_entry}
 use Rattle.tree_rows.proofs.Calls.{quiet_both}
+use Rattle.book_audit.specs.Rulings.{IsNextClose}
+use Rattle.book_audit.specs.Walks.{HasWalked, WalksOn, width}
+use Rattle.book_audit.specs.declared.finding.Tree.TheVariants.{Closes}
+use Rattle.book_audit.proofs.ClosedLemmas.{closes_pushed, is_later}
+use Rattle.book_audit.proofs.WalkSteps.{looks_on, no_look, walked_on}
 use Rattle.book_audit.proofs.rulings.read_closes.Goals as goal
 
-pub closes-preserved : goal.closes-preserved
-closes-preserved g c = quiet_both g.S.Store c.closes.invariant c.next.ensures.quiet
+pub closes-init : goal.closes-init
+unfolding IsStrictlySortedBy
+closes-init g c = record {
+  tree = c.over-walk.ensures.tree;
+  same = no_look g.S.Store c.args.trees.now.store;
+  quiet = search rules;
+  walked = λ clean.
+      let rows = (g.S.Store.view c.args.trees.now.store).trees 2 in
+      let none : c.new-days.result.items ≡ [] = c.new-days.ensures.items in
+      subst (λ days. HasWalked Closes c.over-walk.result.key rows
+      (map closed_columns (close_entries 1 days))) (sym none) (c.over-walk.ensures.start rows);
+  days = subst (All IsDay) (sym c.new-days.ensures.items) (All-nil IsDay);
+  in_order = subst (IsStrictlySortedBy int_cmp) (sym c.new-days.ensures.items) tt;
+}
 
-pub returns-in_err-push : goal.returns-in_err-push
-returns-in_err-push g c =
-    record { quiet = quiet_both g.S.Store c.closes.invariant c.next.ensures.quiet }
+pub close_in-requires : goal.close_in-requires
+close_in-requires g c =
+    ap length c.row.ensures ∙ c.in_ok-next.ensures.wide c.if-not-branch.false
+    ∙ ap width c.closes.invariant.tree
+
+pub closes-preserved : goal.closes-preserved
+closes-preserved g c =
+    let start = c.args.trees.now.store in
+    let so_far = c.closes.invariant in
+    let days : List ℤ = c.closes.days.items in
+    let day : ℤ = c.in_ok-close.close.through in
+    let row : Row = c.next.new.self.row in
+    let next : IsNextClose days c.in_ok-close.close = search rules in
+    let pushed : c.push.new.self.items ≡ days ++ day ∷ [] =
+    c.in_ok-push.ensures.items ∙ ap (λ (one : ℤ). days ++ one ∷ [])
+    (to_z-of_z w32 day (day_fits day next.day)) in
+    let is : row ≡ closed_columns (close_entry c.in_ok-close.close) = search rules in
+    record {
+      tree = c.next.ensures.tree ∙ so_far.tree;
+      same = looks_on g.S.Store start c.closes.trees.store c.next.new.trees.store so_far.same
+          c.in_ok-next.ensures.same;
+      quiet = quiet_both g.S.Store so_far.quiet c.next.ensures.quiet;
+      walked = λ clean.
+          subst (HasWalked Closes c.next.new.self.key ((g.S.Store.view start).trees 2))
+          (closes_pushed days c.in_ok-close.close.period day row is next.period
+          ∙ ap (λ all. map closed_columns (close_entries 1 all)) (sym pushed))
+          (subst (WalksOn Closes c.next.new.self.key row ((g.S.Store.view start).trees 2)
+          (map closed_columns (close_entries 1 days))) c.if-not-branch.false
+          (walked_on g.S.Store start c.closes.trees.store c.next.new.trees.store Closes
+          c.closes.walk.tree c.closes.walk.key c.next.new.self.key row
+          (map closed_columns (close_entries 1 days)) c.in_ok-next.field-0 so_far.tree so_far.same
+          c.in_ok-next.ensures.same c.in_ok-next.ensures.next so_far.walked clean));
+      days = subst (All IsDay) (sym pushed) (All-push IsDay days day so_far.days next.day);
+      in_order = subst (IsStrictlySortedBy int_cmp) (sym pushed) (rise_behind days day
+          so_far.in_order (is_later (last_or None days) day next.later));
+    }
+
+pub returns-then-not-branch-clause-closed : goal.returns-then-not-branch-clause-closed
+returns-then-not-branch-clause-closed g c clean =
+    let start = c.args.trees.now.store in
+    let so_far = c.closes.invariant in
+    let done : List Row = map closed_columns (close_entries 1 c.closes.days.items) in
+    record {
+      are = subst (WalksOn Closes c.next.new.self.key c.next.new.self.row
+          ((g.S.Store.view start).trees 2) done) c.if-not-branch.true
+          (walked_on g.S.Store start c.closes.trees.store c.next.new.trees.store Closes
+          c.closes.walk.tree c.closes.walk.key c.next.new.self.key c.next.new.self.row done
+          c.in_ok-next.field-0 so_far.tree so_far.same c.in_ok-next.ensures.same
+          c.in_ok-next.ensures.next so_far.walked clean);
+      valid = so_far.days;
+      in_order = so_far.in_order;
+    }
+
+pub returns-in_err-push-clause-quiet : goal.returns-in_err-push-clause-quiet
+returns-in_err-push-clause-quiet g c =
+    quiet_both g.S.Store c.closes.invariant.quiet c.next.ensures.quiet

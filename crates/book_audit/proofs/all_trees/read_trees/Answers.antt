@@ -1,0 +1,78 @@
+use Rattle.std.proofs.Common.{◌≡◌, ◌∙◌, [], ℕ, List, map, rules, subst, sym}
+use Rattle.sqlite_trees.specs.Tree.{Trees}
+use Rattle.sqlite_trees.specs.View.{IsClean}
+use Rattle.book_core.proofs.KeyedRowLemmas.{keyed_rows-none}
+use Rattle.book_model.specs.Words.{rows_of}
+use Rattle.book_model.specs.declared.row.ChargeRow.{ChargeRow}
+use Rattle.book_model.specs.declared.row.RowKey.{RowKey}
+use Rattle.tree_rows.specs.Calls.{OnlyLooks}
+use Rattle.tree_tables.specs.Columns.{day_columns}
+use Rattle.book_audit.specs.Days.{due_entry, keyed_rows}
+use Rattle.book_audit.specs.Entries.{AreCounted}
+use Rattle.book_audit.specs.Lines.{AreLines}
+use Rattle.book_audit.specs.Records.{AreRecords, counted_prices}
+use Rattle.book_audit.specs.declared.finding.Tree.TheVariants.{Identities, Marks}
+use Rattle.book_audit.specs.declared.rulings.Rulings.{Rulings}
+use Rattle.book_audit.proofs.WalkSteps.{look_back, looks_on, trees_stay}
+use Rattle.book_audit.proofs.all_trees.read_trees.Goals as goal
+
+pub returns-clause-sound : goal.returns-clause-sound
+returns-clause-sound g c clean =
+    let zero = c.args.trees.now.store in
+    let one = c.read_rulings.new.trees.store in
+    let two = c.check_records.new.trees.store in
+    let three = c.check_lines.new.trees.store in
+    let four = c.check_rows.new.trees.store in
+    let five = c.check_details.new.trees.store in
+    let first : OnlyLooks g.S.Store zero one = c.in_ok-rulings.ensures.same in
+    let second : OnlyLooks g.S.Store one two = c.in_ok-held.ensures.same in
+    let third : OnlyLooks g.S.Store two three = c.in_ok-lines.ensures.same in
+    let fourth : OnlyLooks g.S.Store three four = c.in_ok-rows.ensures.same in
+    let fifth : OnlyLooks g.S.Store four five = c.in_ok-check_details.ensures.same in
+    let at_four : IsClean (g.S.Store.view four) = look_back g.S.Store four five fifth clean in
+    let at_three : IsClean (g.S.Store.view three) = look_back g.S.Store three four fourth at_four in
+    let at_two : IsClean (g.S.Store.view two) = look_back g.S.Store two three third at_three in
+    let at_one : IsClean (g.S.Store.view one) = look_back g.S.Store one two second at_two in
+    let to_two : OnlyLooks g.S.Store zero two = looks_on g.S.Store zero one two first second in
+    let to_three : OnlyLooks g.S.Store zero three = looks_on g.S.Store zero two three to_two third in
+    let stay_one = trees_stay g.S.Store zero one first at_one in
+    let stay_two = trees_stay g.S.Store zero two to_two at_two in
+    let stay_three = trees_stay g.S.Store zero three to_three at_three in
+    let trees : Trees = (g.S.Store.view zero).trees in
+    let rulings : Rulings = c.in_ok-rulings.rulings in
+    let held = c.in_ok-held.held in
+    let rows : List (RowKey × ChargeRow) = c.check_records.new.places.rows.entries in
+    let none : c.new-places.result.rows.entries ≡ [] = c.new-places.ensures ∙ keyed_rows-none in
+    let met : held.lines ≡ c.in_ok-lines.lines = sym c.if-lines-held.false in
+    let records : AreRecords trees rulings held.records rulings.amount c.in_ok-lines.lines [] rows =
+    subst (λ (all : Trees). AreRecords all rulings held.records rulings.amount c.in_ok-lines.lines [] rows)
+    stay_one
+    (subst (λ (old : List (RowKey × ChargeRow)). AreRecords (g.S.Store.view one).trees rulings
+    held.records rulings.amount c.in_ok-lines.lines old rows) none
+    (subst (λ (lines : ℕ). AreRecords (g.S.Store.view one).trees rulings held.records rulings.amount
+    lines c.new-places.result.rows.entries rows) met
+    (subst (λ (amount : ℕ). AreRecords (g.S.Store.view one).trees rulings held.records amount
+    held.lines c.new-places.result.rows.entries rows) c.in_ok-held.ensures.amount
+    (c.in_ok-held.ensures.records at_two)))) in
+    let kept : rows ≡ keyed_rows (counted_prices records.entries) =
+    records.placed [] (sym keyed_rows-none) in
+    record {
+      rulings = rulings;
+      rows = rows;
+      ruled = c.in_ok-rulings.ensures.ruled at_one;
+      records = records;
+      held = c.in_ok-held.ensures.held;
+      identities = subst (λ (all : Trees). AreCounted Identities (all 6) held.records) stay_one
+          (c.in_ok-held.ensures.identities at_two);
+      marks = subst (λ (all : Trees). AreCounted Marks (all 7) held.records) stay_one
+          (c.in_ok-held.ensures.marks at_two);
+      lines = subst (λ (all : Trees). AreLines (all 5) c.in_ok-lines.lines) stay_two
+          (c.in_ok-lines.ensures.lines at_three);
+      days = subst (λ (all : Trees). all 4 ≡ map day_columns (map (due_entry rulings.closes.items)
+          (rows_of (counted_prices records.entries)))) stay_three
+          (c.in_ok-rows.ensures.rows at_four (counted_prices records.entries) kept);
+      tariffs = search rules;
+      closes = search rules;
+      choices = search rules;
+      charged = c.in_ok-rows.ensures.count (counted_prices records.entries) kept;
+    }

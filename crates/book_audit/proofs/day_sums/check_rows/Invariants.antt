@@ -1,6 +1,0 @@
-use Rattle.tree_rows.specs.Calls.{CommitsNothing}
-use Rattle.book_audit.proofs.day_sums.check_rows.Given as goal
-
--- nothing was committed so far
-abbrev pub invariant-rows : goal.invariant-rows
-invariant-rows g l = CommitsNothing g.S.Store l.fn.trees.store l.trees.store

@@ -1,0 +1,79 @@
+use Rattle.std.proofs.Common.{◌≡◌, ◌∙◌, ◌++◌, ◌∷◌, [], ℕ, Bool, List, length, map, ap, arith, length-append, refl, rules, subst, sym}
+use Rattle.std.proofs.lemmas.List.{map-append}
+use Rattle.sqlite_trees.specs.View.{IsClean}
+use Rattle.sqlite_value.specs.Order.{Row}
+use Rattle.tree_rows.specs.Calls.{OnlyLooks}
+use Rattle.tree_rows.proofs.Calls.{quiet_both}
+use Rattle.tree_tables.specs.Columns.{line_columns}
+use Rattle.book_audit.specs.Lines.{line_entry}
+use Rattle.book_audit.specs.Walks.{HasWalked, WalksOn, width}
+use Rattle.book_audit.specs.declared.finding.Tree.TheVariants.{Lines}
+use Rattle.book_audit.proofs.WalkSteps.{look_back, looks_on, no_look, walked_on}
+use Rattle.book_audit.proofs.lines.check_lines.Goals as goal
+
+pub lines-init : goal.lines-init
+lines-init g c = record {
+  tree = c.over-walk.ensures.tree;
+  same = no_look g.S.Store c.args.trees.now.store;
+  quiet = search rules;
+  read = λ clean. ([], c.over-walk.ensures.start ((g.S.Store.view c.args.trees.now.store).trees 5), refl);
+}
+
+pub line_in-requires : goal.line_in-requires
+line_in-requires g c =
+    ap length c.row.ensures ∙ c.in_ok-next.ensures.wide c.if-not-branch.false
+    ∙ ap width c.lines.invariant.tree
+
+pub lines-preserved : goal.lines-preserved
+lines-preserved g c =
+    let start = c.args.trees.now.store in
+    let mid = c.lines.trees.store in
+    let next = c.next.new.trees.store in
+    let new = c.check_line.new.trees.store in
+    let so_far = c.lines.invariant in
+    let row : Row = c.next.new.self.row in
+    let entry : (ℕ × List ℕ) × Bool = line_entry c.in_ok-line.line in
+    let is : row ≡ line_columns entry = search rules in
+    let looks : OnlyLooks g.S.Store mid next = c.in_ok-next.ensures.same in
+    let checks : OnlyLooks g.S.Store next new = c.in_ok-check_line.ensures.same in
+    let both : OnlyLooks g.S.Store start next = looks_on g.S.Store start mid next so_far.same looks in
+    record {
+      tree = c.next.ensures.tree ∙ so_far.tree;
+      same = looks_on g.S.Store start next new both checks;
+      quiet = quiet_both g.S.Store (quiet_both g.S.Store so_far.quiet c.next.ensures.quiet)
+          c.check_line.ensures.quiet;
+      read = λ clean.
+          let after : IsClean (g.S.Store.view next) = look_back g.S.Store next new checks clean in
+          let read = so_far.read (look_back g.S.Store mid next looks after) in
+          let long = length-append read.0 (entry ∷ []) in
+          let so_many : c.lines.count ≡ length read.0 = read.2 in (
+            read.0 ++ entry ∷ [],
+            subst (HasWalked Lines c.next.new.self.key ((g.S.Store.view start).trees 5))
+                (ap (λ (r : Row). map line_columns read.0 ++ r ∷ []) is
+                ∙ sym (map-append line_columns read.0 (entry ∷ [])))
+                (subst (WalksOn Lines c.next.new.self.key row ((g.S.Store.view start).trees 5)
+                (map line_columns read.0)) c.if-not-branch.false
+                (walked_on g.S.Store start mid next Lines c.lines.walk.tree c.lines.walk.key
+                c.next.new.self.key row (map line_columns read.0) c.in_ok-next.field-0 so_far.tree
+                so_far.same looks c.in_ok-next.ensures.next (λ back. read.1) after)),
+            omega (arith, so_many, long),
+          );
+    }
+
+pub returns-then-not-branch-clause-lines : goal.returns-then-not-branch-clause-lines
+returns-then-not-branch-clause-lines g c clean =
+    let start = c.args.trees.now.store in
+    let mid = c.lines.trees.store in
+    let next = c.next.new.trees.store in
+    let so_far = c.lines.invariant in
+    let looks : OnlyLooks g.S.Store mid next = c.in_ok-next.ensures.same in
+    let read = so_far.read (look_back g.S.Store mid next looks clean) in
+    record {
+      lines = read.0;
+      are = subst (WalksOn Lines c.next.new.self.key c.next.new.self.row
+          ((g.S.Store.view start).trees 5) (map line_columns read.0)) c.if-not-branch.true
+          (walked_on g.S.Store start mid next Lines c.lines.walk.tree c.lines.walk.key
+          c.next.new.self.key c.next.new.self.row (map line_columns read.0) c.in_ok-next.field-0
+          so_far.tree so_far.same looks c.in_ok-next.ensures.next (λ back. read.1) clean);
+      counted = read.2;
+    }

@@ -1,0 +1,92 @@
+use Rattle.std.proofs.Common.{◌≡◌, ◌∙◌, ◌++◌, ◌∷◌, [], ℕ, List, Some, Ok, map, length, ap, rules, string_bytes, subst, sym}
+use Rattle.sqlite_trees.proofs.ListLemmas.{all-append}
+use Rattle.sqlite_value.specs.Order.{Row}
+use Rattle.book_model.specs.Words.{IsDay, Terms, terms_in}
+use Rattle.table_model.specs.Readable.{IsTexted}
+use Rattle.table_model.specs.TablesOf.{tariff_entries}
+use Rattle.tree_rows.specs.Calls.{OnlyLooks}
+use Rattle.tree_rows.proofs.Calls.{quiet_both}
+use Rattle.tree_tables.specs.Columns.{tariff_columns}
+use Rattle.book_audit.specs.Walks.{AreRising, HasWalked, WalksOn, width}
+use Rattle.book_audit.specs.declared.finding.Tree.TheVariants.{Tariffs}
+use Rattle.book_audit.proofs.TariffLemmas.{is_texted, tariff_pushed, terms_pushed, texted}
+use Rattle.book_audit.proofs.WalkSteps.{look_back, looks_on, no_look, walked_on}
+use Rattle.book_audit.proofs.rulings.read_tariffs.Goals as goal
+
+pub tariffs-init : goal.tariffs-init
+tariffs-init g c = record {
+  tree = c.over-walk.ensures.tree;
+  same = no_look g.S.Store c.args.trees.now.store;
+  quiet = search rules;
+  read = λ clean. (
+    [],
+    c.over-walk.ensures.start ((g.S.Store.view c.args.trees.now.store).trees 1),
+    sym c.new-tariffs.ensures.items,
+    tt,
+  );
+}
+
+pub tariff_in-requires : goal.tariff_in-requires
+tariff_in-requires g c =
+    ap length c.row.ensures ∙ c.in_ok-next.ensures.wide c.if-not-branch.false
+    ∙ ap width c.tariffs.invariant.tree
+
+pub tariffs-preserved : goal.tariffs-preserved
+tariffs-preserved g c =
+    let start = c.args.trees.now.store in
+    let mid = c.tariffs.trees.store in
+    let next = c.next.new.trees.store in
+    let so_far = c.tariffs.invariant in
+    let row : Row = c.next.new.self.row in
+    let terms : Terms = c.in_ok-tariff.tariff in
+    let text : List ℕ = string_bytes c.in_ok-stored.stored.body in
+    let is : row ≡ tariff_columns (c.in_ok-stored.stored.day, Some text) = search rules in
+    let said : terms_in text ≡ Ok terms = c.in_ok-tariff.ensures.says in
+    let own : terms.effective ≡ c.in_ok-stored.stored.day = c.in_ok-tariff.ensures.day in
+    let valid : IsDay terms.effective = c.in_ok-tariff.ensures.valid in
+    let looks : OnlyLooks g.S.Store mid next = c.in_ok-next.ensures.same in
+    record {
+      tree = c.next.ensures.tree ∙ so_far.tree;
+      same = looks_on g.S.Store start mid next so_far.same looks;
+      quiet = quiet_both g.S.Store so_far.quiet c.next.ensures.quiet;
+      read = λ clean.
+          let read = so_far.read (look_back g.S.Store mid next looks clean) in (
+            read.0 ++ texted text terms ∷ [],
+            subst (HasWalked Tariffs c.next.new.self.key ((g.S.Store.view start).trees 1))
+                (tariff_pushed read.0 text c.in_ok-stored.stored.day terms row is own)
+                (subst (WalksOn Tariffs c.next.new.self.key row ((g.S.Store.view start).trees 1)
+                (map tariff_columns (tariff_entries read.0))) c.if-not-branch.false
+                (walked_on g.S.Store start mid next Tariffs c.tariffs.walk.tree c.tariffs.walk.key
+                c.next.new.self.key row (map tariff_columns (tariff_entries read.0))
+                c.in_ok-next.field-0 so_far.tree so_far.same looks c.in_ok-next.ensures.next
+                (λ back. read.1) clean)),
+            terms_pushed read.0 c.tariffs.tariffs.items text terms read.2
+                ∙ sym c.in_ok-push.ensures.items,
+            all-append IsTexted read.0 (texted text terms ∷ []) read.3
+                (is_texted text terms said valid, tt),
+          );
+    }
+
+pub returns-then-not-branch-clause-tariffs : goal.returns-then-not-branch-clause-tariffs
+returns-then-not-branch-clause-tariffs g c clean =
+    let start = c.args.trees.now.store in
+    let mid = c.tariffs.trees.store in
+    let next = c.next.new.trees.store in
+    let so_far = c.tariffs.invariant in
+    let looks : OnlyLooks g.S.Store mid next = c.in_ok-next.ensures.same in
+    let read = so_far.read (look_back g.S.Store mid next looks clean) in
+    let all : (g.S.Store.view start).trees 1 ≡ map tariff_columns (tariff_entries read.0) =
+    subst (WalksOn Tariffs c.next.new.self.key c.next.new.self.row
+    ((g.S.Store.view start).trees 1) (map tariff_columns (tariff_entries read.0)))
+    c.if-not-branch.true
+    (walked_on g.S.Store start mid next Tariffs c.tariffs.walk.tree c.tariffs.walk.key
+    c.next.new.self.key c.next.new.self.row (map tariff_columns (tariff_entries read.0))
+    c.in_ok-next.field-0 so_far.tree so_far.same looks c.in_ok-next.ensures.next (λ back. read.1)
+    clean) in
+    record {
+      accepted = read.0;
+      are = all;
+      terms = read.2;
+      texts = read.3;
+      rising = subst (AreRising Tariffs) (sym all) read.1.rising;
+    }

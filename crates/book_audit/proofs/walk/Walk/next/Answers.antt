@@ -1,0 +1,28 @@
+use Rattle.std.proofs.Common.{◌≡◌, ◌≢◌, ◌++◌, ◌∷◌, [], List, length, true, rules, subst, sym}
+use Rattle.std.specs.Ordering.{is_gt}
+use Rattle.sqlite_value.specs.Keys.{plain, prefix_cmp}
+use Rattle.sqlite_value.specs.Order.{Row}
+use Rattle.tree_rows.specs.Rows.{IsFirst}
+use Rattle.tree_tables.specs.Walks.{rows_past}
+use Rattle.book_audit.specs.Trees.{tree_number}
+use Rattle.book_audit.specs.Walks.{HasWalked, key_in, width}
+use Rattle.book_audit.proofs.WalkLemmas.{walk_step}
+use Rattle.book_audit.proofs.walk.Walk.next.Goals.{else-not-is_empty-via-then-not-is_empty+else-not-is_gt, else-not-is_empty-via-else-not-is_empty}
+use Rattle.book_audit.proofs.walk.Walk.next.Goals as goal
+
+pub returns-clause-next : goal.returns-clause-next
+returns-clause-next g c clean done so_far =
+    let tree = c.args.self.now.tree in
+    let key : Row = c.args.self.now.key in
+    let row : Row = c.row_past.new.row in
+    let rows : List Row = (g.S.Store.view c.args.trees.now.store).trees (tree_number tree) in
+    let there : IsFirst (rows_past key rows) row true = search rules in
+    let long : length row ≡ width tree = search rules in
+    let after : key ≢ [] → is_gt (prefix_cmp plain row key) ≡ true = λ some.
+    elim c.else-not-is_empty.branch [
+      | else-not-is_empty-via-then-not-is_empty+else-not-is_gt w ↦ search rules
+      | else-not-is_empty-via-else-not-is_empty w ↦ search rules
+    ] in
+    let took : c.take_key.new.key ≡ key_in tree row = search rules in
+    subst (λ next. HasWalked tree next rows (done ++ row ∷ [])) (sym took)
+    (walk_step tree key row rows done so_far there long after)

@@ -1,0 +1,38 @@
+-- The charge rows that are due.
+use Rattle.std.specs.Prelude.{◌+◌, ℕ, ℤ, List, int_lt, map}
+use Rattle.std.specs.Prelude.{if◌then◌else◌, [], ◌∷◌}
+use Rattle.tariff_rules.specs.declared.priced.Priced.{Priced}
+use Rattle.book_model.specs.Rows.{keys_of}
+use Rattle.book_model.specs.Words.{row_at}
+use Rattle.book_model.specs.declared.row.ChargeRow.{ChargeRow}
+use Rattle.book_model.specs.declared.row.RowKey.{RowKey}
+use Rattle.table_model.specs.TablesOf.{row_key}
+use Rattle.book_audit.specs.declared.day_sums.DayRow.{DayRow}
+
+-- the rows of records that cost this, each under its place
+abbrev pub keyed_rows : List Priced → List (RowKey × ChargeRow)
+keyed_rows priced = map (λ key. (key, row_at priced key)) (keys_of priced)
+
+-- a row with one more record
+abbrev pub with_price : ChargeRow → Priced → ChargeRow
+with_price row one = record row {
+  count = row.count + 1;
+  cpu = row.cpu + one.cpu;
+  blocks = row.blocks + one.excp;
+  amount = row.amount + one.amount;
+}
+
+-- the period of a day, where this is the number of the first: that of the first close through it
+-- or a later day
+abbrev pub period_from : ℕ → List ℤ → ℤ → ℕ
+period_from number [] day = number
+period_from number (through ∷ later) day =
+    if int_lt through day then period_from (number + 1) later day else number
+
+-- a row in the period of its day
+abbrev pub due_entry : List ℤ → ChargeRow → (ℕ × RowKey) × ChargeRow
+due_entry closes row = ((period_from 1 closes row.day, row_key row), row)
+
+-- a row as it was read
+abbrev pub entry_of : DayRow → (ℕ × RowKey) × ChargeRow
+entry_of row = ((row.period, row_key row.sums), row.sums)

@@ -1,0 +1,31 @@
+-- The trees that find the rows of a table, entry by entry.
+use Rattle.std.specs.Prelude.{◌≡◌, ℕ, List, length}
+use Rattle.std.specs.List.{AllByRecursion}
+use Rattle.sqlite_value.specs.Order.{Row, column}
+use Rattle.tree_tables.specs.Fits.{HasBytes, HasCount}
+use Rattle.book_audit.specs.declared.finding.Tree.{Tree}
+use Rattle.book_audit.specs.declared.finding.Tree.TheVariants.{Book, Tariffs, Closes, Records}
+use Rattle.book_audit.specs.declared.finding.Tree.TheVariants.{Days, Lines, Identities, Marks}
+use Rattle.book_audit.specs.declared.finding.Tree.TheVariants.{Choices, ChoiceNames, Details}
+use Rattle.book_audit.specs.Walks.{AreRising, AreWide}
+
+-- an entry has bytes, and a number before or after them, where it has one
+abbrev pub IsEntry : Tree → Row → Type 0
+IsEntry Identities row = HasBytes (column row 0) × HasBytes (column row 1)
+IsEntry Marks row = HasCount (column row 0) × HasBytes (column row 1) × HasBytes (column row 2)
+IsEntry ChoiceNames row = HasBytes (column row 0) × HasCount (column row 1)
+IsEntry Book row = ⊥
+IsEntry Tariffs row = ⊥
+IsEntry Closes row = ⊥
+IsEntry Records row = ⊥
+IsEntry Days row = ⊥
+IsEntry Lines row = ⊥
+IsEntry Choices row = ⊥
+IsEntry Details row = ⊥
+
+-- the rows are entries, in the order of their keys, and so many
+pub record AreCounted (tree : Tree) (rows : List Row) (count : ℕ) : Type 0 where
+  pub each : AllByRecursion (IsEntry tree) rows
+  pub wide : AreWide tree rows
+  pub rising : AreRising tree rows
+  pub are : count ≡ length rows

@@ -1,0 +1,55 @@
+-- The rows of the tariffs, the closes and the choices, as a list of each.
+use Rattle.std.specs.Prelude.{◌≡◌, ◌+◌, ◌∷◌, [], ℕ, ℤ, All, List, None, Some, length, map, int_lt, true}
+use Rattle.std.specs.List.{AllByRecursion, last_or}
+use Rattle.std.specs.List.Sorted.{IsStrictlySortedBy}
+use Rattle.std.specs.Option.{option_map_or}
+use Rattle.std.specs.Ordering.{int_cmp}
+use Rattle.sqlite_value.specs.Order.{Row}
+use Rattle.book_model.specs.Words.{AcceptedTerms, IsDay, Terms}
+use Rattle.table_model.specs.Readable.{IsTexted}
+use Rattle.table_model.specs.TablesOf.{close_entries, tariff_entries}
+use Rattle.tree_tables.specs.Columns.{book_columns, closed_columns, tariff_columns}
+use Rattle.tree_tables.specs.declared.closed_rows.Close.{Close}
+use Rattle.book_audit.specs.Rules.{rule_of}
+use Rattle.book_audit.specs.Walks.{AreRising}
+use Rattle.book_audit.specs.declared.finding.Tree.TheVariants.{Tariffs}
+use Rattle.book_audit.specs.declared.rulings.BookRow.{BookRow}
+
+-- A close is the next one after those of these days: of the next period, through a later day.
+pub record IsNextClose (days : List ℤ) (close : Close) : Type 0 where
+  pub period : close.period ≡ length days + 1
+  pub later : option_map_or (λ last. int_lt last close.through) (last_or None days) true ≡ true
+  pub day : IsDay close.through
+
+-- the rows are those of closes through these days: from period 1 on, each later than the one before
+pub record AreClosed (rows : List Row) (days : List ℤ) : Type 0 where
+  pub are : rows ≡ map closed_columns (close_entries 1 days)
+  pub valid : All IsDay days
+  pub in_order : IsStrictlySortedBy int_cmp days
+
+-- a row is that of the book: its number, its rule with the period of adoption, and its two sums
+pub record IsBookRow (row : Row) (book : BookRow) : Type 0 where
+  pub rule : ℕ
+  pub adopted : ℕ
+  pub are : row ≡ book_columns (record {
+    rule = rule;
+    adopted = adopted;
+    held = book.held;
+    amount = book.amount;
+  })
+  pub known : rule_of rule adopted ≡ Some book.rule
+
+-- the one row
+pub record HasOneRow (rows : List Row) (book : BookRow) : Type 0 where
+  pub row : Row
+  pub one : rows ≡ row ∷ []
+  pub is : IsBookRow row book
+
+-- The rows are those of tariffs, each with a text that says its terms, under its first day, in the
+-- order of the days.
+pub record AreTariffs (rows : List Row) (tariffs : List Terms) : Type 0 where
+  pub accepted : List AcceptedTerms
+  pub are : rows ≡ map tariff_columns (tariff_entries accepted)
+  pub terms : map (λ tariff. tariff.terms) accepted ≡ tariffs
+  pub texts : AllByRecursion IsTexted accepted
+  pub rising : AreRising Tariffs rows

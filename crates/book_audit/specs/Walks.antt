@@ -1,0 +1,70 @@
+-- How far a walk through a tree has come.
+use Rattle.std.specs.Prelude.{◌≡◌, ◌++◌, ◌∷◌, [], ℕ, Bool, true, false, List, length, take}
+use Rattle.std.specs.List.{AllByRecursion}
+use Rattle.std.specs.declared.cmp.Ordering.TheVariants.{Less}
+use Rattle.sqlite_trees.specs.Tree.{IsAscending}
+use Rattle.sqlite_value.specs.Order.{Row, row_cmp}
+use Rattle.tree_tables.specs.Walks.{rows_past}
+use Rattle.book_audit.specs.declared.finding.Tree.{Tree}
+use Rattle.book_audit.specs.declared.finding.Tree.TheVariants.{Book, Tariffs, Closes, Records}
+use Rattle.book_audit.specs.declared.finding.Tree.TheVariants.{Days, Lines, Identities, Marks}
+use Rattle.book_audit.specs.declared.finding.Tree.TheVariants.{Choices, ChoiceNames, Details}
+
+-- how many columns a row of the tree has,
+abbrev pub width : Tree → ℕ
+width Book = 5
+width Tariffs = 2
+width Closes = 2
+width Records = 11
+width Days = 8
+width Lines = 3
+width Identities = 2
+width Marks = 3
+width Choices = 3
+width ChoiceNames = 2
+width Details = 12
+
+-- and how many of the first of them are its key
+abbrev pub key_width : Tree → ℕ
+key_width Book = 1
+key_width Tariffs = 1
+key_width Closes = 1
+key_width Records = 1
+key_width Days = 4
+key_width Lines = 2
+key_width Identities = 2
+key_width Marks = 3
+key_width Choices = 1
+key_width ChoiceNames = 2
+key_width Details = 5
+
+-- the key of a row
+abbrev pub key_in : Tree → Row → Row
+key_in tree row = take (key_width tree) row
+
+-- the keys of the rows rise
+abbrev pub AreRising : Tree → List Row → Type 0
+AreRising tree = IsAscending (λ a b. row_cmp (key_in tree a) (key_in tree b) ≡ Less)
+
+-- each row has the columns of the tree's rows
+abbrev pub AreWide : Tree → List Row → Type 0
+AreWide tree = AllByRecursion (λ row. length row ≡ width tree)
+
+-- the key of the last row, and no columns where there is none
+abbrev pub last_key : Tree → List Row → Row
+last_key tree [] = []
+last_key tree (row ∷ []) = key_in tree row
+last_key tree (row ∷ next ∷ rows) = last_key tree (next ∷ rows)
+
+-- A walk that has come to a key has read these rows, in the order of their keys: those after the
+-- key are the others.
+pub record HasWalked (tree : Tree) (key : Row) (rows done : List Row) : Type 0 where
+  pub place : key ≡ last_key tree done
+  pub left : rows ≡ done ++ rows_past key rows
+  pub wide : AreWide tree done
+  pub rising : AreRising tree done
+
+-- it has read one more row; or it had read all
+abbrev pub WalksOn : Tree → Row → Row → List Row → List Row → Bool → Type 0
+WalksOn tree key row rows done true = HasWalked tree key rows (done ++ row ∷ [])
+WalksOn tree key row rows done false = rows ≡ done

@@ -1,0 +1,48 @@
+//! All rulings, read one tree after the other.
+
+ghost use Rattle.std.specs.Prelude.{◌≡◌, IfOk, OnOk};
+ghost use Rattle.sqlite_trees.specs.View.{IsClean};
+ghost use Rattle.tree_rows.specs.Calls.{CommitsNothing, OnlyLooks};
+ghost use Rattle.book_audit.specs.SoundTrees.{AreRuled};
+
+use crate::choices::read_choices;
+use crate::finding::{Place, Tree, Wrong};
+use crate::rulings::{BookRow, MAX_CLOSES, Rulings, read_book, read_closes, read_tariffs};
+use crate::stop::{Stop, unsound};
+use crate::trees::Trees;
+use crate::watch::Watch;
+use sqlite_trees::store::Store;
+use std::alloc::Global;
+
+/// Reads the rulings of the office.
+pub(crate) fn read_rulings<S: Store, W: Watch>(
+    alloc: Global,
+    trees: &mut Trees<S>,
+    watch: &mut W,
+) -> Result<Rulings, Stop>
+    ensures ruled { IfOk result (λ rulings. IsClean (S.Store.view trees.new.store)
+        → AreRuled (S.Store.view trees.old.store).trees rulings) }
+    ensures same { OnOk result (OnlyLooks S.Store trees.old.store trees.new.store) }
+    ensures quiet { CommitsNothing S.Store trees.old.store trees.new.store }
+{
+    let book = read_book(alloc, trees)?;
+    let tariffs = read_tariffs(alloc, trees)?;
+    let closes = read_closes(alloc, trees)?;
+    if closes.len() > MAX_CLOSES {
+        return Err(unsound(Place::Tree(Tree::Closes), Wrong::Closes));
+    }
+    let open = closes.len() as u16 + 1;
+    let BookRow { rule, held, amount } = book;
+    if !rule.is_by(open) {
+        return Err(unsound(Place::Tree(Tree::Book), Wrong::Rule));
+    }
+    let chosen = read_choices(alloc, trees, rule, open, watch)?;
+    Ok(Rulings {
+        rule,
+        tariffs,
+        closes,
+        chosen,
+        held,
+        amount,
+    })
+}
