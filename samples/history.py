@@ -53,6 +53,9 @@ TEXTS = {
     "no_name": table("shift", name="by night", days=WORKING_DAYS, **EVENING),
     "other_nights": table("shift", name="NIGHT", days=[6, 7], **{"from": "18:00", "to": "24:00", "percent": 60})}
 
+# What stands between them, of one tariff after the other, for the heads of bills.
+LETTERHEADS = ("", 'office = "Nord"\n', 'currency = "EUR"\noffice = "Computing centre"\n', 'office = ""\ncurrency = 7\n')
+
 # Two that are rules, and five that no tariff has.
 RULES = ("free_jobs evenings by_job", "paid_jobs nights weekends by_field", "no_fee", "below_zero", "no_toml",
          "free_jobs no_name", "free_jobs evenings other_nights by_job")
@@ -81,8 +84,8 @@ NEEDED += ["import under the second rule " + kind for kind in (
 
 class Numbers:
     """Numbers in no order that can be seen: each follows from the one before."""
-    def __init__(self):
-        self.state = 2118
+    def __init__(self, first):
+        self.state = first
 
     def below(self, limit):
         self.state = (self.state * 1664525 + 1013904223) % 2**32
@@ -114,8 +117,8 @@ def step_parts(numbers, today):
 
 
 class History:
-    def __init__(self, sample):
-        self.books, self.numbers = office.Books(), Numbers()
+    def __init__(self, sample, first=2118):
+        self.books, self.numbers = office.Books(), Numbers(first)
         self.dumps, self.steps, self.texts, self.fronts = {"sample": sample}, [], dict(TEXTS), []
         self.lines, self.shown, self.came = [], {}, collections.Counter()
 
@@ -168,8 +171,9 @@ class History:
         first = (today + self.numbers.below(15)) // 10 * 10
         rules = RULES[self.numbers.below(2) if self.numbers.below(3) else 2 + self.numbers.below(5)]
         front = "t%d" % len(self.fronts)
-        self.name_text(front, 'effective = "%s"\n[rates]\nstep_cpu = %d\n'
-                       % (day_of(first), 20000 + 5000 * self.numbers.below(2)))
+        self.name_text(front, 'effective = "%s"\n%s[rates]\nstep_cpu = %d\n'
+                       % (day_of(first), LETTERHEADS[len(self.fronts) % len(LETTERHEADS)],
+                          20000 + 5000 * self.numbers.below(2)))
         self.fronts.append("tariff %s %s" % (front, rules))
         return self.fronts[-1]
 
@@ -351,8 +355,23 @@ class History:
         words = "%s %d %s %s" % (verb, period, front, rules)
         self.ask(words, self.books.what_if(file, period, as_table=verb == "what-if-table"))
 
+    def ask_bills(self, period):
+        """Asks for the bills of a period: the office's, and that of each centre that has rows or lines in it."""
+        books = self.books
+        self.ask("bill %d" % period, books.of_period(books.bill, period))
+        for centre, _ in books.billed(period) if 0 < period <= books.open else ():
+            self.ask("bill %d %s" % (period, centre), books.of_period(books.bill, period, centre))
+
+    def ask_bill_tables(self, period):
+        """Asks for the same as comma-separated values."""
+        books = self.books
+        self.ask("bill-table %d" % period, books.of_period(books.bill_table, period))
+        for centre, _ in books.billed(period) if 0 < period <= books.open else ():
+            self.ask("bill-table %d %s" % (period, centre), books.of_period(books.bill_table, period, centre))
+
     def ask_more(self, turn):
-        """Asks for a table, and of periods that are not there; what some would have cost; and for the details of one."""
+        """Asks for a table, and of periods that are not there; what some would have cost; and for the details of one, and
+        its bills."""
         books, later = self.books, self.books.open + 1
         for period in (max(1, books.open - 1), 0, later):
             self.ask("table %d" % period, books.of_period(books.table, period))
@@ -362,6 +381,7 @@ class History:
             self.ask_what_if("what-if", period)
         period = 1 + turn // 10 % books.open
         self.ask("details %d" % period, books.of_period(books.details, period))
+        self.ask_bills(period)
 
     def ask_trail(self, turn):
         """Asks for the trail of one of the steps that were named so far, whether or not it is held."""
@@ -369,8 +389,8 @@ class History:
         self.ask("record " + step, self.books.trail(self.name_of(step)))
 
     def ask_lists(self):
-        """Asks by requests for the rulings, for each tariff's file, and for the lists as comma-separated values; what each
-        period would have cost, and its details; and for the trails of the steps that were named last."""
+        """Asks by requests for the rulings, for each tariff's file, and for the lists as comma-separated values; what
+        each period would have cost, its details and its bills; and for the trails of the steps that were named last."""
         books = self.books
         self.ask("get /rulings", served(200, list(books.rulings())))
         for tariff in books.tariffs:
@@ -381,6 +401,7 @@ class History:
         for period in range(0, books.open + 2):
             self.ask_what_if("what-if-table", period)
             self.ask("details-table %d" % period, books.of_period(books.details_table, period))
+            self.ask_bill_tables(period)
         for step in self.steps[-40:]:
             self.ask("record " + step, books.trail(self.name_of(step)))
 
@@ -404,6 +425,9 @@ class History:
             self.ask_more(turn)
         if turn % 4 == 3:
             self.ask_trail(turn)
+        if turn == TURNS - 1:
+            for period in range(1, self.books.open + 2):
+                self.ask_bills(period)
 
 
 def history(sample):

@@ -68,12 +68,15 @@ def many_records():
 
 
 def many_records_in_files():
-    """And on books in a file."""
-    yield "# A close of 10,001 records that are held, in a file; made by samples/make."
+    """And on books in a file, with a tariff that comes late for all of them."""
+    yield "# A late tariff for 10,001 records that are held, and a close of them, in a file; made by samples/make."
+    yield from ("> text to_mid_january", '| effective = "2024-01-15"', "| [rates]", "| step_cpu = 30000")
+    yield "> text dearer to_mid_january other_rates"
     yield ""
     yield "> row a_close_of_10001_records_in_a_file commands"
     yield from ("> file @many.smf sample*10001@112", "> text-file @january.toml january", "> chargectl init @books",
                 "> chargectl tariff @books @january.toml", "> chargectl import @books @many.smf",
+                "> text-file @dearer.toml dearer", "> chargectl tariff @books @dearer.toml", "> chargectl statement @books 1",
                 "> chargectl close @books 1 2024-01-31", "> chargectl import @books @many.smf")
     yield from ("> chargectl %s @books%s" % tuple(words) for words in (
         ("statement", " 1"), ("statement", " 2"), ("adjustments", " 2"), ("disputes", ""), ("audit", "")))

@@ -17,6 +17,8 @@ Record = collections.namedtuple(
 ADJUSTMENT_COLUMNS = "period,action,day,centre,shift,amount,name,job"
 STATEMENT_COLUMNS = "period,day,centre,shift,count,cpu,blocks,"
 DETAIL_COLUMNS = "period,day,centre,shift,time,job,program,jobid,step,cpu,blocks,amount,name"
+BILL_COLUMNS = "period,day,centre,shift,kind,count,cpu,blocks,amount,of_period,name,job"
+OFFICE_BILL_COLUMNS = "period,centre,steps,jobs,late,reversed,owed"
 DISPUTE_COLUMNS = ("dispute,system,job,reader,initiation,subtype,step,name,day,cpu,blocks,amount,completion,jobid,"
                    "program")
 EPOCH = datetime.date(1970, 1, 1)
@@ -194,6 +196,19 @@ class Tariff:
         prefix = "step" if subtype == b"\0\4" else "job"
         return [self.terms["rates"]["%s_%s" % (prefix, unit)] for unit in ("cpu", "excp", "record")]
 
+    def rates(self):
+        """The line of its prices, on a bill."""
+        prices = [decimals(price, 4) for subtype in (b"\0\4", b"\0\5") for price in self.prices(subtype)]
+        return "TARIFF %s STEP CPU %s BLOCKS %s RECORD %s JOB CPU %s BLOCKS %s RECORD %s" % (self.effective, *prices)
+
+    def letterhead(self):
+        """The lines that say whose bills are made by it, and of which money: of its keys for these each that is a text
+        of 1 to 40 characters of printable ASCII."""
+        for key in ("office", "currency"):
+            shown = self.terms.get(key)
+            if isinstance(shown, str) and re.fullmatch("[ -~]{1,40}", shown):
+                yield "%s %s" % (key.upper(), shown)
+
     def reckoning(self, data):
         """Which rules decide about a record, by their numbers, and the lines of its price: the formula with its numbers."""
         whole, one = framed(data), self.record(data)
@@ -265,10 +280,40 @@ def row_lines(rows):
     yield total_line("TOTAL", rows)
 
 
+def job_lines(rows):
+    """Charge rows of jobs below the names of their columns, and their total: their work is that of their steps, so
+    that it is left out."""
+    yield columns("DAY", "CENTRE", "SHIFT", "COUNT", "", "", "AMOUNT")
+    for place, (count, _, _, amount) in rows:
+        yield columns(*place, count, "", "", decimals(amount, 4))
+    count, amount = (sum(sums[at] for _, sums in rows) for at in (0, 3))
+    yield columns("TOTAL", "", "", count, "", "", decimals(amount, 4))
+
+
+def office_columns(centre, *amounts):
+    """A line of the office's bill."""
+    return " ".join(["%-16s" % centre] + ["%21s" % amount for amount in amounts])
+
+
+def owed(steps, jobs, late, taken_back):
+    """What a bill comes to."""
+    return steps + jobs + late - taken_back
+
+
 def step_of(one):
     """The number of the step that a record is of the end of; a job's end has none."""
     subtype, step = struct.unpack(">HH", one.identity[20:24])
     return "-" if subtype == 5 else step
+
+
+def line_columns(sign, one):
+    """An adjustment line, up to its amount."""
+    return "%-5s %s %-16s %-16s %21s" % (ACTIONS[sign], one.day, one.centre, one.shift, decimals(sign * one.amount, 4))
+
+
+def lines_total(lines):
+    """The line of what adjustment lines come to."""
+    return "TOTAL" + 46 * " " + "%21s" % decimals(sum(sign * one.amount for sign, one in lines), 4)
 
 
 def detail_line(place, job, work, amount, *name):
@@ -581,15 +626,115 @@ class Books:
         lines = self.lines(period, centre)
         yield self.title("ADJUSTMENTS", period, centre)
         for sign, one in lines:
-            yield "%-5s %s %-16s %-16s %21s %s %s" % (ACTIONS[sign], one.day, one.centre, one.shift,
-                                                      decimals(sign * one.amount, 4), one.name, one.job)
-        yield "TOTAL" + 46 * " " + "%21s" % decimals(sum(sign * one.amount for sign, one in lines), 4)
+            yield "%s %s %s" % (line_columns(sign, one), one.name, one.job)
+        yield lines_total(lines)
 
     def adjustment_table(self, period, centre=None):
         yield ADJUSTMENT_COLUMNS
         for sign, one in self.lines(period, centre):
             yield comma_line(period, ACTIONS[sign], one.day, one.centre, one.shift, decimals(sign * one.amount, 4),
                              one.name, one.job)
+
+    def work(self, period, centre=None):
+        """The charge rows of the steps that a period counts, and those of the jobs: of all centres, or of one."""
+        records = [self.held[name] for name in self.counted(period)]
+        return [charge_rows([one for one in records if (step_of(one) == "-") == is_job], centre)
+                for is_job in (False, True)]
+
+    def period_of(self, day):
+        """The period that a day belongs to."""
+        return 1 + sum(through < day for through in self.closes)
+
+    def of_which(self, period, sign, one):
+        """Of a record that a period adds, the period of its day; of one that it reverses, the last period before it that
+        charged it."""
+        if sign > 0:
+            return self.period_of(one.day)
+        return max(charged for charged, deed in self.life(one.name) if charged < period and deed != "REVERSED")
+
+    def held_back(self, centre=None):
+        """How many disputes have a record of the centre, or of any; and the least and the most that it may be charged as
+        they end: of each dispute one record is chosen, and that may be another centre's."""
+        ends = [[one.amount if centre in (None, one.centre) else 0 for one in members]
+                for _, members in self.disputed() if any(centre in (None, one.centre) for one in members)]
+        return len(ends), sum(map(min, ends)), sum(map(max, ends))
+
+    def tariffs_in(self, period):
+        """The tariffs in force on some day of a period: those that have begun as it ends, if it has ended, but for those
+        after which another one has begun by its first day."""
+        first = self.before(period) + datetime.timedelta(1)
+        begun = [one for one in self.tariffs if period == self.open or one.effective <= self.closes[period - 1]]
+        return [one for one in begun if not any(one.effective < later.effective <= first for later in begun)]
+
+    def bill_head(self, period, centre):
+        """What stands above all else on a bill: whose it is, and the prices of its days."""
+        tariffs = self.tariffs_in(period)
+        yield self.title("BILL", period, centre)
+        for last in tariffs[-1:]:
+            yield from last.letterhead()
+        for tariff in tariffs:
+            yield tariff.rates()
+
+    def bill_end(self, period, centre):
+        """What a bill says of disputes, while its period is open. As they end a closed period's bill stays as it is."""
+        if period == self.open:
+            count, least, greatest = self.held_back(centre)
+            yield "DISPUTES %d LEAST %s GREATEST %s" % (count, decimals(least, 4), decimals(greatest, 4))
+
+    def parts(self, period, centre=None):
+        """What a bill has of steps, of jobs, of what came late, and of what was reversed."""
+        rows = [sum(sums[3] for _, sums in rows) for rows in self.work(period, centre)]
+        return rows + [sum(one.amount for sign, one in self.lines(period, centre) if sign == which) for which in (1, -1)]
+
+    def billed(self, period):
+        """The centres that a period has rows or lines of, each with the parts of its bill."""
+        centres = {self.held[name].centre for name in self.counted(period)}
+        centres |= {one.centre for _, one in self.lines(period)}
+        return [(centre, self.parts(period, centre)) for centre in sorted(centres)]
+
+    def bill(self, period, centre=None):
+        """The bill of a centre, or of the whole office with a line for each."""
+        yield from self.bill_head(period, centre)
+        yield from self.office_bill(period) if centre is None else self.centre_bill(period, centre)
+
+    def centre_bill(self, period, centre):
+        """What a department gets below the head: its steps and its jobs apart, what came late or was reversed, with the
+        period that this was of, and the sum."""
+        steps, jobs = self.work(period, centre)
+        lines = self.lines(period, centre)
+        yield "STEPS"
+        yield from row_lines(steps)
+        yield "JOBS"
+        yield from job_lines(jobs)
+        yield "ADJUSTMENTS"
+        for sign, one in lines:
+            yield "%s PERIOD %d %s %s" % (line_columns(sign, one), self.of_which(period, sign, one), one.name, one.job)
+        yield lines_total(lines)
+        yield from self.bill_end(period, centre)
+        yield columns("OWED", "", "", "", "", "", decimals(owed(*self.parts(period, centre)), 4))
+
+    def office_bill(self, period):
+        """A line for each centre, and the office's total."""
+        yield office_columns("CENTRE", "STEPS", "JOBS", "LATE", "REVERSED", "OWED")
+        for word, parts in self.billed(period) + [("TOTAL", self.parts(period))]:
+            yield office_columns(word, *(decimals(amount, 4) for amount in (*parts, owed(*parts))))
+        yield from self.bill_end(period, None)
+
+    def bill_table(self, period, centre=None):
+        if centre is None:
+            yield OFFICE_BILL_COLUMNS
+            for name, parts in self.billed(period):
+                yield comma_line(period, name, *(decimals(amount, 4) for amount in (*parts, owed(*parts))))
+            return
+        yield BILL_COLUMNS
+        steps, jobs = self.work(period, centre)
+        for place, (count, cpu, blocks, amount) in steps:
+            yield comma_line(period, *place, "STEPS", count, decimals(cpu, 2), blocks, decimals(amount, 4), "", "", "")
+        for place, (count, _, _, amount) in jobs:
+            yield comma_line(period, *place, "JOBS", count, "", "", decimals(amount, 4), "", "", "")
+        for sign, one in self.lines(period, centre):
+            yield comma_line(period, one.day, one.centre, one.shift, ACTIONS[sign], "", "", "",
+                             decimals(sign * one.amount, 4), self.of_which(period, sign, one), one.name, one.job)
 
     def periods(self):
         yield "PERIODS %d" % self.open
@@ -647,7 +792,7 @@ class Books:
         fields = list(fields_of(framed(data)))
         choices = [choice for choice in self.choices if choice[0] in rivals | {name}]
         return ["RECORD " + name,
-                "DATED %s IN PERIOD %d" % (clock(data[2:10]), 1 + sum(through < one.day for through in self.closes)),
+                "DATED %s IN PERIOD %d" % (clock(data[2:10]), self.period_of(one.day)),
                 identity_line(one.identity, "-"),
                 "%s COMPLETION %s %s %s ACCOUNTS %d" % (
                     moment("START", one.identity[24:]), one.code, one.job_id, one.program, len(fields)),

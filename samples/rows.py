@@ -161,6 +161,9 @@ ASKS = {"statement": 2, "table": 1, "adjustments": 2, "adjustment_table": 1, "di
 # The details of a period: for the days of the closes, for each detail, and for the end.
 DETAILS = {"details": 2, "details-table": 2}
 
+# The bills of a period.
+BILLS = {"bill": "bill", "bill-table": "bill_table"}
+
 # The same of what a period would have cost by a tariff: for the days of the closes, before the tariff is read; for what
 # it would have cost; and, for a text, for what it is charged.
 WHAT_IFS = {"what-if": 3, "what-if-table": 2}
@@ -168,6 +171,7 @@ WHAT_IFS = {"what-if": 3, "what-if-table": 2}
 # The report of a path, and the form of its text.
 PATHS = {"statement": ("statement", "plain"), "statement-csv": ("table", "csv"),
          "adjustments": ("adjustments", "plain"), "adjustments-csv": ("adjustment_table", "csv"),
+         "details": ("details", "plain"), "details-csv": ("details-table", "csv"),
          "disputes": ("disputes", "plain"), "disputes-csv": ("dispute_table", "csv"),
          "periods": ("periods", "plain"), "rulings": ("rulings", "plain")}
 
@@ -268,6 +272,24 @@ class Rows:
             return office.refused(office.MEMORY)
         return books.of_period(getattr(books, verb.replace("-", "_")), period, centre)
 
+    def bill_asks(self, period, centre):
+        """How often a bill asks the books. For its steps and jobs: for the days of the closes, for each detail, and for
+        the end, which is all where there is no such period. For its lines: for these, and of a centre for the trail of
+        each record. For what is held back: for the days, and while the period is open for each dispute and the end. For
+        its tariffs: for the days, for each tariff, and for the end."""
+        books = self.books
+        if not 0 < period <= books.open:
+            return 2
+        lines = 0 if centre is None else len(books.lines(period, centre))
+        disputes = len(books.disputed()) + 1 if period == books.open else 0
+        return 2 + len(books.counted_in_order(period, centre)) + 1 + lines + 1 + disputes + 2 + len(books.tariffs)
+
+    def bill(self, verb, period, centre=None):
+        """The bill of a centre for a period, or of all, or why there is none."""
+        if any(self.is_refused() for _ in range(self.bill_asks(int(period), centre))):
+            return office.refused(office.MEMORY)
+        return self.books.of_period(getattr(self.books, BILLS[verb]), int(period), centre)
+
     def trail(self, name):
         """The trail of a record, or why there is none. It is one call of the books."""
         return office.refused(office.MEMORY) if self.is_refused() else self.books.trail(name)
@@ -330,14 +352,21 @@ class Rows:
         if name in ("tariff", "record"):
             found = self.get_tariff if name == "tariff" else self.get_record
             return found(*words) if len(words) == 1 else served(404, [])
+        if name not in PATHS:
+            return served(404, [])
         verb, form = PATHS[name]
-        has_period = verb in OF_PERIODS
+        has_period = verb in OF_PERIODS or verb in DETAILS
         if bool(words) != has_period or len(words) > 2 or not all(map(office.is_name, words[1:])):
             return served(404, [])
-        text = self.report(verb, words)
+        text = self.details(verb, *words) if verb in DETAILS else self.report(verb, words)
         if text == office.refused(office.MEMORY):
             return served(503, [])
-        return served(404, []) if text == office.refused(office.NO_SUCH_PERIOD) else served(200, text, form)
+        if text == office.refused(office.NO_SUCH_PERIOD):
+            return served(404, [])
+        whole = served(200, text, form)
+        # Details are read once more, to be sent. A refusal there comes when the head alone was written.
+        is_cut = verb in DETAILS and self.details(verb, *words) == office.refused(office.MEMORY)
+        return whole[:whole.index("\\r") + 1] + ["CUT"] if is_cut else whole
 
     def get_tariff(self, word):
         """The answer to a request for a tariff's file. The tariffs are asked for in their order."""
@@ -401,6 +430,8 @@ class Rows:
             return ["TOOK %d IN 1" % sum(len(line) + 1 for line in text)] if self.is_counted else text
         if verb in DETAILS:
             return self.details(verb, *words)
+        if verb in BILLS:
+            return self.bill(verb, *words)
         if verb == "record":
             return self.trail(self.name_of(*words))
         if verb == "writer":
@@ -544,6 +575,7 @@ class Rows:
                 "audit": lambda: list(Tables(books).audit()),
                 "statement": statement,
                 "details": lambda period, *_: of_period(books.details, books.details_table, period),
+                "bill": lambda period, *_: of_period(books.bill, books.bill_table, period),
                 "adjustments": lambda period, *_: of_period(books.adjustments, books.adjustment_table, period)
                 }.get(verb, lambda *words: self.command(verb, words))(*words)
 
