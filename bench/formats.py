@@ -411,6 +411,31 @@ def report_form(name, period=0, centre=None):
     return form(WHOLE[name])
 
 
+# Bills, of the office and of a centre.
+BILL_HEAD = (OF_PERIOD[0] + r"(?:OFFICE [ -~]{1,40}\n)?(?:CURRENCY [ -~]{1,40}\n)?"
+             + r"(?:TARIFF %s STEP CPU %s BLOCKS %s RECORD %s JOB CPU %s BLOCKS %s RECORD %s\n)*"
+             % (DAY, *6 * (AMOUNT,)))
+HELD_BACK = r"(?:DISPUTES [0-9]+ LEAST %s GREATEST %s\n)?" % (AMOUNT, AMOUNT)
+OFFICE_COLUMNS = "%-16s %21s %21s %21s %21s %21s\n" % (
+    "CENTRE", "STEPS", "JOBS", "LATE", "REVERSED", "OWED")
+BILLED = r"(?=.{126}\n)%%s(?: +%s){4} +-?%s\n" % (AMOUNT, AMOUNT)
+JOB_COLUMNS = ("%-10s %-16s %-16s %8s %19s %18s %21s\n"
+               % ("DAY", "CENTRE", "SHIFT", "COUNT", "", "", "AMOUNT"))
+JOB_ROWS = JOB_COLUMNS + r"(?:%s%s %s +%s +[0-9]+ +%s\n)*%sTOTAL +[0-9]+ +%s\n" % (
+    WIDE, DAY, NAME, NAME, AMOUNT, WIDE, AMOUNT)
+BILLED_LINES = r"(?:(?:PLUS |MINUS) %s %s +%s +-?%s PERIOD [0-9]+ [0-9a-f]{64} %s\n)*TOTAL +-?%s\n" % (
+    DAY, NAME, NAME, AMOUNT, SHOWN, AMOUNT)
+OFFICE_BILL_COLUMNS = "period,centre,steps,jobs,late,reversed,owed"
+BILL_COLUMNS = "period,day,centre,shift,kind,count,cpu,blocks,amount,of_period,name,job"
+BILLS = {
+    "bill": "BILL " + BILL_HEAD + OFFICE_COLUMNS + "(?:%s)*%s" % (BILLED % NAME, BILLED % "TOTAL") + HELD_BACK,
+    "centre-bill": "BILL CENTRE %s " % NAME + BILL_HEAD + "STEPS\n" + ROWS % NAME + "JOBS\n" + JOB_ROWS
+                   + "ADJUSTMENTS\n" + BILLED_LINES + HELD_BACK + WIDE + r"OWED +-?%s\n" % AMOUNT,
+    "bill-csv": OFFICE_BILL_COLUMNS + r"\n(?:[0-9]+,%s(?:,%s){4},-?%s\n)*" % (NAME, AMOUNT, AMOUNT),
+    "centre-bill-csv": BILL_COLUMNS + r"\n(?:[0-9]+,%s,%s,%s,(?:%s|%s|%s)\n)*" % (
+        DAY, NAME, NAME, r"STEPS,[0-9]+,[0-9]+\.[0-9]{2},[0-9]+,%s,,," % AMOUNT, "JOBS,[0-9]+,,,%s,,," % AMOUNT,
+        "(?:PLUS|MINUS),,,,-?%s,[0-9]+,[0-9a-f]{64},%s" % (AMOUNT, VALUE))}
+
 # What a ruling would change: figures of the open period, before it and after it.
 FIGURES = ("%16s %21s %21s\n" % ("", "BEFORE", "AFTER")
            + r"(?=.{60}\n)STATEMENT [0-9]+ +%s +%s\n" % (AMOUNT, AMOUNT)
@@ -424,6 +449,7 @@ DRY_RUN = r"DRY RUN (?:%s)" % "|".join(
 OF_PERIODS = ("statement", "statement-csv", "what-if", "what-if-csv", "details", "details-csv",
               "adjustments", "adjustments-csv")
 OF_COMMANDS = {name: report_form(name) for name in (*OF_PERIODS, *WHOLE)}
+OF_COMMANDS |= {name: form(text) for name, text in BILLS.items()}
 OF_COMMANDS |= {
     "audit": form(SOUND + "|" + UNSOUND), "import": form(RECEIPT),
     "ruling": form("DONE\n|ALREADY\n"), "dry-run": form(DRY_RUN), "listed": form("(?:(?:DONE|ALREADY)\n)*"),
@@ -440,7 +466,9 @@ OF_DAMAGED = OF_COMMANDS | {
         ("statement", "STATEMENT " + OF_PERIOD[0] + COLUMNS), ("statement-csv", CSV_COLUMNS),
         ("what-if", "WHAT-IF " + OF_PERIOD[0] + "TARIFF [0-9a-f]{64}\n" + COLUMNS),
         ("what-if-csv", WHAT_IF_COLUMNS), ("details", "DETAILS " + OF_PERIOD[0] + DETAIL_COLUMNS),
-        ("details-csv", DETAIL_CSV_COLUMNS),
+        ("details-csv", DETAIL_CSV_COLUMNS), ("bill", "BILL " + OF_PERIOD[0]),
+        ("centre-bill", "BILL CENTRE %s " % NAME + OF_PERIOD[0]),
+        ("bill-csv", OFFICE_BILL_COLUMNS), ("centre-bill-csv", BILL_COLUMNS),
         ("adjustments", "ADJUSTMENTS " + OF_PERIOD[0]), ("disputes", "DISPUTES [0-9]+"),
         ("adjustments-csv", ADJUSTMENT_COLUMNS), ("disputes-csv", DISPUTE_COLUMNS),
         ("periods", "PERIODS [0-9]+"), ("record", "RECORD [0-9a-f]{64}"), ("rulings", "RULINGS"))}

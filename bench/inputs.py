@@ -412,7 +412,7 @@ def other_log(rng):
     return rng.choice((b"x", b"\0", b"\x37")) * rng.choice((1, 40, 41, 42, 55, 56, 57, 5_000))
 
 
-COMMANDS = ("init tariff import close choose adopt statement adjustments details disputes record periods "
+COMMANDS = ("init tariff import close choose adopt statement adjustments details bill disputes record periods "
             "rulings tariff-text upgrade audit trial check explain help serve --help -h --version -V").split()
 WORDS = ("books nothing tariff dump . .. books/ books-wal 0 1 2 3 65535 65536 -1 1e3 0x1 ١ "
          "2024-01-31 2024-02-30 2024-02-29 2024-1-1 --layout --layout=bdw --layout=xyz rdw bdw "
@@ -427,8 +427,8 @@ WORDS += ["", " ", "\n", "é", "x" * 300, "y" * 100_000, "/dev/null/x", "%s%n", 
 # What a command's words are, as often as not: books, a file, a period, a date, a name, a number.
 PLACES = {
     "init": "B", "tariff": "BF", "import": "BF", "close": "BPD", "choose": "BN", "adopt": "B",
-    "statement": "BPO", "details": "BP", "adjustments": "BP", "disputes": "B", "record": "BN", "periods": "B",
-    "rulings": "B", "tariff-text": "BD", "upgrade": "B", "audit": "B", "trial": "",
+    "statement": "BPO", "details": "BP", "bill": "BPO", "adjustments": "BP", "disputes": "B", "record": "BN",
+    "periods": "B", "rulings": "B", "tariff-text": "BD", "upgrade": "B", "audit": "B", "trial": "",
     "check": "F", "explain": "KP", "serve": "B"}
 PLACED = {
     "B": ("books", "books", "books", "dump", "tariff", "nothing", "other", "books-wal", "other-shm",
