@@ -1,17 +1,26 @@
 -- What records cost by another tariff, one record at a time.
 use Rattle.std.proofs.Common.{◌≡◌, ◌∙◌, ℕ, ◌+◌, ◌<◌, ◌≤◌, List, [], ◌∷◌, ◌++◌, map, refl, sym, ap}
 use Rattle.std.proofs.Common.{subst, true, false, cond, Some, None, unwrap_or, arith, length}
+use Rattle.std.proofs.Common.{true≢false}
 use Rattle.std.proofs.Common.{append-nil, append_assoc, length-append}
-use Rattle.std.specs.Prelude.{All, filter, sum_by, Vec, Ok, Err, if◌then◌else◌}
+use Rattle.std.specs.Prelude.{All, filter, sum_by, Vec, Ok, Err, if◌then◌else◌, IsSome, is_some}
+use Rattle.std.specs.declared.cmp.Ordering.{Ordering}
+use Rattle.std.specs.declared.cmp.Ordering.TheVariants.{Less, Equal, Greater}
 use Rattle.std.specs.BTreeMap.{insert_entry, is_at}
 use Rattle.std.specs.FinMap.{entries, get}
 use Rattle.std.specs.Global.{Global}
-use Rattle.std.specs.Map.{lookup}
+use Rattle.std.specs.List.Sorted.{IsStrictlySortedBy}
+use Rattle.std.specs.Map.{lookup, set_value}
+use Rattle.std.specs.Map as map_words
+use Rattle.std.specs.Ordering.{is_eq, match_ordering}
 use Rattle.std.proofs.lemmas.Bool.{le-ltb, lt-ltb}
 use Rattle.std.proofs.lemmas.List.{map-append}
 use Rattle.std.proofs.lemmas.List.Elements.{All-head, All-push, All-tail, filter-append}
 use Rattle.std.proofs.lemmas.List.Sums.{sum_by-append}
 use Rattle.std.proofs.lemmas.List.Sums.{sum_by_push}
+use Rattle.std.proofs.lemmas.Map.{lookup-none}
+use Rattle.std.proofs.lemmas.Map.Entries.{none_below_head}
+use Rattle.std.proofs.lemmas.Map.Keys.{sorted_tail}
 use Rattle.std.proofs.lemmas.Simd.{map-map}
 use Rattle.sqlite_trees.specs.View.{View}
 use Rattle.sqlite_value.specs.Order.{Row}
@@ -21,6 +30,7 @@ use Rattle.book_model.specs.declared.row.ChargeRow.{ChargeRow}
 use Rattle.book_model.specs.declared.row.RowKey.{RowKey}
 use Rattle.book_model.specs.Words.{IsPriced, Terms, by_key, charged_at, key_of, keys_of, most_cost}
 use Rattle.book_model.specs.Words.{most_held, price_by, row_at, rows_of}
+use Rattle.book_model.proofs.RowLemmas.{by_key_total}
 use Rattle.book_core.proofs.KeyedRowLemmas.{keyed_rows-push, length-charged_at-le, row_so_far}
 use Rattle.book_core.proofs.KeyedRowLemmas.{sum_by-charged_at-le}
 use Rattle.book_core.proofs.ListLimits.{priced_fit}
@@ -38,6 +48,31 @@ use Rattle.table_ledger.specs.OtherPrices.{keyed_rows, passes}
 use Rattle.table_ledger.specs.TotalsFit.{FitsPrice}
 use Rattle.table_ledger.specs.declared.count_test.CountTest.{CountTest}
 use Rattle.table_ledger.specs.declared.other_prices.RowSums.{RowSums}
+
+-- a row that is written at a key that is found is where the key's row is put
+pub row_at_found : (key : RowKey) (row : ChargeRow) (rows : List (RowKey × ChargeRow))
+    → IsStrictlySortedBy by_key (map_words.keys_of rows)
+    → IsSome (lookup (is_at (by_key key)) rows)
+    → set_value (is_at (by_key key)) rows row ≡ insert_entry by_key rows key row
+row_at_found key row [] sorted found = absurd (true≢false (sym found))
+row_at_found key row (first ∷ rows) sorted found =
+    by (by_key key first.0) refl found
+    (row_at_found key row rows (sorted_tail by_key first.0 (map_words.keys_of rows) sorted))
+  where
+    by : (order : Ordering) → by_key key first.0 ≡ order
+        → IsSome (cond (is_eq order) (Some first.1) (lookup (is_at (by_key key)) rows))
+        → (IsSome (lookup (is_at (by_key key)) rows)
+        → set_value (is_at (by_key key)) rows row ≡ insert_entry by_key rows key row)
+        → cond (is_eq order) ((first.0, row) ∷ rows)
+        (first ∷ set_value (is_at (by_key key)) rows row)
+        ≡ match_ordering order ((key, row) ∷ first ∷ rows) ((first.0, row) ∷ rows)
+        (first ∷ insert_entry by_key rows key row)
+    by Less is found later =
+        let none = lookup-none (is_at (by_key key)) rows
+        (none_below_head by_key_total key first rows sorted is).1 in
+        absurd (true≢false (sym found ∙ ap is_some none))
+    by Equal is found later = refl
+    by Greater is found later = ap (λ rows. first ∷ rows) (later found)
 
 -- a price joins the row that was found for its key
 pub price_added : (costs : List Priced) (one : Priced) (rows : List (RowKey × ChargeRow))

@@ -1,18 +1,23 @@
--- The details of a period whose records are posted one after another, and the lines that come
--- before them.
-use Rattle.std.proofs.Common.{◌≡◌, ◌∙◌, ◌+◌, ◌<◌, ℕ, ℤ, List, [], ◌∷◌, ◌++◌, ◌&&◌, ◌||◌, Bool}
+-- The details of a period whose records are posted, some at once, and the lines that come before
+-- them.
+use Rattle.std.proofs.Common.{◌≡◌, ◌∙◌, ◌+◌, ◌<◌, ◌≤◌, ℕ, ℤ, List, [], ◌∷◌, ◌++◌, ◌&&◌, ◌||◌, Bool}
 use Rattle.std.proofs.Common.{true, false, true≢false, cond, not, Option, Some, None, inl, inr}
-use Rattle.std.proofs.Common.{is_some, map, refl, sym, ap, subst, take, length, get_or}
+use Rattle.std.proofs.Common.{is_some, map, refl, sym, ap, subst, take, length, get_or, arith}
+use Rattle.std.proofs.Common.{length-append}
 use Rattle.std.proofs.Math.Bool.{or-true}
 use Rattle.std.specs.Prelude.{int_lt, slice_index_or}
-use Rattle.std.specs.FinMap.{contains_key, get}
+use Rattle.std.specs.FinMap.{contains_key, get, same_map}
 use Rattle.std.specs.FinMap.Entries.{is_some-find}
 use Rattle.std.specs.List.{list_any}
+use Rattle.std.specs.List.Sorted.{IsPermutation}
 use Rattle.std.specs.Option.{option_map, option_map_or}
 use Rattle.std.proofs.lemmas.Bool.{and_parts}
+use Rattle.std.proofs.lemmas.Cmp.{nat_list_cmp_total}
 use Rattle.std.proofs.lemmas.List.{map-append, take_more}
 use Rattle.std.proofs.lemmas.List.Folds.{list_any-append}
+use Rattle.std.proofs.lemmas.List.Sorted.{list_any-IsPermutation}
 use Rattle.std.proofs.lemmas.List.Sums.{fold-append}
+use Rattle.std.proofs.lemmas.Map.Lookups.{exact_bytes}
 use Rattle.std.proofs.lemmas.Simd.{map-map}
 use Rattle.sqlite_trees.specs.Tree.{Trees}
 use Rattle.book_core.specs.Effects.{is_after}
@@ -34,10 +39,9 @@ use Rattle.tree_tables.specs.Stored.{signed_name}
 use Rattle.tree_tables.specs.declared.line_rows.StoredLine.{StoredLine}
 use Rattle.tree_tables.proofs.Posting.{posted_shown}
 use Rattle.table_ledger.specs.DetailReads.{seeks}
-use Rattle.table_ledger.specs.Posting.{RestIsPosted, names_in}
-use Rattle.table_ledger.specs.declared.details.Sought.{Sought}
+use Rattle.table_ledger.specs.Posting.{Gathers, RestIsPosted, days_after, names_in}
 use Rattle.table_ledger.proofs.CountTestLemmas.{line_listed}
-use Rattle.table_ledger.proofs.DetailTries.{after_or_named}
+use Rattle.table_ledger.proofs.DetailTries.{after_or_named, is_sought_by}
 use Rattle.table_ledger.proofs.Underway.{Shows}
 
 -- ---- lines
@@ -55,6 +59,31 @@ line_posted day lines i any tables within =
     (map-append (λ (line : StoredLine). line.name) (take i lines) (get_or lines i any ∷ []))
     ∙ fold-append (λ (so_far : Tables) (name : List ℕ). post_row day name so_far) tables
     (names_in (take i lines)) ((get_or lines i any).name ∷ []))
+
+-- and that of one name more
+pub name_posted : (day : ℤ) (names : List (List ℕ)) (i : ℕ) (any : List ℕ) (tables : Tables)
+    → i < length names
+    → post_row day (slice_index_or names i any) (post_each day (take i names) tables)
+    ≡ post_each day (take (i + 1) names) tables
+name_posted day names i any tables within =
+    sym (ap (λ (some : List (List ℕ)). post_each day some tables) (take_more names i any within)
+    ∙ fold-append (λ (so_far : Tables) (name : List ℕ). post_row day name so_far) tables
+    (take i names) (get_or names i any ∷ []))
+
+-- whatever their order
+pub posted_order : (day : ℤ) (names others : List (List ℕ)) (tables : Tables)
+    → IsPermutation names others → post_each day others tables ≡ post_each day names tables
+posted_order day names others tables same =
+    rest_stays day others tables ∙ (λ i. record tables { records = all i })
+    ∙ sym (rest_stays day names tables)
+  where
+    all : (post_each day others tables).records ≡ (post_each day names tables).records
+    all = same_map nat_list_cmp_total exact_bytes (post_each day others tables).records
+        (post_each day names tables).records (λ q.
+        posted_found day others tables q
+        ∙ ap (λ among. cond among (option_map (post_by day) (get tables.records q))
+        (get tables.records q)) (sym (list_any-IsPermutation (is q) names others same))
+        ∙ sym (posted_found day names tables q))
 
 -- a period has a line of a record where its name is among those that are listed
 line_there : (period : ℕ) (tables : Tables) (lines : List StoredLine) (name : List ℕ)
@@ -115,11 +144,6 @@ module _ (period : ℕ) (last : Option ℤ) (day : ℤ) (tables : Tables) (lines
         (sym (posted_found day line_names tables name) ∙ found)
 
 -- ---- details
-
--- the details of a period after one, or all
-abbrev pub days_after : Option ℤ → ℤ → Option Detail → Sought
-days_after last day passed =
-    record { close = last; through = Some day; centre = None; last = passed }
 
 module _ (day : ℤ) (names : List (List ℕ)) (tables : Tables) (detail : Detail)
     (there : IsDetail tables detail)
@@ -226,10 +250,83 @@ posted_none last day tables trees holds = record {
   done = λ detail there between behind. absurd (true≢false behind);
 }
 
--- The next one is found.
-module _ (last : Option ℤ) (day : ℤ) (passed : Option Detail) (found : Detail) (tables : Tables)
-    (trees : Trees) (so_far : PostedSo last day passed tables trees)
-    (finds : Shows trees (λ now. FindsLeast (seeks (days_after last day passed)) now (Some found)))
+-- ---- some at once
+
+-- Names are gathered of the details after one, up to another: each of these has its name among
+-- them, and there are some where another was passed.
+pub record GatheredSo (last : Option ℤ) (day : ℤ) (passed now : Option Detail)
+    (names : List (List ℕ)) (tables : Tables) : Type 0 where
+  pub among : (detail : Detail) → IsDetail tables detail
+      → seeks (days_after last day passed) detail ≡ true → comes_after now detail ≡ false
+      → list_any (is detail.name) names ≡ true
+  pub none : length names ≡ 0 → now ≡ passed
+
+-- none at first
+pub gathered_none : (last : Option ℤ) (day : ℤ) (passed : Option Detail) (tables : Tables)
+    → GatheredSo last day passed passed [] tables
+gathered_none last day passed tables = record {
+  among = λ detail there wanted behind. absurd (true≢false
+      (sym (is_sought_by (days_after last day passed) detail wanted).after ∙ behind));
+  none = λ none. refl;
+}
+
+module _ (last : Option ℤ) (day : ℤ) (passed now : Option Detail) (names : List (List ℕ))
+    (tables : Tables) (so_far : GatheredSo last day passed now names tables)
+  where
+    -- the next one is found
+    pub gathered_on : (found : Detail)
+        → FindsLeast (seeks (days_after last day now)) tables (Some found)
+        → GatheredSo last day passed (Some found) (names ++ found.name ∷ []) tables
+    gathered_on found finds = record {
+      among = λ detail there wanted behind.
+          list_any-append (is detail.name) names (found.name ∷ [])
+          ∙ with_it detail there wanted behind (comes_after now detail) refl;
+      none = λ none.
+          let some = length-append names (found.name ∷ []) in
+          absurd (omega (arith, some, none));
+    }
+      where
+        -- one that does not come after it is it, or one of those before
+        with_it : (detail : Detail) → IsDetail tables detail
+            → seeks (days_after last day passed) detail ≡ true
+            → comes_after (Some found) detail ≡ false → (after : Bool)
+            → comes_after now detail ≡ after
+            → (list_any (is detail.name) names || (is detail.name found.name || false)) ≡ true
+        with_it detail there wanted behind false early =
+            ap (λ b. b || (is detail.name found.name || false))
+            (so_far.among detail there wanted early)
+        with_it detail there wanted behind true after =
+            elim (after_or_named detail found (finds.least detail there
+            (sought_where last day now detail
+            (and_parts (is_day_between last (Some day) detail.priced.day)
+            (comes_after passed detail) wanted).0 ∙ after))) [
+              | inl later ↦ absurd (true≢false (sym later ∙ behind))
+              | inr same ↦
+                  ap (λ b. list_any (is detail.name) names || (b || false))
+                  (ap (is detail.name) (sym same) ∙ is_itself detail.name)
+                  ∙ or-true (list_any (is detail.name) names)
+            ]
+
+    -- none is left
+    pub gathered_all : FindsLeast (seeks (days_after last day now)) tables None
+        → Gathers last day passed now names tables
+    gathered_all finds = record {
+      among = so_far.among;
+      ends = λ none. subst (λ (one : Option Detail).
+          FindsLeast (seeks (days_after last day one)) tables None) (so_far.none none) finds;
+    }
+
+    -- or there are as many as are posted at once
+    pub gathered_full : 1 ≤ length names → Gathers last day passed now names tables
+    gathered_full full = record {
+      among = so_far.among;
+      ends = λ none. absurd (omega (arith, full, none));
+    }
+
+-- They are posted.
+module _ (last : Option ℤ) (day : ℤ) (passed now : Option Detail) (names : List (List ℕ))
+    (tables : Tables) (trees : Trees) (so_far : PostedSo last day passed tables trees)
+    (gathers : Shows trees (Gathers last day passed now names))
   where
     abbrev before : List (List ℕ)
     before = so_far.names
@@ -237,36 +334,30 @@ module _ (last : Option ℤ) (day : ℤ) (passed : Option Detail) (found : Detai
     abbrev at_found : Tables
     at_found = post_each day before tables
 
-    -- one that does not come after it is it, or one of those before
-    among : (detail : Detail) → IsDetail tables detail
+    -- one that does not come after the last of them is one of them, or of those before
+    one_among : (detail : Detail) → IsDetail tables detail
         → is_day_between last (Some day) detail.priced.day ≡ true
-        → comes_after (Some found) detail ≡ false → (after : Bool)
-        → comes_after passed detail ≡ after
-        → (list_any (is detail.name) before || (is detail.name found.name || false)) ≡ true
-    among detail there between behind false early =
-        ap (λ b. b || (is detail.name found.name || false)) (so_far.done detail there between early)
-    among detail there between behind true after =
-        elim (after_or_named detail found ((finds at_found so_far.holds).least detail
+        → comes_after now detail ≡ false → (after : Bool) → comes_after passed detail ≡ after
+        → (list_any (is detail.name) before || list_any (is detail.name) names) ≡ true
+    one_among detail there between behind false early =
+        ap (λ b. b || list_any (is detail.name) names) (so_far.done detail there between early)
+    one_among detail there between behind true after =
+        ap (λ b. list_any (is detail.name) before || b)
+        ((gathers at_found so_far.holds).among detail
         (posted_detail day before tables detail there)
-        (sought_where last day passed detail between ∙ after))) [
-          | inl later ↦ absurd (true≢false (sym later ∙ behind))
-          | inr same ↦
-              ap (λ b. list_any (is detail.name) before || (b || false))
-              (ap (is detail.name) (sym same) ∙ is_itself detail.name)
-              ∙ or-true (list_any (is detail.name) before)
-        ]
+        (sought_where last day passed detail between ∙ after) behind)
+        ∙ or-true (list_any (is detail.name) before)
 
-    -- it is posted
     pub posted_on : (later : Trees)
-        → Shows trees (λ now. Unit {0} → Holds later (post_row day found.name now))
-        → PostedSo last day (Some found) tables later
+        → Shows trees (λ held. Unit {0} → Holds later (post_each day names held))
+        → PostedSo last day now tables later
     posted_on later makes = record {
-      names = before ++ found.name ∷ [];
+      names = before ++ names;
       holds = subst (Holds later)
           (sym (fold-append (λ (one : Tables) (name : List ℕ). post_row day name one) tables before
-          (found.name ∷ [])))
+          names))
           (makes at_found so_far.holds tt);
       done = λ detail there between behind.
-          list_any-append (is detail.name) before (found.name ∷ [])
-          ∙ among detail there between behind (comes_after passed detail) refl;
+          list_any-append (is detail.name) before names
+          ∙ one_among detail there between behind (comes_after passed detail) refl;
     }

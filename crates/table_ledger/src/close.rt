@@ -5,20 +5,23 @@ ghost use Rattle.table_model.specs.Changed.{closed_at};
 ghost use Rattle.table_model.specs.PostedLaws.{PostsTouched};
 ghost use Rattle.table_model.specs.Steps as step;
 ghost use Rattle.tree_tables.specs.States.{state};
-ghost use Rattle.tree_tables.specs.Steps.{Always, Does};
-ghost use Rattle.table_ledger.specs.Posting.{CanClose, RestIsPosted, names_in};
+ghost use Rattle.tree_tables.specs.Steps.{Always, Does, Looks};
+ghost use Rattle.table_ledger.specs.Posting.{CanClose, Gathers, RestIsPosted, names_in};
 ghost use Rattle.table_ledger.specs.Stages.{AttemptsOne};
 
 use crate::commits::commit_written;
 use crate::details::{MOST_STEPS, Sought, next_sought};
 use crate::many::counts_many;
 use crate::summary::Summary;
-use book_core::{LedgerFault, Ruled, is_done};
+use book_core::{Detail, LedgerFault, Ruled, is_done};
 use smf_text::FIRST_DAY;
 use sqlite_trees::error::StoreError;
 use sqlite_trees::store::Store;
 use std::alloc::Global;
 use tree_tables::{Close, StoredLine, TreeTables};
+
+/// The most records that are posted at once: their names take 3.2 MB.
+const MOST_AT_ONCE: usize = 100_000;
 
 /// Posts the records of some lines, one after the other.
 fn post_lines<S: Store>(
@@ -36,10 +39,74 @@ fn post_lines<S: Store>(
     Ok(())
 }
 
-/// Posts the records that are counted and dated after the last close, up to the day, one after the
-/// other. Details do not show what is posted, so none of them is met twice.
+/// Posts the records of some names, one after the other.
+fn post_each<S: Store>(
+    tables: &mut TreeTables<S>,
+    names: &[[u8; 32]],
+    close: &Close,
+) -> Result<(), StoreError>
+    requires { IsDay close.now.through }
+    ensures { Does result (state S.Store tables.old.store) (state S.Store tables.new.store)
+        Always (step.post_each close.now.through names.now) }
+{
+    for name in names {
+        tables.post_record(name, close.through)?;
+    }
+    Ok(())
+}
+
+/// Posts the records of some names in the order of these, so that those of one page come one after
+/// another.
+fn post_names<S: Store>(
+    tables: &mut TreeTables<S>,
+    names: Vec<[u8; 32]>,
+    close: &Close,
+) -> Result<(), StoreError>
+    requires { IsDay close.now.through }
+    ensures { Does result (state S.Store tables.old.store) (state S.Store tables.new.store)
+        Always (step.post_each close.now.through names.items) }
+{
+    let mut names = names;
+    names.sort_unstable();
+    post_each(tables, &names, close)
+}
+
+/// The names of the next details of a period, as many as are posted at once: of those after the
+/// one that was passed, which then is the last of them.
+fn gather_names<S: Store>(
+    tables: &mut TreeTables<S>,
+    alloc: Global,
+    last: Option<i32>,
+    close: &Close,
+    passed: &mut Option<Detail>,
+) -> Result<Vec<[u8; 32]>, StoreError>
+    requires { IsDay close.now.through }
+    ensures { Looks result (state S.Store tables.old.store) (state S.Store tables.new.store)
+        (λ tables names. Gathers last close.now.through passed.old passed.new names.items tables) }
+{
+    let mut names = Vec::new(alloc);
+    'details: while names.len() < MOST_AT_ONCE {
+        let sought = Sought {
+            close: last,
+            through: Some(close.through),
+            centre: None,
+            last: *passed,
+        };
+        let Some(detail) = next_sought(tables, &sought)? else {
+            return Ok(names);
+        };
+        names.push(detail.name)?;
+        *passed = Some(detail);
+    }
+    Ok(names)
+}
+
+/// Posts the records that are counted and dated after the last close, up to the day: as many at
+/// once as memory may hold the names of. Details do not show what is posted, so none of them is met
+/// twice.
 fn post_details<S: Store>(
     tables: &mut TreeTables<S>,
+    alloc: Global,
     last: Option<i32>,
     close: &Close,
 ) -> Result<(), StoreError>
@@ -49,17 +116,11 @@ fn post_details<S: Store>(
 {
     let mut passed = None;
     'details: for _ in 0..MOST_STEPS {
-        let sought = Sought {
-            close: last,
-            through: Some(close.through),
-            centre: None,
-            last: passed,
-        };
-        let Some(detail) = next_sought(tables, &sought)? else {
+        let names = gather_names(tables, alloc, last, close, &mut passed)?;
+        if names.is_empty() {
             return Ok(());
-        };
-        tables.post_record(&detail.name, close.through)?;
-        passed = Some(detail);
+        }
+        post_names(tables, names, close)?;
     }
     // So many are never held.
     Err(StoreError::OutOfMemory)
@@ -79,7 +140,7 @@ fn post_touched<S: Store>(
 {
     let lines = tables.list_lines(alloc, close.period)?;
     post_lines(tables, &lines, close)?;
-    post_details(tables, last, close)
+    post_details(tables, alloc, last, close)
 }
 
 /// Posts what is dated on or before the day of a close.

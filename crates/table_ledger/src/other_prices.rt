@@ -24,7 +24,6 @@ use sqlite_trees::store::Store;
 use sqlite_value::row::Row;
 use std::alloc::{AllocError, Global};
 use std::collections::BTreeMap;
-use std::collections::btree_map::Entry;
 use tariff_rules::{Priced, Tariff, price};
 use tree_tables::{TreeTables, data_of, put_data, read_mark, usage_in};
 
@@ -46,16 +45,14 @@ fn add_price(rows: &mut BTreeMap<RowKey, ChargeRow>, priced: &Priced) -> Result<
         → CostsFit (costs ++ priced.now ∷ []) → error ≡ StoreError.OutOfMemory) }
 {
     let key = key_of(priced);
-    match rows.entry(key)? {
-        Entry::Occupied(found) => {
-            let Some(_) = join_price(found.into_mut(), priced) else {
-                return Err(StoreError::Corrupt);
-            };
-        }
-        Entry::Vacant(place) => {
-            place.insert(first_row(priced));
-        }
+    // Most prices have a row at their key already: it is looked for once, and changed in place.
+    if let Some(row) = rows.get_mut(&key) {
+        let Some(_) = join_price(row, priced) else {
+            return Err(StoreError::Corrupt);
+        };
+        return Ok(());
     }
+    rows.insert(key, first_row(priced))?;
     Ok(())
 }
 

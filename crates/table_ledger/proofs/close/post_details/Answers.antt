@@ -1,6 +1,6 @@
-use Rattle.std.proofs.Common.{Err, refl}
+use Rattle.std.proofs.Common.{◌∙◌, Err, arith, refl, sym, vec_len}
+use Rattle.std.proofs.lemmas.Bool.{eqb-true}
 use Rattle.sqlite_trees.specs.declared.error.StoreError.TheVariants.{OutOfMemory}
-use Rattle.book_model.proofs.DayLemmas.{day_kept}
 use Rattle.tree_tables.specs.States.{state}
 use Rattle.table_ledger.proofs.PostedDetails.{posted_all, posted_none, posted_on}
 use Rattle.table_ledger.proofs.Underway.{under_all, under_blind, under_fail, under_no_more}
@@ -13,35 +13,35 @@ details-init g c =
     under_none start (λ tables holds.
     posted_none c.args.last c.args.close.now.through tables start.view.trees holds)
 
--- the next detail is not found, because the store failed
-pub returns-in_err-detail : goal.returns-in_err-detail
-returns-in_err-detail g c =
-    under_blind c.details.invariant _ c.from_residual.ensures.0 c.in_err-detail.ensures.looks
+-- the next details are not found, because the store failed
+pub returns-in_err-names : goal.returns-in_err-names
+returns-in_err-names g c =
+    under_blind c.details.invariant _ c.from_residual.ensures.0 c.in_err-names.ensures
 
 -- none is left
-pub returns-in_default : goal.returns-in_default
-returns-in_default g c =
-    let through = c.args.close.now.through in
-    let day = day_kept through c.requires in
-    under_all c.details.invariant (rw (day, c.in_default.is) at c.in_ok-detail.ensures.looks)
-    (posted_all c.args.last through c.details.passed)
+pub returns-then-is_empty : goal.returns-then-is_empty
+returns-then-is_empty g c =
+    let names = c.in_ok-names.names in
+    let none = eqb-true (vec_len names) 0 (sym c.is_empty.ensures ∙ c.if-is_empty.true) in
+    let same = names.ok.0 in
+    under_all c.details.invariant c.in_ok-names.ensures
+    (λ tables trees rest so_far gathers.
+    posted_all c.args.last c.args.close.now.through c.details.passed tables trees rest so_far
+    (λ now held. (gathers now held).ends (omega (arith, none, same))))
 
--- its record is not posted
-pub returns-in_err-post_record : goal.returns-in_err-post_record
-returns-in_err-post_record g c =
-    under_fail c.details.invariant _ c.from_residual-in_err-post_record.ensures.0
-    c.in_ok-detail.ensures.looks c.in_err-post_record.ensures.does
+-- their records are not posted
+pub returns-in_err-post_names : goal.returns-in_err-post_names
+returns-in_err-post_names g c =
+    under_fail c.details.invariant _ c.from_residual-in_err-post_names.ensures.0
+    c.in_ok-names.ensures c.in_err-post_names.ensures
 
--- it is
+-- they are
 pub details-preserved : goal.details-preserved
 details-preserved g c =
-    let through = c.args.close.now.through in
-    let day = day_kept through c.requires in
-    under_on c.details.invariant (rw (day, c.in-Some.is) at c.in_ok-detail.ensures.looks)
-    (rw day at c.in_ok-post_record.ensures.does)
-    (λ tables trees later so_far finds makes.
-    posted_on c.args.last through c.details.passed c.in-Some.detail tables trees so_far
-    finds later makes)
+    under_on c.details.invariant c.in_ok-names.ensures c.in_ok-post_names.ensures
+    (λ tables trees later so_far gathers makes.
+    posted_on c.args.last c.args.close.now.through c.details.passed c.gather_names.new.passed
+    c.in_ok-names.names.items tables trees so_far gathers later makes)
 
 -- there are too many
 pub returns : goal.returns

@@ -1,0 +1,11 @@
+use Rattle.std.proofs.Common.{Ok, take}
+use Rattle.table_model.specs.Steps.{post_each}
+use Rattle.tree_tables.specs.States.{state}
+use Rattle.tree_tables.specs.Steps.{Always, Does}
+use Rattle.table_ledger.proofs.close.post_each.Given as goal
+
+-- the records of the names so far are posted
+abbrev pub invariant-loop-name : goal.invariant-loop-name
+invariant-loop-name g l =
+    Does {T = Unit {0}} (Ok tt) (state g.S.Store l.fn.tables.store) (state g.S.Store l.tables.store)
+    Always (post_each l.fn.close.through (take l.name-index l.names))
