@@ -4,6 +4,7 @@ use Rattle.std.proofs.Common.{Option, None, Some, Result, Ok, Err, false}
 use Rattle.std.proofs.Math.Logic.{∥∥₁_elim, ∥∥₁_map, ∥∥₁_prop}
 use Rattle.std.specs.Prelude.{IfOk, IfSome, MatchResult}
 use Rattle.office.specs.declared.repository.RepositoryFault.{RepositoryFault}
+use Rattle.office.specs.declared.repository.RepositoryFault.TheVariants.{Busy}
 use Rattle.office.specs.Shelves.{ComesBy}
 use Rattle.office.proofs.ShelfLemmas.{same_where}
 use Rattle.book_files.specs.Faults.{IsReleased}
@@ -193,3 +194,17 @@ comes_on {A} Came Same (Ok answer) told (inr is) came =
     subst (λ told. ComesBy Came Same told) (sym is) (inl (answer, came))
 comes_on {A} Came Same (Err fault) told (inr is) same =
     subst (λ told. ComesBy Came Same told) (sym is) (inr same)
+
+-- a visit of books that another program was using is as it was
+pub same_in_use : {A : Type 0} (Came : A → Type 0) (Same : Type 0)
+    (answer : Result A RepositoryFault) → answer ≡ Err Busy → ComesBy Came Same answer → Same
+same_in_use Came Same answer is came = subst (λ told. ComesBy Came Same told) is came
+
+-- what came of the last of several openings, before which the visit was as it was first
+pub came_at_last : {V A : Type 0} (Comes : V → V → A → Type 0) (first last left : V) → last ≡ first
+    → (answer told : Result A RepositoryFault) → told ≡ answer
+    → ComesBy (Comes last left) (left ≡ last) answer
+    → ComesBy (Comes first left) (left ≡ first) told
+came_at_last Comes first last left same answer told is came =
+    subst (λ told. ComesBy (Comes first left) (left ≡ first) told) (sym is)
+    (subst (λ one. ComesBy (Comes one left) (left ≡ one) answer) same came)

@@ -5,7 +5,7 @@ use crate::copies::{Copied, CopyFault, copy_at};
 use crate::log::{Log, sync_folder};
 use crate::new_books::beside;
 use crate::repository::{Files, failed, not_looked_through, released, unopened, without_log};
-use book_audit::{Audited, AuditedRepository, Watch};
+use book_audit::{Audited, Watch};
 use book_core::LedgerFault;
 use book_trees::LookFault;
 use office::{Opened, RepositoryFault};
@@ -97,7 +97,7 @@ impl Files<'_> {
         copy: &str,
         watch: &mut W,
     ) -> Result<Audited, RepositoryFault> {
-        let audited = self.audit(begun, watch).answer?;
+        let audited = self.audit_books(begun, watch).answer?;
         if let Audited::Sound(_) = &audited {
             self.expect_none(copy)?;
             fs::rename(self.rt, begun, copy).map_err(|error| failed(&error))?;

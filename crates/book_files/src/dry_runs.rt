@@ -14,8 +14,7 @@ impl Files<'_> {
     /// Visits a copy of the books of a file, made while nobody else has them. They are only read. The
     /// copy lies beside them, and is removed however the visit ends.
     pub(crate) fn try_out_books<V: Visit>(&self, book: &str, visit: &mut V) -> Opened<V::Answer>
-        ensures came { ComesBy (V.Visit.comes visit.old visit.new) (visit.new ≡ visit.old)
-            result.answer }
+        ensures { ComesBy (V.Visit.comes visit.old visit.new) (visit.new ≡ visit.old) result.answer }
     {
         let (log, seed) = match self.begin_with(book) {
             Ok(begun) => begun,

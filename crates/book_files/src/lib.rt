@@ -10,6 +10,7 @@ mod names;
 mod new_books;
 mod repository;
 mod session;
+mod waiting;
 
 pub use books::visit_in;
 pub use copies::{Copied, CopyFault, copy_at, visit_copy_at};

@@ -24,16 +24,18 @@ pub(crate) struct Log<'a> {
 impl<'a> Log<'a> {
     /// The log of a file that is there. It lies beside the file to which a link leads. Opening
     /// makes it, and then syncs the names in the folder to the disk: a folder that refuses this
-    /// refuses it here, before there is a log that would stay. Where the log's name is that of a
-    /// file of books nothing is opened, since they would be taken for the log.
+    /// refuses it here, before there is a log that would stay. Where one is there already another
+    /// program may be at work, which such a sync would hold up each time it is asked. Where the
+    /// log's name is that of a file of books nothing is opened, since they would be taken for it.
     pub(crate) fn of(rt: &'a HostRuntime, book: &str) -> io::Result<Log<'a>> {
         let real = fs::canonicalize(rt, book)?;
         let path = format!(in rt.alloc(); "{}-wal", real.as_str())?;
         let was_there = is_there(rt, path.as_str())?;
-        if was_there && are_books(rt, path.as_str())? {
+        if !was_there {
+            sync_folder(rt, book)?;
+        } else if are_books(rt, path.as_str())? {
             return Err(ErrorKind::AlreadyExists.into());
         }
-        sync_folder(rt, book)?;
         Ok(Log {
             rt,
             path,

@@ -3,14 +3,17 @@
 ghost use Rattle.std.specs.Prelude.{◌≡◌, Err};
 ghost use Rattle.std.specs.IoError.{error_kind};
 ghost use Rattle.book_files.specs.Faults.{IsReleased, file_fault, look_answer, open_fault};
+ghost use Rattle.office.specs.Shelves.{ComesBy};
 
 use crate::log::{Log, begins_as_books};
 use crate::session::{Ended, audit_at, upgrade_at, visit_at};
+use crate::waiting::Visited;
 use book_audit::{Audited, AuditedRepository, Finding, Place, Watch, Wrong};
 use book_core::LedgerFault;
 use book_trees::{LookFault, OpenFault};
 use office::{Opened, Repository, RepositoryFault, Upgraded, Visit};
 use sqlite_disk::{Disk, Unknown};
+use std::cell::Cell;
 use std::hash::{BuildHasher, RandomState};
 use std::io::ErrorKind;
 use std::{fs, io};
@@ -20,12 +23,17 @@ use std::{fs, io};
 #[derive(Drop)]
 pub struct Files<'a> {
     pub(crate) rt: &'a HostRuntime,
+    /// For how many seconds books that another program is using are asked for again.
+    pub(crate) wait: Cell<u16>,
 }
 
 impl<'a> Files<'a> {
-    /// The files that this machine has.
+    /// The files that this machine has. No opening waits.
     pub fn of(rt: &'a HostRuntime) -> Files<'a> {
-        Files { rt }
+        Files {
+            rt,
+            wait: Cell::new(0),
+        }
     }
 
     /// A number that nobody can foresee, for the digests of a store.
@@ -55,6 +63,45 @@ impl<'a> Files<'a> {
         // The last step, since from here on the caller tells of the log.
         log.keep_unused(book)?;
         Ok((log, seed))
+    }
+
+    /// Visits the books of a file that is there. What a ledger left in it is opened at the same
+    /// cost whatever it holds: the whole file is not read. After the visit the books are one file,
+    /// where their log could be brought into it.
+    pub(crate) fn visit_books<V: Visit>(&self, book: &str, visit: &mut V) -> Opened<V::Answer>
+        ensures { ComesBy (V.Visit.comes visit.old visit.new) (visit.new ≡ visit.old) result.answer }
+    {
+        match self.begin_with(book) {
+            Ok((log, seed)) => {
+                let (answer, ended) = visit_at(self.rt, book, seed, Unknown, visit);
+                released(&log, answer, ended)
+            }
+            Err(fault) => without_log(Err(fault)),
+        }
+    }
+
+    /// Brings the books of a file that is there to this form, in one commit. All of its pages are
+    /// looked through first.
+    pub(crate) fn upgrade_books(&self, book: &str) -> Opened<Upgraded> {
+        match self.begin_with(book) {
+            Ok((log, seed)) => {
+                let (upgraded, ended) = upgrade_at(self.rt, book, seed, Unknown);
+                released_upgraded(&log, upgraded, ended)
+            }
+            Err(fault) => without_log(Err(fault)),
+        }
+    }
+
+    /// Audits the whole file: all of its pages, and then each row of its trees. The files are left
+    /// as they were.
+    pub(crate) fn audit_books<W: Watch>(&self, book: &str, watch: &mut W) -> Opened<Audited> {
+        match self.begin_with(book) {
+            Ok((log, seed)) => {
+                let (answer, ended) = audit_at(self.rt, book, seed, Unknown, watch);
+                released(&log, answer, ended)
+            }
+            Err(fault) => without_log(Err(fault)),
+        }
     }
 }
 
@@ -103,6 +150,10 @@ impl Repository for Files<'_> {
 
     ghost shelf = { λ _. unknown file_names };
 
+    fn wait_up_to(&self, seconds: u16) {
+        self.wait.set(seconds);
+    }
+
     /// Says whether the file is there.
     fn expect(&self, book: &str) -> Result<(), RepositoryFault> {
         match fs::exists(self.rt, book) {
@@ -117,55 +168,33 @@ impl Repository for Files<'_> {
         self.make_new(book)
     }
 
-    /// Visits the books of a file that is there. What a ledger left in it is opened at the same
-    /// cost whatever it holds: the whole file is not read. After the visit the books are one file,
-    /// where their log could be brought into it.
+    /// Visits the books of a file that is there, and waits for them.
     fn open<V: Visit>(&mut self, book: &str, visit: &mut V) -> Opened<V::Answer> {
-        match self.begin_with(book) {
-            Ok((log, seed)) => {
-                let (answer, ended) = visit_at(self.rt, book, seed, Unknown, visit);
-                released(&log, answer, ended)
-            }
-            Err(fault) => without_log(Err(fault)),
-        }
+        self.wait_to_visit(Visited::Books, book, visit)
     }
 
-    /// Visits a copy of the books of a file that is there. The copy lies beside them, and is removed
-    /// however the visit ends.
+    /// Visits a copy of the books of a file that is there, and waits for them. The copy lies beside
+    /// them, and is removed however the visit ends.
     fn try_out<V: Visit>(&mut self, book: &str, visit: &mut V) -> Opened<V::Answer> {
-        self.try_out_books(book, visit)
+        self.wait_to_visit(Visited::Copy, book, visit)
     }
 
-    /// Brings the books of a file that is there to this form, in one commit. All of its pages are
-    /// looked through first.
+    /// Brings the books of a file that is there to this form, and waits for them.
     fn upgrade(&mut self, book: &str) -> Opened<Upgraded> {
-        match self.begin_with(book) {
-            Ok((log, seed)) => {
-                let (upgraded, ended) = upgrade_at(self.rt, book, seed, Unknown);
-                released_upgraded(&log, upgraded, ended)
-            }
-            Err(fault) => without_log(Err(fault)),
-        }
+        self.wait_to_upgrade(book)
     }
 }
 
 impl AuditedRepository for Files<'_> {
-    /// Audits the whole file: all of its pages, and then each row of its trees. The files are left
-    /// as they were.
+    /// Audits the whole file, and waits for it.
     fn audit<W: Watch>(&self, book: &str, watch: &mut W) -> Opened<Audited> {
-        match self.begin_with(book) {
-            Ok((log, seed)) => {
-                let (answer, ended) = audit_at(self.rt, book, seed, Unknown, watch);
-                released(&log, answer, ended)
-            }
-            Err(fault) => without_log(Err(fault)),
-        }
+        self.wait_to_audit(book, watch)
     }
 
-    /// Copies the books of a file, and whatever their log holds of them, into one file. They are
-    /// only read.
+    /// Copies the books of a file, and whatever their log holds of them, into one file, and waits
+    /// for them. They are only read.
     fn back_up<W: Watch>(&mut self, book: &str, copy: &str, watch: &mut W) -> Opened<Audited> {
-        self.copy_books(book, copy, watch)
+        self.wait_to_back_up(book, copy, watch)
     }
 }
 

@@ -27,7 +27,8 @@ use crate::repository::{not_looked_through, refused};
 use book_audit::{Audited, Watch};
 use book_core::LedgerFault;
 use book_trees::{
-    Closed, FirstFault, LeftByLedger, OpenFault, create_at, look_through_at, open_at, open_first_at,
+    CACHE_PAGES, Closed, FirstFault, LeftByLedger, OpenFault, create_at, look_through_at, open_at,
+    open_first_at,
 };
 use office::{RepositoryFault, Upgraded, Visit};
 use sqlite_disk::{Disk, Files, Start};
@@ -41,6 +42,14 @@ pub enum Ended<D: Disk> {
     Closed(Closed<D>),
     /// They were not opened. Where there are none another program may have them.
     Refused(Option<Files<D>>),
+}
+
+/// How many pages are kept in memory for a visit that looks at few: 1 MB.
+const BRIEF_PAGES: usize = 256;
+
+/// How many are kept for a visit.
+fn pages_for(is_brief: bool) -> usize {
+    if is_brief { BRIEF_PAGES } else { CACHE_PAGES }
 }
 
 /// Opens the file at the path, visits its books, and closes it. `S` stands for what the files hold:
@@ -78,7 +87,8 @@ pub fn visit_at<S: LeftByLedger, V: Visit>(
         ((held : HoldsBooks (image_at S.Start)) → has_book (trees_held held) ≡ false) ⊥
         (HoldsOurs file_names (image_at S.Start) → Failed)) fault result.1) }
 {
-    match open_at(rt, path, seed, start) {
+    let pages = pages_for(visit.is_brief());
+    match open_at(rt, path, seed, pages, start) {
         Ok(store) => {
             let (answer, closed) = visit_and_close(rt.alloc(), store, visit);
             (answer, Ended::Closed(closed))
@@ -148,7 +158,7 @@ pub fn resume_at<S: LeftByLedger>(
         ((held : HoldsBooks (image_at S.Start)) → has_book (trees_held held) ≡ true) ⊤)
         fault result.1) }
 {
-    match open_at(rt, path, seed, start) {
+    match open_at(rt, path, seed, CACHE_PAGES, start) {
         Ok(store) => {
             let (made, closed) = resume_and_close(rt.alloc(), store);
             (made, Ended::Closed(closed))

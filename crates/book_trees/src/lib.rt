@@ -29,7 +29,7 @@ pub use forms::commit_form;
 pub use integrity::{LookFault, look_through, look_through_at};
 pub use ledger_files::LeftByLedger;
 pub use new_books::{create_at, create_files, open_new_books};
-pub use opening::{open_at, open_files, open_left};
+pub use opening::{CACHE_PAGES, open_at, open_files, open_left};
 pub use outcomes::{finds_each, leaves_books};
 pub use reopening::{close_and_open, crash_and_open, keeps_books};
 pub use schema::books_objects;

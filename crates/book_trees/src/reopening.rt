@@ -13,7 +13,7 @@ ghost use Rattle.tree_tables.specs.Holds.{HasShapes};
 
 use crate::faults::OpenFault;
 use crate::ledger_files::LeftByLedger;
-use crate::opening::open_at;
+use crate::opening::{CACHE_PAGES, open_at};
 use crate::schema::books_objects;
 use crate::unopened::size_of_a_page;
 use sqlite_disk::{Crash, Disk};
@@ -56,7 +56,7 @@ pub fn close_and_open<D: Disk + Drop, S: LeftByLedger>(
         → IsTrue (view old).is_open → (view store).trees ≡ (view old).committed) }
 {
     drop(old.close());
-    match open_at(rt, path, seed, start) {
+    match open_at(rt, path, seed, CACHE_PAGES, start) {
         Ok(store) => Ok(store),
         Err((fault, _)) => Err(fault),
     }

@@ -22,10 +22,10 @@ use Rattle.clap.specs.declared.error.kind.ErrorKind.TheVariants as kind
 use Rattle.command_line.specs.declared.known_commands.KnownCommand.{KnownCommand}
 use Rattle.command_line.specs.Given.{HasWords, HasWordsOf}
 use Rattle.command_line.specs.Known.{command_seen, known_table}
-use Rattle.command_line.specs.Shapes.{app_for}
-use Rattle.command_line.proofs.RowLemmas.{distinct, neither, no_kinds, true_false}
+use Rattle.command_line.specs.Shapes.{app_for, distinct, leaf}
+use Rattle.command_line.proofs.RowLemmas.{neither, no_kinds, true_false}
 use Rattle.command_line.proofs.LevelLemmas.{checks_passed, no_fault}
-use Rattle.command_line.proofs.GivenLemmas.{entered_given, leaf, leaves}
+use Rattle.command_line.proofs.GivenLemmas.{entered_given, leaves}
 
 -- ---- no walk without a fault stops at `help`
 

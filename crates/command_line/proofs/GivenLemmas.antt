@@ -24,8 +24,8 @@ use Rattle.command_line.specs.declared.known_commands.ValueKind.TheVariants as k
 use Rattle.command_line.specs.Given.{HasValue, HasWord, HasWords}
 use Rattle.command_line.specs.Known.{command_seen, value_seen, word_seen}
 use Rattle.command_line.specs.Requests.{IsFlag}
-use Rattle.command_line.specs.Shapes.{parser_of, rule_for, shape_for}
-use Rattle.command_line.proofs.RowLemmas.{In, OwnIn, Takes, distinct, flagged_takes, none_some}
+use Rattle.command_line.specs.Shapes.{above, distinct, leaf, parser_of, rule_for, shape_for}
+use Rattle.command_line.proofs.RowLemmas.{In, OwnIn, Takes, flagged_takes, none_some}
 use Rattle.command_line.proofs.RowLemmas.{own_in, true_false, valued_takes}
 use Rattle.command_line.proofs.LevelLemmas.{HasValueOf, NoFault, default_row, defaulted_has}
 use Rattle.command_line.proofs.LevelLemmas.{no_fault, required_row, row_value, rows_fit}
@@ -43,8 +43,8 @@ kind_given highest (kind.OneOf texts) name rows given =
     subst (λ o. IsSomeAnd o (λ text. list_any (λ one. bytes_eq one text)
     (map (λ t. t.now) texts.now) ≡ true)) (sym given.1)
     (sym (list_any-map (λ one. bytes_eq one given.0) (λ t. t.now) texts.now) ∙ given.3)
-kind_given highest kind.Number name rows given =
-    (given.0, 0, given.2, accepts-Accepts false (parser_of highest kind.Number) given.0 given.3)
+kind_given highest (kind.AtMost most) name rows given =
+    (given.0, 0, given.2, accepts-Accepts false (parser_of highest (kind.AtMost most)) given.0 given.3)
 kind_given highest (kind.UpTo most) name rows given =
     (given.0, 1, given.2, accepts-Accepts false (parser_of highest (kind.UpTo most)) given.0 given.3)
 kind_given highest kind.Rate name rows given =
@@ -120,16 +120,6 @@ words_given s highest (w ∷ ws) i words among alone none =
     )
 
 -- ---- the commands of a table, as building makes them
-
-abbrev above : Text → Shape
-above program = with_leaf_noted (marked_built (record (new_shape program) {
-  has_version = true;
-  subcommand_required = true;
-  is_leaf = false;
-}))
-
-abbrev pub leaf : Text → ℕ → KnownCommand → Shape
-leaf program highest known = built_leaf (inherited (above program) (shape_for highest known))
 
 pub leaves : (program : Text) (highest : ℕ) (table : List KnownCommand)
     → map built_leaf (map (inherited (above program)) (map (shape_for highest) table)

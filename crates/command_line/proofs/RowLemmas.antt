@@ -29,6 +29,7 @@ use Rattle.clap.specs.declared.error.kind.ErrorKind.{ErrorKind}
 use Rattle.clap.specs.declared.error.kind.ErrorKind.TheVariants as kind
 use Rattle.clap.specs.declared.parser.matches.ValueSource.{ValueSource}
 use Rattle.clap.specs.declared.parser.matches.ValueSource.TheVariants.{CommandLine}
+use Rattle.command_line.specs.Shapes.{distinct}
 
 -- ---- kinds of faults
 
@@ -189,11 +190,6 @@ In t (a ∷ rest) = (a ≡ t) ⊎ In t rest
 abbrev pub OwnIn : Rule → List Rule → Type 0
 OwnIn t [] = Unit {0}
 OwnIn t (a ∷ rest) = (bytes_eq a.id t.id ≡ true → a ≡ t) × OwnIn t rest
-
--- no two have one id
-abbrev pub distinct : List Rule → Bool
-distinct [] = true
-distinct (a ∷ rest) = not (list_any (λ b. bytes_eq b.id a.id) rest) && distinct rest
 
 both : (a b : Bool) → (not a && b) ≡ true → (a ≡ false) × (b ≡ true)
 both true b e = absurd (true_false (sym e))

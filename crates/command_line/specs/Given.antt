@@ -27,7 +27,7 @@ abbrev pub HasValue : List Row → Text → ValueSeen → Type 0
 HasValue rows name known.any = IsSome (first_of name rows)
 HasValue rows name (known.among texts) =
     IsSomeAnd (first_of name rows) (λ text. list_any (λ one. bytes_eq one text) texts ≡ true)
-HasValue rows name known.number = HasNumber rows name (pos 65535)
+HasValue rows name (known.at_most most) = HasNumber rows name most
 HasValue rows name (known.up_to most) = HasNumber rows name most
 HasValue rows name known.rate = HasRate rows name
 

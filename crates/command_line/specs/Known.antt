@@ -1,9 +1,10 @@
 -- The table of the commands, and what words are by it.
 use Rattle.std.specs.Prelude.{◌≡◌, ℕ, ℤ, pos, Bool, true, false, List, [], ◌∷◌, Option, map, codes}
+use Rattle.std.specs.List.{list_all}
 use Rattle.std.specs.Prelude.{Result, Ok, Err, IsSomeAnd}
-use Rattle.clap.specs.Faults.{fault_of}
+use Rattle.clap.specs.Faults.{fault_of, is_simple_and_free}
 use Rattle.clap.specs.Kinds.{Kinds, IsAmong}
-use Rattle.clap.specs.Simple.{subcommand_of}
+use Rattle.clap.specs.Simple.{Shape, is_simple, subcommand_of}
 use Rattle.clap.specs.Walk.{Row, Text}
 use Rattle.clap.specs.declared.error.kind.ErrorKind.{ErrorKind}
 use Rattle.clap.specs.declared.error.kind.ErrorKind.TheVariants as error
@@ -16,13 +17,13 @@ use Rattle.command_line.specs.declared.known_commands.ValueKind.{ValueKind}
 use Rattle.command_line.specs.declared.known_commands.ValueKind.TheVariants as kind
 use Rattle.command_line.specs.declared.request.Request.{Request}
 use Rattle.command_line.specs.Requests.{IsRequest}
-use Rattle.command_line.specs.Shapes.{app_for}
+use Rattle.command_line.specs.Shapes.{app_for, distinct, leaf}
 
 -- what a value may be, a word or an option, and a command, as one reads them
 pub data ValueSeen : Type 0 where
   any : ValueSeen
   among : List Text → ValueSeen
-  number : ValueSeen
+  at_most : ℤ → ValueSeen
   up_to : ℤ → ValueSeen
   rate : ValueSeen
 
@@ -38,7 +39,7 @@ pub data WordSeen : Type 0 where
 abbrev pub value_seen : ValueKind → ValueSeen
 value_seen kind.Text = any
 value_seen (kind.OneOf texts) = among (map (λ text. text.now) texts.now)
-value_seen kind.Number = number
+value_seen (kind.AtMost most) = at_most most
 value_seen (kind.UpTo most) = up_to most
 value_seen kind.Rate = rate
 
@@ -57,6 +58,10 @@ command_seen known = (known.name.now, map word_seen known.words.now)
 
 -- ---- the words
 
+-- the highest number of a period, or of what is explained
+abbrev pub most_number : ℤ
+most_number = pos 65535
+
 abbrev pub book : WordSeen
 book = place (codes "book") any
 
@@ -64,7 +69,7 @@ abbrev pub file : WordSeen
 file = place (codes "file") any
 
 abbrev pub period : WordSeen
-period = place (codes "period") number
+period = place (codes "period") (at_most most_number)
 
 abbrev pub date : WordSeen
 date = place (codes "date") any
@@ -84,7 +89,7 @@ number_kind = place (codes "kind") (among (codes "frame" ∷ codes "ledger" ∷ 
     ∷ codes "unsound" ∷ codes "log" ∷ codes "layout" ∷ codes "far" ∷ []))
 
 abbrev pub kind_number : WordSeen
-kind_number = last (codes "number") number (codes "0")
+kind_number = last (codes "number") (at_most most_number) (codes "0")
 
 abbrev pub port : WordSeen
 port = named (codes "port") (up_to (pos 65535))
@@ -114,6 +119,16 @@ csv = flag (codes "csv")
 abbrev pub centre : WordSeen
 centre = maybe (codes "centre") any
 
+-- for how many seconds a command may be asked to wait for books that are in use, and waits unasked
+abbrev pub most_wait : ℤ
+most_wait = pos 3600
+
+abbrev pub usual_wait : Text
+usual_wait = codes "10"
+
+abbrev pub wait : WordSeen
+wait = optional (codes "wait") (at_most most_wait) usual_wait
+
 -- The table of the commands.
 unfoldable pub known_table : List (Text × List WordSeen)
 known_table = (
@@ -122,26 +137,36 @@ known_table = (
 ) ∷
     (codes "check", layouts ∷ quiet ∷ file ∷ []) ∷
     (codes "init", book ∷ []) ∷
-    (codes "tariff", book ∷ file ∷ dry_run ∷ []) ∷
-    (codes "import", book ∷ file ∷ layouts ∷ quiet ∷ []) ∷
-    (codes "close", book ∷ period ∷ date ∷ dry_run ∷ []) ∷
-    (codes "choose", book ∷ digest ∷ names ∷ dry_run ∷ []) ∷
-    (codes "adopt", book ∷ dry_run ∷ []) ∷
-    (codes "statement", book ∷ period ∷ csv ∷ centre ∷ prices ∷ []) ∷
-    (codes "adjustments", book ∷ period ∷ csv ∷ centre ∷ []) ∷
-    (codes "details", book ∷ period ∷ csv ∷ centre ∷ []) ∷
-    (codes "bill", book ∷ period ∷ csv ∷ centre ∷ []) ∷
-    (codes "disputes", book ∷ csv ∷ []) ∷
-    (codes "record", book ∷ record_name ∷ []) ∷
-    (codes "periods", book ∷ []) ∷
-    (codes "rulings", book ∷ []) ∷
-    (codes "tariff-text", book ∷ date ∷ []) ∷
-    (codes "upgrade", book ∷ []) ∷
-    (codes "audit", book ∷ quiet ∷ []) ∷
-    (codes "backup", book ∷ file ∷ quiet ∷ []) ∷
+    (codes "tariff", book ∷ file ∷ dry_run ∷ wait ∷ []) ∷
+    (codes "import", book ∷ file ∷ layouts ∷ quiet ∷ wait ∷ []) ∷
+    (codes "close", book ∷ period ∷ date ∷ dry_run ∷ wait ∷ []) ∷
+    (codes "choose", book ∷ digest ∷ names ∷ dry_run ∷ wait ∷ []) ∷
+    (codes "adopt", book ∷ dry_run ∷ wait ∷ []) ∷
+    (codes "statement", book ∷ period ∷ csv ∷ centre ∷ prices ∷ wait ∷ []) ∷
+    (codes "adjustments", book ∷ period ∷ csv ∷ centre ∷ wait ∷ []) ∷
+    (codes "details", book ∷ period ∷ csv ∷ centre ∷ wait ∷ []) ∷
+    (codes "bill", book ∷ period ∷ csv ∷ centre ∷ wait ∷ []) ∷
+    (codes "page", book ∷ period ∷ wait ∷ []) ∷
+    (codes "disputes", book ∷ csv ∷ wait ∷ []) ∷
+    (codes "record", book ∷ record_name ∷ wait ∷ []) ∷
+    (codes "periods", book ∷ wait ∷ []) ∷
+    (codes "rulings", book ∷ wait ∷ []) ∷
+    (codes "tariff-text", book ∷ date ∷ wait ∷ []) ∷
+    (codes "upgrade", book ∷ wait ∷ []) ∷
+    (codes "audit", book ∷ quiet ∷ wait ∷ []) ∷
+    (codes "backup", book ∷ file ∷ quiet ∷ wait ∷ []) ∷
     (codes "serve", book ∷ port ∷ requests ∷ []) ∷
     (codes "explain", number_kind ∷ kind_number ∷ []) ∷
     []
+
+-- The commands of the program are these; clap finds no fault with their words whatever the program is
+-- called, and no command has two words of one name.
+pub record IsTable (table : List KnownCommand) : Type 0 where
+  pub is : map command_seen table ≡ known_table
+  pub free : (program : Text) (highest : ℕ) → is_simple_and_free (app_for program highest table) ≡ true
+  pub simple : (program : Text) (highest : ℕ) → is_simple (app_for program highest table) ≡ true
+  pub alone : (program : Text) (highest : ℕ)
+      → list_all (λ (shape : Shape). distinct shape.rules) (map (leaf program highest) table) ≡ true
 
 -- help, or the version
 abbrev pub is_help : ErrorKind → Bool

@@ -162,6 +162,8 @@ IsOfBooks name rows (book.Details csv period centre) =
 IsOfBooks name rows (book.Bill form period centre) =
     (name ≡ codes "bill") × IsNumber rows (codes "period") period × IsForm rows form
     × IsCentre rows centre
+IsOfBooks name rows (book.Page period) =
+    (name ≡ codes "page") × IsNumber rows (codes "period") period
 IsOfBooks name rows (book.Disputes csv) =
     (name ≡ codes "disputes") × IsFlag rows (codes "csv") csv
 IsOfBooks name rows (book.Record digest) =
@@ -178,6 +180,15 @@ IsOfBooks name rows (book.BackUp copy quiet) =
 IsOfBooks name rows (book.Serve port requests) =
     (name ≡ codes "serve") × IsNumber rows (codes "port") port
     × IsNumber rows (codes "requests") requests
+
+-- the commands that wait for no books: new ones are not there yet, and a service has a time of its own
+abbrev pub IsAtOnce : Text → Type 0
+IsAtOnce name = (name ≡ codes "init") ⊎ (name ≡ codes "serve")
+
+-- for how many seconds a command waits for books that are in use
+abbrev pub IsWait : Text → List Row → ℕ → Type 0
+IsWait name rows seconds =
+    IsNumber rows (codes "wait") seconds ⊎ (IsAtOnce name × (seconds ≡ 0))
 
 -- the rates of a trial, each of which is 0 where it is left out
 abbrev pub AreRates : List Row → ℕ → ℕ → ℕ → Type 0
@@ -230,8 +241,8 @@ IsOfCommand name rows (request.TrialUnder layout file) =
 IsOfCommand name rows (request.Check dump) = (name ≡ codes "check") × IsDump rows dump
 IsOfCommand name rows (request.Explain kind value) =
     (name ≡ codes "explain") × IsKind rows kind × IsNumber rows (codes "number") value
-IsOfCommand name rows (request.OfBooks path asked) =
-    IsText rows (codes "book") path × IsOfBooks name rows asked
+IsOfCommand name rows (request.OfBooks path wait asked) =
+    IsText rows (codes "book") path × IsWait name rows wait × IsOfBooks name rows asked
 IsOfCommand name rows (request.Unclear why) = IsUnclear name rows why
 
 -- it is only said that a period is not written plainly

@@ -1,8 +1,9 @@
 -- The commands that the program knows, as clap reads them: clap's own words of a command.
-use Rattle.std.specs.Prelude.{◌≡◌, ℕ, pos, true, false, List, [], ◌∷◌, Some, map}
-use Rattle.std.specs.List.{All}
+use Rattle.std.specs.Prelude.{◌≡◌, ◌&&◌, ℕ, pos, Bool, true, false, List, [], ◌∷◌, Some, bytes_eq, map, not}
+use Rattle.std.specs.List.{All, list_any}
 use Rattle.clap.specs.Walk.{Rule, Text, rule_of}
-use Rattle.clap.specs.Simple.{App, Shape, new_rule, new_shape, shape_of}
+use Rattle.clap.specs.Simple.{App, Shape, built_leaf, inherited, marked_built, new_rule, new_shape}
+use Rattle.clap.specs.Simple.{shape_of, with_leaf_noted}
 use Rattle.clap.specs.declared.builder.action.ArgAction.TheVariants.{Set, SetTrue}
 use Rattle.clap.specs.declared.builder.arg.Arg.{Arg}
 use Rattle.clap.specs.declared.builder.command.Command.{Command}
@@ -20,7 +21,7 @@ use Rattle.command_line.specs.declared.known_commands.ValueKind.TheVariants as k
 abbrev pub parser_of : ℕ → ValueKind → ValueParser
 parser_of highest kind.Text = parser.String
 parser_of highest (kind.OneOf texts) = parser.Names texts
-parser_of highest kind.Number = parser.Signed (pos 0) (pos 65535)
+parser_of highest (kind.AtMost most) = parser.Signed (pos 0) most
 parser_of highest (kind.UpTo most) = parser.Signed (pos 1) most
 parser_of highest kind.Rate = parser.Unsigned 0 highest
 
@@ -51,6 +52,22 @@ rule_for highest (word.MaybeLast valued) = value_rule highest valued
 abbrev pub shape_for : ℕ → KnownCommand → Shape
 shape_for highest known =
     record (new_shape known.name.now) { rules = map (rule_for highest) known.words.now }
+
+-- what building makes of a command: the program has a version, and a command has to be named
+abbrev pub above : Text → Shape
+above program = with_leaf_noted (marked_built (record (new_shape program) {
+  has_version = true;
+  subcommand_required = true;
+  is_leaf = false;
+}))
+
+abbrev pub leaf : Text → ℕ → KnownCommand → Shape
+leaf program highest known = built_leaf (inherited (above program) (shape_for highest known))
+
+-- no two rules have one name
+abbrev pub distinct : List Rule → Bool
+distinct [] = true
+distinct (rule ∷ rest) = not (list_any (λ other. bytes_eq other.id rule.id) rest) && distinct rest
 
 -- the program, with a table of its commands
 abbrev pub app_for : Text → ℕ → List KnownCommand → App

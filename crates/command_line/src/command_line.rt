@@ -4,7 +4,7 @@ ghost use Rattle.std.specs.Prelude.{◌≡◌, IfOk, map, string_bytes};
 ghost use Rattle.clap.specs.Values.{kind_of};
 ghost use Rattle.clap.specs.Walk.{rule_of};
 ghost use Rattle.clap.specs.Simple.{app_of, shape_of};
-ghost use Rattle.command_line.specs.Known.{AreReadAs, IsFaultOf};
+ghost use Rattle.command_line.specs.Known.{AreReadAs, IsFaultOf, IsTable};
 ghost use Rattle.command_line.specs.Shapes as spec;
 ghost use Rattle.command_line.specs.Shapes.{AreFor, AreCommandsOf, HasNoGlobals, IsOwn};
 
@@ -27,7 +27,7 @@ fn parser_of<'a>(kind: ValueKind, highest: u32) -> ValueParser<'a>
     match kind {
         ValueKind::Text => ValueParser::String,
         ValueKind::OneOf(texts) => ValueParser::Names(texts),
-        ValueKind::Number => ValueParser::Signed(0, 65_535),
+        ValueKind::AtMost(most) => ValueParser::Signed(0, most),
         ValueKind::UpTo(most) => ValueParser::Signed(1, most),
         ValueKind::Rate => ValueParser::Unsigned(0, u64::from(highest)),
     }
@@ -39,7 +39,7 @@ fn value_arg<'a>(alloc: Global, valued: ValuedArgument, highest: u32) -> Arg<'a>
 {
     Arg::new(alloc, valued.name)
         .value_name(valued.shown)
-        .help(valued.help)
+        .help(valued.help.text())
         .action(ArgAction::Set)
         .value_parser(parser_of(valued.kind, highest))
 }
@@ -51,7 +51,7 @@ fn clap_arg<'a>(alloc: Global, word: Argument, highest: u32) -> Arg<'a>
     match word {
         Argument::Flag { name, help } => Arg::new(alloc, name)
             .long(name)
-            .help(help)
+            .help(help.text())
             .action(ArgAction::SetTrue),
         Argument::InPlace(valued) => value_arg(alloc, valued, highest).required(true),
         Argument::Last(valued, text) => value_arg(alloc, valued, highest).default_value(text),
@@ -124,6 +124,13 @@ fn command_line<'a>(
         .subcommands(commands)
 }
 
+/// The table of the commands. It is read whole here, so that callers need not.
+fn all_commands() -> &'static [KnownCommand]
+    ensures { IsTable result.now }
+{
+    KNOWN_COMMANDS.as_slice()
+}
+
 /// What `clap` says about words that it refuses.
 fn fault_in(alloc: Global, error: &Error) -> ArgumentFault
     ensures said { IsFaultOf (kind_of error.now) result }
@@ -150,7 +157,7 @@ pub fn requested_by<'a>(
 ) -> Result<Request<'a>, ArgumentFault>
     ensures { AreReadAs program.entry.now highest (map string_bytes words.entry.now) result }
 {
-    let Ok(line) = command_line(alloc, program, KNOWN_COMMANDS.as_slice(), highest) else {
+    let Ok(line) = command_line(alloc, program, all_commands(), highest) else {
         return Err(ArgumentFault::Memory);
     };
     match line.try_get_matches_from(words) {

@@ -1,5 +1,7 @@
 //! The commands that the program knows, with their words and options.
 
+use crate::help_texts::Help;
+
 /// A command of the program.
 #[derive(Clone, Copy)]
 pub(crate) struct KnownCommand {
@@ -13,10 +15,7 @@ pub(crate) struct KnownCommand {
 #[derive(Clone, Copy)]
 pub(crate) enum Argument {
     /// An option without a value.
-    Flag {
-        name: &'static str,
-        help: &'static str,
-    },
+    Flag { name: &'static str, help: Help },
     /// A value in its place.
     InPlace(ValuedArgument),
     /// The last value in its place, and its default where it is left out.
@@ -37,7 +36,7 @@ pub(crate) struct ValuedArgument {
     pub(crate) name: &'static str,
     /// What help calls the value.
     pub(crate) shown: &'static str,
-    pub(crate) help: &'static str,
+    pub(crate) help: Help,
     pub(crate) kind: ValueKind,
 }
 
@@ -46,13 +45,19 @@ pub(crate) struct ValuedArgument {
 pub(crate) enum ValueKind {
     Text,
     OneOf(&'static [&'static str]),
-    /// A number below 65,536.
-    Number,
+    /// A number up to this one.
+    AtMost(i64),
     /// A number from 1 to this one.
     UpTo(i64),
     /// A number that is not above the highest rate.
     Rate,
 }
+
+/// The highest number of a period, or of what `explain` explains.
+const MOST_NUMBER: i64 = 65_535;
+
+/// How long a command may be asked to wait for books, in seconds.
+const MOST_WAIT: i64 = 3_600;
 
 /// How many connections one `serve` may be asked to answer.
 const MOST_REQUESTS: i64 = 1_000_000;
@@ -60,70 +65,70 @@ const MOST_REQUESTS: i64 = 1_000_000;
 const BOOK: Argument = Argument::InPlace(ValuedArgument {
     name: "book",
     shown: "BOOK",
-    help: "The file of the books",
+    help: Help::Book,
     kind: ValueKind::Text,
 });
 
 const DUMP: Argument = Argument::InPlace(ValuedArgument {
     name: "file",
     shown: "FILE",
-    help: "The dump",
+    help: Help::Dump,
     kind: ValueKind::Text,
 });
 
 const TARIFF: Argument = Argument::InPlace(ValuedArgument {
     name: "file",
     shown: "FILE",
-    help: "The tariff",
+    help: Help::Tariff,
     kind: ValueKind::Text,
 });
 
 const COPY: Argument = Argument::InPlace(ValuedArgument {
     name: "file",
     shown: "FILE",
-    help: "The file of the copy, which is not there yet",
+    help: Help::Copy,
     kind: ValueKind::Text,
 });
 
 const PERIOD: Argument = Argument::InPlace(ValuedArgument {
     name: "period",
     shown: "PERIOD",
-    help: "The number of the period, from 1",
-    kind: ValueKind::Number,
+    help: Help::Period,
+    kind: ValueKind::AtMost(MOST_NUMBER),
 });
 
 const DATE: Argument = Argument::InPlace(ValuedArgument {
     name: "date",
     shown: "DATE",
-    help: "Its last day, such as 2024-01-31",
+    help: Help::Date,
     kind: ValueKind::Text,
 });
 
 const FIRST_DAY: Argument = Argument::InPlace(ValuedArgument {
     name: "date",
     shown: "DATE",
-    help: "The tariff's first day, such as 2024-01-01",
+    help: Help::FirstDay,
     kind: ValueKind::Text,
 });
 
 const SHA256: Argument = Argument::MaybeLast(ValuedArgument {
     name: "sha256",
     shown: "SHA256",
-    help: "The record's name, as the list of disputes shows it",
+    help: Help::Sha256,
     kind: ValueKind::Text,
 });
 
 const RECORD_NAME: Argument = Argument::InPlace(ValuedArgument {
     name: "sha256",
     shown: "SHA256",
-    help: "The record's name, as details and the lists of disputes and adjustments show it",
+    help: Help::RecordName,
     kind: ValueKind::Text,
 });
 
 const NAMES: Argument = Argument::Maybe(ValuedArgument {
     name: "from",
     shown: "FILE",
-    help: "A list of names in place of SHA256, one a line",
+    help: Help::Names,
     kind: ValueKind::Text,
 });
 
@@ -131,7 +136,7 @@ const LAYOUT: Argument = Argument::Optional(
     ValuedArgument {
         name: "layout",
         shown: "LAYOUT",
-        help: "How the dump's segments are laid out: one after another, or in blocks",
+        help: Help::Layout,
         kind: ValueKind::OneOf(&["rdw", "bdw"]),
     },
     "rdw",
@@ -139,28 +144,38 @@ const LAYOUT: Argument = Argument::Optional(
 
 const QUIET: Argument = Argument::Flag {
     name: "quiet",
-    help: "Shows no progress on a terminal",
+    help: Help::Quiet,
 };
 
 const DRY_RUN: Argument = Argument::Flag {
     name: "dry-run",
-    help: "Prints what would change, and changes nothing",
+    help: Help::DryRun,
 };
 
 const CSV: Argument = Argument::Flag {
     name: "csv",
-    help: "As comma-separated values, without the total",
+    help: Help::Csv,
 };
 
 const DISPUTE_CSV: Argument = Argument::Flag {
     name: "csv",
-    help: "As comma-separated values, a line for each record",
+    help: Help::DisputeCsv,
 };
+
+const WAIT: Argument = Argument::Optional(
+    ValuedArgument {
+        name: "wait",
+        shown: "SECONDS",
+        help: Help::Wait,
+        kind: ValueKind::AtMost(MOST_WAIT),
+    },
+    "10",
+);
 
 const CENTRE: Argument = Argument::Maybe(ValuedArgument {
     name: "centre",
     shown: "CENTRE",
-    help: "Only what is charged to this centre",
+    help: Help::Centre,
     kind: ValueKind::Text,
 });
 
@@ -168,7 +183,7 @@ const CPU: Argument = Argument::Optional(
     ValuedArgument {
         name: "cpu",
         shown: "RATE",
-        help: "Ten-thousandths of the money unit for a CPU second",
+        help: Help::Cpu,
         kind: ValueKind::Rate,
     },
     "0",
@@ -178,7 +193,7 @@ const EXCP: Argument = Argument::Optional(
     ValuedArgument {
         name: "excp",
         shown: "RATE",
-        help: "Ten-thousandths of the money unit for 1,000 blocks",
+        help: Help::Excp,
         kind: ValueKind::Rate,
     },
     "0",
@@ -188,7 +203,7 @@ const RECORD: Argument = Argument::Optional(
     ValuedArgument {
         name: "record",
         shown: "RATE",
-        help: "Ten-thousandths of the money unit for a record",
+        help: Help::Record,
         kind: ValueKind::Rate,
     },
     "0",
@@ -197,35 +212,35 @@ const RECORD: Argument = Argument::Optional(
 const PRICES: Argument = Argument::Maybe(ValuedArgument {
     name: "tariff",
     shown: "FILE",
-    help: "A tariff in place of rates, in force on every day",
+    help: Help::Prices,
     kind: ValueKind::Text,
 });
 
 const OTHER_PRICES: Argument = Argument::Maybe(ValuedArgument {
     name: "tariff",
     shown: "FILE",
-    help: "The same records as they would be charged by this tariff file; nothing is written",
+    help: Help::OtherPrices,
     kind: ValueKind::Text,
 });
 
 const PORT: Argument = Argument::Named(ValuedArgument {
     name: "port",
     shown: "PORT",
-    help: "The port on 127.0.0.1",
+    help: Help::Port,
     kind: ValueKind::UpTo(65_535),
 });
 
 const REQUESTS: Argument = Argument::Named(ValuedArgument {
     name: "requests",
     shown: "NUMBER",
-    help: "How many connections to answer, one at a time",
+    help: Help::Requests,
     kind: ValueKind::UpTo(MOST_REQUESTS),
 });
 
 const NUMBER_KIND: Argument = Argument::InPlace(ValuedArgument {
     name: "kind",
     shown: "KIND",
-    help: "What kind of number it is, or a word that has none",
+    help: Help::NumberKind,
     kind: ValueKind::OneOf(&[
         "frame", "ledger", "tariff", "damaged", "io", "busy", "exists", "word", "unsound", "log",
         "layout", "far",
@@ -236,14 +251,14 @@ const NUMBER: Argument = Argument::Last(
     ValuedArgument {
         name: "number",
         shown: "NUMBER",
-        help: "The number on standard error or in a list; a word has none",
-        kind: ValueKind::Number,
+        help: Help::Number,
+        kind: ValueKind::AtMost(MOST_NUMBER),
     },
     "0",
 );
 
 /// The commands in the order of the program's help.
-pub(crate) static KNOWN_COMMANDS: [KnownCommand; 22] = [
+pub(crate) static KNOWN_COMMANDS: [KnownCommand; 23] = [
     KnownCommand {
         name: "trial",
         about: "Prices a dump from standard input in new books, and prints their statement",
@@ -262,87 +277,92 @@ pub(crate) static KNOWN_COMMANDS: [KnownCommand; 22] = [
     KnownCommand {
         name: "tariff",
         about: "Puts a tariff in force from its first day on",
-        words: &[BOOK, TARIFF, DRY_RUN],
+        words: &[BOOK, TARIFF, DRY_RUN, WAIT],
     },
     KnownCommand {
         name: "import",
         about: "Reads a dump into the books, each record once",
-        words: &[BOOK, DUMP, LAYOUT, QUIET],
+        words: &[BOOK, DUMP, LAYOUT, QUIET, WAIT],
     },
     KnownCommand {
         name: "close",
         about: "Closes the open period through a day",
-        words: &[BOOK, PERIOD, DATE, DRY_RUN],
+        words: &[BOOK, PERIOD, DATE, DRY_RUN, WAIT],
     },
     KnownCommand {
         name: "choose",
         about: "Charges one of several records in dispute with each other, and none of the others",
-        words: &[BOOK, SHA256, NAMES, DRY_RUN],
+        words: &[BOOK, SHA256, NAMES, DRY_RUN, WAIT],
     },
     KnownCommand {
         name: "adopt",
         about: "Adopts identity rule 2, for ever",
-        words: &[BOOK, DRY_RUN],
+        words: &[BOOK, DRY_RUN, WAIT],
     },
     KnownCommand {
         name: "statement",
         about: "Prints what a period charges",
-        words: &[BOOK, PERIOD, CSV, CENTRE, OTHER_PRICES],
+        words: &[BOOK, PERIOD, CSV, CENTRE, OTHER_PRICES, WAIT],
     },
     KnownCommand {
         name: "adjustments",
         about: "Prints what a period adds to closed periods and reverses in them",
-        words: &[BOOK, PERIOD, CSV, CENTRE],
+        words: &[BOOK, PERIOD, CSV, CENTRE, WAIT],
     },
     KnownCommand {
         name: "details",
         about: "Prints each record that a period counts, and what it costs",
-        words: &[BOOK, PERIOD, CSV, CENTRE],
+        words: &[BOOK, PERIOD, CSV, CENTRE, WAIT],
     },
     KnownCommand {
         name: "bill",
         about: "Prints the bill of a centre for a period, or what each centre owes",
-        words: &[BOOK, PERIOD, CSV, CENTRE],
+        words: &[BOOK, PERIOD, CSV, CENTRE, WAIT],
+    },
+    KnownCommand {
+        name: "page",
+        about: "Prints a period as a page for a browser",
+        words: &[BOOK, PERIOD, WAIT],
     },
     KnownCommand {
         name: "disputes",
         about: "Prints the records in dispute",
-        words: &[BOOK, DISPUTE_CSV],
+        words: &[BOOK, DISPUTE_CSV, WAIT],
     },
     KnownCommand {
         name: "record",
         about: "Prints a record, how it was priced, and what became of it",
-        words: &[BOOK, RECORD_NAME],
+        words: &[BOOK, RECORD_NAME, WAIT],
     },
     KnownCommand {
         name: "periods",
         about: "Prints the periods",
-        words: &[BOOK],
+        words: &[BOOK, WAIT],
     },
     KnownCommand {
         name: "rulings",
         about: "Prints the tariffs, the closes, the choices and the adoption",
-        words: &[BOOK],
+        words: &[BOOK, WAIT],
     },
     KnownCommand {
         name: "tariff-text",
         about: "Prints the tariff file that begins on a day, byte for byte",
-        words: &[BOOK, FIRST_DAY],
+        words: &[BOOK, FIRST_DAY, WAIT],
     },
     KnownCommand {
         name: "upgrade",
         about: "Brings books of an older form over to the present one",
-        words: &[BOOK],
+        words: &[BOOK, WAIT],
     },
     KnownCommand {
         name: "audit",
         about: "Audits the whole file of books",
-        words: &[BOOK, QUIET],
+        words: &[BOOK, QUIET, WAIT],
     },
     KnownCommand {
         name: "backup",
         about: "Copies the books to another file, and audits the copy",
-        words: &[BOOK, COPY, QUIET],
+        words: &[BOOK, COPY, QUIET, WAIT],
     },
     KnownCommand {
         name: "serve",

@@ -4,6 +4,7 @@
 
 mod command_line;
 mod fault;
+mod help_texts;
 mod known_commands;
 mod matched_request;
 mod request;

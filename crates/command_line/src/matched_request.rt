@@ -6,7 +6,7 @@ ghost use Rattle.clap.specs.Walk.{first_of};
 ghost use Rattle.command_line.specs.Given.{HasNumber, HasRate, HasWord, HasWords, HasWordsOf};
 ghost use Rattle.command_line.specs.Given.{NoneIs};
 ghost use Rattle.command_line.specs.Known as known;
-ghost use Rattle.command_line.specs.Requests.{IsDump, IsFlag, IsForm, IsKind, IsLayout};
+ghost use Rattle.command_line.specs.Requests.{IsAtOnce, IsDump, IsFlag, IsForm, IsKind, IsLayout};
 ghost use Rattle.command_line.specs.Requests.{IsLeftOut, IsNumber, IsOfBooks, IsOfPeriod};
 ghost use Rattle.command_line.specs.Requests.{IsOfCommand, IsRequest, IsRuling, IsText, is_table};
 ghost use Rattle.command_line.specs.Requests.{rows_in};
@@ -69,7 +69,7 @@ fn change_in<'a>(name: &str, found: &ArgMatches<'a>) -> Option<Request<'a>>
         → NoneIs (codes "trial" ∷ codes "check" ∷ codes "explain" ∷ []) name.now → IsSome result }
 {
     match name {
-        "init" => of_books_in(found, Some(BookRequest::Init)),
+        "init" => at_once_in(found, Some(BookRequest::Init)),
         "tariff" => of_books_in(found, tariff_in(found)),
         "import" => of_books_in(found, import_in(found)),
         "close" => of_books_in(found, close_in(found)),
@@ -94,12 +94,13 @@ fn service_in<'a>(name: &str, found: &ArgMatches<'a>) -> Option<Request<'a>>
         "upgrade" => of_books_in(found, Some(BookRequest::Upgrade)),
         "audit" => of_books_in(found, audit_in(found)),
         "backup" => of_books_in(found, back_up_in(found)),
-        "serve" => of_books_in(found, serve_in(found)),
+        "serve" => at_once_in(found, serve_in(found)),
         _ => list_in(name, found),
     }
 }
 
-/// The records or the bill of a period, what became of a record, the periods, or what was ruled.
+/// The records, the bill or the page of a period, what became of a record, the periods, or what was
+/// ruled.
 fn list_in<'a>(name: &str, found: &ArgMatches<'a>) -> Option<Request<'a>>
     ensures request { IfSome result (IsOfCommand name.now (rows_in found.now)) }
     ensures some { HasWordsOf name.now (rows_in found.now)
@@ -111,6 +112,7 @@ fn list_in<'a>(name: &str, found: &ArgMatches<'a>) -> Option<Request<'a>>
     match name {
         "details" => of_books_in(found, details_in(found)),
         "bill" => of_books_in(found, bill_in(found)),
+        "page" => of_books_in(found, page_in(found)),
         "record" => of_books_in(found, record_in(found)),
         "periods" => of_books_in(found, Some(BookRequest::Periods)),
         "rulings" => of_books_in(found, Some(BookRequest::Rulings)),
@@ -119,15 +121,40 @@ fn list_in<'a>(name: &str, found: &ArgMatches<'a>) -> Option<Request<'a>>
     }
 }
 
-/// The request to books, where there is something asked of them.
+/// The request to books, where there is something asked of them, and how long it waits for them.
 fn of_books_in<'a>(found: &ArgMatches<'a>, asked: Option<BookRequest<'a>>) -> Option<Request<'a>>
     ensures request { (name : _) → IfSome asked.entry (IsOfBooks name (rows_in found.now))
+        → IfSome result (IsOfCommand name (rows_in found.now)) }
+    ensures some { HasWord (rows_in found.now) known.book
+        → HasWord (rows_in found.now) known.wait → IsSome asked.entry → IsSome result }
+{
+    let book = text_in(found, "book")?;
+    let wait = wait_in(found)?;
+    let asked = asked?;
+    Some(Request::OfBooks { book, wait, asked })
+}
+
+/// The request of a command that waits for no books.
+fn at_once_in<'a>(found: &ArgMatches<'a>, asked: Option<BookRequest<'a>>) -> Option<Request<'a>>
+    ensures request { (name : _) → IsAtOnce name
+        → IfSome asked.entry (IsOfBooks name (rows_in found.now))
         → IfSome result (IsOfCommand name (rows_in found.now)) }
     ensures some { HasWord (rows_in found.now) known.book → IsSome asked.entry → IsSome result }
 {
     let book = text_in(found, "book")?;
     let asked = asked?;
-    Some(Request::OfBooks { book, asked })
+    Some(Request::OfBooks {
+        book,
+        wait: 0,
+        asked,
+    })
+}
+
+fn wait_in(found: &ArgMatches<'_>) -> Option<u16>
+    ensures number { IfSome result (IsNumber (rows_in found.now) (codes "wait")) }
+    ensures some { HasWord (rows_in found.now) known.wait → IsSome result }
+{
+    found.get_one("wait")
 }
 
 fn text_in<'a>(found: &ArgMatches<'a>, name: &str) -> Option<&'a str>
@@ -274,7 +301,8 @@ fn ruling_in<'a>(found: &ArgMatches<'_>, ruling: Ruling<'a>) -> Option<BookReque
 fn choice_in<'a>(found: &ArgMatches<'a>) -> Option<Request<'a>>
     ensures request { IfSome result (IsOfCommand (codes "choose") (rows_in found.now)) }
     ensures some { HasWord (rows_in found.now) known.book
-        → HasWord (rows_in found.now) known.dry_run → IsSome result }
+        → HasWord (rows_in found.now) known.dry_run → HasWord (rows_in found.now) known.wait
+        → IsSome result }
 {
     let unclear = Some(Request::Unclear(Unclear::Choice));
     match text_in(found, "sha256") {
@@ -295,7 +323,8 @@ fn listed_in<'a>(found: &ArgMatches<'a>, file: &'a str) -> Option<Request<'a>>
         → IsText (rows_in found.now) (codes "from") file.entry
         → IfSome result (IsOfCommand (codes "choose") (rows_in found.now)) }
     ensures some { HasWord (rows_in found.now) known.book
-        → HasWord (rows_in found.now) known.dry_run → IsSome result }
+        → HasWord (rows_in found.now) known.dry_run → HasWord (rows_in found.now) known.wait
+        → IsSome result }
 {
     if flag_in(found, "dry-run")? {
         Some(Request::Unclear(Unclear::DryRun))
@@ -433,6 +462,14 @@ fn bill_of<'a>(found: &ArgMatches<'a>, form: StatementForm, period: u16) -> Book
         period,
         centre,
     }
+}
+
+fn page_in<'a>(found: &ArgMatches<'_>) -> Option<BookRequest<'a>>
+    ensures asked { IfSome result (IsOfBooks (codes "page") (rows_in found.now)) }
+    ensures some { HasWord (rows_in found.now) known.period → IsSome result }
+{
+    let period = number_in(found, "period")?;
+    Some(BookRequest::Page { period })
 }
 
 fn disputes_in<'a>(found: &ArgMatches<'_>) -> Option<BookRequest<'a>>

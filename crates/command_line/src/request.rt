@@ -164,6 +164,11 @@ pub enum BookRequest<'a> {
         /// The name of the one centre that it is of; None stands for the whole office.
         centre: Option<&'a str>,
     },
+    /// A period printed as a page for a browser.
+    Page {
+        /// The number of the period.
+        period: u16,
+    },
     /// The disputes printed.
     Disputes {
         /// As a table of comma-separated values.
@@ -237,6 +242,8 @@ pub enum Request<'a> {
     OfBooks {
         /// The path of the books.
         book: &'a str,
+        /// For how many seconds they are asked for again while another program uses them.
+        wait: u16,
         asked: BookRequest<'a>,
     },
     /// Nothing that is clear.

@@ -1,5 +1,5 @@
 -- What is done to books that are kept by their names.
-use Rattle.std.proofs.Common.{◌≡◌, ◌∙◌, ℕ, Bool, false, List, [], ◌++◌, refl, sym, subst, inr}
+use Rattle.std.proofs.Common.{◌≡◌, ◌∙◌, ℕ, Bool, false, List, [], ◌++◌, refl, sym, subst, inl, inr}
 use Rattle.std.proofs.Common.{Result, Ok, Err, append_assoc}
 use Rattle.book_model.specs.Words.{Book, Event, Naming, book_after, new_book}
 use Rattle.book_core.specs.Transition.{Transition, NoEvent, Then}
@@ -67,10 +67,10 @@ goes_on First Next One Two Three first next history held =
       now = subst Three (sym (append_assoc late.events early.events history)) late.now;
     }
 
--- nothing, and then nothing
-stays_on : (One Two Three : List Event → Type 0) → GoOn NoEvent One Two → GoOn NoEvent Two Three
-    → GoOn NoEvent One Three
-stays_on One Two Three first next history held =
+-- nothing, and then work
+still_on : (Made : Transition) (One Two Three : List Event → Type 0) → GoOn NoEvent One Two
+    → GoOn Made Two Three → GoOn Made One Three
+still_on Made One Two Three first next history held =
     let early = first history held in
     let still : Two history = subst (λ (events : List Event). Two (events ++ history)) early.made.none early.now in
     next history still
@@ -83,9 +83,29 @@ done_then book First Next one two three first next = record {
   naming = next.naming ∙ first.naming;
   here = goes_on First (Next one.naming) (one.holds book) (two.holds book) (three.holds book) first.here
       (subst (λ naming. GoOn (Next naming) (two.holds book) (three.holds book)) first.naming next.here);
-  elsewhere = λ other apart. stays_on (one.holds other) (two.holds other) (three.holds other)
+  elsewhere = λ other apart. still_on NoEvent (one.holds other) (two.holds other) (three.holds other)
       (first.elsewhere other apart) (next.elsewhere other apart);
 }
+
+-- work after nothing was done
+pub done_after : (book : List ℕ) (Made : Naming → Transition) (one two three : Shelf)
+    → IsUntouched book one two → IsDoneTo book (Made two.naming) two three
+    → IsDoneTo book (Made one.naming) one three
+done_after book Made one two three first next = record {
+  naming = next.naming ∙ first.naming;
+  here = still_on (Made one.naming) (one.holds book) (two.holds book) (three.holds book) first.here
+      (subst (λ naming. GoOn (Made naming) (two.holds book) (three.holds book)) first.naming next.here);
+  elsewhere = λ other apart. still_on NoEvent (one.holds other) (two.holds other) (three.holds other)
+      (first.elsewhere other apart) (next.elsewhere other apart);
+}
+
+-- books that were opened and asked nothing
+pub opened_untouched : {A : Type 0} (book : List ℕ) (old new : Shelf) (answer : Result A RepositoryFault)
+    → IsOpened (λ told. NoEvent) book old new answer → IsUntouched book old new
+opened_untouched book old new (Ok told) done = done
+opened_untouched book old new (Err Unseen) (inl seen) = seen.1
+opened_untouched book old new (Err Unseen) (inr none) = none
+opened_untouched book old new (Err fault) none = none
 
 -- where nothing is known of books
 pub unknown_done : (book : List ℕ) (naming : Naming) (Made : Transition)

@@ -20,6 +20,11 @@ pub trait Visit {
     /// What is so where this comes of it, whatever the books are.
     ghost comes: { Self → Self → Self.Answer → Type 0 };
 
+    /// It is over soon, and looks at few pages: little memory is to be taken for them.
+    fn is_brief(&self) -> bool {
+        false
+    }
+
     /// Does it. The books are closed afterwards.
     fn visit<L: Ledger>(&mut self, books: &mut L) -> Self::Answer
         ensures done { IsTransition (L.seen books.old) (L.seen books.new)
@@ -71,6 +76,10 @@ pub trait Repository {
 
     /// What is known of them.
     ghost shelf: { Self → Shelf };
+
+    /// From now on an opening of books that another program is using asks for them again, for up to
+    /// this many seconds, before it says so.
+    fn wait_up_to(&self, seconds: u16);
 
     /// Says whether there is something with that name.
     fn expect(&self, book: &str) -> Result<(), RepositoryFault>;

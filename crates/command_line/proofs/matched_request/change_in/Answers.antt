@@ -1,20 +1,24 @@
-use Rattle.std.proofs.Common.{subst, sym, refl}
+use Rattle.std.proofs.Common.{inl, refl, subst, sym}
 use Rattle.std.specs.Prelude.{IfSome}
 use Rattle.command_line.specs.Given.{HasWordsOf}
 use Rattle.command_line.specs.Known.{known_table}
 use Rattle.command_line.specs.Requests.{IsOfBooks, IsOfCommand, rows_in}
 use Rattle.command_line.proofs.matched_request.change_in.Goals as goal
 
+pub returns-in-init-clause-request : goal.returns-in-init-clause-request
+returns-in-init-clause-request c =
+    c.at_once_in.ensures.request c.args.name.now (inl c.in-init.is) c.in-init.is
+
 pub returns-in-init-clause-some : goal.returns-in-init-clause-some
 unfolding known_table
 returns-in-init-clause-some c =
     λ has others.
     let words = subst (λ n. HasWordsOf n (rows_in c.args.found.now)) c.in-init.is has in
-    c.of_books_in.ensures.some words.0 refl
+    c.at_once_in.ensures.some words.0 refl
 
 pub returns-in-tariff-clause-request : goal.returns-in-tariff-clause-request
 returns-in-tariff-clause-request c =
-    c.of_books_in-in-tariff.ensures.request c.args.name.now
+    c.of_books_in.ensures.request c.args.name.now
     (subst (λ n. IfSome c.tariff_in.result (IsOfBooks n (rows_in c.args.found.now)))
     (sym c.in-tariff.is) c.tariff_in.ensures.asked)
 
@@ -23,7 +27,7 @@ unfolding known_table
 returns-in-tariff-clause-some c =
     λ has others.
     let words = subst (λ n. HasWordsOf n (rows_in c.args.found.now)) c.in-tariff.is has in
-    c.of_books_in-in-tariff.ensures.some words.0
+    c.of_books_in.ensures.some words.0 words.1.1.1.0
     (c.tariff_in.ensures.some words.1.0 words.1.1.0)
 
 pub returns-in-import-clause-request : goal.returns-in-import-clause-request
@@ -37,7 +41,8 @@ unfolding known_table
 returns-in-import-clause-some c =
     λ has others.
     let words = subst (λ n. HasWordsOf n (rows_in c.args.found.now)) c.in-import.is has in
-    c.of_books_in-in-import.ensures.some words.0 (c.import_in.ensures.some words.1.0 words.1.1.0 words.1.1.1.0)
+    c.of_books_in-in-import.ensures.some words.0 words.1.1.1.1.0
+    (c.import_in.ensures.some words.1.0 words.1.1.0 words.1.1.1.0)
 
 pub returns-in-close-clause-request : goal.returns-in-close-clause-request
 returns-in-close-clause-request c =
@@ -50,7 +55,7 @@ unfolding known_table
 returns-in-close-clause-some c =
     λ has others.
     let words = subst (λ n. HasWordsOf n (rows_in c.args.found.now)) c.in-close.is has in
-    c.of_books_in-in-close.ensures.some words.0
+    c.of_books_in-in-close.ensures.some words.0 words.1.1.1.1.0
     (c.close_in.ensures.some words.1.0 words.1.1.0 words.1.1.1.0)
 
 pub returns-in-choose-clause-request : goal.returns-in-choose-clause-request
@@ -63,7 +68,7 @@ unfolding known_table
 returns-in-choose-clause-some c =
     λ has others.
     let words = subst (λ n. HasWordsOf n (rows_in c.args.found.now)) c.in-choose.is has in
-    c.choice_in.ensures.some words.0 words.1.1.1.0
+    c.choice_in.ensures.some words.0 words.1.1.1.0 words.1.1.1.1.0
 
 pub returns-in-adopt-clause-request : goal.returns-in-adopt-clause-request
 returns-in-adopt-clause-request c =
@@ -75,7 +80,7 @@ unfolding known_table
 returns-in-adopt-clause-some c =
     λ has others.
     let words = subst (λ n. HasWordsOf n (rows_in c.args.found.now)) c.in-adopt.is has in
-    c.of_books_in-in-adopt.ensures.some words.0 (c.ruling_in.ensures.some words.1.0)
+    c.of_books_in-in-adopt.ensures.some words.0 words.1.1.0 (c.ruling_in.ensures.some words.1.0)
 
 pub returns-in_default-clause-some : goal.returns-in_default-clause-some
 returns-in_default-clause-some c =

@@ -17,7 +17,8 @@ unfolding known_table
 returns-in-details-clause-some c =
     λ has others.
     let words = subst (λ n. HasWordsOf n (rows_in c.args.found.now)) c.in-details.is has in
-    c.of_books_in.ensures.some words.0 (c.details_in.ensures.some words.1.0 words.1.1.0)
+    c.of_books_in.ensures.some words.0 words.1.1.1.1.0
+    (c.details_in.ensures.some words.1.0 words.1.1.0)
 
 pub returns-in-bill-clause-request : goal.returns-in-bill-clause-request
 returns-in-bill-clause-request c =
@@ -30,7 +31,21 @@ unfolding known_table
 returns-in-bill-clause-some c =
     λ has others.
     let words = subst (λ n. HasWordsOf n (rows_in c.args.found.now)) c.in-bill.is has in
-    c.of_books_in-in-bill.ensures.some words.0 (c.bill_in.ensures.some words.1.0 words.1.1.0)
+    c.of_books_in-in-bill.ensures.some words.0 words.1.1.1.1.0
+    (c.bill_in.ensures.some words.1.0 words.1.1.0)
+
+pub returns-in-page-clause-request : goal.returns-in-page-clause-request
+returns-in-page-clause-request c =
+    c.of_books_in-in-page.ensures.request c.args.name.now
+    (subst (λ n. IfSome c.page_in.result (IsOfBooks n (rows_in c.args.found.now)))
+    (sym c.in-page.is) c.page_in.ensures.asked)
+
+pub returns-in-page-clause-some : goal.returns-in-page-clause-some
+unfolding known_table
+returns-in-page-clause-some c =
+    λ has others.
+    let words = subst (λ n. HasWordsOf n (rows_in c.args.found.now)) c.in-page.is has in
+    c.of_books_in-in-page.ensures.some words.0 words.1.1.0 (c.page_in.ensures.some words.1.0)
 
 pub returns-in-record-clause-request : goal.returns-in-record-clause-request
 returns-in-record-clause-request c =
@@ -43,21 +58,21 @@ unfolding known_table
 returns-in-record-clause-some c =
     λ has others.
     let words = subst (λ n. HasWordsOf n (rows_in c.args.found.now)) c.in-record.is has in
-    c.of_books_in-in-record.ensures.some words.0 (c.record_in.ensures.some words.1.0)
+    c.of_books_in-in-record.ensures.some words.0 words.1.1.0 (c.record_in.ensures.some words.1.0)
 
 pub returns-in-periods-clause-some : goal.returns-in-periods-clause-some
 unfolding known_table
 returns-in-periods-clause-some c =
     λ has others.
     let words = subst (λ n. HasWordsOf n (rows_in c.args.found.now)) c.in-periods.is has in
-    c.of_books_in-in-periods.ensures.some words.0 refl
+    c.of_books_in-in-periods.ensures.some words.0 words.1.0 refl
 
 pub returns-in-rulings-clause-some : goal.returns-in-rulings-clause-some
 unfolding known_table
 returns-in-rulings-clause-some c =
     λ has others.
     let words = subst (λ n. HasWordsOf n (rows_in c.args.found.now)) c.in-rulings.is has in
-    c.of_books_in-in-rulings.ensures.some words.0 refl
+    c.of_books_in-in-rulings.ensures.some words.0 words.1.0 refl
 
 pub returns-in-text-clause-request : goal.returns-in-text-clause-request
 returns-in-text-clause-request c =
@@ -70,7 +85,7 @@ unfolding known_table
 returns-in-text-clause-some c =
     λ has others.
     let words = subst (λ n. HasWordsOf n (rows_in c.args.found.now)) c.in-text.is has in
-    c.of_books_in-in-text.ensures.some words.0 (c.tariff_text_in.ensures.some words.1.0)
+    c.of_books_in-in-text.ensures.some words.0 words.1.1.0 (c.tariff_text_in.ensures.some words.1.0)
 
 pub returns-in_default-clause-some : goal.returns-in_default-clause-some
 unfolding known_table

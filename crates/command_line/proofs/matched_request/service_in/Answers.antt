@@ -1,4 +1,4 @@
-use Rattle.std.proofs.Common.{refl, subst, sym}
+use Rattle.std.proofs.Common.{inr, refl, subst, sym}
 use Rattle.std.specs.Prelude.{IfSome}
 use Rattle.command_line.specs.Given.{HasWordsOf}
 use Rattle.command_line.specs.Known.{known_table}
@@ -16,7 +16,8 @@ unfolding known_table
 returns-in-statement-clause-some c =
     λ has others.
     let words = subst (λ n. HasWordsOf n (rows_in c.args.found.now)) c.in-statement.is has in
-    c.of_books_in.ensures.some words.0 (c.statement_in.ensures.some words.1.0 words.1.1.0)
+    c.of_books_in.ensures.some words.0 words.1.1.1.1.1.0
+    (c.statement_in.ensures.some words.1.0 words.1.1.0)
 
 pub returns-in-adjustments-clause-request : goal.returns-in-adjustments-clause-request
 returns-in-adjustments-clause-request c =
@@ -29,7 +30,7 @@ unfolding known_table
 returns-in-adjustments-clause-some c =
     λ has others.
     let words = subst (λ n. HasWordsOf n (rows_in c.args.found.now)) c.in-adjustments.is has in
-    c.of_books_in-in-adjustments.ensures.some words.0
+    c.of_books_in-in-adjustments.ensures.some words.0 words.1.1.1.1.0
     (c.adjustments_in.ensures.some words.1.0 words.1.1.0)
 
 pub returns-in-disputes-clause-request : goal.returns-in-disputes-clause-request
@@ -43,14 +44,15 @@ unfolding known_table
 returns-in-disputes-clause-some c =
     λ has others.
     let words = subst (λ n. HasWordsOf n (rows_in c.args.found.now)) c.in-disputes.is has in
-    c.of_books_in-in-disputes.ensures.some words.0 (c.disputes_in.ensures.some words.1.0)
+    c.of_books_in-in-disputes.ensures.some words.0 words.1.1.0
+    (c.disputes_in.ensures.some words.1.0)
 
 pub returns-in-upgrade-clause-some : goal.returns-in-upgrade-clause-some
 unfolding known_table
 returns-in-upgrade-clause-some c =
     λ has others.
     let words = subst (λ n. HasWordsOf n (rows_in c.args.found.now)) c.in-upgrade.is has in
-    c.of_books_in-in-upgrade.ensures.some words.0 refl
+    c.of_books_in-in-upgrade.ensures.some words.0 words.1.0 refl
 
 pub returns-in-audit-clause-request : goal.returns-in-audit-clause-request
 returns-in-audit-clause-request c =
@@ -63,7 +65,7 @@ unfolding known_table
 returns-in-audit-clause-some c =
     λ has others.
     let words = subst (λ n. HasWordsOf n (rows_in c.args.found.now)) c.in-audit.is has in
-    c.of_books_in-in-audit.ensures.some words.0 (c.audit_in.ensures.some words.1.0)
+    c.of_books_in-in-audit.ensures.some words.0 words.1.1.0 (c.audit_in.ensures.some words.1.0)
 
 pub returns-in-backup-clause-request : goal.returns-in-backup-clause-request
 returns-in-backup-clause-request c =
@@ -76,11 +78,12 @@ unfolding known_table
 returns-in-backup-clause-some c =
     λ has others.
     let words = subst (λ n. HasWordsOf n (rows_in c.args.found.now)) c.in-backup.is has in
-    c.of_books_in-in-backup.ensures.some words.0 (c.back_up_in.ensures.some words.1.0 words.1.1.0)
+    c.of_books_in-in-backup.ensures.some words.0 words.1.1.1.0
+    (c.back_up_in.ensures.some words.1.0 words.1.1.0)
 
 pub returns-in-serve-clause-request : goal.returns-in-serve-clause-request
 returns-in-serve-clause-request c =
-    c.of_books_in-in-serve.ensures.request c.args.name.now
+    c.at_once_in.ensures.request c.args.name.now (inr c.in-serve.is)
     (subst (λ n. IfSome c.serve_in.result (IsOfBooks n (rows_in c.args.found.now)))
     (sym c.in-serve.is) c.serve_in.ensures.asked)
 
@@ -89,7 +92,7 @@ unfolding known_table
 returns-in-serve-clause-some c =
     λ has others.
     let words = subst (λ n. HasWordsOf n (rows_in c.args.found.now)) c.in-serve.is has in
-    c.of_books_in-in-serve.ensures.some words.0 (c.serve_in.ensures.some words.1.0 words.1.1.0)
+    c.at_once_in.ensures.some words.0 (c.serve_in.ensures.some words.1.0 words.1.1.0)
 
 pub returns-in_default-clause-some : goal.returns-in_default-clause-some
 returns-in_default-clause-some c =

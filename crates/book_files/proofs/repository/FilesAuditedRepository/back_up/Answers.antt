@@ -4,4 +4,4 @@ use Rattle.book_files.proofs.repository.FilesAuditedRepository.back_up.Goals as 
 
 pub returns-clause-copied : goal.returns-clause-copied
 returns-clause-copied g c =
-    unknown_copied c.args.book.now c.args.copy.now file_names c.copy_books.result.answer
+    unknown_copied c.args.book.now c.args.copy.now file_names c.wait_to_back_up.result.answer

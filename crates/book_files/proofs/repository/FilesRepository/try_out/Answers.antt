@@ -4,5 +4,5 @@ use Rattle.book_files.proofs.repository.FilesRepository.try_out.Goals as goal
 
 pub returns-clause-tried : goal.returns-clause-tried
 returns-clause-tried g c =
-    unknown_tried (g.V.Visit.work file_names c.args.visit.now c.try_out_books.new.visit)
-    c.args.book.now file_names c.try_out_books.result.answer
+    unknown_tried (g.V.Visit.work file_names c.args.visit.now c.wait_to_visit.new.visit)
+    c.args.book.now file_names c.wait_to_visit.result.answer

@@ -1,0 +1,70 @@
+//! What help says of words and options. It stands apart from the table of the commands: that is proved
+//! to be the table of `Known.antt`, byte for byte, and no clause speaks of help.
+
+/// A word or an option whose help it is.
+#[derive(Clone, Copy)]
+pub(crate) enum Help {
+    Book,
+    Dump,
+    Tariff,
+    Copy,
+    Period,
+    Date,
+    FirstDay,
+    Sha256,
+    RecordName,
+    Names,
+    Layout,
+    Quiet,
+    DryRun,
+    Csv,
+    DisputeCsv,
+    Wait,
+    Centre,
+    Cpu,
+    Excp,
+    Record,
+    Prices,
+    OtherPrices,
+    Port,
+    Requests,
+    NumberKind,
+    Number,
+}
+
+impl Help {
+    pub(crate) fn text(self) -> &'static str {
+        match self {
+            Help::Book => "The file of the books",
+            Help::Dump => "The dump",
+            Help::Tariff => "The tariff",
+            Help::Copy => "The file of the copy, which is not there yet",
+            Help::Period => "The number of the period, from 1",
+            Help::Date => "Its last day, such as 2024-01-31",
+            Help::FirstDay => "The tariff's first day, such as 2024-01-01",
+            Help::Sha256 => "The record's name, as the list of disputes shows it",
+            Help::RecordName => {
+                "The record's name, as details and the lists of disputes and adjustments show it"
+            }
+            Help::Names => "A list of names in place of SHA256, one a line",
+            Help::Layout => "How the dump's segments are laid out: one after another, or in blocks",
+            Help::Quiet => "Shows no progress on a terminal",
+            Help::DryRun => "Prints what would change, and changes nothing",
+            Help::Csv => "As comma-separated values, without the total",
+            Help::DisputeCsv => "As comma-separated values, a line for each record",
+            Help::Wait => "How long to wait while another program uses the books, up to 3600",
+            Help::Centre => "Only what is charged to this centre",
+            Help::Cpu => "Ten-thousandths of the money unit for a CPU second",
+            Help::Excp => "Ten-thousandths of the money unit for 1,000 blocks",
+            Help::Record => "Ten-thousandths of the money unit for a record",
+            Help::Prices => "A tariff in place of rates, in force on every day",
+            Help::OtherPrices => {
+                "The same records as they would be charged by this tariff file; nothing is written"
+            }
+            Help::Port => "The port on 127.0.0.1",
+            Help::Requests => "How many connections to answer, one at a time",
+            Help::NumberKind => "What kind of number it is, or a word that has none",
+            Help::Number => "The number on standard error or in a list; a word has none",
+        }
+    }
+}
