@@ -7,6 +7,7 @@ mod centres;
 mod details;
 mod histories;
 mod other_prices;
+mod pages;
 mod records;
 mod runs;
 
@@ -26,6 +27,7 @@ pub use histories::{
     posted_once, wrong_periods_fail,
 };
 pub use other_prices::{what_if, what_ifs_are_aligned};
+pub use pages::page_totals_are_the_reports;
 pub use records::{lives_net, lives_take_turns, prices_are_reckoned, trails_net};
 pub use runs::{
     calls_follow_history, closed_statements_stay, lists_conserve, open_statement_is_first,

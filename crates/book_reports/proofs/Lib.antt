@@ -24,3 +24,4 @@ pub mod BillLineLemmas
 pub mod HeldLemmas
 pub mod KeptTariffLemmas
 pub mod BillLemmas
+pub mod PageLemmas

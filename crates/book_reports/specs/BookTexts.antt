@@ -31,8 +31,9 @@ use Rattle.book_reports.specs.declared.report.Report.TheVariants.{AdjustmentList
 use Rattle.book_reports.specs.declared.report.Report.TheVariants.{DisputeList, DisputeTable}
 use Rattle.book_reports.specs.declared.report.Report.TheVariants.{OfCentre, PeriodList}
 use Rattle.book_reports.specs.declared.report.Report.TheVariants.{Record, RulingList, TariffText}
-use Rattle.book_reports.specs.declared.report.Report.TheVariants.{Bill}
+use Rattle.book_reports.specs.declared.report.Report.TheVariants.{Bill, OfficePage, PeriodPage}
 use Rattle.book_reports.specs.Bills.{bill_answer}
+use Rattle.book_reports.specs.Pages.{office_page_answer, period_page_answer}
 pub use Rattle.book_reports.specs.Shown.{closed_through, closed_through_outcome, shown_by}
 
 -- what a period has of the whole office
@@ -87,6 +88,8 @@ report_answer naming (TariffText day) book = ok_or (tariff_text_on day book.ruli
 report_answer naming (Record name) book =
     shown_by (record_text name) (trail_outcome naming name book).answer
 report_answer naming (Bill form period centre) book = bill_answer naming form period centre book
+report_answer naming OfficePage book = office_page_answer naming book
+report_answer naming (PeriodPage period) book = period_page_answer naming period book
 
 -- what a ledger is asked about one centre
 abbrev pub centre_outcome : Naming → PeriodReport → ℕ → List ℕ → Book → Outcome (List ℕ)

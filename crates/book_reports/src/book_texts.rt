@@ -8,6 +8,7 @@ ghost use Rattle.book_core.specs.Calls.{IsCall};
 ghost use Rattle.book_reports.specs.BookTexts as spec;
 
 use crate::bills::bill_report;
+use crate::pages::{office_page_report, period_page_report};
 use crate::report::{PeriodReport, Report};
 use crate::ruling_texts::{ruling_list, tariff_text};
 use book_core::{Ledger, LedgerFault};
@@ -138,5 +139,7 @@ pub fn report_text<L: Ledger>(
             period,
             centre,
         } => bill_report(alloc, ledger, form, period, centre),
+        Report::OfficePage => office_page_report(alloc, ledger),
+        Report::PeriodPage(period) => period_page_report(alloc, ledger, period),
     }
 }

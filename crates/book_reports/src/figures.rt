@@ -38,7 +38,7 @@ fn number_after(closes: usize) -> u16
 
 /// The period that is open after closes through these days.
 #[tactic(auto, using(book_core::proofs::RulingLemmas::last_found))]
-fn period_after(closes: &[i32]) -> OpenPeriod
+pub(crate) fn period_after(closes: &[i32]) -> OpenPeriod
     ensures period { result ≡ spec.period_after closes.now }
     ensures few { result.number ≤ last_period }
 {
@@ -84,7 +84,7 @@ pub fn rows_of_period<L: Ledger>(
 }
 
 /// The adjustment lines of a period, none where there is no such period.
-fn lines_of_period<L: Ledger>(
+pub(crate) fn lines_of_period<L: Ledger>(
     alloc: Global,
     ledger: &mut L,
     period: u16,

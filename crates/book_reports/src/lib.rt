@@ -13,6 +13,7 @@ mod fault;
 mod figures;
 mod held_back;
 mod output;
+mod pages;
 mod period_days;
 mod receipt_lines;
 mod record_names;

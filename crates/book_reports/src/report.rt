@@ -54,6 +54,10 @@ pub enum Report {
         period: u16,
         centre: Option<Name>,
     },
+    /// The page of the office, for a browser: what each period comes to, the open one first.
+    OfficePage,
+    /// The page of a period, for a browser.
+    PeriodPage(u16),
 }
 
 /// What a period has of the whole office.

@@ -83,6 +83,13 @@ returns-in-RulingList g c = rw c.in-RulingList.is c.ruling_list.ensures
 pub returns-in-Bill : goal.returns-in-Bill
 returns-in-Bill g c = rw c.in-Bill.is c.bill_report.ensures
 
+-- and so are pages
+pub returns-in-OfficePage : goal.returns-in-OfficePage
+returns-in-OfficePage g c = rw c.in-OfficePage.is c.office_page_report.ensures
+
+pub returns-in-PeriodPage : goal.returns-in-PeriodPage
+returns-in-PeriodPage g c = rw c.in-PeriodPage.is c.period_page_report.ensures
+
 pub returns-in-TariffText : goal.returns-in-TariffText
 returns-in-TariffText g c =
     let fits : SFits w32 c.in-TariffText.day = search rules in

@@ -1,0 +1,75 @@
+-- Pages, whose parts are read from one book.
+use Rattle.std.proofs.Common.{◌≡◌, ◌∙◌, ℕ, ◌+◌, ℤ, List, [], ◌∷◌, ◌++◌, length, map, ap, sym, arith}
+use Rattle.std.proofs.Common.{Ok}
+use Rattle.std.proofs.lemmas.List.{map-append}
+use Rattle.std.proofs.lemmas.List.FromFn.{map-range_with_len_more}
+use Rattle.book_model.specs.declared.line.Line.{Line}
+use Rattle.book_model.specs.declared.row.ChargeRow.{ChargeRow}
+use Rattle.book_model.specs.Words.{Book, Disputed, Naming, charges_outcome, disputes_outcome}
+use Rattle.book_model.specs.Words.{periods_outcome}
+use Rattle.page_texts.specs.declared.figures.PeriodFigures.{PeriodFigures}
+use Rattle.page_texts.specs.Figures.{FiguresSeen, figures_of, figures_seen}
+use Rattle.page_texts.specs.OfficePage.{office_page_text}
+use Rattle.page_texts.specs.PeriodPage.{period_page_text}
+use Rattle.report_texts.specs.Figures.{number_after, period_open}
+use Rattle.book_reports.specs.Figures.{lines_outcome, rows_outcome}
+use Rattle.book_reports.specs.Pages.{first_figures, office_page_outcome, page_figures}
+use Rattle.book_reports.specs.Pages.{page_figures_outcome, period_page_outcome}
+use Rattle.book_reports.specs.Shown.{shown_by}
+use Rattle.book_reports.proofs.WritingLemmas.{same_value}
+
+-- a book that has these rows and lines in a period has these figures of it
+pub figures_known : (naming : Naming) (period : ℕ) (rows : List ChargeRow) (lines : List Line)
+    (figures : FiguresSeen) (book : Book) → figures ≡ figures_of rows lines
+    → (rows_outcome period book).answer ≡ Ok rows → (lines_outcome naming period book).answer ≡ Ok lines
+    → (page_figures_outcome naming period book).answer ≡ Ok figures
+figures_known naming period rows lines figures book made has_rows has_lines =
+    (λ i. Ok (figures_of (same_value has_rows i) (same_value has_lines i))) ∙ ap Ok (sym made)
+
+-- of a book: these are its closes, and these the figures of its first periods, so many
+pub record KnowsPeriods (naming : Naming) (closes : List ℤ) (count : ℕ) (periods : List PeriodFigures)
+    (book : Book) : Type 0 where
+  pub closed : (periods_outcome book).answer ≡ Ok closes
+  pub figures : map figures_seen periods ≡ first_figures naming count book
+
+module _ {naming : Naming} {closes : List ℤ} {count : ℕ} {periods : List PeriodFigures} {book : Book}
+    (it : KnowsPeriods naming closes count periods book)
+  where
+    -- one period more
+    pub period_known : (figures : PeriodFigures) (more : List PeriodFigures)
+        → (page_figures_outcome naming (count + 1) book).answer ≡ Ok (figures_seen figures)
+        → more ≡ periods ++ figures ∷ [] → KnowsPeriods naming closes (count + 1) more book
+    period_known figures more said pushed = record {
+      closed = it.closed;
+      figures =
+          ap (map figures_seen) pushed
+          ∙ map-append figures_seen periods (figures ∷ [])
+          ∙ (λ i. it.figures i ++ sym (same_value said) i ∷ [])
+          ∙ sym (map-range_with_len_more (λ period. page_figures naming period book) 1 count (count + 1)
+          (omega arith));
+    }
+
+    -- these are all
+    pub office_known : (page : List ℕ) → count ≡ number_after (length closes)
+        → page ≡ office_page_text closes (map figures_seen periods)
+        → (office_page_outcome naming book).answer ≡ Ok page
+    office_known page all made =
+        let closed = same_value it.closed in
+        let numbered : period_open book ≡ count =
+        ap (λ (days : List ℤ). number_after (length days)) closed ∙ sym all in
+        let shown = ap (λ count. first_figures naming count book) numbered ∙ sym it.figures in
+        (λ i. Ok (office_page_text (closed i) (shown i))) ∙ ap Ok (sym made)
+
+-- the page of a period that has these rows, lines and disputes
+pub page_known : (naming : Naming) (period : ℕ) (closes : List ℤ) (rows : List ChargeRow)
+    (lines : List Line) (disputes : List Disputed) (page : List ℕ) (book : Book)
+    → page ≡ period_page_text period closes rows lines disputes
+    → (charges_outcome period book).answer ≡ Ok rows
+    → (lines_outcome naming period book).answer ≡ Ok lines
+    → (disputes_outcome naming book).answer ≡ Ok disputes
+    → (periods_outcome book).answer ≡ Ok closes
+    → (period_page_outcome naming period book).answer ≡ Ok page
+page_known naming period closes rows lines disputes page book made charged lined disputed closed =
+    (λ i. shown_by (λ rows. period_page_text period (same_value closed i) rows (same_value lined i)
+    (same_value disputed i)) (charged i))
+    ∙ ap Ok (sym made)

@@ -1,0 +1,73 @@
+use Rattle.std.proofs.Common.{◌≡◌, ◌∙◌, ap, arith, length, map, refl, rules, ℤ, List}
+use Rattle.std.proofs.lemmas.Result.{err_from_is_err_and}
+use Rattle.page_texts.specs.Figures.{figures_seen}
+use Rattle.page_texts.specs.OfficePage.{office_page_text}
+use Rattle.report_texts.specs.Figures.{number_after}
+use Rattle.book_reports.specs.declared.figures.OpenPeriod.{OpenPeriod}
+use Rattle.book_reports.proofs.PageLemmas.{office_known, period_known}
+use Rattle.book_reports.proofs.ReadingLemmas.{call_failed}
+use Rattle.book_reports.proofs.ShownLemmas.{answers, answers_none, refused_next, shown, shown_as}
+use Rattle.book_reports.proofs.ShownLemmas.{then_shown, then_stays}
+use Rattle.book_reports.proofs.pages.office_page_report.Goals as goal
+
+pub returns-in_err-closes : goal.returns-in_err-closes
+returns-in_err-closes g c =
+    call_failed c.from_residual.result c.from_residual.ensures.1 (λ book. refl) (λ book. refl)
+    (λ book is. cc is) c.in_err-closes.ensures.days
+
+pub loop-before-init : goal.loop-before-init
+loop-before-init g c =
+    shown_as
+    (λ book said. record {
+      closed = said;
+      figures = ap (map figures_seen) c.new-periods.ensures.items;
+    })
+    (shown (λ book. refl) c.in_ok-closes.ensures.days)
+
+-- the figures of a period are refused
+pub returns-in_err-figures : goal.returns-in_err-figures
+returns-in_err-figures g c =
+    refused_next c.from_residual-in_err-figures.result c.from_residual-in_err-figures.ensures.1
+    (λ book. refl) (λ book. refl) (λ book known is. cc is) c.loop-before.invariant
+    c.in_err-figures.ensures
+
+-- there is no memory for one more
+pub returns-in_err-push : goal.returns-in_err-push
+returns-in_err-push g c =
+    let failed = err_from_is_err_and c.from_residual-in_err-push.result
+    c.from_residual-in_err-push.ensures.1 in
+    rw (failed.1, failed.2)
+    (answers_none (λ book. refl)
+    (then_stays (λ book. refl) c.loop-before.invariant c.in_ok-figures.ensures))
+
+-- one more
+pub loop-before-preserved : goal.loop-before-preserved
+loop-before-preserved g c =
+    let it = c.loop-before.invariant in
+    then_shown (λ book. refl)
+    (λ book known said. period_known known c.in_ok-figures.figures c.push.new.self.items said
+    c.in_ok-push.ensures.items)
+    it (rw it.work.naming at c.in_ok-figures.ensures)
+
+-- or for the page
+pub returns-in_err-page : goal.returns-in_err-page
+returns-in_err-page g c =
+    let failed = err_from_is_err_and c.from_residual-in_err-page.result
+    c.from_residual-in_err-page.ensures.1 in
+    rw (failed.1, failed.2) (answers_none (λ book. refl) c.loop-before.invariant)
+
+-- these are all
+pub returns : goal.returns
+returns g c =
+    let closes = c.in_ok-closes.closes.items in
+    let last : c.period_after-open.result.number ≡ number_after (length closes) =
+    ap (λ (at : OpenPeriod). at.number) c.period_after-open.ensures.period
+    ∙ ap (λ (days : List ℤ). number_after (length days)) c.deref.ensures.value in
+    let few = c.loop-before.auto.before-end in
+    let ended = c.loop-before-test.false in
+    let all : c.loop-before.before ≡ c.period_after-open.result.number = omega (arith, few, ended) in
+    let made : c.into_bytes.result.items
+    ≡ office_page_text closes (map figures_seen c.loop-before.periods.items) = search rules in
+    answers c.into_bytes.result (λ book. refl)
+    (λ book known. office_known known c.into_bytes.result.items (all ∙ last) made)
+    c.loop-before.invariant

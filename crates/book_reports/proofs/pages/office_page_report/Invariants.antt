@@ -1,0 +1,10 @@
+use Rattle.book_reports.proofs.PageLemmas.{KnowsPeriods}
+use Rattle.book_reports.proofs.ShownLemmas.{Shows}
+use Rattle.book_reports.proofs.pages.office_page_report.Given as goal
+
+-- the closes are known, and of the periods so far the figures
+abbrev pub invariant-loop-before : goal.invariant-loop-before
+invariant-loop-before g l =
+    let old = g.L.Ledger.seen l.fn.ledger in
+    Shows old (g.L.Ledger.seen l.ledger)
+    (KnowsPeriods old.naming l.closes.items l.before l.periods.items)

@@ -1,0 +1,75 @@
+use Rattle.std.proofs.Common.{◌≡◌, ap, map, refl, rules}
+use Rattle.std.proofs.lemmas.Result.{err_from_is_err_and}
+use Rattle.book_model.specs.Words.{dispute_shown}
+use Rattle.page_texts.specs.PeriodPage.{period_page_text}
+use Rattle.book_reports.specs.Pages.{page_with}
+use Rattle.book_reports.specs.Shown.{shown_by}
+use Rattle.book_reports.proofs.PageLemmas.{page_known}
+use Rattle.book_reports.proofs.ReadingLemmas.{call_failed}
+use Rattle.book_reports.proofs.ShownLemmas.{answers, answers_none, both_shown, refused_next, shown}
+use Rattle.book_reports.proofs.ShownLemmas.{then_stays}
+use Rattle.book_reports.proofs.pages.period_page_report.Goals as goal
+
+-- the period is not there
+pub returns-in_err-rows : goal.returns-in_err-rows
+returns-in_err-rows g c =
+    let naming = (g.L.Ledger.seen c.args.ledger.now).naming in
+    call_failed c.from_residual.result c.from_residual.ensures.1 (λ book. refl) (λ book. refl)
+    (λ book. ap (shown_by (page_with naming c.args.period book))) c.in_err-rows.ensures.rows
+
+pub returns-in_err-lines : goal.returns-in_err-lines
+returns-in_err-lines g c =
+    refused_next c.from_residual-in_err-lines.result c.from_residual-in_err-lines.ensures.1
+    (λ book. refl) (λ book. refl) (λ book known is. cc is)
+    (shown (λ book. refl) c.in_ok-rows.ensures.rows) c.in_err-lines.ensures.lines
+
+pub returns-in_err-disputes : goal.returns-in_err-disputes
+returns-in_err-disputes g c =
+    refused_next c.from_residual-in_err-disputes.result c.from_residual-in_err-disputes.ensures.1
+    (λ book. refl) (λ book. refl) (λ book known is. cc is)
+    (then_stays (λ book. refl) (shown (λ book. refl) c.in_ok-rows.ensures.rows)
+    c.in_ok-lines.ensures.lines)
+    c.in_err-disputes.ensures.disputes
+
+pub returns-in_err-closes : goal.returns-in_err-closes
+returns-in_err-closes g c =
+    refused_next c.from_residual-in_err-closes.result c.from_residual-in_err-closes.ensures.1
+    (λ book. refl) (λ book. refl) (λ book known is. cc is)
+    (then_stays (λ book. refl)
+    (then_stays (λ book. refl) (shown (λ book. refl) c.in_ok-rows.ensures.rows)
+    c.in_ok-lines.ensures.lines)
+    c.in_ok-disputes.ensures.disputes)
+    c.in_err-closes.ensures.days
+
+-- there is no memory for the page
+pub returns-in_err-page : goal.returns-in_err-page
+returns-in_err-page g c =
+    let failed = err_from_is_err_and c.from_residual-in_err-page.result
+    c.from_residual-in_err-page.ensures.1 in
+    rw (failed.1, failed.2)
+    (answers_none (λ book. refl)
+    (then_stays (λ book. refl)
+    (then_stays (λ book. refl)
+    (then_stays (λ book. refl) (shown (λ book. refl) c.in_ok-rows.ensures.rows)
+    c.in_ok-lines.ensures.lines)
+    c.in_ok-disputes.ensures.disputes)
+    c.in_ok-closes.ensures.days))
+
+-- all were read
+pub returns : goal.returns
+returns g c =
+    let naming = (g.L.Ledger.seen c.args.ledger.now).naming in
+    let rows = shown (λ book. refl) c.in_ok-rows.ensures.rows in
+    let lines = both_shown (λ book. refl) rows (rw rows.work.naming at c.in_ok-lines.ensures.lines) in
+    let disputes = both_shown (λ book. refl) lines
+    (rw lines.work.naming at c.in_ok-disputes.ensures.disputes) in
+    let all = both_shown (λ book. refl) disputes c.in_ok-closes.ensures.days in
+    let made : c.into_bytes.result.items
+    ≡ period_page_text c.args.period c.in_ok-closes.closes.items c.in_ok-rows.rows.items
+    c.in_ok-lines.lines.items (map dispute_shown c.in_ok-disputes.disputes.items) = search rules in
+    answers c.into_bytes.result (λ book. refl)
+    (λ book known. page_known naming c.args.period c.in_ok-closes.closes.items
+    c.in_ok-rows.rows.items c.in_ok-lines.lines.items
+    (map dispute_shown c.in_ok-disputes.disputes.items) c.into_bytes.result.items book made
+    known.first.first.first known.first.first.next known.first.next known.next)
+    all

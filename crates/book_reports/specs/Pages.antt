@@ -1,0 +1,48 @@
+-- The pages of the office and of a period, as a book answers them: both show what its reports show.
+use Rattle.std.specs.Prelude.{ℕ, List, map, Result, Ok}
+use Rattle.std.specs.List.{range_with_len}
+use Rattle.book_model.specs.declared.fault.LedgerFault.{LedgerFault}
+use Rattle.book_model.specs.declared.row.ChargeRow.{ChargeRow}
+use Rattle.book_model.specs.Words.{Book, Naming, Outcome, charges_outcome, disputes_in, no_event}
+use Rattle.page_texts.specs.Figures.{FiguresSeen, figures_of}
+use Rattle.page_texts.specs.OfficePage.{office_page_text}
+use Rattle.page_texts.specs.PeriodPage.{period_page_text}
+use Rattle.report_texts.specs.Figures.{lines_in, period_open, rows_in}
+use Rattle.book_reports.specs.Shown.{shown_by}
+
+-- what the page of the office shows of a period
+abbrev pub page_figures : Naming → ℕ → Book → FiguresSeen
+page_figures naming period book = figures_of (rows_in period book) (lines_in naming period book)
+
+abbrev pub page_figures_outcome : Naming → ℕ → Book → Outcome FiguresSeen
+page_figures_outcome naming period book = no_event (Ok (page_figures naming period book))
+
+-- what it shows of so many periods, from the first one on
+abbrev pub first_figures : Naming → ℕ → Book → List FiguresSeen
+first_figures naming count book =
+    map (λ period. page_figures naming period book) (range_with_len 1 count)
+
+-- the page of the office: all periods, the open one among them
+abbrev pub office_page : Naming → Book → List ℕ
+office_page naming book =
+    office_page_text book.rulings.closes (first_figures naming (period_open book) book)
+
+abbrev pub office_page_answer : Naming → Book → Result (List ℕ) LedgerFault
+office_page_answer naming book = Ok (office_page naming book)
+
+abbrev pub office_page_outcome : Naming → Book → Outcome (List ℕ)
+office_page_outcome naming book = no_event (office_page_answer naming book)
+
+-- the page of a period whose charge rows these are
+abbrev pub page_with : Naming → ℕ → Book → List ChargeRow → List ℕ
+page_with naming period book rows =
+    period_page_text period book.rulings.closes rows (lines_in naming period book)
+    (disputes_in naming book.rulings book.held)
+
+-- what a book answers to it: a period that is not there is refused, as its statement is
+abbrev pub period_page_answer : Naming → ℕ → Book → Result (List ℕ) LedgerFault
+period_page_answer naming period book =
+    shown_by (page_with naming period book) (charges_outcome period book).answer
+
+abbrev pub period_page_outcome : Naming → ℕ → Book → Outcome (List ℕ)
+period_page_outcome naming period book = no_event (period_page_answer naming period book)

@@ -1,0 +1,62 @@
+//! The pages of the office and of a period, which a ledger answers by calls that change nothing: each
+//! is as one call.
+
+ghost use Rattle.book_core.specs.Calls.{IsCall};
+ghost use Rattle.page_texts.specs.Figures.{figures_seen};
+ghost use Rattle.book_reports.specs.Pages as spec;
+
+use crate::figures::{lines_of_period, period_after, rows_of_period};
+use book_core::{Ledger, LedgerFault};
+use page_texts::{PeriodFigures, office_page, period_figures, period_page};
+use std::alloc::Global;
+
+/// What the page of the office shows of a period.
+fn figures_in_period<L: Ledger>(
+    alloc: Global,
+    ledger: &mut L,
+    period: u16,
+) -> Result<PeriodFigures, LedgerFault>
+    ensures { IsCall figures_seen (L.seen ledger.old) (L.seen ledger.new) result
+        (spec.page_figures_outcome (L.seen ledger.old).naming period) }
+{
+    let rows = rows_of_period(alloc, ledger, period)?;
+    let lines = lines_of_period(alloc, ledger, period)?;
+    let figures = period_figures(alloc, &rows, &lines)?;
+    Ok(figures)
+}
+
+/// The page of the office. Of each period no more than its figures is kept in memory.
+pub(crate) fn office_page_report<L: Ledger>(
+    alloc: Global,
+    ledger: &mut L,
+) -> Result<Vec<u8>, LedgerFault>
+    ensures { IsCall (λ text. text.items) (L.seen ledger.old) (L.seen ledger.new) result
+        (spec.office_page_outcome (L.seen ledger.old).naming) }
+{
+    let closes = ledger.periods()?;
+    let open = period_after(&closes);
+    let mut periods = Vec::new(alloc);
+    for before in 0..open.number {
+        let figures = figures_in_period(alloc, ledger, before + 1)?;
+        periods.push(figures)?;
+    }
+    let page = office_page(alloc, &closes, &periods)?;
+    Ok(page.into_bytes())
+}
+
+/// The page of a period.
+pub(crate) fn period_page_report<L: Ledger>(
+    alloc: Global,
+    ledger: &mut L,
+    period: u16,
+) -> Result<Vec<u8>, LedgerFault>
+    ensures { IsCall (λ text. text.items) (L.seen ledger.old) (L.seen ledger.new) result
+        (spec.period_page_outcome (L.seen ledger.old).naming period) }
+{
+    let rows = ledger.charges(period)?;
+    let lines = lines_of_period(alloc, ledger, period)?;
+    let disputes = ledger.disputes()?;
+    let closes = ledger.periods()?;
+    let page = period_page(alloc, period, &closes, &rows, &lines, &disputes)?;
+    Ok(page.into_bytes())
+}

@@ -1,0 +1,7 @@
+-- What is escaped; what keys cost, one row more at a time, and the days among them; names in order;
+-- and rows of periods, the last one first.
+pub mod EscapingLemmas
+pub mod CostLemmas
+pub mod DayLemmas
+pub mod NameLemmas
+pub mod PageLemmas

@@ -1,0 +1,11 @@
+use Rattle.std.proofs.Common.{◌≡◌, ◌∙◌, arith, false, nat_le}
+use Rattle.std.proofs.lemmas.Bool.Decides.{nat_tests}
+use Rattle.page_texts.specs.OfficePage.{legend_rest, most_named}
+use Rattle.page_texts.proofs.legend.push_rest.Goals as goal
+
+pub returns : goal.returns
+unfolding legend_rest
+returns c =
+    let past : nat_le c.args.count most_named ≡ false = grind (arith, nat_tests) in
+    let more = c.as_str.ensures.value ∙ c.in_ok-more.ensures.ok in
+    rw past (rw more at c.push_all.ensures)

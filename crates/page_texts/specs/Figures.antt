@@ -1,0 +1,69 @@
+-- Figures of a period: how many records it counts, what it charges, adds and reverses, and what each
+-- centre costs in it.
+use Rattle.std.specs.Prelude.{ℕ, ℤ, ◌+◌, List, filter, map, sum_by, unwrap_or}
+use Rattle.std.specs.BTreeMap.{is_at}
+use Rattle.std.specs.Map.{lookup}
+use Rattle.std.specs.Ordering.{int_cmp, int_eq}
+use Rattle.book_model.specs.declared.line.Line.{Line}
+use Rattle.book_model.specs.declared.row.ChargeRow.{ChargeRow}
+use Rattle.book_model.specs.Words.{by_bytes, members, same_bytes, set_of}
+use Rattle.report_texts.specs.AdjustmentLists.{charged_amount, reversed_amount, signed_text}
+use Rattle.page_texts.specs.declared.figures.PeriodFigures.{PeriodFigures}
+
+-- what the rows of a centre come to
+abbrev pub cost_of : List ChargeRow → List ℕ → ℕ
+cost_of rows centre =
+    sum_by (λ row. row.amount) (filter (λ row. same_bytes row.centre centre) rows)
+
+-- the centres of rows, each once and in order
+abbrev pub centres_of : List ChargeRow → List (List ℕ)
+centres_of rows = members (set_of by_bytes (map (λ row. row.centre) rows))
+
+-- what each centre costs, in their order
+abbrev pub costs_of : List ChargeRow → List (List ℕ × ℕ)
+costs_of rows = map (λ centre. (centre, cost_of rows centre)) (centres_of rows)
+
+-- what the rows of a day come to
+abbrev pub cost_on : List ChargeRow → ℤ → ℕ
+cost_on rows day = sum_by (λ row. row.amount) (filter (λ row. int_eq row.day day) rows)
+
+-- what each day costs, in their order
+abbrev pub costs_by_day : List ChargeRow → List (ℤ × ℕ)
+costs_by_day rows =
+    map (λ day. (day, cost_on rows day)) (members (set_of int_cmp (map (λ row. row.day) rows)))
+
+-- what a page shows of a period; the costs are those of its centres
+pub record FiguresSeen : Type 0 where
+  pub records : ℕ
+  pub charged : ℕ
+  pub added : ℕ
+  pub reversed : ℕ
+  pub costs : List (List ℕ × ℕ)
+
+abbrev pub figures_seen : PeriodFigures → FiguresSeen
+figures_seen figures = record {
+  records = figures.records;
+  charged = figures.charged;
+  added = figures.added;
+  reversed = figures.reversed;
+  costs = figures.costs.entries;
+}
+
+-- the figures of a period by its charge rows and its adjustment lines: the sums of the statement,
+-- and what its adjustments charge and what they reverse
+abbrev pub figures_of : List ChargeRow → List Line → FiguresSeen
+figures_of rows lines = record {
+  records = sum_by (λ row. row.count) rows;
+  charged = sum_by (λ row. row.amount) rows;
+  added = sum_by charged_amount lines;
+  reversed = sum_by reversed_amount lines;
+  costs = costs_of rows;
+}
+
+-- what is owed: what is charged and added, less what is reversed
+unfoldable pub owed_text : FiguresSeen → List ℕ
+owed_text figures = signed_text (figures.charged + figures.added) figures.reversed
+
+-- what a centre costs, nothing where it is not among them
+abbrev pub cost_among : List (List ℕ × ℕ) → List ℕ → ℕ
+cost_among costs centre = unwrap_or (lookup (is_at (by_bytes centre)) costs) 0

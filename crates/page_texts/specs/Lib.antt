@@ -1,0 +1,14 @@
+-- Read in this order: how texts come into a page, its pieces, the figures of a period and its days,
+-- bars, what every page begins and ends with, the page of the office, and that of a period by its
+-- parts.
+pub mod Escaping
+pub mod Markup
+pub mod Figures
+pub mod Closes
+pub mod Bars
+pub mod Frame
+pub mod OfficePage
+pub mod PeriodHead
+pub mod PeriodPictures
+pub mod PeriodTables
+pub mod PeriodPage

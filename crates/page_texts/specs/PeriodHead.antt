@@ -1,0 +1,43 @@
+-- The head of a period's page, and its foot with the links.
+use Rattle.std.specs.Prelude.{ℕ, ℤ, List, [], ◌∷◌, ◌++◌, codes, flat_map, Option}
+use Rattle.std.specs.Fmt.{decimal}
+use Rattle.std.specs.List.{concat}
+use Rattle.report_texts.specs.Columns.{amount_text}
+use Rattle.report_texts.specs.Periods.{head_text}
+use Rattle.page_texts.specs.Figures.{FiguresSeen, owed_text}
+
+-- the title
+unfoldable pub period_title : ℕ → List ℕ
+period_title period = codes "Period " ++ decimal period
+
+-- what stands above the parts of the page: under its title whether the period is open, and its sums
+unfoldable pub period_head : List ℕ → Option ℤ → FiguresSeen → List ℕ
+period_head title through figures =
+    concat
+    (codes "<header>\n<p><a href='/'>Office</a></p>\n<h1>" ∷ title
+    ∷ codes "</h1>\n<p>" ∷ head_text through
+    ∷ codes "</p>\n</header>\n<dl>\n<div><dt>Charged</dt><dd>" ∷ amount_text figures.charged
+    ∷ codes "</dd></div>\n<div><dt>Added</dt><dd>" ∷ amount_text figures.added
+    ∷ codes "</dd></div>\n<div><dt>Reversed</dt><dd>" ∷ amount_text figures.reversed
+    ∷ codes "</dd></div>\n<div><dt>Owed</dt><dd>" ∷ owed_text figures
+    ∷ codes "</dd></div>\n</dl>\n" ∷ [])
+
+-- a link to a report on a period, by the report's path
+unfoldable pub report_link : ℕ → List ℕ → List ℕ
+report_link period path =
+    concat
+    (codes "<a href='/" ∷ path ∷ codes "/" ∷ decimal period ∷ codes "'>" ∷ path
+    ∷ codes "</a>\n" ∷ [])
+
+-- the reports on a period as texts and as comma-separated values
+abbrev pub report_paths : List (List ℕ)
+report_paths =
+    codes "statement" ∷ codes "statement-csv" ∷ codes "adjustments" ∷ codes "adjustments-csv"
+    ∷ codes "details" ∷ codes "details-csv" ∷ []
+
+-- the links to them and back, and the end of the page
+unfoldable pub period_foot : ℕ → List ℕ
+period_foot period =
+    codes "<nav aria-label='Texts'>\n<a href='/'>office</a>\n"
+    ++ flat_map (report_link period) report_paths
+    ++ codes "</nav>\n</main>\n</body>\n</html>\n"

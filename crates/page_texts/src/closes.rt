@@ -1,0 +1,33 @@
+//! The days of a period, by the days that periods were closed through.
+
+ghost use Rattle.std.specs.Prelude.{◌≡◌, All};
+ghost use Rattle.std.specs.Option.{ForSome};
+ghost use Rattle.book_model.specs.Words.{IsDay};
+ghost use Rattle.page_texts.specs.Closes as spec;
+
+/// The day that the period of a number was closed through, if it was.
+pub(crate) fn close_of(closes: &[i32], period: usize) -> Option<i32>
+    requires { All IsDay closes.now }
+    ensures close { result ≡ spec.close_of period closes.now }
+    ensures day { ForSome result IsDay }
+{
+    if period == 0 {
+        return None;
+    }
+    closes.get(period - 1).copied()
+}
+
+/// A day that is later than the close before a period, if there was one, and no later than its own.
+pub(crate) fn is_between(before: Option<i32>, through: Option<i32>, day: i32) -> bool
+    ensures { result ≡ spec.is_between before through day }
+{
+    let is_after = match before {
+        Some(close) => close < day,
+        None => true,
+    };
+    let is_through = match through {
+        Some(close) => day <= close,
+        None => true,
+    };
+    is_after && is_through
+}

@@ -1,0 +1,104 @@
+//! Figures of a period: what it comes to, and what each centre and each day costs in it.
+
+ghost use Rattle.std.specs.Prelude.{◌≡◌, IfOk, string_bytes};
+ghost use Rattle.book_model.specs.Words.{AreLines, AreRows};
+ghost use Rattle.page_texts.specs.Figures as spec;
+
+use crate::amounts::signed_text;
+use book_model::{ChargeRow, Line};
+use report_texts::figures_of;
+use smf_text::Name;
+use std::alloc::{AllocError, Global};
+use std::collections::BTreeMap;
+
+/// What a period comes to, and what each centre costs in it. Amounts are in ten-thousandths of the
+/// money unit.
+#[derive(Drop)]
+pub struct PeriodFigures {
+    /// How many records it counts.
+    pub records: u64,
+    /// What its statement charges.
+    pub charged: u64,
+    /// What its adjustments charge.
+    pub added: u64,
+    /// What they reverse.
+    pub reversed: u64,
+    /// What each centre is charged by the statement.
+    pub costs: BTreeMap<Name, u64>,
+}
+
+/// What each centre costs, in their order.
+fn costs_of(alloc: Global, rows: &[ChargeRow]) -> Result<BTreeMap<Name, u64>, AllocError>
+    requires { AreRows rows.now }
+    ensures { IfOk result (λ costs. costs.entries ≡ spec.costs_of rows.now) }
+{
+    let mut costs = BTreeMap::new(alloc);
+    for row in rows {
+        let cost = costs.entry(row.centre)?.or_insert(0);
+        *cost += row.amount;
+    }
+    Ok(costs)
+}
+
+/// The same as a list.
+pub(crate) fn centre_costs(
+    alloc: Global,
+    rows: &[ChargeRow],
+) -> Result<Vec<(Name, u64)>, AllocError>
+    requires { AreRows rows.now }
+    ensures { IfOk result (λ costs. costs.items ≡ spec.costs_of rows.now) }
+{
+    costs_of(alloc, rows)?.into_iter().collect(alloc)
+}
+
+/// What each day costs, in their order.
+pub(crate) fn day_costs(alloc: Global, rows: &[ChargeRow]) -> Result<Vec<(i32, u64)>, AllocError>
+    requires { AreRows rows.now }
+    ensures { IfOk result (λ costs. costs.items ≡ spec.costs_by_day rows.now) }
+{
+    let mut costs = BTreeMap::new(alloc);
+    for row in rows {
+        let cost = costs.entry(row.day)?.or_insert(0);
+        *cost += row.amount;
+    }
+    costs.into_iter().collect(alloc)
+}
+
+/// The figures of a period, by all its charge rows and adjustment lines.
+pub fn period_figures(
+    alloc: Global,
+    rows: &[ChargeRow],
+    lines: &[Line],
+) -> Result<PeriodFigures, AllocError>
+    requires rows { AreRows rows.now }
+    requires lines { AreLines lines.now }
+    ensures { IfOk result (λ figures.
+        spec.figures_seen figures ≡ spec.figures_of rows.now lines.now) }
+{
+    let sums = figures_of(rows, lines, 0);
+    let costs = costs_of(alloc, rows)?;
+    Ok(PeriodFigures {
+        records: sums.records,
+        charged: sums.statement,
+        added: sums.charged,
+        reversed: sums.reversed,
+        costs,
+    })
+}
+
+/// What is owed: what is charged and added, less what is reversed.
+#[tactic(auto, unfolding(crate::specs::Figures::owed_text))]
+pub(crate) fn owed_text(alloc: Global, figures: &PeriodFigures) -> Result<String, AllocError>
+    ensures { IfOk result (λ text.
+        string_bytes text ≡ spec.owed_text (spec.figures_seen figures.now)) }
+{
+    let charged = u128::from(figures.charged) + u128::from(figures.added);
+    signed_text(alloc, charged, figures.reversed)
+}
+
+/// What a centre costs, nothing where it is not among them.
+pub(crate) fn cost_among(costs: &BTreeMap<Name, u64>, centre: Name) -> u64
+    ensures { result ≡ spec.cost_among costs.now.entries centre }
+{
+    costs.get(&centre).copied().unwrap_or(0)
+}

@@ -1,0 +1,25 @@
+//! The pages of the office as HTML, byte for byte: of all its periods, and of one of them.
+#![tactic(auto)]
+
+mod amounts;
+mod bars;
+mod centres;
+mod closes;
+mod escaping;
+mod figures;
+mod frame;
+mod laws;
+mod legend;
+mod markup;
+mod office;
+mod period;
+mod period_adjustments;
+mod period_disputes;
+mod period_head;
+mod period_pictures;
+mod period_statement;
+
+pub use figures::{PeriodFigures, period_figures};
+pub use laws::data_makes_no_markup;
+pub use office::office_page;
+pub use period::period_page;
