@@ -10,7 +10,7 @@ use Rattle.httparse.specs.Spans.{header_bytes}
 use Rattle.httparse.specs.declared.spans.HeaderSpan.{HeaderSpan}
 use Rattle.book_http.specs.declared.framing.Framing.TheVariants.{Faulty}
 use Rattle.book_http.specs.Framing.{is_field_named, field_values, framing_if, framing_by_all}
-use Rattle.book_http.specs.Framing.{with_length, with_field, declared, has_field}
+use Rattle.book_http.specs.Framing.{with_length, with_field, declared}
 use Rattle.book_http.specs.Numbers.{decimal_value}
 use Rattle.std.specs.List.{list_any}
 
@@ -57,13 +57,12 @@ declared_more bytes fields at within =
     (ap framing_by_all (values_more wanted before field)
     ∙ framing_with (is_field_named wanted field.0) (field_values wanted before) field)
 
--- no field is called so where the first of them are not, nor the next one
-pub still_plain : (wanted bytes : List ℕ) (fields : List HeaderSpan) (at : ℕ) → at < length fields
-    → has_field wanted (map (header_bytes bytes) (take at fields)) ≡ false
-    → is_field_named wanted (header_bytes bytes (get_or fields at no_field)).0 ≡ false
-    → has_field wanted (map (header_bytes bytes) (take (at + 1) fields)) ≡ false
-unfolding has_field
-still_plain wanted bytes fields at within before other =
+-- no field passes a test where the first of them do not, nor the next one
+pub none_more : (test : List ℕ × List ℕ → Bool) (bytes : List ℕ) (fields : List HeaderSpan) (at : ℕ)
+    → at < length fields → list_any test (map (header_bytes bytes) (take at fields)) ≡ false
+    → test (header_bytes bytes (get_or fields at no_field)) ≡ false
+    → list_any test (map (header_bytes bytes) (take (at + 1) fields)) ≡ false
+none_more test bytes fields at within before other =
     rw (take_more fields at no_field within, map-append, list_any-append, before, other) refl
 
 -- a test of the images is one of the elements
@@ -72,13 +71,10 @@ list_any-map : {X Y : Type 0} (test : Y → Bool) (f : X → Y) (xs : List X)
 list_any-map test f [] = refl
 list_any-map test f (x ∷ xs) = ap (λ rest. test (f x) || rest) (list_any-map test f xs)
 
--- one field that is called so is enough
-pub has_field_at : (wanted bytes : List ℕ) (fields : List HeaderSpan) (at : ℕ)
-    → at < length fields
-    → is_field_named wanted (header_bytes bytes (get_or fields at no_field)).0 ≡ true
-    → has_field wanted (map (header_bytes bytes) fields) ≡ true
-unfolding has_field
-has_field_at wanted bytes fields at within same =
-    let test = λ (field : List ℕ × List ℕ). is_field_named wanted field.0 in
+-- one field that passes is enough
+pub any_at : (test : List ℕ × List ℕ → Bool) (bytes : List ℕ) (fields : List HeaderSpan) (at : ℕ)
+    → at < length fields → test (header_bytes bytes (get_or fields at no_field)) ≡ true
+    → list_any test (map (header_bytes bytes) fields) ≡ true
+any_at test bytes fields at within same =
     rw (list_any-map test (header_bytes bytes) fields)
     (list_any_at (λ field. test (header_bytes bytes field)) fields at no_field within same)

@@ -38,6 +38,8 @@ use Rattle.book_http.specs.Answer.{Answers, done, no_memory, no_head, a_head, fo
 use Rattle.book_http.specs.Head.{HasHead}
 use Rattle.book_http.specs.Laws.{IsUnhindered, RequestTwiceIsOnce, RequestsMakeHistory}
 use Rattle.book_http.specs.Replies.{Reply}
+use Rattle.book_http.specs.Requested.{AnswersRequest, RequestSeen, Settles}
+use Rattle.book_http.specs.Requested.{WantsDetails, WantsImport, WantsReport, WantsWhatIf}
 use Rattle.book_http.specs.declared.served.Served.{Served}
 use Rattle.book_http.specs.Served.{IsDone, SendsAsRead}
 use Rattle.book_http.proofs.HeadLemmas.{head_unique}
@@ -242,6 +244,23 @@ request_answered naming bytes reply past was events is
     none_answered naming past events refused.none.none
 request_answered naming bytes reply past was events is (a_head head behind stands (done made)) =
     asked_answered (asked head) naming behind reply past was events is made
+
+-- so does what was read of a request, whatever bytes asked it
+pub wanted_answered : (naming : Naming) (request : RequestSeen) (reply : Reply)
+    → MakesAnswered naming (AnswersRequest naming request reply)
+wanted_answered naming (Settles due) reply past was events is made =
+    none_answered naming past events made.none.none
+wanted_answered naming (WantsReport report) reply past was events is made =
+    none_answered naming past events
+    (report_none naming report reply was (book_after past) events is made)
+wanted_answered naming (WantsDetails wanted) reply past was events is made =
+    none_answered naming past events
+    (details_none naming wanted reply was (book_after past) events is made)
+wanted_answered naming (WantsWhatIf what_if body) reply past was events is made =
+    none_answered naming past events
+    (what_if_none what_if body reply was (book_after past) events is made)
+wanted_answered naming (WantsImport layout body) reply past was events is made =
+    receives_answered naming (whole_dump layout body) made.told past was events is made.made
 
 -- the law of it
 pub requests_make_history : RequestsMakeHistory

@@ -17,7 +17,8 @@ use Rattle.book_reports.specs.declared.report.PeriodReport.TheVariants as of_per
 use Rattle.book_reports.specs.declared.report.Report.TheVariants.{Statement, StatementTable}
 use Rattle.book_reports.specs.declared.report.Report.TheVariants.{AdjustmentList, AdjustmentTable}
 use Rattle.book_reports.specs.declared.report.Report.TheVariants.{DisputeList, DisputeTable}
-use Rattle.book_reports.specs.declared.report.Report.TheVariants.{Bill, OfCentre, PeriodList}
+use Rattle.book_reports.specs.declared.report.Report.TheVariants.{Bill, OfCentre, OfficePage}
+use Rattle.book_reports.specs.declared.report.Report.TheVariants.{PeriodList, PeriodPage}
 use Rattle.book_reports.specs.declared.report.Report.TheVariants.{Record, RulingList, TariffText}
 use Rattle.book_reports.specs.declared.what_if.StatementForm.TheVariants as shown_as
 use Rattle.book_http.specs.declared.route.Route.{Route}
@@ -28,6 +29,7 @@ use Rattle.book_http.specs.Routes.{route_at, route_on, route_rows, tariff_after}
 use Rattle.book_http.proofs.FormPathLemmas.{details_found, details_served, on_page, page_numbered}
 use Rattle.book_http.proofs.FormPathLemmas.{what_if_found, what_if_served}
 use Rattle.book_http.proofs.NamedPeriodLemmas.{IsNamedAfter, after_found, after_named}
+use Rattle.book_http.proofs.PagePathLemmas.{page_served, period_page_found}
 use Rattle.book_http.proofs.ServedPathLemmas.{begun_found}
 use Rattle.book_http.proofs.PeriodLemmas.{rest_found, rest_named}
 use Rattle.book_http.proofs.RecordPathLemmas.{name_found, name_page, record_served}
@@ -80,6 +82,8 @@ tariff_served path =
 page_route : (found : Page) (path : List ℕ) → IfSome (plain_path found) (λ text. path ≡ text)
     → IfSome (route_at found path) (IsPathOf path)
 unfolding route_at
+page_route page.Office path h = (tt, h)
+page_route page.Period path h = page_served path
 page_route page.Periods path h = (tt, h)
 page_route page.Statement path h = after_served of_period.Statement path
 page_route page.StatementCsv path h = after_served of_period.StatementTable path
@@ -134,6 +138,10 @@ period_page of_period.AdjustmentList n centre named =
     page_numbered (codes "/adjustments/") n centre _ refl refl named
 period_page of_period.AdjustmentTable n centre named =
     page_numbered (codes "/adjustments-csv/") n centre _ refl refl named
+
+office_found : page_of (codes "/") ≡ Some page.Office
+unfolding matchit_on_literals route_rows page_of
+office_found = refl
 
 periods_found : page_of (codes "/periods") ≡ Some page.Periods
 unfolding matchit_on_literals route_rows page_of
@@ -202,6 +210,9 @@ record_found digits name named =
 -- what is served is found at its path
 pub path_found : (path : List ℕ) (asked : Route) → IsPathOf path asked → route path ≡ Some asked
 unfolding route_at
+path_found path (route_to.Report OfficePage) it =
+    ap route it.1 ∙ on_page page.Office _ _ office_found refl
+path_found path (route_to.Report (PeriodPage n)) it = ap route it.1 ∙ period_page_found n it.0
 path_found path (route_to.Report PeriodList) it =
     ap route it.1 ∙ on_page page.Periods _ _ periods_found refl
 path_found path (route_to.Report (Statement n)) it =

@@ -184,6 +184,8 @@ seek_at walked rows (b ∷ path) h =
 
 -- the path of a page that names no period, no record and no day
 abbrev pub plain_path : Page → Option (List ℕ)
+plain_path page.Office = Some (codes "/")
+plain_path page.Period = None
 plain_path page.Periods = Some (codes "/periods")
 plain_path page.Statement = None
 plain_path page.StatementCsv = None
@@ -216,7 +218,19 @@ rows_are_plain = (
       tt,
       (
         tt,
-        ((refl, refl), ((refl, refl), ((refl, refl), ((refl, refl), ((refl, refl), (tt, ((refl, refl), (tt, (tt, (tt, (tt, (tt, tt)))))))))))),
+        (
+          (refl, refl),
+          (
+            (refl, refl),
+            (
+              (refl, refl),
+              (
+                (refl, refl),
+                (tt, ((refl, refl), (tt, ((refl, refl), (tt, (tt, (tt, (tt, (tt, ((refl, refl), tt)))))))))),
+              ),
+            ),
+          ),
+        ),
       ),
     ),
   ),
@@ -232,7 +246,37 @@ rows_stand = (
       refl,
       (
         refl,
-        (refl, (refl, (refl, (refl, (refl, (refl, (refl, (refl, (refl, (refl, (refl, (refl, tt)))))))))))),
+        (
+          refl,
+          (
+            refl,
+            (
+              refl,
+              (
+                refl,
+                (
+                  refl,
+                  (
+                    refl,
+                    (
+                      refl,
+                      (
+                        refl,
+                        (
+                          refl,
+                          (
+                            refl,
+                            (refl, (refl, (refl, (refl, tt)))),
+                          ),
+                        ),
+                      ),
+                    ),
+                  ),
+                ),
+              ),
+            ),
+          ),
+        ),
       ),
     ),
   ),

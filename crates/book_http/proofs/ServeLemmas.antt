@@ -1,59 +1,229 @@
--- One request, from the bytes that were taken to what was sent.
-use Rattle.std.proofs.Common.{ℕ, ◌<◌, Bool, List, ◌++◌, length, arith, length-append}
-use Rattle.httparse.specs.Grammar.{RequestHead}
-use Rattle.book_core.specs.Ledgers.{Seen}
-use Rattle.book_core.proofs.TransitionLemmas.{work_as}
-use Rattle.book_http.specs.declared.answer.ToSend.{ToSend}
-use Rattle.book_http.specs.declared.answer.ToSend.TheVariants as to_send
-use Rattle.book_http.specs.declared.status.Status.TheVariants.{BadRequest}
+-- One request, from what its bytes ask to what was sent.
+use Rattle.std.proofs.Common.{◌≡◌, ◌∙◌, ℕ, Bool, true, false, List, [], ◌++◌, length, take, refl, sym}
+use Rattle.std.proofs.Common.{ap, subst, inl, inr, append-nil}
+use Rattle.std.specs.Prelude.{if◌then◌else◌, nat_lt}
+use Rattle.std.proofs.lemmas.Bool.{true≢false}
+use Rattle.streams.specs.InputOutput.{Output}
+use Rattle.book_model.specs.Words.{Naming}
+use Rattle.book_core.specs.Ledgers.{Books, Seen}
+use Rattle.book_core.specs.Transition.{IsTransition, NoEvent, Transition}
+use Rattle.book_core.proofs.TransitionLemmas.{Implies, no_work, work_as}
+use Rattle.book_reports.specs.declared.streamed_details.DetailReport.{DetailReport}
+use Rattle.book_http.specs.declared.asked.Asked.{Asked}
+use Rattle.book_http.specs.declared.asked.Asked.TheVariants as asks
+use Rattle.book_http.specs.declared.requested.OfficeRequest.{OfficeRequest}
+use Rattle.book_http.specs.declared.requested.OfficeRequest.TheVariants as office
+use Rattle.book_http.specs.declared.requested.Requested.{Requested}
+use Rattle.book_http.specs.declared.requested.Requested.TheVariants as requested
+use Rattle.book_http.specs.declared.served.Served.{Served}
+use Rattle.book_http.specs.declared.served.Served.TheVariants as served
+use Rattle.book_http.specs.declared.status.Status.TheVariants.{BadRequest, Unavailable}
+use Rattle.book_http.specs.Answer.{Answers, AnswersAsked, AnswersDetails, AnswersImport}
+use Rattle.book_http.specs.Answer.{AnswersWhatIf, RefusesRequest, UnlessBad, a_head, done, no_head}
+use Rattle.book_http.specs.Answer.{no_memory}
 use Rattle.book_http.specs.Asked.{asked}
-use Rattle.book_http.specs.Answer.{Answers, AnswersAsked, RefusesRequest, UnlessMemory, no_head, a_head}
-use Rattle.book_http.specs.Head.{HasHead, NoHeadComes}
-use Rattle.book_http.specs.Replies.{Reply, refusal, reply_of}
-use Rattle.book_http.specs.Served.{IsAnswer, IsAnswerTo, IsToSend, IsToSendTo}
-use Rattle.book_http.proofs.AskedLemmas.{refuses}
-use Rattle.book_http.proofs.HeadLemmas.{head_before}
-use Rattle.book_http.proofs.LawLemmas.{request_done}
+use Rattle.book_http.specs.Replies.{Reply, refusal}
+use Rattle.book_http.specs.Requested.{AnswersRequest, AreAsking, IsAsking, RequestSeen, Settles}
+use Rattle.book_http.specs.Requested.{WantsDetails, WantsImport, WantsWhatIf}
+use Rattle.book_http.specs.Requested.{headed, headless, office_seen, request_seen, wanted_by}
+use Rattle.book_http.specs.Served.{AsksDetails, IsReplied, IsSent, IsServed, IsStreamed}
+use Rattle.book_http.specs.Served.{SendsAsRead, SendsReplyAsRead, ServesDetails, is_unanswered}
+use Rattle.book_http.proofs.LawLemmas.{request_done, sent_done}
 
--- bytes after which no head can come are refused
-pub refused_answer : (seen : Seen) (ended : Bool) (taken : List ℕ) → 0 < length taken
-    → NoHeadComes ended taken → IsAnswer seen seen ended taken (refusal BadRequest)
-refused_answer seen ended taken some never more none =
-    let long : 0 < length (taken ++ more) = rw length-append (omega arith) in
-    request_done seen seen (taken ++ more) (refusal BadRequest)
-    (work_as seen seen (RefusesRequest (refusal BadRequest) (refusal BadRequest))
-    (Answers seen.naming (taken ++ more) (refusal BadRequest))
-    (λ was before events is refused. no_head long (never more none) refused)
-    (refuses seen (refusal BadRequest)))
+-- ---- what answers a request answers its bytes
 
--- the answer to what a head asks is the answer to the bytes that begin with it
-head_answer : (old new : Seen) (ended : Bool) (front behind bytes : List ℕ) (head : RequestHead)
-    (reply : Reply) → HasHead front head behind
-    → IsAnswerTo old new ended (asked head) (behind ++ bytes) reply
-    → IsAnswer old new ended (front ++ bytes) reply
-head_answer old new ended front behind bytes head reply stands answer more none =
-    let further = head_before (front ++ bytes) head (behind ++ bytes) more
-    (head_before front head behind bytes stands) in
-    request_done old new ((front ++ bytes) ++ more) reply
-    (work_as old new
-    (UnlessMemory (AnswersAsked old.naming (asked head) ((behind ++ bytes) ++ more) reply) reply)
-    (Answers old.naming ((front ++ bytes) ++ more) reply)
-    (λ was before events is made. a_head head ((behind ++ bytes) ++ more) further made)
-    (answer more none))
+-- nothing is done, and a refusal is the reply
+pub refuses : (seen : Seen) (reply : Reply) → IsTransition seen seen (RefusesRequest reply reply)
+refuses seen reply =
+    work_as seen seen NoEvent (RefusesRequest reply reply)
+    (λ was before events is none. record { none = none; replied = refl }) (no_work seen)
 
--- so is what is to be sent
-pub head_to_send : (old new : Seen) (ended : Bool) (front behind bytes : List ℕ) (head : RequestHead)
-    (sent : ToSend) → HasHead front head behind
-    → IsToSendTo old new ended (asked head) (behind ++ bytes) sent
-    → IsToSend old new ended (front ++ bytes) sent
-head_to_send old new ended front behind bytes head (to_send.Answer answer) stands answers =
-    head_answer old new ended front behind bytes head (reply_of answer) stands answers
-head_to_send old new ended front behind bytes head (to_send.Details details size) stands due = (
-  record {
-    head = head;
-    behind = behind ++ bytes;
-    stands = head_before front head behind bytes stands;
-    asks_them = due.0;
-  },
-  due.1,
-)
+-- what is wanted with a body, if that is not too short
+wanted_answered : (short : Bool) (naming : Naming) (Wants : List ℕ → RequestSeen)
+    (Whole : List ℕ → Reply → Transition) (body : List ℕ) (reply : Reply)
+    → Implies (AnswersRequest naming (Wants body) reply) (Whole body reply)
+    → Implies
+    (AnswersRequest naming (if short then Settles (refusal BadRequest) else Wants body) reply)
+    (UnlessBad short (Whole body reply) reply)
+wanted_answered true naming Wants Whole body reply same = λ was before events is made. made
+wanted_answered false naming Wants Whole body reply same = same
+
+-- what a head asks
+asked_answered : (wanted : Asked) (naming : Naming) (behind : List ℕ) (reply : Reply)
+    → Implies (AnswersRequest naming (wanted_by wanted behind) reply)
+    (AnswersAsked naming wanted behind reply)
+asked_answered (asks.Refusal status) naming behind reply = λ was before events is made. made
+asked_answered (asks.OtherMethod method) naming behind reply = λ was before events is made. made
+asked_answered (asks.Report report) naming behind reply = λ was before events is made. made
+asked_answered (asks.Details details) naming behind reply = λ was before events is made. made
+asked_answered (asks.WhatIf what_if size) naming behind reply =
+    wanted_answered (nat_lt (length behind) size) naming (WantsWhatIf what_if)
+    (AnswersWhatIf what_if) (take size behind) reply (λ was before events is made. made)
+asked_answered (asks.Import layout size) naming behind reply =
+    wanted_answered (nat_lt (length behind) size) naming (WantsImport layout)
+    (AnswersImport naming layout) (take size behind) reply (λ was before events is made. made)
+
+-- what the bytes ask
+pub bytes_answered : (naming : Naming) (bytes : List ℕ) (request : RequestSeen) (reply : Reply)
+    → AreAsking bytes request
+    → Implies (AnswersRequest naming request reply) (Answers naming bytes reply)
+bytes_answered naming bytes request reply (headless some never same) =
+    λ was before events is made. no_head some never
+    (subst (λ request. AnswersRequest naming request reply was before events is) same made)
+bytes_answered naming bytes request reply (headed head behind stands (inl same)) =
+    λ was before events is made. a_head head behind stands
+    (done (asked_answered (asked head) naming behind reply was before events is
+    (subst (λ request. AnswersRequest naming request reply was before events is) same made)))
+bytes_answered naming bytes request reply (headed head behind stands (inr same)) =
+    λ was before events is made. a_head head behind stands
+    (no_memory
+    (subst (λ request. AnswersRequest naming request reply was before events is) same made))
+
+-- nothing is asked of the books
+abbrev pub is_settled : RequestSeen → Bool
+is_settled (Settles reply) = true
+is_settled request = false
+
+pub office_asks : (request : OfficeRequest) → is_settled (office_seen request) ≡ false
+office_asks (office.Report report) = refl
+office_asks (office.WhatIf what_if body) = refl
+office_asks (office.Import layout body) = refl
+
+-- books that can't be opened answer that they can't, whatever is asked of them
+pub unopened_answered : (naming : Naming) (bytes : List ℕ) (request : RequestSeen)
+    → is_settled request ≡ false → AreAsking bytes request
+    → Implies NoEvent (Answers naming bytes (refusal Unavailable))
+unopened_answered naming bytes request asks_books (headless some never same) =
+    absurd (true≢false (sym (ap is_settled same) ∙ asks_books))
+unopened_answered naming bytes request asks_books (headed head behind stands due) =
+    λ was before events is nothing. a_head head behind stands
+    (no_memory (record { none = nothing; replied = refl }))
+
+-- ---- what was served
+
+-- a reply that was sent was served
+reply_served : (books : Books) (taken : List ℕ) (ended : Bool) (output : Output) (what : Served)
+    → IsReplied books taken ended output what → IsServed books taken ended output what
+reply_served books taken ended output (served.Answered status) it = inl it
+reply_served books taken ended output served.WriteFault it = inl it
+reply_served books taken ended output served.Cut it = absurd it.sent
+reply_served books taken ended output served.Closed it = absurd it.sent
+reply_served books taken ended output served.ReadFault it = absurd it.sent
+
+-- so was a reply to what was asked
+pub request_served : (books : Books) (taken : List ℕ) (ended : Bool) (output : Output)
+    (request : Requested) (reply : Reply) (what : Served) → IsAsking ended taken request
+    → IsTransition books.old books.new
+    (AnswersRequest books.old.naming (request_seen request) reply)
+    → IsSent reply output.old.holds output.new.holds what
+    → IsServed books taken ended output what
+request_served books taken ended output request reply what asking work sent =
+    let naming = books.old.naming in
+    reply_served books taken ended output what (record {
+      reply = reply;
+      answer = λ more none.
+          request_done books.old books.new (taken ++ more) reply
+          (work_as books.old books.new (AnswersRequest naming (request_seen request) reply)
+          (Answers naming (taken ++ more) reply)
+          (bytes_answered naming (taken ++ more) (request_seen request) reply (asking more none))
+          work);
+      sent = sent;
+    })
+
+-- ---- details
+
+abbrev are_details : RequestSeen → Bool
+are_details (WantsDetails details) = true
+are_details request = false
+
+abbrev details_or : DetailReport → RequestSeen → DetailReport
+details_or other (WantsDetails details) = details
+details_or other request = other
+
+-- nothing with a body is details
+no_details : (short : Bool) (reply : Reply) (other : RequestSeen) → are_details other ≡ false
+    → are_details (if short then Settles reply else other) ≡ false
+no_details true reply other is = refl
+no_details false reply other is = is
+
+-- who asks for details asks for them by the head alone
+details_wanted : (wanted : Asked) (behind : List ℕ) (details : DetailReport)
+    → WantsDetails details ≡ wanted_by wanted behind → wanted ≡ asks.Details details
+details_wanted (asks.Details other) behind details same =
+    ap asks.Details (sym (ap (details_or details) same))
+details_wanted (asks.Refusal status) behind details same = absurd (true≢false (ap are_details same))
+details_wanted (asks.OtherMethod method) behind details same =
+    absurd (true≢false (ap are_details same))
+details_wanted (asks.Report report) behind details same = absurd (true≢false (ap are_details same))
+details_wanted (asks.WhatIf what_if size) behind details same =
+    absurd (true≢false (ap are_details same
+    ∙ no_details (nat_lt (length behind) size) (refusal BadRequest)
+    (WantsWhatIf what_if (take size behind)) refl))
+details_wanted (asks.Import layout size) behind details same =
+    absurd (true≢false (ap are_details same
+    ∙ no_details (nat_lt (length behind) size) (refusal BadRequest)
+    (WantsImport layout (take size behind)) refl))
+
+details_begin : (bytes : List ℕ) (details : DetailReport) → AreAsking bytes (WantsDetails details)
+    → AsksDetails bytes details
+details_begin bytes details (headless some never same) =
+    absurd (true≢false (ap are_details same))
+details_begin bytes details (headed head behind stands (inl same)) = record {
+  head = head;
+  behind = behind;
+  stands = stands;
+  asks_them = details_wanted (asked head) behind details same;
+}
+details_begin bytes details (headed head behind stands (inr same)) =
+    absurd (true≢false (ap are_details same))
+
+-- details that were sent while they were read were asked for
+details_streamed : (books : Books) (taken : List ℕ) (ended : Bool) (output : Output)
+    (details : DetailReport) (what : Served) → IsAsking ended taken (requested.Details details)
+    → IsTransition books.old books.new
+    (SendsReplyAsRead (AnswersDetails books.old.naming details) output.old.holds
+    output.new.holds what)
+    → IsStreamed books taken ended output what
+details_streamed books taken ended output details what asking sends =
+    let naming = books.old.naming in
+    let held = output.old.holds in
+    let holds = output.new.holds in
+    record {
+      details = details;
+      begins = subst (λ bytes. AsksDetails bytes details) (append-nil taken)
+          (details_begin (taken ++ []) details (asking [] (λ _. refl)));
+      done = λ more none.
+          sent_done books.old books.new (taken ++ more) held holds what
+          (work_as books.old books.new
+          (SendsReplyAsRead (AnswersDetails naming details) held holds what)
+          (SendsAsRead naming (taken ++ more) held holds what)
+          (λ was before events is sent. record {
+            reply = sent.reply;
+            answer = bytes_answered naming (taken ++ more) (WantsDetails details) sent.reply
+                (asking more none) was before events was sent.answer;
+            sent = sent.sent;
+            stands = sent.stands;
+          })
+          sends);
+    }
+
+-- and were served so
+stream_served : (books : Books) (taken : List ℕ) (ended : Bool) (output : Output) (what : Served)
+    → is_unanswered what ≡ false → IsStreamed books taken ended output what
+    → IsServed books taken ended output what
+stream_served books taken ended output (served.Answered status) begun it = inr it
+stream_served books taken ended output served.WriteFault begun it = inr it
+stream_served books taken ended output served.Cut begun it = inr it
+stream_served books taken ended output served.Closed begun it = absurd (true≢false begun)
+stream_served books taken ended output served.ReadFault begun it = absurd (true≢false begun)
+
+pub details_served : (books : Books) (taken : List ℕ) (ended : Bool) (output : Output)
+    (details : DetailReport) (what : Served) → IsAsking ended taken (requested.Details details)
+    → is_unanswered what ≡ false → ServesDetails books details output what
+    → IsServed books taken ended output what
+details_served books taken ended output details what asking begun (inl refused) =
+    request_served books taken ended output (requested.Details details) refused.reply what asking
+    refused.answer refused.sent
+details_served books taken ended output details what asking begun (inr sends) =
+    stream_served books taken ended output what begun
+    (details_streamed books taken ended output details what asking sends)

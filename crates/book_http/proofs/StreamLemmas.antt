@@ -1,16 +1,15 @@
 -- Details, whose text is sent while it is read.
-use Rattle.std.proofs.Common.{◌≡◌, ◌∙◌, ℕ, ◌+◌, ◌<◌, ◌≤◌, Bool, false, List, [], ◌++◌, length, take}
-use Rattle.std.proofs.Common.{refl, sym, ap, subst, arith, inr, ◌||◌, Option, None, Result, Ok, Err}
+use Rattle.std.proofs.Common.{◌≡◌, ◌∙◌, ℕ, ◌<◌, ◌≤◌, Bool, false, List, [], ◌++◌, length, take}
+use Rattle.std.proofs.Common.{refl, sym, ap, subst, arith, ◌||◌, Option, None, Result, Ok, Err}
 use Rattle.std.proofs.Common.{length-append}
 use Rattle.std.proofs.lemmas.Bool.{true≢false}
 use Rattle.std.proofs.lemmas.List.{take-append-le}
 use Rattle.std.specs.Io.KnownBytes.{Appends}
 use Rattle.std.proofs.KnownBytes.{Appends-trans}
-use Rattle.streams.specs.InputOutput.{Output}
 use Rattle.book_model.specs.declared.fault.LedgerFault.{LedgerFault}
 use Rattle.book_model.specs.Words.{after_all}
 use Rattle.book_core.specs.Calls.{Calls, IsCall, Reopens}
-use Rattle.book_core.specs.Ledgers.{Books, Seen}
+use Rattle.book_core.specs.Ledgers.{Seen}
 use Rattle.book_core.specs.Transition.{IsTransition, NoEvent, Then, Transition}
 use Rattle.book_core.proofs.TransitionLemmas.{no_work, work_as, work_then}
 use Rattle.book_reports.specs.declared.fault.ReportFault.{ReportFault}
@@ -30,15 +29,12 @@ use Rattle.book_http.specs.declared.answer_head.BodyKind.{BodyKind}
 use Rattle.book_http.specs.declared.served.Served.{Served}
 use Rattle.book_http.specs.declared.served.Served.TheVariants as served
 use Rattle.book_http.specs.declared.status.Status.TheVariants.{Done}
-use Rattle.book_http.specs.Answer.{AnswersAsked, a_head, done, form_kind}
+use Rattle.book_http.specs.Answer.{AnswersDetails, form_kind}
 use Rattle.book_http.specs.AnswerHead.{answer_head}
 use Rattle.book_http.specs.Replies.{success}
-use Rattle.book_http.specs.Served.{AsksDetails, IsMeasured, IsSentAsRead, IsServed, IsStreamed}
-use Rattle.book_http.specs.Served.{SendsAsRead, SendsDetails, is_cut, is_unanswered}
-use Rattle.book_http.specs.Served.{is_write_fault, served_as}
+use Rattle.book_http.specs.Served.{IsMeasured, IsSentAsRead, SendsDetails, SendsReplyAsRead, is_cut}
+use Rattle.book_http.specs.Served.{is_unanswered, is_write_fault, served_as}
 use Rattle.book_http.proofs.AnswerLemmas.{front_behind}
-use Rattle.book_http.proofs.HeadLemmas.{head_before}
-use Rattle.book_http.proofs.LawLemmas.{sent_done}
 
 -- ---- what measures details
 
@@ -146,74 +142,44 @@ is_begun (Err Write) = refl
 is_begun (Err Memory) = refl
 is_begun (Err (Ledger fault)) = refl
 
--- ---- a request as a whole
-
 -- details were measured and then sent: all by one book
-pub details_streamed : (old mid new : Seen) (taken : List ℕ) (ended : Bool) (output : Output)
-    (details : DetailReport) (size : ℕ) (what : Served) → AsksDetails taken details
-    → IsMeasured old mid details size
-    → IsTransition mid new
-    (SendsDetails details size mid.naming output.old.holds output.new.holds what)
-    → IsStreamed (record { old = old; new = new }) taken ended output what
-details_streamed old mid new taken ended output details size what asking measured sends =
-    let held = output.old.holds in
-    let holds = output.new.holds in
+pub measured_sent : (old mid new : Seen) (details : DetailReport) (size : ℕ)
+    (held holds : Option (List ℕ)) (what : Served) → IsMeasured old mid details size
+    → IsTransition mid new (SendsDetails details size mid.naming held holds what)
+    → IsTransition old new (SendsReplyAsRead (AnswersDetails old.naming details) held holds what)
+measured_sent old mid new details size held holds what measured sends =
     let Measuring : Transition =
     Calls (λ size. size) (detail_length_outcome details old.naming) (Ok size) in
     let Sending : Transition = SendsDetails details size old.naming held holds what in
+    work_as old new (Then Measuring Sending)
+    (SendsReplyAsRead (AnswersDetails old.naming details) held holds what)
+    (λ was before events is both.
+    let said = shown_back length (detail_answer details old.naming before) size
+    both.first.makes.0 in
+    let unfailed : false ≡ was = both.first.reopens.reopen in
+    let early : both.early ≡ [] = both.first.makes.1 in
+    let middle : after_all both.early before ≡ before =
+    ap (λ events. after_all events before) early in
     record {
-      details = details;
-      begins = asking;
-      done = λ more none.
-          sent_done old new (taken ++ more) held holds what
-          (work_as old new (Then Measuring Sending)
-          (SendsAsRead old.naming (taken ++ more) held holds what)
-          (λ was before events is both.
-          let said = shown_back length (detail_answer details old.naming before) size
-          both.first.makes.0 in
-          let unfailed : false ≡ was = both.first.reopens.reopen in
-          let early : both.early ≡ [] = both.first.makes.1 in
-          let middle : after_all both.early before ≡ before =
-          ap (λ events. after_all events before) early in
-          let reply = success (form_kind details.form) said.0 in
-          record {
-            reply = reply;
-            answer = a_head asking.head (asking.behind ++ more)
-                (head_before taken asking.head asking.behind more asking.stands)
-                (done
-                (subst
-                (λ wanted. AnswersAsked old.naming wanted (asking.behind ++ more) reply was before
-                events was) (sym asking.asks_them)
-                (record {
-                  told = Ok (Text said.0);
-                  made = record {
-                    makes = (
-                      ap (shown_by Text) said.1,
-                      both.all ∙ ap (λ late. late ++ both.early) both.next.none ∙ early,
-                    );
-                    reopens = record {
-                      reopen = unfailed;
-                      store = sym unfailed ∙ ap (λ b. b || false) unfailed;
-                    };
-                  };
-                  replied = refl;
-                })));
-            sent = both.next.sent said.0 (ap (detail_answer details old.naming) middle ∙ said.1)
-                said.2;
-            stands = λ whole.
-                both.next.stands whole ∙ goes_on size was both.between both.first.reopens;
-          })
-          (work_then old mid new Measuring Sending measured
-          (subst (λ naming. IsTransition mid new (SendsDetails details size naming held holds what))
-          measured.naming sends)));
-    }
-
--- what was sent so was served so
-pub details_served : (books : Books) (taken : List ℕ) (ended : Bool) (output : Output) (what : Served)
-    → is_unanswered what ≡ false → IsStreamed books taken ended output what
-    → IsServed books taken ended output what
-details_served books taken ended output (served.Answered status) begun it = inr it
-details_served books taken ended output served.WriteFault begun it = inr it
-details_served books taken ended output served.Cut begun it = inr it
-details_served books taken ended output served.Closed begun it = absurd (true≢false begun)
-details_served books taken ended output served.ReadFault begun it = absurd (true≢false begun)
+      reply = success (form_kind details.form) said.0;
+      answer = record {
+        told = Ok (Text said.0);
+        made = record {
+          makes = (
+            ap (shown_by Text) said.1,
+            both.all ∙ ap (λ late. late ++ both.early) both.next.none ∙ early,
+          );
+          reopens = record {
+            reopen = unfailed;
+            store = sym unfailed ∙ ap (λ b. b || false) unfailed;
+          };
+        };
+        replied = refl;
+      };
+      sent = both.next.sent said.0 (ap (detail_answer details old.naming) middle ∙ said.1) said.2;
+      stands = λ whole.
+          both.next.stands whole ∙ goes_on size was both.between both.first.reopens;
+    })
+    (work_then old mid new Measuring Sending measured
+    (subst (λ naming. IsTransition mid new (SendsDetails details size naming held holds what))
+    measured.naming sends))

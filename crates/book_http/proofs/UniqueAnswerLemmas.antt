@@ -18,7 +18,6 @@ use Rattle.book_import.specs.Handled.{Imported, Answering, answers_of, handle, h
 use Rattle.book_import.specs.Handled.{nothing_imported}
 use Rattle.book_import.specs.Imports.{Handles, GivesReceipt, whole, out_of_memory, store_failed}
 use Rattle.book_import.specs.Receipts.{is_stop_of_books}
-use Rattle.book_reports.specs.declared.report.Report.{Report}
 use Rattle.book_reports.specs.declared.what_if.WhatIf.{WhatIf}
 use Rattle.book_reports.specs.BookTexts.{report_outcome}
 use Rattle.book_reports.specs.StreamedDetails.{detail_text_outcome}

@@ -11,6 +11,9 @@ use Rattle.book_model.specs.declared.fault.LedgerFault.TheVariants.{NoSuchTariff
 use Rattle.book_model.specs.Words.{Naming, Book, Event}
 use Rattle.book_core.specs.Calls.{Calls}
 use Rattle.book_core.specs.Transition.{Transition, NoEvent}
+use Rattle.book_model.specs.declared.fault.LedgerFault.TheVariants as fault
+use Rattle.book_reports.specs.declared.fault.ReportFault.{ReportFault}
+use Rattle.book_reports.specs.declared.fault.ReportFault.TheVariants.{Write, Memory, Ledger}
 use Rattle.book_reports.specs.declared.report.PeriodReport.TheVariants.{AdjustmentTable}
 use Rattle.book_reports.specs.declared.report.PeriodReport.TheVariants.{StatementTable}
 use Rattle.book_reports.specs.declared.report.Report.{Report}
@@ -25,7 +28,7 @@ use Rattle.office.specs.declared.request.Asked.TheVariants as requests
 use Rattle.office.specs.Requests as tells
 use Rattle.office.specs.Requests.{Response, Asks, Receives, response_outcome, whole_dump, no_dump}
 use Rattle.book_http.specs.declared.answer_head.BodyKind.{BodyKind}
-use Rattle.book_http.specs.declared.answer_head.BodyKind.TheVariants.{Text, Csv}
+use Rattle.book_http.specs.declared.answer_head.BodyKind.TheVariants.{Text, Csv, Page}
 use Rattle.book_http.specs.declared.asked.Asked.{Asked}
 use Rattle.book_http.specs.declared.asked.Asked.TheVariants as asks
 use Rattle.book_http.specs.declared.status.Status.TheVariants.{BadRequest, NotFound, Unavailable}
@@ -39,6 +42,8 @@ body_kind (report.AdjustmentTable period) = Csv
 body_kind report.DisputeTable = Csv
 body_kind (report.OfCentre StatementTable period centre) = Csv
 body_kind (report.OfCentre AdjustmentTable period centre) = Csv
+body_kind report.OfficePage = Page
+body_kind (report.PeriodPage period) = Page
 body_kind report = Text
 
 -- that of details, and of what a period would have cost
@@ -74,6 +79,17 @@ AnswersReport naming report reply =
 abbrev pub ReadsDetails : Naming → DetailReport → Result Response LedgerFault → Transition
 ReadsDetails naming wanted =
     Calls (λ told. told) (response_outcome tells.Text (detail_text_outcome wanted naming))
+
+-- the most bytes of details that are gathered before they are sent (the office's rule)
+abbrev pub most_gathered : ℕ
+most_gathered = 16777216
+
+-- what the office answered to details that were written into memory: a write there fails for a lack of it
+abbrev pub gathered : Result (Unit {0}) ReportFault → List ℕ → Result Response LedgerFault
+gathered (Ok done) text = Ok (tells.Text text)
+gathered (Err Write) text = Err fault.Memory
+gathered (Err Memory) text = Err fault.Memory
+gathered (Err (Ledger why)) text = Err why
 
 abbrev pub AnswersDetails : Naming → DetailReport → Reply → Transition
 AnswersDetails naming wanted reply =

@@ -15,6 +15,7 @@ use Rattle.book_http.specs.declared.status.Status.TheVariants.{BadRequest, Forbi
 use Rattle.book_http.specs.declared.status.Status.TheVariants.{NotFound, LengthRequired, TooLarge}
 use Rattle.book_http.specs.Bodies.{most_body_bytes}
 use Rattle.book_http.specs.Framing.{framing}
+use Rattle.book_http.specs.Hosts.{is_foreign}
 use Rattle.book_http.specs.Methods.{method_text}
 use Rattle.book_http.specs.Requests.{has_origin}
 use Rattle.book_http.specs.Routes.{path_of, route}
@@ -59,14 +60,20 @@ abbrev pub asked_at : Option Route → List ℕ → Bool → Framing → Asked
 asked_at None method origin body = asks.Refusal NotFound
 asked_at (Some found) method origin body = asked_by found method origin body
 
+-- nothing is asked for by the name of another machine
+abbrev pub asked_here : Bool → Option Route → List ℕ → Bool → Framing → Asked
+asked_here true found method origin body = asks.Refusal Forbidden
+asked_here false found method origin body = asked_at found method origin body
+
 -- a faulty length is refused before anything else is looked at
-abbrev pub asked_framed : Framing → Option Route → List ℕ → Bool → Asked
-asked_framed Faulty found method origin = asks.Refusal BadRequest
-asked_framed framed found method origin = asked_at found method origin framed
+abbrev pub asked_framed : Framing → Bool → Option Route → List ℕ → Bool → Asked
+asked_framed Faulty foreign found method origin = asks.Refusal BadRequest
+asked_framed framed foreign found method origin = asked_here foreign found method origin framed
 
 abbrev pub asked : RequestHead → Asked
 asked head =
-    asked_framed (framing head) (route (path_of head.target)) head.method (has_origin head)
+    asked_framed (framing head) (is_foreign head) (route (path_of head.target)) head.method
+    (has_origin head)
 
 -- a body that is asked for keeps within the limit
 abbrev pub IsServable : Asked → Type 0

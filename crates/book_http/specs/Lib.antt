@@ -4,6 +4,7 @@ pub mod Head
 pub mod Numbers
 pub mod Framing
 pub mod Methods
+pub mod Hosts
 pub mod Requests
 pub mod Paths
 pub mod Routes
@@ -14,5 +15,6 @@ pub mod Statuses
 pub mod AnswerHead
 pub mod Replies
 pub mod Answer
+pub mod Requested
 pub mod Served
 pub mod Laws

@@ -9,7 +9,8 @@ use Rattle.book_reports.specs.declared.report.PeriodReport.TheVariants as of_per
 use Rattle.book_reports.specs.declared.report.Report.TheVariants.{Statement, StatementTable}
 use Rattle.book_reports.specs.declared.report.Report.TheVariants.{AdjustmentList, AdjustmentTable}
 use Rattle.book_reports.specs.declared.report.Report.TheVariants.{DisputeList, DisputeTable}
-use Rattle.book_reports.specs.declared.report.Report.TheVariants.{Bill, OfCentre, PeriodList}
+use Rattle.book_reports.specs.declared.report.Report.TheVariants.{Bill, OfCentre, OfficePage}
+use Rattle.book_reports.specs.declared.report.Report.TheVariants.{PeriodList, PeriodPage}
 use Rattle.book_reports.specs.declared.report.Report.TheVariants.{Record, RulingList, TariffText}
 use Rattle.book_reports.specs.declared.what_if.StatementForm.{StatementForm}
 use Rattle.book_reports.specs.declared.what_if.StatementForm.TheVariants as shown_as
@@ -20,10 +21,12 @@ use Rattle.book_http.specs.declared.route.Route.TheVariants as route_to
 abbrev pub IsPathPeriod : ℕ → Type 0
 IsPathPeriod n = (1 ≤ n) × (n ≤ 9999)
 
--- what is served: each report that names no period, each record, the tariff of each day, and the other
--- reports of such a period but for bills, of the whole office and of each centre, and its details; what
--- such a period would have cost; imports
+-- what is served: the page of the office, and that of such a period; each report that names no period,
+-- each record, the tariff of each day, and the other reports of such a period but for bills, of the whole
+-- office and of each centre, and its details; what such a period would have cost; imports
 abbrev pub IsServedRoute : Route → Type 0
+IsServedRoute (route_to.Report OfficePage) = ⊤
+IsServedRoute (route_to.Report (PeriodPage n)) = IsPathPeriod n
 IsServedRoute (route_to.Report PeriodList) = ⊤
 IsServedRoute (route_to.Report (Statement n)) = IsPathPeriod n
 IsServedRoute (route_to.Report (StatementTable n)) = IsPathPeriod n
@@ -69,6 +72,8 @@ IsPathOfRecord name path =
 
 -- the path of what is served
 abbrev pub HasPath : Route → List ℕ → Type 0
+HasPath (route_to.Report OfficePage) path = path ≡ codes "/"
+HasPath (route_to.Report (PeriodPage n)) path = path ≡ codes "/period/" ++ decimal n
 HasPath (route_to.Report PeriodList) path = path ≡ codes "/periods"
 HasPath (route_to.Report (Statement n)) path =
     path ≡ period_path of_period.Statement ++ decimal n

@@ -1,4 +1,4 @@
--- How the route of a path is looked up, by matchit's reading of the sixteen route texts. That this
+-- How the route of a path is looked up, by matchit's reading of the eighteen route texts. That this
 -- finds what Paths says, and nothing else, is a clause of the function that looks it up.
 use Rattle.std.specs.Prelude.{ℕ, Bool, if◌then◌else◌, List, [], ◌∷◌, ◌==◌, codes, length, drop, nat_eq}
 use Rattle.std.specs.Prelude.{Option, Some, None, option_and_then, option_map, Result, Ok, Err}
@@ -105,6 +105,12 @@ abbrev pub what_if_after : StatementForm → List ℕ → List ℕ → Option Ro
 what_if_after form prefix path =
     option_map (λ named. what_if_on form named.0 named.1) (period_after prefix path)
 
+-- the period whose page a path asks for after its prefix
+abbrev pub page_after : List ℕ → List ℕ → Option Route
+page_after prefix path =
+    option_map (λ number. route_to.Report (report_of.PeriodPage number))
+    (option_and_then period (path_rest prefix path))
+
 -- the record whose name a path spells after its prefix
 abbrev pub record_after : List ℕ → List ℕ → Option Route
 record_after prefix path =
@@ -119,6 +125,8 @@ tariff_after prefix path =
 
 -- what a page is for at a path
 unfoldable pub route_at : Page → List ℕ → Option Route
+route_at page.Office path = Some (route_to.Report report_of.OfficePage)
+route_at page.Period path = page_after (codes "/period/") path
 route_at page.Periods path = Some (route_to.Report report_of.PeriodList)
 route_at page.Statement path = report_after of_period.Statement (codes "/statement/") path
 route_at page.StatementCsv path =
@@ -148,10 +156,12 @@ with_scan (Err error) value rows = rows
 abbrev pub with_route : List ℕ → Page → RowsOf (RouteOf Page) → RowsOf (RouteOf Page)
 with_route text value rows = with_scan (parse_route text) value rows
 
--- the sixteen routes
+-- the eighteen routes
 unfoldable pub route_rows : RowsOf (RouteOf Page)
 route_rows =
-    with_route (codes "/import-bdw") page.ImportBdw
+    with_route (codes "/period/{*rest}") page.Period
+    (with_route (codes "/") page.Office
+    (with_route (codes "/import-bdw") page.ImportBdw
     (with_route (codes "/import") page.Import
     (with_route (codes "/what-if-csv/{*rest}") page.WhatIfCsv
     (with_route (codes "/what-if/{*rest}") page.WhatIf
@@ -166,7 +176,7 @@ route_rows =
     (with_route (codes "/adjustments/{*rest}") page.Adjustments
     (with_route (codes "/statement-csv/{*rest}") page.StatementCsv
     (with_route (codes "/statement/{*rest}") page.Statement
-    (with_route (codes "/periods") page.Periods [])))))))))))))))
+    (with_route (codes "/periods") page.Periods [])))))))))))))))))
 
 -- the page of a path
 unfoldable pub page_of : List ℕ → Option Page

@@ -13,9 +13,7 @@ use Rattle.book_reports.specs.declared.fault.ReportFault.{ReportFault}
 use Rattle.book_reports.specs.declared.fault.ReportFault.TheVariants.{Write}
 use Rattle.book_reports.specs.declared.streamed_details.DetailReport.{DetailReport}
 use Rattle.book_reports.specs.StreamedDetails.{detail_answer, detail_length_outcome}
-use Rattle.book_http.specs.declared.answer.ToSend.{ToSend}
-use Rattle.book_http.specs.declared.answer.ToSend.TheVariants as to_send
-use Rattle.book_http.specs.declared.asked.Asked.{Asked}
+use Rattle.book_http.specs.declared.answer.Answer.{Answer}
 use Rattle.book_http.specs.declared.asked.Asked.TheVariants as asks
 use Rattle.book_http.specs.declared.served.Served.{Served}
 use Rattle.book_http.specs.declared.served.Served.TheVariants.{Closed, ReadFault, WriteFault}
@@ -23,7 +21,7 @@ use Rattle.book_http.specs.declared.served.Served.TheVariants.{Answered, Cut}
 use Rattle.book_http.specs.declared.served.Unanswered.{Unanswered}
 use Rattle.book_http.specs.declared.served.Unanswered.TheVariants.{Failed}
 use Rattle.book_http.specs.declared.status.Status.TheVariants.{Done}
-use Rattle.book_http.specs.Answer.{Answers, AnswersAsked, AnswersDetails, UnlessMemory, form_kind}
+use Rattle.book_http.specs.Answer.{Answers, AnswersDetails, form_kind}
 use Rattle.book_http.specs.Asked.{asked}
 use Rattle.book_http.specs.Head.{HasHead}
 use Rattle.book_http.specs.Replies.{Reply, reply_bytes, reply_of, success}
@@ -41,12 +39,6 @@ abbrev pub IsAnswer : Seen → Seen → Bool → List ℕ → Reply → Type 0
 IsAnswer old new ended taken reply =
     (more : List ℕ) → (ended ≡ true → more ≡ [])
     → IsDone old new (Answers old.naming (taken ++ more) reply)
-
--- so is the answer to what a head asks, by the bytes after it
-abbrev pub IsAnswerTo : Seen → Seen → Bool → Asked → List ℕ → Reply → Type 0
-IsAnswerTo old new ended asked behind reply =
-    (more : List ℕ) → (ended ≡ true → more ≡ [])
-    → IsTransition old new (UnlessMemory (AnswersAsked old.naming asked (behind ++ more) reply) reply)
 
 -- a prefix of the reply was written that is not the whole
 abbrev pub IsBegun : Reply → Option (List ℕ) → Option (List ℕ) → Type 0
@@ -70,34 +62,11 @@ IsMeasured old new wanted size =
     IsTransition old new
     (Calls (λ size. size) (detail_length_outcome wanted old.naming) (Ok size))
 
--- these details were measured, or the ledger answered why there are none
-abbrev pub Measures : Seen → Seen → DetailReport → ToSend → Type 0
-Measures old new wanted (to_send.Answer answer) =
+-- so many bytes it has, or the ledger answered why there is none
+abbrev pub Measures : Seen → Seen → DetailReport → Result ℕ Answer → Type 0
+Measures old new wanted (Ok size) = IsMeasured old new wanted size
+Measures old new wanted (Err answer) =
     IsTransition old new (AnswersDetails old.naming wanted (reply_of answer))
-Measures old new wanted (to_send.Details other size) =
-    (other ≡ wanted) × IsMeasured old new wanted size
-
--- What is to be sent is the answer to what a head asks, by the bytes after it; or the text of details,
--- which the head asks for and which were measured.
-abbrev pub IsToSendTo : Seen → Seen → Bool → Asked → List ℕ → ToSend → Type 0
-IsToSendTo old new ended wanted behind (to_send.Answer answer) =
-    IsAnswerTo old new ended wanted behind (reply_of answer)
-IsToSendTo old new ended wanted behind (to_send.Details details size) =
-    (wanted ≡ asks.Details details) × IsMeasured old new details size
-
--- the bytes begin with a head that asks for these details
-pub record AsksDetails (bytes : List ℕ) (details : DetailReport) : Type 0 where
-  pub head : RequestHead
-  pub behind : List ℕ
-  pub stands : HasHead bytes head behind
-  pub asks_them : asked head ≡ asks.Details details
-
--- the same of a request, by the bytes that were taken
-abbrev pub IsToSend : Seen → Seen → Bool → List ℕ → ToSend → Type 0
-IsToSend old new ended taken (to_send.Answer answer) =
-    IsAnswer old new ended taken (reply_of answer)
-IsToSend old new ended taken (to_send.Details details size) =
-    AsksDetails taken details × IsMeasured old new details size
 
 -- A reply was written while its text was read: the whole; or, where a write, the books or memory failed,
 -- a prefix that is not the whole.
@@ -126,16 +95,42 @@ pub record SendsDetails (wanted : DetailReport) (size : ℕ) (naming : Naming)
       → IsSentAsRead (success (form_kind wanted.form) text) held holds served
   pub stands : is_cut served ≡ false → is ≡ was
 
--- A request was answered, and the answer was sent while it was read. Books that did not fail in it stay
+-- Something was answered, and the answer was sent while it was read. Books that did not fail in it stay
 -- as they were.
-pub record SendsAsRead (naming : Naming) (bytes : List ℕ) (held holds : Option (List ℕ))
+pub record SendsReplyAsRead (Answering : Reply → Transition) (held holds : Option (List ℕ))
     (served : Served) (was : Bool) (before : Book) (events : List Event) (is : Bool) : Type 0 where
   pub reply : Reply
-  pub answer : Answers naming bytes reply was before events was
+  pub answer : Answering reply was before events was
   pub sent : IsSentAsRead reply held holds served
   pub stands : is_cut served ≡ false → is ≡ was
 
+-- the ledger answered why there are no details, and that was sent
+pub record RefusesDetails (books : Books) (wanted : DetailReport) (output : Output) (served : Served)
+    : Type 0 where
+  pub reply : Reply
+  pub answer : IsTransition books.old books.new (AnswersDetails books.old.naming wanted reply)
+  pub sent : IsSent reply output.old.holds output.new.holds served
+
+-- details were served: refused so, or sent while they were read
+abbrev pub ServesDetails : Books → DetailReport → Output → Served → Type 0
+ServesDetails books wanted output served =
+    RefusesDetails books wanted output served
+    ⊎ IsTransition books.old books.new
+    (SendsReplyAsRead (AnswersDetails books.old.naming wanted)
+    output.old.holds output.new.holds served)
+
 -- ---- a request as a whole
+
+-- the bytes begin with a head that asks for these details
+pub record AsksDetails (bytes : List ℕ) (details : DetailReport) : Type 0 where
+  pub head : RequestHead
+  pub behind : List ℕ
+  pub stands : HasHead bytes head behind
+  pub asks_them : asked head ≡ asks.Details details
+
+-- a request was answered, and the answer was sent while it was read
+abbrev pub SendsAsRead : Naming → List ℕ → Option (List ℕ) → Option (List ℕ) → Served → Transition
+SendsAsRead naming bytes = SendsReplyAsRead (Answers naming bytes)
 
 -- a request was answered, by the bytes that were taken from the reader, and the answer was sent
 pub record IsReplied (books : Books) (taken : List ℕ) (ended : Bool) (output : Output)

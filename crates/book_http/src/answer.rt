@@ -2,7 +2,6 @@ use crate::answer_head::BodyKind;
 use crate::method::Method;
 use crate::status::Status;
 use book_import::Receipt;
-use book_reports::DetailReport;
 
 /// What a request is answered.
 #[derive(Drop)]
@@ -15,13 +14,6 @@ pub enum Answer {
     Refusal(Status),
     /// A refusal, since the path has another method, which is this one.
     OtherMethod(Method),
-}
-
-/// What is to be sent to a client.
-#[derive(Drop)]
-pub enum ToSend {
-    /// An answer.
-    Answer(Answer),
-    /// The text of details, which has so many bytes and is sent while they are read.
-    Details(DetailReport, usize),
+    /// A refusal, since others have the books in use: the client may soon ask again.
+    Busy,
 }

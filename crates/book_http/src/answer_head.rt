@@ -3,17 +3,18 @@
 ghost use Rattle.std.specs.Prelude.{◌≡◌, ◌+◌, ◌≤◌, ◌++◌};
 ghost use Rattle.arrayvec.specs.ArrayString.{array_string_len};
 ghost use Rattle.book_http.specs.AnswerHead as spec;
-ghost use Rattle.book_http.specs.AnswerHead.{allow_line, media_type};
+ghost use Rattle.book_http.specs.AnswerHead.{allow_line, limit_lines, media_type, notice_line};
 ghost use Rattle.book_http.specs.Statuses as statuses;
 ghost use Rattle.book_http.specs.Statuses.{status_text};
 
 use crate::method::Method;
+use crate::notice::Notice;
 use crate::status::Status;
 use arrayvec::ArrayString;
 use itoa::Buffer;
 
 /// A text that takes no memory beside its own.
-pub type AnswerText = ArrayString<256>;
+pub type AnswerText = ArrayString<512>;
 
 /// What the body of an answer is.
 #[derive(Clone, Copy, Debug, PartialEq, Eq)]
@@ -22,6 +23,8 @@ pub enum BodyKind {
     Text,
     /// Rows with commas between their columns.
     Csv,
+    /// A page for a browser.
+    Page,
 }
 
 impl BodyKind {
@@ -32,6 +35,7 @@ impl BodyKind {
         match self {
             BodyKind::Text => "text/plain; charset=us-ascii",
             BodyKind::Csv => "text/csv; charset=us-ascii",
+            BodyKind::Page => "text/html; charset=us-ascii",
         }
     }
 }
@@ -39,7 +43,7 @@ impl BodyKind {
 /// Appends the code of a status, a blank, and its phrase.
 #[tactic(auto, unfolding(crate::specs::Statuses::status_text))]
 fn push_status(text: &mut AnswerText, status: Status)
-    requires { array_string_len text.old + 24 ≤ 256 }
+    requires { array_string_len text.old + 24 ≤ 512 }
     ensures bytes { text.new.bytes ≡ text.old.bytes ++ status_text status }
     ensures bound { array_string_len text.new ≤ array_string_len text.old + 24 }
 {
@@ -48,23 +52,51 @@ fn push_status(text: &mut AnswerText, status: Status)
     text.push_str(status.phrase());
 }
 
-/// Appends the line that names the method of a path, if one is to be named.
-fn push_allow(text: &mut AnswerText, allow: Option<Method>)
-    requires { array_string_len text.old + 13 ≤ 256 }
-    ensures bytes { text.new.bytes ≡ text.old.bytes ++ allow_line allow }
+/// Appends the lines that tell a browser what it may do with a page: it runs no script, fetches
+/// nothing, and takes the page for nothing but HTML.
+fn push_limits(text: &mut AnswerText, kind: BodyKind)
+    requires { array_string_len text.old + 105 ≤ 512 }
+    ensures bytes { text.new.bytes ≡ text.old.bytes ++ limit_lines kind }
+    ensures bound { array_string_len text.new ≤ array_string_len text.old + 105 }
+{
+    match kind {
+        BodyKind::Page => {
+            text.push_str("Content-Security-Policy: ");
+            text.push_str("default-src 'none'; style-src 'unsafe-inline'\r\n");
+            text.push_str("X-Content-Type-Options: nosniff\r\n");
+        }
+        BodyKind::Text | BodyKind::Csv => {}
+    }
+}
+
+/// Appends the line that names the method of a path.
+fn push_allow(text: &mut AnswerText, method: Method)
+    requires { array_string_len text.old + 13 ≤ 512 }
+    ensures bytes { text.new.bytes ≡ text.old.bytes ++ allow_line method }
     ensures bound { array_string_len text.new ≤ array_string_len text.old + 13 }
 {
-    if let Some(method) = allow {
-        text.push_str("Allow: ");
-        text.push_str(method.text());
-        text.push_str("\r\n");
+    text.push_str("Allow: ");
+    text.push_str(method.text());
+    text.push_str("\r\n");
+}
+
+/// Appends the line of what is said beside the status, if anything is.
+fn push_notice(text: &mut AnswerText, notice: Option<Notice>)
+    requires { array_string_len text.old + 16 ≤ 512 }
+    ensures bytes { text.new.bytes ≡ text.old.bytes ++ notice_line notice }
+    ensures bound { array_string_len text.new ≤ array_string_len text.old + 16 }
+{
+    match notice {
+        Some(Notice::Allow(method)) => push_allow(text, method),
+        Some(Notice::RetryAfter) => text.push_str("Retry-After: 1\r\n"),
+        None => {}
     }
 }
 
 /// Appends the line that gives the number of bytes of a body.
 #[tactic(auto, unfolding(crate::specs::AnswerHead::size_line))]
 fn push_size(text: &mut AnswerText, size: usize)
-    requires { array_string_len text.old + 58 ≤ 256 }
+    requires { array_string_len text.old + 58 ≤ 512 }
     ensures bytes { text.new.bytes ≡ text.old.bytes ++ spec.size_line size }
     ensures bound { array_string_len text.new ≤ array_string_len text.old + 58 }
 {
@@ -76,8 +108,13 @@ fn push_size(text: &mut AnswerText, size: usize)
 
 /// The lines of an answer before a body of that many bytes, the empty line among them.
 #[tactic(auto, unfolding(crate::specs::AnswerHead::answer_head))]
-pub fn answer_head(status: Status, kind: BodyKind, allow: Option<Method>, size: usize) -> AnswerText
-    ensures { result.bytes ≡ spec.answer_head status kind allow size }
+pub fn answer_head(
+    status: Status,
+    kind: BodyKind,
+    notice: Option<Notice>,
+    size: usize,
+) -> AnswerText
+    ensures { result.bytes ≡ spec.answer_head status kind notice size }
 {
     let mut text = AnswerText::new();
     text.push_str("HTTP/1.1 ");
@@ -85,7 +122,8 @@ pub fn answer_head(status: Status, kind: BodyKind, allow: Option<Method>, size: 
     text.push_str("\r\nContent-Type: ");
     text.push_str(kind.text());
     text.push_str("\r\n");
-    push_allow(&mut text, allow);
+    push_limits(&mut text, kind);
+    push_notice(&mut text, notice);
     push_size(&mut text, size);
     text.push_str("Connection: close\r\n\r\n");
     text

@@ -112,18 +112,37 @@ fn asked_at(found: Option<Route>, method: &[u8], has_origin: bool, framing: Fram
     }
 }
 
+/// The same where the head may name another machine: by such a name nothing is asked for.
+fn asked_here(
+    is_foreign: bool,
+    found: Option<Route>,
+    method: &[u8],
+    has_origin: bool,
+    framing: Framing,
+) -> Asked
+    ensures asked { result ≡ spec.asked_here is_foreign found method.now has_origin framing }
+    ensures limit { IsServable result }
+{
+    if is_foreign {
+        Asked::Refusal(Status::Forbidden)
+    } else {
+        asked_at(found, method, has_origin, framing)
+    }
+}
+
 /// What is asked: a faulty length is refused before anything else is looked at.
 pub fn asked_framed(
     framing: Framing,
+    is_foreign: bool,
     found: Option<Route>,
     method: &[u8],
     has_origin: bool,
 ) -> Asked
-    ensures asked { result ≡ spec.asked_framed framing found method.now has_origin }
+    ensures asked { result ≡ spec.asked_framed framing is_foreign found method.now has_origin }
     ensures limit { IsServable result }
 {
     match framing {
         Framing::Faulty => Asked::Refusal(Status::BadRequest),
-        _ => asked_at(found, method, has_origin, framing),
+        _ => asked_here(is_foreign, found, method, has_origin, framing),
     }
 }

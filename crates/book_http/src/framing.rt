@@ -27,8 +27,8 @@ const TRANSFER_ENCODING: &str = "transfer-encoding";
 /// The most digits of a length. The largest such number fits 64 bits.
 const MOST_DIGITS: usize = 19;
 
-/// The field has this name, in any case.
-fn is_field_named(name: &[u8], wanted: &str) -> bool
+/// The name is this one, in any case.
+pub fn is_field_named(name: &[u8], wanted: &str) -> bool
     ensures { result ≡ spec.is_field_named wanted.now name.now }
 {
     name.eq_ignore_ascii_case(wanted.as_bytes())

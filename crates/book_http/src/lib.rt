@@ -3,24 +3,31 @@
 
 mod answer;
 mod answer_head;
-mod answering;
 mod asked;
 mod body;
 mod decimal_value;
 mod framing;
 mod head;
+mod host;
 mod laws;
 mod method;
+mod notice;
 mod office_answers;
 mod request;
+mod requested;
 mod route;
 mod sending;
 mod serve;
 mod served;
 mod status;
 
+pub use answer::Answer;
 pub use laws::{
     answers_are_one, request_twice_is_once, requests_are_mended, requests_make_history,
 };
-pub use serve::serve_one;
-pub use served::Served;
+pub use office_answers::{ask_details, ask_office};
+pub use requested::{OfficeRequest, Requested, read_request};
+pub use sending::{send, send_details};
+pub use serve::{serve_details, serve_one};
+pub use served::{Served, Unanswered};
+pub use status::Status;

@@ -1,22 +1,28 @@
 //! What the office answers, as answers to requests: a report, what a period would have cost by the
 //! tariff that a body is, or the import of a body; and how many bytes the text of details has.
 
-ghost use Rattle.std.specs.Prelude.{◌≡◌};
+ghost use Rattle.std.specs.Prelude.{◌≡◌, ◌<◌, IfOk};
 ghost use Rattle.book_core.specs.Transition.{IsTransition};
 ghost use Rattle.office.specs.Requests.{response_by};
 ghost use Rattle.book_http.specs.Answer as spec;
-ghost use Rattle.book_http.specs.Answer.{AnswersImport, AnswersReport, AnswersWhatIf, office_reply};
+ghost use Rattle.book_http.specs.Answer.{AnswersDetails, AnswersImport, AnswersReport};
+ghost use Rattle.book_http.specs.Answer.{AnswersWhatIf, most_gathered, office_reply};
 ghost use Rattle.book_http.specs.Replies.{reply_of};
+ghost use Rattle.book_http.specs.Requested.{AnswersRequest, office_seen};
 ghost use Rattle.book_http.specs.Served.{Measures};
 
-use crate::answer::{Answer, ToSend};
+use crate::answer::Answer;
 use crate::answer_head::BodyKind;
+use crate::requested::OfficeRequest;
 use crate::status::Status;
-use book_core::{Ledger, LedgerFault};
-use book_reports::{DetailReport, details_length};
+use book_core::{Ledger, LedgerFault, Sink};
+use book_reports::{DetailReport, ReportFault, details_length, write_details};
 use office::{Asked, PeriodReport, Report, StatementForm, WhatIf, ask_without_reader};
 use smf_frames::Layout;
 use std::alloc::Global;
+
+/// The most bytes of details that are gathered before they are sent.
+const MOST_GATHERED: usize = 16_777_216;
 
 /// The form of a report.
 fn body_kind(report: &Report) -> BodyKind
@@ -30,6 +36,7 @@ fn body_kind(report: &Report) -> BodyKind
             report: PeriodReport::StatementTable | PeriodReport::AdjustmentTable,
             ..
         } => BodyKind::Csv,
+        Report::OfficePage | Report::PeriodPage(_) => BodyKind::Page,
         _ => BodyKind::Text,
     }
 }
@@ -61,7 +68,7 @@ fn answer_of(kind: BodyKind, told: Result<office::Answer, LedgerFault>) -> Answe
 }
 
 /// Answers a report.
-pub fn answer_report<L: Ledger>(alloc: Global, ledger: &mut L, report: Report) -> Answer
+fn answer_report<L: Ledger>(alloc: Global, ledger: &mut L, report: Report) -> Answer
     ensures { IsTransition (L.seen ledger.old) (L.seen ledger.new)
         (AnswersReport (L.seen ledger.old).naming report (reply_of result)) }
 {
@@ -70,27 +77,64 @@ pub fn answer_report<L: Ledger>(alloc: Global, ledger: &mut L, report: Report) -
     answer_of(kind, ask_without_reader(alloc, ledger, &asked))
 }
 
-/// Measures the text of details, which is sent while it is read. A period that is not there is
-/// refused.
-pub fn measure_details<L: Ledger>(alloc: Global, ledger: &mut L, details: &DetailReport) -> ToSend
+/// Measures the text of details. A period that is not there is refused.
+fn measure_details<L: Ledger>(
+    alloc: Global,
+    ledger: &mut L,
+    details: &DetailReport,
+) -> Result<usize, Answer>
     ensures { Measures (L.seen ledger.old) (L.seen ledger.new) details.now result }
 {
     match details_length(alloc, ledger, *details) {
-        Ok(size) => ToSend::Details(*details, size),
+        Ok(size) => Ok(size),
         Err(fault) => {
             let kind = form_kind(details.form);
-            ToSend::Answer(answer_of(kind, Err(fault)))
+            Err(answer_of(kind, Err(fault)))
         }
     }
 }
 
-/// Answers what a period would have cost by the tariff that a body is.
-pub fn answer_what_if<L: Ledger>(
+/// What the office answered to details that were written into memory.
+fn gathered(told: Result<(), ReportFault>, text: Vec<u8>) -> Result<office::Answer, LedgerFault>
+    ensures { response_by result ≡ spec.gathered told text.items }
+{
+    match told {
+        Ok(()) => Ok(office::Answer::Text(text)),
+        Err(ReportFault::Write) | Err(ReportFault::Memory) => Err(LedgerFault::Memory),
+        Err(ReportFault::Ledger(fault)) => Err(fault),
+    }
+}
+
+/// Answers details by their whole text.
+fn gather_details<L: Ledger>(alloc: Global, ledger: &mut L, details: &DetailReport) -> Answer
+    ensures { IsTransition (L.seen ledger.old) (L.seen ledger.new)
+        (AnswersDetails (L.seen ledger.old).naming details.now (reply_of result)) }
+{
+    let mut text = Sink::new(Vec::new(alloc));
+    let told = write_details(alloc, ledger, *details, &mut text);
+    let kind = form_kind(details.form);
+    answer_of(kind, gathered(told, text.into_inner()))
+}
+
+/// Answers details by their text, or by why there is none; a text of more bytes than are gathered is
+/// only measured, and is to be sent while it is read.
+pub fn ask_details<L: Ledger>(
     alloc: Global,
     ledger: &mut L,
-    report: WhatIf,
-    body: Vec<u8>,
-) -> Answer
+    details: &DetailReport,
+) -> Result<usize, Answer>
+    ensures asked { Measures (L.seen ledger.old) (L.seen ledger.new) details.now result }
+    ensures long { IfOk result (λ size. most_gathered < size) }
+{
+    match measure_details(alloc, ledger, details) {
+        Ok(size) if size > MOST_GATHERED => Ok(size),
+        Ok(_) => Err(gather_details(alloc, ledger, details)),
+        Err(answer) => Err(answer),
+    }
+}
+
+/// Answers what a period would have cost by the tariff that a body is.
+fn answer_what_if<L: Ledger>(alloc: Global, ledger: &mut L, report: WhatIf, body: Vec<u8>) -> Answer
     ensures { IsTransition (L.seen ledger.old) (L.seen ledger.new)
         (AnswersWhatIf report body.items (reply_of result)) }
 {
@@ -103,12 +147,7 @@ pub fn answer_what_if<L: Ledger>(
 }
 
 /// Answers the import of a body, which is a whole dump.
-pub fn answer_import<L: Ledger>(
-    alloc: Global,
-    ledger: &mut L,
-    layout: Layout,
-    body: Vec<u8>,
-) -> Answer
+fn answer_import<L: Ledger>(alloc: Global, ledger: &mut L, layout: Layout, body: Vec<u8>) -> Answer
     ensures { IsTransition (L.seen ledger.old) (L.seen ledger.new)
         (AnswersImport (L.seen ledger.old).naming layout body.items (reply_of result)) }
 {
@@ -117,4 +156,16 @@ pub fn answer_import<L: Ledger>(
         bytes: body,
     };
     answer_of(BodyKind::Text, ask_without_reader(alloc, ledger, &asked))
+}
+
+/// Asks the office once.
+pub fn ask_office<L: Ledger>(alloc: Global, ledger: &mut L, request: OfficeRequest) -> Answer
+    ensures { IsTransition (L.seen ledger.old) (L.seen ledger.new) (AnswersRequest
+        (L.seen ledger.old).naming (office_seen request) (reply_of result)) }
+{
+    match request {
+        OfficeRequest::Report(report) => answer_report(alloc, ledger, report),
+        OfficeRequest::WhatIf { what_if, body } => answer_what_if(alloc, ledger, what_if, body),
+        OfficeRequest::Import { layout, body } => answer_import(alloc, ledger, layout, body),
+    }
 }

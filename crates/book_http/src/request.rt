@@ -6,6 +6,7 @@ ghost use Rattle.httparse.specs.Spans.{IsRequestAt, IsRequestWithin};
 ghost use Rattle.book_http.specs.Requests.{DescribesHead};
 
 use crate::framing::{Framing, framing_in, has_field};
+use crate::host::is_foreign;
 use httparse::spans::{HeaderSpan, RequestSpans};
 
 /// The name of the field that gives the origin of the page that sends the request.
@@ -20,6 +21,8 @@ pub struct Request<'a> {
     pub target: &'a [u8],
     /// What is said of the length of the body.
     pub framing: Framing,
+    /// It gives a host that is not this machine.
+    pub is_foreign: bool,
     /// It gives the origin of the page that sends it.
     pub has_origin: bool,
     /// The bytes that were read after the head.
@@ -31,13 +34,15 @@ pub fn request_in<'a>(bytes: &'a [u8], fields: &[HeaderSpan], spans: RequestSpan
     requires { IsRequestWithin bytes.now fields.now spans }
     ensures behind { result.behind.now ≡ drop spans.len bytes.now }
     ensures says { (h : RequestHead) → IsRequestAt bytes.now fields.now spans h
-        → DescribesHead h result.method.now result.target.now result.framing result.has_origin }
+        → DescribesHead h result.method.now result.target.now result.framing
+        result.is_foreign result.has_origin }
 {
     let fields = &fields[..spans.headers];
     Request {
         method: spans.method.of(bytes),
         target: spans.path.of(bytes),
         framing: framing_in(bytes, fields),
+        is_foreign: is_foreign(bytes, fields),
         has_origin: has_field(bytes, fields, ORIGIN),
         behind: &bytes[spans.len..],
     }

@@ -31,6 +31,10 @@ pub enum Route {
 /// A path of the server, whatever period, centre, record and day it names.
 #[derive(Clone, Copy, Debug, PartialEq, Eq)]
 pub enum Page {
+    /// The page of the office.
+    Office,
+    /// The page of a period.
+    Period,
     /// The list of the periods.
     Periods,
     /// A statement, of the whole office or of one centre.
@@ -95,7 +99,9 @@ fn pages(alloc: Global) -> Result<Router<Page>, InsertError>
     let router = with_page(router, "/what-if/{*rest}", Page::WhatIf)?;
     let router = with_page(router, "/what-if-csv/{*rest}", Page::WhatIfCsv)?;
     let router = with_page(router, "/import", Page::Import)?;
-    with_page(router, "/import-bdw", Page::ImportBdw)
+    let router = with_page(router, "/import-bdw", Page::ImportBdw)?;
+    let router = with_page(router, "/", Page::Office)?;
+    with_page(router, "/period/{*rest}", Page::Period)
 }
 
 /// The page of a path, if it has one.
@@ -215,6 +221,15 @@ fn what_if_after(form: StatementForm, prefix: &str, path: &str) -> Option<Route>
     }))
 }
 
+/// The period whose page a path asks for after its prefix.
+fn page_after(prefix: &str, path: &str) -> Option<Route>
+    ensures { result ≡ spec.page_after prefix.now path.now }
+{
+    let rest = path_rest(prefix, path)?;
+    let number = period(rest.as_bytes())?;
+    Some(Route::Report(Report::PeriodPage(number)))
+}
+
 /// The record whose name a path spells after its prefix.
 fn record_after(prefix: &str, path: &str) -> Option<Route>
     ensures { result ≡ spec.record_after prefix.now path.now }
@@ -239,6 +254,8 @@ fn route_at(page: Page, path: &str) -> Option<Route>
     ensures { result ≡ spec.route_at page path.now }
 {
     match page {
+        Page::Office => Some(Route::Report(Report::OfficePage)),
+        Page::Period => page_after("/period/", path),
         Page::Periods => Some(Route::Report(Report::PeriodList)),
         Page::Statement => report_after(PeriodReport::Statement, "/statement/", path),
         Page::StatementCsv => report_after(PeriodReport::StatementTable, "/statement-csv/", path),

@@ -4,14 +4,14 @@
 ghost use Rattle.std.specs.Prelude.{◌≡◌, false};
 ghost use Rattle.streams.specs.Sinks.{writer_of, has_failed};
 ghost use Rattle.book_core.specs.Transition.{IsTransition};
-ghost use Rattle.book_http.specs.Replies.{reply_of};
+ghost use Rattle.book_http.specs.Replies.{refusal_with, reply_of};
 ghost use Rattle.book_http.specs.Replies as spec;
 ghost use Rattle.book_http.specs.Served as outcomes;
 ghost use Rattle.book_http.specs.Served.{IsSent, SendsDetails, is_unanswered, is_write_fault};
 
 use crate::answer::Answer;
 use crate::answer_head::{BodyKind, answer_head, status_body};
-use crate::method::Method;
+use crate::notice::Notice;
 use crate::office_answers::form_kind;
 use crate::served::Served;
 use crate::status::Status;
@@ -39,15 +39,17 @@ fn send_reply<W: Write + Drop>(
     sink: &mut Sink<W>,
     status: Status,
     kind: BodyKind,
-    allow: Option<Method>,
+    notice: Option<Notice>,
     body: &[u8],
 ) -> Served
     requires { has_failed sink.old ≡ false }
-    ensures sent { IsSent (record { status = status; kind = kind; allow = allow; body = body.now })
+    ensures sent { IsSent
+        (record { status = status; kind = kind; notice = notice; body = body.now })
         (W.contents (writer_of sink.old)) (W.contents (writer_of sink.new)) result }
     ensures failed { has_failed sink.new ≡ is_write_fault result }
+    ensures answered { is_unanswered result ≡ false }
 {
-    let head = answer_head(status, kind, allow, body.len());
+    let head = answer_head(status, kind, notice, body.len());
     let Ok(()) = write_text(sink, head.as_str()) else {
         return Served::WriteFault;
     };
@@ -57,12 +59,37 @@ fn send_reply<W: Write + Drop>(
     Served::Answered(status.code())
 }
 
+/// Writes a refusal, whose body is its own status.
+fn send_refusal<W: Write + Drop>(
+    sink: &mut Sink<W>,
+    notice: Option<Notice>,
+    status: Status,
+) -> Served
+    requires { has_failed sink.old ≡ false }
+    ensures sent { IsSent (refusal_with notice status)
+        (W.contents (writer_of sink.old)) (W.contents (writer_of sink.new)) result }
+    ensures failed { has_failed sink.new ≡ is_write_fault result }
+    ensures answered { is_unanswered result ≡ false }
+{
+    let text = status_body(status);
+    send_reply(
+        sink,
+        status,
+        BodyKind::Text,
+        notice,
+        text.as_str().as_bytes(),
+    )
+}
+
 /// Writes an answer.
 pub fn send<W: Write + Drop>(sink: &mut Sink<W>, answer: &Answer) -> Served
     requires { has_failed sink.old ≡ false }
+
+    // The writer has the answer, or, where a write failed, a prefix of it that is not the whole.
     ensures sent { IsSent (reply_of answer.now)
         (W.contents (writer_of sink.old)) (W.contents (writer_of sink.new)) result }
     ensures failed { has_failed sink.new ≡ is_write_fault result }
+    ensures answered { is_unanswered result ≡ false }
 {
     match answer {
         Answer::Report(kind, text) => send_reply(sink, Status::Done, *kind, None, text),
@@ -77,27 +104,12 @@ pub fn send<W: Write + Drop>(sink: &mut Sink<W>, answer: &Answer) -> Served
                 body,
             )
         }
-        Answer::Refusal(status) => {
-            let text = status_body(*status);
-            send_reply(
-                sink,
-                *status,
-                BodyKind::Text,
-                None,
-                text.as_str().as_bytes(),
-            )
-        }
+        Answer::Refusal(status) => send_refusal(sink, None, *status),
         Answer::OtherMethod(method) => {
-            let status = Status::MethodNotAllowed;
-            let text = status_body(status);
-            send_reply(
-                sink,
-                status,
-                BodyKind::Text,
-                Some(*method),
-                text.as_str().as_bytes(),
-            )
+            let notice = Notice::Allow(*method);
+            send_refusal(sink, Some(notice), Status::MethodNotAllowed)
         }
+        Answer::Busy => send_refusal(sink, Some(Notice::RetryAfter), Status::Unavailable),
     }
 }
 

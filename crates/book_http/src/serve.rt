@@ -1,7 +1,6 @@
 //! One request, from the bytes of a reader to the bytes of a writer.
 
-ghost use Rattle.std.specs.Prelude.{◌≡◌, ◌+◌, ◌≤◌, ◌^◌, List, [], false, true};
-ghost use Rattle.std.specs.Prelude.{IfOk, IsErrOf, OnErr};
+ghost use Rattle.std.specs.Prelude.{◌≡◌, ◌+◌, ◌≤◌, ◌^◌, List, false, true};
 ghost use Rattle.streams.specs.AnswerFlags.{NothingUnread};
 ghost use Rattle.streams.specs.InputOutput.{output};
 ghost use Rattle.streams.specs.Sinks as sinks;
@@ -10,63 +9,42 @@ ghost use Rattle.book_core.specs.Ledgers.{books};
 ghost use Rattle.book_http.specs.Bodies.{most_body_bytes};
 ghost use Rattle.book_http.specs.Head.{most_head_bytes};
 ghost use Rattle.book_http.specs.Reads.{ReadCall, bytes_read, AreReadsBetween, IsDue};
-ghost use Rattle.book_http.specs.Served.{IsServed, IsToSend};
-ghost use Rattle.book_http.specs.Served.{is_failed, is_read_fault, is_unanswered, is_write_fault};
+ghost use Rattle.book_http.specs.Served.{IsServed, ServesDetails};
+ghost use Rattle.book_http.specs.Served.{is_read_fault, is_unanswered, is_write_fault};
 
-use crate::answer::{Answer, ToSend};
-use crate::answering::answer_request;
-use crate::head::{HeadRead, MAX_FIELDS, MAX_HEAD, read_head};
-use crate::request::request_in;
+use crate::office_answers::{ask_details, ask_office};
+use crate::requested::{Requested, read_request};
 use crate::sending::{send, send_details};
 use crate::served::{Served, Unanswered};
-use crate::status::Status;
 use book_core::{Ledger, Sink, Source};
-use httparse::spans::EMPTY_HEADER_SPAN;
+use book_reports::DetailReport;
 use std::alloc::Global;
 use std::io::Write;
 use streams::Reader;
 
-/// Reads one request, and does what it asks of the books.
-fn read_and_answer<R: Reader + Drop, L: Ledger>(
+/// Serves details: gathers their text and sends it, or sends a long one while it is read. Where the
+/// books have none, that is answered.
+pub fn serve_details<L: Ledger, W: Write + Drop>(
     alloc: Global,
-    source: &mut Source<R>,
     ledger: &mut L,
-) -> Result<ToSend, Unanswered>
-    requires asked { reads_of source.old ≤ 2 ^ 62 }
-    requires failed { has_failed source.old ≡ false }
-    requires ended { has_ended source.old ≡ false }
-    ensures answer { (reads : List (ReadCall R))
-        × AreReadsBetween R.remaining R.may_answer IsDue source.old source.new reads
-        × IfOk result (λ sent. IsToSend (L.seen ledger.old) (L.seen ledger.new)
-        (has_ended source.new) (bytes_read reads) sent)
-        × (IsErrOf result Unanswered.Closed → bytes_read reads ≡ []) }
-    ensures closed { IsErrOf result Unanswered.Closed → has_ended source.new ≡ true }
-    ensures none { OnErr result (ledger.new ≡ ledger.old) }
-    ensures failed { has_failed source.new ≡ is_failed result }
-    ensures asked { reads_of source.new
-        ≤ reads_of source.old + most_head_bytes + most_body_bytes }
-    ensures left { NothingUnread
-        (has_ended source.new) (R.remaining (reader_of source.new)) }
+    details: DetailReport,
+    sink: &mut Sink<W>,
+) -> Served
+    requires { sinks.has_failed sink.old ≡ false }
+    ensures served { ServesDetails (books L.seen ledger.old ledger.new) details
+        (output W.contents sink.old sink.new) result }
+    ensures failed { sinks.has_failed sink.new ≡ is_write_fault result }
+    ensures answered { is_unanswered result ≡ false }
 {
-    let mut buffer = [0u8; MAX_HEAD];
-    let mut fields = [EMPTY_HEADER_SPAN; MAX_FIELDS];
-    match read_head(source, &mut buffer, &mut fields) {
-        HeadRead::Closed => Err(Unanswered::Closed),
-        HeadRead::Failed => Err(Unanswered::Failed),
-        HeadRead::Refused => Ok(ToSend::Answer(Answer::Refusal(Status::BadRequest))),
-        HeadRead::Whole(whole) => {
-            let request = request_in(&buffer[..whole.filled], &fields, whole.spans);
-            let Ok(sent) = answer_request(alloc, source, &request, ledger) else {
-                return Err(Unanswered::Failed);
-            };
-            Ok(sent)
-        }
+    match ask_details(alloc, ledger, &details) {
+        Ok(size) => send_details(alloc, ledger, details, size, sink),
+        Err(answer) => send(sink, &answer),
     }
 }
 
 /// Serves one request: reads it, does what it asks of the books, and writes the answer. Bytes after
 /// the request are not looked at. What a request did stays done where its answer can't be written.
-/// Details are read twice: to announce how many bytes their text has, and to send it.
+/// Details are read twice: to announce how many bytes their text has, and to gather or to send it.
 pub fn serve_one<R: Reader + Drop, W: Write + Drop, L: Ledger>(
     alloc: Global,
     source: &mut Source<R>,
@@ -98,9 +76,13 @@ pub fn serve_one<R: Reader + Drop, W: Write + Drop, L: Ledger>(
     ensures read { has_failed source.new ≡ is_read_fault result }
     ensures written { sinks.has_failed sink.new ≡ is_write_fault result }
 {
-    match read_and_answer(alloc, source, ledger) {
-        Ok(ToSend::Answer(answer)) => send(sink, &answer),
-        Ok(ToSend::Details(details, size)) => send_details(alloc, ledger, details, size, sink),
+    match read_request(alloc, source) {
+        Ok(Requested::Settled(answer)) => send(sink, &answer),
+        Ok(Requested::Office(request)) => {
+            let answer = ask_office(alloc, ledger, request);
+            send(sink, &answer)
+        }
+        Ok(Requested::Details(details)) => serve_details(alloc, ledger, details, sink),
         Err(Unanswered::Closed) => Served::Closed,
         Err(Unanswered::Failed) => Served::ReadFault,
     }

@@ -15,7 +15,7 @@ pub enum Served {
 
 /// Why a request is not answered.
 #[derive(Clone, Copy, Debug, PartialEq, Eq)]
-pub(crate) enum Unanswered {
+pub enum Unanswered {
     /// The input ended before its first byte.
     Closed,
     /// A read failed before the request was whole.

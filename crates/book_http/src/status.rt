@@ -12,7 +12,7 @@ pub enum Status {
     Done,
     /// It has no proper head, its body is not as long as its head says, or its tariff is refused.
     BadRequest,
-    /// A page in a browser sent it, where a dump or a tariff is submitted.
+    /// It is for another host, or a page in a browser sent it that submits a dump or a tariff.
     Forbidden,
     /// Nothing has that path.
     NotFound,

@@ -54,8 +54,8 @@ use Rattle.chargectl.specs.Faults.{settled_as}
 use Rattle.chargectl.specs.StreamedLists.{ListsAsked, ListsBy, WritesSomeOf, details_by, disputes_by}
 use Rattle.chargectl.specs.StreamedLists.{list_answer, listing_answered}
 use Rattle.chargectl.specs.Upgrades.{UpgradesBy}
-use Rattle.chargectl.specs.Sittings.{SomeSittings}
-use Rattle.chargectl.proofs.SittingLemmas.{sittings_answered}
+use Rattle.chargectl.specs.Serving.{ServesSome}
+use Rattle.chargectl.proofs.ServingLemmas.{some_answered}
 
 by_test : {P : Type 0} (is : Bool) → (is ≡ true → P) → (P → is ≡ true) → P ⊎ (P → ⊥)
 by_test true same back = inl (same refl)
@@ -239,7 +239,7 @@ none_served : (naming : Naming) (history made : List Event) → made ≡ []
     → ServesOfHistory naming history made
 none_served naming history made is = record {
   is = false;
-  made_so = record { sittings = 0; made = record { none = is; same = refl } };
+  made_so = record { told = []; made = record { none = is; same = refl } };
 }
 
 module _ (history : List Event) (name : List ℕ) (old new : Shelf)
@@ -485,8 +485,8 @@ module _ (history : List Event) (name : List ℕ) (old new : Shelf)
                 record { is = made_it.is; made_so = made_it.made_so },
             so.1,
           ))
-          (work_on old.naming history name old new answered held book (SomeSittings old.naming)
-          (sittings_answered old.naming) it.some)
+          (work_on old.naming history name old new answered held book (ServesSome old.naming)
+          (some_answered old.naming) it.some)
       by_came (Err why) it =
           step_as (λ made is. (λ _. none_served old.naming history made is, λ _. is))
           (none_on old.naming history name old new answered held book it.1)
@@ -519,8 +519,8 @@ runs_on : {S : Type 0} (shelf : S → Shelf) (history : List Event) (name : List
     → DoesOrRefuses shelf old new asked had has holds Says status
     → Step (shelf old).naming history name (shelf old) (shelf new)
     (RunsOn (shelf old).naming name history asked has holds status)
-runs_on shelf history name old new answered held (Ok (request.OfBooks book asked)) had has holds Says
-    status done =
+runs_on shelf history name old new answered held (Ok (request.OfBooks book wait asked)) had has holds
+    Says status done =
     step_as (λ made so. record { ended = done.0; ends = done.2; here = so.0; elsewhere = so.1 })
     (does_on history name (shelf old) (shelf new) answered held book.now asked has holds done.0 done.1)
 runs_on shelf history name old new answered held (Ok (request.Trial layout cpu excp fee)) had has holds

@@ -42,7 +42,7 @@ use Rattle.chargectl.specs.DryRuns.{ShowsDry}
 use Rattle.chargectl.specs.Faults.{settled_as, status_by}
 use Rattle.chargectl.specs.Requests.{CommandsBy}
 use Rattle.chargectl.specs.StreamedLists.{WritesSomeOf, details_by, disputes_by, list_answer, list_end}
-use Rattle.chargectl.specs.Sittings.{SomeSittings}
+use Rattle.chargectl.specs.Serving.{ServesSome}
 
 -- a command: its words, its input, its output and standard error before and after it, its status, and
 -- the place of the books after it
@@ -173,7 +173,7 @@ pub record ListOfHistory (naming : Naming) (history : List Event) (held holds : 
 -- Connections made these events of the books of a history.
 pub record ServesOfHistory (naming : Naming) (history made : List Event) : Type 0 where
   pub is : Bool
-  pub made_so : SomeSittings naming false (book_after history) made is
+  pub made_so : ServesSome naming false (book_after history) made is
 
 -- This text was written, whole or up to a fault, or refused. Where the books were not opened none was;
 -- where it was not seen that their closed files hold them, it may be the list of other books.
@@ -248,7 +248,7 @@ pub record OnBooks (naming : Naming) (name book : List ℕ) (history : List Even
 -- so with all requests: only those on books do anything to them
 abbrev pub RunsOn : Naming → List ℕ → List Event → Result Request ArgumentFault → Option (List ℕ)
     → Option (List ℕ) → Status → List Event → Type 0
-RunsOn naming name history (Ok (request.OfBooks book asked)) held holds status made =
+RunsOn naming name history (Ok (request.OfBooks book wait asked)) held holds status made =
     OnBooks naming name book.now history asked held holds status made
 RunsOn naming name history asked held holds status made = made ≡ []
 

@@ -13,7 +13,7 @@ use Rattle.book_core.specs.Transition.{Transition}
 use Rattle.book_reports.specs.declared.report.PeriodReport.{PeriodReport}
 use Rattle.book_reports.specs.declared.report.Report.{Report}
 use Rattle.book_reports.specs.declared.report.Report.TheVariants.{OfCentre, PeriodList, TariffText}
-use Rattle.book_reports.specs.declared.report.Report.TheVariants.{Bill, Record}
+use Rattle.book_reports.specs.declared.report.Report.TheVariants.{Bill, PeriodPage, Record}
 use Rattle.book_reports.specs.declared.what_if.StatementForm.{StatementForm}
 use Rattle.book_reports.specs.declared.what_if.WhatIf.{WhatIf}
 use Rattle.book_reports.specs.BookTexts.{centre_named, report_of_all}
@@ -80,6 +80,7 @@ IsAskedBy (book.TariffText date) (asks.Report printed) =
     option_map TariffText (day_of_text_of date.now) ≡ Some printed
 IsAskedBy (book.Record name) (asks.Report printed) =
     option_map Record (name_in name.now) ≡ Some printed
+IsAskedBy (book.Page period) (asks.Report printed) = printed ≡ PeriodPage period
 IsAskedBy book.Periods (asks.Report printed) = printed ≡ PeriodList
 IsAskedBy request asked = ⊥
 

@@ -30,7 +30,7 @@ use Rattle.chargectl.specs.declared.streamed_lists.StreamedList.TheVariants as l
 use Rattle.chargectl.specs.StreamedLists.{ListsAsked, ListsBy, details_by, disputes_by}
 use Rattle.chargectl.specs.Upgrades.{UpgradesBy}
 use Rattle.chargectl.specs.ServedLines.{unfailed}
-use Rattle.chargectl.specs.Sittings.{ServesAll, SomeSittings, service_end}
+use Rattle.chargectl.specs.Serving.{IsServing, ServesSome, ready, service_end}
 
 -- new books were made, or not, and nothing was written
 pub record Makes (book : List ℕ) (old new : Shelf) (held holds : Option (List ℕ)) (ended : Ended)
@@ -46,8 +46,8 @@ pub record Makes (book : List ℕ) (old new : Shelf) (held holds : Option (List 
 pub record Serves (requests : ℕ) (book : List ℕ) (old new : Shelf) (held holds : Option (List ℕ))
     (ended : Ended) : Type 0 where
   pub served : Result Bool CommandFault
-  pub some : IsDoneTo book (SomeSittings old.naming) old new
-  pub all : IfOk served (λ failed. ServesAll requests 0 book old new (unfailed held)
+  pub some : IsDoneTo book (ServesSome old.naming) old new
+  pub all : IfOk served (λ failed. IsServing ready requests 0 book old new (unfailed held)
       (record { holds = holds; has_failed = failed }))
   pub ends : ended.came ≡ service_end served
   pub log : new.has_log book ended.has_log
@@ -110,7 +110,7 @@ Runs shelf old new (request.Check dump) had held holds ended =
     (new ≡ old) × Checks dump.layout held holds ended
 Runs shelf old new (request.Explain kind number) had held holds ended =
     (new ≡ old) × EndsAt (TellsOf (kind_of kind) number held holds) ended
-Runs shelf old new (request.OfBooks name asked) had held holds ended =
+Runs shelf old new (request.OfBooks name wait asked) had held holds ended =
     Does asked name.now (shelf old) (shelf new) held holds ended
 Runs shelf old new (request.Unclear why) had held holds ended =
     (new ≡ old) × (holds ≡ held) × (ended ≡ without_log (Err (fault.Unclear why)))

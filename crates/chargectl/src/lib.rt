@@ -6,6 +6,7 @@ mod audits;
 mod book_commands;
 mod causes;
 mod choices;
+mod client_requests;
 mod command_fault;
 mod connection;
 mod dated_rulings;
@@ -26,11 +27,12 @@ mod served_lines;
 mod streamed_lists;
 mod upgrades;
 
+pub use client_requests::serve_request;
 pub use laws::commands_follow_history;
 pub use port::{Connections, Peer, answer_peer};
 pub use program::command;
 pub use program_output::{
     Status, arguments_failed, check_list, report_failed, same_records_same_texts, stopped, trial,
 };
-pub use serve::serve_while_open;
+pub use serve::serve_each;
 pub use served_lines::ServedLines;

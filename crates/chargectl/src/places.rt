@@ -65,7 +65,7 @@ pub(crate) struct Places<'a> {
 impl<'a> Places<'a> {
     pub(crate) fn of(request: Request<'a>) -> Places<'a> {
         match request {
-            Request::OfBooks { book, asked } => Places::of_books(book, asked),
+            Request::OfBooks { book, asked, .. } => Places::of_books(book, asked),
             Request::TrialUnder { file, .. } => Places::of_file(Some(file), Place::Input),
             Request::Check(dump) => Places::of_file(Some(dump.file), Place::File(dump.file)),
             Request::Trial { .. } | Request::Explain { .. } | Request::Unclear(_) => {

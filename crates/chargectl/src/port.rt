@@ -1,12 +1,15 @@
 //! Where connections come from.
 
 ghost use Rattle.std.specs.Prelude.{◌≡◌, true};
-ghost use Rattle.book_core.specs.Transition.{IsTransition};
+ghost use Rattle.book_http.specs.Served.{is_unanswered};
+ghost use Rattle.office.specs.Shelves.{IsDoneTo};
 ghost use Rattle.chargectl.specs.Serving.{IsLoopback, ServesOne, is_answered};
 
+use crate::client_requests::serve_request;
 use crate::connection::Client;
-use book_core::{Ledger, Sink, Source};
-use book_http::{Served, serve_one};
+use book_core::Source;
+use book_http::Served;
+use office::Repository;
 use std::alloc::Global;
 use std::io;
 use std::io::{Read, Write};
@@ -14,9 +17,10 @@ use std::net::{IpAddr, Ipv4Addr, SocketAddr, TcpListener, TcpStream};
 
 /// A given number of connections, one after the other: those to a port, or any others.
 pub trait Connections {
-    ghost use Rattle.std.specs.Prelude.{ℕ, ◌≡◌, ◌<◌, ◌+◌, ◌==◌, IfErr};
+    ghost use Rattle.std.specs.Prelude.{ℕ, ◌≡◌, ◌<◌, ◌+◌, ◌==◌, IfErr, IfOk, OnErr};
     ghost use Rattle.std.specs.declared.io.Error.{Error};
-    ghost use Rattle.chargectl.specs.Serving.{IsAccepted};
+    ghost use Rattle.office.specs.Shelves.{IsDoneTo};
+    ghost use Rattle.chargectl.specs.Serving.{ServesOne};
 
     /// How many are left to be answered.
     ghost left: { Self → ℕ };
@@ -29,12 +33,23 @@ pub trait Connections {
     fn is_over(&self) -> bool
         ensures { result ≡ (left self.now == 0) };
 
-    /// Waits for the next one, and answers it from the books. An error means that none came; it counts
-    /// as one of those that were left.
-    fn next<L: Ledger>(&mut self, books: &mut L) -> io::Result<Served>
-        requires { 0 < left self.old }
+    /// Waits for the next one, and answers it from the books of a name, which are open only while
+    /// they are asked. Whether a log is left beside them is handed on. An error means that none came;
+    /// it counts as one of those that were left.
+    fn next<S: Repository>(
+        &mut self,
+        repository: &mut S,
+        book: &str,
+        has_log: &mut bool,
+    ) -> io::Result<Served>
+        requires some { 0 < left self.old }
+        requires log { (S.shelf repository.old).has_log book.now has_log.old }
         ensures left { left self.new + 1 ≡ left self.old }
-        ensures accepted { IsAccepted (L.seen books.old) (L.seen books.new) result }
+        ensures served { IfOk result (λ what. IsDoneTo book.now
+            (ServesOne (S.shelf repository.old).naming what)
+            (S.shelf repository.old) (S.shelf repository.new)) }
+        ensures none { OnErr result (repository.new ≡ repository.old) }
+        ensures log { (S.shelf repository.new).has_log book.now has_log.new }
         ensures failed { IfErr result (λ error. may_fail self.old error self.new) };
 }
 
@@ -97,35 +112,58 @@ impl Connections for Port<'_> {
         self.left == 0
     }
 
-    fn next<L: Ledger>(&mut self, books: &mut L) -> io::Result<Served> {
+    fn next<S: Repository>(
+        &mut self,
+        repository: &mut S,
+        book: &str,
+        has_log: &mut bool,
+    ) -> io::Result<Served> {
         self.left -= 1;
         let (stream, _) = self.listener.accept()?;
-        Ok(answer_stream(self.rt, &stream, books))
+        Ok(answer_stream(self.rt, &stream, repository, book, has_log))
     }
 }
 
 /// Answers one connection. Where the clock fails the time is not bounded, so nothing is read.
-fn answer_stream<L: Ledger>(rt: &HostRuntime, stream: &TcpStream, books: &mut L) -> Served
-    ensures { IsTransition (L.seen books.old) (L.seen books.new)
-        (ServesOne (L.seen books.old).naming result) }
+fn answer_stream<S: Repository>(
+    rt: &HostRuntime,
+    stream: &TcpStream,
+    repository: &mut S,
+    book: &str,
+    has_log: &mut bool,
+) -> Served
+    requires { (S.shelf repository.old).has_log book.now has_log.old }
+    ensures served { IsDoneTo book.now (ServesOne (S.shelf repository.old).naming result)
+        (S.shelf repository.old) (S.shelf repository.new) }
+    ensures log { (S.shelf repository.new).has_log book.now has_log.new }
 {
     let Ok(client) = Client::accepted(rt, stream) else {
         return Served::ReadFault;
     };
-    let (served, _) = answer_peer(rt.alloc(), client, books);
+    let (served, _) = answer_peer(rt.alloc(), client, repository, book, has_log);
     served
 }
 
-/// Reads one request of a client, does what it asks of the books, and writes the answer. A client that
-/// was answered is drained before it is let go, so that it can read its answer.
-pub fn answer_peer<P: Peer + Drop, L: Ledger>(alloc: Global, peer: P, books: &mut L) -> (Served, P)
-    ensures served { IsTransition (L.seen books.old) (L.seen books.new)
-        (ServesOne (L.seen books.old).naming result.0) }
+/// Reads one request of a client, asks it of the books of a name, and answers. A client that was
+/// answered is drained before it is let go, so that it can read its answer.
+pub fn answer_peer<P: Peer + Drop, S: Repository>(
+    alloc: Global,
+    peer: P,
+    repository: &mut S,
+    book: &str,
+    has_log: &mut bool,
+) -> (Served, P)
+    requires { (S.shelf repository.old).has_log book.now has_log.old }
+    ensures served { IsDoneTo book.now (ServesOne (S.shelf repository.old).naming result.0)
+        (S.shelf repository.old) (S.shelf repository.new) }
+
+    // The books are not opened for a client that asks nothing of them.
+    ensures closed { is_unanswered result.0 ≡ true → repository.new ≡ repository.old }
     ensures drained { is_answered result.0 ≡ true → P.is_drained result.1 ≡ true }
+    ensures log { (S.shelf repository.new).has_log book.now has_log.new }
 {
     let mut source = Source::new(peer);
-    let mut sink = Sink::new(peer);
-    let served = serve_one(alloc, &mut source, &mut sink, books);
+    let (served, peer) = serve_request(alloc, &mut source, peer, repository, book, has_log);
     match served {
         Served::Answered(_) => (served, peer.drain()),
         _ => (served, peer),

@@ -19,7 +19,7 @@ use crate::first_bytes::{LookedAt, look_at};
 use crate::help_lines::{Said, help};
 use crate::progress::{WatchedReader, clear_line};
 use crate::report_commands::{
-    report_bill, report_period, report_periods, report_record, report_tariff, what_if,
+    report_bill, report_page, report_period, report_periods, report_record, report_tariff, what_if,
 };
 use crate::serve::serve;
 use crate::streamed_lists::{StreamedList, disputes_by, list_details, write_list};
@@ -93,7 +93,10 @@ fn run<S: AuditedRepository, I: Read + Drop, O: Write + Drop>(
             let came = explain(kind, number, &mut output);
             (Ended::without_log(came), output)
         }
-        Request::OfBooks { book, asked } => run_on_books(rt, repository, book, asked, output),
+        Request::OfBooks { book, wait, asked } => {
+            repository.wait_up_to(wait);
+            run_on_books(rt, repository, book, asked, output)
+        }
         Request::Unclear(why) => (Ended::without_log(Err(CommandFault::Unclear(why))), output),
     }
 }
@@ -156,6 +159,7 @@ fn run_on_books<S: AuditedRepository, O: Write + Drop>(
             report_bill(rt, repository, book, form, period, centre),
             output,
         ),
+        BookRequest::Page { period } => tell(report_page(rt, repository, book, period), output),
         BookRequest::Disputes { csv } => {
             let (listed, output) = write_list(rt, repository, book, disputes_by(csv), output);
             (Ended::settled(listed), output)

@@ -30,6 +30,21 @@ pub(crate) fn report_periods<S: Repository>(
     Ok(ask_books(rt, repository, book, asked, io::empty()))
 }
 
+/// Makes the page of a period.
+pub(crate) fn report_page<S: Repository>(
+    rt: &HostRuntime,
+    repository: &mut S,
+    book: &str,
+    period: u16,
+) -> Result<Answered, CommandFault>
+    ensures { ComesOf (BookRequest.Page period) book.now
+        (S.shelf repository.old) (S.shelf repository.new) result }
+{
+    repository.expect(book)?;
+    let asked = Asked::Report(Report::PeriodPage(period));
+    Ok(ask_books(rt, repository, book, asked, io::empty()))
+}
+
 /// Makes the report of the record of a name.
 pub(crate) fn report_record<S: Repository>(
     rt: &HostRuntime,

@@ -8,7 +8,8 @@ returns c =
     rw (
       c.push_str-5.ensures.bytes,
       c.push_size.ensures.bytes,
-      c.push_allow.ensures.bytes,
+      c.push_notice.ensures.bytes,
+      c.push_limits.ensures.bytes,
       c.push_str-4.ensures.bytes,
       c.push_str-3.ensures.bytes,
       c.push_str-2.ensures.bytes,

@@ -9,7 +9,7 @@ use Rattle.book_http.specs.declared.status.Status.TheVariants.{BadRequest}
 use Rattle.book_http.specs.Answer.{AnswersOffice, AnswersWhatIf, Prices, UnlessBad, office_reply}
 use Rattle.book_http.specs.Answer.{form_kind}
 use Rattle.book_http.specs.Replies.{refusal, reply_of}
-use Rattle.book_http.proofs.AskedLemmas.{refuses}
+use Rattle.book_http.proofs.ServeLemmas.{refuses}
 use Rattle.book_http.proofs.office_answers.answer_what_if.Goals as goal
 
 pub returns-in_default : goal.returns-in_default

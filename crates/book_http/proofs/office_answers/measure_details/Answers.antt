@@ -1,4 +1,4 @@
-use Rattle.std.proofs.Common.{◌∙◌, ap, refl, Err}
+use Rattle.std.proofs.Common.{◌∙◌, ap, Err}
 use Rattle.book_core.proofs.TransitionLemmas.{work_as}
 use Rattle.book_http.specs.Answer.{AnswersDetails, office_reply}
 use Rattle.book_http.specs.Replies.{reply_of}
@@ -6,7 +6,7 @@ use Rattle.book_http.proofs.StreamLemmas.{text_refused}
 use Rattle.book_http.proofs.office_answers.measure_details.Goals as goal
 
 pub returns-in-Ok : goal.returns-in-Ok
-returns-in-Ok g c = (refl, c.in-Ok.ensures.work)
+returns-in-Ok g c = c.in-Ok.ensures.work
 
 pub returns-in-Err : goal.returns-in-Err
 returns-in-Err g c =

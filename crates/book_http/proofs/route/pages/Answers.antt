@@ -6,8 +6,10 @@ use Rattle.book_http.proofs.route.pages.Goals as goal
 pub returns : goal.returns
 unfolding route_rows
 returns c =
-    let fifteen =
-    c.in_ok-router-15.ensures
+    let seventeen =
+    c.in_ok-router-17.ensures
+    ∙ ap (with_route (codes "/") page.Office) (c.in_ok-router-16.ensures
+    ∙ ap (with_route (codes "/import-bdw") page.ImportBdw) (c.in_ok-router-15.ensures
     ∙ ap (with_route (codes "/import") page.Import) (c.in_ok-router-14.ensures
     ∙ ap (with_route (codes "/what-if-csv/{*rest}") page.WhatIfCsv) (c.in_ok-router-13.ensures
     ∙ ap (with_route (codes "/what-if/{*rest}") page.WhatIf) (c.in_ok-router-12.ensures
@@ -22,7 +24,7 @@ returns c =
     ∙ ap (with_route (codes "/adjustments/{*rest}") page.Adjustments) (c.in_ok-router-3.ensures
     ∙ ap (with_route (codes "/statement-csv/{*rest}") page.StatementCsv) (c.in_ok-router-2.ensures
     ∙ ap (with_route (codes "/statement/{*rest}") page.Statement) (c.in_ok-router.ensures
-    ∙ ap (with_route (codes "/periods") page.Periods) c.new.ensures)))))))))))))) in
-    subst (λ rows. IfOk c.with_page-16.result
-    (λ router. router ≡ with_route (codes "/import-bdw") page.ImportBdw rows)) fifteen
-    c.with_page-16.ensures
+    ∙ ap (with_route (codes "/periods") page.Periods) c.new.ensures)))))))))))))))) in
+    subst (λ rows. IfOk c.with_page-18.result
+    (λ router. router ≡ with_route (codes "/period/{*rest}") page.Period rows)) seventeen
+    c.with_page-18.ensures

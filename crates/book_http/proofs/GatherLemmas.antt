@@ -1,0 +1,119 @@
+-- Details that are gathered before they are sent.
+use Rattle.std.proofs.Common.{◌≡◌, ◌∙◌, ℕ, true, List, [], ◌++◌, refl, sym, ap, subst, inl, inr}
+use Rattle.std.proofs.Common.{Some, Result, Ok, Err, append-nil}
+use Rattle.std.proofs.lemmas.Bool.{true≢false}
+use Rattle.book_model.specs.declared.fault.LedgerFault.{LedgerFault}
+use Rattle.book_model.specs.declared.fault.LedgerFault.TheVariants as fault
+use Rattle.book_model.specs.Words.{after_all}
+use Rattle.book_core.specs.Calls.{Calls}
+use Rattle.book_core.specs.Ledgers.{Seen}
+use Rattle.book_core.specs.Transition.{IsTransition, Then, Transition}
+use Rattle.book_core.proofs.TransitionLemmas.{work_as, work_then}
+use Rattle.book_reports.specs.declared.fault.ReportFault.{ReportFault}
+use Rattle.book_reports.specs.declared.fault.ReportFault.TheVariants.{Write, Memory, Ledger}
+use Rattle.book_reports.specs.declared.streamed_details.DetailReport.{DetailReport}
+use Rattle.book_reports.specs.BookTexts.{shown_by}
+use Rattle.book_reports.specs.StreamedAnswers.{WritesAnswerUntil, WritesUntilOrRefuses}
+use Rattle.book_reports.specs.StreamedDetails.{detail_answer, detail_length_outcome}
+use Rattle.book_reports.specs.StreamedDetails.{detail_text_outcome}
+use Rattle.book_reports.specs.StreamedRulings.{is_hindrance, refusal_in}
+use Rattle.book_reports.proofs.ReadingLemmas.{IsAlike, Tells, fault_alike, goes_on, made}
+use Rattle.book_reports.proofs.ReadingLemmas.{reopens_alike}
+use Rattle.office.specs.Requests.{Response, Text, response_outcome}
+use Rattle.book_http.specs.Answer.{AnswersDetails, form_kind, gathered, office_reply}
+use Rattle.book_http.specs.Replies.{Reply}
+use Rattle.book_http.specs.Served.{IsMeasured}
+
+-- what may hinder any report tells nothing of it
+hindered_tells : (why : LedgerFault) (answer : Result Response LedgerFault)
+    → is_hindrance (Ledger why) ≡ true
+    → Tells {V = Response} (λ told. told) (Err why) answer
+hindered_tells fault.Memory answer is = tt
+hindered_tells fault.Store answer is = tt
+hindered_tells fault.Reopen answer is = tt
+hindered_tells why answer is = absurd (true≢false (sym is))
+
+-- a refusal tells itself
+refused_tells : (why : LedgerFault) → Tells {V = Response} (λ told. told) (Err why) (Err why)
+refused_tells fault.Memory = tt
+refused_tells fault.Store = tt
+refused_tells fault.Reopen = tt
+refused_tells why = refl
+
+-- the fault that a report's fault stands for, or another
+abbrev fault_or : LedgerFault → ReportFault → LedgerFault
+fault_or other (Ledger why) = why
+fault_or other why = other
+
+-- what was written into empty memory is what the book answers
+told_gathered : (said : Result (List ℕ) LedgerFault) (told : Result (Unit {0}) ReportFault)
+    (front text : List ℕ) → front ≡ [] → WritesUntilOrRefuses said (Some front) (Some text) told
+    → Tells (λ told. told) (gathered told text) (shown_by Text said)
+told_gathered (Ok shown) (Ok done) front text none it =
+    ap (λ text. Ok (Text text)) (sym (it.0 ∙ ap (λ front. front ++ shown) none))
+told_gathered (Err refused) (Ok done) front text none it = absurd it.1
+told_gathered said (Err Write) front text none it = tt
+told_gathered said (Err Memory) front text none it = tt
+told_gathered (Ok shown) (Err (Ledger why)) front text none it =
+    hindered_tells why (Ok (Text shown)) it.1
+told_gathered (Err refused) (Err (Ledger why)) front text none it = elim (it.1) [
+  | inl same ↦ subst (λ answered. Tells {V = Response} (λ told. told) (Err why) (Err answered))
+      (ap (fault_or why) same) (refused_tells why)
+  | inr hinders ↦ hindered_tells why (Err refused) hinders
+]
+
+-- a ledger is to be reopened or not, by either
+gathered_alike : (told : Result (Unit {0}) ReportFault) (text : List ℕ)
+    → IsAlike (refusal_in told) (gathered told text)
+gathered_alike (Ok done) text = record { reopen = refl; store = refl }
+gathered_alike (Err Write) text = record { reopen = refl; store = refl }
+gathered_alike (Err Memory) text = record { reopen = refl; store = refl }
+gathered_alike (Err (Ledger why)) text = fault_alike why
+
+-- so it answers the request
+pub gathered_answered : (wanted : DetailReport) (old new : Seen)
+    (told : Result (Unit {0}) ReportFault) (front text : List ℕ) (reply : Reply) → front ≡ []
+    → reply ≡ office_reply (form_kind wanted.form) (gathered told text)
+    → IsTransition old new
+    (WritesAnswerUntil (detail_answer wanted) old.naming (Some front) (Some text) told)
+    → IsTransition old new (AnswersDetails old.naming wanted reply)
+gathered_answered wanted old new told front text reply none replied wrote =
+    work_as old new
+    (WritesAnswerUntil (detail_answer wanted) old.naming (Some front) (Some text) told)
+    (AnswersDetails old.naming wanted reply)
+    (λ was before events is work. record {
+      told = gathered told text;
+      made = record {
+        makes = made (λ told. told) (response_outcome Text (detail_text_outcome wanted old.naming) before)
+            (gathered told text) events refl work.none
+            (told_gathered (detail_answer wanted old.naming before) told front text none
+            work.written);
+        reopens = reopens_alike (refusal_in told) (gathered told text) was is
+            (gathered_alike told text) work.reopens;
+      };
+      replied = replied;
+    })
+    wrote
+
+-- also after they were measured: both by one book
+pub measured_answered : (old mid new : Seen) (wanted : DetailReport) (size : ℕ) (reply : Reply)
+    → IsMeasured old mid wanted size
+    → IsTransition mid new (AnswersDetails mid.naming wanted reply)
+    → IsTransition old new (AnswersDetails old.naming wanted reply)
+measured_answered old mid new wanted size reply measured answers =
+    let Measuring : Transition =
+    Calls (λ size. size) (detail_length_outcome wanted old.naming) (Ok size) in
+    let Answering : Transition = AnswersDetails old.naming wanted reply in
+    work_as old new (Then Measuring Answering) Answering
+    (λ was before events is both.
+    let early : both.early ≡ [] = both.first.makes.1 in
+    let all : both.late ≡ events =
+    sym (both.all ∙ ap (λ early. both.late ++ early) early ∙ append-nil both.late) in
+    subst (λ stood. Answering stood before events is)
+    (goes_on size was both.between both.first.reopens)
+    (subst (λ events. Answering both.between before events is) all
+    (subst (λ book. Answering both.between book both.late is)
+    (ap (λ events. after_all events before) early) both.next)))
+    (work_then old mid new Measuring Answering measured
+    (subst (λ naming. IsTransition mid new (AnswersDetails naming wanted reply)) measured.naming
+    answers))

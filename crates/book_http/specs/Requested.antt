@@ -1,0 +1,87 @@
+-- What is asked by a request that was read whole: by what its head asks, and the bytes after that.
+use Rattle.std.specs.Prelude.{◌≡◌, ◌⊎◌, ◌<◌, ℕ, Bool, true, List, [], ◌++◌, length, take, nat_lt}
+use Rattle.std.specs.Prelude.{if◌then◌else◌}
+use Rattle.httparse.specs.Grammar.{RequestHead}
+use Rattle.smf_frames.specs.declared.dump.Layout.{Layout}
+use Rattle.book_model.specs.Words.{Naming}
+use Rattle.book_core.specs.Transition.{Transition}
+use Rattle.book_reports.specs.declared.report.Report.{Report}
+use Rattle.book_reports.specs.declared.streamed_details.DetailReport.{DetailReport}
+use Rattle.book_reports.specs.declared.what_if.WhatIf.{WhatIf}
+use Rattle.book_http.specs.declared.asked.Asked.{Asked}
+use Rattle.book_http.specs.declared.asked.Asked.TheVariants as asks
+use Rattle.book_http.specs.declared.requested.OfficeRequest.{OfficeRequest}
+use Rattle.book_http.specs.declared.requested.OfficeRequest.TheVariants as office
+use Rattle.book_http.specs.declared.requested.Requested.{Requested}
+use Rattle.book_http.specs.declared.requested.Requested.TheVariants as requested
+use Rattle.book_http.specs.declared.status.Status.TheVariants.{BadRequest, Unavailable}
+use Rattle.book_http.specs.Answer.{AnswersDetails, AnswersImport, AnswersReport, AnswersWhatIf}
+use Rattle.book_http.specs.Answer.{RefusesRequest}
+use Rattle.book_http.specs.Asked.{asked}
+use Rattle.book_http.specs.Head.{HasHead, HasNoHead}
+use Rattle.book_http.specs.Replies.{Reply, other_method, refusal, reply_of}
+
+-- what a request asks of the books; or the reply to it, where it asks nothing of them
+pub data RequestSeen : Type 0 where
+  Settles : Reply → RequestSeen
+  WantsReport : Report → RequestSeen
+  WantsDetails : DetailReport → RequestSeen
+  WantsWhatIf : WhatIf → List ℕ → RequestSeen
+  WantsImport : Layout → List ℕ → RequestSeen
+
+abbrev pub office_seen : OfficeRequest → RequestSeen
+office_seen (office.Report report) = WantsReport report
+office_seen (office.WhatIf what_if body) = WantsWhatIf what_if body.items
+office_seen (office.Import layout body) = WantsImport layout body.items
+
+abbrev pub request_seen : Requested → RequestSeen
+request_seen (requested.Settled answer) = Settles (reply_of answer)
+request_seen (requested.Office request) = office_seen request
+request_seen (requested.Details details) = WantsDetails details
+
+-- what is asked with a body of so many bytes, the first ones after the head; where the input ended
+-- before the last of them, the request is bad
+abbrev pub wanted_with : (List ℕ → RequestSeen) → ℕ → List ℕ → RequestSeen
+wanted_with Wants size behind =
+    if nat_lt (length behind) size then Settles (refusal BadRequest) else Wants (take size behind)
+
+-- what a head asks, by the bytes after it
+abbrev pub wanted_by : Asked → List ℕ → RequestSeen
+wanted_by (asks.Refusal status) behind = Settles (refusal status)
+wanted_by (asks.OtherMethod method) behind = Settles (other_method method)
+wanted_by (asks.Report report) behind = WantsReport report
+wanted_by (asks.Details details) behind = WantsDetails details
+wanted_by (asks.WhatIf what_if size) behind = wanted_with (WantsWhatIf what_if) size behind
+wanted_by (asks.Import layout size) behind = wanted_with (WantsImport layout) size behind
+
+-- the request is that; or memory ran out, and the reply says so
+abbrev pub IsUnlessMemory : RequestSeen → RequestSeen → Type 0
+IsUnlessMemory due request = (request ≡ due) ⊎ (request ≡ Settles (refusal Unavailable))
+
+-- The bytes of a request ask this: they begin with no head, and are refused; or they begin with one,
+-- and this is what it asks, by the bytes after it.
+pub data AreAsking (bytes : List ℕ) (request : RequestSeen) : Type 0 where
+  headless : 0 < length bytes → HasNoHead bytes → request ≡ Settles (refusal BadRequest)
+      → AreAsking bytes request
+  headed : (head : RequestHead) (behind : List ℕ) → HasHead bytes head behind
+      → IsUnlessMemory (wanted_by (asked head) behind) request → AreAsking bytes request
+
+-- This is what is asked by the bytes that were taken, whatever follows them; where the input ended,
+-- nothing does.
+abbrev pub IsAsking : Bool → List ℕ → Requested → Type 0
+IsAsking ended taken request =
+    (more : List ℕ) → (ended ≡ true → more ≡ []) → AreAsking (taken ++ more) (request_seen request)
+
+-- so is what is asked after a head that asks this, by the bytes that were taken after it
+abbrev pub IsAskingAfter : Bool → Asked → List ℕ → Requested → Type 0
+IsAskingAfter ended wanted behind request =
+    (more : List ℕ) → (ended ≡ true → more ≡ [])
+    → IsUnlessMemory (wanted_by wanted (behind ++ more)) (request_seen request)
+
+-- a request is answered, and this is the reply
+abbrev pub AnswersRequest : Naming → RequestSeen → Reply → Transition
+AnswersRequest naming (Settles due) reply = RefusesRequest due reply
+AnswersRequest naming (WantsReport report) reply = AnswersReport naming report reply
+AnswersRequest naming (WantsDetails wanted) reply = AnswersDetails naming wanted reply
+AnswersRequest naming (WantsWhatIf what_if body) reply = AnswersWhatIf what_if body reply
+AnswersRequest naming (WantsImport layout body) reply = AnswersImport naming layout body reply

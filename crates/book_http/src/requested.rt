@@ -1,0 +1,182 @@
+//! A request that was read whole. Of its body no byte is read that is not asked for.
+
+ghost use Rattle.std.specs.Prelude.{◌≡◌, ◌+◌, ◌≤◌, ◌^◌, ◌++◌, List, [], IfOk, IsErrOf, IsUtf8};
+ghost use Rattle.std.specs.Prelude.{false, true, is_err};
+ghost use Rattle.httparse.specs.Grammar.{RequestHead};
+ghost use Rattle.streams.specs.AnswerFlags.{NothingUnread};
+ghost use Rattle.streams.specs.Sources.{reader_of, reads_of, has_failed, has_ended};
+ghost use Rattle.book_http.specs.Asked as spec;
+ghost use Rattle.book_http.specs.Asked.{IsServable};
+ghost use Rattle.book_http.specs.Bodies.{body_status, is_failed_read, most_body_bytes};
+ghost use Rattle.book_http.specs.Head.{most_head_bytes};
+ghost use Rattle.book_http.specs.Reads.{ReadCall, bytes_read, AreReadsBetween};
+ghost use Rattle.book_http.specs.Reads.{IsDue, IsDueAfterHead};
+ghost use Rattle.book_http.specs.Replies.{refusal};
+ghost use Rattle.book_http.specs.Requested.{IsAsking, IsAskingAfter, Settles, request_seen};
+ghost use Rattle.book_http.specs.Requests.{DescribesHead};
+ghost use Rattle.book_http.specs.Served.{is_failed};
+
+use crate::answer::Answer;
+use crate::asked::{Asked, asked_framed};
+use crate::body::{BodyFault, read_body};
+use crate::head::{HeadRead, MAX_FIELDS, MAX_HEAD, read_head};
+use crate::request::{Request, request_in};
+use crate::route::find_route;
+use crate::served::Unanswered;
+use crate::status::Status;
+use book_core::Source;
+use book_reports::DetailReport;
+use httparse::spans::EMPTY_HEADER_SPAN;
+use office::{Report, WhatIf};
+use smf_frames::Layout;
+use std::alloc::Global;
+use streams::Reader;
+
+/// What a request asks that was read whole.
+#[derive(Drop)]
+pub enum Requested {
+    /// Nothing of the books: this answers it.
+    Settled(Answer),
+    /// One answer of the office.
+    Office(OfficeRequest),
+    /// The details of a period, whose text is sent while it is read.
+    Details(DetailReport),
+}
+
+/// What is asked of the office, with the body that it takes.
+#[derive(Drop)]
+pub enum OfficeRequest {
+    /// A report.
+    Report(Report),
+    /// What a period would have cost by the tariff that the body is.
+    WhatIf { what_if: WhatIf, body: Vec<u8> },
+    /// The import of the body, which is a whole dump.
+    Import { layout: Layout, body: Vec<u8> },
+}
+
+/// A read failed before the request was whole.
+#[derive(Clone, Copy, Debug, PartialEq, Eq)]
+pub struct ReadFailed;
+
+/// What is asked without a whole body: nothing.
+fn refuse_body(fault: BodyFault) -> Result<Requested, ReadFailed>
+    ensures refused { IfOk result (λ request.
+        request_seen request ≡ Settles (refusal (body_status fault))) }
+    ensures failed { is_err result ≡ is_failed_read fault }
+{
+    match fault {
+        BodyFault::Short => Ok(Requested::Settled(Answer::Refusal(Status::BadRequest))),
+        BodyFault::Memory => Ok(Requested::Settled(Answer::Refusal(Status::Unavailable))),
+        BodyFault::Read => Err(ReadFailed),
+    }
+}
+
+/// Reads on after a head that asks this, after which these bytes were already read.
+fn read_asked<R: Reader + Drop>(
+    alloc: Global,
+    source: &mut Source<R>,
+    front: &[u8],
+    asked: Asked,
+) -> Result<Requested, ReadFailed>
+    requires limit { IsServable asked }
+    requires asked { reads_of source.old ≤ 2 ^ 62 + most_head_bytes }
+    requires failed { has_failed source.old ≡ false }
+    requires ended { has_ended source.old ≡ false }
+    ensures asks { (reads : List (ReadCall R)) × AreReadsBetween R.remaining R.may_answer
+        (λ came room. IsDueAfterHead asked (front.now ++ came) room) source.old source.new reads
+        × IfOk result (λ request. IsAskingAfter (has_ended source.new) asked
+        (front.now ++ bytes_read reads) request) }
+    ensures failed { has_failed source.new ≡ is_err result }
+    ensures asked { reads_of source.new ≤ reads_of source.old + most_body_bytes }
+    ensures left { NothingUnread
+        (has_ended source.new) (R.remaining (reader_of source.new)) }
+{
+    match asked {
+        Asked::Report(report) => Ok(Requested::Office(OfficeRequest::Report(report))),
+        Asked::Details(details) => Ok(Requested::Details(details)),
+        Asked::WhatIf(what_if, size) => match read_body(alloc, source, front, size as usize) {
+            Ok(body) => Ok(Requested::Office(OfficeRequest::WhatIf { what_if, body })),
+            Err(fault) => refuse_body(fault),
+        },
+        Asked::Import(layout, size) => match read_body(alloc, source, front, size as usize) {
+            Ok(body) => Ok(Requested::Office(OfficeRequest::Import { layout, body })),
+            Err(fault) => refuse_body(fault),
+        },
+        Asked::Refusal(status) => Ok(Requested::Settled(Answer::Refusal(status))),
+        Asked::OtherMethod(method) => Ok(Requested::Settled(Answer::OtherMethod(method))),
+    }
+}
+
+/// Reads on after the head of a request.
+fn read_rest<R: Reader + Drop>(
+    alloc: Global,
+    source: &mut Source<R>,
+    request: &Request<'_>,
+) -> Result<Requested, ReadFailed>
+    requires text { IsUtf8 request.now.target.now }
+    requires asked { reads_of source.old ≤ 2 ^ 62 + most_head_bytes }
+    requires failed { has_failed source.old ≡ false }
+    requires ended { has_ended source.old ≡ false }
+    ensures asks { (head : RequestHead) → DescribesHead head request.now.method.now
+        request.now.target.now request.now.framing request.now.is_foreign request.now.has_origin
+        → (reads : List (ReadCall R)) × AreReadsBetween R.remaining R.may_answer
+        (λ came room. IsDueAfterHead (spec.asked head) (request.now.behind.now ++ came) room)
+        source.old source.new reads
+        × IfOk result (λ told. IsAskingAfter (has_ended source.new) (spec.asked head)
+        (request.now.behind.now ++ bytes_read reads) told) }
+    ensures failed { has_failed source.new ≡ is_err result }
+    ensures asked { reads_of source.new ≤ reads_of source.old + most_body_bytes }
+    ensures left { NothingUnread
+        (has_ended source.new) (R.remaining (reader_of source.new)) }
+{
+    let Ok(found) = find_route(alloc, request.target) else {
+        return Ok(Requested::Settled(Answer::Refusal(Status::Unavailable)));
+    };
+    let asked = asked_framed(
+        request.framing,
+        request.is_foreign,
+        found,
+        request.method,
+        request.has_origin,
+    );
+    read_asked(alloc, source, request.behind, asked)
+}
+
+/// Reads one request, whole: its head, and the body of a request that is served with one. Bytes
+/// after it are not looked at.
+pub fn read_request<R: Reader + Drop>(
+    alloc: Global,
+    source: &mut Source<R>,
+) -> Result<Requested, Unanswered>
+    requires asked { reads_of source.old ≤ 2 ^ 62 }
+    requires failed { has_failed source.old ≡ false }
+    requires ended { has_ended source.old ≡ false }
+
+    // What is asked, by the bytes that the reads gave, whatever may follow them. Each read was due:
+    // while there was no head, or for the rest of the body of an import or a tariff that is served.
+    ensures asks { (reads : List (ReadCall R))
+        × AreReadsBetween R.remaining R.may_answer IsDue source.old source.new reads
+        × IfOk result (λ request. IsAsking (has_ended source.new) (bytes_read reads) request)
+        × (IsErrOf result Unanswered.Closed → bytes_read reads ≡ []) }
+    ensures closed { IsErrOf result Unanswered.Closed → has_ended source.new ≡ true }
+    ensures failed { has_failed source.new ≡ is_failed result }
+    ensures asked { reads_of source.new
+        ≤ reads_of source.old + most_head_bytes + most_body_bytes }
+    ensures left { NothingUnread
+        (has_ended source.new) (R.remaining (reader_of source.new)) }
+{
+    let mut buffer = [0u8; MAX_HEAD];
+    let mut fields = [EMPTY_HEADER_SPAN; MAX_FIELDS];
+    match read_head(source, &mut buffer, &mut fields) {
+        HeadRead::Closed => Err(Unanswered::Closed),
+        HeadRead::Failed => Err(Unanswered::Failed),
+        HeadRead::Refused => Ok(Requested::Settled(Answer::Refusal(Status::BadRequest))),
+        HeadRead::Whole(whole) => {
+            let request = request_in(&buffer[..whole.filled], &fields, whole.spans);
+            let Ok(requested) = read_rest(alloc, source, &request) else {
+                return Err(Unanswered::Failed);
+            };
+            Ok(requested)
+        }
+    }
+}

@@ -1,0 +1,98 @@
+-- One request of a client. The books are open only while they are asked.
+use Rattle.std.specs.Prelude.{◌≡◌, ℕ, Bool, true, false, List, [], Option, Result, Ok, Err}
+use Rattle.book_model.specs.Words.{Book, Event, Naming}
+use Rattle.book_core.specs.Transition.{Transition}
+use Rattle.book_core.specs.Follow.{MakesAnswered}
+use Rattle.book_http.specs.declared.requested.Requested.{Requested}
+use Rattle.book_http.specs.declared.requested.Requested.TheVariants as requested
+use Rattle.book_http.specs.declared.served.Served.{Served}
+use Rattle.book_http.specs.declared.served.Served.TheVariants as served
+use Rattle.book_http.specs.declared.status.Status.TheVariants.{Unavailable}
+use Rattle.book_http.specs.Replies.{Reply, busy, refusal, reply_of}
+use Rattle.book_http.specs.Requested.{AnswersRequest, IsAsking, request_seen}
+use Rattle.book_http.specs.Served.{IsSent, IsSentAsRead, is_unanswered}
+use Rattle.book_http.proofs.LawLemmas.{wanted_answered}
+use Rattle.office.specs.declared.repository.RepositoryFault.{RepositoryFault}
+use Rattle.office.specs.declared.repository.RepositoryFault.TheVariants as shelf
+use Rattle.office.specs.Shelves.{Shelf, IsOpened}
+use Rattle.chargectl.specs.declared.client_requests.Told.{Told}
+use Rattle.chargectl.specs.declared.client_requests.Told.TheVariants as tells
+
+-- details are asked for: long ones are sent while they are read
+abbrev pub is_streamed : Requested → Bool
+is_streamed (requested.Details details) = true
+is_streamed request = false
+
+-- a request was answered, and the answer was sent while it was read
+pub record StreamsAnswer (naming : Naming) (request : Requested) (held holds : Option (List ℕ))
+    (served : Served) (was : Bool) (before : Book) (events : List Event) (is : Bool) : Type 0 where
+  pub reply : Reply
+  pub left : Bool
+  pub answer : AnswersRequest naming (request_seen request) reply was before events left
+  pub sent : IsSentAsRead reply held holds served
+
+-- What is done while the books are open: they are asked once.
+abbrev pub AsksOpen : Naming → Requested → Option (List ℕ) → Option (List ℕ) → Told → Transition
+AsksOpen naming request held holds (tells.Due answer) =
+    AnswersRequest naming (request_seen request) (reply_of answer)
+AsksOpen naming request held holds (tells.Sent what) =
+    StreamsAnswer naming request held holds what
+
+-- Nothing but details is sent while they are open.
+abbrev pub SendsOpen : Requested → Option (List ℕ) → Option (List ℕ) → Told → Type 0
+SendsOpen request held holds (tells.Due answer) = holds ≡ held
+SendsOpen request held holds (tells.Sent what) =
+    (is_streamed request ≡ true) × (is_unanswered what ≡ false)
+
+-- it makes events that the books answered
+pub open_answered : (naming : Naming) (request : Requested) (held holds : Option (List ℕ))
+    (told : Told) → MakesAnswered naming (AsksOpen naming request held holds told)
+open_answered naming request held holds (tells.Due answer) =
+    wanted_answered naming (request_seen request) (reply_of answer)
+open_answered naming request held holds (tells.Sent what) = λ history was events is it.
+    wanted_answered naming (request_seen request) it.reply history was events it.left it.answer
+
+-- what is answered where the books were in the way: others had them, or they could not be opened; or it
+-- was not seen that the closed files hold what was done, which may be all of it or nothing
+abbrev pub away_reply : RepositoryFault → Reply
+away_reply shelf.Busy = busy
+away_reply why = refusal Unavailable
+
+-- where details may have been sent already, nothing more is
+abbrev pub EndsUnseen : Bool → Option (List ℕ) → Option (List ℕ) → Served → Type 0
+EndsUnseen true shown holds what = (what ≡ served.Cut) × (holds ≡ shown)
+EndsUnseen false shown holds what = IsSent (refusal Unavailable) shown holds what
+
+-- What is sent after the books were closed, by what came of them.
+abbrev pub EndsBy : Bool → Result Told RepositoryFault → Option (List ℕ) → Option (List ℕ) → Served
+    → Type 0
+EndsBy streamed (Ok (tells.Due answer)) shown holds what = IsSent (reply_of answer) shown holds what
+EndsBy streamed (Ok (tells.Sent so)) shown holds what = (what ≡ so) × (holds ≡ shown)
+EndsBy streamed (Err shelf.Unseen) shown holds what = EndsUnseen streamed shown holds what
+EndsBy streamed (Err why) shown holds what = IsSent (away_reply why) shown holds what
+
+-- The books were opened for a request that had come whole, asked once, and closed; or they were in the
+-- way. So much was shown to the client by then: of what is not streamed nothing. The answer followed.
+pub record IsAnsweredFrom (book : List ℕ) (old new : Shelf) (request : Requested)
+    (held holds : Option (List ℕ)) (what : Served) : Type 0 where
+  pub told : Result Told RepositoryFault
+  pub shown : Option (List ℕ)
+  pub done : IsOpened (AsksOpen old.naming request held shown) book old new told
+  pub quiet : is_streamed request ≡ false → shown ≡ held
+  pub ends : EndsBy (is_streamed request) told shown holds what
+
+-- a request came whole, by the bytes that were taken, and was answered
+pub record IsReplied (book : List ℕ) (old new : Shelf) (taken : List ℕ) (ended : Bool)
+    (held holds : Option (List ℕ)) (what : Served) : Type 0 where
+  pub request : Requested
+  pub asks : IsAsking ended taken request
+  pub answered : IsAnsweredFrom book old new request held holds what
+
+-- What was served. Where the input ended before its first byte, or a read failed, nothing is
+-- answered.
+abbrev pub IsServedFrom : List ℕ → Shelf → Shelf → List ℕ → Bool → Option (List ℕ)
+    → Option (List ℕ) → Served → Type 0
+IsServedFrom book old new taken ended held holds served.Closed = (taken ≡ []) × (ended ≡ true)
+IsServedFrom book old new taken ended held holds served.ReadFault = Unit {0}
+IsServedFrom book old new taken ended held holds what =
+    IsReplied book old new taken ended held holds what

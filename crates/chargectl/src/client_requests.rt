@@ -1,0 +1,217 @@
+//! One request of a client. It is read whole before the books are opened, and answered after they
+//! are closed, so that a slow client keeps them from nobody. Details alone are sent while they are
+//! read, where their text is longer than a body may be.
+
+ghost use Rattle.std.specs.Prelude.{◌≡◌, ◌≤◌, ◌^◌, Err, List, false, true};
+ghost use Rattle.streams.specs.Sources.{has_ended, has_failed, reads_of};
+ghost use Rattle.book_core.specs.Transition.{IsTransition};
+ghost use Rattle.book_http.specs.Reads.{AreReadsBetween, IsDue, ReadCall, bytes_read};
+ghost use Rattle.book_http.specs.Replies.{reply_of};
+ghost use Rattle.book_http.specs.Served.{IsSent, is_unanswered};
+ghost use Rattle.chargectl.specs.ClientRequests as spec;
+ghost use Rattle.chargectl.specs.ClientRequests.{AsksOpen, EndsBy, IsAnsweredFrom, IsServedFrom};
+ghost use Rattle.chargectl.specs.ClientRequests.{SendsOpen};
+
+use book_core::{Ledger, Sink, Source};
+use book_http::{
+    Answer, OfficeRequest, Requested, Served, Status, Unanswered, ask_details, ask_office,
+    read_request, send, send_details,
+};
+use office::{Opened, Repository, RepositoryFault, Visit};
+use std::alloc::Global;
+use std::io::Write;
+use std::mem;
+use streams::Reader;
+
+/// What came of a request while the books were open.
+#[derive(Drop)]
+enum Told {
+    /// This answer is due, once they are closed.
+    Due(Answer),
+    /// Details were sent.
+    Sent(Served),
+}
+
+/// A request that is asked of the books, and the writer that details go to.
+#[derive(Drop)]
+struct OpenRequest<W: Write + Copy + Drop> {
+    alloc: Global,
+    /// Settled, once it was asked.
+    request: Requested,
+    writer: W,
+}
+
+impl<W: Write + Copy + Drop> Visit for OpenRequest<W> {
+    ghost use Rattle.chargectl.specs.ClientRequests.{AsksOpen, SendsOpen, open_answered};
+
+    type Answer = Told;
+
+    ghost work = { λ naming it after told. AsksOpen naming it.request
+        (W.contents it.writer) (W.contents after.writer) told };
+
+    ghost comes = { λ it after told. SendsOpen it.request
+        (W.contents it.writer) (W.contents after.writer) told };
+
+    ghost answered = { λ naming it after told. open_answered naming it.request
+        (W.contents it.writer) (W.contents after.writer) told };
+
+    /// A report is. Imports, other prices and details go over many pages.
+    fn is_brief(&self) -> bool {
+        matches!(self.request, Requested::Office(OfficeRequest::Report(_)))
+    }
+
+    fn visit<L: Ledger>(&mut self, books: &mut L) -> Told {
+        let request = mem::replace(&mut self.request, Requested::Settled(Answer::Busy));
+        let (told, writer) = ask_open(self.alloc, books, request, self.writer);
+        self.writer = writer;
+        told
+    }
+}
+
+/// Asks open books, and sends nothing but long details.
+fn ask_open<L: Ledger, W: Write + Copy + Drop>(
+    alloc: Global,
+    books: &mut L,
+    request: Requested,
+    writer: W,
+) -> (Told, W)
+    ensures done { IsTransition (L.seen books.old) (L.seen books.new)
+        (AsksOpen (L.seen books.old).naming request
+        (W.contents writer) (W.contents result.1) result.0) }
+    ensures came { SendsOpen request (W.contents writer) (W.contents result.1) result.0 }
+{
+    match request {
+        Requested::Settled(settled) => (Told::Due(settled), writer),
+        Requested::Office(asked) => {
+            let answer = ask_office(alloc, books, asked);
+            (Told::Due(answer), writer)
+        }
+        Requested::Details(details) => match ask_details(alloc, books, &details) {
+            Err(reply) => (Told::Due(reply), writer),
+            Ok(size) => {
+                let mut sink = Sink::new(writer);
+                let what = send_details(alloc, books, details, size, &mut sink);
+                (Told::Sent(what), sink.into_inner())
+            }
+        },
+    }
+}
+
+/// Details are asked for, which are sent while they are read.
+fn is_streamed(request: &Requested) -> bool
+    ensures { result ≡ spec.is_streamed request.now }
+{
+    match request {
+        Requested::Details(_) => true,
+        Requested::Settled(_) | Requested::Office(_) => false,
+    }
+}
+
+/// Sends an answer.
+fn send_to<W: Write + Copy + Drop>(writer: W, answer: &Answer) -> (Served, W)
+    ensures sent { IsSent (reply_of answer.now) (W.contents writer) (W.contents result.1) result.0 }
+    ensures answered { is_unanswered result.0 ≡ false }
+{
+    let mut sink = Sink::new(writer);
+    let what = send(&mut sink, answer);
+    (what, sink.into_inner())
+}
+
+/// Answers a client after the books were closed.
+fn end_request<W: Write + Copy + Drop>(
+    streamed: bool,
+    told: Result<Told, RepositoryFault>,
+    writer: W,
+) -> (Served, W)
+    ensures { EndsBy streamed told (W.contents writer) (W.contents result.1) result.0 }
+{
+    match told {
+        Ok(Told::Due(answer)) => send_to(writer, &answer),
+        Ok(Told::Sent(what)) => (what, writer),
+        Err(fault) => send_away(streamed, fault, writer),
+    }
+}
+
+/// Answers a client that the books were in the way of, unless it may have an answer already.
+fn send_away<W: Write + Copy + Drop>(
+    streamed: bool,
+    fault: RepositoryFault,
+    writer: W,
+) -> (Served, W)
+    ensures { EndsBy streamed (Err fault) (W.contents writer) (W.contents result.1) result.0 }
+{
+    match fault {
+        RepositoryFault::Unseen => {
+            if streamed {
+                (Served::Cut, writer)
+            } else {
+                send_to(writer, &Answer::Refusal(Status::Unavailable))
+            }
+        }
+        RepositoryFault::Busy => send_to(writer, &Answer::Busy),
+        RepositoryFault::Io | RepositoryFault::Exists | RepositoryFault::Ledger(_) => {
+            send_to(writer, &Answer::Refusal(Status::Unavailable))
+        }
+    }
+}
+
+/// Opens the books for a request, asks them once, and answers the client once they are closed.
+fn answer_from_books<W: Write + Copy + Drop, S: Repository>(
+    alloc: Global,
+    request: Requested,
+    writer: W,
+    repository: &mut S,
+    book: &str,
+    has_log: &mut bool,
+) -> (Served, W)
+    ensures from { IsAnsweredFrom book.now (S.shelf repository.old) (S.shelf repository.new) request
+        (W.contents writer) (W.contents result.1) result.0 }
+    ensures answered { is_unanswered result.0 ≡ false }
+    ensures log { (S.shelf repository.new).has_log book.now has_log.new }
+{
+    let streamed = is_streamed(&request);
+    let mut open_request = OpenRequest {
+        alloc,
+        request,
+        writer,
+    };
+    let Opened {
+        answer,
+        has_log: is_left,
+    } = repository.open(book, &mut open_request);
+    *has_log = is_left;
+    let OpenRequest { writer, .. } = open_request;
+    end_request(streamed, answer, writer)
+}
+
+/// Serves one request as `book_http::serve_one` does, from the books of a name, which are opened for
+/// it once it came whole. Whether a log is left beside them is handed on.
+pub fn serve_request<R: Reader + Drop, W: Write + Copy + Drop, S: Repository>(
+    alloc: Global,
+    source: &mut Source<R>,
+    writer: W,
+    repository: &mut S,
+    book: &str,
+    has_log: &mut bool,
+) -> (Served, W)
+    requires asked { reads_of source.old ≤ 2 ^ 62 }
+    requires failed { has_failed source.old ≡ false }
+    requires ended { has_ended source.old ≡ false }
+    requires log { (S.shelf repository.old).has_log book.now has_log.old }
+    ensures served { (reads : List (ReadCall R))
+        × AreReadsBetween R.remaining R.may_answer IsDue source.old source.new reads
+        × IsServedFrom book.now (S.shelf repository.old) (S.shelf repository.new)
+        (bytes_read reads) (has_ended source.new)
+        (W.contents writer) (W.contents result.1) result.0 }
+
+    // The books are not opened before a request is whole.
+    ensures closed { is_unanswered result.0 ≡ true → repository.new ≡ repository.old }
+    ensures log { (S.shelf repository.new).has_log book.now has_log.new }
+{
+    match read_request(alloc, source) {
+        Ok(Requested::Settled(answer)) => send_to(writer, &answer),
+        Ok(request) => answer_from_books(alloc, request, writer, repository, book, has_log),
+        Err(Unanswered::Closed) => (Served::Closed, writer),
+        Err(Unanswered::Failed) => (Served::ReadFault, writer),
+    }
+}
