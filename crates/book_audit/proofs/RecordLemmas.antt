@@ -11,7 +11,7 @@ use Rattle.book_model.specs.declared.row.ChargeRow.{ChargeRow}
 use Rattle.book_model.specs.declared.row.RowKey.{RowKey}
 use Rattle.tree_tables.specs.Columns.{record_columns}
 use Rattle.book_audit.specs.Days.{keyed_rows}
-use Rattle.book_audit.specs.Records.{AreEntries, Counts, HasPast, IsRight, Told, counted_price, counted_prices}
+use Rattle.book_audit.specs.Records.{AreEntries, Counts, IsRight, IsTold, Told, counted_price, counted_prices}
 use Rattle.book_audit.specs.declared.rulings.Rulings.{Rulings}
 
 pub none_yet : (trees : Trees) (rulings : Rulings) → AreEntries trees rulings 0 0 0 []
@@ -21,8 +21,8 @@ none_yet trees rulings =
 -- one more row
 pub entries_pushed : (trees : Trees) (rulings : Rulings) (count amount next lines more : ℕ)
     (entries : List Told) (told : Told)
-    → AreEntries trees rulings count amount lines entries → IsRight (trees 6) rulings told.0
-    → HasPast (trees 5) rulings.closes.items told.0 told.1.counted told.1.lines
+    → AreEntries trees rulings count amount lines entries → IsRight trees rulings told.0
+    → IsTold trees rulings.closes.items told
     → next ≡ amount + told.0.1.priced.amount → next ≤ most_cost → more ≡ lines + told.1.lines
     → AreEntries trees rulings (count + 1) next more (entries ++ told ∷ [])
 entries_pushed trees rulings count amount next lines more entries told so_far right past is within lined =
@@ -33,10 +33,10 @@ entries_pushed trees rulings count amount next lines more entries told so_far ri
     let cost = sum_by-append (λ (one : Told). one.0.1.priced.amount) entries (told ∷ []) in
     let all = sum_by-append (λ (one : Told). one.1.lines) entries (told ∷ []) in
     record {
-      right = all-append (λ (one : Told). IsRight (trees 6) rulings one.0) entries (told ∷ [])
+      right = all-append (λ (one : Told). IsRight trees rulings one.0) entries (told ∷ [])
           so_far.right (right, tt);
-      past = all-append (λ (one : Told). HasPast (trees 5) rulings.closes.items one.0 one.1.counted
-          one.1.lines) entries (told ∷ []) so_far.past (past, tt);
+      past = all-append (IsTold trees rulings.closes.items) entries (told ∷ []) so_far.past
+          (past, tt);
       counted = omega (arith, counted, long);
       summed = omega (arith, is, summed, cost);
       lined = omega (arith, lined, were, all);

@@ -12,6 +12,7 @@ pub mod Records
 pub mod Days
 pub mod Entries
 pub mod Lines
+pub mod Details
 pub mod ChoiceRows
 pub mod SoundTrees
 pub mod Copies

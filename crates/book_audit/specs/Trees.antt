@@ -1,10 +1,10 @@
 -- The trees by their numbers, and what a look at them finds.
-use Rattle.std.specs.Prelude.{◌≡◌, ◌&&◌, ℕ, Bool, List}
+use Rattle.std.specs.Prelude.{◌≡◌, ◌&&◌, ℕ, Bool, true, List}
 use Rattle.std.specs.Ordering.{is_eq}
 use Rattle.sqlite_trees.specs.Tree.{from_key}
 use Rattle.sqlite_value.specs.Keys.{plain, prefix_cmp}
 use Rattle.sqlite_value.specs.Order.{Row}
-use Rattle.tree_rows.specs.Rows.{IsFirst, past_key}
+use Rattle.tree_rows.specs.Rows.{Finds, IsFirst, past_key}
 use Rattle.book_audit.specs.declared.finding.Tree.{Tree}
 use Rattle.book_audit.specs.declared.finding.Tree.TheVariants.{Book, Tariffs, Closes, Records}
 use Rattle.book_audit.specs.declared.finding.Tree.TheVariants.{Days, Lines, Identities, Marks}
@@ -23,6 +23,11 @@ tree_number Marks = 7
 tree_number Choices = 8
 tree_number ChoiceNames = 9
 tree_number Details = 10
+
+-- a look-up of the key finds a row that has it
+pub record HasKey (key : Row) (rows : List Row) : Type 0 where
+  pub row : Row
+  pub finds : Finds key rows row true
 
 -- whether the row after the first that has the key has it too
 pub record FindsTwo (key : Row) (rows : List Row) (row : Row) (two : Bool) : Type 0 where

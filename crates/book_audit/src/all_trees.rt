@@ -1,10 +1,11 @@
 //! All trees of books.
 
 ghost use Rattle.std.specs.Prelude.{◌≡◌, IfOk, OnOk};
+ghost use Rattle.table_model.specs.Tables.{Tables};
 ghost use Rattle.sqlite_trees.specs.View.{IsClean};
 ghost use Rattle.tree_rows.specs.Calls.{CommitsNothing, OnlyLooks};
 ghost use Rattle.tree_rows.specs.Rows.{IsUnchanged};
-ghost use Rattle.tree_tables.specs.Holds.{HasShapes};
+ghost use Rattle.tree_tables.specs.Holds.{HasShapes, Holds};
 ghost use Rattle.book_audit.specs.SoundTrees.{AreSound};
 
 use crate::audited::{Audited, Counts};
@@ -29,6 +30,8 @@ fn read_trees<S: Store, W: Watch>(
 ) -> Result<Counts, Stop>
     ensures sound { IfOk result (λ counts. IsClean (S.Store.view trees.new.store)
         → AreSound (S.Store.view trees.old.store).trees counts) }
+    ensures held { OnOk result (IsClean (S.Store.view trees.new.store)
+        → (tables : Tables) × Holds (S.Store.view trees.old.store).trees tables) }
     ensures same { OnOk result (OnlyLooks S.Store trees.old.store trees.new.store) }
     ensures quiet { CommitsNothing S.Store trees.old.store trees.new.store }
 {
@@ -61,6 +64,9 @@ pub fn audit_trees<S: Store, W: Watch>(
     requires { IsClean (S.Store.view store) → HasShapes (S.Store.view store) }
     ensures sound { IfOk result.0 (λ audited. (counts : Counts) → audited ≡ Audited.Sound counts
         → IsClean (S.Store.view result.1) → AreSound (S.Store.view store).trees counts) }
+    ensures held { IfOk result.0 (λ audited. (counts : Counts) → audited ≡ Audited.Sound counts
+        → IsClean (S.Store.view result.1)
+        → (tables : Tables) × Holds (S.Store.view store).trees tables) }
     ensures same { IfOk result.0 (λ audited. (counts : Counts) → audited ≡ Audited.Sound counts
         → IsClean (S.Store.view result.1)
         → IsUnchanged (S.Store.view store) (S.Store.view result.1)) }

@@ -1,10 +1,10 @@
 //! The choices: which record was chosen last of each identity.
 
-ghost use Rattle.std.specs.Prelude.{◌≡◌, ◌≤◌, ◌+◌, IfOk, None, OnOk, length};
+ghost use Rattle.std.specs.Prelude.{◌≡◌, ◌≤◌, ◌+◌, ◌||◌, IfOk, None, OnOk, length};
 ghost use Rattle.sqlite_trees.specs.View.{IsClean};
 ghost use Rattle.tree_rows.specs.Calls.{CommitsNothing, OnlyLooks};
 ghost use Rattle.tree_tables.specs.Columns.{choice_columns};
-ghost use Rattle.book_audit.specs.ChoiceRows.{AreChoices, entry_of};
+ghost use Rattle.book_audit.specs.ChoiceRows.{AreChoices, Chooses, IsChosenAmong, entry_of, row_of};
 ghost use Rattle.book_audit.specs.Entries.{AreCounted};
 
 use crate::entry_counts::check_entries;
@@ -114,6 +114,14 @@ impl Chosen {
     }
 }
 
+/// Whether a record may have been chosen: if an adoption can have parted it from the others of its
+/// identity since, or it still shares it.
+fn may_be_chosen(is_parted: bool, is_shared: bool) -> bool
+    ensures { result ≡ (is_parted || is_shared) }
+{
+    is_parted || is_shared
+}
+
 /// The identity of the record that a choice names. It is held, and is not alone in its identity
 /// unless an adoption can have parted it from the others.
 fn chosen_identity<S: Store>(
@@ -122,6 +130,9 @@ fn chosen_identity<S: Store>(
     rule: IdentityRule,
     choice: &Choice,
 ) -> Result<Vec<u8>, Stop>
+    ensures among { IfOk result (λ identity. IsClean (S.Store.view trees.new.store)
+        → IsChosenAmong (S.Store.view trees.old.store).trees rule (row_of choice.now)
+        identity.items) }
     ensures same { OnOk result (OnlyLooks S.Store trees.old.store trees.new.store) }
     ensures quiet { CommitsNothing S.Store trees.old.store trees.new.store }
 {
@@ -132,13 +143,10 @@ fn chosen_identity<S: Store>(
     let Some(identity) = identity else {
         return Err(unsound(place, Wrong::NotHeld));
     };
-    if rule.may_split(choice.period) {
-        return Ok(identity);
-    }
-    if !trees
+    let is_shared = trees
         .is_shared(&identity)
-        .map_err(|error| met(Tree::Identities, error))?
-    {
+        .map_err(|error| met(Tree::Identities, error))?;
+    if !may_be_chosen(rule.may_split(choice.period), is_shared) {
         return Err(unsound(place, Wrong::ChosenAlone));
     }
     Ok(identity)
@@ -155,6 +163,9 @@ fn check_choice<S: Store>(
 ) -> Result<(), Stop>
     ensures number { OnOk result (choice.now.number ≡ chosen.old.count + 1) }
     ensures count { OnOk result (chosen.new.count ≡ choice.now.number) }
+    ensures chooses { OnOk result (IsClean (S.Store.view trees.new.store)
+        → Chooses (S.Store.view trees.old.store).trees rule open_period chosen.old chosen.new
+        choice.now) }
     ensures same { OnOk result (OnlyLooks S.Store trees.old.store trees.new.store) }
     ensures quiet { CommitsNothing S.Store trees.old.store trees.new.store }
 {
@@ -184,7 +195,7 @@ pub(crate) fn read_choices<S: Store, W: Watch>(
     watch: &mut W,
 ) -> Result<Chosen, Stop>
     ensures choices { IfOk result (λ chosen. IsClean (S.Store.view trees.new.store)
-        → AreChoices ((S.Store.view trees.old.store).trees 8) chosen.count) }
+        → AreChoices (S.Store.view trees.old.store).trees rule open_period chosen) }
     ensures names { IfOk result (λ chosen. IsClean (S.Store.view trees.new.store)
         → AreCounted Tree.ChoiceNames ((S.Store.view trees.old.store).trees 9) chosen.count) }
     ensures same { OnOk result (OnlyLooks S.Store trees.old.store trees.new.store) }

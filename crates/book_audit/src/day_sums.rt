@@ -8,6 +8,7 @@ ghost use Rattle.book_model.specs.Words.{row_at, rows_of};
 ghost use Rattle.tree_rows.specs.Calls.{CommitsNothing, OnlyLooks};
 ghost use Rattle.tree_tables.specs.Columns.{day_columns};
 ghost use Rattle.book_audit.specs.Days.{due_entry, entry_of, keyed_rows, with_price};
+ghost use Rattle.book_audit.specs.Walks.{AreRising};
 
 use crate::finding::{Place, Tree, Wrong};
 use crate::rulings::Rulings;
@@ -192,6 +193,8 @@ fn read_rows<S: Store, W: Watch>(
     ensures rows { OnOk result (IsClean (S.Store.view trees.new.store)
         → (S.Store.view trees.old.store).trees 4
         ≡ map day_columns (map (due_entry rulings.now.closes.items) due.now)) }
+    ensures rising { OnOk result (IsClean (S.Store.view trees.new.store)
+        → AreRising Tree.Days ((S.Store.view trees.old.store).trees 4)) }
     ensures same { OnOk result (OnlyLooks S.Store trees.old.store trees.new.store) }
     ensures quiet { CommitsNothing S.Store trees.old.store trees.new.store }
 {
@@ -229,6 +232,8 @@ pub(crate) fn check_rows<S: Store, W: Watch>(
         → places.rows.entries ≡ keyed_rows prices
         → (S.Store.view trees.old.store).trees 4
         ≡ map day_columns (map (due_entry rulings.now.closes.items) (rows_of prices))) }
+    ensures rising { OnOk result (IsClean (S.Store.view trees.new.store)
+        → AreRising Tree.Days ((S.Store.view trees.old.store).trees 4)) }
     ensures count { IfOk result (λ count. (prices : List Price)
         → places.rows.entries ≡ keyed_rows prices → count ≡ length (rows_of prices)) }
     ensures same { OnOk result (OnlyLooks S.Store trees.old.store trees.new.store) }

@@ -1,8 +1,15 @@
 //! The details: a row for each record that some period counts.
 
-ghost use Rattle.std.specs.Prelude.{◌≡◌, IsTrue, OnOk};
+ghost use Rattle.std.specs.Prelude.{◌≡◌, IfOk, IsTrue, None, OnOk, length, true};
+ghost use Rattle.sqlite_trees.specs.View.{IsClean};
 ghost use Rattle.book_model.specs.Words as model;
+ghost use Rattle.table_model.specs.DetailsRead.{detail_shown};
 ghost use Rattle.tree_rows.specs.Calls.{CommitsNothing, OnlyLooks};
+ghost use Rattle.tree_tables.specs.Columns.{detail_columns};
+ghost use Rattle.tree_tables.specs.Stored.{stored_entry};
+ghost use Rattle.book_audit.specs.Details.{AreDetails, HasCost, IsCounted, ShowsCounted};
+ghost use Rattle.book_audit.specs.Records.{detail_key, spot_of};
+ghost use Rattle.book_audit.specs.Trees.{HasKey};
 
 use crate::day_sums::place_of;
 use crate::finding::{DetailKey, Place, Tree, Wrong};
@@ -15,13 +22,20 @@ use crate::watch::Watch;
 use book_core::detail_with;
 use book_model::Detail;
 use smf_type30::Type30;
+use sqlite_trees::error::StoreError;
 use sqlite_trees::store::Store;
 use sqlite_value::row::Row;
 use std::alloc::Global;
-use tree_tables::{StoredRecord, put_data, read_detail, usage_in};
+use tariff_rules::Priced;
+use tree_tables::{
+    StoredRecord, count_at, day_at, eight_at, hash_at, name_at, number_at, put_data, step_at,
+    usage_in,
+};
 
 /// Where a row of details is.
-fn key_of(shown: &Detail) -> DetailKey {
+fn key_of(shown: &Detail) -> DetailKey
+    ensures { result ≡ spot_of shown.now }
+{
     DetailKey {
         place: place_of(&shown.priced),
         time: shown.time,
@@ -35,6 +49,9 @@ pub(crate) fn check_has_detail<S: Store>(
     bytes: &mut Vec<u8>,
     record: &StoredRecord,
 ) -> Result<(), Stop>
+    ensures shown { OnOk result (IsClean (S.Store.view trees.new.store)
+        → HasKey (detail_key (spot_of (detail_shown (stored_entry record.now))))
+        ((S.Store.view trees.old.store).trees 10)) }
     ensures same { OnOk result (OnlyLooks S.Store trees.old.store trees.new.store) }
     ensures quiet { CommitsNothing S.Store trees.old.store trees.new.store }
 {
@@ -72,6 +89,25 @@ fn shows(shown: &Detail, record: &StoredRecord, usage: &Type30<'_>) -> bool
     shown.priced == record.priced && shows_usage(shown, usage)
 }
 
+/// Whether the row of its period counts a record.
+fn is_counted<S: Store>(
+    trees: &mut Trees<S>,
+    rulings: &Rulings,
+    record: &StoredRecord,
+) -> Result<bool, Stop>
+    ensures counted { IfOk result (λ counted. counted ≡ true
+        → IsClean (S.Store.view trees.new.store)
+        → IsCounted ((S.Store.view trees.old.store).trees 5) rulings.now.closes.items
+        (stored_entry record.now)) }
+    ensures same { OnOk result (OnlyLooks S.Store trees.old.store trees.new.store) }
+    ensures quiet { CommitsNothing S.Store trees.old.store trees.new.store }
+{
+    match past_in(trees, rulings, record)? {
+        Some(past) => Ok(past.counted),
+        None => Ok(false),
+    }
+}
+
 /// What is wrong with a row of details.
 fn wrong_with<S: Store>(
     alloc: Global,
@@ -80,6 +116,8 @@ fn wrong_with<S: Store>(
     bytes: &mut Vec<u8>,
     shown: &Detail,
 ) -> Result<Option<Wrong>, Stop>
+    ensures counted { IfOk result (λ wrong. wrong ≡ None → IsClean (S.Store.view trees.new.store)
+        → ShowsCounted (S.Store.view trees.old.store).trees rulings.now.closes.items shown.now) }
     ensures same { OnOk result (OnlyLooks S.Store trees.old.store trees.new.store) }
     ensures quiet { CommitsNothing S.Store trees.old.store trees.new.store }
 {
@@ -94,37 +132,70 @@ fn wrong_with<S: Store>(
     if !shows(shown, &record, &usage) {
         return Ok(Some(Wrong::OtherDetail));
     }
-    match past_in(trees, rulings, &record)? {
-        Some(past) if past.counted => Ok(None),
-        _ => Ok(Some(Wrong::NotCounted)),
+    if !is_counted(trees, rulings, &record)? {
+        return Ok(Some(Wrong::NotCounted));
     }
+    Ok(None)
 }
 
-/// A row of details is that of a record which some period counts.
-fn check_row<S: Store>(
+/// What is shown is a record which some period counts.
+fn check_shown<S: Store>(
     alloc: Global,
     trees: &mut Trees<S>,
     rulings: &Rulings,
     bytes: &mut Vec<u8>,
-    row: &Row,
+    shown: &Detail,
 ) -> Result<(), Stop>
+    ensures counted { OnOk result (IsClean (S.Store.view trees.new.store)
+        → ShowsCounted (S.Store.view trees.old.store).trees rulings.now.closes.items shown.now) }
     ensures same { OnOk result (OnlyLooks S.Store trees.old.store trees.new.store) }
     ensures quiet { CommitsNothing S.Store trees.old.store trees.new.store }
 {
-    let shown = read_detail(row).map_err(|error| met(Tree::Details, error))?;
-    match wrong_with(alloc, trees, rulings, bytes, &shown)? {
-        Some(wrong) => Err(unsound(Place::Detail(key_of(&shown)), wrong)),
+    match wrong_with(alloc, trees, rulings, bytes, shown)? {
+        Some(wrong) => Err(unsound(Place::Detail(key_of(shown)), wrong)),
         None => Ok(()),
     }
 }
 
-/// Reads all details. That each record which is counted has a row was seen before.
+/// What a row of details says that its record costs.
+fn cost_in(row: &Row) -> Result<Priced, StoreError>
+    ensures { IfOk result (HasCost row.now) }
+{
+    Ok(Priced {
+        day: day_at(row, 0)?,
+        centre: name_at(row, 1)?,
+        shift: name_at(row, 2)?,
+        cpu: count_at(row, 9)?,
+        excp: count_at(row, 10)?,
+        amount: count_at(row, 11)?,
+    })
+}
+
+/// What a row of details says, which has that and no more.
+fn detail_in(row: &Row) -> Result<Detail, StoreError>
+    requires { length row.now ≡ 12 }
+    ensures read { IfOk result (λ shown. row.now ≡ detail_columns (shown, tt)) }
+{
+    Ok(Detail {
+        priced: cost_in(row)?,
+        time: number_at(row, 3)?,
+        name: hash_at(row, 4)?,
+        job: eight_at(row, 5)?,
+        program: eight_at(row, 6)?,
+        job_id: eight_at(row, 7)?,
+        step: step_at(row, 8)?,
+    })
+}
+
+/// Reads all details, of records that are counted. That each of these has a row was seen before.
 pub(crate) fn check_details<S: Store, W: Watch>(
     alloc: Global,
     trees: &mut Trees<S>,
     rulings: &Rulings,
     watch: &mut W,
 ) -> Result<(), Stop>
+    ensures details { OnOk result (IsClean (S.Store.view trees.new.store)
+        → AreDetails (S.Store.view trees.old.store).trees rulings.now.closes.items) }
     ensures same { OnOk result (OnlyLooks S.Store trees.old.store trees.new.store) }
     ensures quiet { CommitsNothing S.Store trees.old.store trees.new.store }
 {
@@ -135,7 +206,8 @@ pub(crate) fn check_details<S: Store, W: Watch>(
         if !walk.next(trees)? {
             return Ok(());
         }
-        check_row(alloc, trees, rulings, &mut bytes, walk.row())?;
+        let shown = detail_in(walk.row()).map_err(|error| met(Tree::Details, error))?;
+        check_shown(alloc, trees, rulings, &mut bytes, &shown)?;
     }
     Err(endless(Tree::Details))
 }

@@ -14,6 +14,7 @@ mod keys;
 mod lines;
 mod marks;
 mod record_bytes;
+mod record_row;
 mod records;
 mod repository;
 mod ruled;

@@ -4,7 +4,7 @@ ghost use Rattle.std.specs.Prelude.{◌≡◌, IfOk, OnOk, length};
 ghost use Rattle.sqlite_trees.specs.View.{IsClean};
 ghost use Rattle.tree_rows.specs.Calls.{CommitsNothing, OnlyLooks};
 ghost use Rattle.tree_tables.specs.Columns.{line_columns};
-ghost use Rattle.book_audit.specs.Lines.{AreLines, line_entry};
+ghost use Rattle.book_audit.specs.Lines.{AreLines, IsLateLine, line_entry};
 
 use crate::finding::{Place, Tree, Wrong};
 use crate::rulings::Rulings;
@@ -40,13 +40,17 @@ fn line_in(row: &Row) -> Result<Line, StoreError>
     })
 }
 
-/// A line names a record that is held and is dated on or before the close before its period.
+/// A line names a record that is held. Its period is after that of the record's day, and is no later
+/// than the open one.
 fn check_line<S: Store>(
     alloc: Global,
     trees: &mut Trees<S>,
     rulings: &Rulings,
     line: &Line,
 ) -> Result<(), Stop>
+    ensures late { OnOk result (IsClean (S.Store.view trees.new.store)
+        → IsLateLine ((S.Store.view trees.old.store).trees 3) rulings.now.closes.items
+        (line_entry line.now)) }
     ensures same { OnOk result (OnlyLooks S.Store trees.old.store trees.new.store) }
     ensures quiet { CommitsNothing S.Store trees.old.store trees.new.store }
 {
@@ -57,7 +61,8 @@ fn check_line<S: Store>(
     let Some(record) = record else {
         return Err(unsound(place, Wrong::NoRecord));
     };
-    if !rulings.is_before(record.priced.day, line.period) {
+    let own = rulings.period_of(record.priced.day);
+    if line.period <= own || rulings.open_period() < line.period {
         return Err(unsound(place, Wrong::LineDate));
     }
     Ok(())
@@ -71,7 +76,7 @@ pub(crate) fn check_lines<S: Store, W: Watch>(
     watch: &mut W,
 ) -> Result<u64, Stop>
     ensures lines { IfOk result (λ count. IsClean (S.Store.view trees.new.store)
-        → AreLines ((S.Store.view trees.old.store).trees 5) count) }
+        → AreLines (S.Store.view trees.old.store).trees rulings.now.closes.items count) }
     ensures same { OnOk result (OnlyLooks S.Store trees.old.store trees.new.store) }
     ensures quiet { CommitsNothing S.Store trees.old.store trees.new.store }
 {

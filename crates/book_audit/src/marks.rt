@@ -1,11 +1,12 @@
 //! The marks of a record, and the trees that find it.
 
-ghost use Rattle.std.specs.Prelude.{◌≡◌, ◌≤◌, ◌-◌, IfOk, IfSome, None, OnOk};
+ghost use Rattle.std.specs.Prelude.{◌≡◌, ◌≤◌, ◌-◌, IfOk, IfSome, None, OnOk, true};
 ghost use Rattle.sqlite_trees.specs.View.{IsClean};
 ghost use Rattle.tree_rows.specs.Calls.{CommitsNothing, OnlyLooks};
 ghost use Rattle.tree_tables.specs.Stored.{stored_entry};
 ghost use Rattle.book_audit.specs.Marks as spec;
-ghost use Rattle.book_audit.specs.Records.{GoesBack, HasPast, IsChargedRight};
+ghost use Rattle.book_audit.specs.Records.{GoesBack, HasPast, IsChargedRight, IsFound, IsMarked};
+ghost use Rattle.book_audit.specs.Records.{IsPostedRight};
 
 use crate::choices::Chosen;
 use crate::finding::{Place, Tree, Wrong};
@@ -44,6 +45,8 @@ fn wrong_by_trees<S: Store>(
     chosen: &Chosen,
     stored: &StoredRecord,
 ) -> Result<Option<Wrong>, Stop>
+    ensures found { IfOk result (λ wrong. wrong ≡ None → IsClean (S.Store.view trees.new.store)
+        → IsFound (S.Store.view trees.old.store).trees (stored_entry stored.now)) }
     ensures charged { IfOk result (λ wrong. wrong ≡ None → IsClean (S.Store.view trees.new.store)
         → IsChargedRight ((S.Store.view trees.old.store).trees 6) chosen.now
         (stored_entry stored.now)) }
@@ -78,6 +81,9 @@ fn is_posted_right<S: Store>(
     rulings: &Rulings,
     stored: &StoredRecord,
 ) -> Result<bool, Stop>
+    ensures posted { IfOk result (λ right. right ≡ true → IsClean (S.Store.view trees.new.store)
+        → IsPostedRight ((S.Store.view trees.old.store).trees 5) rulings.now.closes.items
+        (stored_entry stored.now)) }
     ensures same { OnOk result (OnlyLooks S.Store trees.old.store trees.new.store) }
     ensures quiet { CommitsNothing S.Store trees.old.store trees.new.store }
 {
@@ -159,9 +165,8 @@ pub(crate) fn check_marks<S: Store>(
     rulings: &Rulings,
     stored: &StoredRecord,
 ) -> Result<Past, Stop>
-    ensures charged { OnOk result (IsClean (S.Store.view trees.new.store)
-        → IsChargedRight ((S.Store.view trees.old.store).trees 6) rulings.now.chosen
-        (stored_entry stored.now)) }
+    ensures marked { OnOk result (IsClean (S.Store.view trees.new.store)
+        → IsMarked (S.Store.view trees.old.store).trees rulings.now (stored_entry stored.now)) }
     ensures past { IfOk result (λ past. IsClean (S.Store.view trees.new.store)
         → HasPast ((S.Store.view trees.old.store).trees 5) rulings.now.closes.items
         (stored_entry stored.now) past.counted past.lines) }

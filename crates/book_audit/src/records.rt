@@ -1,12 +1,11 @@
 //! The records.
 
-ghost use Rattle.std.specs.Prelude.{◌≡◌, IfOk, OnOk, length};
+ghost use Rattle.std.specs.Prelude.{◌≡◌, IfOk, OnOk};
 ghost use Rattle.sqlite_trees.specs.View.{IsClean};
 ghost use Rattle.tree_rows.specs.Calls.{CommitsNothing, OnlyLooks};
-ghost use Rattle.tree_tables.specs.Columns.{record_columns};
 ghost use Rattle.tree_tables.specs.Stored.{stored_entry};
 ghost use Rattle.book_audit.specs.Entries.{AreCounted};
-ghost use Rattle.book_audit.specs.Records.{AreRecords, Counts, HasPast, HasPrice, IsRight, counted_price};
+ghost use Rattle.book_audit.specs.Records.{AreRecords, Counts, IsRight, IsTold, counted_price};
 
 use crate::day_sums::Places;
 use crate::details::check_has_detail;
@@ -14,18 +13,16 @@ use crate::entry_counts::check_entries;
 use crate::finding::{Place, Tree, Wrong};
 use crate::marks::{Past, check_marks};
 use crate::record_bytes::check_data;
+use crate::record_row::record_in;
 use crate::rulings::Rulings;
 use crate::stop::{Stop, met, unsound};
 use crate::trees::Trees;
 use crate::walk::Walk;
 use crate::watch::Watch;
 use book_core::{MAX_COST, MAX_HELD};
-use sqlite_trees::error::StoreError;
 use sqlite_trees::store::Store;
-use sqlite_value::row::Row;
 use std::alloc::Global;
-use tariff_rules::Priced;
-use tree_tables::{StoredRecord, bytes_at, count_at, day_at, hash_at, mark_at, name_at};
+use tree_tables::StoredRecord;
 
 /// How many records there are, what they cost together, and how many lines name them.
 #[derive(Clone, Copy)]
@@ -33,35 +30,6 @@ pub(crate) struct Held {
     pub(crate) records: u64,
     amount: u64,
     pub(crate) lines: u64,
-}
-
-/// What the row of a record says that it costs.
-fn price_in(row: &Row) -> Result<Priced, StoreError>
-    ensures { IfOk result (HasPrice row.now) }
-{
-    Ok(Priced {
-        day: day_at(row, 3)?,
-        shift: name_at(row, 4)?,
-        centre: name_at(row, 5)?,
-        cpu: count_at(row, 6)?,
-        excp: count_at(row, 7)?,
-        amount: count_at(row, 8)?,
-    })
-}
-
-/// What the row of a record says, which has that and no more.
-fn record_in(alloc: Global, row: &Row) -> Result<StoredRecord, StoreError>
-    requires { length row.now ≡ 11 }
-    ensures read { IfOk result (λ stored. row.now ≡ record_columns (stored_entry stored)) }
-{
-    Ok(StoredRecord {
-        name: hash_at(row, 0)?,
-        priced: price_in(row)?,
-        charged: mark_at(row, 9)?,
-        posted: mark_at(row, 10)?,
-        identity: bytes_at(row, 1, alloc)?,
-        data_bytes: bytes_at(row, 2, alloc)?,
-    })
 }
 
 /// A record is as its data, the tariffs and the other trees require. If its own period counts it,
@@ -75,10 +43,10 @@ fn check_record<S: Store>(
     stored: &StoredRecord,
 ) -> Result<Past, Stop>
     ensures right { OnOk result (IsClean (S.Store.view trees.new.store)
-        → IsRight ((S.Store.view trees.old.store).trees 6) rulings.now (stored_entry stored.now)) }
+        → IsRight (S.Store.view trees.old.store).trees rulings.now (stored_entry stored.now)) }
     ensures past { IfOk result (λ past. IsClean (S.Store.view trees.new.store)
-        → HasPast ((S.Store.view trees.old.store).trees 5) rulings.now.closes.items
-        (stored_entry stored.now) past.counted past.lines) }
+        → IsTold (S.Store.view trees.old.store).trees rulings.now.closes.items
+        (stored_entry stored.now, past)) }
     ensures placed { IfOk result (λ past. Counts places.old.rows.entries places.new.rows.entries
         (counted_price (stored_entry stored.now, past))) }
     ensures same { OnOk result (OnlyLooks S.Store trees.old.store trees.new.store) }

@@ -202,7 +202,7 @@ pub(crate) fn read_closes<S: Store>(alloc: Global, trees: &mut Trees<S>) -> Resu
 impl Rulings {
     ghost use Rattle.std.specs.Prelude.{◌≡◌, ◌≤◌, ◌+◌, length, option_copied};
     ghost use Rattle.book_audit.specs.Data.{in_force};
-    ghost use Rattle.book_audit.specs.Days.{period_from};
+    ghost use Rattle.book_audit.specs.Days.{is_closed, period_from};
 
     /// The number of the open period.
     pub(crate) fn open_period(&self) -> u16
@@ -212,8 +212,10 @@ impl Rulings {
     }
 
     /// Whether a day is one of a closed period.
-    pub(crate) fn is_closed(&self, day: i32) -> bool {
-        self.closes.last().copied().is_some_and(|last| day <= last)
+    pub(crate) fn is_closed(&self, day: i32) -> bool
+        ensures { result ≡ is_closed self.now.closes.items day }
+    {
+        !is_after(last_of(&self.closes), day)
     }
 
     /// The period of a day: that of the first close through it or a later day.
@@ -229,17 +231,6 @@ impl Rulings {
             period += 1;
         }
         period
-    }
-
-    /// Whether a day is not after the close before a period.
-    pub(crate) fn is_before(&self, day: i32, period: u16) -> bool {
-        if period < 2 {
-            return false;
-        }
-        match self.closes.get(usize::from(period) - 2) {
-            Some(through) => day <= *through,
-            None => false,
-        }
     }
 
     /// The tariff in force on a day: the last that has begun.

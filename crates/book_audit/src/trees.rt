@@ -5,12 +5,13 @@ ghost use Rattle.tree_tables.specs.Holds.{HasShapes};
 
 use crate::finding::{DetailKey, Tree};
 use crate::keys::{bytes_key, choice_name_key, detail_key, identity_key, line_key, mark_key};
+use crate::record_row::record_in;
 use sqlite_trees::error::StoreError;
 use sqlite_trees::store::Store;
 use sqlite_value::row::Row;
 use std::alloc::Global;
 use tree_rows::{find_row, first_after, first_from, has_key};
-use tree_tables::{StoredRecord, bytes_at, mark_at, read_record};
+use tree_tables::{StoredRecord, bytes_at, mark_at};
 
 /// The tree that finds records by their identities.
 const IDENTITIES: u32 = 6;
@@ -27,14 +28,15 @@ pub(crate) struct Trees<S: Store> {
 }
 
 impl<S: Store> Trees<S> {
-    ghost use Rattle.std.specs.Prelude.{◌≡◌, ◌∷◌, [], IfOk, IfSome, OnOk, is_some, pos};
+    ghost use Rattle.std.specs.Prelude.{◌≡◌, ◌∷◌, [], IfOk, IfSome, OnOk, is_some, pos, true};
     ghost use Rattle.sqlite_trees.specs.View.{IsClean};
     ghost use Rattle.sqlite_value.specs.Order.{column};
     ghost use Rattle.sqlite_value.specs.declared.value.Value.TheVariants.{Blob, Int, Text};
     ghost use Rattle.tree_rows.specs.Calls.{CommitsNothing, OnlyLooks};
     ghost use Rattle.tree_rows.specs.Rows.{Finds, IsFirst};
-    ghost use Rattle.tree_tables.specs.Columns.{flag};
+    ghost use Rattle.tree_tables.specs.Columns.{flag, record_columns};
     ghost use Rattle.tree_tables.specs.Holds.{HasShapes};
+    ghost use Rattle.tree_tables.specs.Stored.{stored_entry};
     ghost use Rattle.tree_tables.specs.Walks.{rows_past};
     ghost use Rattle.book_audit.specs.Trees.{FindsTwo, tree_number};
 
@@ -205,6 +207,9 @@ impl<S: Store> Trees<S> {
         alloc: Global,
         name: &[u8; 32],
     ) -> Result<Option<StoredRecord>, StoreError>
+        ensures read { IfOk result (λ held. IfSome held (λ stored.
+            IsClean (S.Store.view self.new.store) → Finds (Blob name.now ∷ [])
+            ((S.Store.view self.old.store).trees 3) (record_columns (stored_entry stored)) true)) }
         ensures same { OnOk result (OnlyLooks S.Store self.old.store self.new.store) }
         ensures quiet { CommitsNothing S.Store self.old.store self.new.store }
     {
@@ -212,6 +217,9 @@ impl<S: Store> Trees<S> {
         if !self.finds(Tree::Records)? {
             return Ok(None);
         }
-        Ok(Some(read_record(&self.found, alloc)?))
+        if self.found.len() != Tree::Records.columns() {
+            return Err(StoreError::Corrupt);
+        }
+        Ok(Some(record_in(alloc, &self.found)?))
     }
 }

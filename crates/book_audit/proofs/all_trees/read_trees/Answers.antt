@@ -8,11 +8,14 @@ use Rattle.book_model.specs.declared.row.RowKey.{RowKey}
 use Rattle.tree_rows.specs.Calls.{OnlyLooks}
 use Rattle.tree_tables.specs.Columns.{day_columns}
 use Rattle.book_audit.specs.Days.{due_entry, keyed_rows}
+use Rattle.book_audit.specs.Details.{AreDetails}
 use Rattle.book_audit.specs.Entries.{AreCounted}
 use Rattle.book_audit.specs.Lines.{AreLines}
 use Rattle.book_audit.specs.Records.{AreRecords, counted_prices}
-use Rattle.book_audit.specs.declared.finding.Tree.TheVariants.{Identities, Marks}
+use Rattle.book_audit.specs.Walks.{AreRising}
+use Rattle.book_audit.specs.declared.finding.Tree.TheVariants.{Days, Identities, Marks}
 use Rattle.book_audit.specs.declared.rulings.Rulings.{Rulings}
+use Rattle.book_audit.proofs.TreesHold.{trees_hold}
 use Rattle.book_audit.proofs.WalkSteps.{look_back, looks_on, trees_stay}
 use Rattle.book_audit.proofs.all_trees.read_trees.Goals as goal
 
@@ -37,7 +40,9 @@ returns-clause-sound g c clean =
     let to_three : OnlyLooks g.S.Store zero three = looks_on g.S.Store zero two three to_two third in
     let stay_one = trees_stay g.S.Store zero one first at_one in
     let stay_two = trees_stay g.S.Store zero two to_two at_two in
+    let to_four : OnlyLooks g.S.Store zero four = looks_on g.S.Store zero three four to_three fourth in
     let stay_three = trees_stay g.S.Store zero three to_three at_three in
+    let stay_four = trees_stay g.S.Store zero four to_four at_four in
     let trees : Trees = (g.S.Store.view zero).trees in
     let rulings : Rulings = c.in_ok-rulings.rulings in
     let held = c.in_ok-held.held in
@@ -66,13 +71,20 @@ returns-clause-sound g c clean =
           (c.in_ok-held.ensures.identities at_two);
       marks = subst (λ (all : Trees). AreCounted Marks (all 7) held.records) stay_one
           (c.in_ok-held.ensures.marks at_two);
-      lines = subst (λ (all : Trees). AreLines (all 5) c.in_ok-lines.lines) stay_two
+      lines = subst (λ (all : Trees). AreLines all rulings.closes.items c.in_ok-lines.lines) stay_two
           (c.in_ok-lines.ensures.lines at_three);
       days = subst (λ (all : Trees). all 4 ≡ map day_columns (map (due_entry rulings.closes.items)
           (rows_of (counted_prices records.entries)))) stay_three
           (c.in_ok-rows.ensures.rows at_four (counted_prices records.entries) kept);
+      rising = subst (λ (all : Trees). AreRising Days (all 4)) stay_three
+          (c.in_ok-rows.ensures.rising at_four);
+      details = subst (λ (all : Trees). AreDetails all rulings.closes.items) stay_four
+          (c.in_ok-check_details.ensures.details clean);
       tariffs = search rules;
       closes = search rules;
       choices = search rules;
       charged = c.in_ok-rows.ensures.count (counted_prices records.entries) kept;
     }
+
+pub returns-clause-held : goal.returns-clause-held
+returns-clause-held g c clean = trees_hold _ _ (returns-clause-sound g c clean)

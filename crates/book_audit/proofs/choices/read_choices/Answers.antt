@@ -1,15 +1,16 @@
-use Rattle.std.proofs.Common.{◌≡◌, ◌∙◌, ◌++◌, ◌∷◌, [], ℕ, length, map, ap, arith, length-append, refl, rules, subst, sym}
-use Rattle.std.proofs.lemmas.List.{map-append}
+use Rattle.std.proofs.Common.{◌≡◌, ◌+◌, ◌∙◌, ◌++◌, ◌∷◌, [], ℕ, length, ap, arith, rules, subst}
+use Rattle.sqlite_trees.specs.Tree.{Trees}
 use Rattle.sqlite_trees.specs.View.{IsClean}
 use Rattle.sqlite_value.specs.Order.{Row}
 use Rattle.table_model.specs.Tables.{ChoiceRow}
 use Rattle.tree_rows.specs.Calls.{OnlyLooks}
 use Rattle.tree_rows.proofs.Calls.{quiet_both}
 use Rattle.tree_tables.specs.Columns.{choice_columns}
-use Rattle.book_audit.specs.ChoiceRows.{entry_of}
+use Rattle.book_audit.specs.ChoiceRows.{Chooses, Made, entry_of, made_rows, row_of}
 use Rattle.book_audit.specs.Walks.{HasWalked, WalksOn, width}
 use Rattle.book_audit.specs.declared.finding.Tree.TheVariants.{Choices}
-use Rattle.book_audit.proofs.WalkSteps.{look_back, looks_on, no_look, walked_on}
+use Rattle.book_audit.proofs.ChoiceLemmas.{made_pushed, none_made, rows_pushed}
+use Rattle.book_audit.proofs.WalkSteps.{look_back, looks_on, no_look, trees_stay, walked_on}
 use Rattle.book_audit.proofs.choices.read_choices.Goals as goal
 
 pub choices-init : goal.choices-init
@@ -18,7 +19,12 @@ choices-init g c = record {
   same = no_look g.S.Store c.args.trees.now.store;
   quiet = search rules;
   counted = c.new-chosen.ensures.count;
-  read = λ clean. ([], c.over-walk.ensures.start ((g.S.Store.view c.args.trees.now.store).trees 8), refl);
+  read = λ clean. (
+    [],
+    c.over-walk.ensures.start ((g.S.Store.view c.args.trees.now.store).trees 8),
+    none_made (g.S.Store.view c.args.trees.now.store).trees c.args.rule c.args.open_period
+        c.new-chosen.result c.new-chosen.ensures.count c.new-chosen.ensures.none,
+  );
 }
 
 pub choice_in-requires : goal.choice_in-requires
@@ -34,11 +40,14 @@ choices-preserved g c =
     let new = c.check_choice.new.trees.store in
     let so_far = c.choices.invariant in
     let row : Row = c.next.new.self.row in
-    let entry : ℕ × ChoiceRow = entry_of c.in_ok-choice.choice in
+    let choice = c.in_ok-choice.choice in
+    let entry : ℕ × ChoiceRow = entry_of choice in
     let is : row ≡ choice_columns entry = search rules in
     let looks : OnlyLooks g.S.Store mid next = c.in_ok-next.ensures.same in
     let checks : OnlyLooks g.S.Store next new = c.in_ok-check_choice.ensures.same in
     let both : OnlyLooks g.S.Store start next = looks_on g.S.Store start mid next so_far.same looks in
+    let follows : choice.number ≡ c.choices.chosen.count + 1 = c.in_ok-check_choice.ensures.number in
+    let count : c.check_choice.new.chosen.count ≡ choice.number = c.in_ok-check_choice.ensures.count in
     record {
       tree = c.next.ensures.tree ∙ so_far.tree;
       same = looks_on g.S.Store start next new both checks;
@@ -48,18 +57,23 @@ choices-preserved g c =
       read = λ clean.
           let after : IsClean (g.S.Store.view next) = look_back g.S.Store next new checks clean in
           let read = so_far.read (look_back g.S.Store mid next looks after) in
-          let long = length-append read.0 (entry ∷ []) in
-          let so_many : c.choices.count ≡ length read.0 = read.2 in (
-            read.0 ++ entry ∷ [],
+          let step : Chooses (g.S.Store.view start).trees c.args.rule c.args.open_period
+          c.choices.chosen c.check_choice.new.chosen choice =
+          subst (λ (all : Trees). Chooses all c.args.rule c.args.open_period c.choices.chosen
+          c.check_choice.new.chosen choice) (trees_stay g.S.Store start next both after)
+          (c.in_ok-check_choice.ensures.chooses clean) in
+          let one : Made = (step.identity, row_of choice) in
+          let so_many = read.2.counted in (
+            read.0 ++ one ∷ [],
             subst (HasWalked Choices c.next.new.self.key ((g.S.Store.view start).trees 8))
-                (ap (λ (r : Row). map choice_columns read.0 ++ r ∷ []) is
-                ∙ sym (map-append choice_columns read.0 (entry ∷ [])))
+                (rows_pushed read.0 one choice.number row is (omega (arith, follows, so_many)))
                 (subst (WalksOn Choices c.next.new.self.key row ((g.S.Store.view start).trees 8)
-                (map choice_columns read.0)) c.if-not-branch.false
+                (made_rows read.0)) c.if-not-branch.false
                 (walked_on g.S.Store start mid next Choices c.choices.walk.tree c.choices.walk.key
-                c.next.new.self.key row (map choice_columns read.0) c.in_ok-next.field-0 so_far.tree
+                c.next.new.self.key row (made_rows read.0) c.in_ok-next.field-0 so_far.tree
                 so_far.same looks c.in_ok-next.ensures.next (λ back. read.1) after)),
-            omega (arith, so_many, long),
+            made_pushed (g.S.Store.view start).trees c.args.rule c.args.open_period c.choices.chosen
+                c.check_choice.new.chosen read.0 choice read.2 step follows count,
           );
     }
 
@@ -75,11 +89,11 @@ returns-then-not-branch-clause-choices g c clean =
     let after : IsClean (g.S.Store.view next) = look_back g.S.Store next last counts clean in
     let read = so_far.read (look_back g.S.Store mid next looks after) in
     record {
-      choices = read.0;
-      are = subst (WalksOn Choices c.next.new.self.key c.next.new.self.row
-          ((g.S.Store.view start).trees 8) (map choice_columns read.0)) c.if-not-branch.true
+      made = read.0;
+      rows = subst (WalksOn Choices c.next.new.self.key c.next.new.self.row
+          ((g.S.Store.view start).trees 8) (made_rows read.0)) c.if-not-branch.true
           (walked_on g.S.Store start mid next Choices c.choices.walk.tree c.choices.walk.key
-          c.next.new.self.key c.next.new.self.row (map choice_columns read.0) c.in_ok-next.field-0
-          so_far.tree so_far.same looks c.in_ok-next.ensures.next (λ back. read.1) after);
-      counted = so_far.counted ∙ read.2;
+          c.next.new.self.key c.next.new.self.row (made_rows read.0) c.in_ok-next.field-0 so_far.tree
+          so_far.same looks c.in_ok-next.ensures.next (λ back. read.1) after);
+      are = read.2;
     }

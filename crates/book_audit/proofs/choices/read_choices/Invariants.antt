@@ -1,8 +1,7 @@
-use Rattle.std.proofs.Common.{◌≡◌, ℕ, List, length, map}
+use Rattle.std.proofs.Common.{◌≡◌, List}
 use Rattle.sqlite_trees.specs.View.{IsClean}
-use Rattle.table_model.specs.Tables.{ChoiceRow}
 use Rattle.tree_rows.specs.Calls.{CommitsNothing, OnlyLooks}
-use Rattle.tree_tables.specs.Columns.{choice_columns}
+use Rattle.book_audit.specs.ChoiceRows.{AreMade, Made, made_rows}
 use Rattle.book_audit.specs.Walks.{HasWalked}
 use Rattle.book_audit.specs.declared.finding.Tree.TheVariants.{Choices}
 use Rattle.book_audit.proofs.choices.read_choices.Given as goal
@@ -14,7 +13,7 @@ invariant-choices g l = record {
   same : OnlyLooks g.S.Store l.fn.trees.store l.trees.store;
   quiet : CommitsNothing g.S.Store l.fn.trees.store l.trees.store;
   counted : l.chosen.count ≡ l.count;
-  read : IsClean (g.S.Store.view l.trees.store) → (choices : List (ℕ × ChoiceRow))
-      × HasWalked Choices l.walk.key ((g.S.Store.view l.fn.trees.store).trees 8)
-      (map choice_columns choices) × (l.count ≡ length choices);
+  read : IsClean (g.S.Store.view l.trees.store) → (made : List Made)
+      × HasWalked Choices l.walk.key ((g.S.Store.view l.fn.trees.store).trees 8) (made_rows made)
+      × AreMade (g.S.Store.view l.fn.trees.store).trees l.rule l.open_period l.chosen made;
 }

@@ -1,22 +1,101 @@
-use Rattle.std.proofs.Common.{rules}
+use Rattle.std.proofs.Common.{◌≡◌, ◌∙◌, ◌++◌, ◌∷◌, [], ℤ, List, length, map, ap, rules, subst, sym}
+use Rattle.std.proofs.lemmas.List.{map-append}
+use Rattle.sqlite_trees.specs.Tree.{Trees}
+use Rattle.sqlite_trees.specs.View.{IsClean}
+use Rattle.sqlite_trees.proofs.ListLemmas.{all-append}
+use Rattle.sqlite_value.specs.Order.{Row}
+use Rattle.book_model.specs.declared.detail.Detail.{Detail}
+use Rattle.tree_rows.specs.Calls.{OnlyLooks}
 use Rattle.tree_rows.proofs.Calls.{quiet_both}
-use Rattle.book_audit.proofs.WalkSteps.{looks_on, no_look}
+use Rattle.tree_tables.specs.Columns.{detail_columns}
+use Rattle.book_audit.specs.Details.{ShowsCounted}
+use Rattle.book_audit.specs.Walks.{AreRising, HasWalked, WalksOn, width}
+use Rattle.book_audit.specs.declared.finding.Tree.TheVariants.{Details}
+use Rattle.book_audit.proofs.WalkSteps.{look_back, looks_on, no_look, trees_stay, walked_on}
 use Rattle.book_audit.proofs.details.check_details.Goals as goal
 
+-- the row of what is shown
+abbrev shown_row : Detail → Row
+shown_row one = detail_columns (one, tt)
+
 pub rows-init : goal.rows-init
-rows-init g c = record { same = no_look g.S.Store c.args.trees.now.store; quiet = search rules }
+rows-init g c = record {
+  tree = c.over-walk.ensures.tree;
+  same = no_look g.S.Store c.args.trees.now.store;
+  quiet = search rules;
+  read = λ clean. (
+    [],
+    c.over-walk.ensures.start ((g.S.Store.view c.args.trees.now.store).trees 10),
+    tt,
+  );
+}
+
+pub detail_in-requires : goal.detail_in-requires
+detail_in-requires g c =
+    ap length c.row.ensures ∙ c.in_ok-next.ensures.wide c.if-not-branch.false
+    ∙ ap width c.rows.invariant.tree
 
 pub rows-preserved : goal.rows-preserved
 rows-preserved g c =
     let start = c.args.trees.now.store in
     let mid = c.rows.trees.store in
     let next = c.next.new.trees.store in
-    let new = c.check_row.new.trees.store in
+    let new = c.check_shown.new.trees.store in
     let so_far = c.rows.invariant in
+    let row : Row = c.next.new.self.row in
+    let shown : Detail = c.in_ok-shown.shown in
+    let is : row ≡ detail_columns (shown, tt) = search rules in
+    let looks : OnlyLooks g.S.Store mid next = c.in_ok-next.ensures.same in
+    let checks : OnlyLooks g.S.Store next new = c.in_ok-check_shown.ensures.same in
+    let both : OnlyLooks g.S.Store start next = looks_on g.S.Store start mid next so_far.same looks in
+    let closes : List ℤ = c.args.rulings.now.closes.items in
     record {
-      same = looks_on g.S.Store start next new
-          (looks_on g.S.Store start mid next so_far.same c.in_ok-next.ensures.same)
-          c.in_ok-check_row.ensures.same;
+      tree = c.next.ensures.tree ∙ so_far.tree;
+      same = looks_on g.S.Store start next new both checks;
       quiet = quiet_both g.S.Store (quiet_both g.S.Store so_far.quiet c.next.ensures.quiet)
-          c.check_row.ensures.quiet;
+          c.check_shown.ensures.quiet;
+      read = λ clean.
+          let after : IsClean (g.S.Store.view next) = look_back g.S.Store next new checks clean in
+          let read = so_far.read (look_back g.S.Store mid next looks after) in
+          let counted : ShowsCounted (g.S.Store.view start).trees closes shown =
+          subst (λ (all : Trees). ShowsCounted all closes shown)
+          (trees_stay g.S.Store start next both after) (c.in_ok-check_shown.ensures.counted clean) in (
+            read.0 ++ shown ∷ [],
+            subst (HasWalked Details c.next.new.self.key ((g.S.Store.view start).trees 10))
+                (ap (λ (r : Row). map shown_row read.0 ++ r ∷ []) is
+                ∙ sym (map-append shown_row read.0 (shown ∷ [])))
+                (subst (WalksOn Details c.next.new.self.key row ((g.S.Store.view start).trees 10)
+                (map shown_row read.0)) c.if-not-branch.false
+                (walked_on g.S.Store start mid next Details c.rows.walk.tree c.rows.walk.key
+                c.next.new.self.key row (map shown_row read.0) c.in_ok-next.field-0 so_far.tree
+                so_far.same looks c.in_ok-next.ensures.next (λ back. read.1) after)),
+            all-append (ShowsCounted (g.S.Store.view start).trees closes) read.0 (shown ∷ []) read.2
+                (counted, tt),
+          );
     }
+
+pub returns-then-not-branch-clause-details : goal.returns-then-not-branch-clause-details
+returns-then-not-branch-clause-details g c clean =
+    let start = c.args.trees.now.store in
+    let mid = c.rows.trees.store in
+    let next = c.next.new.trees.store in
+    let so_far = c.rows.invariant in
+    let looks : OnlyLooks g.S.Store mid next = c.in_ok-next.ensures.same in
+    let read = so_far.read (look_back g.S.Store mid next looks clean) in
+    let all : (g.S.Store.view start).trees 10 ≡ map shown_row read.0 =
+    subst (WalksOn Details c.next.new.self.key c.next.new.self.row
+    ((g.S.Store.view start).trees 10) (map shown_row read.0)) c.if-not-branch.true
+    (walked_on g.S.Store start mid next Details c.rows.walk.tree c.rows.walk.key
+    c.next.new.self.key c.next.new.self.row (map shown_row read.0) c.in_ok-next.field-0
+    so_far.tree so_far.same looks c.in_ok-next.ensures.next (λ back. read.1) clean) in
+    record {
+      shown = read.0;
+      are = all;
+      rising = subst (AreRising Details) (sym all) read.1.rising;
+      each = read.2;
+    }
+
+pub returns-in_err-check_shown-clause-quiet : goal.returns-in_err-check_shown-clause-quiet
+returns-in_err-check_shown-clause-quiet g c =
+    quiet_both g.S.Store (quiet_both g.S.Store c.rows.invariant.quiet c.next.ensures.quiet)
+    c.check_shown.ensures.quiet

@@ -1,14 +1,16 @@
-use Rattle.std.proofs.Common.{◌≡◌, ◌∙◌, ◌++◌, ◌∷◌, [], ℕ, Bool, List, length, map, ap, arith, length-append, refl, rules, subst, sym}
+use Rattle.std.proofs.Common.{◌≡◌, ◌∙◌, ◌++◌, ◌∷◌, [], ℕ, ℤ, Bool, List, length, map, ap, arith, length-append, refl, rules, subst, sym}
 use Rattle.std.proofs.lemmas.List.{map-append}
+use Rattle.sqlite_trees.specs.Tree.{Trees}
 use Rattle.sqlite_trees.specs.View.{IsClean}
+use Rattle.sqlite_trees.proofs.ListLemmas.{all-append}
 use Rattle.sqlite_value.specs.Order.{Row}
 use Rattle.tree_rows.specs.Calls.{OnlyLooks}
 use Rattle.tree_rows.proofs.Calls.{quiet_both}
 use Rattle.tree_tables.specs.Columns.{line_columns}
-use Rattle.book_audit.specs.Lines.{line_entry}
-use Rattle.book_audit.specs.Walks.{HasWalked, WalksOn, width}
+use Rattle.book_audit.specs.Lines.{IsLateLine, line_entry}
+use Rattle.book_audit.specs.Walks.{AreRising, HasWalked, WalksOn, width}
 use Rattle.book_audit.specs.declared.finding.Tree.TheVariants.{Lines}
-use Rattle.book_audit.proofs.WalkSteps.{look_back, looks_on, no_look, walked_on}
+use Rattle.book_audit.proofs.WalkSteps.{look_back, looks_on, no_look, trees_stay, walked_on}
 use Rattle.book_audit.proofs.lines.check_lines.Goals as goal
 
 pub lines-init : goal.lines-init
@@ -16,7 +18,12 @@ lines-init g c = record {
   tree = c.over-walk.ensures.tree;
   same = no_look g.S.Store c.args.trees.now.store;
   quiet = search rules;
-  read = λ clean. ([], c.over-walk.ensures.start ((g.S.Store.view c.args.trees.now.store).trees 5), refl);
+  read = λ clean. (
+    [],
+    c.over-walk.ensures.start ((g.S.Store.view c.args.trees.now.store).trees 5),
+    refl,
+    tt,
+  );
 }
 
 pub line_in-requires : goal.line_in-requires
@@ -37,6 +44,7 @@ lines-preserved g c =
     let looks : OnlyLooks g.S.Store mid next = c.in_ok-next.ensures.same in
     let checks : OnlyLooks g.S.Store next new = c.in_ok-check_line.ensures.same in
     let both : OnlyLooks g.S.Store start next = looks_on g.S.Store start mid next so_far.same looks in
+    let closes : List ℤ = c.args.rulings.now.closes.items in
     record {
       tree = c.next.ensures.tree ∙ so_far.tree;
       same = looks_on g.S.Store start next new both checks;
@@ -46,7 +54,10 @@ lines-preserved g c =
           let after : IsClean (g.S.Store.view next) = look_back g.S.Store next new checks clean in
           let read = so_far.read (look_back g.S.Store mid next looks after) in
           let long = length-append read.0 (entry ∷ []) in
-          let so_many : c.lines.count ≡ length read.0 = read.2 in (
+          let so_many : c.lines.count ≡ length read.0 = read.2 in
+          let late : IsLateLine ((g.S.Store.view start).trees 3) closes entry =
+          subst (λ (all : Trees). IsLateLine (all 3) closes entry)
+          (trees_stay g.S.Store start next both after) (c.in_ok-check_line.ensures.late clean) in (
             read.0 ++ entry ∷ [],
             subst (HasWalked Lines c.next.new.self.key ((g.S.Store.view start).trees 5))
                 (ap (λ (r : Row). map line_columns read.0 ++ r ∷ []) is
@@ -57,6 +68,8 @@ lines-preserved g c =
                 c.next.new.self.key row (map line_columns read.0) c.in_ok-next.field-0 so_far.tree
                 so_far.same looks c.in_ok-next.ensures.next (λ back. read.1) after)),
             omega (arith, so_many, long),
+            all-append (IsLateLine ((g.S.Store.view start).trees 3) closes) read.0 (entry ∷ [])
+                read.3 (late, tt),
           );
     }
 
@@ -68,12 +81,16 @@ returns-then-not-branch-clause-lines g c clean =
     let so_far = c.lines.invariant in
     let looks : OnlyLooks g.S.Store mid next = c.in_ok-next.ensures.same in
     let read = so_far.read (look_back g.S.Store mid next looks clean) in
+    let all : (g.S.Store.view start).trees 5 ≡ map line_columns read.0 =
+    subst (WalksOn Lines c.next.new.self.key c.next.new.self.row
+    ((g.S.Store.view start).trees 5) (map line_columns read.0)) c.if-not-branch.true
+    (walked_on g.S.Store start mid next Lines c.lines.walk.tree c.lines.walk.key
+    c.next.new.self.key c.next.new.self.row (map line_columns read.0) c.in_ok-next.field-0
+    so_far.tree so_far.same looks c.in_ok-next.ensures.next (λ back. read.1) clean) in
     record {
       lines = read.0;
-      are = subst (WalksOn Lines c.next.new.self.key c.next.new.self.row
-          ((g.S.Store.view start).trees 5) (map line_columns read.0)) c.if-not-branch.true
-          (walked_on g.S.Store start mid next Lines c.lines.walk.tree c.lines.walk.key
-          c.next.new.self.key c.next.new.self.row (map line_columns read.0) c.in_ok-next.field-0
-          so_far.tree so_far.same looks c.in_ok-next.ensures.next (λ back. read.1) clean);
+      are = all;
+      rising = subst (AreRising Lines) (sym all) read.1.rising;
+      each = read.3;
       counted = read.2;
     }

@@ -1,4 +1,4 @@
-use Rattle.std.proofs.Common.{◌≡◌, ◌≤◌, ◌+◌, ◌*◌, ◌∙◌, ◌++◌, ◌∷◌, [], map, length, ap, arith, rules, subst}
+use Rattle.std.proofs.Common.{◌≡◌, ◌≤◌, ◌+◌, ◌*◌, ◌∙◌, ◌++◌, ◌∷◌, [], map, length, ap, arith, rules, subst, sym}
 use Rattle.sqlite_trees.specs.Tree.{Trees}
 use Rattle.sqlite_trees.specs.View.{IsClean}
 use Rattle.sqlite_value.specs.Order.{Row}
@@ -6,8 +6,8 @@ use Rattle.tree_rows.specs.Calls.{OnlyLooks}
 use Rattle.tree_rows.proofs.Calls.{quiet_both}
 use Rattle.tree_tables.specs.Columns.{record_columns}
 use Rattle.tree_tables.specs.Stored.{stored_entry}
-use Rattle.book_audit.specs.Records.{HasPast, IsRight, Told}
-use Rattle.book_audit.specs.Walks.{HasWalked, WalksOn, width}
+use Rattle.book_audit.specs.Records.{IsRight, IsTold, Told}
+use Rattle.book_audit.specs.Walks.{AreRising, HasWalked, WalksOn, width}
 use Rattle.book_audit.specs.declared.finding.Tree.TheVariants.{Records}
 use Rattle.book_audit.proofs.RecordLemmas.{counts_none, counts_on, entries_pushed, none_yet, row_pushed}
 use Rattle.book_audit.proofs.WalkSteps.{look_back, looks_on, no_look, trees_stay, walked_on}
@@ -56,13 +56,12 @@ records-preserved g c =
           let after : IsClean (g.S.Store.view next) = look_back g.S.Store next new checks clean in
           let read = so_far.read (look_back g.S.Store mid next looks after) in
           let stay = trees_stay g.S.Store start next both after in
-          let right : IsRight ((g.S.Store.view start).trees 6) c.args.rulings.now told.0 =
-          subst (λ (all : Trees). IsRight (all 6) c.args.rulings.now told.0) stay
+          let right : IsRight (g.S.Store.view start).trees c.args.rulings.now told.0 =
+          subst (λ (all : Trees). IsRight all c.args.rulings.now told.0) stay
           (c.in_ok-past.ensures.right clean) in
-          let past : HasPast ((g.S.Store.view start).trees 5) c.args.rulings.now.closes.items told.0
-          told.1.counted told.1.lines =
-          subst (λ (all : Trees). HasPast (all 5) c.args.rulings.now.closes.items told.0
-          told.1.counted told.1.lines) stay (c.in_ok-past.ensures.past clean) in (
+          let past : IsTold (g.S.Store.view start).trees c.args.rulings.now.closes.items told =
+          subst (λ (all : Trees). IsTold all c.args.rulings.now.closes.items told) stay
+          (c.in_ok-past.ensures.past clean) in (
             read.0 ++ told ∷ [],
             subst (HasWalked Records c.next.new.self.key ((g.S.Store.view start).trees 3))
                 (row_pushed read.0 told row is)
@@ -89,15 +88,18 @@ returns-then-not-branch-clause-records g c clean =
     let so_far = c.records.invariant in
     let looks : OnlyLooks g.S.Store mid next = c.in_ok-next.ensures.same in
     let read = so_far.read (look_back g.S.Store mid next looks clean) in
+    let all : (g.S.Store.view start).trees 3 ≡ map (λ (one : Told). record_columns one.0) read.0 =
+    subst (WalksOn Records c.next.new.self.key c.next.new.self.row
+    ((g.S.Store.view start).trees 3) (map (λ (one : Told). record_columns one.0) read.0))
+    c.if-not-branch.true
+    (walked_on g.S.Store start mid next Records c.records.walk.tree c.records.walk.key
+    c.next.new.self.key c.next.new.self.row (map (λ (one : Told). record_columns one.0) read.0)
+    c.in_ok-next.field-0 so_far.tree so_far.same looks c.in_ok-next.ensures.next (λ back. read.1)
+    clean) in
     record {
       entries = read.0;
-      all = subst (WalksOn Records c.next.new.self.key c.next.new.self.row
-          ((g.S.Store.view start).trees 3) (map (λ (one : Told). record_columns one.0) read.0))
-          c.if-not-branch.true
-          (walked_on g.S.Store start mid next Records c.records.walk.tree c.records.walk.key
-          c.next.new.self.key c.next.new.self.row (map (λ (one : Told). record_columns one.0) read.0)
-          c.in_ok-next.field-0 so_far.tree so_far.same looks c.in_ok-next.ensures.next (λ back. read.1)
-          clean);
+      all = all;
+      rising = subst (AreRising Records) (sym all) read.1.rising;
       are = read.2;
       few = omega (arith, c.records-test.true);
       placed = read.3;

@@ -1,6 +1,6 @@
 use Rattle.std.proofs.Common.{rules}
 use Rattle.book_audit.proofs.RowLemmas.{row_is}
-use Rattle.book_audit.proofs.records.record_in.Goals as goal
+use Rattle.book_audit.proofs.record_row.record_in.Goals as goal
 
 pub returns : goal.returns
 returns c = record {

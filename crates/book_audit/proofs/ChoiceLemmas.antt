@@ -1,0 +1,90 @@
+-- The choices, one after the other.
+use Rattle.std.proofs.Common.{◌≡◌, ◌≤◌, ◌+◌, ◌∙◌, ◌++◌, ◌∷◌, [], ℕ, List, Bool, true, false, Option, Some, None, cond}
+use Rattle.std.proofs.Common.{map, length, ap, refl, sym, subst, arith, length-append}
+use Rattle.std.specs.Prelude.{find, reverse}
+use Rattle.std.specs.List.{AllByRecursion}
+use Rattle.std.specs.Option.{option_map}
+use Rattle.std.proofs.lemmas.List.{length-map, map-append, reverse-append}
+use Rattle.sqlite_trees.specs.Tree.{Trees}
+use Rattle.sqlite_trees.proofs.ListLemmas.{all-append, all_weaker, ascending-append}
+use Rattle.sqlite_value.specs.Order.{Row}
+use Rattle.book_model.specs.Words.{same_bytes}
+use Rattle.table_model.specs.TablesOf.{under_numbers}
+use Rattle.table_model.proofs.UnderNumbers.{one_more}
+use Rattle.tree_tables.specs.Columns.{choice_columns}
+use Rattle.book_audit.specs.ChoiceRows.{AreMade, Chooses, IsMade, Made, last_made, made_rows, row_of, said}
+use Rattle.book_audit.specs.Choices.{last_chosen}
+use Rattle.book_audit.specs.declared.choices.Choice.{Choice}
+use Rattle.book_audit.specs.declared.choices.Chosen.{Chosen}
+use Rattle.book_audit.specs.declared.identity_rule.IdentityRule.{IdentityRule}
+
+-- one row more
+pub rows_pushed : (made : List Made) (one : Made) (number : ℕ) (row : Row)
+    → row ≡ choice_columns (number, one.1) → number ≡ length made + 1
+    → made_rows made ++ row ∷ [] ≡ made_rows (made ++ one ∷ [])
+rows_pushed made one number row is next =
+    let long : length (said made) ≡ length made = length-map made (λ (x : Made). x.1) in
+    ap (λ (r : Row). made_rows made ++ r ∷ []) is
+    ∙ sym (ap (λ vs. map choice_columns (under_numbers 1 vs)) (map-append (λ (x : Made). x.1) made (one ∷ []))
+    ∙ ap (map choice_columns) (one_more 1 (said made) one.1 number (omega (arith, long, next)))
+    ∙ map-append choice_columns (under_numbers 1 (said made)) ((number, one.1) ∷ []))
+
+-- a choice behind others is the last of its identity
+found_first : (own : Bool) (one : Made) (rest : Option Made)
+    → option_map (λ (x : Made). x.1.name) (cond own (Some one) rest)
+    ≡ cond own (Some one.1.name) (option_map (λ (x : Made). x.1.name) rest)
+found_first true one rest = refl
+found_first false one rest = refl
+
+last_pushed : (made : List Made) (one : Made) (identity : List ℕ)
+    → last_made (made ++ one ∷ []) identity
+    ≡ cond (same_bytes identity one.0) (Some one.1.name) (last_made made identity)
+last_pushed made one identity =
+    let own : Made → Bool = λ (x : Made). same_bytes identity x.0 in
+    ap (λ (xs : List Made). option_map (λ (x : Made). x.1.name) (find own xs)) (reverse-append made (one ∷ []))
+    ∙ found_first (own one) one (find own (reverse made))
+
+-- no choices
+pub none_made : (trees : Trees) (rule : IdentityRule) (open_period : ℕ) (chosen : Chosen)
+    → chosen.count ≡ 0 → ((identity : List ℕ) → last_chosen chosen identity ≡ None)
+    → AreMade trees rule open_period chosen []
+none_made trees rule open_period chosen none last =
+    record { counted = none; each = tt; begun = tt; since = tt; in_order = tt; last = last }
+
+-- one choice more
+pub made_pushed : (trees : Trees) (rule : IdentityRule) (open_period : ℕ) (old new : Chosen)
+    (made : List Made) (choice : Choice) → AreMade trees rule open_period old made
+    → (step : Chooses trees rule open_period old new choice)
+    → choice.number ≡ old.count + 1 → new.count ≡ choice.number
+    → AreMade trees rule open_period new (made ++ (step.identity, row_of choice) ∷ [])
+made_pushed trees rule open_period old new made choice so_far step next count =
+    let one : Made = (step.identity, row_of choice) in
+    let counted = so_far.counted in
+    let long = length-append made (one ∷ []) in
+    let later : old.since ≤ choice.period = step.later in
+    let since : new.since ≡ choice.period = step.since in
+    let own : choice.period ≤ new.since = omega (arith, since) in
+    let before : AllByRecursion (λ (x : Made). x.1.period ≤ choice.period) made =
+    all_weaker (λ (x : Made). x.1.period ≤ old.since) (λ (x : Made). x.1.period ≤ choice.period)
+    (λ x less. omega (arith, less, later)) made so_far.since in
+    record {
+      counted = omega (arith, counted, next, count, long);
+      each = subst (AllByRecursion (IsMade trees rule))
+          (sym (one_more 1 made one choice.number (omega (arith, counted, next))))
+          (all-append (IsMade trees rule) (under_numbers 1 made) ((choice.number, one) ∷ [])
+          so_far.each (step.made, tt));
+      begun = all-append (λ (x : Made). x.1.period ≤ open_period) made (one ∷ []) so_far.begun
+          (step.begun, tt);
+      since = all-append (λ (x : Made). x.1.period ≤ new.since) made (one ∷ [])
+          (all_weaker (λ (x : Made). x.1.period ≤ choice.period) (λ (x : Made). x.1.period ≤ new.since)
+          (λ x less. omega (arith, less, since)) made before) (own, tt);
+      in_order = ascending-append (λ (a : Made) (b : Made). a.1.period ≤ b.1.period) made (one ∷ [])
+          so_far.in_order (tt, tt)
+          (all_weaker (λ (x : Made). x.1.period ≤ choice.period)
+          (λ (x : Made). AllByRecursion (λ (b : Made). x.1.period ≤ b.1.period) (one ∷ []))
+          (λ x less. (less, tt)) made before);
+      last = λ identity. step.last identity
+          ∙ ap (λ (rest : Option (List ℕ)). cond (same_bytes identity step.identity) (Some choice.name) rest)
+          (so_far.last identity)
+          ∙ sym (last_pushed made one identity);
+    }

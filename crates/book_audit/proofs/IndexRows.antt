@@ -1,0 +1,136 @@
+-- A tree that finds the rows of a table: where each of them is found there, and there are as many
+-- entries, these are all.
+use Rattle.std.proofs.Common.{◌≡◌, ◌∙◌, ◌∷◌, [], List, Bool, true, false, Some, cond, map, length}
+use Rattle.std.proofs.Common.{ap, refl, subst, sym, true≢false, ◌⊎◌, inl, inr, ◌&&◌}
+use Rattle.std.specs.Prelude.{T, filter}
+use Rattle.std.specs.FinMap.{FinMap, entries, entries_sorted, get, is_sorted}
+use Rattle.std.specs.FinMap.Entries.{below_all}
+use Rattle.std.specs.List.{AllByRecursion}
+use Rattle.std.specs.Ordering.{is_eq, is_lt}
+use Rattle.std.specs.declared.cmp.Ordering.{Ordering}
+use Rattle.std.specs.declared.cmp.Ordering.TheVariants.{Less, Equal, Greater}
+use Rattle.std.proofs.lemmas.List.{length-map}
+use Rattle.std.proofs.lemmas.List.Elements.{recursion_from_All}
+use Rattle.std.proofs.lemmas.List.Sorted.{length_permutation}
+use Rattle.sqlite_trees.specs.Tree.{IsAscending, from_key}
+use Rattle.sqlite_trees.proofs.ListLemmas.{all_weaker, ascending_from_map, ascending-map}
+use Rattle.sqlite_value.specs.Keys.{plain, prefix_cmp}
+use Rattle.sqlite_value.specs.Order.{Row}
+use Rattle.tree_rows.specs.Indexes.{IsIndexKey, IsKeyOf, index_of}
+use Rattle.tree_rows.specs.Layouts.{Layout, row_of, rows_of}
+use Rattle.tree_rows.specs.Rows.{IsFirst}
+use Rattle.tree_rows.proofs.IndexLists.{index_names_all, index_permutes}
+use Rattle.tree_rows.proofs.Maps.{at_key, first, head_is, less, second}
+use Rattle.book_audit.specs.Trees.{HasKey}
+use Rattle.book_audit.specs.Walks.{AreRising, key_width}
+use Rattle.book_audit.specs.declared.finding.Tree.{Tree}
+use Rattle.book_audit.proofs.KeptRows.{keys_rise}
+use Rattle.book_audit.proofs.Pigeonhole.{IsOneOf, all_of_them}
+
+-- a test that all pass leaves all
+all_pass : {X : Type 0} (xs : List X) → filter (λ (x : X). true) xs ≡ xs
+all_pass [] = refl
+all_pass (x ∷ xs) = ap (λ more. x ∷ more) (all_pass xs)
+
+-- the keys of sorted entries rise
+entries_below : {Q : Type 0} (P : Q → Q → Ordering) (q : Q) (es : List (Q × Unit {0}))
+    → T (below_all P q es) → AllByRecursion (λ (e : Q × Unit {0}). P q e.0 ≡ Less) es
+entries_below P q [] below = tt
+entries_below P q (e ∷ es) below =
+    (less (P q e.0) (first _ _ below), entries_below P q es (second _ _ below))
+
+pub entries_rise : {Q : Type 0} (P : Q → Q → Ordering) (es : List (Q × Unit {0})) → T (is_sorted P es)
+    → IsAscending (λ (a : Q × Unit {0}) (b : Q × Unit {0}). P a.0 b.0 ≡ Less) es
+entries_rise P [] rising = tt
+entries_rise P (e ∷ es) rising =
+    (entries_below P e.0 es (first _ _ rising), entries_rise P es (second _ _ rising))
+
+module _ {Q : Type 0} {P : Q → Q → Ordering} (layout : Layout Q (Unit {0}) P) where
+  -- the rows of keys
+  abbrev pub rows_at : List Q → List Row
+  rows_at qs = map (λ (q : Q). row_of layout (q, tt)) qs
+
+  -- the rows of entries are those of their keys
+  pub rows_again : (es : List (Q × Unit {0}))
+      → map (row_of layout) es ≡ rows_at (map (λ (e : Q × Unit {0}). e.0) es)
+  rows_again [] = refl
+  rows_again (e ∷ es) = ap (λ more. row_of layout e ∷ more) (rows_again es)
+
+  -- the row that has a key is that of the key
+  found_one : (qs : List Q) (x : Q) (row : Row) (more : List Row)
+      → from_key plain (layout.key x) (rows_at qs) ≡ row ∷ more
+      → is_eq (prefix_cmp plain row (layout.key x)) ≡ true → IsOneOf x qs
+  found_one [] x row more begins is = absurd (let e = begins in cc)
+  found_one (q ∷ qs) x row more begins is =
+      let own : Row = row_of layout (q, tt) in
+      elim (prefix_cmp plain own (layout.key x)) as (λ o. prefix_cmp plain own (layout.key x) ≡ o
+      → cond (is_lt o) (from_key plain (layout.key x) (rows_at qs)) (own ∷ rows_at qs) ≡ row ∷ more
+      → (x ≡ q) ⊎ IsOneOf x qs) [
+        | Less ↦ λ at later. inr (found_one qs x row more later is)
+        | Equal ↦ λ at it. inl (sym (layout.exact q x (sym (at_key layout (q, tt) x) ∙ at)))
+        | Greater ↦ λ at it.
+            let wrong : false ≡ true = sym (ap is_eq at)
+            ∙ ap (λ (r : Row). is_eq (prefix_cmp plain r (layout.key x))) (head_is own row (rows_at qs) more it)
+            ∙ is in
+            absurd (true≢false (sym wrong))
+      ] refl begins
+
+  -- a look-up that finds a key finds it among those of the rows
+  has_one : (qs : List Q) (x : Q) → HasKey (layout.key x) (rows_at qs) → IsOneOf x qs
+  has_one qs x has = by_first has.finds.there has.finds.first has.finds.is
+    where
+      by_first : (there : Bool) → IsFirst (from_key plain (layout.key x) (rows_at qs)) has.row there
+          → true ≡ (there && is_eq (prefix_cmp plain has.row (layout.key x))) → IsOneOf x qs
+      by_first true begins is = found_one qs x has.row begins.0 begins.1 (sym is)
+      by_first false begins is = absurd (true≢false is)
+
+  -- where the keys of rows rise, these do
+  keys_up : (tree : Tree) → ((q : Q) → length (layout.key q) ≡ key_width tree) → (qs : List Q)
+      → AreRising tree (rows_at qs) → IsAscending (λ (a : Q) (b : Q). P a b ≡ Less) qs
+  keys_up tree wide qs rising =
+      ascending_from_map (λ (a : Q × Unit {0}) (b : Q × Unit {0}). P a.0 b.0 ≡ Less)
+      (λ (q : Q). (q, tt)) qs
+      (keys_rise layout tree wide (map (λ (q : Q). (q, tt)) qs)
+      (subst (AreRising tree) (made_again qs) rising))
+    where
+      made_again : (qs : List Q) → rows_at qs ≡ map (row_of layout) (map (λ (q : Q). (q, tt)) qs)
+      made_again [] = refl
+      made_again (q ∷ qs) = ap (λ more. row_of layout (q, tt) ∷ more) (made_again qs)
+
+  module _ {K V : Type 0} {R : K → K → Ordering} {key : K × V → Q} {name : Q → K}
+      (index : IsIndexKey R P key name) (m : FinMap R V) (tree : Tree)
+      (wide : (q : Q) → length (layout.key q) ≡ key_width tree) (qs : List Q)
+      (rising : AreRising tree (rows_at qs))
+      (each : (k : K) (v : V) → get m k ≡ Some v → HasKey (layout.key (key (k, v))) (rows_at qs))
+      (long : length qs ≡ length (entries m)) where
+    abbrev own_entries : List (Q × Unit {0})
+    own_entries = entries (index_of {P = P} key m)
+
+    abbrev own_keys : List Q
+    own_keys = map (λ (e : Q × Unit {0}). e.0) own_entries
+
+    -- each entry of the index is one of the tree
+    each_one : AllByRecursion (λ (q : Q). IsOneOf q qs) own_keys
+    each_one =
+        all_weaker (IsKeyOf key name m) (λ (q : Q). IsOneOf q qs)
+        (λ q is. subst (λ (x : Q). IsOneOf x qs) is.2
+        (has_one qs (key (name q, is.0)) (each (name q) is.0 is.1))) own_keys
+        (recursion_from_All (IsKeyOf key name m) own_keys (index_names_all index m))
+
+    -- there are as many
+    as_many : length own_keys ≡ length qs
+    as_many =
+        ap length (sym (all_pass own_keys))
+        ∙ sym (length_permutation (filter (λ (q : Q). true) own_keys)
+        (map key (filter (λ (e : K × V). true) (entries m)))
+        (index_permutes index (λ (q : Q). true) m))
+        ∙ length-map (filter (λ (e : K × V). true) (entries m)) key
+        ∙ ap length (all_pass (entries m)) ∙ sym long
+
+    -- so the rows of the tree are those of the index
+    pub index_rows : rows_at qs ≡ rows_of layout (index_of {P = P} key m)
+    index_rows =
+        let up = ascending-map (λ (a : Q) (b : Q). P a b ≡ Less) (λ (e : Q × Unit {0}). e.0)
+        own_entries (entries_rise P own_entries (entries_sorted (index_of {P = P} key m))) in
+        sym (rows_again own_entries
+        ∙ ap rows_at (all_of_them layout.total qs own_keys up (keys_up tree wide qs rising) each_one as_many))

@@ -1,0 +1,469 @@
+-- Sound trees hold tables: those of their rows.
+use Rattle.std.proofs.Common.{◌≡◌, ◌∙◌, ◌∷◌, [], ℕ, zero, suc, ℤ, pos, List, Bool, true, false, Option, Some, None}
+use Rattle.std.proofs.Common.{Result, Ok, Err, IfOk, map, length, take, cond, ap, ap₂, refl, subst, sym, ◌⊎◌, inl, inr, arith, is_some}
+use Rattle.std.specs.FinMap.{FinMap, contains_key, entries, entries_sorted, find, from_entries, get}
+use Rattle.std.specs.FinMap.{get-entries, get-from_entries}
+use Rattle.std.specs.Cmp.Lexicographic.{nat_list_cmp_total}
+use Rattle.std.specs.List.{AllByRecursion}
+use Rattle.std.specs.Ordering.{eq_by_cmp, is_eq, ordering_then}
+use Rattle.std.specs.declared.cmp.Ordering.{Ordering}
+use Rattle.std.specs.declared.cmp.Ordering.TheVariants.{Less, Equal, Greater}
+use Rattle.std.proofs.lemmas.Cmp.{eq_by_cmp_equiv}
+use Rattle.std.proofs.lemmas.List.{length-map}
+use Rattle.std.proofs.lemmas.List.Elements.{recursion_from_All}
+use Rattle.std.proofs.lemmas.Simd.{map-map}
+use Rattle.sqlite_trees.specs.Tree.{IsAscending, Trees, from_key}
+use Rattle.sqlite_trees.proofs.ListLemmas.{all-map, all_weaker, ascending-map, ascending_from_map, ascending_weaker}
+use Rattle.sqlite_value.specs.Keys.{plain}
+use Rattle.sqlite_value.specs.Order.{Row, column, row_cmp, value_cmp}
+use Rattle.sqlite_value.specs.declared.value.Value.TheVariants.{Blob, Int}
+use Rattle.smf_frames.specs.Framed.{record_with}
+use Rattle.book_model.specs.Words.{by_bytes, detail_with, rows_of as charge_rows}
+use Rattle.book_model.specs.declared.detail.Detail.{Detail}
+use Rattle.book_model.specs.declared.row.ChargeRow.{ChargeRow}
+use Rattle.book_model.specs.declared.row.RowKey.{RowKey}
+use Rattle.table_model.specs.BookIn.{row_record}
+use Rattle.table_model.specs.DetailsRead.{detail_shown}
+use Rattle.table_model.specs.Tables.{ChoiceRow, ChoiceTable, CountedTable, DayTable, RecordRow}
+use Rattle.table_model.specs.Tables.{RecordTable, Tables}
+use Rattle.table_model.specs.TablesOf.{close_entries, row_key, tariff_entries, under_numbers}
+use Rattle.table_model.proofs.UnderNumbers.{entries-numbers}
+use Rattle.tree_rows.specs.Indexes.{IsKeyOf, index_answer}
+use Rattle.tree_rows.specs.Layouts.{row_of, rows_of}
+use Rattle.tree_rows.specs.Rows.{IsFirst}
+use Rattle.tree_rows.proofs.IndexOrders.{by_bytes_exact}
+use Rattle.tree_rows.proofs.Indexes.{indexed}
+use Rattle.tree_rows.proofs.IndexLists.{index_names_all}
+use Rattle.tree_rows.proofs.Maps.{looked_up}
+use Rattle.tree_tables.specs.Columns.{choice_columns, closed_columns, detail_columns}
+use Rattle.tree_tables.specs.Columns.{record_columns}
+use Rattle.tree_tables.specs.Holds.{AreUnderOwnKeys, Holds, by_shown, choice_name_index}
+use Rattle.tree_tables.specs.Holds.{choice_name_key, counted_among, detail_index, identity_index}
+use Rattle.tree_tables.specs.Holds.{identity_key, mark_key, marks}
+use Rattle.tree_tables.proofs.ChoiceRows.{chosen_named}
+use Rattle.tree_tables.proofs.CountedRows.{detail_named, get_counted}
+use Rattle.tree_tables.proofs.DetailOrders.{by_shown_exact, by_shown_total}
+use Rattle.tree_tables.proofs.Layouts.{choice_layout, choice_name_layout, day_layout}
+use Rattle.tree_tables.proofs.Layouts.{detail_layout, detail_order}
+use Rattle.tree_tables.proofs.Layouts.{identity_layout, line_layout, mark_layout, record_layout}
+use Rattle.tree_tables.proofs.Layouts.{tariff_layout}
+use Rattle.tree_tables.proofs.RecordIndexes.{identity_named, mark_named}
+use Rattle.tree_tables.proofs.RowsRead.{same_blob, same_count, same_int, same_text}
+use Rattle.book_audit.specs.ChoiceRows.{IsMade, Made, said}
+use Rattle.book_audit.specs.Days.{due_entry}
+use Rattle.book_audit.specs.Details.{ShowsCounted}
+use Rattle.book_audit.specs.Entries.{IsEntry}
+use Rattle.book_audit.specs.Records.{IsRight, Told, counted_prices}
+use Rattle.book_audit.specs.SoundTrees.{AreSound}
+use Rattle.book_audit.specs.Trees.{HasKey}
+use Rattle.book_audit.specs.Walks.{AreRising, AreWide, key_in}
+use Rattle.book_audit.specs.declared.audited.Audited.{Audited}
+use Rattle.book_audit.specs.declared.audited.Audited.TheVariants.{Sound}
+use Rattle.book_audit.specs.declared.audited.Counts.{Counts as Numbers}
+use Rattle.book_audit.specs.declared.finding.Tree.TheVariants.{ChoiceNames, Days, Details, Identities}
+use Rattle.book_audit.specs.declared.finding.Tree.TheVariants.{Lines, Marks, Records, Tariffs}
+use Rattle.book_audit.specs.declared.rulings.Rulings.{Rulings}
+use Rattle.book_audit.proofs.IndexRows.{entries_rise, index_rows, rows_again, rows_at}
+use Rattle.book_audit.proofs.KeptRows.{entries_kept, of_found, rows_kept}
+use Rattle.book_audit.proofs.Pigeonhole.{IsOneOf, all_of_them, no_more}
+use Rattle.book_audit.proofs.RowLemmas.{row_is}
+
+-- ---- the entries of the indexes, as their rows say
+
+identities_in : (rows : List Row) → AllByRecursion (IsEntry Identities) rows → AreWide Identities rows
+    → (keys : List (List ℕ × List ℕ)) × (rows ≡ rows_at identity_layout keys)
+identities_in [] each wide = ([], refl)
+identities_in (row ∷ rows) each wide =
+    let more = identities_in rows each.1 wide.1 in (
+      (each.0.0.0, each.0.1.0) ∷ more.0,
+      ap₂ (λ (one : Row) (others : List Row). one ∷ others)
+          (row_is row (Blob each.0.0.0 ∷ Blob each.0.1.0 ∷ []) wide.0 (each.0.0.1, (each.0.1.1, tt)))
+          more.1,
+    )
+
+marks_in : (rows : List Row) → AllByRecursion (IsEntry Marks) rows → AreWide Marks rows
+    → (keys : List (ℕ × (List ℕ × List ℕ))) × (rows ≡ rows_at mark_layout keys)
+marks_in [] each wide = ([], refl)
+marks_in (row ∷ rows) each wide =
+    let more = marks_in rows each.1 wide.1 in
+    let one = each.0 in (
+      (one.0.0, (one.1.0, one.2.0)) ∷ more.0,
+      ap₂ (λ (one : Row) (others : List Row). one ∷ others)
+          (row_is row (Int (pos one.0.0) ∷ Blob one.1.0 ∷ Blob one.2.0 ∷ []) wide.0
+          (one.0.1, (one.1.1, (one.2.1, tt)))) more.1,
+    )
+
+choice_names_in : (rows : List Row) → AllByRecursion (IsEntry ChoiceNames) rows
+    → AreWide ChoiceNames rows
+    → (keys : List (List ℕ × ℕ)) × (rows ≡ rows_at choice_name_layout keys)
+choice_names_in [] each wide = ([], refl)
+choice_names_in (row ∷ rows) each wide =
+    let more = choice_names_in rows each.1 wide.1 in (
+      (each.0.0.0, each.0.1.0) ∷ more.0,
+      ap₂ (λ (one : Row) (others : List Row). one ∷ others)
+          (row_is row (Blob each.0.0.0 ∷ Int (pos each.0.1.0) ∷ []) wide.0 (each.0.0.1, (each.0.1.1, tt)))
+          more.1,
+    )
+
+-- ---- values under numbers
+
+long_numbers : {V : Type 0} (n : ℕ) (vs : List V) → length (under_numbers n vs) ≡ length vs
+long_numbers n [] = refl
+long_numbers n (v ∷ vs) = ap suc (long_numbers (suc n) vs)
+
+-- each choice is found by the name of its record
+abbrev IsNamed : List Row → ℕ × ChoiceRow → Type 0
+IsNamed names choice = HasKey (choice_name_layout.key (choice_name_key choice)) names
+
+all_named : (trees : Trees) (rulings : Rulings) (n : ℕ) (made : List Made)
+    → AllByRecursion (IsMade trees rulings.rule) (under_numbers n made)
+    → AllByRecursion (IsNamed (trees 9)) (under_numbers n (said made))
+all_named trees rulings n [] each = tt
+all_named trees rulings n (one ∷ made) each =
+    (each.0.named, all_named trees rulings (suc n) made each.1)
+
+-- ---- charge rows
+
+all_placed : (closes : List ℤ) (rows : List ChargeRow)
+    → AllByRecursion (λ (e : (ℕ × RowKey) × ChargeRow). row_key e.1 ≡ e.0.1) (map (due_entry closes) rows)
+all_placed closes [] = tt
+all_placed closes (row ∷ rows) = (refl, all_placed closes rows)
+
+-- ---- details
+
+-- rows whose first columns rise rise
+first_less : (n : ℕ) (a b : Row) → row_cmp (take n a) (take n b) ≡ Less → row_cmp a b ≡ Less
+first_less zero a b less = absurd (let e = less in cc)
+first_less (suc n) [] [] less = absurd (let e = less in cc)
+first_less (suc n) [] (y ∷ b) less = refl
+first_less (suc n) (x ∷ a) [] less = absurd (let e = less in cc)
+first_less (suc n) (x ∷ a) (y ∷ b) less =
+    elim (value_cmp x y) as (λ o. ordering_then o (row_cmp (take n a) (take n b)) ≡ Less
+    → ordering_then o (row_cmp a b) ≡ Less) [
+      | Less ↦ λ less. refl
+      | Equal ↦ λ less. first_less n a b less
+      | Greater ↦ λ less. absurd (let e = less in cc)
+    ] less
+
+-- what a record's row says that details show
+same_shown : (name : List ℕ) (one other : List ℕ × RecordRow)
+    → record_columns one ≡ record_columns other
+    → detail_with name (row_record one.1) one.1.priced ≡ detail_with name (row_record other.1) other.1.priced
+same_shown name one other same =
+    let bytes : one.1.data_bytes ≡ other.1.data_bytes = same_blob one.1.data_bytes other.1.data_bytes (ap (λ (r : Row). column r 2) same) in
+    let price : one.1.priced ≡ other.1.priced = λ i. record {
+      day = same_int one.1.priced.day other.1.priced.day (ap (λ (r : Row). column r 3) same) i;
+      shift = same_text one.1.priced.shift other.1.priced.shift (ap (λ (r : Row). column r 4) same) i;
+      centre = same_text one.1.priced.centre other.1.priced.centre (ap (λ (r : Row). column r 5) same) i;
+      cpu = same_count one.1.priced.cpu other.1.priced.cpu (ap (λ (r : Row). column r 6) same) i;
+      excp = same_count one.1.priced.excp other.1.priced.excp (ap (λ (r : Row). column r 7) same) i;
+      amount = same_count one.1.priced.amount other.1.priced.amount (ap (λ (r : Row). column r 8) same) i;
+    } in
+    λ i. detail_with name (record_with (bytes i)) (price i)
+
+-- a key that is found is one of those
+one_found : {Q : Type 0} (P : Q → Q → Ordering) → ((x y : Q) → P x y ≡ Equal → x ≡ y) → (q : Q)
+    (es : List (Q × Unit {0})) → find P q es ≡ Some tt
+    → IsOneOf q (map (λ (e : Q × Unit {0}). e.0) es)
+one_found {Q = Q} P exact q [] there = absurd (let e = there in cc)
+one_found {Q = Q} P exact q (e ∷ es) there =
+    elim (P q e.0) as (λ o. P q e.0 ≡ o → cond (is_eq o) (Some e.1) (find P q es) ≡ Some tt
+    → (q ≡ e.0) ⊎ IsOneOf q (map (λ (e : Q × Unit {0}). e.0) es)) [
+      | Less ↦ λ at later. inr (one_found P exact q es later)
+      | Equal ↦ λ at it. inl (exact q e.0 at)
+      | Greater ↦ λ at later. inr (one_found P exact q es later)
+    ] refl there
+
+-- what holds of all elements holds of one of them
+of_one : {X : Type 0} (G : X → Type 0) (xs : List X) → AllByRecursion G xs → (x : X) → IsOneOf x xs → G x
+of_one G [] each x one = absurd one
+of_one G (y ∷ xs) each x (inl is) = subst G (sym is) each.0
+of_one G (y ∷ xs) each x (inr later) = of_one G xs each.1 x later
+
+-- each element is one of them
+each_is_one : {X : Type 0} (all xs : List X) → ((x : X) → IsOneOf x xs → IsOneOf x all)
+    → AllByRecursion (λ (x : X). IsOneOf x all) xs
+each_is_one all [] among = tt
+each_is_one all (x ∷ xs) among =
+    (among x (inl refl), each_is_one all xs (λ y later. among y (inr later)))
+
+-- the names in details
+abbrev names_shown : List Detail → List (List ℕ × Unit {0})
+names_shown shown = map (λ (d : Detail). (d.name, tt)) shown
+
+-- a name that is found there is that of one
+name_shown : (name : List ℕ) (shown : List Detail) → find by_bytes name (names_shown shown) ≡ Some tt
+    → (d : Detail) × IsOneOf d shown × (d.name ≡ name)
+name_shown name [] there = absurd (let e = there in cc)
+name_shown name (d ∷ shown) there =
+    elim (by_bytes name d.name) as (λ o. by_bytes name d.name ≡ o
+    → cond (is_eq o) (Some tt) (find by_bytes name (names_shown shown)) ≡ Some tt
+    → (other : Detail) × IsOneOf other (d ∷ shown) × (other.name ≡ name)) [
+      | Less ↦ λ at later. let it = name_shown name shown later in (it.0, inr it.1, it.2)
+      | Equal ↦ λ at it. (d, inl refl, sym (by_bytes_exact name d.name at))
+      | Greater ↦ λ at later. let it = name_shown name shown later in (it.0, inr it.1, it.2)
+    ] refl there
+
+-- and the name of each is found
+shown_name : (shown : List Detail) (d : Detail) → IsOneOf d shown
+    → find by_bytes d.name (names_shown shown) ≡ Some tt
+shown_name [] d one = absurd one
+shown_name (e ∷ shown) d (inl is) =
+    ap (λ b. cond b (Some tt) (find by_bytes d.name (names_shown shown)))
+    (ap (λ (x : Detail). eq_by_cmp by_bytes d.name x.name) (sym is)
+    ∙ (eq_by_cmp_equiv nat_list_cmp_total).refl d.name)
+shown_name (e ∷ shown) d (inr later) =
+    ap (cond (eq_by_cmp by_bytes d.name e.name) (Some tt)) (shown_name shown d later)
+    ∙ either (eq_by_cmp by_bytes d.name e.name)
+  where
+    either : (b : Bool) → cond b (Some tt) (Some (tt {0})) ≡ Some (tt {0})
+    either true = refl
+    either false = refl
+
+-- what is there only where a test is passed
+both_there : (b : Bool) (found : Option RecordRow) (row : RecordRow) → cond b found None ≡ Some row
+    → (b ≡ true) × (found ≡ Some row)
+both_there true found row is = (refl, is)
+both_there false found row is = absurd (let e = is in cc)
+
+some_unit : (found : Option (Unit {0})) → is_some found ≡ true → found ≡ Some tt
+some_unit None is = absurd (let e = is in cc)
+some_unit (Some it) is = refl
+
+some_same : (one other : RecordRow) → Some one ≡ Some other → one ≡ other
+some_same one other same = cc
+
+-- the row of what is shown
+abbrev shown_row : Detail → Row
+shown_row one = detail_columns (one, tt)
+
+-- ---- the tables
+
+module _ (trees : Trees) (numbers : Numbers) (sound : AreSound trees numbers) where
+  abbrev told_all : List Told
+  told_all = sound.records.entries
+
+  abbrev es : List (List ℕ × RecordRow)
+  es = map (λ (told : Told). told.0) told_all
+
+  records_are : trees 3 ≡ map (row_of record_layout) es
+  records_are =
+      sound.records.all ∙ sym (map-map (row_of record_layout) (λ (told : Told). told.0) told_all)
+
+  abbrev records : RecordTable
+  records = from_entries es
+
+  records_in_order : entries records ≡ es
+  records_in_order =
+      entries_kept record_layout Records (λ k. refl) es
+      (subst (AreRising Records) records_are sound.records.rising)
+
+  right_of : (name : List ℕ) (row : RecordRow) → get records name ≡ Some row
+      → IsRight trees sound.rulings (name, row)
+  right_of name row there =
+      of_found record_layout (IsRight trees sound.rulings) es
+      (all-map (IsRight trees sound.rulings) (λ (told : Told). told.0) told_all
+      sound.records.are.right) name row
+      (sym (get-from_entries record_layout.total es name) ∙ there)
+
+  so_many : numbers.records ≡ length (entries records)
+  so_many =
+      sound.records.are.counted ∙ sym (length-map told_all (λ (told : Told). told.0))
+      ∙ ap length (sym records_in_order)
+
+  identity_rows : trees 6 ≡ rows_of identity_layout (identity_index records)
+  identity_rows =
+      let keys = identities_in (trees 6) sound.identities.each sound.identities.wide in
+      keys.1
+      ∙ index_rows identity_layout identity_named records Identities (λ q. refl) keys.0
+      (subst (AreRising Identities) keys.1 sound.identities.rising)
+      (λ name row there. subst (HasKey (identity_layout.key (identity_key (name, row)))) keys.1
+      (right_of name row there).marked.found.identity)
+      (sym (length-map keys.0 (λ (q : List ℕ × List ℕ). row_of identity_layout (q, tt)))
+      ∙ sym (ap length keys.1) ∙ sym sound.identities.are ∙ so_many)
+
+  mark_rows : trees 7 ≡ rows_of mark_layout (marks records)
+  mark_rows =
+      let keys = marks_in (trees 7) sound.marks.each sound.marks.wide in
+      keys.1
+      ∙ index_rows mark_layout mark_named records Marks (λ q. refl) keys.0
+      (subst (AreRising Marks) keys.1 sound.marks.rising)
+      (λ name row there. subst (HasKey (mark_layout.key (mark_key (name, row)))) keys.1
+      (right_of name row there).marked.found.mark)
+      (sym (length-map keys.0 (λ (q : ℕ × (List ℕ × List ℕ)). row_of mark_layout (q, tt)))
+      ∙ sym (ap length keys.1) ∙ sym sound.marks.are ∙ so_many)
+
+  abbrev made : List Made
+  made = sound.ruled.choices.made
+
+  abbrev choices : ChoiceTable
+  choices = from_entries (under_numbers 1 (said made))
+
+  choices_in_order : entries choices ≡ under_numbers 1 (said made)
+  choices_in_order = entries-numbers (said made)
+
+  named_of : (number : ℕ) (row : ChoiceRow) → get choices number ≡ Some row
+      → IsNamed (trees 9) (number, row)
+  named_of number row there =
+      of_found choice_layout (IsNamed (trees 9)) (under_numbers 1 (said made))
+      (all_named trees sound.rulings 1 made sound.ruled.choices.are.each) number row
+      (sym (get-from_entries choice_layout.total (under_numbers 1 (said made)) number) ∙ there)
+
+  choice_name_rows : trees 9 ≡ rows_of choice_name_layout (choice_name_index choices)
+  choice_name_rows =
+      let keys = choice_names_in (trees 9) sound.ruled.choice_names.each sound.ruled.choice_names.wide in
+      keys.1
+      ∙ index_rows choice_name_layout chosen_named choices ChoiceNames (λ q. refl) keys.0
+      (subst (AreRising ChoiceNames) keys.1 sound.ruled.choice_names.rising)
+      (λ number row there. subst (λ (rows : List Row). IsNamed rows (number, row)) keys.1
+      (named_of number row there))
+      (sym (length-map keys.0 (λ (q : List ℕ × ℕ). row_of choice_name_layout (q, tt)))
+      ∙ sym (ap length keys.1) ∙ sym sound.ruled.choice_names.are ∙ sound.ruled.choices.are.counted
+      ∙ sym (length-map made (λ (one : Made). one.1)) ∙ sym (long_numbers 1 (said made))
+      ∙ ap length (sym choices_in_order))
+
+  -- the charge rows
+  abbrev due : List ((ℕ × RowKey) × ChargeRow)
+  due = map (due_entry sound.rulings.closes.items) (charge_rows (counted_prices told_all))
+
+  abbrev days : DayTable
+  days = from_entries due
+
+  placed : AreUnderOwnKeys days
+  placed key row there =
+      of_found day_layout (λ (e : (ℕ × RowKey) × ChargeRow). row_key e.1 ≡ e.0.1) due
+      (all_placed sound.rulings.closes.items (charge_rows (counted_prices told_all))) key row
+      (sym (get-from_entries day_layout.total due key) ∙ there)
+
+  -- the details
+  abbrev shown : List Detail
+  shown = sound.details.shown
+
+  abbrev counted : CountedTable
+  counted = from_entries (names_shown shown)
+
+  shown_rises : IsAscending (λ (a : Detail) (b : Detail). by_shown a b ≡ Less) shown
+  shown_rises =
+      ascending_weaker
+      (λ (a : Detail) (b : Detail). row_cmp (key_in Details (shown_row a)) (key_in Details (shown_row b)) ≡ Less)
+      (λ (a : Detail) (b : Detail). by_shown a b ≡ Less)
+      (λ a b less. sym (detail_order a b) ∙ first_less 5 (shown_row a) (shown_row b) less) shown
+      (ascending_from_map (λ (a : Row) (b : Row). row_cmp (key_in Details a) (key_in Details b) ≡ Less)
+      shown_row shown (subst (AreRising Details) sound.details.are sound.details.rising))
+
+  -- what is shown of a name is what its record's row says
+  is_shown : (d : Detail) → IsOneOf d shown
+      → (row : RecordRow) × (get records d.name ≡ Some row) × (d ≡ detail_shown (d.name, row))
+  is_shown d one =
+      let shows = of_one (ShowsCounted trees sound.rulings.closes.items) shown sound.details.each d one in
+      let held = shows.held in
+      let at = looked_up record_layout records d.name (record_columns shows.entry) held.there true
+      (subst (λ (rows : List Row). IsFirst (from_key plain (Blob d.name ∷ []) rows) (record_columns shows.entry) held.there)
+      (rows_kept record_layout Records (λ k. refl) es records_are sound.records.rising) held.first)
+      held.is in (
+        at.0,
+        at.1,
+        shows.is ∙ same_shown d.name shows.entry (d.name, at.0) at.2,
+      )
+
+  abbrev index_shown : FinMap by_shown (Unit {0})
+  index_shown = detail_index counted records
+
+  abbrev keys_shown : List Detail
+  keys_shown = map (λ (e : Detail × Unit {0}). e.0) (entries index_shown)
+
+  -- each detail of the index is shown
+  is_one : (q : Detail) → IsKeyOf detail_shown (λ (d : Detail). d.name) (counted_among counted records) q
+      → IsOneOf q shown
+  is_one q is =
+      let both = both_there (contains_key counted q.name) (get records q.name) is.0
+      (sym (get_counted counted records q.name) ∙ is.1) in
+      let named = name_shown q.name shown
+      (sym (get-from_entries nat_list_cmp_total (names_shown shown) q.name)
+      ∙ some_unit (get counted q.name) both.0) in
+      let it = is_shown named.0 named.1 in
+      let same : it.0 ≡ is.0 =
+      some_same it.0 is.0 (sym it.1 ∙ ap (get records) named.2 ∙ both.1) in
+      subst (λ (d : Detail). IsOneOf d shown)
+      (it.2 ∙ (λ i. detail_shown (named.2 i, same i)) ∙ is.2) named.1
+
+  -- and each that is shown is one of the index
+  one_shown : (d : Detail) → IsOneOf d shown → IsOneOf d keys_shown
+  one_shown d one =
+      let it = is_shown d one in
+      one_found by_shown by_shown_exact d (entries index_shown)
+      (sym (get-entries index_shown d)
+      ∙ indexed detail_named (counted_among counted records) d
+      ∙ ap (index_answer by_shown detail_shown d.name d) (get_counted counted records d.name
+      ∙ ap (λ b. cond b (get records d.name) None) (ap is_some (get-from_entries nat_list_cmp_total
+      (names_shown shown) d.name ∙ shown_name shown d one)) ∙ it.1)
+      ∙ ap (λ (x : Detail). cond (eq_by_cmp by_shown d x) (Some tt) None) (sym it.2)
+      ∙ ap (λ b. cond b (Some tt) None) ((eq_by_cmp_equiv by_shown_total).refl d))
+
+  detail_rows : trees 10 ≡ rows_of detail_layout index_shown
+  detail_rows =
+      let up = ascending-map (λ (a : Detail) (b : Detail). by_shown a b ≡ Less)
+      (λ (e : Detail × Unit {0}). e.0) (entries index_shown)
+      (entries_rise by_shown (entries index_shown) (entries_sorted index_shown)) in
+      let each = all_weaker
+      (IsKeyOf detail_shown (λ (d : Detail). d.name) (counted_among counted records))
+      (λ (q : Detail). IsOneOf q shown) is_one keys_shown
+      (recursion_from_All
+      (IsKeyOf detail_shown (λ (d : Detail). d.name) (counted_among counted records)) keys_shown
+      (index_names_all detail_named (counted_among counted records))) in
+      let fewer = no_more by_shown_total shown keys_shown up shown_rises each in
+      let others = no_more by_shown_total keys_shown shown shown_rises up
+      (each_is_one keys_shown shown one_shown) in
+      let same : keys_shown ≡ shown =
+      all_of_them by_shown_total shown keys_shown up shown_rises each (omega (arith, fewer, others)) in
+      sound.details.are ∙ ap (rows_at detail_layout) (sym same)
+      ∙ sym (rows_again detail_layout (entries index_shown))
+
+  -- the tables whose rows the trees have
+  abbrev pub tables_held : Tables
+  tables_held = record {
+    book = record {
+      rule = sound.ruled.book.is.rule;
+      adopted = sound.ruled.book.is.adopted;
+      held = sound.rulings.held;
+      amount = sound.rulings.amount;
+    };
+    tariffs = from_entries (tariff_entries sound.ruled.tariffs.accepted);
+    closes = from_entries (close_entries 1 sound.rulings.closes.items);
+    choices = choices;
+    records = records;
+    days = days;
+    lines = from_entries sound.lines.lines;
+    counted = counted;
+  }
+
+  pub trees_hold : (tables : Tables) × Holds trees tables
+  trees_hold = (
+    tables_held,
+    record {
+      book = sound.ruled.book.one ∙ ap (λ (r : Row). r ∷ []) sound.ruled.book.is.are;
+      tariffs = rows_kept tariff_layout Tariffs (λ k. refl)
+          (tariff_entries sound.ruled.tariffs.accepted) sound.ruled.tariffs.are
+          sound.ruled.tariffs.rising;
+      closes = sound.ruled.closes.are
+          ∙ ap (map closed_columns) (sym (entries-numbers sound.rulings.closes.items));
+      records = rows_kept record_layout Records (λ k. refl) es records_are sound.records.rising;
+      days = rows_kept day_layout Days (λ k. refl) due sound.days sound.rising;
+      placed = placed;
+      lines = rows_kept line_layout Lines (λ k. refl) sound.lines.lines sound.lines.are
+          sound.lines.rising;
+      identity_index = identity_rows;
+      marks = mark_rows;
+      choices = sound.ruled.choices.rows ∙ ap (map choice_columns) (sym choices_in_order);
+      choice_name_index = choice_name_rows;
+      details = detail_rows;
+    },
+  )
+
+-- what is said of an answer where it is SOUND
+pub held_of : {E : Type 0} (trees : Trees) (Clean : Type 0) (answer : Result Audited E)
+    → IfOk answer (λ audited. (counts : Numbers) → audited ≡ Sound counts → Clean → AreSound trees counts)
+    → IfOk answer (λ audited. (counts : Numbers) → audited ≡ Sound counts → Clean
+    → (tables : Tables) × Holds trees tables)
+held_of trees Clean (Ok audited) sound = λ counts is clean. trees_hold trees counts (sound counts is clean)
+held_of trees Clean (Err fault) sound = tt

@@ -1,0 +1,62 @@
+use Rattle.std.proofs.Common.{◌∷◌, [], true, pos, rules, subst}
+use Rattle.sqlite_trees.specs.Tree.{Trees}
+use Rattle.sqlite_trees.specs.View.{IsClean}
+use Rattle.sqlite_value.specs.Order.{Row}
+use Rattle.sqlite_value.specs.declared.value.Value.TheVariants.{Blob, Int}
+use Rattle.tree_rows.specs.Calls.{OnlyLooks}
+use Rattle.tree_rows.specs.Rows.{Finds}
+use Rattle.tree_tables.specs.Columns.{flag}
+use Rattle.book_audit.specs.Trees.{FindsTwo}
+use Rattle.book_audit.proofs.WalkSteps.{look_back, looks_on, trees_stay}
+use Rattle.book_audit.proofs.marks.wrong_by_trees.Goals as goal
+
+pub returns-clause-found : goal.returns-clause-found
+returns-clause-found g c none clean =
+    let zero = c.args.trees.now.store in
+    let one = c.has_identity.new.self.store in
+    let two = c.has_mark.new.self.store in
+    let three = c.is_shared.new.self.store in
+    let stored = c.args.stored.now in
+    let identity_row : Row = c.has_identity.new.self.found in
+    let mark_row : Row = c.has_mark.new.self.found in
+    let mark_key : Row = Int (pos (flag stored.charged)) ∷ Blob stored.identity.items ∷ Blob stored.name ∷ [] in
+    let first : OnlyLooks g.S.Store zero one = search rules in
+    let second : OnlyLooks g.S.Store one two = search rules in
+    let third : OnlyLooks g.S.Store two three = search rules in
+    let at_two : IsClean (g.S.Store.view two) = look_back g.S.Store two three third clean in
+    let at_one : IsClean (g.S.Store.view one) = look_back g.S.Store one two second at_two in
+    let identity : IsClean (g.S.Store.view one) → Finds (Blob stored.identity.items ∷ Blob stored.name ∷ [])
+    ((g.S.Store.view zero).trees 6) identity_row true = search rules in
+    let mark : IsClean (g.S.Store.view two) → Finds mark_key ((g.S.Store.view one).trees 7) mark_row true =
+    search rules in
+    record {
+      identity = record { row = identity_row; finds = identity at_one };
+      mark = record {
+        row = mark_row;
+        finds = subst (λ (all : Trees). Finds mark_key (all 7) mark_row true)
+            (trees_stay g.S.Store zero one first at_one) (mark at_two);
+      };
+    }
+
+pub returns-clause-charged : goal.returns-clause-charged
+returns-clause-charged g c none clean =
+    let zero = c.args.trees.now.store in
+    let one = c.has_identity.new.self.store in
+    let two = c.has_mark.new.self.store in
+    let three = c.is_shared.new.self.store in
+    let key : Row = Blob c.args.stored.now.identity.items ∷ [] in
+    let row : Row = c.is_shared.new.self.found in
+    let shared = c.in_ok-is_shared.is_shared in
+    let first : OnlyLooks g.S.Store zero one = search rules in
+    let second : OnlyLooks g.S.Store one two = search rules in
+    let third : OnlyLooks g.S.Store two three = search rules in
+    let looked : IsClean (g.S.Store.view three) → FindsTwo key ((g.S.Store.view two).trees 6) row shared =
+    search rules in
+    record {
+      next = row;
+      shared = shared;
+      looked = subst (λ (all : Trees). FindsTwo key (all 6) row shared)
+          (trees_stay g.S.Store zero two (looks_on g.S.Store zero one two first second)
+          (look_back g.S.Store two three third clean)) (looked clean);
+      is = search rules;
+    }
