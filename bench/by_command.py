@@ -16,6 +16,9 @@ from outcome import FEBRUARY, MONTH, MOST_MEMORY, MOST_SECONDS, SAMPLES, audited
 
 Ran = collections.namedtuple("Ran", "status out err")
 
+# How many bytes a pipe holds.
+PIPE = 65_536
+
 
 def named(ran):
     """What is wrong with the end of a command, if anything: a status of no name, or other words
@@ -45,16 +48,18 @@ class Commands:
         (self.words_at / "tariff").write_bytes(inputs.TARIFFS[1])
 
     def sound_files(self):
-        """Books in one file; and others, with the log that lies beside them while a server runs."""
-        book = self.folder / "logged"
+        """Books in one file; and others, with the log that lies beside them while an import goes on: it has read more than a
+        piece of the dump, whose records are committed, and waits for the next."""
+        book, pipe = self.folder / "logged", self.folder / "pipe"
         new_books(book)
         file = book.read_bytes()
-        server = Server(book, 2)
-        server.asked(post(FEBRUARY))
-        server.line()
-        logged, log = (pathlib.Path(str(book) + tail).read_bytes() for tail in ("", "-wal"))
-        server.asked(b"")
-        server.process.wait(MOST_SECONDS)
+        os.mkfifo(pipe)
+        goes_on = subprocess.Popen([CHARGECTL, "import", book, pipe], stdout=subprocess.DEVNULL)
+        with open(pipe, "wb") as dump:
+            dump.write(FEBRUARY * (3 * PIPE // len(FEBRUARY)))
+            dump.flush()
+            logged, log = (pathlib.Path(str(book) + tail).read_bytes() for tail in ("", "-wal"))
+        goes_on.wait(MOST_SECONDS)
         return file, logged, log
 
     def run(self, given, *words, stdin=os.devnull, cwd=None):
@@ -236,7 +241,7 @@ class Commands:
     def serve_damaged(self, book, file):
         """A server for damaged books gives answers of some status that the formats name, or none
         where it can't have the books, or not again after their store failed."""
-        requests = get(b"/statement/2"), post(FEBRUARY), get(b"/disputes"), get(b"/periods")
+        requests = get(b"/statement/2"), post(FEBRUARY), get(b"/disputes"), get(b"/"), get(b"/period/1"), get(b"/periods")
         try:
             server = Server(book, len(requests))
             for request in requests:
@@ -268,6 +273,7 @@ class Commands:
                 ("bill", "bill", "2"), ("bill", "bill-csv", "1", "--csv"),
                 ("bill", "centre-bill", "1", "--centre", "LEDGER"),
                 ("bill", "centre-bill-csv", "2", "--csv", "--centre", "LEDGER"),
+                ("page", "page", "1"), ("page", "page", "2"),
                 ("adjustments", "adjustments", "2"),
                 ("adjustments", "adjustments-csv", "2", "--csv"), ("close", "ruling", "2", "2024-02-29"),
                 ("close", "dry-run", "2", "2024-02-29", "--dry-run"),

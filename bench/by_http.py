@@ -127,7 +127,8 @@ def due_to(request, model):
         has = b"" if name != "what-if" else (
             b"\nTARIFF %s\n" % hashlib.sha256(asked.body).hexdigest().encode())
         return Due("SERVED 200", form=formats.report_form(*asked.report), has=has,
-                   kind="csv" if name.endswith("-csv") else "plain", may_be_refused=may_be_refused)
+                   kind="html" if name in formats.PAGES else "csv" if name.endswith("-csv") else "plain",
+                   may_be_refused=may_be_refused)
     return Due("SERVED %d" % asked.status, formats.answer(asked.status, allow=asked.allow),
                may_be_refused=may_be_refused)
 

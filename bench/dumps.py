@@ -1,4 +1,4 @@
-"""Dumps for `run`: the records of samples/make, with another job, other times and other numbers in each."""
+"""Dumps for `run`, `serve`, `pages` and others: the records of samples/make, with another job, other times and other numbers in each."""
 import pathlib
 import runpy
 import struct
@@ -63,6 +63,12 @@ def usage(number, more_time=0):
     time = struct.pack(">I", number * 7919 % 60000 + more_time)
     front, program, sections, activity, rest = USAGE[number % len(USAGE)]
     return b"".join((front, name, program, name, sections, blocks, activity, time, rest))
+
+
+def dated(number, day, more_time=0):
+    """The usage record of that number, of this day of the year."""
+    record = usage(number, more_time)
+    return record[:DATE] + make.packed(day) + record[DATE + 4:]
 
 
 def begun_later(number, more_time=0):

@@ -186,7 +186,8 @@ TOKEN = rb"[!#$%&'*+.^_`|~0-9A-Za-z-]+"
 HEAD = re.compile(rb"(?:\r?\n)*(" + TOKEN + rb") ([!-~\x80-\xff]+) HTTP/1\.[01]\r?\n"
                   rb"((?:" + TOKEN + rb":[\t -~\x80-\xff]*\r?\n)*)\r?\n")
 FIELD = re.compile(rb"([^:\r\n]+):([^\r\n]*)\r?\n")
-PATH = re.compile(rb"/(?:(?P<whole>periods|disputes|disputes-csv|rulings)"
+PATH = re.compile(rb"/(?:(?P<office>)|period/(?P<page>[1-9][0-9]{0,3})"
+                  rb"|(?P<whole>periods|disputes|disputes-csv|rulings)"
                   rb"|(?:(?P<report>(?:statement|adjustments)(?:-csv)?)"
                   rb"|(?P<tried>what-if(?:-csv)?))"
                   rb"/(?P<period>[1-9][0-9]{0,3})(?:/(?P<centre>[A-Z0-9-]{1,16}))?"
@@ -194,6 +195,7 @@ PATH = re.compile(rb"/(?:(?P<whole>periods|disputes|disputes-csv|rulings)"
                   rb"|record/(?P<record>[0-9A-Fa-f]{64})"
                   rb"|tariff/(?P<day>[0-9]{4}-[0-9]{2}-[0-9]{2}))")
 LENGTH = re.compile(rb"[0-9]{1,19}")
+HOST = re.compile(rb"(?i:127\.0\.0\.1|localhost|\[::1\])(?::[0-9]*)?")
 PHRASES = {200: "OK", 400: "Bad Request", 403: "Forbidden", 404: "Not Found",
            405: "Method Not Allowed", 411: "Length Required", 413: "Payload Too Large",
            422: "Unprocessable Entity", 503: "Service Unavailable"}
@@ -261,6 +263,9 @@ def asked(request, last_period):
     lengths = [value.strip(b" \t") for name, value in fields if name.lower() == b"content-length"]
     if len(lengths) > 1 or lengths and not LENGTH.fullmatch(lengths[0]):
         return Asked(400)
+    hosts = [value.strip(b" \t") for name, value in fields if name.lower() == b"host"]
+    if not all(map(HOST.fullmatch, hosts)):
+        return Asked(403)
     path = PATH.fullmatch(head[2].split(b"?")[0])
     if not path or path["day"] and not is_day_text(path["day"]):
         return Asked(404)
@@ -274,12 +279,14 @@ def asked(request, last_period):
     if path["record"]:
         is_held = path["record"].lower() == HELD_RECORD
         return Asked(200, report=("record", 0, None)) if is_held else Asked(404)
-    return asked_of(path, path["whole"] or path["report"], last_period)
+    if path["office"] is not None:
+        return Asked(200, report=("office-page", 0, None))
+    return asked_of(path, path["whole"] or path["report"] or b"page", last_period)
 
 
 def asked_of(path, name, last_period, body=None):
     """The report that a path names, or 404 where it names a period that is not there."""
-    period, centre = int(path["period"] or 0), path["centre"] and path["centre"].decode()
+    period, centre = int(path["period"] or path["page"] or 0), path["centre"] and path["centre"].decode()
     found = period <= last_period
     report = (name.decode(), period, centre) if found else None
     return Asked(200 if found else 404, report=report, body=body)
@@ -307,17 +314,21 @@ def answer(status, body=None, kind="plain", allow=None):
     """An answer as it is sent: without a body it gives its status alone."""
     phrase = "%d %s" % (status, PHRASES[status])
     body = (phrase + "\n").encode() if body is None else body
-    line = "Allow: %s\r\n" % allow.decode() if allow else ""
+    line = "Allow: %s\r\n" % allow.decode() if allow else PAGE_LINES if kind == "html" else ""
     return ("HTTP/1.1 %s\r\nContent-Type: text/%s; charset=us-ascii\r\n%sContent-Length: %d\r\n"
             "Connection: close\r\n\r\n" % (phrase, kind, line, len(body))).encode() + body
 
 
+# What stands in the head of a page.
+PAGE_LINES = ("Content-Security-Policy: default-src 'none'; style-src 'unsafe-inline'\r\n"
+              "X-Content-Type-Options: nosniff\r\n")
+
 # The head of an answer of any status.
 STATUSES = "|".join("%d %s" % named for named in PHRASES.items())
 ANSWER = re.compile((
-    "HTTP/1\\.1 (?:%s)\r\nContent-Type: text/(?:plain|csv); charset=us-ascii\r\n"
-    "(?:Allow: (?:GET|POST)\r\n)?Content-Length: [0-9]+\r\nConnection: close\r\n\r\n"
-    % STATUSES).encode())
+    "HTTP/1\\.1 (?:%s)\r\nContent-Type: text/(?:plain|csv|html); charset=us-ascii\r\n"
+    "(?:Allow: (?:GET|POST)\r\n|Retry-After: 1\r\n|%s)?Content-Length: [0-9]+\r\nConnection: close\r\n\r\n"
+    % (STATUSES, re.escape(PAGE_LINES))).encode())
 
 # The forms of texts.
 SHOWN = r"(?:[ -\[\]-~]|\\[0-9A-F]{2})*"
@@ -383,8 +394,24 @@ PERIODS = r"PERIODS [0-9]+\n(?:[0-9]+ CLOSED THROUGH %s\n)*[0-9]+ OPEN\n" % DAY
 RULINGS = (r"RULINGS\n(?:TARIFF %s [0-9a-f]{64} [0-9]+\n)*(?:CLOSE [0-9]+ %s\n)*"
            r"(?:CHOICE [0-9]+ PERIOD [0-9]+ [0-9a-f]{64}\n)*(?:ADOPTED PERIOD [0-9]+\n)?"
            % (DAY, DAY))
+
+
+def html(title, one):
+    """The form of a page: a style, and below it tags that are known, no attribute of which can hold a script or lead away from
+    here, and texts of such bytes, of which none is markup."""
+    text = r"(?:%s|&(?:amp|lt|gt|quot|#39);)" % one
+    tag = (r"<(?:/?(?:header|p|h1|div|table|caption|thead|tbody|tfoot|tr|th|td|dl|dt|dd|ul|li|nav|svg|rect|title|a)"
+           r"(?: (?:class|scope|colspan|viewBox|preserveAspectRatio|role|aria-label|x|width|height)='%s*'"
+           r"| href='/(?:[a-z-]+(?:/(?:[0-9]+|[0-9a-f]{64}))?)?')*)>") % text
+    return (r"<!DOCTYPE html>\n<html lang='en'>\n<head>\n<meta charset='us-ascii'>\n<meta name='viewport' [^<>\n]*>\n"
+            r"<meta http-equiv='Content-Security-Policy' content=\"default-src 'none'; style-src 'unsafe-inline'\">\n"
+            r"<title>%s</title>\n<style>\n[^<]*</style>\n</head>\n<body>\n<main>\n(?:%s|%s)*</main>\n</body>\n</html>\n"
+            % (title, text, tag))
+
+
+PAGES = {"office-page": html("Office", r"[ !#-%(-;=?-~\n]"), "page": html("Period [0-9]+", r"[ !#-%(-;=?-~\n]")}
 WHOLE = {"disputes": DISPUTES, "disputes-csv": DISPUTE_TABLE, "periods": PERIODS,
-         "record": RECORD, "rulings": RULINGS}
+         "record": RECORD, "rulings": RULINGS, **PAGES}
 SOUND = "SOUND\n" + "".join(
     word + " [0-9]+\n" for word in "FORM RECORDS TARIFFS CLOSES CHOICES ROWS LINES".split())
 UNSOUND = r"UNSOUND [ -~]+: [ -~]+\n"
@@ -472,6 +499,8 @@ OF_DAMAGED = OF_COMMANDS | {
         ("adjustments", "ADJUSTMENTS " + OF_PERIOD[0]), ("disputes", "DISPUTES [0-9]+"),
         ("adjustments-csv", ADJUSTMENT_COLUMNS), ("disputes-csv", DISPUTE_COLUMNS),
         ("periods", "PERIODS [0-9]+"), ("record", "RECORD [0-9a-f]{64}"), ("rulings", "RULINGS"))}
+# Nor does it make markup then.
+OF_DAMAGED["page"] = form(html("Period [0-9]+", r"[^<>&'\"]"))
 
 # A line on standard error, by its status: 1, 4, 5, and 3 for any other.
 ERROR = re.compile(

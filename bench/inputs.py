@@ -188,7 +188,7 @@ METHODS = [b"GET"] * 8 + [b"POST"] * 8
 METHODS += [b"HEAD", b"PUT", b"DELETE", b"OPTIONS", b"get", b"GE", b"POSTS", b"!#$%&'*+.^_`|~-",
             b"G(T", b"", b"M" * 3_000]
 REPORTS = [b"/periods", b"/disputes", b"/disputes-csv", b"/rulings", b"/tariff/2024-01-01",
-           b"/record/" + HELD_RECORD, b"/record/" + HELD_RECORD.upper(),
+           b"/record/" + HELD_RECORD, b"/record/" + HELD_RECORD.upper(), b"/", b"/period/1", b"/period/2",
            b"/statement/1", b"/statement/2", b"/statement-csv/1", b"/statement-csv/2",
            b"/adjustments/1", b"/adjustments/2", b"/adjustments-csv/2", b"/statement/1/LEDGER",
            b"/statement-csv/1/LEDGER", b"/adjustments/2/LEDGER", b"/adjustments-csv/2/LEDGER"]
@@ -205,6 +205,8 @@ TARGETS += [b"/statement/3", b"/statement/0", b"/statement/01", b"/statement/999
             b"/statement/1/", b"/statement/", b"/statement", b"/statement/%31", b"/statement/{n}",
             b"/statement/1/2", b"/statement/1a", b"/statement-csv", b"/adjustments/0",
             b"/statement/\xd9\xa1"]
+TARGETS += [b"/period", b"/period/", b"/period/0", b"/period/01", b"/period/3", b"/period/10000", b"/period/1/",
+            b"/period/1/LEDGER", b"/?x", b"//", b"/index.html", b"/favicon.ico"]
 TARGETS += [b"/record/" + b"ab" * 32, b"/record/" + b"zz" * 32, b"/record/" + b"0" * 63, b"/record/",
             b"/record", b"/record/" + HELD_RECORD + b"0", b"/record/" + HELD_RECORD + b"/",
             b"/record/0x" + b"0" * 62]
@@ -212,13 +214,16 @@ TARGETS += [b"/what-if/0", b"/what-if", b"/what-if/", b"/what-if/1/", b"/what-if
             b"/what-if-csv/10000", b"/what-if-table/1"]
 TARGETS += [b"/periods/", b"//periods", b"/periods?", b"/periods?a=b?c", b"/Periods", b"/%70eriods",
             b"/periods#1", b"/./periods", b"/periods?\xc3\xa9", b"/periods?\xff", b"/peri\0ds",
-            b"/per iods", b"/import?x", b"/import-bdwx", b"/import/", b"*", b"/", b"?",
+            b"/per iods", b"/import?x", b"/import-bdwx", b"/import/", b"*", b"?",
             b"http://127.0.0.1/periods", b"/\xc3\xa9", b"", b"/" * 9_000]
 VERSIONS = [b" HTTP/1.1"] * 12 + [b" HTTP/1.0"] * 3
 VERSIONS += [b" HTTP/2.0", b" HTTP/1.2", b" http/1.1", b" HTTP/1.1 ", b"  HTTP/1.1", b" HTTP/1",
              b"", b" HTTP/0.9", b"\tHTTP/1.1"]
 ENDS = [b"\r\n"] * 20 + [b"\n"] * 3 + [b"\r", b"\r\r\n", b"\n\r", b"\0\r\n"]
-OTHER_FIELDS = [b"Host: books", b"Expect: 100-continue", b"Connection: keep-alive", b"Accept: */*",
+HOSTS = [b"Host: localhost"] * 6 + [b"Host: 127.0.0.1:8030", b"HOST: LocalHost:80", b"host:[::1]:65536", b"Host: localhost:"]
+FOREIGN_HOSTS = [b"Host: books", b"Host:", b"host: books.example.org:80", b"Host: localhost.example.org", b"Host: [::1",
+                 b"Host: 127.0.0.1:80x", b"Host: 127.0.0.2", b"Host: local\xffhost", b"HOST: localhost, localhost"]
+OTHER_FIELDS = HOSTS[5:] + [b"Expect: 100-continue", b"Connection: keep-alive", b"Accept: */*",
                 b"X:", b"X: \t ", b"X-A: a\tb", b"X: \xff\xfe", b"Content_Length: 5", b"Origins: a"]
 WRONG_FIELDS = [b" folded", b"\tfolded", b"no colon", b": no name", b"Host : books", b"A B: c",
                 b"X: a\0b", b"X: a\x7fb", b"X\xc3: a", b"X: a\rb", b"Content-Length : 5"]
@@ -243,7 +248,8 @@ def fields(rng, size):
     """Fields of a head whose body has that size."""
     made = [rng.choice(OTHER_FIELDS) for _ in range(rng.randrange(3))]
     for chance, field in ((0.7, length_field(rng, size)), (0.05, length_field(rng, size)),
-                          (0.1, rng.choice(POST_FIELDS)), (0.08, rng.choice(WRONG_FIELDS))):
+                          (0.1, rng.choice(POST_FIELDS)), (0.08, rng.choice(WRONG_FIELDS)),
+                          (0.06, rng.choice(FOREIGN_HOSTS))):
         if rng.random() < chance:
             made.append(field)
     rng.shuffle(made)
@@ -266,7 +272,7 @@ def any_head(rng):
 
 
 def report(rng):
-    return head(rng, b"GET", rng.choice(REPORTS), b" HTTP/1.1", [b"Host: books"])
+    return head(rng, b"GET", rng.choice(REPORTS), b" HTTP/1.1", [rng.choice(HOSTS)])
 
 
 def upload(rng):
@@ -275,7 +281,7 @@ def upload(rng):
     if rng.random() < 0.05:
         layout = "rdw"
     path = b"/import" if layout == "rdw" else b"/import-bdw"
-    lines = [b"Host: books", b"Content-Length: %d" % len(body)]
+    lines = [rng.choice(HOSTS), b"Content-Length: %d" % len(body)]
     if rng.random() < 0.3:
         lines = fields(rng, len(body))
     return head(rng, b"POST", path, b" HTTP/1.1", lines) + body
@@ -284,7 +290,7 @@ def upload(rng):
 def tried(rng):
     """A tariff file at the path of a what-if."""
     body = tariff(rng)
-    lines = [b"Host: books", b"Content-Length: %d" % len(body)]
+    lines = [rng.choice(HOSTS), b"Content-Length: %d" % len(body)]
     if rng.random() < 0.2:
         lines = fields(rng, len(body))
     return head(rng, b"POST", rng.choice(WHAT_IFS), b" HTTP/1.1", lines) + body
@@ -412,14 +418,14 @@ def other_log(rng):
     return rng.choice((b"x", b"\0", b"\x37")) * rng.choice((1, 40, 41, 42, 55, 56, 57, 5_000))
 
 
-COMMANDS = ("init tariff import close choose adopt statement adjustments details bill disputes record periods "
+COMMANDS = ("init tariff import close choose adopt statement adjustments details bill page disputes record periods "
             "rulings tariff-text upgrade audit trial check explain help serve --help -h --version -V").split()
 WORDS = ("books nothing tariff dump . .. books/ books-wal 0 1 2 3 65535 65536 -1 1e3 0x1 ١ "
          "2024-01-31 2024-02-30 2024-02-29 2024-1-1 --layout --layout=bdw --layout=xyz rdw bdw "
          "--quiet --quiet=1 --dry-run --csv --cpu --cpu=100000000 --cpu=100000001 --excp --record "
          "--record=-1 -- - -q --help -h --port --requests --from --tariff "
          "--tariff=tariff --tariff=dump "
-         "--centre --centre=LEDGER frame ledger tariff damaged").split()
+         "--centre --centre=LEDGER --wait --wait=0 --wait=3601 frame ledger tariff damaged").split()
 WORDS += ["", " ", "\n", "é", "x" * 300, "y" * 100_000, "/dev/null/x", "%s%n", "0" * 64, "ab" * 32,
           "AB" * 32, "zz" * 32]
 
@@ -427,7 +433,7 @@ WORDS += ["", " ", "\n", "é", "x" * 300, "y" * 100_000, "/dev/null/x", "%s%n", 
 # What a command's words are, as often as not: books, a file, a period, a date, a name, a number.
 PLACES = {
     "init": "B", "tariff": "BF", "import": "BF", "close": "BPD", "choose": "BN", "adopt": "B",
-    "statement": "BPO", "details": "BP", "bill": "BPO", "adjustments": "BP", "disputes": "B", "record": "BN",
+    "statement": "BPO", "details": "BP", "bill": "BPO", "page": "BP", "adjustments": "BP", "disputes": "B", "record": "BN",
     "periods": "B", "rulings": "B", "tariff-text": "BD", "upgrade": "B", "audit": "B", "trial": "",
     "check": "F", "explain": "KP", "serve": "B"}
 PLACED = {

@@ -1,4 +1,4 @@
-"""Requests to a server on 127.0.0.1, for `run` and `serve`."""
+"""Requests to a server on 127.0.0.1, and books that are in use, for `run`, `books`, `serve`, `pages` and `terminal`."""
 import os
 import pathlib
 import socket
@@ -75,6 +75,20 @@ def serving(book, requests):
     return [CHARGECTL, "serve", book, "--port", None, "--requests", requests]
 
 
+class Holder:
+    """A command that has the books of a thousand records or more until it is let go: nobody reads the list that it writes."""
+
+    def __init__(self, book):
+        self.process = subprocess.Popen([CHARGECTL, "details", book, "1"], stdout=subprocess.PIPE)
+        # The list has more bytes than a pipe holds, and its first line comes once the books are open.
+        self.process.stdout.readline()
+
+    def let_go(self):
+        """Whether it ended well."""
+        self.process.stdout.read()
+        return self.process.wait(SLACK) == 0
+
+
 def asked(server, request):
     """All that is answered to a request."""
     with server.connect() as client:
@@ -86,11 +100,11 @@ def asked(server, request):
 
 
 def get(path):
-    return b"GET %s HTTP/1.1\r\nHost: books\r\n\r\n" % path
+    return b"GET %s HTTP/1.1\r\nHost: localhost\r\n\r\n" % path
 
 
 def post(body):
-    return b"POST /import HTTP/1.1\r\nHost: books\r\nContent-Length: %d\r\n\r\n" % len(body) + body
+    return b"POST /import HTTP/1.1\r\nHost: localhost\r\nContent-Length: %d\r\n\r\n" % len(body) + body
 
 
 def seconds_each(words, request, requests, rounds, status=200):

@@ -1,9 +1,9 @@
 """The office's rules once more, apart from the program: what its commands print of a dump, of a tariff file, of a
 close, of choices among records in dispute, of the second rule of identity, and as each report. `samples/make` writes
-by it what a month of commands has to print, history.py the answers to a long history, and rows.py those to worked rows
-and the rows of their tables; `samples/recompute` recomputes the reports of any books. Only what these need is here: no
-dump is torn, no books are full, though by another tariff a period may cost more than they hold, and six faults of a
-tariff file are known."""
+by it what a month of commands has to print, history.py the answers to a long history, rows.py those to worked rows and
+the rows of their tables, and pages.py the pages of books; `samples/recompute` recomputes the reports of any books. Only
+what these need is here: no dump is torn, no books are full, though by another tariff a period may cost more than they
+hold, and six faults of a tariff file are known."""
 import collections
 import copy
 import datetime
@@ -361,6 +361,11 @@ def identity_line(identity, no_step):
     subtype, step = struct.unpack(">HH", identity[20:24])
     return "%s %s %s SUBTYPE %d STEP %s" % (text(identity[:4]), text(identity[4:12]), moment("READER", identity[12:20]),
                                             subtype, no_step if subtype == 5 else step)
+
+
+def dispute_line(identity):
+    """The line of an identity in dispute: by the second rule it has the initiation too."""
+    return identity_line(identity, "0") + (" " + moment("START", identity[24:]) if identity[24:] else "")
 
 
 def member_line(one):
@@ -773,7 +778,7 @@ class Books:
         disputed = self.disputed()
         yield "DISPUTES %d" % len(disputed)
         for identity, members in disputed:
-            yield identity_line(identity, "0") + (" " + moment("START", identity[24:]) if identity[24:] else "")
+            yield dispute_line(identity)
             yield from map(member_line, members)
 
     def life(self, name):

@@ -7,6 +7,7 @@ import itertools
 import re
 
 import office
+import pages
 
 
 class NotKnown(Exception):
@@ -164,6 +165,9 @@ DETAILS = {"details": 2, "details-table": 2}
 # The bills of a period.
 BILLS = {"bill": "bill", "bill-table": "bill_table"}
 
+# The pages: of the office, and of a period.
+PAGES = "office-page page".split()
+
 # The same of what a period would have cost by a tariff: for the days of the closes, before the tariff is read; for what
 # it would have cost; and, for a text, for what it is charged.
 WHAT_IFS = {"what-if": 3, "what-if-table": 2}
@@ -183,7 +187,13 @@ OF_PERIODS = "statement table adjustments adjustment_table".split()
 # The paths at which a tariff is handed in: of what form the answer is, and of which period, and which centre, if of one.
 WHAT_IF_PATH = re.compile(r"/what-if(-csv)?/([1-9][0-9]{0,3}(?:/[A-Z0-9-]{1,16})?)")
 
+# The paths of pages: of the office, and of a period.
+PAGE_PATH = re.compile("/(?:period/([1-9][0-9]{0,3}))?")
+
 PHRASES = {200: "OK", 400: "Bad Request", 404: "Not Found", 503: "Service Unavailable"}
+
+# Of a page, which works by its style alone.
+PAGE_LINES = ["Content-Security-Policy: default-src 'none'; style-src 'unsafe-inline'", "X-Content-Type-Options: nosniff"]
 
 
 def bytes_of(text):
@@ -203,7 +213,7 @@ def served(status, text, form="plain"):
     """An answer over HTTP, as it is shown. A refusal without a text of its own has its status and phrase."""
     first = "%d %s" % (status, PHRASES[status])
     body = text if isinstance(text, bytes) else bytes_of(text or [first])
-    head = ["HTTP/1.1 " + first, "Content-Type: text/%s; charset=us-ascii" % form,
+    head = ["HTTP/1.1 " + first, "Content-Type: text/%s; charset=us-ascii" % form, *PAGE_LINES * (form == "html"),
             "Content-Length: %d" % len(body), "Connection: close", ""]
     return [line + "\\r" for line in head] + shown_bytes(body) + ["SERVED %d" % status]
 
@@ -290,6 +300,22 @@ class Rows:
             return office.refused(office.MEMORY)
         return self.books.of_period(getattr(self.books, BILLS[verb]), int(period), centre)
 
+    def page_asks(self, period):
+        """How often a page asks the books. For the days of the closes, for the rows and the lines of the period, or of each
+        one, and of one period for the disputes. Where there is no such period the days are all."""
+        if period is None:
+            return 1 + 2 * self.books.open
+        return 4 if 0 < period <= self.books.open else 1
+
+    def page(self, period=None):
+        """The page of a period, or of the office, or why there is none."""
+        period = None if period is None else int(period)
+        if any(self.is_refused() for _ in range(self.page_asks(period))):
+            return office.refused(office.MEMORY)
+        if period is None:
+            return pages.office_page(self.books).splitlines()
+        return self.books.of_period(lambda period, _: pages.period_page(self.books, period).splitlines(), period)
+
     def trail(self, name):
         """The trail of a record, or why there is none. It is one call of the books."""
         return office.refused(office.MEMORY) if self.is_refused() else self.books.trail(name)
@@ -348,7 +374,11 @@ class Rows:
 
     def get(self, path):
         """The answer to a request for a report. What stands after a question mark changes nothing."""
-        _, name, *words = path.partition("?")[0].split("/")
+        path = path.partition("?")[0]
+        page = PAGE_PATH.fullmatch(path)
+        if page is not None:
+            return self.get_page(page[1])
+        _, name, *words = path.split("/")
         if name in ("tariff", "record"):
             found = self.get_tariff if name == "tariff" else self.get_record
             return found(*words) if len(words) == 1 else served(404, [])
@@ -367,6 +397,13 @@ class Rows:
         # Details are read once more, to be sent. A refusal there comes when the head alone was written.
         is_cut = verb in DETAILS and self.details(verb, *words) == office.refused(office.MEMORY)
         return whole[:whole.index("\\r") + 1] + ["CUT"] if is_cut else whole
+
+    def get_page(self, period):
+        """The answer to a request for a page."""
+        text = self.page(period)
+        if text == office.refused(office.MEMORY):
+            return served(503, [])
+        return served(404, []) if text == office.refused(office.NO_SUCH_PERIOD) else served(200, text, "html")
 
     def get_tariff(self, word):
         """The answer to a request for a tariff's file. The tariffs are asked for in their order."""
@@ -432,6 +469,8 @@ class Rows:
             return self.details(verb, *words)
         if verb in BILLS:
             return self.bill(verb, *words)
+        if verb in PAGES:
+            return self.page(*words)
         if verb == "record":
             return self.trail(self.name_of(*words))
         if verb == "writer":
@@ -510,6 +549,8 @@ class Rows:
         """What a command writes: bytes, or lines, of which the last may be that of a refusal."""
         if words[0] == "trial":
             return office.tried(self.files[dict(options(words[1:]))["--tariff"]], self.input)
+        # How long a command waits for books changes nothing that it says of them.
+        words = [word for word, before in zip(words, [""] + words) if "--wait" not in (word, before)]
         is_tried = "--dry-run" in words
         verb, book, *words = [word for word in words if word != "--dry-run"]
         if book != "@books":
@@ -576,6 +617,7 @@ class Rows:
                 "statement": statement,
                 "details": lambda period, *_: of_period(books.details, books.details_table, period),
                 "bill": lambda period, *_: of_period(books.bill, books.bill_table, period),
+                "page": self.page,
                 "adjustments": lambda period, *_: of_period(books.adjustments, books.adjustment_table, period)
                 }.get(verb, lambda *words: self.command(verb, words))(*words)
 

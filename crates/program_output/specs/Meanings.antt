@@ -274,8 +274,9 @@ word_texts Io = (
       ++ codes "the cause follow.",
 )
 word_texts Busy = (
-  codes "Another program has the books open; nothing was done.",
-  codes "Wait until it has ended, or end it if it is serve; then run the command again.",
+  codes "Another program has the books open, and had them for as long as the command waited; "
+      ++ codes "nothing was done.",
+  codes "Wait until it has ended, and run the command again, or run it with a longer --wait.",
 )
 word_texts Exists = (
   codes "A file that the command would make is there, or a log or journal of it; or books have "

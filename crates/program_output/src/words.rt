@@ -40,9 +40,10 @@ fn explanation_of(kind: WordKind) -> Explanation
                  and the cause follow.",
         },
         WordKind::Busy => Explanation {
-            meaning: "Another program has the books open; nothing was done.",
-            advice: "Wait until it has ended, or end it if it is serve; then run the command \
-                 again.",
+            meaning: "Another program has the books open, and had them for as long as the command \
+                 waited; nothing was done.",
+            advice: "Wait until it has ended, and run the command again, or run it with a longer \
+                 --wait.",
         },
         WordKind::Exists => Explanation {
             meaning: "A file that the command would make is there, or a log or journal of it; or \

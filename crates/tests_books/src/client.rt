@@ -2,9 +2,9 @@
 
 ghost use Rattle.std.specs.Prelude.{length};
 
-use book_core::Ledger;
 use book_http::Served;
 use chargectl::{Connections, Peer, answer_peer};
+use office::Repository;
 use std::alloc::Global;
 use std::cell::{Cell, RefCell};
 use std::io;
@@ -132,7 +132,12 @@ impl Connections for Queue<'_, '_> {
         self.left.is_empty()
     }
 
-    fn next<L: Ledger>(&mut self, books: &mut L) -> io::Result<Served> {
+    fn next<S: Repository>(
+        &mut self,
+        repository: &mut S,
+        book: &str,
+        has_log: &mut bool,
+    ) -> io::Result<Served> {
         let left = self.left;
         let [client, later @ ..] = left else {
             unreachable!()
@@ -142,7 +147,7 @@ impl Connections for Queue<'_, '_> {
             client,
             is_drained: false,
         };
-        let (served, _) = answer_peer(self.alloc, peer, books);
+        let (served, _) = answer_peer(self.alloc, peer, repository, book, has_log);
         Ok(served)
     }
 }

@@ -9,7 +9,7 @@
 //! | `stops:` | as those of `tables:`; it is separate because disks that stop take the longest |
 //!
 //! Rows on books are those of `tests_tables`, and may serve their books to clients, as the program
-//! does over HTTP:
+//! does over HTTP, but that they are opened once for a line, and not for each client:
 //!
 //! | A line on books | Is answered with |
 //! |---|---|
@@ -35,6 +35,7 @@
 
 mod client;
 mod command_output;
+mod open_shelf;
 mod served_rows;
 mod session_streams;
 mod sessions;

@@ -1,9 +1,10 @@
 //! Rows on books that may also be served to clients, one after the other.
 
 use crate::client::{Client, Queue};
+use crate::open_shelf::OpenShelf;
 use crate::session_streams::Output;
 use book_core::Ledger;
-use chargectl::{ServedLines, serve_while_open};
+use chargectl::{ServedLines, serve_each};
 use std::alloc::AllocError;
 use std::io::Write;
 use tests_ledgers::RefusingLedger;
@@ -121,13 +122,13 @@ fn serve_clients<L: Ledger>(
         room,
         taken: Vec::new(named.alloc()),
     });
-    let has_failed = serve_while_open(&mut queue, ledger, &mut lines)?;
+    let mut shelf = OpenShelf { ledger };
+    let mut has_log = false;
+    serve_each(&mut queue, &mut shelf, "books", &mut has_log, &mut lines)?;
     let are_lost = lines.has_failed();
     out.extend_from_slice(&lines.into_inner().taken)?;
     let left = queue.left.len();
-    if has_failed {
-        writeln!(out, "LEFT {left}, BOOKS TO BE OPENED AGAIN")?;
-    } else if are_lost {
+    if are_lost {
         writeln!(out, "LEFT {left}, LINES LOST")?;
     } else {
         writeln!(out, "LEFT {left}")?;

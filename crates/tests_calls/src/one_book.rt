@@ -3,7 +3,7 @@
 ghost use Rattle.std.specs.Prelude.{◌≡◌};
 
 use book_audit::{Audited, AuditedRepository, Watch};
-use book_core::{LedgerFault, Naming, PlainLedger};
+use book_core::{Naming, PlainLedger};
 use office::{AwayBooks, Opened, Repository, RepositoryFault, Upgraded, Visit};
 use std::alloc::Global;
 use tariff_rules::Tariff;
@@ -24,11 +24,21 @@ impl Naming for OneName {
     }
 }
 
-/// One book, whatever it is called, which is new each time it is opened, under one tariff. It holds
-/// no more than one record.
+/// One book, whatever it is called, under one tariff. It holds no more than one record.
 #[derive(Drop)]
 pub(crate) struct OneBook {
-    pub(crate) alloc: Global,
+    book: PlainLedger<OneName>,
+}
+
+impl OneBook {
+    /// A new one. None: there is no memory for it.
+    pub(crate) fn new(alloc: Global) -> Option<OneBook> {
+        let tariff = Tariff::flat(alloc, 20_000, 500, 0)?;
+        match PlainLedger::flat(alloc, OneName, tariff) {
+            Ok(book) => Some(OneBook { book }),
+            Err(_refused) => None,
+        }
+    }
 }
 
 #[tactic(auto, using(office::proofs::ShelfLemmas::unknown_made, office::proofs::ShelfLemmas::unknown_opened, office::proofs::ShelfLemmas::unknown_tried, office::proofs::ShelfLemmas::unknown_untouched, office::proofs::ShelfLemmas::came_by, office::proofs::ShelfLemmas::same_by))]
@@ -37,6 +47,8 @@ impl Repository for OneBook {
     ghost use Rattle.office.specs.Shelves.{unknown};
 
     ghost shelf = { λ _. unknown (λ _. replicate 32 7) };
+
+    fn wait_up_to(&self, _seconds: u16) {}
 
     fn expect(&self, _book: &str) -> Result<(), RepositoryFault> {
         Ok(())
@@ -47,18 +59,11 @@ impl Repository for OneBook {
     }
 
     fn open<V: Visit>(&mut self, _book: &str, visit: &mut V) -> Opened<V::Answer> {
-        let Some(tariff) = Tariff::flat(self.alloc, 20_000, 500, 0) else {
-            return without_log(Err(RepositoryFault::Io));
-        };
-        match PlainLedger::flat(self.alloc, OneName, tariff) {
-            Ok(mut books) => without_log(Ok(visit.visit(&mut books))),
-            Err(_refused) => without_log(Err(RepositoryFault::Ledger(LedgerFault::Memory))),
-        }
+        without_log(Ok(visit.visit(&mut self.book)))
     }
 
-    /// Opens it: no book is left of an opening.
-    fn try_out<V: Visit>(&mut self, book: &str, visit: &mut V) -> Opened<V::Answer> {
-        self.open(book, visit)
+    fn try_out<V: Visit>(&mut self, _book: &str, _visit: &mut V) -> Opened<V::Answer> {
+        without_log(Err(RepositoryFault::Io))
     }
 
     fn upgrade(&mut self, _book: &str) -> Opened<Upgraded> {
@@ -87,7 +92,7 @@ fn without_log<T: Drop>(answer: Result<T, RepositoryFault>) -> Opened<T>
     }
 }
 
-/// One book whose store fails under its first session, and which can't be opened the second time.
+/// One book that is away twice after it was first opened: others have it, and then its store fails.
 #[derive(Drop)]
 pub(crate) struct AwayTwice {
     pub(crate) book: OneBook,
@@ -102,6 +107,8 @@ impl Repository for AwayTwice {
 
     ghost shelf = { λ _. unknown (λ _. replicate 32 7) };
 
+    fn wait_up_to(&self, _seconds: u16) {}
+
     fn expect(&self, book: &str) -> Result<(), RepositoryFault> {
         self.book.expect(book)
     }
@@ -114,8 +121,8 @@ impl Repository for AwayTwice {
         let opened = self.opened;
         self.opened = opened.saturating_add(1);
         match opened {
-            0 => without_log(Ok(visit.visit(&mut AwayBooks))),
-            1 => without_log(Err(RepositoryFault::Ledger(LedgerFault::Store))),
+            1 => without_log(Err(RepositoryFault::Busy)),
+            2 => without_log(Ok(visit.visit(&mut AwayBooks))),
             _ => self.book.open(book, visit),
         }
     }

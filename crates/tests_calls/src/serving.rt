@@ -35,7 +35,7 @@ type Client = (&'static str, Option<Record>, Parting);
 const POST: &str = "POST /import HTTP/1.1\r\nContent-Length: 168\r\n\r\n";
 
 /// One client after the other.
-static CLIENTS: [Client; 14] = [
+static CLIENTS: [Client; 15] = [
     ("GET /periods HTTP/1.1\r\n\r\n", None, Parting::Reads),
     ("", None, Parting::Ends),
     ("GET /periods HT", None, Parting::Reads),
@@ -63,9 +63,10 @@ static CLIENTS: [Client; 14] = [
     // The books have no second name.
     (POST, Some(Record::Step2), Parting::Reads),
     ("GET /periods HTTP/1.1\r\n\r\n", None, Parting::Leaves),
-    // It is dropped after ten seconds.
+    // It is dropped after ten seconds, and one that says nothing after two.
     ("GET", None, Parting::Waits),
-    // The books are still those that hold the sample: they were not opened again.
+    ("", None, Parting::Waits),
+    // The book still holds the sample.
     (POST, Some(Record::Sample), Parting::Reads),
 ];
 
@@ -124,6 +125,7 @@ SERVED 503
 HTTP/1.1 503 Service Unavailable
 KEPT 0 KNOWN 0 UNPRICED 0 OTHER 0 HEADERS 0 TRAILERS 0 LOST 0 CONTINUED 0 DAMAGED 0 STOP LEDGER 5
 WRITE
+READ
 READ
 SERVED 200
 HTTP/1.1 200 OK
@@ -229,6 +231,14 @@ impl Write for ClosedOutput<'_> {
     }
 }
 
+/// A new book.
+fn new_book(rt: &HostRuntime) -> Result<OneBook, Fail> {
+    match OneBook::new(rt.alloc()) {
+        Some(book) => Ok(book),
+        None => Err("there is no memory for a book")?,
+    }
+}
+
 /// A port that nothing has taken.
 fn free_port(rt: &HostRuntime) -> io::Result<u16> {
     Ok(TcpListener::bind(rt, "127.0.0.1:0")?.local_addr()?.port())
@@ -278,7 +288,7 @@ fn seen_by<S: AuditedRepository>(
 
 #[test]
 fn clients_are_served_one_after_the_other(rt: HostRuntime) -> Result<(), Fail> {
-    let mut repository = OneBook { alloc: rt.alloc() };
+    let mut repository = new_book(&rt)?;
     let (is_done, seen) = seen_by(&rt, &mut repository, CLIENTS.as_slice())?;
     assert!(rt; is_done);
     assert_eq!(rt; String::from_utf8(seen)?.as_str(), SEEN);
@@ -288,7 +298,7 @@ fn clients_are_served_one_after_the_other(rt: HostRuntime) -> Result<(), Fail> {
 #[test]
 fn clients_are_answered_while_the_books_are_away(rt: HostRuntime) -> Result<(), Fail> {
     let mut repository = AwayTwice {
-        book: OneBook { alloc: rt.alloc() },
+        book: new_book(&rt)?,
         opened: 0,
     };
     let (is_done, seen) = seen_by(&rt, &mut repository, CLIENTS_OF_AWAY_BOOKS.as_slice())?;
@@ -308,7 +318,7 @@ fn a_closed_output_ends_no_service(rt: HostRuntime) -> Result<(), Fail> {
         clients: Vec::new(rt.alloc()),
         is_closed: false,
     };
-    let mut repository = OneBook { alloc: rt.alloc() };
+    let mut repository = new_book(&rt)?;
     let (status, output) = command(
         &rt,
         &mut repository,

@@ -21,7 +21,7 @@ pub(crate) enum BookText {
     Adjustments(u16),
     /// The details of a period, or of one centre in it.
     Details(DetailReport),
-    /// What a period has of one centre, a bill, or the trail of a record.
+    /// What a period has of one centre, a bill, a page, or the trail of a record.
     Report(Report),
     Disputes,
     Periods,
@@ -39,6 +39,8 @@ impl BookText {
             ("adjustments", [period, centre]) => {
                 of_centre(PeriodReport::AdjustmentList, period, centre)
             }
+            ("page", [period]) => page_of(period),
+            ("office-page", []) => Ok(BookText::Report(Report::OfficePage)),
             ("disputes", []) => Ok(BookText::Disputes),
             ("periods", []) => Ok(BookText::Periods),
             _ => Err(LineFault::NotUnderstood),
@@ -53,6 +55,11 @@ fn of_centre(report: PeriodReport, period: &str, centre: &str) -> LineResult<Boo
         period: period.parse::<u16>()?,
         centre: centre_in(centre)?,
     }))
+}
+
+/// The page of a period.
+fn page_of(period: &str) -> LineResult<BookText> {
+    Ok(BookText::Report(Report::PeriodPage(period.parse::<u16>()?)))
 }
 
 /// A period, and one centre in it, if words name one.

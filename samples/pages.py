@@ -1,0 +1,253 @@
+"""The office's pages as HTML, apart from the program: of all its periods, and of one of them. office.py knows what books
+say; this says what a page shows of it, tag for tag. It is called by office.py, and by what looks at pages (bench/pages)."""
+import office
+
+WIDTH, COLOURS, MOST_NAMED = 10000, 8, 12
+REFERENCES = {"&": "&amp;", "<": "&lt;", ">": "&gt;", '"': "&quot;", "'": "&#39;"}
+# The reports to which a page leads, by their paths.
+OF_ALL = "periods rulings disputes disputes-csv".split()
+OF_PERIODS = "statement statement-csv adjustments adjustments-csv details details-csv".split()
+
+STYLE = """:root{color-scheme:light dark;--ink:#1d2129;--soft:#626a78;--line:#dfe3ea;--page:#fbfbfa;--card:#fff;--link:#2257a5}
+@media(prefers-color-scheme:dark){:root{--ink:#e8eaee;--soft:#9aa3b2;--line:#333a46;--page:#15181d;--card:#1c2027;--link:#8ab4f0}}
+.c0{--c:#4c78a8}.c1{--c:#e08a2e}.c2{--c:#54a24b}.c3{--c:#b279a2}.c4{--c:#d8544f}.c5{--c:#5ea8a3}.c6{--c:#d9b53c}.c7{--c:#9d755d}
+*{box-sizing:border-box}
+body{margin:0;background:var(--page);color:var(--ink);font:16px/1.5 system-ui,-apple-system,'Segoe UI',Roboto,sans-serif}
+main{max-width:76rem;margin:0 auto;padding:2.5rem 1.25rem 4rem}
+header{margin-bottom:2rem}header p{margin:0;color:var(--soft)}
+h1{margin:.25rem 0;font-size:2.25rem;line-height:1.2;font-weight:600;letter-spacing:-.02em}
+a{color:var(--link);text-decoration:none}a:hover,a:focus{text-decoration:underline}
+.scroll{overflow-x:auto;margin:1.5rem 0;padding:.25rem 1.25rem 1rem;background:var(--card);border:1px solid var(--line);border-radius:.75rem}
+table{width:100%;border-collapse:collapse;font-variant-numeric:tabular-nums}
+caption{padding:.75rem 0 .5rem;text-align:left;font-size:1.125rem;font-weight:600}
+th,td{padding:.4rem 1rem .4rem 0;border-top:1px solid var(--line);text-align:left;white-space:nowrap}
+thead th{border-top:0;color:var(--soft);font-size:.8125rem;font-weight:500}
+tfoot td{border-top:2px solid var(--ink);font-weight:600}
+tbody:empty::after{content:'None';color:var(--soft)}
+tr>:last-child{padding-right:0}
+.office tr>:nth-child(n+3),.statement tr>:nth-child(n+4),.adjustments tr>:nth-child(5),.disputes tr>:nth-child(3),.bars tr>:nth-child(3){text-align:right}
+.bars td:nth-child(2){width:100%}.disputes tbody th{padding-top:1rem;font-weight:500}
+td a[href^='/record/']{display:inline-block;max-width:13ch;overflow:hidden;text-overflow:ellipsis;vertical-align:bottom}
+svg{display:block;width:100%;min-width:10rem;height:1rem;border-radius:.2rem;background:var(--line)}
+rect{fill:var(--c);shape-rendering:crispEdges}
+ul{display:flex;flex-wrap:wrap;gap:.25rem 1.25rem;margin:-.5rem 0 2rem;padding:0;list-style:none;color:var(--soft);font-size:.875rem}
+li[class^=c]::before{content:'';display:inline-block;width:.75rem;height:.75rem;margin-right:.4rem;border-radius:.2rem;background:var(--c)}
+dl{display:flex;flex-wrap:wrap;gap:1rem 3rem;margin:0 0 1.5rem}
+dt{color:var(--soft);font-size:.875rem}
+dd{margin:0;font-size:1.5rem;font-variant-numeric:tabular-nums}
+nav{display:flex;flex-wrap:wrap;gap:.5rem 1.5rem;margin-top:2rem}
+@media print{:root{--ink:#000;--soft:#444;--line:#bbb;--page:#fff;--card:#fff;--link:#000}body{font-size:10px}main{max-width:none;padding:0}nav{display:none}.scroll{overflow:visible;padding:0;border:0}thead{display:table-header-group}tr{break-inside:avoid}rect,li{print-color-adjust:exact}td a[href^='/record/']{max-width:none}}
+"""
+
+START = """<!DOCTYPE html>
+<html lang='en'>
+<head>
+<meta charset='us-ascii'>
+<meta name='viewport' content='width=device-width, initial-scale=1'>
+<meta http-equiv='Content-Security-Policy' content="default-src 'none'; style-src 'unsafe-inline'">
+<title>%s</title>
+<style>
+""" + STYLE.replace("%", "%%") + """</style>
+</head>
+<body>
+<main>
+"""
+END = """</main>
+</body>
+</html>
+"""
+TABLE_END, FOOT_START, FOOT_END = "</tbody>\n</table>\n</div>\n", "</tbody>\n<tfoot>", "</tfoot>\n</table>\n</div>\n"
+
+
+def escaped(text):
+    """A text, none of whose characters makes markup."""
+    return "".join(REFERENCES.get(one, one) for one in text)
+
+
+def amount(number):
+    return office.decimals(number, 4)
+
+
+def table_row(*cells):
+    return "<tr>%s</tr>\n" % "".join("<td>%s</td>" % cell for cell in cells)
+
+
+def table(kind, caption, headings):
+    """What stands above the rows of a table."""
+    return "<div class='scroll'>\n<table class='%s'>\n<caption>%s</caption>\n<thead><tr>%s</tr></thead>\n<tbody>" % (
+        kind, caption, "".join("<th scope='col'>%s</th>" % one for one in headings))
+
+
+def period_link(period):
+    return "<a href='/period/%d'>%d</a>" % (period, period)
+
+
+def record_link(name):
+    return "<a href='/record/%s'>%s</a>" % (name, name)
+
+
+def links(back, named):
+    """The foot of a page."""
+    yield "<nav aria-label='Texts'>\n" + back
+    for path, name in named:
+        yield "<a href='%s'>%s</a>\n" % (path, name)
+    yield "</nav>\n" + END
+
+
+# ---- Pictures
+
+def length(most, cost):
+    """Of a bar, where the greatest has the whole width."""
+    return min(WIDTH, cost * WIDTH // max(1, most))
+
+
+def bar(colour, start, long, title):
+    return "<rect class='c%d' x='%d' width='%d' height='1'><title>%s</title></rect>" % (colour, start, long, title)
+
+
+def picture(label, bars):
+    return "<svg viewBox='0 0 %d 1' preserveAspectRatio='none' role='img' aria-label='%s'>%s</svg>" % (WIDTH, label, bars)
+
+
+def centre_bars(most, costs, centres):
+    """The bars of centres one after the other. A centre without cost has none."""
+    start = 0
+    for index, centre in enumerate(centres):
+        cost = costs.get(centre, 0)
+        long = length(most, cost)
+        if cost:
+            yield bar(index % COLOURS, start, long, "%s %s" % (escaped(centre), amount(cost)))
+        start = min(WIDTH, start + long)
+
+
+def costs_by(rows, at):
+    """What rows come to by their day (0), or by their centre (1), in order."""
+    costs = {}
+    for place, sums in sorted(rows, key=lambda row: row[0][at]):
+        costs[place[at]] = costs.get(place[at], 0) + sums[3]
+    return costs
+
+
+def bar_table(caption, heading, costs):
+    """A bar for each day, or for each centre."""
+    most = max(costs.values(), default=0)
+    yield table("bars", caption, (heading, "Cost", "Charged"))
+    for label, cost in costs.items():
+        shown = escaped(label)
+        title = "%s %s" % (shown, amount(cost))
+        yield table_row(shown, picture(title, bar(0, 0, length(most, cost), title)), amount(cost))
+    yield TABLE_END
+
+
+# ---- Figures of a period
+
+def figures(books, period):
+    """How many records it counts, what it charges, adds and reverses, and what it is owed."""
+    rows, lines = books.rows(period), books.lines(period)
+    records, charged = (sum(sums[at] for _, sums in rows) for at in (0, 3))
+    added, reverses = (sum(one.amount for sign, one in lines if sign == which) for which in (1, -1))
+    return records, charged, added, reverses, charged + added - reverses
+
+
+# ---- The page of the office
+
+def legend(centres):
+    """Which colour is whose."""
+    for index, centre in enumerate(centres[:MOST_NAMED]):
+        yield "<li class='c%d'>%s</li>\n" % (index % COLOURS, escaped(centre))
+    if len(centres) > MOST_NAMED:
+        yield "<li class='more'>and %d more</li>\n" % (len(centres) - MOST_NAMED)
+
+
+def office_parts(books):
+    """The open period comes first."""
+    periods = range(books.open, 0, -1)
+    told = {period: figures(books, period) for period in periods}
+    costs = {period: costs_by(books.rows(period), 1) for period in periods}
+    most, centres = max(one[1] for one in told.values()), sorted(set().union(*costs.values()))
+    yield START % "Office"
+    yield "<header>\n<p>Chargeback</p>\n<h1>Office</h1>\n</header>\n"
+    yield table("office", "Periods", "Period State Records Charged Added Reversed Owed".split())
+    for period in periods:
+        records, *amounts = told[period]
+        yield table_row(period_link(period), books.head(period), records, *map(amount, amounts))
+    yield TABLE_END
+    yield table("bars", "Cost by centre", ("Period", "Cost", "Charged"))
+    for period in periods:
+        bars = "".join(centre_bars(most, costs[period], centres))
+        yield table_row(period_link(period), picture("Period %d by centre" % period, bars), amount(told[period][1]))
+    yield TABLE_END
+    yield "<ul>\n%s</ul>\n" % "".join(legend(centres))
+    yield from links("", [("/" + path, path) for path in OF_ALL])
+
+
+def office_page(books):
+    return "".join(office_parts(books))
+
+
+# ---- The page of a period
+
+def head(books, period):
+    """Its number, whether it is open, and its sums."""
+    _, *amounts = figures(books, period)
+    yield "<header>\n<p><a href='/'>Office</a></p>\n<h1>Period %d</h1>\n<p>%s</p>\n</header>\n<dl>\n" % (
+        period, books.head(period))
+    for name, one in zip(("Charged", "Added", "Reversed", "Owed"), amounts):
+        yield "<div><dt>%s</dt><dd>%s</dd></div>\n" % (name, amount(one))
+    yield "</dl>\n"
+
+
+def row_cells(place, sums):
+    count, cpu, blocks, cost = sums
+    return (*map(escaped, place), count, office.decimals(cpu, 2), blocks, amount(cost))
+
+
+def statement(rows):
+    yield table("statement", "Statement", ("Day", "Centre", "Shift", "Records", "CPU seconds", "Blocks", "Amount"))
+    for place, sums in rows:
+        yield table_row(*row_cells(place, sums))
+    yield FOOT_START + table_row(*row_cells(("Total", "", ""), [sum(sums[at] for _, sums in rows) for at in range(4)]))
+    yield FOOT_END
+
+
+def adjustments(lines):
+    yield table("adjustments", "Adjustments", "Sign Day Centre Shift Amount Record Job".split())
+    for sign, one in lines:
+        yield table_row(office.ACTIONS[sign], one.day, escaped(one.centre), escaped(one.shift), amount(sign * one.amount),
+                        record_link(one.name), escaped(one.job))
+    total = amount(sum(sign * one.amount for sign, one in lines))
+    yield FOOT_START + table_row("Total", "", "", "", total, "", "") + FOOT_END
+
+
+def is_in(books, period, day):
+    """The day is one of the period's."""
+    return books.period_of(day) == period
+
+
+def disputes(books, period):
+    """Those that have a record dated in the period."""
+    yield table("disputes", "Disputes", ("Record", "Day", "Amount", "Completion", "Job id", "Program"))
+    for identity, members in books.disputed():
+        if any(is_in(books, period, one.day) for one in members):
+            line = office.dispute_line(identity) + "\n"
+            yield "<tr><th colspan='6' scope='rowgroup'>%s</th></tr>\n" % escaped(line)
+            for one in members:
+                yield table_row(record_link(one.name), one.day, amount(one.amount), one.code, escaped(one.job_id),
+                                escaped(one.program))
+    yield TABLE_END
+
+
+def period_parts(books, period):
+    rows = books.rows(period)
+    yield START % ("Period %d" % period)
+    yield from head(books, period)
+    yield from bar_table("Cost by day", "Day", costs_by(rows, 0))
+    yield from bar_table("Cost by centre", "Centre", costs_by(rows, 1))
+    yield from statement(rows)
+    yield from adjustments(books.lines(period))
+    yield from disputes(books, period)
+    yield from links("<a href='/'>office</a>\n", [("/%s/%d" % (path, period), path) for path in OF_PERIODS])
+
+
+def period_page(books, period):
+    return "".join(period_parts(books, period))
