@@ -1,5 +1,5 @@
 -- The choices, one after the other.
-use Rattle.std.proofs.Common.{◌≡◌, ◌≤◌, ◌+◌, ◌∙◌, ◌++◌, ◌∷◌, [], ℕ, List, Bool, true, false, Option, Some, None, cond}
+use Rattle.std.proofs.Common.{◌≡◌, ◌<◌, ◌≤◌, ◌+◌, ◌∙◌, ◌++◌, ◌∷◌, [], ℕ, List, Bool, true, false, Option, Some, None, cond}
 use Rattle.std.proofs.Common.{map, length, ap, refl, sym, subst, arith, length-append}
 use Rattle.std.specs.Prelude.{find, reverse}
 use Rattle.std.specs.List.{AllByRecursion}
@@ -46,10 +46,19 @@ last_pushed made one identity =
 
 -- no choices
 pub none_made : (trees : Trees) (rule : IdentityRule) (open_period : ℕ) (chosen : Chosen)
-    → chosen.count ≡ 0 → ((identity : List ℕ) → last_chosen chosen identity ≡ None)
+    → chosen.count ≡ 0 → chosen.since ≡ 1
+    → ((identity : List ℕ) → last_chosen chosen identity ≡ None)
     → AreMade trees rule open_period chosen []
-none_made trees rule open_period chosen none last =
-    record { counted = none; each = tt; begun = tt; since = tt; in_order = tt; last = last }
+none_made trees rule open_period chosen none since last = record {
+  counted = none;
+  each = tt;
+  first = omega (arith, since);
+  numbered = tt;
+  begun = tt;
+  since = tt;
+  in_order = tt;
+  last = last;
+}
 
 -- one choice more
 pub made_pushed : (trees : Trees) (rule : IdentityRule) (open_period : ℕ) (old new : Chosen)
@@ -64,6 +73,8 @@ made_pushed trees rule open_period old new made choice so_far step next count =
     let later : old.since ≤ choice.period = step.later in
     let since : new.since ≡ choice.period = step.since in
     let own : choice.period ≤ new.since = omega (arith, since) in
+    let first : 0 < old.since = so_far.first in
+    let numbered : 0 < choice.period = omega (arith, later, first) in
     let before : AllByRecursion (λ (x : Made). x.1.period ≤ choice.period) made =
     all_weaker (λ (x : Made). x.1.period ≤ old.since) (λ (x : Made). x.1.period ≤ choice.period)
     (λ x less. omega (arith, less, later)) made so_far.since in
@@ -73,6 +84,9 @@ made_pushed trees rule open_period old new made choice so_far step next count =
           (sym (one_more 1 made one choice.number (omega (arith, counted, next))))
           (all-append (IsMade trees rule) (under_numbers 1 made) ((choice.number, one) ∷ [])
           so_far.each (step.made, tt));
+      first = omega (arith, since, numbered);
+      numbered = all-append (λ (x : Made). 0 < x.1.period) made (one ∷ []) so_far.numbered
+          (numbered, tt);
       begun = all-append (λ (x : Made). x.1.period ≤ open_period) made (one ∷ []) so_far.begun
           (step.begun, tt);
       since = all-append (λ (x : Made). x.1.period ≤ new.since) made (one ∷ [])

@@ -4,7 +4,7 @@ use Rattle.std.proofs.lemmas.List.{map-append, take_more}
 use Rattle.book_model.specs.declared.row.ChargeRow.{ChargeRow}
 use Rattle.sqlite_value.specs.Order.{Row}
 use Rattle.tree_tables.specs.Columns.{day_columns}
-use Rattle.book_audit.specs.Days.{due_entry}
+use Rattle.consistent_tables.specs.DueRows.{due_entry}
 
 -- one row more
 pub due_pushed : (closes : List ℤ) (due : List ChargeRow) (i : ℕ) (one : ChargeRow) (row : Row)

@@ -33,17 +33,29 @@ all_pass [] = refl
 all_pass (x ∷ xs) = ap (λ more. x ∷ more) (all_pass xs)
 
 -- the keys of sorted entries rise
-entries_below : {Q : Type 0} (P : Q → Q → Ordering) (q : Q) (es : List (Q × Unit {0}))
-    → T (below_all P q es) → AllByRecursion (λ (e : Q × Unit {0}). P q e.0 ≡ Less) es
+entries_below : {Q V : Type 0} (P : Q → Q → Ordering) (q : Q) (es : List (Q × V))
+    → T (below_all P q es) → AllByRecursion (λ (e : Q × V). P q e.0 ≡ Less) es
 entries_below P q [] below = tt
 entries_below P q (e ∷ es) below =
     (less (P q e.0) (first _ _ below), entries_below P q es (second _ _ below))
 
-pub entries_rise : {Q : Type 0} (P : Q → Q → Ordering) (es : List (Q × Unit {0})) → T (is_sorted P es)
-    → IsAscending (λ (a : Q × Unit {0}) (b : Q × Unit {0}). P a.0 b.0 ≡ Less) es
+pub entries_rise : {Q V : Type 0} (P : Q → Q → Ordering) (es : List (Q × V)) → T (is_sorted P es)
+    → IsAscending (λ (a : Q × V) (b : Q × V). P a.0 b.0 ≡ Less) es
 entries_rise P [] rising = tt
 entries_rise P (e ∷ es) rising =
     (entries_below P e.0 es (first _ _ rising), entries_rise P es (second _ _ rising))
+
+-- an index has as many keys as its map
+pub index_many : {K V Q : Type 0} {R : K → K → Ordering} {P : Q → Q → Ordering} {key : K × V → Q}
+    {name : Q → K} (index : IsIndexKey R P key name) (m : FinMap R V)
+    → length (map (λ (e : Q × Unit {0}). e.0) (entries (index_of {P = P} key m))) ≡ length (entries m)
+index_many {K = K} {V = V} {Q = Q} {P = P} {key = key} index m =
+    let keys : List Q = map (λ (e : Q × Unit {0}). e.0) (entries (index_of {P = P} key m)) in
+    ap length (sym (all_pass keys))
+    ∙ sym (length_permutation (filter (λ (q : Q). true) keys)
+    (map key (filter (λ (e : K × V). true) (entries m)))
+    (index_permutes index (λ (q : Q). true) m))
+    ∙ length-map (filter (λ (e : K × V). true) (entries m)) key ∙ ap length (all_pass (entries m))
 
 module _ {Q : Type 0} {P : Q → Q → Ordering} (layout : Layout Q (Unit {0}) P) where
   -- the rows of keys
@@ -119,13 +131,7 @@ module _ {Q : Type 0} {P : Q → Q → Ordering} (layout : Layout Q (Unit {0}) P
 
     -- there are as many
     as_many : length own_keys ≡ length qs
-    as_many =
-        ap length (sym (all_pass own_keys))
-        ∙ sym (length_permutation (filter (λ (q : Q). true) own_keys)
-        (map key (filter (λ (e : K × V). true) (entries m)))
-        (index_permutes index (λ (q : Q). true) m))
-        ∙ length-map (filter (λ (e : K × V). true) (entries m)) key
-        ∙ ap length (all_pass (entries m)) ∙ sym long
+    as_many = index_many index m ∙ sym long
 
     -- so the rows of the tree are those of the index
     pub index_rows : rows_at qs ≡ rows_of layout (index_of {P = P} key m)

@@ -31,7 +31,7 @@ module _ {K V : Type 0} {R : K → K → Ordering} (layout : Layout K V R) where
       both (is_lt (R k e.0)) (below_all R k es) (subst (λ o. T (is_lt o)) (sym below.0) tt)
       (all_below k es below.1)
 
-  sorted : (es : List (K × V)) → IsAscending (λ (a : K × V) (b : K × V). R a.0 b.0 ≡ Less) es
+  pub sorted : (es : List (K × V)) → IsAscending (λ (a : K × V) (b : K × V). R a.0 b.0 ≡ Less) es
       → T (is_sorted R es)
   sorted [] up = tt
   sorted (e ∷ es) up =
@@ -39,7 +39,7 @@ module _ {K V : Type 0} {R : K → K → Ordering} (layout : Layout K V R) where
 
   module _ (tree : Tree) (wide : (k : K) → length (layout.key k) ≡ key_width tree) where
     -- the key of an entry's row
-    own_key : (e : K × V) → key_in tree (row_of layout e) ≡ layout.key e.0
+    pub own_key : (e : K × V) → key_in tree (row_of layout e) ≡ layout.key e.0
     own_key e =
         ap (λ n. take n (row_of layout e)) (sym (wide e.0))
         ∙ take_own (layout.key e.0) (layout.rest e.1)

@@ -1,11 +1,14 @@
 -- The rows of tariffs, one after the other.
-use Rattle.std.proofs.Common.{◌≡◌, ◌∙◌, ◌++◌, ◌∷◌, [], ℕ, ℤ, List, Option, Some, Ok, map, ap, refl, sym}
+use Rattle.std.proofs.Common.{◌≡◌, ◌∙◌, ◌++◌, ◌∷◌, [], ℕ, ℤ, List, Option, Some, Ok, map, ap, refl, subst, sym}
+use Rattle.std.specs.Str.{IsUtf8}
 use Rattle.std.proofs.lemmas.List.{map-append}
+use Rattle.std.proofs.lemmas.Option.{same_Some}
 use Rattle.sqlite_value.specs.Order.{Row}
 use Rattle.book_model.specs.Words.{AcceptedTerms, IsDay, Terms, terms_in}
 use Rattle.table_model.specs.Readable.{IsTexted}
 use Rattle.table_model.specs.TablesOf.{tariff_entries}
 use Rattle.tree_tables.specs.Columns.{tariff_columns}
+use Rattle.book_audit.specs.Rulings.{IsOfCharacters}
 
 -- a tariff with its text
 abbrev pub texted : List ℕ → Terms → AcceptedTerms
@@ -14,6 +17,10 @@ texted text terms = record { text = Some text; terms = terms }
 pub is_texted : (text : List ℕ) (terms : Terms) → terms_in text ≡ Ok terms → IsDay terms.effective
     → IsTexted (texted text terms)
 is_texted text terms said day = record { text = text; is = refl; said = said; day = day }
+
+pub of_characters : (text : List ℕ) (terms : Terms) → IsUtf8 text
+    → IsOfCharacters (texted text terms)
+of_characters text terms utf8 other is = subst IsUtf8 (same_Some text other is) utf8
 
 -- one row more
 pub tariff_pushed : (accepted : List AcceptedTerms) (text : List ℕ) (day : ℤ) (terms : Terms) (row : Row)

@@ -1,6 +1,6 @@
 -- Sound trees hold tables: those of their rows.
 use Rattle.std.proofs.Common.{◌≡◌, ◌∙◌, ◌∷◌, [], ℕ, zero, suc, ℤ, pos, List, Bool, true, false, Option, Some, None}
-use Rattle.std.proofs.Common.{Result, Ok, Err, IfOk, map, length, take, cond, ap, ap₂, refl, subst, sym, ◌⊎◌, inl, inr, arith, is_some}
+use Rattle.std.proofs.Common.{map, length, take, cond, ap, ap₂, refl, subst, sym, ◌⊎◌, inl, inr, arith, is_some}
 use Rattle.std.specs.FinMap.{FinMap, contains_key, entries, entries_sorted, find, from_entries, get}
 use Rattle.std.specs.FinMap.{get-entries, get-from_entries}
 use Rattle.std.specs.Cmp.Lexicographic.{nat_list_cmp_total}
@@ -50,15 +50,13 @@ use Rattle.tree_tables.proofs.Layouts.{tariff_layout}
 use Rattle.tree_tables.proofs.RecordIndexes.{identity_named, mark_named}
 use Rattle.tree_tables.proofs.RowsRead.{same_blob, same_count, same_int, same_text}
 use Rattle.book_audit.specs.ChoiceRows.{IsMade, Made, said}
-use Rattle.book_audit.specs.Days.{due_entry}
+use Rattle.consistent_tables.specs.DueRows.{due_entry}
 use Rattle.book_audit.specs.Details.{ShowsCounted}
 use Rattle.book_audit.specs.Entries.{IsEntry}
 use Rattle.book_audit.specs.Records.{IsRight, Told, counted_prices}
 use Rattle.book_audit.specs.SoundTrees.{AreSound}
 use Rattle.book_audit.specs.Trees.{HasKey}
 use Rattle.book_audit.specs.Walks.{AreRising, AreWide, key_in}
-use Rattle.book_audit.specs.declared.audited.Audited.{Audited}
-use Rattle.book_audit.specs.declared.audited.Audited.TheVariants.{Sound}
 use Rattle.book_audit.specs.declared.audited.Counts.{Counts as Numbers}
 use Rattle.book_audit.specs.declared.finding.Tree.TheVariants.{ChoiceNames, Days, Details, Identities}
 use Rattle.book_audit.specs.declared.finding.Tree.TheVariants.{Lines, Marks, Records, Tariffs}
@@ -107,7 +105,7 @@ choice_names_in (row ∷ rows) each wide =
 
 -- ---- values under numbers
 
-long_numbers : {V : Type 0} (n : ℕ) (vs : List V) → length (under_numbers n vs) ≡ length vs
+pub long_numbers : {V : Type 0} (n : ℕ) (vs : List V) → length (under_numbers n vs) ≡ length vs
 long_numbers n [] = refl
 long_numbers n (v ∷ vs) = ap suc (long_numbers (suc n) vs)
 
@@ -132,7 +130,7 @@ all_placed closes (row ∷ rows) = (refl, all_placed closes rows)
 -- ---- details
 
 -- rows whose first columns rise rise
-first_less : (n : ℕ) (a b : Row) → row_cmp (take n a) (take n b) ≡ Less → row_cmp a b ≡ Less
+pub first_less : (n : ℕ) (a b : Row) → row_cmp (take n a) (take n b) ≡ Less → row_cmp a b ≡ Less
 first_less zero a b less = absurd (let e = less in cc)
 first_less (suc n) [] [] less = absurd (let e = less in cc)
 first_less (suc n) [] (y ∷ b) less = refl
@@ -162,7 +160,7 @@ same_shown name one other same =
     λ i. detail_with name (record_with (bytes i)) (price i)
 
 -- a key that is found is one of those
-one_found : {Q : Type 0} (P : Q → Q → Ordering) → ((x y : Q) → P x y ≡ Equal → x ≡ y) → (q : Q)
+pub one_found : {Q : Type 0} (P : Q → Q → Ordering) → ((x y : Q) → P x y ≡ Equal → x ≡ y) → (q : Q)
     (es : List (Q × Unit {0})) → find P q es ≡ Some tt
     → IsOneOf q (map (λ (e : Q × Unit {0}). e.0) es)
 one_found {Q = Q} P exact q [] there = absurd (let e = there in cc)
@@ -175,7 +173,7 @@ one_found {Q = Q} P exact q (e ∷ es) there =
     ] refl there
 
 -- what holds of all elements holds of one of them
-of_one : {X : Type 0} (G : X → Type 0) (xs : List X) → AllByRecursion G xs → (x : X) → IsOneOf x xs → G x
+pub of_one : {X : Type 0} (G : X → Type 0) (xs : List X) → AllByRecursion G xs → (x : X) → IsOneOf x xs → G x
 of_one G [] each x one = absurd one
 of_one G (y ∷ xs) each x (inl is) = subst G (sym is) each.0
 of_one G (y ∷ xs) each x (inr later) = of_one G xs each.1 x later
@@ -188,11 +186,11 @@ each_is_one all (x ∷ xs) among =
     (among x (inl refl), each_is_one all xs (λ y later. among y (inr later)))
 
 -- the names in details
-abbrev names_shown : List Detail → List (List ℕ × Unit {0})
+abbrev pub names_shown : List Detail → List (List ℕ × Unit {0})
 names_shown shown = map (λ (d : Detail). (d.name, tt)) shown
 
 -- a name that is found there is that of one
-name_shown : (name : List ℕ) (shown : List Detail) → find by_bytes name (names_shown shown) ≡ Some tt
+pub name_shown : (name : List ℕ) (shown : List Detail) → find by_bytes name (names_shown shown) ≡ Some tt
     → (d : Detail) × IsOneOf d shown × (d.name ≡ name)
 name_shown name [] there = absurd (let e = there in cc)
 name_shown name (d ∷ shown) there =
@@ -205,7 +203,7 @@ name_shown name (d ∷ shown) there =
     ] refl there
 
 -- and the name of each is found
-shown_name : (shown : List Detail) (d : Detail) → IsOneOf d shown
+pub shown_name : (shown : List Detail) (d : Detail) → IsOneOf d shown
     → find by_bytes d.name (names_shown shown) ≡ Some tt
 shown_name [] d one = absurd one
 shown_name (e ∷ shown) d (inl is) =
@@ -221,12 +219,12 @@ shown_name (e ∷ shown) d (inr later) =
     either false = refl
 
 -- what is there only where a test is passed
-both_there : (b : Bool) (found : Option RecordRow) (row : RecordRow) → cond b found None ≡ Some row
+pub both_there : (b : Bool) (found : Option RecordRow) (row : RecordRow) → cond b found None ≡ Some row
     → (b ≡ true) × (found ≡ Some row)
 both_there true found row is = (refl, is)
 both_there false found row is = absurd (let e = is in cc)
 
-some_unit : (found : Option (Unit {0})) → is_some found ≡ true → found ≡ Some tt
+pub some_unit : (found : Option (Unit {0})) → is_some found ≡ true → found ≡ Some tt
 some_unit None is = absurd (let e = is in cc)
 some_unit (Some it) is = refl
 
@@ -234,13 +232,13 @@ some_same : (one other : RecordRow) → Some one ≡ Some other → one ≡ othe
 some_same one other same = cc
 
 -- the row of what is shown
-abbrev shown_row : Detail → Row
+abbrev pub shown_row : Detail → Row
 shown_row one = detail_columns (one, tt)
 
 -- ---- the tables
 
 module _ (trees : Trees) (numbers : Numbers) (sound : AreSound trees numbers) where
-  abbrev told_all : List Told
+  abbrev pub told_all : List Told
   told_all = sound.records.entries
 
   abbrev es : List (List ℕ × RecordRow)
@@ -253,12 +251,12 @@ module _ (trees : Trees) (numbers : Numbers) (sound : AreSound trees numbers) wh
   abbrev records : RecordTable
   records = from_entries es
 
-  records_in_order : entries records ≡ es
+  pub records_in_order : entries records ≡ map (λ (told : Told). told.0) told_all
   records_in_order =
       entries_kept record_layout Records (λ k. refl) es
       (subst (AreRising Records) records_are sound.records.rising)
 
-  right_of : (name : List ℕ) (row : RecordRow) → get records name ≡ Some row
+  pub right_of : (name : List ℕ) (row : RecordRow) → get records name ≡ Some row
       → IsRight trees sound.rulings (name, row)
   right_of name row there =
       of_found record_layout (IsRight trees sound.rulings) es
@@ -266,12 +264,12 @@ module _ (trees : Trees) (numbers : Numbers) (sound : AreSound trees numbers) wh
       sound.records.are.right) name row
       (sym (get-from_entries record_layout.total es name) ∙ there)
 
-  so_many : numbers.records ≡ length (entries records)
+  pub so_many : numbers.records ≡ length (entries records)
   so_many =
       sound.records.are.counted ∙ sym (length-map told_all (λ (told : Told). told.0))
       ∙ ap length (sym records_in_order)
 
-  identity_rows : trees 6 ≡ rows_of identity_layout (identity_index records)
+  pub identity_rows : trees 6 ≡ rows_of identity_layout (identity_index records)
   identity_rows =
       let keys = identities_in (trees 6) sound.identities.each sound.identities.wide in
       keys.1
@@ -293,7 +291,7 @@ module _ (trees : Trees) (numbers : Numbers) (sound : AreSound trees numbers) wh
       (sym (length-map keys.0 (λ (q : ℕ × (List ℕ × List ℕ)). row_of mark_layout (q, tt)))
       ∙ sym (ap length keys.1) ∙ sym sound.marks.are ∙ so_many)
 
-  abbrev made : List Made
+  abbrev pub made : List Made
   made = sound.ruled.choices.made
 
   abbrev choices : ChoiceTable
@@ -323,7 +321,7 @@ module _ (trees : Trees) (numbers : Numbers) (sound : AreSound trees numbers) wh
       ∙ ap length (sym choices_in_order))
 
   -- the charge rows
-  abbrev due : List ((ℕ × RowKey) × ChargeRow)
+  abbrev pub due : List ((ℕ × RowKey) × ChargeRow)
   due = map (due_entry sound.rulings.closes.items) (charge_rows (counted_prices told_all))
 
   abbrev days : DayTable
@@ -336,7 +334,7 @@ module _ (trees : Trees) (numbers : Numbers) (sound : AreSound trees numbers) wh
       (sym (get-from_entries day_layout.total due key) ∙ there)
 
   -- the details
-  abbrev shown : List Detail
+  abbrev pub shown : List Detail
   shown = sound.details.shown
 
   abbrev counted : CountedTable
@@ -352,7 +350,7 @@ module _ (trees : Trees) (numbers : Numbers) (sound : AreSound trees numbers) wh
       shown_row shown (subst (AreRising Details) sound.details.are sound.details.rising))
 
   -- what is shown of a name is what its record's row says
-  is_shown : (d : Detail) → IsOneOf d shown
+  pub is_shown : (d : Detail) → IsOneOf d shown
       → (row : RecordRow) × (get records d.name ≡ Some row) × (d ≡ detail_shown (d.name, row))
   is_shown d one =
       let shows = of_one (ShowsCounted trees sound.rulings.closes.items) shown sound.details.each d one in
@@ -437,33 +435,22 @@ module _ (trees : Trees) (numbers : Numbers) (sound : AreSound trees numbers) wh
     counted = counted;
   }
 
-  pub trees_hold : (tables : Tables) × Holds trees tables
-  trees_hold = (
-    tables_held,
-    record {
-      book = sound.ruled.book.one ∙ ap (λ (r : Row). r ∷ []) sound.ruled.book.is.are;
-      tariffs = rows_kept tariff_layout Tariffs (λ k. refl)
-          (tariff_entries sound.ruled.tariffs.accepted) sound.ruled.tariffs.are
-          sound.ruled.tariffs.rising;
-      closes = sound.ruled.closes.are
-          ∙ ap (map closed_columns) (sym (entries-numbers sound.rulings.closes.items));
-      records = rows_kept record_layout Records (λ k. refl) es records_are sound.records.rising;
-      days = rows_kept day_layout Days (λ k. refl) due sound.days sound.rising;
-      placed = placed;
-      lines = rows_kept line_layout Lines (λ k. refl) sound.lines.lines sound.lines.are
-          sound.lines.rising;
-      identity_index = identity_rows;
-      marks = mark_rows;
-      choices = sound.ruled.choices.rows ∙ ap (map choice_columns) (sym choices_in_order);
-      choice_name_index = choice_name_rows;
-      details = detail_rows;
-    },
-  )
-
--- what is said of an answer where it is SOUND
-pub held_of : {E : Type 0} (trees : Trees) (Clean : Type 0) (answer : Result Audited E)
-    → IfOk answer (λ audited. (counts : Numbers) → audited ≡ Sound counts → Clean → AreSound trees counts)
-    → IfOk answer (λ audited. (counts : Numbers) → audited ≡ Sound counts → Clean
-    → (tables : Tables) × Holds trees tables)
-held_of trees Clean (Ok audited) sound = λ counts is clean. trees_hold trees counts (sound counts is clean)
-held_of trees Clean (Err fault) sound = tt
+  pub trees_hold : Holds trees tables_held
+  trees_hold = record {
+    book = sound.ruled.book.one ∙ ap (λ (r : Row). r ∷ []) sound.ruled.book.is.are;
+    tariffs = rows_kept tariff_layout Tariffs (λ k. refl)
+        (tariff_entries sound.ruled.tariffs.accepted) sound.ruled.tariffs.are
+        sound.ruled.tariffs.rising;
+    closes = sound.ruled.closes.are
+        ∙ ap (map closed_columns) (sym (entries-numbers sound.rulings.closes.items));
+    records = rows_kept record_layout Records (λ k. refl) es records_are sound.records.rising;
+    days = rows_kept day_layout Days (λ k. refl) due sound.days sound.rising;
+    placed = placed;
+    lines = rows_kept line_layout Lines (λ k. refl) sound.lines.lines sound.lines.are
+        sound.lines.rising;
+    identity_index = identity_rows;
+    marks = mark_rows;
+    choices = sound.ruled.choices.rows ∙ ap (map choice_columns) (sym choices_in_order);
+    choice_name_index = choice_name_rows;
+    details = detail_rows;
+  }

@@ -51,7 +51,7 @@ some ChoiceNames = omega arith
 some Details = omega arith
 
 -- over a key of so many columns, a row compares by its first columns
-prefix_is : (n : ℕ) (row key : Row) → n ≤ length row → length key ≡ n
+pub prefix_is : (n : ℕ) (row key : Row) → n ≤ length row → length key ≡ n
     → prefix_cmp plain row key ≡ row_cmp (take n row) key
 prefix_is n row key long same =
     ap (λ r. prefix_cmp plain r key) (sym (take-append-drop n row))
@@ -95,7 +95,7 @@ behind tree (e ∷ next ∷ done) row rising last =
     (row_cmp_total.trans (key_in tree e) (key_in tree next) (key_in tree row) rising.0.0 later.0, later)
 
 -- the last key has so many columns
-last_long : (tree : Tree) (done : List Row) → AreWide tree done → done ≢ []
+pub last_long : (tree : Tree) (done : List Row) → AreWide tree done → done ≢ []
     → length (last_key tree done) ≡ key_width tree
 last_long tree [] wide some = absurd (some refl)
 last_long tree (row ∷ []) wide some =

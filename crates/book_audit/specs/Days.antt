@@ -1,6 +1,5 @@
 -- The charge rows that are due.
 use Rattle.std.specs.Prelude.{◌+◌, ℕ, ℤ, Bool, true, not, List, None, int_lt, map}
-use Rattle.std.specs.Prelude.{if◌then◌else◌, [], ◌∷◌}
 use Rattle.std.specs.List.{last_or}
 use Rattle.std.specs.Option.{option_map_or}
 use Rattle.tariff_rules.specs.declared.priced.Priced.{Priced}
@@ -24,20 +23,9 @@ with_price row one = record row {
   amount = row.amount + one.amount;
 }
 
--- the period of a day, where this is the number of the first: that of the first close through it
--- or a later day
-abbrev pub period_from : ℕ → List ℤ → ℤ → ℕ
-period_from number [] day = number
-period_from number (through ∷ later) day =
-    if int_lt through day then period_from (number + 1) later day else number
-
 -- a day is not after the last close
 abbrev pub is_closed : List ℤ → ℤ → Bool
 is_closed closes day = not (option_map_or (λ last. int_lt last day) (last_or None closes) true)
-
--- a row in the period of its day
-abbrev pub due_entry : List ℤ → ChargeRow → (ℕ × RowKey) × ChargeRow
-due_entry closes row = ((period_from 1 closes row.day, row_key row), row)
 
 -- a row as it was read
 abbrev pub entry_of : DayRow → (ℕ × RowKey) × ChargeRow

@@ -3,6 +3,7 @@ use Rattle.std.specs.Prelude.{◌≡◌, ◌+◌, ◌∷◌, [], ℕ, ℤ, All, 
 use Rattle.std.specs.List.{AllByRecursion, last_or}
 use Rattle.std.specs.List.Sorted.{IsStrictlySortedBy}
 use Rattle.std.specs.Option.{option_map_or}
+use Rattle.std.specs.Str.{IsUtf8}
 use Rattle.std.specs.Ordering.{int_cmp}
 use Rattle.sqlite_value.specs.Order.{Row}
 use Rattle.book_model.specs.Words.{AcceptedTerms, IsDay, Terms}
@@ -45,11 +46,16 @@ pub record HasOneRow (rows : List Row) (book : BookRow) : Type 0 where
   pub one : rows ≡ row ∷ []
   pub is : IsBookRow row book
 
--- The rows are those of tariffs, each with a text that says its terms, under its first day, in the
--- order of the days.
+-- the text of a tariff, if it came with one, is one of characters
+abbrev pub IsOfCharacters : AcceptedTerms → Type 0
+IsOfCharacters tariff = (text : List ℕ) → tariff.text ≡ Some text → IsUtf8 text
+
+-- The rows are those of tariffs, each with a text of characters that says its terms, under its first
+-- day, in the order of the days.
 pub record AreTariffs (rows : List Row) (tariffs : List Terms) : Type 0 where
   pub accepted : List AcceptedTerms
   pub are : rows ≡ map tariff_columns (tariff_entries accepted)
   pub terms : map (λ tariff. tariff.terms) accepted ≡ tariffs
   pub texts : AllByRecursion IsTexted accepted
+  pub characters : AllByRecursion IsOfCharacters accepted
   pub rising : AreRising Tariffs rows

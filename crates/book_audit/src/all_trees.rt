@@ -1,21 +1,23 @@
 //! All trees of books.
 
-ghost use Rattle.std.specs.Prelude.{◌≡◌, IfOk, OnOk};
-ghost use Rattle.table_model.specs.Tables.{Tables};
+ghost use Rattle.std.specs.Prelude.{◌≡◌, IfErr, IfOk, OnOk};
+ghost use Rattle.sqlite_disk.specs.Disk.{MoreFaults};
 ghost use Rattle.sqlite_trees.specs.View.{IsClean};
 ghost use Rattle.tree_rows.specs.Calls.{CommitsNothing, OnlyLooks};
 ghost use Rattle.tree_rows.specs.Rows.{IsUnchanged};
-ghost use Rattle.tree_tables.specs.Holds.{HasShapes, Holds};
+ghost use Rattle.tree_tables.specs.Holds.{HasShapes};
+ghost use Rattle.book_audit.specs.OfBook.{AreOfBook, sha_names};
+ghost use Rattle.book_audit.specs.Own.{AreOwn, IsOwnStop};
+ghost use Rattle.book_audit.specs.declared.finding.Finding.{Finding};
 ghost use Rattle.book_audit.specs.SoundTrees.{AreSound};
 
 use crate::audited::{Audited, Counts};
 use crate::day_sums::{Places, check_rows};
 use crate::details::check_details;
-use crate::finding::{Place, Tree, Wrong};
 use crate::lines::check_lines;
 use crate::records::check_records;
 use crate::ruled::read_rulings;
-use crate::stop::{Stop, unsound};
+use crate::stop::Stop;
 use crate::trees::Trees;
 use crate::watch::Watch;
 use book_model::LedgerFault;
@@ -30,8 +32,9 @@ fn read_trees<S: Store, W: Watch>(
 ) -> Result<Counts, Stop>
     ensures sound { IfOk result (λ counts. IsClean (S.Store.view trees.new.store)
         → AreSound (S.Store.view trees.old.store).trees counts) }
-    ensures held { OnOk result (IsClean (S.Store.view trees.new.store)
-        → (tables : Tables) × Holds (S.Store.view trees.old.store).trees tables) }
+    ensures book { IfOk result (λ counts. IsClean (S.Store.view trees.new.store)
+        → AreOfBook sha_names (S.Store.view trees.old.store).trees counts) }
+    ensures own { IfErr result (IsOwnStop S.Store trees.old.store trees.new.store) }
     ensures same { OnOk result (OnlyLooks S.Store trees.old.store trees.new.store) }
     ensures quiet { CommitsNothing S.Store trees.old.store trees.new.store }
 {
@@ -39,9 +42,6 @@ fn read_trees<S: Store, W: Watch>(
     let mut places = Places::new(alloc);
     let held = check_records(alloc, trees, &rulings, &mut places, watch)?;
     let lines = check_lines(alloc, trees, &rulings, watch)?;
-    if lines != held.lines {
-        return Err(unsound(Place::Tree(Tree::Lines), Wrong::Entries));
-    }
     let rows = check_rows(alloc, trees, &rulings, places, watch)?;
     check_details(alloc, trees, &rulings, watch)?;
     Ok(Counts {
@@ -62,11 +62,13 @@ pub fn audit_trees<S: Store, W: Watch>(
     watch: &mut W,
 ) -> (Result<Audited, LedgerFault>, S)
     requires { IsClean (S.Store.view store) → HasShapes (S.Store.view store) }
-    ensures sound { IfOk result.0 (λ audited. (counts : Counts) → audited ≡ Audited.Sound counts
-        → IsClean (S.Store.view result.1) → AreSound (S.Store.view store).trees counts) }
-    ensures held { IfOk result.0 (λ audited. (counts : Counts) → audited ≡ Audited.Sound counts
+    ensures book { IfOk result.0 (λ audited. (counts : Counts) → audited ≡ Audited.Sound counts
         → IsClean (S.Store.view result.1)
-        → (tables : Tables) × Holds (S.Store.view store).trees tables) }
+        → AreOfBook sha_names (S.Store.view store).trees counts) }
+    ensures own { IfOk result.0 (λ audited. (finding : Finding)
+        → audited ≡ Audited.Unsound finding → IsClean (S.Store.view result.1)
+        → AreOwn (S.Store.view store).trees
+        → MoreFaults (S.Store.faults store) (S.Store.faults result.1)) }
     ensures same { IfOk result.0 (λ audited. (counts : Counts) → audited ≡ Audited.Sound counts
         → IsClean (S.Store.view result.1)
         → IsUnchanged (S.Store.view store) (S.Store.view result.1)) }

@@ -1,11 +1,14 @@
 //! The choices: which record was chosen last of each identity.
 
-ghost use Rattle.std.specs.Prelude.{◌≡◌, ◌≤◌, ◌+◌, ◌||◌, IfOk, None, OnOk, length};
+ghost use Rattle.std.specs.Prelude.{◌≡◌, ◌≤◌, ◌+◌, ◌||◌, IfErr, IfOk, None, OnOk, length};
 ghost use Rattle.sqlite_trees.specs.View.{IsClean};
 ghost use Rattle.tree_rows.specs.Calls.{CommitsNothing, OnlyLooks};
 ghost use Rattle.tree_tables.specs.Columns.{choice_columns};
+ghost use Rattle.tree_tables.specs.Fits.{ChoiceFits};
 ghost use Rattle.book_audit.specs.ChoiceRows.{AreChoices, Chooses, IsChosenAmong, entry_of, row_of};
 ghost use Rattle.book_audit.specs.Entries.{AreCounted};
+ghost use Rattle.book_audit.specs.Own.{AreOwn, IsOwnStop};
+ghost use Rattle.book_audit.specs.OwnChoices.{AreItsRulings, IsChoiceIn, IsNextIn};
 
 use crate::entry_counts::check_entries;
 use crate::finding::{Place, Tree, Wrong};
@@ -38,6 +41,7 @@ pub(crate) struct Choice {
 fn choice_in(row: &Row) -> Result<Choice, StoreError>
     requires { length row.now ≡ 3 }
     ensures read { IfOk result (λ choice. row.now ≡ choice_columns (entry_of choice)) }
+    ensures taken { IfErr result (λ error. ¬ ChoiceFits row.now) }
 {
     Ok(Choice {
         number: number_at(row, 0)?,
@@ -58,7 +62,7 @@ pub(crate) struct Chosen {
 }
 
 impl Chosen {
-    ghost use Rattle.std.specs.Prelude.{◌≡◌, ℕ, List, None, OnOk, Some, if◌then◌else◌};
+    ghost use Rattle.std.specs.Prelude.{◌≡◌, ℕ, IfSome, List, None, OnOk, Some, if◌then◌else◌};
     ghost use Rattle.book_model.specs.Words.{same_bytes};
     ghost use Rattle.book_audit.specs.Choices.{is_last, last_chosen};
 
@@ -66,6 +70,7 @@ impl Chosen {
     fn new(alloc: Global) -> Chosen
         ensures none { (identity : List ℕ) → last_chosen result identity ≡ None }
         ensures count { result.count ≡ 0 }
+        ensures since { result.since ≡ 1 }
     {
         Chosen {
             count: 0,
@@ -79,6 +84,8 @@ impl Chosen {
         ensures number { result ≡ None → choice.now.number ≡ self.now.count + 1 }
         ensures since { result ≡ None → self.now.since ≤ choice.now.period }
         ensures open { result ≡ None → choice.now.period ≤ open_period }
+        ensures wrong { IfSome result (λ wrong. choice.now.number ≡ self.now.count + 1
+            → self.now.since ≤ choice.now.period → choice.now.period ≤ open_period → ⊥) }
     {
         if choice.number == 0 || choice.number - 1 != self.count {
             return Some(Wrong::ChoiceNumber);
@@ -133,6 +140,10 @@ fn chosen_identity<S: Store>(
     ensures among { IfOk result (λ identity. IsClean (S.Store.view trees.new.store)
         → IsChosenAmong (S.Store.view trees.old.store).trees rule (row_of choice.now)
         identity.items) }
+    ensures own { IfErr result (λ stop. (IsClean (S.Store.view trees.old.store)
+        → (own : AreOwn (S.Store.view trees.old.store).trees)
+        → IsChoiceIn own.book rule choice.now)
+        → IsOwnStop S.Store trees.old.store trees.new.store stop) }
     ensures same { OnOk result (OnlyLooks S.Store trees.old.store trees.new.store) }
     ensures quiet { CommitsNothing S.Store trees.old.store trees.new.store }
 {
@@ -166,6 +177,10 @@ fn check_choice<S: Store>(
     ensures chooses { OnOk result (IsClean (S.Store.view trees.new.store)
         → Chooses (S.Store.view trees.old.store).trees rule open_period chosen.old chosen.new
         choice.now) }
+    ensures own { IfErr result (λ stop. (IsClean (S.Store.view trees.old.store)
+        → (own : AreOwn (S.Store.view trees.old.store).trees)
+        → IsNextIn own.book rule open_period chosen.old choice.now)
+        → IsOwnStop S.Store trees.old.store trees.new.store stop) }
     ensures same { OnOk result (OnlyLooks S.Store trees.old.store trees.new.store) }
     ensures quiet { CommitsNothing S.Store trees.old.store trees.new.store }
 {
@@ -198,6 +213,10 @@ pub(crate) fn read_choices<S: Store, W: Watch>(
         → AreChoices (S.Store.view trees.old.store).trees rule open_period chosen) }
     ensures names { IfOk result (λ chosen. IsClean (S.Store.view trees.new.store)
         → AreCounted Tree.ChoiceNames ((S.Store.view trees.old.store).trees 9) chosen.count) }
+    ensures own { IfErr result (λ stop. (IsClean (S.Store.view trees.old.store)
+        → (own : AreOwn (S.Store.view trees.old.store).trees)
+        → AreItsRulings rule open_period own.book)
+        → IsOwnStop S.Store trees.old.store trees.new.store stop) }
     ensures same { OnOk result (OnlyLooks S.Store trees.old.store trees.new.store) }
     ensures quiet { CommitsNothing S.Store trees.old.store trees.new.store }
 {

@@ -1,13 +1,18 @@
 //! The sums of records by their places, against the charge rows.
 
-ghost use Rattle.std.specs.Prelude.{◌≡◌, [], IfOk, IfSome, List, OnOk, length, map, true};
+ghost use Rattle.std.specs.Prelude.{◌≡◌, ◌≢◌, ◌<◌, ◌+◌, ◌^◌, [], IfErr, IfOk, IfSome, List, None};
+ghost use Rattle.std.specs.Prelude.{OnOk, false, length, map, true};
 ghost use Rattle.sqlite_trees.specs.View.{IsClean};
+ghost use Rattle.sqlite_value.specs.Order.{column};
 ghost use Rattle.tariff_rules.specs.declared.priced.Priced.{Priced as Price};
 ghost use Rattle.book_model.specs.Rows.{key_of};
 ghost use Rattle.book_model.specs.Words.{row_at, rows_of};
 ghost use Rattle.tree_rows.specs.Calls.{CommitsNothing, OnlyLooks};
 ghost use Rattle.tree_tables.specs.Columns.{day_columns};
-ghost use Rattle.book_audit.specs.Days.{due_entry, entry_of, keyed_rows, with_price};
+ghost use Rattle.tree_tables.specs.Fits.{ChargeFits, HasPeriod};
+ghost use Rattle.consistent_tables.specs.DueRows.{due_entry};
+ghost use Rattle.book_audit.specs.Days.{entry_of, keyed_rows, with_price};
+ghost use Rattle.book_audit.specs.Own.{IsOwnStop};
 ghost use Rattle.book_audit.specs.Walks.{AreRising};
 
 use crate::finding::{Place, Tree, Wrong};
@@ -60,7 +65,10 @@ fn empty_row(place: RowKey) -> ChargeRow
 
 /// A row with one more record, where its sums fit 64 bits.
 fn row_with(row: &ChargeRow, priced: &Priced) -> Option<ChargeRow>
-    ensures { IfSome result (λ more. more ≡ with_price row.now priced.now) }
+    ensures value { IfSome result (λ more. more ≡ with_price row.now priced.now) }
+    ensures large { result ≡ None → row.now.count + 1 < 2 ^ 64
+        → row.now.cpu + priced.now.cpu < 2 ^ 64 → row.now.blocks + priced.now.excp < 2 ^ 64
+        → ¬ (row.now.amount + priced.now.amount < 2 ^ 64) }
 {
     Some(ChargeRow {
         day: row.day,
@@ -80,10 +88,11 @@ pub(crate) struct Places {
 }
 
 impl Places {
-    ghost use Rattle.std.specs.Prelude.{◌≡◌, ◌++◌, ◌∷◌, [], IfOk, List, true};
+    ghost use Rattle.std.specs.Prelude.{◌≡◌, ◌++◌, ◌∷◌, [], IfOk, List, false, true};
     ghost use Rattle.book_model.specs.Words.{rows_of};
     ghost use Rattle.tariff_rules.specs.declared.priced.Priced.{Priced as Price};
     ghost use Rattle.book_audit.specs.Days.{keyed_rows};
+    ghost use Rattle.book_audit.specs.OwnRecords.{CanBeCounted};
 
     /// For no records.
     pub(crate) fn new(alloc: Global) -> Places
@@ -96,9 +105,12 @@ impl Places {
 
     /// A record is counted at its place, or answers that the sums there do not fit 64 bits.
     pub(crate) fn count(&mut self, priced: &Priced) -> Result<bool, AllocError>
-        ensures { IfOk result (λ fits. fits ≡ true → (prices : List Price)
+        ensures counts { IfOk result (λ fits. fits ≡ true → (prices : List Price)
             → self.old.rows.entries ≡ keyed_rows prices
             → self.new.rows.entries ≡ keyed_rows (prices ++ priced.now ∷ [])) }
+        ensures large { IfOk result (λ fits. fits ≡ false → (prices : List Price)
+            → self.old.rows.entries ≡ keyed_rows prices
+            → ¬ CanBeCounted (prices ++ priced.now ∷ [])) }
     {
         let place = place_of(priced);
         let row = self.rows.entry(place)?.or_insert(empty_row(place));
@@ -122,6 +134,7 @@ impl Places {
 fn row_in(row: &Row) -> Result<DayRow, StoreError>
     requires { length row.now ≡ 8 }
     ensures read { IfOk result (λ it. row.now ≡ day_columns (entry_of it)) }
+    ensures taken { IfErr result (λ error. HasPeriod (column row.now 0) → ¬ ChargeFits row.now) }
 {
     Ok(DayRow {
         period: period_at(row, 0)?,
@@ -176,7 +189,9 @@ fn wrong_with(rulings: &Rulings, row: &DayRow, due: Option<&ChargeRow>) -> Stop 
 
 /// Whether the charge row is this one, in the period of its day.
 fn is_due(rulings: &Rulings, row: &DayRow, due: &ChargeRow) -> bool
-    ensures { result ≡ true → entry_of row.now ≡ due_entry rulings.now.closes.items due.now }
+    ensures same { result ≡ true → entry_of row.now ≡ due_entry rulings.now.closes.items due.now }
+    ensures other { result ≡ false
+        → entry_of row.now ≢ due_entry rulings.now.closes.items due.now }
 {
     row.period == rulings.period_of(due.day) && row.sums == *due
 }
@@ -195,6 +210,10 @@ fn read_rows<S: Store, W: Watch>(
         ≡ map day_columns (map (due_entry rulings.now.closes.items) due.now)) }
     ensures rising { OnOk result (IsClean (S.Store.view trees.new.store)
         → AreRising Tree.Days ((S.Store.view trees.old.store).trees 4)) }
+    ensures own { IfErr result (λ stop. (IsClean (S.Store.view trees.old.store)
+        → (S.Store.view trees.old.store).trees 4
+        ≡ map day_columns (map (due_entry rulings.now.closes.items) due.now))
+        → IsOwnStop S.Store trees.old.store trees.new.store stop) }
     ensures same { OnOk result (OnlyLooks S.Store trees.old.store trees.new.store) }
     ensures quiet { CommitsNothing S.Store trees.old.store trees.new.store }
 {
@@ -234,6 +253,11 @@ pub(crate) fn check_rows<S: Store, W: Watch>(
         ≡ map day_columns (map (due_entry rulings.now.closes.items) (rows_of prices))) }
     ensures rising { OnOk result (IsClean (S.Store.view trees.new.store)
         → AreRising Tree.Days ((S.Store.view trees.old.store).trees 4)) }
+    ensures own { IfErr result (λ stop. (prices : List Price)
+        → places.rows.entries ≡ keyed_rows prices → (IsClean (S.Store.view trees.old.store)
+        → (S.Store.view trees.old.store).trees 4
+        ≡ map day_columns (map (due_entry rulings.now.closes.items) (rows_of prices)))
+        → IsOwnStop S.Store trees.old.store trees.new.store stop) }
     ensures count { IfOk result (λ count. (prices : List Price)
         → places.rows.entries ≡ keyed_rows prices → count ≡ length (rows_of prices)) }
     ensures same { OnOk result (OnlyLooks S.Store trees.old.store trees.new.store) }

@@ -1,14 +1,19 @@
 //! The details: a row for each record that some period counts.
 
-ghost use Rattle.std.specs.Prelude.{◌≡◌, IfOk, IsTrue, None, OnOk, length, true};
+ghost use Rattle.std.specs.Prelude.{◌≡◌, ◌≢◌, IfErr, IfOk, IfSome, IsTrue, None, OnOk, false, length};
+ghost use Rattle.std.specs.Prelude.{true};
 ghost use Rattle.sqlite_trees.specs.View.{IsClean};
 ghost use Rattle.book_model.specs.Words as model;
 ghost use Rattle.table_model.specs.DetailsRead.{detail_shown};
 ghost use Rattle.tree_rows.specs.Calls.{CommitsNothing, OnlyLooks};
 ghost use Rattle.tree_tables.specs.Columns.{detail_columns};
+ghost use Rattle.tree_tables.specs.Fits.{DetailFits};
 ghost use Rattle.tree_tables.specs.Stored.{stored_entry};
 ghost use Rattle.book_audit.specs.Details.{AreDetails, HasCost, IsCounted, ShowsCounted};
+ghost use Rattle.book_audit.specs.Own.{AreOwn, IsOwnStop};
+ghost use Rattle.book_audit.specs.OwnRecords.{AreOwnOf, IsCountedIn, IsShownIn};
 ghost use Rattle.book_audit.specs.Records.{detail_key, spot_of};
+ghost use Rattle.book_audit.specs.SoundTrees.{AreRuled};
 ghost use Rattle.book_audit.specs.Trees.{HasKey};
 
 use crate::day_sums::place_of;
@@ -52,6 +57,9 @@ pub(crate) fn check_has_detail<S: Store>(
     ensures shown { OnOk result (IsClean (S.Store.view trees.new.store)
         → HasKey (detail_key (spot_of (detail_shown (stored_entry record.now))))
         ((S.Store.view trees.old.store).trees 10)) }
+    ensures own { IfErr result (λ stop. (IsClean (S.Store.view trees.old.store)
+        → IsCountedIn (S.Store.view trees.old.store).trees (stored_entry record.now))
+        → IsOwnStop S.Store trees.old.store trees.new.store stop) }
     ensures same { OnOk result (OnlyLooks S.Store trees.old.store trees.new.store) }
     ensures quiet { CommitsNothing S.Store trees.old.store trees.new.store }
 {
@@ -70,8 +78,10 @@ pub(crate) fn check_has_detail<S: Store>(
 
 /// Whether a row shows what a record says of its step and job.
 fn shows_usage(shown: &Detail, usage: &Type30<'_>) -> bool
-    ensures { IsTrue result
+    ensures same { IsTrue result
         → shown.now ≡ model.detail_with shown.now.name usage.now shown.now.priced }
+    ensures other { result ≡ false
+        → shown.now ≢ model.detail_with shown.now.name usage.now shown.now.priced }
 {
     let own = detail_with(&shown.name, usage, shown.priced);
     shown.time == own.time
@@ -83,8 +93,10 @@ fn shows_usage(shown: &Detail, usage: &Type30<'_>) -> bool
 
 /// Whether a row shows a record, which has its name.
 fn shows(shown: &Detail, record: &StoredRecord, usage: &Type30<'_>) -> bool
-    ensures { IsTrue result
+    ensures same { IsTrue result
         → shown.now ≡ model.detail_with shown.now.name usage.now record.now.priced }
+    ensures other { result ≡ false
+        → shown.now ≢ model.detail_with shown.now.name usage.now record.now.priced }
 {
     shown.priced == record.priced && shows_usage(shown, usage)
 }
@@ -99,6 +111,11 @@ fn is_counted<S: Store>(
         → IsClean (S.Store.view trees.new.store)
         → IsCounted ((S.Store.view trees.old.store).trees 5) rulings.now.closes.items
         (stored_entry record.now)) }
+    ensures own { IfErr result (IsOwnStop S.Store trees.old.store trees.new.store) }
+    ensures other { IfOk result (λ counted. counted ≡ false
+        → IsClean (S.Store.view trees.new.store)
+        → AreOwnOf (S.Store.view trees.old.store).trees rulings.now (stored_entry record.now)
+        → ¬ IsCountedIn (S.Store.view trees.old.store).trees (stored_entry record.now)) }
     ensures same { OnOk result (OnlyLooks S.Store trees.old.store trees.new.store) }
     ensures quiet { CommitsNothing S.Store trees.old.store trees.new.store }
 {
@@ -118,6 +135,11 @@ fn wrong_with<S: Store>(
 ) -> Result<Option<Wrong>, Stop>
     ensures counted { IfOk result (λ wrong. wrong ≡ None → IsClean (S.Store.view trees.new.store)
         → ShowsCounted (S.Store.view trees.old.store).trees rulings.now.closes.items shown.now) }
+    ensures own { IfErr result (IsOwnStop S.Store trees.old.store trees.new.store) }
+    ensures other { IfOk result (λ wrong. IfSome wrong (λ it. IsClean (S.Store.view trees.new.store)
+        → AreOwn (S.Store.view trees.old.store).trees
+        → AreRuled (S.Store.view trees.old.store).trees rulings.now
+        → ¬ IsShownIn (S.Store.view trees.old.store).trees shown.now)) }
     ensures same { OnOk result (OnlyLooks S.Store trees.old.store trees.new.store) }
     ensures quiet { CommitsNothing S.Store trees.old.store trees.new.store }
 {
@@ -148,6 +170,10 @@ fn check_shown<S: Store>(
 ) -> Result<(), Stop>
     ensures counted { OnOk result (IsClean (S.Store.view trees.new.store)
         → ShowsCounted (S.Store.view trees.old.store).trees rulings.now.closes.items shown.now) }
+    ensures own { IfErr result (λ stop. (IsClean (S.Store.view trees.old.store)
+        → AreRuled (S.Store.view trees.old.store).trees rulings.now
+        × IsShownIn (S.Store.view trees.old.store).trees shown.now)
+        → IsOwnStop S.Store trees.old.store trees.new.store stop) }
     ensures same { OnOk result (OnlyLooks S.Store trees.old.store trees.new.store) }
     ensures quiet { CommitsNothing S.Store trees.old.store trees.new.store }
 {
@@ -159,7 +185,8 @@ fn check_shown<S: Store>(
 
 /// What a row of details says that its record costs.
 fn cost_in(row: &Row) -> Result<Priced, StoreError>
-    ensures { IfOk result (HasCost row.now) }
+    ensures read { IfOk result (HasCost row.now) }
+    ensures taken { IfErr result (λ error. ¬ DetailFits row.now) }
 {
     Ok(Priced {
         day: day_at(row, 0)?,
@@ -175,6 +202,7 @@ fn cost_in(row: &Row) -> Result<Priced, StoreError>
 fn detail_in(row: &Row) -> Result<Detail, StoreError>
     requires { length row.now ≡ 12 }
     ensures read { IfOk result (λ shown. row.now ≡ detail_columns (shown, tt)) }
+    ensures taken { IfErr result (λ error. ¬ DetailFits row.now) }
 {
     Ok(Detail {
         priced: cost_in(row)?,
@@ -196,6 +224,9 @@ pub(crate) fn check_details<S: Store, W: Watch>(
 ) -> Result<(), Stop>
     ensures details { OnOk result (IsClean (S.Store.view trees.new.store)
         → AreDetails (S.Store.view trees.old.store).trees rulings.now.closes.items) }
+    ensures own { IfErr result (λ stop. (IsClean (S.Store.view trees.old.store)
+        → AreRuled (S.Store.view trees.old.store).trees rulings.now)
+        → IsOwnStop S.Store trees.old.store trees.new.store stop) }
     ensures same { OnOk result (OnlyLooks S.Store trees.old.store trees.new.store) }
     ensures quiet { CommitsNothing S.Store trees.old.store trees.new.store }
 {
@@ -209,5 +240,5 @@ pub(crate) fn check_details<S: Store, W: Watch>(
         let shown = detail_in(walk.row()).map_err(|error| met(Tree::Details, error))?;
         check_shown(alloc, trees, rulings, &mut bytes, &shown)?;
     }
-    Err(endless(Tree::Details))
+    Err(endless())
 }

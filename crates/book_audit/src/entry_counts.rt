@@ -1,11 +1,12 @@
 //! How many entries a tree has.
 
-ghost use Rattle.std.specs.Prelude.{◌≡◌, IfOk, OnOk, length, true};
+ghost use Rattle.std.specs.Prelude.{◌≡◌, IfErr, IfOk, OnOk, false, length, true};
 ghost use Rattle.sqlite_trees.specs.View.{IsClean};
 ghost use Rattle.sqlite_value.specs.Order.{column};
 ghost use Rattle.tree_rows.specs.Calls.{CommitsNothing, OnlyLooks};
 ghost use Rattle.tree_tables.specs.Fits.{HasBytes, HasCount};
 ghost use Rattle.book_audit.specs.Entries.{AreCounted, IsEntry};
+ghost use Rattle.book_audit.specs.Own.{AreOwn, IsOwnStop, is_index};
 ghost use Rattle.book_audit.specs.Trees.{tree_number};
 ghost use Rattle.book_audit.specs.Walks.{width};
 
@@ -22,7 +23,8 @@ use tree_tables::count_at;
 
 /// Whether a column has bytes.
 fn has_bytes(row: &Row, at: usize) -> bool
-    ensures { result ≡ true → HasBytes (column row.now at) }
+    ensures has { result ≡ true → HasBytes (column row.now at) }
+    ensures other { result ≡ false → ¬ HasBytes (column row.now at) }
 {
     match row.get(at) {
         ValueRef::Blob(_) => true,
@@ -32,7 +34,8 @@ fn has_bytes(row: &Row, at: usize) -> bool
 
 /// Whether a column has a number that is not below 0.
 fn has_count(row: &Row, at: usize) -> bool
-    ensures { result ≡ true → HasCount (column row.now at) }
+    ensures has { result ≡ true → HasCount (column row.now at) }
+    ensures other { result ≡ false → ¬ HasCount (column row.now at) }
 {
     count_at(row, at).is_ok()
 }
@@ -41,7 +44,8 @@ fn has_count(row: &Row, at: usize) -> bool
 /// after them, where it has one.
 fn is_entry(tree: Tree, row: &Row) -> bool
     requires { length row.now ≡ width tree }
-    ensures { result ≡ true → IsEntry tree row.now }
+    ensures is { result ≡ true → IsEntry tree row.now }
+    ensures other { result ≡ false → ¬ IsEntry tree row.now }
 {
     match tree {
         Tree::Identities => has_bytes(row, 0) && has_bytes(row, 1),
@@ -60,6 +64,8 @@ fn count_rows<S: Store, W: Watch>(
 ) -> Result<u64, Stop>
     ensures counted { IfOk result (λ count. IsClean (S.Store.view trees.new.store)
         → AreCounted tree ((S.Store.view trees.old.store).trees (tree_number tree)) count) }
+    ensures own { IfErr result (λ stop. is_index tree ≡ true
+        → IsOwnStop S.Store trees.old.store trees.new.store stop) }
     ensures same { OnOk result (OnlyLooks S.Store trees.old.store trees.new.store) }
     ensures quiet { CommitsNothing S.Store trees.old.store trees.new.store }
 {
@@ -73,7 +79,7 @@ fn count_rows<S: Store, W: Watch>(
             return Err(unsound(Place::Tree(tree), Wrong::Unreadable));
         }
     }
-    Err(endless(tree))
+    Err(endless())
 }
 
 /// A tree that finds the rows of a table has an entry for each, which was looked up, and no other.
@@ -86,6 +92,10 @@ pub(crate) fn check_entries<S: Store, W: Watch>(
 ) -> Result<(), Stop>
     ensures counted { OnOk result (IsClean (S.Store.view trees.new.store)
         → AreCounted tree ((S.Store.view trees.old.store).trees (tree_number tree)) rows) }
+    ensures own { IfErr result (λ stop. is_index tree ≡ true
+        → (IsClean (S.Store.view trees.old.store) → AreOwn (S.Store.view trees.old.store).trees
+        → rows ≡ length ((S.Store.view trees.old.store).trees (tree_number tree)))
+        → IsOwnStop S.Store trees.old.store trees.new.store stop) }
     ensures same { OnOk result (OnlyLooks S.Store trees.old.store trees.new.store) }
     ensures quiet { CommitsNothing S.Store trees.old.store trees.new.store }
 {

@@ -1,10 +1,15 @@
 //! The adjustment lines.
 
-ghost use Rattle.std.specs.Prelude.{◌≡◌, IfOk, OnOk, length};
+ghost use Rattle.std.specs.Prelude.{◌≡◌, IfErr, IfOk, OnOk, length};
 ghost use Rattle.sqlite_trees.specs.View.{IsClean};
+ghost use Rattle.sqlite_value.specs.Order.{column};
 ghost use Rattle.tree_rows.specs.Calls.{CommitsNothing, OnlyLooks};
 ghost use Rattle.tree_tables.specs.Columns.{line_columns};
+ghost use Rattle.tree_tables.specs.Fits.{HasPeriod, LineFits};
 ghost use Rattle.book_audit.specs.Lines.{AreLines, IsLateLine, line_entry};
+ghost use Rattle.book_audit.specs.Own.{IsOwnStop};
+ghost use Rattle.book_audit.specs.OwnRecords.{IsLineIn};
+ghost use Rattle.book_audit.specs.SoundTrees.{AreRuled};
 
 use crate::finding::{Place, Tree, Wrong};
 use crate::rulings::Rulings;
@@ -32,6 +37,7 @@ pub(crate) struct Line {
 fn line_in(row: &Row) -> Result<Line, StoreError>
     requires { length row.now ≡ 3 }
     ensures read { IfOk result (λ line. row.now ≡ line_columns (line_entry line)) }
+    ensures taken { IfErr result (λ error. HasPeriod (column row.now 0) → ¬ LineFits row.now) }
 {
     Ok(Line {
         period: period_at(row, 0)?,
@@ -51,6 +57,10 @@ fn check_line<S: Store>(
     ensures late { OnOk result (IsClean (S.Store.view trees.new.store)
         → IsLateLine ((S.Store.view trees.old.store).trees 3) rulings.now.closes.items
         (line_entry line.now)) }
+    ensures own { IfErr result (λ stop. (IsClean (S.Store.view trees.old.store)
+        → AreRuled (S.Store.view trees.old.store).trees rulings.now
+        × IsLineIn (S.Store.view trees.old.store).trees (line_entry line.now))
+        → IsOwnStop S.Store trees.old.store trees.new.store stop) }
     ensures same { OnOk result (OnlyLooks S.Store trees.old.store trees.new.store) }
     ensures quiet { CommitsNothing S.Store trees.old.store trees.new.store }
 {
@@ -77,6 +87,9 @@ pub(crate) fn check_lines<S: Store, W: Watch>(
 ) -> Result<u64, Stop>
     ensures lines { IfOk result (λ count. IsClean (S.Store.view trees.new.store)
         → AreLines (S.Store.view trees.old.store).trees rulings.now.closes.items count) }
+    ensures own { IfErr result (λ stop. (IsClean (S.Store.view trees.old.store)
+        → AreRuled (S.Store.view trees.old.store).trees rulings.now)
+        → IsOwnStop S.Store trees.old.store trees.new.store stop) }
     ensures same { OnOk result (OnlyLooks S.Store trees.old.store trees.new.store) }
     ensures quiet { CommitsNothing S.Store trees.old.store trees.new.store }
 {
@@ -89,5 +102,5 @@ pub(crate) fn check_lines<S: Store, W: Watch>(
         let line = line_in(walk.row()).map_err(|error| met(Tree::Lines, error))?;
         check_line(alloc, trees, rulings, &line)?;
     }
-    Err(endless(Tree::Lines))
+    Err(endless())
 }

@@ -1,12 +1,19 @@
 //! The marks of a record, and the trees that find it.
 
-ghost use Rattle.std.specs.Prelude.{◌≡◌, ◌≤◌, ◌-◌, IfOk, IfSome, None, OnOk, true};
+ghost use Rattle.std.specs.Prelude.{◌≡◌, ◌≤◌, ◌-◌, IfErr, IfOk, IfSome, None, OnOk, false, true};
+ghost use Rattle.book_model.specs.Words.{open_by};
+ghost use Rattle.consistent_tables.specs.Consistent.{AreInTurn, ruled};
 ghost use Rattle.sqlite_trees.specs.View.{IsClean};
+ghost use Rattle.table_model.specs.Tables.{Tables};
 ghost use Rattle.tree_rows.specs.Calls.{CommitsNothing, OnlyLooks};
+ghost use Rattle.tree_tables.specs.Holds.{Holds};
 ghost use Rattle.tree_tables.specs.Stored.{stored_entry};
 ghost use Rattle.book_audit.specs.Marks as spec;
+ghost use Rattle.book_audit.specs.Own.{IsOwnStop};
+ghost use Rattle.book_audit.specs.OwnRecords.{AreOwnOf};
 ghost use Rattle.book_audit.specs.Records.{GoesBack, HasPast, IsChargedRight, IsFound, IsMarked};
 ghost use Rattle.book_audit.specs.Records.{IsPostedRight};
+ghost use Rattle.book_audit.specs.declared.rulings.Rulings.{Rulings as Ruled};
 
 use crate::choices::Chosen;
 use crate::finding::{Place, Tree, Wrong};
@@ -50,6 +57,10 @@ fn wrong_by_trees<S: Store>(
     ensures charged { IfOk result (λ wrong. wrong ≡ None → IsClean (S.Store.view trees.new.store)
         → IsChargedRight ((S.Store.view trees.old.store).trees 6) chosen.now
         (stored_entry stored.now)) }
+    ensures own { IfErr result (IsOwnStop S.Store trees.old.store trees.new.store) }
+    ensures other { IfOk result (λ wrong. IfSome wrong (λ it. IsClean (S.Store.view trees.new.store)
+        → (rulings : Ruled) → rulings.chosen ≡ chosen.now
+        → ¬ AreOwnOf (S.Store.view trees.old.store).trees rulings (stored_entry stored.now))) }
     ensures same { OnOk result (OnlyLooks S.Store trees.old.store trees.new.store) }
     ensures quiet { CommitsNothing S.Store trees.old.store trees.new.store }
 {
@@ -84,6 +95,9 @@ fn is_posted_right<S: Store>(
     ensures posted { IfOk result (λ right. right ≡ true → IsClean (S.Store.view trees.new.store)
         → IsPostedRight ((S.Store.view trees.old.store).trees 5) rulings.now.closes.items
         (stored_entry stored.now)) }
+    ensures own { IfErr result (IsOwnStop S.Store trees.old.store trees.new.store) }
+    ensures other { IfOk result (λ right. right ≡ false → IsClean (S.Store.view trees.new.store)
+        → ¬ AreOwnOf (S.Store.view trees.old.store).trees rulings.now (stored_entry stored.now)) }
     ensures same { OnOk result (OnlyLooks S.Store trees.old.store trees.new.store) }
     ensures quiet { CommitsNothing S.Store trees.old.store trees.new.store }
 {
@@ -117,6 +131,10 @@ fn past_of<S: Store>(
     ensures past { IfOk result (λ past. IfSome past (λ it. IsClean (S.Store.view trees.new.store)
         → GoesBack ((S.Store.view trees.old.store).trees 5) name.now last (last - own)
         charged it.counted it.lines)) }
+    ensures own { IfErr result (IsOwnStop S.Store trees.old.store trees.new.store) }
+    ensures other { IfOk result (λ past. past ≡ None → IsClean (S.Store.view trees.new.store)
+        → (tables : Tables) → Holds (S.Store.view trees.old.store).trees tables
+        → last ≡ open_by (ruled tables) → ¬ AreInTurn tables name.now (last - own) charged) }
     ensures same { OnOk result (OnlyLooks S.Store trees.old.store trees.new.store) }
     ensures quiet { CommitsNothing S.Store trees.old.store trees.new.store }
 {
@@ -149,6 +167,9 @@ pub(crate) fn past_in<S: Store>(
     ensures past { IfOk result (λ past. IfSome past (λ it. IsClean (S.Store.view trees.new.store)
         → HasPast ((S.Store.view trees.old.store).trees 5) rulings.now.closes.items
         (stored_entry stored.now) it.counted it.lines)) }
+    ensures own { IfErr result (IsOwnStop S.Store trees.old.store trees.new.store) }
+    ensures other { IfOk result (λ past. past ≡ None → IsClean (S.Store.view trees.new.store)
+        → ¬ AreOwnOf (S.Store.view trees.old.store).trees rulings.now (stored_entry stored.now)) }
     ensures same { OnOk result (OnlyLooks S.Store trees.old.store trees.new.store) }
     ensures quiet { CommitsNothing S.Store trees.old.store trees.new.store }
 {
@@ -170,6 +191,9 @@ pub(crate) fn check_marks<S: Store>(
     ensures past { IfOk result (λ past. IsClean (S.Store.view trees.new.store)
         → HasPast ((S.Store.view trees.old.store).trees 5) rulings.now.closes.items
         (stored_entry stored.now) past.counted past.lines) }
+    ensures own { IfErr result (λ stop. (IsClean (S.Store.view trees.old.store)
+        → AreOwnOf (S.Store.view trees.old.store).trees rulings.now (stored_entry stored.now))
+        → IsOwnStop S.Store trees.old.store trees.new.store stop) }
     ensures same { OnOk result (OnlyLooks S.Store trees.old.store trees.new.store) }
     ensures quiet { CommitsNothing S.Store trees.old.store trees.new.store }
 {

@@ -1,10 +1,14 @@
 //! The bytes of a record, and what they say.
 
-ghost use Rattle.std.specs.Prelude.{◌≡◌, IfOk, None, OnOk, Some};
+ghost use Rattle.std.specs.Prelude.{◌≡◌, ◌≢◌, ◌≤◌, IfErr, IfOk, IfSome, None, OnOk, Some, length};
 ghost use Rattle.sha2.specs.Sha256.{sha256};
+ghost use Rattle.smf_frames.specs.Framed.{most_data};
 ghost use Rattle.smf_type30.specs.Class.{IsUsage};
+ghost use Rattle.tariff_rules.specs.Price.{IsPriced};
 ghost use Rattle.book_audit.specs.Data.{stored_bytes, price_of};
+ghost use Rattle.book_audit.specs.OwnRecords.{SaysData};
 ghost use Rattle.book_audit.specs.Rules.{identity_under};
+ghost use Rattle.book_audit.specs.declared.finding.Finding.{Finding as Found};
 
 use crate::finding::{Place, Wrong};
 use crate::rulings::Rulings;
@@ -22,6 +26,10 @@ fn wrong_by_usage(rulings: &Rulings, stored: &StoredRecord, usage: &Type30<'_>) 
         → stored.now.identity.items ≡ identity_under rulings.now.rule usage.now }
     ensures price { result ≡ None
         → price_of rulings.now.tariffs.items usage.now ≡ Some stored.now.priced }
+    ensures priced { result ≡ None → IsPriced stored.now.priced }
+    ensures other { IfSome result (λ wrong.
+        stored.now.identity.items ≡ identity_under rulings.now.rule usage.now
+        → price_of rulings.now.tariffs.items usage.now ≢ Some stored.now.priced) }
 {
     if !rulings.rule.is_identity(&stored.identity, usage) {
         return Some(Wrong::Identity);
@@ -43,11 +51,15 @@ fn wrong_by_data(
 ) -> Result<Option<Wrong>, AllocError>
     ensures name { IfOk result (λ wrong. wrong ≡ None
         → stored.now.name ≡ sha256 stored.now.data_bytes.items) }
+    ensures short { IfOk result (λ wrong. wrong ≡ None
+        → length stored.now.data_bytes.items ≤ most_data) }
     ensures usage { IfOk result (λ wrong. wrong ≡ None → IsUsage (stored_bytes stored.now)) }
     ensures identity { IfOk result (λ wrong. wrong ≡ None
         → stored.now.identity.items ≡ identity_under rulings.now.rule (stored_bytes stored.now)) }
     ensures price { IfOk result (λ wrong. wrong ≡ None
         → price_of rulings.now.tariffs.items (stored_bytes stored.now) ≡ Some stored.now.priced) }
+    ensures priced { IfOk result (λ wrong. wrong ≡ None → IsPriced stored.now.priced) }
+    ensures other { IfOk result (λ wrong. IfSome wrong (λ it. ¬ SaysData rulings.now stored.now)) }
 {
     if ShaNames.name(&stored.data_bytes) != stored.name {
         return Ok(Some(Wrong::Name));
@@ -70,11 +82,15 @@ pub(crate) fn check_data(
     stored: &StoredRecord,
 ) -> Result<(), Stop>
     ensures name { OnOk result (stored.now.name ≡ sha256 stored.now.data_bytes.items) }
+    ensures short { OnOk result (length stored.now.data_bytes.items ≤ most_data) }
     ensures usage { OnOk result (IsUsage (stored_bytes stored.now)) }
     ensures identity { OnOk result
         (stored.now.identity.items ≡ identity_under rulings.now.rule (stored_bytes stored.now)) }
     ensures price { OnOk result (price_of rulings.now.tariffs.items (stored_bytes stored.now)
         ≡ Some stored.now.priced) }
+    ensures priced { OnOk result (IsPriced stored.now.priced) }
+    ensures own { IfErr result (λ stop. (finding : Found) → stop ≡ Stop.Unsound finding
+        → ¬ SaysData rulings.now stored.now) }
 {
     match wrong_by_data(alloc, rulings, stored)? {
         Some(wrong) => Err(unsound(Place::Record(stored.name), wrong)),

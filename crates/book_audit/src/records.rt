@@ -1,11 +1,16 @@
 //! The records.
 
-ghost use Rattle.std.specs.Prelude.{◌≡◌, IfOk, OnOk};
+ghost use Rattle.std.specs.Prelude.{◌≡◌, ◌++◌, ◌∷◌, [], IfErr, IfOk, List, OnOk};
 ghost use Rattle.sqlite_trees.specs.View.{IsClean};
 ghost use Rattle.tree_rows.specs.Calls.{CommitsNothing, OnlyLooks};
 ghost use Rattle.tree_tables.specs.Stored.{stored_entry};
+ghost use Rattle.tariff_rules.specs.declared.priced.Priced.{Priced as Price};
+ghost use Rattle.book_audit.specs.Days.{keyed_rows};
 ghost use Rattle.book_audit.specs.Entries.{AreCounted};
+ghost use Rattle.book_audit.specs.Own.{IsOwnStop};
+ghost use Rattle.book_audit.specs.OwnRecords.{AreOwnOf, CanBeCounted};
 ghost use Rattle.book_audit.specs.Records.{AreRecords, Counts, IsRight, IsTold, counted_price};
+ghost use Rattle.book_audit.specs.SoundTrees.{AreRuled};
 
 use crate::day_sums::Places;
 use crate::details::check_has_detail;
@@ -49,6 +54,11 @@ fn check_record<S: Store>(
         (stored_entry stored.now, past)) }
     ensures placed { IfOk result (λ past. Counts places.old.rows.entries places.new.rows.entries
         (counted_price (stored_entry stored.now, past))) }
+    ensures own { IfErr result (λ stop. (IsClean (S.Store.view trees.old.store)
+        → AreOwnOf (S.Store.view trees.old.store).trees rulings.now (stored_entry stored.now)
+        × ((prices : List Price) × (places.old.rows.entries ≡ keyed_rows prices)
+        × CanBeCounted (prices ++ stored.now.priced ∷ [])))
+        → IsOwnStop S.Store trees.old.store trees.new.store stop) }
     ensures same { OnOk result (OnlyLooks S.Store trees.old.store trees.new.store) }
     ensures quiet { CommitsNothing S.Store trees.old.store trees.new.store }
 {
@@ -75,6 +85,10 @@ fn read_records<S: Store, W: Watch>(
     ensures records { IfOk result (λ held. IsClean (S.Store.view trees.new.store)
         → AreRecords (S.Store.view trees.old.store).trees rulings.now held.records held.amount
         held.lines places.old.rows.entries places.new.rows.entries) }
+    ensures own { IfErr result (λ stop. (IsClean (S.Store.view trees.old.store)
+        → AreRuled (S.Store.view trees.old.store).trees rulings.now)
+        × (places.old.rows.entries ≡ keyed_rows [])
+        → IsOwnStop S.Store trees.old.store trees.new.store stop) }
     ensures same { OnOk result (OnlyLooks S.Store trees.old.store trees.new.store) }
     ensures quiet { CommitsNothing S.Store trees.old.store trees.new.store }
 {
@@ -120,6 +134,10 @@ pub(crate) fn check_records<S: Store, W: Watch>(
         → AreCounted Tree.Marks ((S.Store.view trees.old.store).trees 7) held.records) }
     ensures held { IfOk result (λ held. held.records ≡ rulings.now.held) }
     ensures amount { IfOk result (λ held. held.amount ≡ rulings.now.amount) }
+    ensures own { IfErr result (λ stop. (IsClean (S.Store.view trees.old.store)
+        → AreRuled (S.Store.view trees.old.store).trees rulings.now)
+        × (places.old.rows.entries ≡ keyed_rows [])
+        → IsOwnStop S.Store trees.old.store trees.new.store stop) }
     ensures same { OnOk result (OnlyLooks S.Store trees.old.store trees.new.store) }
     ensures quiet { CommitsNothing S.Store trees.old.store trees.new.store }
 {

@@ -1,12 +1,18 @@
 //! The row of the book, the tariffs, the closes and the choices.
 
 ghost use Rattle.std.specs.List.{last_or};
-ghost use Rattle.std.specs.Prelude.{◌<◌, ◌≡◌, IfOk, IfSome, None, Ok, OnOk, length, string_bytes, true};
+ghost use Rattle.std.specs.Prelude.{◌<◌, ◌≡◌, IfErr, IfOk, IfSome, None, Ok, OnOk, false, length};
+ghost use Rattle.std.specs.Prelude.{string_bytes, true};
 ghost use Rattle.sqlite_trees.specs.View.{IsClean};
+ghost use Rattle.sqlite_value.specs.Order.{column};
 ghost use Rattle.tree_rows.specs.Calls.{CommitsNothing, OnlyLooks};
-ghost use Rattle.book_model.specs.Words.{IsDay, terms_in};
-ghost use Rattle.tree_tables.specs.Columns.{closed_columns, tariff_columns};
+ghost use Rattle.book_model.specs.Words.{IsDay, Terms, terms_in};
+ghost use Rattle.table_model.specs.Tables.{BookRow as Held};
+ghost use Rattle.tree_tables.specs.Columns.{book_columns, closed_columns, tariff_columns};
+ghost use Rattle.tree_tables.specs.Fits.{BookFits, CloseFits, HasCount, TariffFits};
 ghost use Rattle.tree_tables.specs.Stored.{close_entry, tariff_of};
+ghost use Rattle.book_audit.specs.Own.{FindsNothing, IsOwnStop};
+ghost use Rattle.book_audit.specs.Rules.{rule_of};
 ghost use Rattle.book_audit.specs.Rulings.{AreClosed, AreTariffs, HasOneRow, IsBookRow, IsNextClose};
 
 use crate::choices::Chosen;
@@ -58,6 +64,9 @@ pub(crate) struct BookRow {
 fn book_in(row: &Row) -> Result<Option<BookRow>, StoreError>
     requires { length row.now ≡ 5 }
     ensures read { IfOk result (λ book. IfSome book (IsBookRow row.now)) }
+    ensures taken { IfErr result (λ error. HasCount (column row.now 0) → ¬ BookFits row.now) }
+    ensures ruled { IfOk result (λ read. read ≡ None → (book : Held)
+        → row.now ≡ book_columns book → rule_of book.rule book.adopted ≡ None) }
 {
     let number = count_at(row, 0)?;
     let rule = count_at(row, 1)?;
@@ -77,6 +86,7 @@ fn book_in(row: &Row) -> Result<Option<BookRow>, StoreError>
 pub(crate) fn read_book<S: Store>(alloc: Global, trees: &mut Trees<S>) -> Result<BookRow, Stop>
     ensures book { IfOk result (λ book. IsClean (S.Store.view trees.new.store)
         → HasOneRow ((S.Store.view trees.old.store).trees 0) book) }
+    ensures own { IfErr result (IsOwnStop S.Store trees.old.store trees.new.store) }
     ensures same { OnOk result (OnlyLooks S.Store trees.old.store trees.new.store) }
     ensures quiet { CommitsNothing S.Store trees.old.store trees.new.store }
 {
@@ -98,6 +108,7 @@ pub(crate) fn read_book<S: Store>(alloc: Global, trees: &mut Trees<S>) -> Result
 fn tariff_in(alloc: Global, row: &Row) -> Result<StoredTariff, StoreError>
     requires { length row.now ≡ 2 }
     ensures read { IfOk result (λ stored. row.now ≡ tariff_columns (tariff_of stored)) }
+    ensures taken { IfErr result (λ error. TariffFits row.now → error ≡ StoreError.OutOfMemory) }
 {
     Ok(StoredTariff {
         day: day_at(row, 0)?,
@@ -110,6 +121,9 @@ fn parsed(alloc: Global, stored: &StoredTariff) -> Result<Tariff, Stop>
     ensures says { IfOk result (λ tariff. terms_in (string_bytes stored.now.body) ≡ Ok tariff) }
     ensures day { IfOk result (λ tariff. tariff.effective ≡ stored.now.day) }
     ensures valid { IfOk result (λ tariff. IsDay tariff.effective) }
+    ensures own { IfErr result (λ stop. (terms : Terms)
+        → terms_in (string_bytes stored.now.body) ≡ Ok terms
+        → terms.effective ≡ stored.now.day → FindsNothing stop) }
 {
     let tariff = match Tariff::parse(alloc, &stored.body) {
         Ok(tariff) => tariff,
@@ -129,6 +143,7 @@ pub(crate) fn read_tariffs<S: Store>(
 ) -> Result<Vec<Tariff>, Stop>
     ensures tariffs { IfOk result (λ tariffs. IsClean (S.Store.view trees.new.store)
         → AreTariffs ((S.Store.view trees.old.store).trees 1) tariffs.items) }
+    ensures own { IfErr result (IsOwnStop S.Store trees.old.store trees.new.store) }
     ensures same { OnOk result (OnlyLooks S.Store trees.old.store trees.new.store) }
     ensures quiet { CommitsNothing S.Store trees.old.store trees.new.store }
 {
@@ -143,13 +158,14 @@ pub(crate) fn read_tariffs<S: Store>(
         let tariff = parsed(alloc, &stored)?;
         tariffs.push(tariff)?;
     }
-    Err(endless(tree))
+    Err(endless())
 }
 
 /// What the row of a close says.
 fn close_in(row: &Row) -> Result<Close, StoreError>
     requires { length row.now ≡ 2 }
     ensures read { IfOk result (λ close. row.now ≡ closed_columns (close_entry close)) }
+    ensures taken { IfErr result (λ error. ¬ CloseFits row.now) }
 {
     Ok(Close {
         period: period_at(row, 0)?,
@@ -168,7 +184,8 @@ fn last_of(days: &[i32]) -> Option<i32>
 /// Whether a close is the next one after those of these days: of the next period, through a later
 /// day.
 fn is_next(days: &[i32], close: &Close) -> bool
-    ensures { result ≡ true → IsNextClose days.now close.now }
+    ensures next { result ≡ true → IsNextClose days.now close.now }
+    ensures other { result ≡ false → ¬ IsNextClose days.now close.now }
 {
     usize::from(close.period) == days.len() + 1
         && is_after(last_of(days), close.through)
@@ -180,6 +197,7 @@ fn is_next(days: &[i32], close: &Close) -> bool
 pub(crate) fn read_closes<S: Store>(alloc: Global, trees: &mut Trees<S>) -> Result<Vec<i32>, Stop>
     ensures closed { IfOk result (λ days. IsClean (S.Store.view trees.new.store)
         → AreClosed ((S.Store.view trees.old.store).trees 2) days.items) }
+    ensures own { IfErr result (IsOwnStop S.Store trees.old.store trees.new.store) }
     ensures same { OnOk result (OnlyLooks S.Store trees.old.store trees.new.store) }
     ensures quiet { CommitsNothing S.Store trees.old.store trees.new.store }
 {
@@ -196,13 +214,14 @@ pub(crate) fn read_closes<S: Store>(alloc: Global, trees: &mut Trees<S>) -> Resu
         }
         days.push(close.through)?;
     }
-    Err(endless(tree))
+    Err(endless())
 }
 
 impl Rulings {
     ghost use Rattle.std.specs.Prelude.{◌≡◌, ◌≤◌, ◌+◌, length, option_copied};
     ghost use Rattle.book_audit.specs.Data.{in_force};
-    ghost use Rattle.book_audit.specs.Days.{is_closed, period_from};
+    ghost use Rattle.consistent_tables.specs.DueRows.{period_from};
+    ghost use Rattle.book_audit.specs.Days.{is_closed};
 
     /// The number of the open period.
     pub(crate) fn open_period(&self) -> u16

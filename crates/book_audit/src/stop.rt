@@ -1,5 +1,8 @@
 //! Why an audit stops early.
 
+ghost use Rattle.std.specs.Prelude.{◌≡◌};
+ghost use Rattle.book_audit.specs.declared.finding.Finding.{Finding as Found};
+
 use crate::finding::{Finding, Place, Tree, Wrong};
 use book_model::LedgerFault;
 use sqlite_trees::error::StoreError;
@@ -21,7 +24,9 @@ pub(crate) fn unsound(place: Place, wrong: Wrong) -> Stop {
 
 /// What an error of the store at a tree stands for. A damaged page, and a row that is not of its
 /// table, are unsound; what the disk refuses says nothing about the books.
-pub(crate) fn met(tree: Tree, error: StoreError) -> Stop {
+pub(crate) fn met(tree: Tree, error: StoreError) -> Stop
+    ensures { (finding : Found) → result ≡ Stop.Unsound finding → error ≡ StoreError.Corrupt }
+{
     match error {
         StoreError::OutOfMemory => Stop::Fault(LedgerFault::Memory),
         StoreError::Corrupt => unsound(Place::Tree(tree), Wrong::Unreadable),
@@ -30,12 +35,24 @@ pub(crate) fn met(tree: Tree, error: StoreError) -> Stop {
 }
 
 impl From<AllocError> for Stop {
+    ghost use Rattle.std.specs.Prelude.{◌≡◌};
+    ghost use Rattle.book_audit.specs.declared.stop.Stop.TheVariants.{Fault};
+    ghost use Rattle.book_model.specs.declared.fault.LedgerFault.TheVariants.{Memory};
+
+    ghost from_gives = { λ _ stop. stop ≡ Fault Memory };
+
     fn from(_: AllocError) -> Stop {
         Stop::Fault(LedgerFault::Memory)
     }
 }
 
 impl<T: Drop> From<AllocFailed<T>> for Stop {
+    ghost use Rattle.std.specs.Prelude.{◌≡◌};
+    ghost use Rattle.book_audit.specs.declared.stop.Stop.TheVariants.{Fault};
+    ghost use Rattle.book_model.specs.declared.fault.LedgerFault.TheVariants.{Memory};
+
+    ghost from_gives = { λ _ stop. stop ≡ Fault Memory };
+
     fn from(_: AllocFailed<T>) -> Stop {
         Stop::Fault(LedgerFault::Memory)
     }

@@ -28,16 +28,18 @@ pub(crate) struct Trees<S: Store> {
 }
 
 impl<S: Store> Trees<S> {
-    ghost use Rattle.std.specs.Prelude.{◌≡◌, ◌∷◌, [], IfOk, IfSome, OnOk, is_some, pos, true};
+    ghost use Rattle.std.specs.Prelude.{◌≡◌, ◌∷◌, [], IfErr, IfOk, IfSome, None, OnOk};
+    ghost use Rattle.std.specs.Prelude.{false, is_some, pos, true};
     ghost use Rattle.sqlite_trees.specs.View.{IsClean};
     ghost use Rattle.sqlite_value.specs.Order.{column};
     ghost use Rattle.sqlite_value.specs.declared.value.Value.TheVariants.{Blob, Int, Text};
-    ghost use Rattle.tree_rows.specs.Calls.{CommitsNothing, OnlyLooks};
+    ghost use Rattle.tree_rows.specs.Calls.{CommitsNothing, IsCausedByStore, OnlyLooks};
     ghost use Rattle.tree_rows.specs.Rows.{Finds, IsFirst};
     ghost use Rattle.tree_tables.specs.Columns.{flag, record_columns};
     ghost use Rattle.tree_tables.specs.Holds.{HasShapes};
     ghost use Rattle.tree_tables.specs.Stored.{stored_entry};
     ghost use Rattle.tree_tables.specs.Walks.{rows_past};
+    ghost use Rattle.book_audit.specs.Own.{IsOwnCause};
     ghost use Rattle.book_audit.specs.Trees.{FindsTwo, tree_number};
 
     /// The trees in a store that has them.
@@ -71,6 +73,7 @@ impl<S: Store> Trees<S> {
             → IsFirst (rows_past key.now ((S.Store.view self.old.store).trees (tree_number tree)))
             row.new there) }
         ensures same { OnOk result (OnlyLooks S.Store self.old.store self.new.store) }
+        ensures cause { IfErr result (IsCausedByStore S.Store self.old.store self.new.store) }
         ensures quiet { CommitsNothing S.Store self.old.store self.new.store }
     {
         let number = tree.number();
@@ -86,6 +89,7 @@ impl<S: Store> Trees<S> {
             → Finds self.old.key ((S.Store.view self.old.store).trees (tree_number tree))
             self.new.found hit) }
         ensures same { OnOk result (OnlyLooks S.Store self.old.store self.new.store) }
+        ensures cause { IfErr result (IsCausedByStore S.Store self.old.store self.new.store) }
         ensures quiet { CommitsNothing S.Store self.old.store self.new.store }
     {
         find_row(&mut self.store, tree.number(), &self.key, &mut self.found)
@@ -97,6 +101,7 @@ impl<S: Store> Trees<S> {
             → Finds (Blob stored.now.identity.items ∷ Blob stored.now.name ∷ [])
             ((S.Store.view self.old.store).trees 6) self.new.found hit) }
         ensures same { OnOk result (OnlyLooks S.Store self.old.store self.new.store) }
+        ensures cause { IfErr result (IsCausedByStore S.Store self.old.store self.new.store) }
         ensures quiet { CommitsNothing S.Store self.old.store self.new.store }
     {
         identity_key(&mut self.key, stored)?;
@@ -110,6 +115,7 @@ impl<S: Store> Trees<S> {
             ∷ Blob stored.now.name ∷ []) ((S.Store.view self.old.store).trees 7)
             self.new.found hit) }
         ensures same { OnOk result (OnlyLooks S.Store self.old.store self.new.store) }
+        ensures cause { IfErr result (IsCausedByStore S.Store self.old.store self.new.store) }
         ensures quiet { CommitsNothing S.Store self.old.store self.new.store }
     {
         mark_key(&mut self.key, stored)?;
@@ -126,6 +132,7 @@ impl<S: Store> Trees<S> {
             → Finds (Blob name.now ∷ Int (pos number) ∷ [])
             ((S.Store.view self.old.store).trees 9) self.new.found hit) }
         ensures same { OnOk result (OnlyLooks S.Store self.old.store self.new.store) }
+        ensures cause { IfErr result (IsCausedByStore S.Store self.old.store self.new.store) }
         ensures quiet { CommitsNothing S.Store self.old.store self.new.store }
     {
         choice_name_key(&mut self.key, name, number)?;
@@ -139,6 +146,7 @@ impl<S: Store> Trees<S> {
             ∷ Text spot.now.place.shift ∷ Int (pos spot.now.time) ∷ Blob spot.now.name ∷ [])
             ((S.Store.view self.old.store).trees 10) self.new.found hit) }
         ensures same { OnOk result (OnlyLooks S.Store self.old.store self.new.store) }
+        ensures cause { IfErr result (IsCausedByStore S.Store self.old.store self.new.store) }
         ensures quiet { CommitsNothing S.Store self.old.store self.new.store }
     {
         detail_key(&mut self.key, spot)?;
@@ -152,6 +160,7 @@ impl<S: Store> Trees<S> {
             → FindsTwo (Blob identity.now ∷ []) ((S.Store.view self.old.store).trees 6)
             self.new.found shared) }
         ensures same { OnOk result (OnlyLooks S.Store self.old.store self.new.store) }
+        ensures cause { IfErr result (IsCausedByStore S.Store self.old.store self.new.store) }
         ensures quiet { CommitsNothing S.Store self.old.store self.new.store }
     {
         bytes_key(&mut self.key, identity)?;
@@ -171,6 +180,7 @@ impl<S: Store> Trees<S> {
         ensures read { IfOk result (λ line. IfSome line (λ plus.
             column self.new.found 2 ≡ Int (pos (flag plus)))) }
         ensures same { OnOk result (OnlyLooks S.Store self.old.store self.new.store) }
+        ensures own { IfErr result (IsOwnCause S.Store self.old.store self.new.store) }
         ensures quiet { CommitsNothing S.Store self.old.store self.new.store }
     {
         line_key(&mut self.key, period, name)?;
@@ -192,6 +202,7 @@ impl<S: Store> Trees<S> {
         ensures read { IfOk result (λ identity. IfSome identity (λ bytes.
             column self.new.found 1 ≡ Blob bytes.items)) }
         ensures same { OnOk result (OnlyLooks S.Store self.old.store self.new.store) }
+        ensures own { IfErr result (IsOwnCause S.Store self.old.store self.new.store) }
         ensures quiet { CommitsNothing S.Store self.old.store self.new.store }
     {
         bytes_key(&mut self.key, name)?;
@@ -210,7 +221,11 @@ impl<S: Store> Trees<S> {
         ensures read { IfOk result (λ held. IfSome held (λ stored.
             IsClean (S.Store.view self.new.store) → Finds (Blob name.now ∷ [])
             ((S.Store.view self.old.store).trees 3) (record_columns (stored_entry stored)) true)) }
+        ensures missing { IfOk result (λ held. held ≡ None → IsClean (S.Store.view self.new.store)
+            → Finds (Blob name.now ∷ []) ((S.Store.view self.old.store).trees 3) self.new.found
+            false) }
         ensures same { OnOk result (OnlyLooks S.Store self.old.store self.new.store) }
+        ensures own { IfErr result (IsOwnCause S.Store self.old.store self.new.store) }
         ensures quiet { CommitsNothing S.Store self.old.store self.new.store }
     {
         bytes_key(&mut self.key, name)?;

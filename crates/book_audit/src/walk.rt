@@ -5,13 +5,14 @@ ghost use Rattle.std.specs.Prelude.{◌≡◌, ◌≤◌, OnOk, length, take};
 use crate::finding::{Place, Tree, Wrong};
 use crate::stop::{Stop, met, unsound};
 use crate::trees::Trees;
+use book_model::LedgerFault;
 use sqlite_trees::store::Store;
 use sqlite_value::keys::Order;
 use sqlite_value::row::Row;
 use std::alloc::{AllocError, Global};
 
 /// The most rows that are walked over: more than any tree of a sound store has.
-pub(crate) const MOST_ROWS: u64 = 1 << 32;
+pub(crate) const MOST_ROWS: u64 = 1 << 40;
 
 /// The first columns of a row become the key.
 fn take_key(key: &mut Row, row: &Row, columns: usize) -> Result<(), AllocError>
@@ -34,10 +35,11 @@ pub(crate) struct Walk {
 }
 
 impl Walk {
-    ghost use Rattle.std.specs.Prelude.{◌≡◌, [], IfOk, List, OnOk, length, true};
+    ghost use Rattle.std.specs.Prelude.{◌≡◌, [], IfErr, IfOk, List, OnOk, length, true};
     ghost use Rattle.sqlite_trees.specs.View.{IsClean};
     ghost use Rattle.sqlite_value.specs.Order.{Row as Columns};
     ghost use Rattle.tree_rows.specs.Calls.{CommitsNothing, OnlyLooks};
+    ghost use Rattle.book_audit.specs.Own.{IsOwnStop};
     ghost use Rattle.book_audit.specs.Trees.{tree_number};
     ghost use Rattle.book_audit.specs.Walks.{HasWalked, WalksOn, width};
 
@@ -70,6 +72,10 @@ impl Walk {
             ((S.Store.view trees.old.store).trees (tree_number self.old.tree)) done there) }
         ensures wide { IfOk result (λ there. there ≡ true
             → length self.new.row ≡ width self.old.tree) }
+        ensures own { IfErr result (λ stop. (done : List Columns)
+            → (IsClean (S.Store.view trees.old.store) → HasWalked self.old.tree self.old.key
+            ((S.Store.view trees.old.store).trees (tree_number self.old.tree)) done)
+            → IsOwnStop S.Store trees.old.store trees.new.store stop) }
         ensures tree { self.new.tree ≡ self.old.tree }
         ensures same { OnOk result (OnlyLooks S.Store trees.old.store trees.new.store) }
         ensures quiet { CommitsNothing S.Store trees.old.store trees.new.store }
@@ -92,8 +98,9 @@ impl Walk {
     }
 }
 
-/// A walk that does not end.
-pub(crate) fn endless(tree: Tree) -> Stop {
-    // Only a disk that lies has more rows.
-    unsound(Place::Tree(tree), Wrong::Unreadable)
+/// A walk that does not end: only a disk that lies has more rows, and nothing is said of the books.
+pub(crate) fn endless() -> Stop
+    ensures { result ≡ Stop.Fault LedgerFault.Store }
+{
+    Stop::Fault(LedgerFault::Store)
 }

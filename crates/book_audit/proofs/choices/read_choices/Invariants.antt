@@ -1,9 +1,10 @@
 use Rattle.std.proofs.Common.{◌≡◌, List}
 use Rattle.sqlite_trees.specs.View.{IsClean}
 use Rattle.tree_rows.specs.Calls.{CommitsNothing, OnlyLooks}
-use Rattle.book_audit.specs.ChoiceRows.{AreMade, Made, made_rows}
+use Rattle.book_audit.specs.ChoiceRows.{AreMade, Made, made_rows, said}
 use Rattle.book_audit.specs.Walks.{HasWalked}
 use Rattle.book_audit.specs.declared.finding.Tree.TheVariants.{Choices}
+use Rattle.book_audit.proofs.OwnChoices.{since_from}
 use Rattle.book_audit.proofs.choices.read_choices.Given as goal
 
 -- the rows so far are those of choices
@@ -15,5 +16,6 @@ invariant-choices g l = record {
   counted : l.chosen.count ≡ l.count;
   read : IsClean (g.S.Store.view l.trees.store) → (made : List Made)
       × HasWalked Choices l.walk.key ((g.S.Store.view l.fn.trees.store).trees 8) (made_rows made)
-      × AreMade (g.S.Store.view l.fn.trees.store).trees l.rule l.open_period l.chosen made;
+      × AreMade (g.S.Store.view l.fn.trees.store).trees l.rule l.open_period l.chosen made
+      × (l.chosen.since ≡ since_from 1 (said made));
 }

@@ -2,19 +2,18 @@ use Rattle.std.proofs.Common.{rules}
 use Rattle.book_audit.proofs.RowLemmas.{row_is}
 use Rattle.book_audit.proofs.day_sums.row_in.Goals as goal
 
-pub returns : goal.returns
-returns c = record {
-  read = row_is c.args.row.now _ c.requires (
-    search rules,
-    (
+pub returns-clause-read : goal.returns-clause-read
+returns-clause-read c =
+    row_is c.args.row.now _ c.requires (
       search rules,
       (
         search rules,
         (
           search rules,
-          (search rules, (search rules, (search rules, (search rules, tt)))),
+          (
+            search rules,
+            (search rules, (search rules, (search rules, (search rules, tt)))),
+          ),
         ),
       ),
-    ),
-  );
-}
+    )

@@ -1,12 +1,16 @@
-use Rattle.std.proofs.Common.{◌≡◌, ◌∙◌, ◌++◌, ◌∷◌, [], List, length, ap, arith, length-append, refl, rules, subst, sym}
+use Rattle.std.proofs.Common.{◌≡◌, ◌∙◌, ◌++◌, ◌∷◌, [], List, length, ap, arith, length-append, refl, rules, subst, sym, true}
 use Rattle.std.specs.List.{AllByRecursion}
 use Rattle.sqlite_trees.proofs.ListLemmas.{all-append}
 use Rattle.sqlite_value.specs.Order.{Row}
 use Rattle.tree_rows.specs.Calls.{OnlyLooks}
 use Rattle.tree_rows.proofs.Calls.{quiet_both}
 use Rattle.book_audit.specs.Entries.{IsEntry}
+use Rattle.book_audit.specs.Own.{IsOwnStop, is_index}
 use Rattle.book_audit.specs.Trees.{tree_number}
 use Rattle.book_audit.specs.Walks.{AreRising, AreWide, WalksOn, width}
+use Rattle.book_audit.specs.declared.stop.Stop.{Stop}
+use Rattle.book_audit.proofs.OwnEntries.{own_entries}
+use Rattle.book_audit.proofs.OwnStops.{err_passed, its_row, stop_walked}
 use Rattle.book_audit.proofs.WalkSteps.{look_back, looks_on, no_look, walked_on}
 use Rattle.book_audit.proofs.entry_counts.count_rows.Goals as goal
 
@@ -79,3 +83,37 @@ returns-then-not-branch-clause-counted g c clean =
       rising = subst (AreRising tree) (sym all) read.1.rising;
       are = read.3 ∙ ap length (sym all);
     }
+
+pub returns-in_err-next-clause-own : goal.returns-in_err-next-clause-own
+returns-in_err-next-clause-own g c =
+    let start = c.args.trees.now.store in
+    let mid = c.entries.trees.store in
+    let next = c.next.new.trees.store in
+    let so_far = c.entries.invariant in
+    err_passed (λ (stop : Stop). is_index c.args.tree ≡ true → IsOwnStop g.S.Store start next stop)
+    c.in_err-next.field-0.0 c.from_residual.result c.from_residual.ensures.1
+    (λ indexed. stop_walked g.S.Store start mid next c.args.tree c.entries.walk.tree
+    c.entries.walk.key c.in_err-next.field-0.0 so_far.tree so_far.same so_far.quiet
+    c.next.ensures.quiet c.in_err-next.ensures.own
+    (λ back. ((so_far.read back).0, (so_far.read back).1)))
+
+pub returns-then-not-is_entry-clause-own : goal.returns-then-not-is_entry-clause-own
+returns-then-not-is_entry-clause-own g c indexed finding is clean own =
+    let start = c.args.trees.now.store in
+    let mid = c.entries.trees.store in
+    let next = c.next.new.trees.store in
+    let so_far = c.entries.invariant in
+    let tree = c.args.tree in
+    let row : Row = c.next.new.self.row in
+    let its : IsEntry tree row =
+    its_row g.S.Store start mid next tree c.entries.walk.tree c.entries.walk.key
+    c.next.new.self.key row c.in_ok-next.field-0 so_far.tree so_far.same c.in_ok-next.ensures.same
+    c.in_ok-next.ensures.next c.if-not-branch.false
+    (λ back. ((so_far.read back).0, (so_far.read back).1)) clean (IsEntry tree)
+    (own_entries (g.S.Store.view start).trees own tree indexed) in
+    let not_its : ¬ IsEntry tree row = search rules in
+    absurd (not_its its)
+
+pub returns-then-not-is_entry-clause-quiet : goal.returns-then-not-is_entry-clause-quiet
+returns-then-not-is_entry-clause-quiet g c =
+    quiet_both g.S.Store c.entries.invariant.quiet c.next.ensures.quiet

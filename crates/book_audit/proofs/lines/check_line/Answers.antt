@@ -1,9 +1,18 @@
-use Rattle.std.proofs.Common.{◌≡◌, ◌<◌, ◌≤◌, ◌+◌, ◌∷◌, [], ℤ, List, true, length, arith, rules}
+use Rattle.std.proofs.Common.{◌≡◌, ◌<◌, ◌≤◌, ◌+◌, ◌∷◌, [], ℤ, List, false, true, length, arith, rules}
 use Rattle.sqlite_value.specs.declared.value.Value.TheVariants.{Blob}
 use Rattle.tree_rows.specs.Rows.{Finds}
 use Rattle.tree_tables.specs.Columns.{record_columns}
 use Rattle.tree_tables.specs.Stored.{stored_entry}
-use Rattle.book_audit.specs.Days.{period_from}
+use Rattle.consistent_tables.specs.DueRows.{period_from}
+use Rattle.sqlite_trees.specs.Tree.{Trees}
+use Rattle.sqlite_trees.specs.View.{IsClean}
+use Rattle.sqlite_value.specs.Order.{Row}
+use Rattle.tree_rows.specs.Calls.{OnlyLooks}
+use Rattle.book_audit.specs.Lines.{line_entry}
+use Rattle.book_audit.proofs.OwnLines.{own_line_found, own_line_late}
+use Rattle.book_audit.proofs.WalkSteps.{look_back}
+use Rattle.book_audit.proofs.lines.check_line.Goals.{then-line-own-via-then-line-own}
+use Rattle.book_audit.proofs.lines.check_line.Goals.{then-line-own-via-else-line-own+then-open_period-line}
 use Rattle.book_audit.proofs.lines.check_line.Goals as goal
 
 pub returns-clause-late : goal.returns-clause-late
@@ -21,3 +30,40 @@ returns-clause-late g c clean =
       after = omega (arith, own, after);
       begun = begun;
     }
+
+-- a line of own books names a record that is held,
+pub returns-in_default-clause-own : goal.returns-in_default-clause-own
+returns-in_default-clause-own g c premise finding is clean own =
+    let start = c.args.trees.now.store in
+    let new = c.record_of.new.self.store in
+    let trees : Trees = (g.S.Store.view start).trees in
+    let row : Row = c.record_of.new.self.found in
+    let looks : OnlyLooks g.S.Store start new = search rules in
+    let known = premise (look_back g.S.Store start new looks clean) in
+    let finds : IsClean (g.S.Store.view new) → Finds (Blob c.args.line.now.name ∷ []) (trees 3) row false =
+    search rules in
+    absurd (own_line_found trees own c.args.rulings.now known.0 (line_entry c.args.line.now) known.1 row
+    (finds clean))
+
+-- and is in a period after that of its day
+pub returns-then-line-own-clause-own : goal.returns-then-line-own-clause-own
+returns-then-line-own-clause-own g c premise finding is clean own =
+    let start = c.args.trees.now.store in
+    let new = c.record_of.new.self.store in
+    let trees : Trees = (g.S.Store.view start).trees in
+    let stored = c.in-Some.record in
+    let closes : List ℤ = c.args.rulings.now.closes.items in
+    let looks : OnlyLooks g.S.Store start new = search rules in
+    let known = premise (look_back g.S.Store start new looks clean) in
+    let held : IsClean (g.S.Store.view new) → Finds (Blob c.args.line.now.name ∷ []) (trees 3)
+    (record_columns (stored_entry stored)) true = search rules in
+    let period : c.period_of-own.result ≡ period_from 1 closes stored.priced.day = search rules in
+    let late = own_line_late trees own c.args.rulings.now known.0 (line_entry c.args.line.now) known.1
+    (stored_entry stored) (held clean) in
+    let after = late.0 in
+    let begun = late.1 in
+    elim c.then-line-own.branch [
+      | then-line-own-via-then-line-own w ↦ absurd (omega (arith, period, after, w.if-line-own.true))
+      | then-line-own-via-else-line-own+then-open_period-line w ↦
+          absurd (omega (arith, begun, w.open_period.ensures.number, w.if-open_period-line.true))
+    ]

@@ -11,6 +11,16 @@ use Rattle.book_audit.specs.Lines.{IsLateLine, line_entry}
 use Rattle.book_audit.specs.Walks.{AreRising, HasWalked, WalksOn, width}
 use Rattle.book_audit.specs.declared.finding.Tree.TheVariants.{Lines}
 use Rattle.book_audit.proofs.WalkSteps.{look_back, looks_on, no_look, trees_stay, walked_on}
+use Rattle.std.specs.Prelude.{is_ok}
+use Rattle.sqlite_value.specs.Order.{column}
+use Rattle.table_model.specs.Tables.{Tables}
+use Rattle.tree_tables.specs.Fits.{HasPeriod, LineFits}
+use Rattle.tree_tables.specs.Holds.{Holds}
+use Rattle.book_audit.specs.SoundTrees.{AreRuled}
+use Rattle.book_audit.proofs.OwnLines.{IsLineOf, line_had, line_row_fits, lines_of}
+use Rattle.book_audit.proofs.OwnSteps.{never_with, passed_with}
+use Rattle.book_audit.proofs.OwnStops.{err_said, its_row, stop_on, stop_walked}
+use Rattle.book_audit.proofs.OwnTables.{own_tables}
 use Rattle.book_audit.proofs.lines.check_lines.Goals as goal
 
 pub lines-init : goal.lines-init
@@ -94,3 +104,68 @@ returns-then-not-branch-clause-lines g c clean =
       each = read.3;
       counted = read.2;
     }
+
+-- the rows of own books are all read
+pub returns-in_err-next-clause-own : goal.returns-in_err-next-clause-own
+returns-in_err-next-clause-own g c =
+    let start = c.args.trees.now.store in
+    let mid = c.lines.trees.store in
+    let next = c.next.new.trees.store in
+    let so_far = c.lines.invariant in
+    let stop = c.in_err-next.field-0.0 in
+    passed_with g.S.Store start next stop _ c.from_residual.ensures.1 (λ known.
+    stop_walked g.S.Store start mid next Lines c.lines.walk.tree c.lines.walk.key stop so_far.tree
+    so_far.same so_far.quiet c.next.ensures.quiet c.in_err-next.ensures.own
+    (λ back. let read = so_far.read back in (map line_columns read.0, read.1)))
+
+-- are those of lines,
+pub returns-in_err-line-clause-own : goal.returns-in_err-line-clause-own
+returns-in_err-line-clause-own g c =
+    let start = c.args.trees.now.store in
+    let mid = c.lines.trees.store in
+    let next = c.next.new.trees.store in
+    let so_far = c.lines.invariant in
+    let row : Row = c.next.new.self.row in
+    never_with g.S.Store start next _ (λ known clean own.
+    let trees : Trees = (g.S.Store.view start).trees in
+    let tables : Tables = own_tables trees own in
+    let is = its_row g.S.Store start mid next Lines c.lines.walk.tree c.lines.walk.key
+    c.next.new.self.key row c.in_ok-next.field-0 so_far.tree so_far.same c.in_ok-next.ensures.same
+    c.in_ok-next.ensures.next c.if-not-branch.false
+    (λ back. let read = so_far.read back in (map line_columns read.0, read.1)) clean
+    (IsLineOf tables) (lines_of trees tables own.holds) in
+    let fits = line_row_fits trees own row is in
+    let refused = err_said c.line_in.result
+    (sym c.map_err.ensures.variant ∙ ap is_ok c.in_err-line.was) c.line_in.ensures.taken in
+    let shown = sym c.row.ensures in
+    refused.1 (subst (λ (r : Row). HasPeriod (column r 0)) shown fits.0) (subst LineFits shown fits.1))
+
+-- and each of these is right
+pub returns-in_err-check_line-clause-own : goal.returns-in_err-check_line-clause-own
+returns-in_err-check_line-clause-own g c =
+    let start = c.args.trees.now.store in
+    let mid = c.lines.trees.store in
+    let next = c.next.new.trees.store in
+    let new = c.check_line.new.trees.store in
+    let so_far = c.lines.invariant in
+    let row : Row = c.next.new.self.row in
+    let entry : (ℕ × List ℕ) × Bool = line_entry c.in_ok-line.line in
+    let is : row ≡ line_columns entry = search rules in
+    let looks : OnlyLooks g.S.Store mid next = c.in_ok-next.ensures.same in
+    let both : OnlyLooks g.S.Store start next = looks_on g.S.Store start mid next so_far.same looks in
+    let stop = c.in_err-check_line.field-0.0 in
+    passed_with g.S.Store start new stop _ c.from_residual-in_err-check_line.ensures.1 (λ known.
+    stop_on g.S.Store start next new stop both
+    (quiet_both g.S.Store so_far.quiet c.next.ensures.quiet) c.check_line.ensures.quiet
+    (c.in_err-check_line.ensures.own (λ back.
+    let stay = trees_stay g.S.Store start next both back in (
+      subst (λ (all : Trees). AreRuled all c.args.rulings.now) (sym stay)
+          (known (look_back g.S.Store start next both back)),
+      λ tables holds. line_had tables entry (subst (IsLineOf tables) is
+          (its_row g.S.Store start mid next Lines c.lines.walk.tree c.lines.walk.key
+          c.next.new.self.key row c.in_ok-next.field-0 so_far.tree so_far.same looks
+          c.in_ok-next.ensures.next c.if-not-branch.false
+          (λ back. let read = so_far.read back in (map line_columns read.0, read.1)) back
+          (IsLineOf tables) (lines_of (g.S.Store.view start).trees tables
+          (subst (λ (all : Trees). Holds all tables) stay holds)))),
+    ))))

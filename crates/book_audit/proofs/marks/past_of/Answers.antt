@@ -1,4 +1,4 @@
-use Rattle.std.proofs.Common.{◌≡◌, ◌≤◌, ◌∷◌, ◌-◌, ◌+◌, [], ℕ, List, IfSome, is_some, pos, arith, rules, subst}
+use Rattle.std.proofs.Common.{◌≡◌, ◌≤◌, ◌<◌, ◌∙◌, ap, sym, ◌∷◌, ◌-◌, ◌+◌, [], ℕ, List, IfSome, is_some, pos, arith, rules, subst, Bool, Option}
 use Rattle.sqlite_trees.specs.Tree.{Trees}
 use Rattle.sqlite_trees.specs.View.{IsClean}
 use Rattle.sqlite_value.specs.Order.{Row, column}
@@ -8,6 +8,10 @@ use Rattle.tree_rows.proofs.Calls.{quiet_both}
 use Rattle.tree_rows.specs.Rows.{Finds}
 use Rattle.tree_tables.specs.Columns.{flag}
 use Rattle.book_audit.specs.Records.{IsLine}
+use Rattle.std.specs.FinMap.{get}
+use Rattle.consistent_tables.specs.Consistent.{charged_back, line_at, ruled}
+use Rattle.book_model.specs.Words.{open_by}
+use Rattle.book_audit.proofs.HeldLooks.{line_looked, turn_at, went_back}
 use Rattle.book_audit.proofs.LineLemmas.{goes_on, says_same, turns_none, turns_some}
 use Rattle.book_audit.proofs.WalkSteps.{look_back, looks_on, trees_stay}
 use Rattle.book_audit.proofs.marks.past_of.Goals.{in-Some+else-plus-now, in_default}
@@ -63,3 +67,42 @@ loop-back-preserved g c =
             few = omega (arith, few, stays);
           })
     ]
+
+-- a line that is in turn says what is charged
+pub returns-then-plus-now-clause-other : goal.returns-then-plus-now-clause-other
+returns-then-plus-now-clause-other g c none clean tables holds last turns =
+    let start = c.args.trees.now.store in
+    let mid = c.loop-back.trees.store in
+    let new = c.line_of.new.self.store in
+    let name : List ℕ = c.args.name.now in
+    let line = c.in_ok-line.line in
+    let found : Row = c.line_of.new.self.found in
+    let back = c.loop-back.back in
+    let period : ℕ = c.args.last - back in
+    let so_far = c.loop-back.invariant in
+    let looks : OnlyLooks g.S.Store mid new = search rules in
+    let finds : IsClean (g.S.Store.view new) → Finds (Int (pos period) ∷ Blob name ∷ [])
+    ((g.S.Store.view mid).trees 5) found (is_some line) = search rules in
+    let read : IfSome line (λ plus. column found 2 ≡ Int (pos (flag plus))) = search rules in
+    let before : IsClean (g.S.Store.view mid) = look_back g.S.Store mid new looks clean in
+    let trees : Trees = (g.S.Store.view start).trees in
+    let is : IsLine (trees 5) period name line = record {
+      row = found;
+      finds = subst (λ (all : Trees). Finds (Int (pos period) ∷ Blob name ∷ []) (all 5) found
+          (is_some line)) (trees_stay g.S.Store start mid so_far.same before) (finds clean);
+      says = read;
+    } in
+    let inside : back < c.args.last - c.args.own = search rules in
+    let its : line ≡ line_at tables name (open_by (ruled tables) - back) =
+    line_looked trees tables holds period name line is
+    ∙ ap (λ n. get tables.lines (n - back, name)) last in
+    let turn : IfSome line (λ plus. plus ≡ charged_back tables name back c.args.charged) =
+    subst (λ (l : Option Bool). IfSome l (λ plus. plus ≡ charged_back tables name back c.args.charged))
+    (sym its) (turn_at tables name (c.args.last - c.args.own) c.args.charged turns back inside) in
+    let same : c.loop-back.now ≡ charged_back tables name back c.args.charged =
+    (went_back trees tables holds name c.args.last back c.args.charged c.loop-back.now c.loop-back.lines
+    last (so_far.back before)).0 in
+    let plus : c.in-Some.plus ≡ c.loop-back.now =
+    subst (λ (l : Option Bool). IfSome l (λ plus. plus ≡ charged_back tables name back c.args.charged))
+    c.in-Some.is turn ∙ sym same in
+    search rules

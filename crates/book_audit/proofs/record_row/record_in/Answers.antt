@@ -2,11 +2,9 @@ use Rattle.std.proofs.Common.{rules}
 use Rattle.book_audit.proofs.RowLemmas.{row_is}
 use Rattle.book_audit.proofs.record_row.record_in.Goals as goal
 
-pub returns : goal.returns
-returns c = record {
-  read = row_is c.args.row.now _ c.requires (
-    search rules,
-    (
+pub returns-clause-read : goal.returns-clause-read
+returns-clause-read c =
+    row_is c.args.row.now _ c.requires (
       search rules,
       (
         search rules,
@@ -24,7 +22,10 @@ returns c = record {
                     search rules,
                     (
                       search rules,
-                      (search rules, tt),
+                      (
+                        search rules,
+                        (search rules, tt),
+                      ),
                     ),
                   ),
                 ),
@@ -33,6 +34,4 @@ returns c = record {
           ),
         ),
       ),
-    ),
-  );
-}
+    )

@@ -1,4 +1,4 @@
-use Rattle.std.proofs.Common.{◌≡◌, ◌≤◌, ◌+◌, ◌*◌, ◌∙◌, ◌++◌, ◌∷◌, [], map, length, ap, arith, rules, subst, sym}
+use Rattle.std.proofs.Common.{◌≡◌, ◌≤◌, ◌+◌, ◌*◌, ◌∙◌, ◌++◌, ◌∷◌, [], ℕ, List, Some, false, map, length, ap, arith, rules, subst, sym}
 use Rattle.sqlite_trees.specs.Tree.{Trees}
 use Rattle.sqlite_trees.specs.View.{IsClean}
 use Rattle.sqlite_value.specs.Order.{Row}
@@ -11,6 +11,22 @@ use Rattle.book_audit.specs.Walks.{AreRising, HasWalked, WalksOn, width}
 use Rattle.book_audit.specs.declared.finding.Tree.TheVariants.{Records}
 use Rattle.book_audit.proofs.RecordLemmas.{counts_none, counts_on, entries_pushed, none_yet, row_pushed}
 use Rattle.book_audit.proofs.WalkSteps.{look_back, looks_on, no_look, trees_stay, walked_on}
+use Rattle.std.specs.FinMap.{get}
+use Rattle.sqlite_trees.proofs.ListLemmas.{all_weaker}
+use Rattle.book_model.specs.Words.{IsPriced}
+use Rattle.table_model.specs.Tables.{RecordRow, Tables}
+use Rattle.tree_tables.specs.Holds.{Holds}
+use Rattle.book_audit.specs.Records.{counted_prices}
+use Rattle.book_audit.specs.SoundTrees.{AreRuled}
+use Rattle.book_audit.proofs.OwnLines.{IsRecordOf, record_had, record_row_fits, records_of}
+use Rattle.book_audit.proofs.OwnSteps.{passed_with}
+use Rattle.std.specs.Prelude.{is_ok}
+use Rattle.sqlite_trees.specs.declared.error.StoreError.{StoreError}
+use Rattle.sqlite_trees.specs.declared.error.StoreError.TheVariants.{OutOfMemory}
+use Rattle.tree_tables.specs.Fits.{RecordFits}
+use Rattle.book_audit.proofs.OwnStops.{err_fits, its_place, its_row, met_memory, own_still, stop_on, stop_walked}
+use Rattle.book_audit.proofs.OwnSums.{own_cost, own_counted, own_few, so_many}
+use Rattle.book_audit.proofs.OwnTables.{own_fit, own_tables}
 use Rattle.book_audit.proofs.records.read_records.Goals as goal
 
 pub records-init : goal.records-init
@@ -111,3 +127,139 @@ returns-then-record-gt-MAX_COST-clause-quiet g c =
     quiet_both g.S.Store
     (quiet_both g.S.Store c.records.invariant.quiet c.next.ensures.quiet)
     c.check_record.ensures.quiet
+
+-- the rows of own books are all read
+pub returns-in_err-next-clause-own : goal.returns-in_err-next-clause-own
+returns-in_err-next-clause-own g c =
+    let start = c.args.trees.now.store in
+    let mid = c.records.trees.store in
+    let next = c.next.new.trees.store in
+    let so_far = c.records.invariant in
+    let stop = c.in_err-next.field-0.0 in
+    passed_with g.S.Store start next stop _ c.from_residual.ensures.1 (λ known.
+    stop_walked g.S.Store start mid next Records c.records.walk.tree c.records.walk.key stop so_far.tree
+    so_far.same so_far.quiet c.next.ensures.quiet c.in_err-next.ensures.own
+    (λ back. let read = so_far.read back in (map (λ (one : Told). record_columns one.0) read.0, read.1)))
+
+-- and each of these is right
+pub returns-in_err-past-clause-own : goal.returns-in_err-past-clause-own
+returns-in_err-past-clause-own g c =
+    let start = c.args.trees.now.store in
+    let mid = c.records.trees.store in
+    let next = c.next.new.trees.store in
+    let new = c.check_record.new.trees.store in
+    let so_far = c.records.invariant in
+    let row : Row = c.next.new.self.row in
+    let entry : List ℕ × RecordRow = stored_entry c.in_ok-record.record in
+    let is : row ≡ record_columns entry = search rules in
+    let looks : OnlyLooks g.S.Store mid next = c.in_ok-next.ensures.same in
+    let both : OnlyLooks g.S.Store start next = looks_on g.S.Store start mid next so_far.same looks in
+    let stop = c.in_err-past.field-0.0 in
+    let rows : Told → Row = λ (one : Told). record_columns one.0 in
+    let trees : Trees = (g.S.Store.view start).trees in
+    passed_with g.S.Store start new stop _ c.from_residual-in_err-past.ensures.1
+    (λ known finding said clean own.
+    stop_on g.S.Store start next new stop both
+    (quiet_both g.S.Store so_far.quiet c.next.ensures.quiet) c.check_record.ensures.quiet
+    (c.in_err-past.ensures.own (λ back.
+    let stay = trees_stay g.S.Store start next both back in
+    let read = so_far.read (look_back g.S.Store mid next looks back) in
+    let its : (tables : Tables) → Holds trees tables → get tables.records entry.0 ≡ Some entry.1 =
+    λ tables holds. record_had tables entry (subst (IsRecordOf tables) is
+    (its_row g.S.Store start mid next Records c.records.walk.tree c.records.walk.key
+    c.next.new.self.key row c.in_ok-next.field-0 so_far.tree so_far.same looks
+    c.in_ok-next.ensures.next c.if-not-branch.false
+    (λ back. let read = so_far.read back in (map rows read.0, read.1)) back
+    (IsRecordOf tables) (records_of trees tables holds))) in
+    let place = its_place g.S.Store start mid next Records c.records.walk.tree c.records.walk.key
+    c.next.new.self.key row c.in_ok-next.field-0 so_far.tree so_far.same looks
+    c.in_ok-next.ensures.next c.if-not-branch.false
+    (λ back. let read = so_far.read back in (map rows read.0, read.1)) back in
+    let priced = (own_fit trees own).records entry.0 entry.1 (its (own_tables trees own) own.holds) in (
+      record {
+        own = own_still g.S.Store start next both back own;
+        ruled = subst (λ (all : Trees). AreRuled all c.args.rulings.now) (sym stay)
+            (known.0 (look_back g.S.Store start next both back));
+        held = λ tables holds. its tables (subst (λ (all : Trees). Holds all tables) stay holds);
+      },
+      (
+        counted_prices read.0,
+        read.3 [] known.1,
+        own_counted trees own read.0 entry place.0
+            (place.1 ∙ ap (λ (r : Row). map rows read.0 ++ r ∷ place.0) is)
+            (all_weaker (λ (one : Told). IsRight trees c.args.rulings.now one.0)
+            (λ (one : Told). IsPriced one.0.1.priced) (λ one right. right.priced) read.0 read.2.right)
+            priced.priced,
+      ),
+    ))) finding said clean own)
+
+-- its rows are those of records,
+pub returns-in_err-record-clause-own : goal.returns-in_err-record-clause-own
+returns-in_err-record-clause-own g c =
+    let start = c.args.trees.now.store in
+    let mid = c.records.trees.store in
+    let next = c.next.new.trees.store in
+    let so_far = c.records.invariant in
+    let row : Row = c.next.new.self.row in
+    let rows : Told → Row = λ (one : Told). record_columns one.0 in
+    let stop = c.in_err-record.field-0.0 in
+    let refused : is_ok c.record_in.result ≡ false =
+    sym c.map_err.ensures.variant ∙ ap is_ok c.in_err-record.was in
+    passed_with g.S.Store start _ stop _ c.from_residual-in_err-record.ensures.1
+    (λ known finding said clean own.
+    let trees : Trees = (g.S.Store.view start).trees in
+    let tables : Tables = own_tables trees own in
+    let is = its_row g.S.Store start mid next Records c.records.walk.tree c.records.walk.key
+    c.next.new.self.key row c.in_ok-next.field-0 so_far.tree so_far.same c.in_ok-next.ensures.same
+    c.in_ok-next.ensures.next c.if-not-branch.false
+    (λ back. let read = so_far.read back in (map rows read.0, read.1)) clean
+    (IsRecordOf tables) (records_of trees tables own.holds) in
+    let memory = err_fits (λ (error : StoreError). error ≡ OutOfMemory) c.record_in.result
+    c.record_in.ensures.taken (subst RecordFits (sym c.row.ensures) (record_row_fits trees own row is)) in
+    absurd (met_memory c.record_in.result c.map_err.result stop (λ error stop stands. search rules)
+    c.map_err.ensures.cases c.in_err-record.was refused memory finding said))
+
+-- which cost no more together than books may hold,
+pub returns-then-record-gt-MAX_COST-clause-own : goal.returns-then-record-gt-MAX_COST-clause-own
+returns-then-record-gt-MAX_COST-clause-own g c known finding said clean own =
+    let start = c.args.trees.now.store in
+    let mid = c.records.trees.store in
+    let next = c.next.new.trees.store in
+    let new = c.check_record.new.trees.store in
+    let so_far = c.records.invariant in
+    let row : Row = c.next.new.self.row in
+    let rows : Told → Row = λ (one : Told). record_columns one.0 in
+    let entry : List ℕ × RecordRow = stored_entry c.in_ok-record.record in
+    let is : row ≡ record_columns entry = search rules in
+    let looks : OnlyLooks g.S.Store mid next = c.in_ok-next.ensures.same in
+    let checks : OnlyLooks g.S.Store next new = c.in_ok-past.ensures.same in
+    let trees : Trees = (g.S.Store.view start).trees in
+    let after : IsClean (g.S.Store.view next) = look_back g.S.Store next new checks clean in
+    let read = so_far.read (look_back g.S.Store mid next looks after) in
+    let place = its_place g.S.Store start mid next Records c.records.walk.tree c.records.walk.key
+    c.next.new.self.key row c.in_ok-next.field-0 so_far.tree so_far.same looks
+    c.in_ok-next.ensures.next c.if-not-branch.false
+    (λ back. let read = so_far.read back in (map rows read.0, read.1)) after in
+    let cost = own_cost trees own read.0 entry place.0
+    (place.1 ∙ ap (λ (r : Row). map rows read.0 ++ r ∷ place.0) is) in
+    let summed = read.2.summed in
+    let within : c.records.amount + entry.1.priced.amount ≤ 4000000000000000000 =
+    omega (arith, cost, summed) in
+    elim c.then-record-gt-MAX_COST.branch [
+      | goal.then-record-gt-MAX_COST-via-then-record-gt-MAX_COST w ↦
+          absurd (omega (arith, within, w.if-record-gt-MAX_COST.true))
+      | goal.then-record-gt-MAX_COST-via-else-record-gt-MAX_COST+then-record-amount w ↦
+          absurd (omega (arith, within, w.if-record-amount.true, w.if-record-gt-MAX_COST.false))
+    ]
+
+-- and are no more
+pub returns-clause-own : goal.returns-clause-own
+returns-clause-own g c known finding said clean own =
+    let start = c.args.trees.now.store in
+    let so_far = c.records.invariant in
+    let trees : Trees = (g.S.Store.view start).trees in
+    let read = so_far.read clean in
+    let counted = read.2.counted in
+    let few = own_few trees own in
+    let many = so_many read.0 _ (trees 3) read.1.left in
+    absurd (omega (arith, counted, few, many, c.records-test.false))

@@ -2,21 +2,19 @@ use Rattle.std.proofs.Common.{◌∙◌, rules, sym}
 use Rattle.book_audit.proofs.RowLemmas.{row_is}
 use Rattle.book_audit.proofs.rulings.book_in.Goals as goal
 
-pub returns : goal.returns
-returns c = record {
-  read = record {
-    rule = c.in_ok-rule.rule;
-    adopted = c.in_ok-adopted.adopted;
-    are = row_is c.args.row.now _ c.requires (
+pub returns-clause-read : goal.returns-clause-read
+returns-clause-read c = record {
+  rule = c.in_ok-rule.rule;
+  adopted = c.in_ok-adopted.adopted;
+  are = row_is c.args.row.now _ c.requires (
+    search rules,
+    (
       search rules,
       (
         search rules,
-        (
-          search rules,
-          (search rules, (search rules, tt)),
-        ),
+        (search rules, (search rules, tt)),
       ),
-    );
-    known = sym c.of.ensures ∙ c.in-Some.is;
-  };
+    ),
+  );
+  known = sym c.of.ensures ∙ c.in-Some.is;
 }

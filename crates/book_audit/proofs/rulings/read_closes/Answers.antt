@@ -1,4 +1,5 @@
-use Rattle.std.proofs.Common.{◌≡◌, ◌∙◌, ◌++◌, ◌∷◌, [], ℤ, All, List, None, map, length, ap, rules, subst, sym, w32}
+use Rattle.std.proofs.Common.{◌≡◌, ◌∙◌, ◌++◌, ◌∷◌, [], ℤ, All, List, None, is_ok, map, length, ap, rules}
+use Rattle.std.proofs.Common.{subst, sym, w32}
 use Rattle.std.specs.List.{last_or}
 use Rattle.std.specs.List.Sorted.{IsStrictlySortedBy}
 use Rattle.std.specs.Ordering.{int_cmp}
@@ -10,12 +11,16 @@ use Rattle.book_model.proofs.DayLemmas.{day_fits}
 use Rattle.table_model.proofs.CloseOrder.{rise_behind}
 use Rattle.table_model.specs.TablesOf.{close_entries}
 use Rattle.tree_tables.specs.Columns.{closed_columns}
+use Rattle.tree_tables.specs.Fits.{CloseFits}
 use Rattle.tree_tables.specs.Stored.{close_entry}
 use Rattle.tree_rows.proofs.Calls.{quiet_both}
+use Rattle.book_audit.specs.Own.{IsOwnStop}
 use Rattle.book_audit.specs.Rulings.{IsNextClose}
 use Rattle.book_audit.specs.Walks.{HasWalked, WalksOn, width}
 use Rattle.book_audit.specs.declared.finding.Tree.TheVariants.{Closes}
 use Rattle.book_audit.proofs.ClosedLemmas.{closes_pushed, is_later}
+use Rattle.book_audit.proofs.OwnRulings.{own_closes_fit, own_next_close}
+use Rattle.book_audit.proofs.OwnStops.{each_err, err_said, its_place, its_row, stop_passed, stop_walked}
 use Rattle.book_audit.proofs.WalkSteps.{looks_on, no_look, walked_on}
 use Rattle.book_audit.proofs.rulings.read_closes.Goals as goal
 
@@ -90,3 +95,59 @@ returns-then-not-branch-clause-closed g c clean =
 pub returns-in_err-push-clause-quiet : goal.returns-in_err-push-clause-quiet
 returns-in_err-push-clause-quiet g c =
     quiet_both g.S.Store c.closes.invariant.quiet c.next.ensures.quiet
+
+pub returns-then-not-is_next-clause-quiet : goal.returns-then-not-is_next-clause-quiet
+returns-then-not-is_next-clause-quiet g c =
+    quiet_both g.S.Store c.closes.invariant.quiet c.next.ensures.quiet
+
+pub returns-in_err-next-clause-own : goal.returns-in_err-next-clause-own
+returns-in_err-next-clause-own g c =
+    let start = c.args.trees.now.store in
+    let mid = c.closes.trees.store in
+    let next = c.next.new.trees.store in
+    let so_far = c.closes.invariant in
+    stop_passed g.S.Store start next c.in_err-next.field-0.0 c.from_residual.result
+    c.from_residual.ensures.1
+    (stop_walked g.S.Store start mid next Closes c.closes.walk.tree c.closes.walk.key
+    c.in_err-next.field-0.0 so_far.tree so_far.same so_far.quiet c.next.ensures.quiet
+    c.in_err-next.ensures.own
+    (λ back. (map closed_columns (close_entries 1 c.closes.days.items), so_far.walked back)))
+
+pub returns-in_err-close-clause-own : goal.returns-in_err-close-clause-own
+returns-in_err-close-clause-own g c =
+    let start = c.args.trees.now.store in
+    let mid = c.closes.trees.store in
+    let next = c.next.new.trees.store in
+    let so_far = c.closes.invariant in
+    let row : Row = c.next.new.self.row in
+    each_err (IsOwnStop g.S.Store start next) c.from_residual-in_err-close.result
+    (λ stop finding said clean own.
+    let fits : CloseFits row =
+    its_row g.S.Store start mid next Closes c.closes.walk.tree c.closes.walk.key
+    c.next.new.self.key row c.in_ok-next.field-0 so_far.tree so_far.same c.in_ok-next.ensures.same
+    c.in_ok-next.ensures.next c.if-not-branch.false
+    (λ back. (map closed_columns (close_entries 1 c.closes.days.items), so_far.walked back)) clean
+    CloseFits (own_closes_fit (g.S.Store.view start).trees own) in
+    let refused = err_said c.close_in.result
+    (sym c.map_err.ensures.variant ∙ ap is_ok c.in_err-close.was) c.close_in.ensures.taken in
+    absurd (refused.1 (subst CloseFits (sym c.row.ensures) fits)))
+
+pub returns-then-not-is_next-clause-own : goal.returns-then-not-is_next-clause-own
+returns-then-not-is_next-clause-own g c finding is clean own =
+    let start = c.args.trees.now.store in
+    let mid = c.closes.trees.store in
+    let next = c.next.new.trees.store in
+    let so_far = c.closes.invariant in
+    let days : List ℤ = c.closes.days.items in
+    let row : Row = c.next.new.self.row in
+    let close = c.in_ok-close.close in
+    let is_row : row ≡ closed_columns (close_entry close) = search rules in
+    let place = its_place g.S.Store start mid next Closes c.closes.walk.tree c.closes.walk.key
+    c.next.new.self.key row c.in_ok-next.field-0 so_far.tree so_far.same c.in_ok-next.ensures.same
+    c.in_ok-next.ensures.next c.if-not-branch.false
+    (λ back. (map closed_columns (close_entries 1 days), so_far.walked back)) clean in
+    let follows : IsNextClose days close =
+    own_next_close (g.S.Store.view start).trees own days close place.0
+    (place.1 ∙ ap (λ (r : Row). map closed_columns (close_entries 1 days) ++ r ∷ place.0) is_row) in
+    let not_next : ¬ IsNextClose days close = search rules in
+    absurd (not_next follows)

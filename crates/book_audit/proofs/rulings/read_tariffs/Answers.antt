@@ -1,5 +1,9 @@
-use Rattle.std.proofs.Common.{◌≡◌, ◌∙◌, ◌++◌, ◌∷◌, [], ℕ, List, Some, Ok, map, length, ap, rules, string_bytes, subst, sym}
+use Rattle.std.proofs.Common.{◌≡◌, ◌∙◌, ◌++◌, ◌∷◌, [], ℕ, List, Some, Ok, false, is_ok, map, length, ap}
+use Rattle.std.proofs.Common.{rules, string_bytes, subst, sym}
+use Rattle.std.proofs.lemmas.Str.{IsUtf8-string_bytes}
 use Rattle.sqlite_trees.proofs.ListLemmas.{all-append}
+use Rattle.sqlite_trees.specs.declared.error.StoreError.{StoreError}
+use Rattle.sqlite_trees.specs.declared.error.StoreError.TheVariants.{OutOfMemory}
 use Rattle.sqlite_value.specs.Order.{Row}
 use Rattle.book_model.specs.Words.{IsDay, Terms, terms_in}
 use Rattle.table_model.specs.Readable.{IsTexted}
@@ -7,9 +11,13 @@ use Rattle.table_model.specs.TablesOf.{tariff_entries}
 use Rattle.tree_rows.specs.Calls.{OnlyLooks}
 use Rattle.tree_rows.proofs.Calls.{quiet_both}
 use Rattle.tree_tables.specs.Columns.{tariff_columns}
+use Rattle.tree_tables.specs.Fits.{TariffFits}
+use Rattle.book_audit.specs.Rulings.{IsOfCharacters}
 use Rattle.book_audit.specs.Walks.{AreRising, HasWalked, WalksOn, width}
 use Rattle.book_audit.specs.declared.finding.Tree.TheVariants.{Tariffs}
-use Rattle.book_audit.proofs.TariffLemmas.{is_texted, tariff_pushed, terms_pushed, texted}
+use Rattle.book_audit.proofs.TariffLemmas.{is_texted, of_characters, tariff_pushed, terms_pushed, texted}
+use Rattle.book_audit.proofs.OwnRulings.{IsTariffRow, own_tariffs, tariff_fits, tariff_said}
+use Rattle.book_audit.proofs.OwnStops.{err_fits, its_row, met_memory, stop_passed, stop_walked}
 use Rattle.book_audit.proofs.WalkSteps.{look_back, looks_on, no_look, walked_on}
 use Rattle.book_audit.proofs.rulings.read_tariffs.Goals as goal
 
@@ -22,6 +30,7 @@ tariffs-init g c = record {
     [],
     c.over-walk.ensures.start ((g.S.Store.view c.args.trees.now.store).trees 1),
     sym c.new-tariffs.ensures.items,
+    tt,
     tt,
   );
 }
@@ -64,6 +73,8 @@ tariffs-preserved g c =
                 ∙ sym c.in_ok-push.ensures.items,
             all-append IsTexted read.0 (texted text terms ∷ []) read.3
                 (is_texted text terms said valid, tt),
+            all-append IsOfCharacters read.0 (texted text terms ∷ []) read.4
+                (of_characters text terms (IsUtf8-string_bytes c.in_ok-stored.stored.body), tt),
           );
     }
 
@@ -88,5 +99,66 @@ returns-then-not-branch-clause-tariffs g c clean =
       are = all;
       terms = read.2;
       texts = read.3;
+      characters = read.4;
       rising = subst (AreRising Tariffs) (sym all) read.1.rising;
     }
+
+pub returns-in_err-next-clause-own : goal.returns-in_err-next-clause-own
+returns-in_err-next-clause-own g c =
+    let start = c.args.trees.now.store in
+    let mid = c.tariffs.trees.store in
+    let next = c.next.new.trees.store in
+    let so_far = c.tariffs.invariant in
+    stop_passed g.S.Store start next c.in_err-next.field-0.0 c.from_residual.result
+    c.from_residual.ensures.1
+    (stop_walked g.S.Store start mid next Tariffs c.tariffs.walk.tree c.tariffs.walk.key
+    c.in_err-next.field-0.0 so_far.tree so_far.same so_far.quiet c.next.ensures.quiet
+    c.in_err-next.ensures.own
+    (λ back. (map tariff_columns (tariff_entries (so_far.read back).0), (so_far.read back).1)))
+
+pub returns-in_err-stored-clause-own : goal.returns-in_err-stored-clause-own
+returns-in_err-stored-clause-own g c =
+    let start = c.args.trees.now.store in
+    let mid = c.tariffs.trees.store in
+    let next = c.next.new.trees.store in
+    let so_far = c.tariffs.invariant in
+    let row : Row = c.next.new.self.row in
+    let refused : is_ok c.tariff_in.result ≡ false =
+    sym c.map_err.ensures.variant ∙ ap is_ok c.in_err-stored.was in
+    stop_passed g.S.Store start next c.in_err-stored.field-0.0 c.from_residual-in_err-stored.result
+    c.from_residual-in_err-stored.ensures.1
+    (λ finding said clean own.
+    let its : IsTariffRow row =
+    its_row g.S.Store start mid next Tariffs c.tariffs.walk.tree c.tariffs.walk.key
+    c.next.new.self.key row c.in_ok-next.field-0 so_far.tree so_far.same c.in_ok-next.ensures.same
+    c.in_ok-next.ensures.next c.if-not-branch.false
+    (λ back. (map tariff_columns (tariff_entries (so_far.read back).0), (so_far.read back).1)) clean
+    IsTariffRow (own_tariffs (g.S.Store.view start).trees own) in
+    let memory = err_fits (λ (error : StoreError). error ≡ OutOfMemory) c.tariff_in.result
+    c.tariff_in.ensures.taken
+    (subst TariffFits (sym c.row.ensures) (tariff_fits row its)) in
+    absurd (met_memory c.tariff_in.result c.map_err.result c.in_err-stored.field-0.0
+    (λ error stop stands. search rules) c.map_err.ensures.cases c.in_err-stored.was refused memory
+    finding said))
+
+pub returns-in_err-tariff-clause-own : goal.returns-in_err-tariff-clause-own
+returns-in_err-tariff-clause-own g c =
+    let start = c.args.trees.now.store in
+    let mid = c.tariffs.trees.store in
+    let next = c.next.new.trees.store in
+    let so_far = c.tariffs.invariant in
+    let row : Row = c.next.new.self.row in
+    let text : List ℕ = string_bytes c.in_ok-stored.stored.body in
+    let day = c.in_ok-stored.stored.day in
+    let is_row : row ≡ tariff_columns (day, Some text) = search rules in
+    stop_passed g.S.Store start next c.in_err-tariff.field-0.0 c.from_residual-in_err-tariff.result
+    c.from_residual-in_err-tariff.ensures.1
+    (λ finding said clean own.
+    let its : IsTariffRow row =
+    its_row g.S.Store start mid next Tariffs c.tariffs.walk.tree c.tariffs.walk.key
+    c.next.new.self.key row c.in_ok-next.field-0 so_far.tree so_far.same c.in_ok-next.ensures.same
+    c.in_ok-next.ensures.next c.if-not-branch.false
+    (λ back. (map tariff_columns (tariff_entries (so_far.read back).0), (so_far.read back).1)) clean
+    IsTariffRow (own_tariffs (g.S.Store.view start).trees own) in
+    let told = tariff_said row day text its is_row in
+    absurd (c.in_err-tariff.ensures.own told.0 told.1 told.2 finding said))

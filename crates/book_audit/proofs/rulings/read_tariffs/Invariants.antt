@@ -6,6 +6,7 @@ use Rattle.table_model.specs.Readable.{IsTexted}
 use Rattle.table_model.specs.TablesOf.{tariff_entries}
 use Rattle.tree_rows.specs.Calls.{CommitsNothing, OnlyLooks}
 use Rattle.tree_tables.specs.Columns.{tariff_columns}
+use Rattle.book_audit.specs.Rulings.{IsOfCharacters}
 use Rattle.book_audit.specs.Walks.{HasWalked}
 use Rattle.book_audit.specs.declared.finding.Tree.TheVariants.{Tariffs}
 use Rattle.book_audit.proofs.rulings.read_tariffs.Given as goal
@@ -20,5 +21,5 @@ invariant-tariffs g l = record {
       × HasWalked Tariffs l.walk.key ((g.S.Store.view l.fn.trees.store).trees 1)
       (map tariff_columns (tariff_entries accepted))
       × (map (λ tariff. tariff.terms) accepted ≡ l.tariffs.items)
-      × AllByRecursion IsTexted accepted;
+      × AllByRecursion IsTexted accepted × AllByRecursion IsOfCharacters accepted;
 }

@@ -1,5 +1,5 @@
 use Rattle.std.proofs.Common.{◌≡◌, ◌+◌, drop}
-use Rattle.book_audit.specs.Days.{period_from}
+use Rattle.consistent_tables.specs.DueRows.{period_from}
 use Rattle.book_audit.proofs.rulings.Rulings.period_of.Given as goal
 
 -- the closes so far are through earlier days

@@ -1,11 +1,15 @@
-use Rattle.std.proofs.Common.{◌≡◌, ◌≢◌, ◌++◌, ◌∷◌, [], List, length, true, rules, subst, sym}
+use Rattle.std.proofs.Common.{◌≡◌, ◌≢◌, ◌∙◌, ◌++◌, ◌∷◌, [], List, arith, false, length, true, true≢false}
+use Rattle.std.proofs.Common.{rules, subst, sym}
 use Rattle.std.specs.Ordering.{is_gt}
 use Rattle.sqlite_value.specs.Keys.{plain, prefix_cmp}
 use Rattle.sqlite_value.specs.Order.{Row}
 use Rattle.tree_rows.specs.Rows.{IsFirst}
+use Rattle.tree_rows.proofs.Calls.{clean_before}
 use Rattle.tree_tables.specs.Walks.{rows_past}
 use Rattle.book_audit.specs.Trees.{tree_number}
 use Rattle.book_audit.specs.Walks.{HasWalked, key_in, width}
+use Rattle.book_audit.proofs.OwnStops.{own_walk}
+use Rattle.book_audit.proofs.OwnWalks.{next_after, next_wide}
 use Rattle.book_audit.proofs.WalkLemmas.{walk_step}
 use Rattle.book_audit.proofs.walk.Walk.next.Goals.{else-not-is_empty-via-then-not-is_empty+else-not-is_gt, else-not-is_empty-via-else-not-is_empty}
 use Rattle.book_audit.proofs.walk.Walk.next.Goals as goal
@@ -26,3 +30,31 @@ returns-clause-next g c clean done so_far =
     let took : c.take_key.new.key ≡ key_in tree row = search rules in
     subst (λ next. HasWalked tree next rows (done ++ row ∷ [])) (sym took)
     (walk_step tree key row rows done so_far there long after)
+
+pub returns-then-len-columns-clause-own : goal.returns-then-len-columns-clause-own
+returns-then-len-columns-clause-own g c done walked finding is clean own =
+    let tree = c.args.self.now.tree in
+    let key : Row = c.args.self.now.key in
+    let row : Row = c.row_past.new.row in
+    let trees = (g.S.Store.view c.args.trees.now.store).trees in
+    let rows : List Row = trees (tree_number tree) in
+    let there : IsFirst (rows_past key rows) row true = search rules in
+    let wide : length row ≡ width tree =
+    next_wide tree key row rows done (own_walk trees own tree)
+    (walked (clean_before g.S.Store c.row_past.ensures.quiet clean)) there in
+    absurd (omega (arith, wide))
+
+pub returns-then-not-is_gt-clause-own : goal.returns-then-not-is_gt-clause-own
+returns-then-not-is_gt-clause-own g c done walked finding is clean own =
+    let tree = c.args.self.now.tree in
+    let key : Row = c.args.self.now.key in
+    let row : Row = c.row_past.new.row in
+    let trees = (g.S.Store.view c.args.trees.now.store).trees in
+    let rows : List Row = trees (tree_number tree) in
+    let there : IsFirst (rows_past key rows) row true = search rules in
+    let some : key ≢ [] = search rules in
+    let after : is_gt (prefix_cmp plain row key) ≡ true =
+    next_after tree key row rows done (own_walk trees own tree)
+    (walked (clean_before g.S.Store c.row_past.ensures.quiet clean)) there some in
+    let not_after : is_gt (prefix_cmp plain row key) ≡ false = search rules in
+    absurd (true≢false (sym after ∙ not_after))

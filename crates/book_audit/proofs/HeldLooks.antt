@@ -1,0 +1,226 @@
+-- What look-ups in trees that hold tables find of them.
+use Rattle.std.proofs.Common.{◌≡◌, ◌<◌, ◌-◌, ◌∙◌, ◌&&◌, ◌∷◌, [], ℕ, zero, suc, Bool, true, false, not, cond, List, Option, Some, None}
+use Rattle.std.proofs.Common.{is_some, length, map, pos, ap, ap₂, arith, refl, subst, sym, ◌==◌}
+use Rattle.std.specs.Prelude.{IfSome, filter, take_while}
+use Rattle.std.specs.FinMap.{FinMap, entries, get}
+use Rattle.std.specs.Option.{option_map_or}
+use Rattle.std.specs.Ordering.{eq_by_cmp, is_eq}
+use Rattle.std.proofs.lemmas.Map.Views.{tells_apart}
+use Rattle.std.proofs.lemmas.Bool.Decides.{nat_tests}
+use Rattle.std.proofs.lemmas.List.{length-map}
+use Rattle.std.proofs.lemmas.List.Sums.{take_while-cons}
+use Rattle.std.specs.declared.cmp.Ordering.{Ordering}
+use Rattle.sqlite_trees.specs.Tree.{Trees, from_key}
+use Rattle.sqlite_value.specs.Keys.{plain, prefix_cmp}
+use Rattle.sqlite_value.specs.Order.{Row, column}
+use Rattle.sqlite_value.specs.declared.value.Value.TheVariants.{Blob, Int}
+use Rattle.table_model.specs.Tables.{RecordRow, Tables}
+use Rattle.table_model.specs.Views.{rows_with}
+use Rattle.consistent_tables.specs.Consistent.{AreInTurn, charged_back, line_at, ruled}
+use Rattle.book_model.specs.Words.{open_by}
+use Rattle.tree_rows.specs.Indexes.{IsIndexKey, by_bytes, index_of, indexed_by}
+use Rattle.tree_rows.specs.Layouts.{Answers, Layout, rows_of}
+use Rattle.tree_rows.specs.Rows.{Finds, IsFirst, past_key}
+use Rattle.tree_rows.specs.Runs.{has_part, run_of}
+use Rattle.tree_rows.proofs.Indexes.{index_has}
+use Rattle.tree_rows.proofs.Maps.{looked_up, none_there, not_none}
+use Rattle.tree_rows.proofs.IndexOrders.{by_bytes_exact}
+use Rattle.tree_rows.proofs.PartIndexes.{part_in_order}
+use Rattle.tree_rows.proofs.Runs.{run_named}
+use Rattle.book_model.proofs.SetLemmas.{same_bytes-by_cmp}
+use Rattle.tree_tables.specs.Columns.{flag, identity_columns}
+use Rattle.tree_tables.specs.Holds.{Holds, identity_index, identity_key}
+use Rattle.tree_tables.proofs.FoundNames.{Entry}
+use Rattle.tree_tables.proofs.Layouts.{identity_layout, line_layout, mark_layout, record_layout}
+use Rattle.tree_tables.proofs.RecordIndexes.{identity_named, mark_named}
+use Rattle.tree_tables.proofs.RowsRead.{same_count}
+use Rattle.book_audit.specs.Records.{GoesBack, IsLine, Turns}
+use Rattle.book_audit.specs.Records.Turns.{Stays, Turned}
+use Rattle.book_audit.specs.Trees.{FindsTwo}
+
+-- a look-up of a key in the rows of a map
+pub found_in : {K V : Type 0} {R : K → K → Ordering} (layout : Layout K V R) (m : FinMap R V) (k : K)
+    {rows : List Row} (row : Row) (hit : Bool) → rows ≡ rows_of layout m
+    → Finds (layout.key k) rows row hit → Answers layout m k row hit
+found_in layout m k row hit held finds =
+    looked_up layout m k row finds.there hit
+    (subst (λ (rows : List Row). IsFirst (from_key plain (layout.key k) rows) row finds.there) held
+    finds.first) finds.is
+
+-- an entry of an index is found
+pub indexed_found : {K V Q : Type 0} {R : K → K → Ordering} {P : Q → Q → Ordering} {key : K × V → Q}
+    {name : Q → K} (index : IsIndexKey R P key name) (layout : Layout Q (Unit {0}) P)
+    (m : FinMap R V) (k : K) (v : V) {rows : List Row} (row : Row)
+    → rows ≡ rows_of layout (index_of {P = P} key m) → get m k ≡ Some v
+    → Finds (layout.key (key (k, v))) rows row false → ⊥
+indexed_found {P = P} {key = key} index layout m k v row held there finds =
+    not_none tt (sym (index_has index m k v there)
+    ∙ found_in layout (index_of {P = P} key m) (key (k, v)) row false held finds)
+
+-- what a line turns
+turned : {line : Option Bool} {mid before : Bool} {more : ℕ} → Turns line mid before more
+    → (before ≡ option_map_or not line mid) × IfSome line (λ plus. plus ≡ mid)
+turned (Stays charged) = (refl, tt)
+turned (Turned plus) = (refl, refl)
+
+-- lines in turn are so at each period
+pub turn_at : (tables : Tables) (name : List ℕ) (k : ℕ) (now : Bool)
+    → AreInTurn tables name k now → (j : ℕ) → j < k
+    → IfSome (line_at tables name (open_by (ruled tables) - j))
+    (λ plus. plus ≡ charged_back tables name j now)
+turn_at tables name zero now turns j below = absurd (omega (arith, below))
+turn_at tables name (suc k) now turns j below =
+    elim (j == k) as (λ b. (j == k) ≡ b → IfSome (line_at tables name (open_by (ruled tables) - j))
+    (λ plus. plus ≡ charged_back tables name j now)) [
+      | true ↦ λ same.
+          let at : k ≡ j = grind (arith, nat_tests) in
+          subst (λ i. IfSome (line_at tables name (open_by (ruled tables) - i))
+          (λ plus. plus ≡ charged_back tables name i now)) at turns.0
+      | false ↦ λ other.
+          let less : j < k = grind (arith, nat_tests) in
+          turn_at tables name k now turns.1 j less
+    ] refl
+
+-- marks are known by their flags
+pub same_flag : (one other : Bool) → Int (pos (flag one)) ≡ Int (pos (flag other)) → one ≡ other
+same_flag true true same = refl
+same_flag false false same = refl
+same_flag true false same = absurd (let n = same_count 1 0 same in omega (arith, n))
+same_flag false true same = absurd (let n = same_count 0 1 same in omega (arith, n))
+
+-- Of some rows from a key on, of which the first has it: whether the next one has it too tells
+-- whether it is the only one.
+two_of : (key : Row) (rows : List Row) (row : Row) (there two : Bool)
+    → IsFirst (past_key key rows) row there → two ≡ (there && is_eq (prefix_cmp plain row key))
+    → 0 < length (take_while (has_part key) rows)
+    → not two ≡ (length (take_while (has_part key) rows) == 1)
+two_of key [] row there two first is some = absurd (omega (arith, some))
+two_of key (one ∷ rows) row there two first is some = by (has_part key one) refl
+  where
+    run : (b : Bool) → has_part key one ≡ b → take_while (has_part key) (one ∷ rows)
+        ≡ cond b (one ∷ take_while (has_part key) rows) []
+    run b own =
+        take_while-cons (has_part key) one rows
+        ∙ ap (λ (b : Bool). cond b (one ∷ take_while (has_part key) rows) []) own
+
+    next : (rows : List Row) (there : Bool) → IsFirst rows row there
+        → two ≡ (there && is_eq (prefix_cmp plain row key))
+        → not two ≡ (length (one ∷ take_while (has_part key) rows) == 1)
+    next [] true first is = absurd (none_there row first.0 (sym first.1))
+    next [] false first is = ap not is
+    next (other ∷ rows) false first is = absurd (none_there other rows first)
+    next (other ∷ rows) true first is =
+        let same : row ≡ other = (let e = first.1 in cc) in
+        let own : two ≡ has_part key other = is ∙ ap (λ (r : Row). is_eq (prefix_cmp plain r key)) same in
+        elim (has_part key other) as (λ b. has_part key other ≡ b
+        → not two ≡ (length (one ∷ take_while (has_part key) (other ∷ rows)) == 1)) [
+          | true ↦ λ here.
+              let more : take_while (has_part key) (other ∷ rows)
+              ≡ other ∷ take_while (has_part key) rows =
+              take_while-cons (has_part key) other rows
+              ∙ ap (λ (b : Bool). cond b (other ∷ take_while (has_part key) rows) []) here in
+              ap not (own ∙ here)
+              ∙ sym (ap (λ (rs : List Row). length (one ∷ rs) == 1) more
+              ∙ more_than (length (take_while (has_part key) rows)))
+          | false ↦ λ here.
+              let none : take_while (has_part key) (other ∷ rows) ≡ [] =
+              take_while-cons (has_part key) other rows
+              ∙ ap (λ (b : Bool). cond b (other ∷ take_while (has_part key) rows) []) here in
+              ap not (own ∙ here) ∙ sym (ap (λ (rs : List Row). length (one ∷ rs) == 1) none)
+        ] refl
+      where
+        more_than : (n : ℕ) → (suc (suc n) == 1) ≡ false
+        more_than n = grind (arith, nat_tests)
+
+    by : (b : Bool) → has_part key one ≡ b
+        → not two ≡ (length (take_while (has_part key) (one ∷ rows)) == 1)
+    by false other =
+        absurd (let none : 0 < 0 = subst (λ (rs : List Row). 0 < length rs) (run false other) some in
+        omega (arith, none))
+    by true own =
+        next rows there
+        (subst (λ (b : Bool). IsFirst (cond b rows (one ∷ rows)) row there) own first) is
+        ∙ sym (ap (λ (rs : List Row). length rs == 1) (run true own))
+
+module _ (trees : Trees) (tables : Tables) (holds : Holds trees tables) where
+  -- a record by its name
+  pub record_looked : (name : List ℕ) (row : Row) (hit : Bool)
+      → Finds (Blob name ∷ []) (trees 3) row hit
+      → Answers record_layout tables.records name row hit
+  record_looked name row hit finds =
+      found_in record_layout tables.records name row hit holds.records finds
+
+  -- a line by its period and its record's name
+  pub line_looked : (period : ℕ) (name : List ℕ) (line : Option Bool)
+      → IsLine (trees 5) period name line → line ≡ get tables.lines (period, name)
+  line_looked period name line is =
+      by line is.says
+      (found_in line_layout tables.lines (period, name) is.row (is_some line) holds.lines is.finds)
+    where
+      by : (line : Option Bool) → IfSome line (λ plus. column is.row 2 ≡ Int (pos (flag plus)))
+          → Answers line_layout tables.lines (period, name) is.row (is_some line)
+          → line ≡ get tables.lines (period, name)
+      by None says answers = sym answers
+      by (Some plus) says answers =
+          let same : plus ≡ answers.0 = same_flag plus answers.0
+          (sym says ∙ ap (λ (r : Row). column r 2) answers.2) in
+          ap Some same ∙ sym answers.1
+
+  -- a record is found by its identity, and by its mark
+  pub identity_found : (name : List ℕ) (row : RecordRow) (found : Row)
+      → get tables.records name ≡ Some row
+      → Finds (Blob row.identity ∷ Blob name ∷ []) (trees 6) found false → ⊥
+  identity_found name row found there finds =
+      indexed_found identity_named identity_layout tables.records name row found
+      holds.identity_index there finds
+
+  pub mark_found : (name : List ℕ) (row : RecordRow) (found : Row)
+      → get tables.records name ≡ Some row
+      → Finds (Int (pos (flag row.charged)) ∷ Blob row.identity ∷ Blob name ∷ []) (trees 7) found
+      false → ⊥
+  mark_found name row found there finds =
+      indexed_found mark_named mark_layout tables.records name row found holds.marks there finds
+
+  -- whether two records have an identity that one has
+  pub shared_looked : (identity : List ℕ) (row : Row) (two : Bool)
+      → FindsTwo (Blob identity ∷ []) (trees 6) row two
+      → 0 < length (rows_with identity tables.records)
+      → not two ≡ (length (rows_with identity tables.records) == 1)
+  shared_looked identity row two looked some =
+      let key : Row = Blob identity ∷ [] in
+      let sharing : List Entry = rows_with identity tables.records in
+      let long : length (run_of key (trees 6)) ≡ length sharing =
+      ap (λ (rows : List Row). length (run_of key rows)) holds.identity_index
+      ∙ ap length (run_named by_bytes identity_layout (λ name. Blob name ∷ [])
+      (λ identity name. refl) identity (identity_index tables.records)
+      ∙ ap (map identity_columns) (part_in_order (λ (row : RecordRow). row.identity) identity
+      (λ x. eq_by_cmp by_bytes x identity)
+      (λ x same. tells_apart by_bytes_exact x identity same) tables.records
+      ∙ ap (λ (same : List ℕ → List ℕ → Bool). map (indexed_by identity_key)
+      (filter (λ (e : Entry). same e.1.identity identity) (entries tables.records)))
+      (sym same_bytes-by_cmp)))
+      ∙ length-map (map (indexed_by identity_key) sharing) identity_columns
+      ∙ length-map sharing (indexed_by identity_key) in
+      two_of key (from_key plain key (trees 6)) row looked.there two looked.behind looked.is
+      (subst (λ n. 0 < n) (sym long) some)
+      ∙ ap (λ n. n == 1) long
+
+  -- what its lines say of a record's past is what they say in the tables
+  pub went_back : (name : List ℕ) (last k : ℕ) (now before : Bool) (count : ℕ)
+      → last ≡ open_by (ruled tables) → GoesBack (trees 5) name last k now before count
+      → (before ≡ charged_back tables name k now) × AreInTurn tables name k now
+  went_back name last zero now before count same back = (sym back.0, tt)
+  went_back name last (suc k) now before count same back =
+      let line : Option Bool = back.3 in
+      let so_far = went_back name last k now back.0 back.1 same back.4 in
+      let is : line ≡ line_at tables name (open_by (ruled tables) - k) =
+      line_looked (last - k) name line back.5
+      ∙ ap (λ n. get tables.lines (n - k, name)) same in
+      let step = turned back.6 in (
+        step.0 ∙ ap₂ (λ (l : Option Bool) (b : Bool). option_map_or not l b) is so_far.0,
+        (
+          subst (λ (l : Option Bool). IfSome l (λ plus. plus ≡ charged_back tables name k now)) is
+              (subst (λ (b : Bool). IfSome line (λ plus. plus ≡ b)) so_far.0 step.1),
+          so_far.1,
+        ),
+      )

@@ -1,0 +1,203 @@
+-- What the rulings that were read of trees are in the tables that the trees hold.
+use Rattle.std.proofs.Common.{◌≡◌, ◌∙◌, ◌<◌, ◌∷◌, [], ◌⊎◌, inl, inr, ℕ, suc, List, Bool, true, false}
+use Rattle.std.proofs.Common.{◌&&◌, ◌==◌, All, Option, Some, None, ap, ap₂, arith, map, refl, sym, Ok}
+use Rattle.std.specs.FinMap.{entries, values}
+use Rattle.std.specs.List.{AllByRecursion, last_or}
+use Rattle.std.specs.Option.{option_map, option_map_or, option_or}
+use Rattle.std.specs.Prelude.{if◌then◌else◌, filter, find, nat_le, nat_lt, reverse}
+use Rattle.std.proofs.lemmas.Bool.Decides.{nat_tests}
+use Rattle.std.proofs.lemmas.Cmp.{nat_list_eq_equiv}
+use Rattle.std.proofs.lemmas.List.Elements.{All-head, All-tail}
+use Rattle.std.proofs.lemmas.Option.{same_Some}
+use Rattle.smf_type30.specs.Usage.{day_of, identity2_of, identity_of}
+use Rattle.tariff_rules.specs.Price.{price_by}
+use Rattle.tariff_rules.specs.Terms.{Terms}
+use Rattle.tariff_rules.specs.declared.priced.Priced.{Priced}
+use Rattle.sqlite_trees.specs.Tree.{Trees}
+use Rattle.sqlite_value.specs.Order.{Row, column}
+use Rattle.book_model.specs.Words.{AcceptedTerms, Rulings as Ruled, are_rising}
+use Rattle.book_model.specs.Words.{first_rule, last_period, price_in, price_under, same_bytes}
+use Rattle.book_model.specs.Words.{second_rule, terms_in}
+use Rattle.book_model.proofs.LatestLemmas.{begun-last}
+use Rattle.book_model.proofs.RecordSets.{first_of, second_of}
+use Rattle.table_model.specs.BookIn.{adopted_read}
+use Rattle.table_model.specs.Readable.{IsTexted}
+use Rattle.table_model.specs.Tables.{BookRow, ChoiceRow, RecordRow, Tables, never_adopted}
+use Rattle.table_model.specs.TablesOf.{tariff_entries, under_numbers}
+use Rattle.table_model.specs.Views.{last_named, name_has_identity}
+use Rattle.tree_tables.specs.Columns.{choice_columns, tariff_columns, tariff_value}
+use Rattle.tree_tables.specs.Holds.{Holds}
+use Rattle.tree_tables.proofs.RowsRead.{same_blob, same_count, same_text}
+use Rattle.consistent_tables.specs.Consistent.{choice_numbers}
+use Rattle.book_audit.specs.ChoiceRows.{AreChoices, IsMade, Made, said}
+use Rattle.book_audit.specs.Choices.{last_chosen}
+use Rattle.book_audit.specs.Data.{has_begun, price_of}
+use Rattle.book_audit.specs.Rules.{identity_under, may_be_open, rule_of}
+use Rattle.book_audit.specs.declared.choices.Chosen.{Chosen}
+use Rattle.book_audit.specs.declared.identity_rule.IdentityRule.{IdentityRule}
+use Rattle.book_audit.specs.declared.identity_rule.IdentityRule.TheVariants.{First, SecondSince}
+use Rattle.book_audit.proofs.HeldLooks.{record_looked}
+use Rattle.book_audit.proofs.LastPassing.{found_made, last_passing}
+
+-- ---- tariffs
+
+-- what usage costs by rising tariffs is what it costs by their terms
+pub price_said : (rulings : Ruled) (accepted : List AcceptedTerms) (bytes : List ℕ)
+    → rulings.tariffs ≡ accepted → are_rising accepted ≡ true
+    → price_in rulings bytes ≡ price_of (map (λ (tariff : AcceptedTerms). tariff.terms) accepted) bytes
+price_said rulings accepted bytes is rising =
+    let terms : AcceptedTerms → Terms = λ (tariff : AcceptedTerms). tariff.terms in
+    let price : Terms → Priced = λ (one : Terms). price_by one bytes in
+    ap (λ (all : List AcceptedTerms). price_under all bytes) is
+    ∙ ap (λ (found : Option AcceptedTerms). option_map price (option_map terms found))
+    (begun-last accepted (day_of bytes) rising)
+    ∙ sym (ap (option_map price) (found_made terms (has_begun (day_of bytes)) accepted))
+
+-- a text says the terms of one tariff
+one_said : (text : List ℕ) (one other : Terms) → terms_in text ≡ Ok one → terms_in text ≡ Ok other
+    → one ≡ other
+one_said text one other said too = cc
+
+-- tariffs with texts whose rows are the same say the same terms
+pub same_terms : (one other : List AcceptedTerms) → AllByRecursion IsTexted one → All IsTexted other
+    → map tariff_columns (tariff_entries one) ≡ map tariff_columns (tariff_entries other)
+    → map (λ (tariff : AcceptedTerms). tariff.terms) one
+    ≡ map (λ (tariff : AcceptedTerms). tariff.terms) other
+same_terms [] [] texted too same = refl
+same_terms [] (b ∷ other) texted too same = absurd (let e = same in cc)
+same_terms (a ∷ one) [] texted too same = absurd (let e = same in cc)
+same_terms (a ∷ one) (b ∷ other) texted too same =
+    let its = texted.0 in
+    let own = All-head IsTexted b other too in
+    let row : tariff_columns (a.terms.effective, a.text) ≡ tariff_columns (b.terms.effective, b.text) =
+    (let e = same in cc) in
+    let rest : map tariff_columns (tariff_entries one) ≡ map tariff_columns (tariff_entries other) =
+    (let e = same in cc) in
+    let texts : its.text ≡ own.text = same_text its.text own.text (sym (ap tariff_value its.is)
+    ∙ ap (λ (r : Row). column r 1) row ∙ ap tariff_value own.is) in
+    let terms : a.terms ≡ b.terms =
+    one_said own.text a.terms b.terms (ap terms_in (sym texts) ∙ its.said) own.said in
+    ap₂ (λ (x : Terms) (xs : List Terms). x ∷ xs) terms
+    (same_terms one other texted.1 (All-tail IsTexted b other too) rest)
+
+-- ---- the rule of identity
+
+-- numbers that a test finds equal, and one that is above none or no later
+same_number : (a b : ℕ) → (a == b) ≡ true → a ≡ b
+same_number a b same = grind (arith, nat_tests)
+
+above_none : (n : ℕ) → nat_lt 0 n ≡ true → 0 < n
+above_none n above = grind (arith, nat_tests)
+
+-- the rule that two numbers say
+pub which_rule : (rule adopted : ℕ) (found : IdentityRule) → rule_of rule adopted ≡ Some found
+    → ((found ≡ First) × (rule ≡ first_rule) × (adopted ≡ never_adopted))
+    ⊎ ((found ≡ SecondSince adopted) × (rule ≡ second_rule) × (0 < adopted))
+which_rule rule adopted found is =
+    let second : Option IdentityRule =
+    if (rule == second_rule) && may_be_open adopted then Some (SecondSince adopted) else None in
+    elim ((rule == first_rule) && (adopted == never_adopted)) as (λ b.
+    ((rule == first_rule) && (adopted == never_adopted)) ≡ b
+    → (if b then Some First else second) ≡ Some found
+    → ((found ≡ First) × (rule ≡ first_rule) × (adopted ≡ never_adopted))
+    ⊎ ((found ≡ SecondSince adopted) × (rule ≡ second_rule) × (0 < adopted))) [
+      | true ↦ λ both at. inl (
+        sym (same_Some First found at),
+        same_number rule first_rule
+            (first_of (rule == first_rule) (adopted == never_adopted) both),
+        same_number adopted never_adopted
+            (second_of (rule == first_rule) (adopted == never_adopted) both),
+      )
+      | false ↦ λ neither at. inr (by_second ((rule == second_rule) && may_be_open adopted) refl at)
+    ] refl is
+  where
+    by_second : (b : Bool) → ((rule == second_rule) && may_be_open adopted) ≡ b
+        → (if b then Some (SecondSince adopted) else None) ≡ Some found
+        → (found ≡ SecondSince adopted) × (rule ≡ second_rule) × (0 < adopted)
+    by_second true both at = (
+      sym (same_Some (SecondSince adopted) found at),
+      same_number rule second_rule (first_of (rule == second_rule) (may_be_open adopted) both),
+      above_none adopted (first_of (nat_lt 0 adopted) (nat_le adopted last_period)
+          (second_of (rule == second_rule) (may_be_open adopted) both)),
+    )
+    by_second false neither at = absurd (let e = at in cc)
+
+-- and whose work a record measures
+pub identity_said : (row : BookRow) (found : IdentityRule) (bytes : List ℕ)
+    → rule_of row.rule row.adopted ≡ Some found
+    → identity_under found bytes
+    ≡ option_map_or (λ (period : ℕ). identity2_of bytes) (adopted_read row) (identity_of bytes)
+identity_said row found bytes is =
+    let by_number : ℕ → List ℕ = λ (rule : ℕ).
+    option_map_or (λ (period : ℕ). identity2_of bytes)
+    (if rule == second_rule then Some row.adopted else None) (identity_of bytes) in
+    elim (which_rule row.rule row.adopted found is) [
+      | inl it ↦ ap (λ (one : IdentityRule). identity_under one bytes) it.0
+          ∙ sym (ap by_number it.1)
+      | inr it ↦ ap (λ (one : IdentityRule). identity_under one bytes) it.0
+          ∙ sym (ap by_number it.1)
+    ]
+
+-- ---- choices
+
+-- choices are known by their rows
+same_choices : (n : ℕ) (one other : List ChoiceRow)
+    → map choice_columns (under_numbers n one) ≡ map choice_columns (under_numbers n other)
+    → one ≡ other
+same_choices n [] [] same = refl
+same_choices n [] (b ∷ other) same = absurd (let e = same in cc)
+same_choices n (a ∷ one) [] same = absurd (let e = same in cc)
+same_choices n (a ∷ one) (b ∷ other) same =
+    let row : choice_columns (n, a) ≡ choice_columns (n, b) = (let e = same in cc) in
+    let rest : map choice_columns (under_numbers (suc n) one)
+    ≡ map choice_columns (under_numbers (suc n) other) = (let e = same in cc) in
+    let name = same_blob a.name b.name (ap (λ (r : Row). column r 1) row) in
+    let period = same_count a.period b.period (ap (λ (r : Row). column r 2) row) in
+    λ i. record { name = name i; period = period i } ∷ same_choices (suc n) one other rest i
+
+module _ (trees : Trees) (tables : Tables) (holds : Holds trees tables)
+    (numbers : entries tables.choices ≡ choice_numbers tables) (rule : IdentityRule) where
+  -- the record of a choice is held, and has its identity
+  of_identity : (identity : List ℕ) (n : ℕ) (made : List Made)
+      → AllByRecursion (IsMade trees rule) (under_numbers n made)
+      → AllByRecursion (λ (one : Made). name_has_identity tables.records identity one.1.name
+      ≡ same_bytes identity one.0) made
+  of_identity identity n [] each = tt
+  of_identity identity n (one ∷ made) each =
+      let among = each.0.among in
+      let found = record_looked trees tables holds one.1.name among.found true among.held in
+      let same : found.0.identity ≡ one.0 = same_blob found.0.identity one.0
+      (sym (ap (λ (r : Row). column r 1) found.2) ∙ among.identity_of) in (
+        ap (λ (row : Option RecordRow). option_map_or (λ (row : RecordRow).
+            same_bytes row.identity identity) row false) found.1
+            ∙ ap (λ (own : List ℕ). same_bytes own identity) same
+            ∙ nat_list_eq_equiv.symm one.0 identity,
+        of_identity identity (suc n) made each.1,
+      )
+
+  -- the last record that was chosen of an identity is the last that the tables name
+  pub last_said : (open_period : ℕ) (chosen : Chosen) → AreChoices trees rule open_period chosen
+      → (identity : List ℕ) → last_chosen chosen identity ≡ last_named tables identity
+  last_said open_period chosen choices identity =
+      let made : List Made = choices.made in
+      let same : said made ≡ values tables.choices = same_choices 1 (said made) (values tables.choices)
+      (sym choices.rows ∙ holds.choices ∙ ap (map choice_columns) numbers) in
+      let name : Made → List ℕ = λ (one : Made). one.1.name in
+      choices.are.last identity
+      ∙ either (option_map name (find (λ (one : Made). same_bytes identity one.0) (reverse made)))
+      ∙ sym (last_passing name (name_has_identity tables.records identity)
+      (λ (one : Made). same_bytes identity one.0) made
+      (of_identity identity 1 made choices.are.each) None)
+      ∙ ap (λ (names : List (List ℕ)). last_or None
+      (filter (name_has_identity tables.records identity) names)) (names_of made)
+      ∙ ap (λ (rows : List ChoiceRow). last_or None (filter (name_has_identity tables.records identity)
+      (map (λ (row : ChoiceRow). row.name) rows))) same
+    where
+      either : (found : Option (List ℕ)) → found ≡ option_or found None
+      either None = refl
+      either (Some one) = refl
+
+      names_of : (made : List Made) → map (λ (one : Made). one.1.name) made
+          ≡ map (λ (row : ChoiceRow). row.name) (said made)
+      names_of [] = refl
+      names_of (one ∷ made) = ap (λ more. one.1.name ∷ more) (names_of made)

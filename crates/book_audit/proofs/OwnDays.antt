@@ -1,0 +1,256 @@
+-- The charge rows of books that calls made are those that are due, in the order of their places.
+use Rattle.std.proofs.Common.{◌≡◌, ◌∙◌, ◌<◌, ◌≤◌, ◌+◌, ◌++◌, ◌==◌, ◌∷◌, [], ℕ, ℤ, Bool, true, false, List, ap, arith, cond, get_or, length, length-append, map, refl, subst, suc, sym, take, zero}
+use Rattle.std.specs.Prelude.{filter, int_lt, nat_lt, ◌≤ℤ◌}
+use Rattle.std.specs.FinMap.{entries, entries_sorted, from_entries}
+use Rattle.std.specs.List.{AllByRecursion}
+use Rattle.std.specs.Ordering.{int_cmp, nat_cmp, ordering_then}
+use Rattle.std.specs.declared.cmp.Ordering.TheVariants.{Less, Equal, Greater}
+use Rattle.std.specs.Cmp.{int_ranked}
+use Rattle.std.proofs.lemmas.Bool.Decides.{nat_tests}
+use Rattle.std.proofs.lemmas.Int.{ints}
+use Rattle.std.proofs.lemmas.List.{length-map, length-take, length-take-le}
+use Rattle.std.proofs.lemmas.Simd.{map-map}
+use Rattle.sqlite_trees.specs.Tree.{IsAscending, Trees}
+use Rattle.sqlite_trees.proofs.ListLemmas.{all-map, ascending-map, ascending_weaker}
+use Rattle.sqlite_value.specs.Order.{Row, column}
+use Rattle.tariff_rules.specs.declared.priced.Priced.{Priced}
+use Rattle.book_model.specs.Rows.{key_of, keys_of}
+use Rattle.book_model.specs.Words.{by_bytes, by_key, row_at, rows_of, set_of}
+use Rattle.book_model.specs.declared.row.ChargeRow.{ChargeRow}
+use Rattle.book_model.specs.declared.row.RowKey.{RowKey}
+use Rattle.book_model.proofs.FilterLemmas.{entries-sorted}
+use Rattle.table_model.specs.PeriodRows.{by_period}
+use Rattle.table_model.specs.Tables.{RecordRow, Tables}
+use Rattle.table_model.specs.TablesOf.{row_key}
+use Rattle.consistent_tables.specs.Consistent.{counted_entries, is_counted_row, ruled}
+use Rattle.consistent_tables.specs.DueRows.{due_entry, period_from}
+use Rattle.tree_tables.specs.Columns.{day_columns, record_columns}
+use Rattle.tree_tables.specs.Fits.{ChargeFits, HasPeriod}
+use Rattle.tree_tables.proofs.Layouts.{day_layout}
+use Rattle.tree_tables.proofs.RowsRead.{all_entries, same_count, same_int, same_text}
+use Rattle.book_audit.specs.Own.{AreOwn}
+use Rattle.book_audit.specs.Records.{Told, counted_price, counted_prices}
+use Rattle.book_audit.specs.SoundTrees.{AreRuled}
+use Rattle.book_audit.specs.declared.rulings.Rulings.{Rulings}
+use Rattle.book_audit.proofs.IndexRows.{entries_rise}
+use Rattle.book_audit.proofs.KeptRows.{sorted}
+use Rattle.book_audit.proofs.OwnLines.{one_record}
+use Rattle.book_audit.proofs.OwnRecords.{closes_are}
+use Rattle.book_audit.proofs.OwnTables.{own_consistent, own_fit, own_tables}
+
+-- a period is no later than that of a later day
+no_later : (n : ℕ) (closes : List ℤ) (one other : ℤ) → one ≤ℤ other
+    → period_from n closes one ≤ period_from n closes other
+no_later n [] one other less = omega arith
+no_later n (through ∷ closes) one other less =
+    elim (int_lt through one) as (λ b. int_lt through one ≡ b
+    → cond b (period_from (n + 1) closes one) n
+    ≤ cond (int_lt through other) (period_from (n + 1) closes other) n) [
+      | true ↦ λ late.
+          let too : int_lt through other ≡ true = grind (arith, ints) in
+          let rest = no_later (n + 1) closes one other less in
+          subst (λ b. period_from (n + 1) closes one ≤ cond b (period_from (n + 1) closes other) n)
+          (sym too) rest
+      | false ↦ λ early. at_least (int_lt through other) (from_least (n + 1) closes other)
+    ] refl
+  where
+    from_least : (n : ℕ) (closes : List ℤ) (day : ℤ) → n ≤ period_from n closes day
+    from_least n [] day = omega arith
+    from_least n (through ∷ closes) day =
+        let rest = from_least (n + 1) closes day in
+        elim (int_lt through day) as (λ b. n ≤ cond b (period_from (n + 1) closes day) n) [
+          | true ↦ omega (arith, rest)
+          | false ↦ omega arith
+        ]
+
+    at_least : {m : ℕ} (b : Bool) → n + 1 ≤ m → n ≤ cond b m n
+    at_least true least = omega (arith, least)
+    at_least false least = omega arith
+
+-- places that rise, rise in the periods of their days
+in_periods : (closes : List ℤ) (a b : RowKey) → by_key a b ≡ Less
+    → by_period by_key (period_from 1 closes a.day, a) (period_from 1 closes b.day, b) ≡ Less
+in_periods closes a b less =
+    elim (int_cmp a.day b.day) as (λ o. int_cmp a.day b.day ≡ o → ordering_then o (
+    ordering_then (by_bytes a.centre b.centre) (by_bytes a.shift b.shift)) ≡ Less
+    → by_period by_key (period_from 1 closes a.day, a) (period_from 1 closes b.day, b) ≡ Less) [
+      | Less ↦ λ is rest.
+          let ranked = int_ranked a.day b.day Less (sym is) in
+          from_period (no_later 1 closes a.day b.day (grind (arith, ints)))
+      | Equal ↦ λ is rest.
+          let ranked = int_ranked a.day b.day Equal (sym is) in
+          from_period (no_later 1 closes a.day b.day (grind (arith, ints)))
+      | Greater ↦ λ is rest. absurd (let e = rest in cc)
+    ] refl less
+  where
+    by_number : (m n : ℕ) → m ≤ n → ordering_then (nat_cmp m n) (by_key a b) ≡ Less
+    by_number m n early =
+        elim (nat_lt m n) as (λ c. nat_lt m n ≡ c
+        → ordering_then (cond c Less (cond (m == n) Equal Greater)) (by_key a b) ≡ Less) [
+          | true ↦ λ below. refl
+          | false ↦ λ other.
+              let same : (m == n) ≡ true = grind (arith, nat_tests) in
+              ap (λ c. ordering_then (cond c Equal Greater) (by_key a b)) same ∙ less
+        ] refl
+
+    from_period : period_from 1 closes a.day ≤ period_from 1 closes b.day
+        → by_period by_key (period_from 1 closes a.day, a) (period_from 1 closes b.day, b) ≡ Less
+    from_period early =
+        by_number (period_from 1 closes a.day) (period_from 1 closes b.day) early
+
+-- so the rows that are due are those of their map
+due_kept : (closes : List ℤ) (prices : List Priced)
+    → entries (from_entries {R = by_period by_key} (map (due_entry closes) (rows_of prices)))
+    ≡ map (due_entry closes) (rows_of prices)
+due_kept closes prices =
+    let due : RowKey → (ℕ × RowKey) × ChargeRow = λ (k : RowKey). due_entry closes (row_at prices k) in
+    let up : IsAscending (λ (a : RowKey) (b : RowKey). by_key a b ≡ Less) (keys_of prices) =
+    ascending-map (λ (a : RowKey) (b : RowKey). by_key a b ≡ Less) (λ (e : RowKey × Unit {0}). e.0)
+    (entries (set_of by_key (map key_of prices)))
+    (entries_rise by_key (entries (set_of by_key (map key_of prices)))
+    (entries_sorted (set_of by_key (map key_of prices)))) in
+    entries-sorted day_layout.total day_layout.exact (map (due_entry closes) (rows_of prices))
+    (sorted day_layout (map (due_entry closes) (rows_of prices))
+    (ascending-map (λ (a : (ℕ × RowKey) × ChargeRow) (b : (ℕ × RowKey) × ChargeRow).
+    by_period by_key a.0 b.0 ≡ Less) (due_entry closes) (rows_of prices)
+    (ascending-map (λ (a : ChargeRow) (b : ChargeRow).
+    by_period by_key (due_entry closes a).0 (due_entry closes b).0 ≡ Less) (row_at prices)
+    (keys_of prices)
+    (ascending_weaker (λ (a : RowKey) (b : RowKey). by_key a b ≡ Less)
+    (λ (a : RowKey) (b : RowKey). by_period by_key (due a).0 (due b).0 ≡ Less)
+    (λ a b less. in_periods closes a b less) (keys_of prices) up))))
+
+-- records are those of the tables where their rows are
+pub same_records : (one other : List (List ℕ × RecordRow))
+    → map record_columns one ≡ map record_columns other → one ≡ other
+same_records [] [] same = refl
+same_records [] (f ∷ other) same = absurd (let e = same in cc)
+same_records (e ∷ one) [] same = absurd (let e = same in cc)
+same_records (e ∷ one) (f ∷ other) same =
+    let first : record_columns e ≡ record_columns f = (let e = same in cc) in
+    let rest : map record_columns one ≡ map record_columns other = (let e = same in cc) in
+    λ i. one_record e f first i ∷ same_records one other rest i
+
+-- what is counted of records by what is told of them
+prices_told : (tables : Tables) (told : List Told)
+    → AllByRecursion (λ (one : Told). one.1.counted ≡ is_counted_row tables one.0) told
+    → counted_prices told ≡ map (λ (e : List ℕ × RecordRow). e.1.priced)
+    (filter (is_counted_row tables) (map (λ (one : Told). one.0) told))
+prices_told tables [] each = refl
+prices_told tables (one ∷ told) each =
+    let kept : List (List ℕ × RecordRow) =
+    filter (is_counted_row tables) (map (λ (one : Told). one.0) told) in
+    ap (λ more. counted_price one ++ more) (prices_told tables told each.1)
+    ∙ by (is_counted_row tables one.0) kept each.0
+  where
+    by : (b : Bool) (kept : List (List ℕ × RecordRow)) → one.1.counted ≡ b
+        → counted_price one ++ map (λ (e : List ℕ × RecordRow). e.1.priced) kept
+        ≡ map (λ (e : List ℕ × RecordRow). e.1.priced) (cond b (one.0 ∷ kept) kept)
+    by true kept is =
+        ap (λ b. cond b (one.0.1.priced ∷ []) [] ++ map (λ (e : List ℕ × RecordRow). e.1.priced) kept) is
+    by false kept is =
+        ap (λ b. cond b (one.0.1.priced ∷ []) [] ++ map (λ (e : List ℕ × RecordRow). e.1.priced) kept) is
+
+module _ (trees : Trees) (own : AreOwn trees) (rulings : Rulings) (are : AreRuled trees rulings) where
+  -- the tree of charge rows is the rows that are due
+  pub own_days : (told : List Told) → trees 3 ≡ map (λ (one : Told). record_columns one.0) told
+      → AllByRecursion (λ (one : Told). one.1.counted ≡ is_counted_row (own_tables trees own) one.0) told
+      → trees 4 ≡ map day_columns (map (due_entry rulings.closes.items) (rows_of (counted_prices told)))
+  own_days told read each =
+      let tables : Tables = own_tables trees own in
+      let entries_are : map (λ (one : Told). one.0) told ≡ entries tables.records =
+      same_records (map (λ (one : Told). one.0) told) (entries tables.records)
+      (map-map record_columns (λ (one : Told). one.0) told ∙ sym read ∙ own.holds.records) in
+      let prices : counted_prices told ≡ map (λ (e : List ℕ × RecordRow). e.1.priced)
+      (counted_entries tables) =
+      prices_told tables told each
+      ∙ ap (λ (es : List (List ℕ × RecordRow)). map (λ (e : List ℕ × RecordRow). e.1.priced)
+      (filter (is_counted_row tables) es)) entries_are in
+      own.holds.days
+      ∙ ap (λ days. map day_columns (entries days)) (own_consistent trees own).days
+      ∙ ap (map day_columns) (due_kept (ruled tables).closes
+      (map (λ (e : List ℕ × RecordRow). e.1.priced) (counted_entries tables)))
+      ∙ sym (λ i. map day_columns (map (due_entry (closes_are trees rulings own are i)) (rows_of (prices i))))
+
+module _ (trees : Trees) (own : AreOwn trees) where
+  -- the rows fit
+  pub own_days_fit : AllByRecursion (λ (row : Row). HasPeriod (column row 0) × ChargeFits row) (trees 4)
+  own_days_fit =
+      let tables : Tables = own_tables trees own in
+      let Good : Row → Type 0 = λ (row : Row). HasPeriod (column row 0) × ChargeFits row in
+      subst (AllByRecursion Good) (sym own.holds.days)
+      (all-map Good day_columns (entries tables.days)
+      (all_entries day_layout.total day_layout.exact
+      (λ (e : (ℕ × RowKey) × ChargeRow). Good (day_columns e)) tables.days
+      (λ place row there.
+      let fits = (own_fit trees own).days place row there in
+      let early = fits.period.early in (
+        (place.0, omega (arith, early), refl),
+        record {
+          day = (place.1.day, fits.day, refl);
+          centre = (place.1.centre, fits.centre, refl);
+          shift = (place.1.shift, fits.shift, refl);
+          count = (row.count, refl);
+          cpu = (row.cpu, refl);
+          blocks = (row.blocks, refl);
+          amount = (row.amount, refl);
+        },
+      ))))
+
+-- charge rows are known by their rows
+pub one_day : (m n : ℕ) (a b : ChargeRow)
+    → day_columns ((m, row_key a), a) ≡ day_columns ((n, row_key b), b)
+    → ◌≡◌ {A = (ℕ × RowKey) × ChargeRow} ((m, row_key a), a) ((n, row_key b), b)
+one_day m n a b same =
+    let at : (k : ℕ) → column (day_columns ((m, row_key a), a)) k
+    ≡ column (day_columns ((n, row_key b), b)) k = λ k. ap (λ (r : Row). column r k) same in
+    let row : a ≡ b = λ i. record {
+      day = same_int a.day b.day (at 1) i;
+      centre = same_text a.centre b.centre (at 2) i;
+      shift = same_text a.shift b.shift (at 3) i;
+      count = same_count a.count b.count (at 4) i;
+      cpu = same_count a.cpu b.cpu (at 5) i;
+      blocks = same_count a.blocks b.blocks (at 6) i;
+      amount = same_count a.amount b.amount (at 7) i;
+    } in
+    λ i. ((same_count m n (at 0) i, row_key (row i)), row i)
+
+-- ---- rows that are read one after the other
+
+module _ {X Y : Type 0} (f : X → Y) (g : Y → Row) where
+  -- the row behind the first ones is that of the next element
+  pub row_next : (xs : List X) (i : ℕ) (x : X) (row : Row) (more : List Row) → i < length xs
+      → x ≡ get_or xs i x → map g (map f xs) ≡ map g (map f (take i xs)) ++ row ∷ more
+      → row ≡ g (f x)
+  row_next [] i x row more inside is same = absurd (omega (arith, inside))
+  row_next (one ∷ xs) zero x row more inside is same =
+      let first : g (f one) ≡ row = (let e = same in cc) in
+      sym first ∙ ap (λ (y : X). g (f y)) (sym is)
+  row_next (one ∷ xs) (suc i) x row more inside is same =
+      let rest : map g (map f xs) ≡ map g (map f (take i xs)) ++ row ∷ more = (let e = same in cc) in
+      row_next xs i x row more (omega (arith, inside)) is rest
+
+  -- there are no fewer rows,
+  pub no_fewer : (xs : List X) (i : ℕ) → i < length xs
+      → map g (map f xs) ≡ map g (map f (take i xs)) → ⊥
+  no_fewer xs i inside same =
+      let long = ap length same in
+      let all = length-map (map f xs) g in
+      let first = length-map xs f in
+      let some = length-map (map f (take i xs)) g in
+      let some_first = length-map (take i xs) f in
+      let taken = length-take-le i xs (omega (arith, inside)) in
+      absurd (omega (arith, inside, long, all, first, some, some_first, taken))
+
+  -- and no more
+  pub no_further : (xs : List X) (i : ℕ) (row : Row) (more : List Row) → length xs ≤ i
+      → map g (map f xs) ≡ map g (map f (take i xs)) ++ row ∷ more → ⊥
+  no_further xs i row more past same =
+      let long = ap length same in
+      let all = length-map (map f xs) g in
+      let first = length-map xs f in
+      let both = length-append (map g (map f (take i xs))) (row ∷ more) in
+      let some = length-map (map f (take i xs)) g in
+      let some_first = length-map (take i xs) f in
+      let taken = length-take i xs in
+      absurd (omega (arith, past, long, all, first, both, some, some_first, taken))

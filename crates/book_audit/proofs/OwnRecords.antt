@@ -1,0 +1,292 @@
+-- Records of books that calls made pass each test.
+use Rattle.std.proofs.Common.{◌≡◌, ◌∙◌, ◌<◌, ◌+◌, ◌-◌, ◌∷◌, [], ◌||◌, ℕ, suc, ℤ, Bool, true, false, List, Option, Some, None}
+use Rattle.std.proofs.Common.{ap, ap₂, arith, cond, length, map, not, refl, subst, sym, IfSome, IsSome, true≢false}
+use Rattle.std.specs.Prelude.{filter, int_lt, nat_lt}
+use Rattle.std.specs.FinMap.{entries, find, get, get-entries}
+use Rattle.std.specs.List.{AllByRecursion, last_or}
+use Rattle.std.specs.List.Sorted.{IsStrictlySortedBy}
+use Rattle.std.specs.Option.{option_map_or}
+use Rattle.std.specs.Ordering.{int_cmp, is_eq}
+use Rattle.std.specs.declared.cmp.Ordering.TheVariants.{Less, Equal, Greater}
+use Rattle.std.proofs.lemmas.Bool.Decides.{nat_tests}
+use Rattle.std.proofs.lemmas.Cmp.{nat_list_eq_equiv}
+use Rattle.std.proofs.lemmas.Int.{ints}
+use Rattle.std.proofs.lemmas.Option.{same_Some}
+use Rattle.sqlite_trees.specs.Tree.{Trees}
+use Rattle.sqlite_value.specs.Order.{Row}
+use Rattle.sqlite_value.specs.declared.value.Value.TheVariants.{Blob}
+use Rattle.book_model.specs.Words.{AcceptedTerms, Rulings as Ruled, by_bytes, identity_by, open_by, price_in, same_bytes}
+use Rattle.table_model.specs.Tables.{RecordRow, Tables}
+use Rattle.table_model.specs.Views.{is_due_at, rows_with}
+use Rattle.table_model.proofs.CloseOrder.{earlier}
+use Rattle.table_model.proofs.RulingsReading.{tariffs_kept}
+use Rattle.consistent_tables.specs.Consistent.{AreInTurn, charged_back, is_counted_row, line_at, periods_after, ruled}
+use Rattle.consistent_tables.specs.DueRows.{period_from}
+use Rattle.tree_tables.specs.Columns.{tariff_columns}
+use Rattle.tree_tables.specs.Stored.{stored_entry}
+use Rattle.tree_tables.specs.declared.stored_record.StoredRecord.{StoredRecord}
+use Rattle.book_audit.specs.Choices.{is_last}
+use Rattle.book_audit.specs.Data.{price_of}
+use Rattle.book_audit.specs.Days.{is_closed}
+use Rattle.book_audit.specs.Marks.{is_posted_so, should_be_charged}
+use Rattle.book_audit.specs.OwnRecords.{AreOwnOf, SaysData}
+use Rattle.book_audit.specs.Own.{AreOwn}
+use Rattle.book_audit.specs.Records.{HasPast, IsLine}
+use Rattle.book_audit.specs.Rules.{identity_under}
+use Rattle.book_audit.specs.SoundTrees.{AreRuled}
+use Rattle.book_audit.specs.Trees.{FindsTwo}
+use Rattle.book_audit.specs.declared.rulings.Rulings.{Rulings}
+use Rattle.book_audit.proofs.HeldLooks.{line_looked, shared_looked, turn_at, went_back}
+use Rattle.book_audit.proofs.HeldRulings.{identity_said, last_said, price_said, same_terms}
+use Rattle.book_audit.proofs.OwnRulings.{own_closes, own_readable, own_rule}
+use Rattle.book_audit.proofs.OwnTables.{own_consistent, own_ruled, own_tables}
+
+-- ---- rulings
+
+module _ (trees : Trees) (rulings : Rulings) (own : AreOwn trees) (are : AreRuled trees rulings) where
+  -- the closes are those of the tables,
+  pub closes_are : rulings.closes.items ≡ (ruled (own_tables trees own)).closes
+  closes_are =
+      own_closes trees own rulings.closes.items are.closes
+      ∙ sym (ap (λ (one : Ruled). one.closes) (own_ruled trees own))
+
+  -- so is the rule of identity,
+  pub identity_is : (bytes : List ℕ)
+      → identity_under rulings.rule bytes ≡ identity_by (ruled (own_tables trees own)) bytes
+  identity_is bytes =
+      identity_said (own_tables trees own).book rulings.rule bytes
+      (own_rule trees own (record {
+        rule = rulings.rule;
+        held = rulings.held;
+        amount = rulings.amount;
+      }) are.book)
+
+  -- and by the tariffs records cost the same
+  pub price_is : (bytes : List ℕ)
+      → price_of rulings.tariffs.items bytes ≡ price_in (ruled (own_tables trees own)) bytes
+  price_is bytes =
+      let whole = own_readable trees own in
+      let tariffs : List AcceptedTerms = own.book.rulings.tariffs in
+      ap (λ all. price_of all bytes) (sym are.tariffs.terms
+      ∙ same_terms are.tariffs.accepted tariffs are.tariffs.texts whole.texts
+      (sym are.tariffs.are ∙ own.holds.tariffs ∙ ap (map tariff_columns) (tariffs_kept tariffs whole.rising)))
+      ∙ sym (price_said own.book.rulings tariffs bytes refl whole.rising)
+      ∙ sym (ap (λ (one : Ruled). price_in one bytes) (own_ruled trees own))
+
+-- ---- the data of a record
+
+pub own_data : (trees : Trees) (rulings : Rulings) (stored : StoredRecord)
+    → AreOwnOf trees rulings (stored_entry stored) → SaysData rulings stored
+own_data trees rulings stored are =
+    let own = are.own in
+    let row : RecordRow = (stored_entry stored).1 in
+    let its = (own_consistent trees own).records stored.name row
+    (are.held (own_tables trees own) own.holds) in
+    record {
+      short = its.usage.framed.short;
+      name = its.named;
+      usage = its.usage.usage;
+      identity = its.identity ∙ sym (identity_is trees rulings own are.ruled _);
+      price = price_is trees rulings own are.ruled _ ∙ its.price;
+    }
+
+-- ---- whether it is charged
+
+-- an entry that passes a test is kept by it
+pub some_kept : (test : RecordRow → Bool) (name : List ℕ) (row : RecordRow) (es : List (List ℕ × RecordRow))
+    → find by_bytes name es ≡ Some row → test row ≡ true
+    → 0 < length (filter (λ (e : List ℕ × RecordRow). test e.1) es)
+some_kept test name row [] there passes = absurd (let e = there in cc)
+some_kept test name row (e ∷ es) there passes =
+    let kept : List (List ℕ × RecordRow) = filter (λ (e : List ℕ × RecordRow). test e.1) es in
+    let later : find by_bytes name es ≡ Some row → 0 < length (cond (test e.1) (e ∷ kept) kept) =
+    λ behind. more (test e.1) e kept (some_kept test name row es behind passes) in
+    elim (by_bytes name e.0) as (λ o. cond (is_eq o) (Some e.1) (find by_bytes name es) ≡ Some row
+    → 0 < length (cond (test e.1) (e ∷ kept) kept)) [
+      | Less ↦ later
+      | Equal ↦ λ it.
+          let same : e.1 ≡ row = same_Some e.1 row it in
+          subst (λ b. 0 < length (cond b (e ∷ kept) kept)) (sym (ap test same ∙ passes)) (first e kept)
+      | Greater ↦ later
+    ] there
+  where
+    more : (b : Bool) (e : List ℕ × RecordRow) (kept : List (List ℕ × RecordRow)) → 0 < length kept
+        → 0 < length (cond b (e ∷ kept) kept)
+    more true e kept some = omega arith
+    more false e kept some = some
+
+    first : (e : List ℕ × RecordRow) (kept : List (List ℕ × RecordRow)) → 0 < length (e ∷ kept)
+    first e kept = omega arith
+
+same_itself : (one : List ℕ) → same_bytes one one ≡ true
+same_itself one = nat_list_eq_equiv.refl one
+
+-- as the trees and the choices say
+pub own_due : (trees : Trees) (rulings : Rulings) (entry : List ℕ × RecordRow) (next : Row)
+    (shared : Bool) → AreOwnOf trees rulings entry
+    → FindsTwo (Blob entry.1.identity ∷ []) (trees 6) next shared
+    → entry.1.charged ≡ should_be_charged shared (is_last rulings.chosen entry.1.identity entry.0)
+own_due trees rulings entry next shared are looked =
+    let own = are.own in
+    let tables : Tables = own_tables trees own in
+    let consistent = own_consistent trees own in
+    let there = are.held tables own.holds in
+    let identity : List ℕ = entry.1.identity in
+    let some : 0 < length (rows_with identity tables.records) =
+    some_kept (λ (row : RecordRow). same_bytes row.identity identity) entry.0 entry.1
+    (entries tables.records) (sym (get-entries tables.records entry.0) ∙ there) (same_itself identity) in
+    let alone = shared_looked trees tables own.holds identity next shared looked some in
+    let last = last_said trees tables own.holds consistent.numbers rulings.rule
+    (length rulings.closes.items + 1) rulings.chosen are.ruled.choices identity in
+    (consistent.records entry.0 entry.1 there).charged
+    ∙ ap (is_due_at tables entry.0) there
+    ∙ sym (ap₂ (λ (b : Bool) (found : Option (List ℕ)).
+    b || option_map_or (same_bytes entry.0) found false) alone last)
+
+-- ---- whether it is posted
+
+-- where a day is not after one close, it is not after the last of later ones
+last_late : (through day : ℤ) (closes : List ℤ)
+    → AllByRecursion (λ (later : ℤ). int_cmp through later ≡ Less) closes
+    → IsStrictlySortedBy int_cmp closes → int_lt through day ≡ false
+    → option_map_or (λ last. int_lt last day) (last_or (Some through) closes) true ≡ false
+unfolding IsStrictlySortedBy
+last_late through day [] above rising early = early
+last_late through day (next ∷ closes) above rising early =
+    let less = earlier through next above.0 in
+    let its : int_lt next day ≡ false = grind (arith, ints) in
+    last_late next day closes rising.0 rising.1 its
+
+-- a day is closed where its period is before the open one
+closed_before : (n : ℕ) (closes : List ℤ) (day : ℤ) → IsStrictlySortedBy int_cmp closes
+    → is_closed closes day ≡ nat_lt (period_from n closes day) (n + length closes)
+unfolding IsStrictlySortedBy
+closed_before n [] day rising = grind (arith, nat_tests)
+closed_before n (through ∷ closes) day rising =
+    elim (int_lt through day) as (λ b. int_lt through day ≡ b
+    → is_closed (through ∷ closes) day
+    ≡ nat_lt (cond b (period_from (n + 1) closes day) n) (n + suc (length closes))) [
+      | true ↦ λ late. by closes rising late ∙ closed_before (n + 1) closes day rising.1
+          ∙ ap (nat_lt (period_from (n + 1) closes day)) (one_more n (length closes))
+      | false ↦ λ early. ap not (last_late through day closes rising.0 rising.1 early)
+          ∙ sym (below n (length closes))
+    ] refl
+  where
+    by : (closes : List ℤ) → IsStrictlySortedBy int_cmp (through ∷ closes) → int_lt through day ≡ true
+        → is_closed (through ∷ closes) day ≡ is_closed closes day
+    by [] rising late = ap not late
+    by (next ∷ closes) rising late = refl
+
+    one_more : (n m : ℕ) → (n + 1) + m ≡ n + suc m
+    one_more n m = omega arith
+
+    below : (n m : ℕ) → nat_lt n (n + suc m) ≡ true
+    below n m = grind (arith, nat_tests)
+
+-- as the last close charged it
+posted_so : (charged posted closed : Bool) (line : Option Bool)
+    → posted ≡ cond closed (option_map_or not line charged) false
+    → (closed ≡ true → IfSome line (λ plus. plus ≡ charged)) → (closed ≡ false → line ≡ None)
+    → is_posted_so charged posted closed line ≡ true
+posted_so true posted true None is turns none = is
+posted_so false posted true None is turns none = ap not is
+posted_so true posted true (Some true) is turns none = ap not is
+posted_so false posted true (Some true) is turns none = absurd (true≢false (turns refl))
+posted_so true posted true (Some false) is turns none = absurd (true≢false (sym (turns refl)))
+posted_so false posted true (Some false) is turns none = is
+posted_so true posted false None is turns none = ap not is
+posted_so false posted false None is turns none = ap not is
+posted_so charged posted false (Some plus) is turns none =
+    absurd (let e = none refl in cc)
+
+module _ (trees : Trees) (rulings : Rulings) (entry : List ℕ × RecordRow)
+    (are : AreOwnOf trees rulings entry) where
+  abbrev tables : Tables
+  tables = own_tables trees are.own
+
+  abbrev there : get tables.records entry.0 ≡ Some entry.1
+  there = are.held tables are.own.holds
+
+  same_closes : rulings.closes.items ≡ (ruled tables).closes
+  same_closes = closes_are trees rulings are.own are.ruled
+
+  -- its lines are in turn
+  pub own_turns : AreInTurn tables entry.0
+      ((length rulings.closes.items + 1) - period_from 1 rulings.closes.items entry.1.priced.day)
+      entry.1.charged
+  own_turns =
+      subst (λ (closes : List ℤ). AreInTurn tables entry.0
+      ((length closes + 1) - period_from 1 closes entry.1.priced.day) entry.1.charged)
+      (sym same_closes) ((own_consistent trees are.own).records entry.0 entry.1 there).turns
+
+  -- so they tell whether its row counts it
+  pub own_counts : (counted : Bool) (count : ℕ)
+      → HasPast (trees 5) rulings.closes.items entry counted count
+      → counted ≡ is_counted_row tables entry
+  own_counts counted count past =
+      let back : ℕ = (length rulings.closes.items + 1)
+      - period_from 1 rulings.closes.items entry.1.priced.day in
+      (went_back trees tables are.own.holds entry.0 (length rulings.closes.items + 1) back
+      entry.1.charged counted count (ap (λ (closes : List ℤ). length closes + 1) same_closes) past).0
+      ∙ ap (λ (closes : List ℤ). charged_back tables entry.0
+      ((length closes + 1) - period_from 1 closes entry.1.priced.day) entry.1.charged) same_closes
+
+  -- and it is posted as the line of the open period says
+  pub own_posted : (line : Option Bool) → IsLine (trees 5) (length rulings.closes.items + 1) entry.0 line
+      → is_posted_so entry.1.charged entry.1.posted (is_closed rulings.closes.items entry.1.priced.day) line
+      ≡ true
+  own_posted line is =
+      let consistent = own_consistent trees are.own in
+      let its = consistent.records entry.0 entry.1 there in
+      let last : ℕ = open_by (ruled tables) in
+      let day : ℤ = entry.1.priced.day in
+      let found : line ≡ get tables.lines (last, entry.0) =
+      line_looked trees tables are.own.holds (length rulings.closes.items + 1) entry.0 line is
+      ∙ ap (λ (closes : List ℤ). get tables.lines (length closes + 1, entry.0)) same_closes in
+      let after : ℕ = periods_after tables entry.1 in
+      let closed : Bool = is_closed rulings.closes.items day in
+      let before : closed ≡ nat_lt (period_from 1 (ruled tables).closes day) last =
+      ap (λ (closes : List ℤ). is_closed closes day) same_closes
+      ∙ closed_before 1 (ruled tables).closes day consistent.in_order
+      ∙ ap (nat_lt (period_from 1 (ruled tables).closes day)) (turn_round (length (ruled tables).closes)) in
+      let some : closed ≡ nat_lt 0 after =
+      before ∙ above_none (period_from 1 (ruled tables).closes day) last in
+      posted_so entry.1.charged entry.1.posted closed line
+      (its.posted ∙ ap₂ (λ (b : Bool) (one : Option Bool).
+      cond b (option_map_or not one entry.1.charged) false) (sym some)
+      (ap (λ n. get tables.lines (n, entry.0)) (less_none last) ∙ sym found))
+      (λ is_so. subst (λ (one : Option Bool). IfSome one (λ plus. plus ≡ entry.1.charged))
+      (ap (λ n. get tables.lines (n, entry.0)) (less_none last) ∙ sym found)
+      (first_turn after (above after (sym some ∙ is_so)) its.turns))
+      (λ not_so. by_line line found (λ plus at.
+      let late = (consistent.lines last entry.0 (subst (λ (one : Option Bool). IsSome one) at refl)) in
+      let same : late.row ≡ entry.1 = same_Some late.row entry.1 (sym late.held ∙ there) in
+      let own_period = late.after in
+      not_above (period_from 1 (ruled tables).closes day) last
+      (subst (λ (row : RecordRow). period_from 1 (ruled tables).closes row.priced.day < last) same
+      own_period) (sym before ∙ not_so)))
+    where
+      turn_round : (n : ℕ) → 1 + n ≡ n + 1
+      turn_round n = omega arith
+
+      less_none : (n : ℕ) → n - 0 ≡ n
+      less_none n = omega arith
+
+      above_none : (own last : ℕ) → nat_lt own last ≡ nat_lt 0 (last - own)
+      above_none own last = grind (arith, nat_tests)
+
+      above : (n : ℕ) → nat_lt 0 n ≡ true → 0 < n
+      above n is = grind (arith, nat_tests)
+
+      not_above : (own last : ℕ) → own < last → nat_lt own last ≡ false → ⊥
+      not_above own last less not_less = grind (arith, nat_tests)
+
+      first_turn : (k : ℕ) → 0 < k → AreInTurn tables entry.0 k entry.1.charged
+          → IfSome (line_at tables entry.0 (open_by (ruled tables) - 0)) (λ plus. plus ≡ entry.1.charged)
+      first_turn k some turns = turn_at tables entry.0 k entry.1.charged turns 0 some
+
+      by_line : (line : Option Bool) → line ≡ get tables.lines (open_by (ruled tables), entry.0)
+          → ((plus : Bool) → Some plus ≡ get tables.lines (open_by (ruled tables), entry.0) → ⊥)
+          → line ≡ None
+      by_line None found none = refl
+      by_line (Some plus) found none = absurd (none plus found)

@@ -1,0 +1,361 @@
+-- The lines, the charge rows and the details of sound trees are those of the records that are counted.
+use Rattle.std.proofs.Common.{◌≡◌, ◌∙◌, ◌++◌, ◌<◌, ◌≤◌, ◌+◌, ◌∷◌, [], inl, inr, ℕ, ℤ, List, Bool, true, false}
+use Rattle.std.proofs.Common.{Option, Some, None, IsSome, ap, ap₂, arith, cond, drop, length, map, pos, refl, subst, sum}
+use Rattle.std.proofs.Common.{sum_by, sym, true≢false, ◌&&◌}
+use Rattle.std.specs.Cmp.Lexicographic.{nat_list_cmp_total}
+use Rattle.std.specs.FinMap.{entries, find, from_entries, get, get-entries, get-from_entries, same_map}
+use Rattle.std.specs.FinMap.{values}
+use Rattle.std.specs.List.{AllByRecursion}
+use Rattle.std.specs.Ordering.{is_eq, is_lt, ordering_then}
+use Rattle.std.specs.Prelude.{filter, if◌then◌else◌}
+use Rattle.std.specs.declared.cmp.Ordering.{Ordering}
+use Rattle.std.specs.declared.cmp.Ordering.TheVariants.{Less, Equal, Greater}
+use Rattle.std.proofs.lemmas.List.Sums.{sum-map}
+use Rattle.std.proofs.lemmas.Option.{same_Some}
+use Rattle.tariff_rules.specs.declared.priced.Priced.{Priced}
+use Rattle.sqlite_trees.specs.Tree.{Trees, from_key}
+use Rattle.sqlite_trees.proofs.ListLemmas.{all_weaker, map-map}
+use Rattle.sqlite_value.specs.Keys.{plain, prefix_cmp}
+use Rattle.sqlite_value.specs.Order.{Row, column, row_cmp, value_cmp}
+use Rattle.sqlite_value.specs.declared.value.Value.{Value}
+use Rattle.sqlite_value.specs.declared.value.Value.TheVariants.{Blob, Int, Text}
+use Rattle.sqlite_value.proofs.OrderLemmas.{value_cmp-Blob}
+use Rattle.book_model.specs.Words.{by_bytes, by_key, most_held, rows_of as charge_rows}
+use Rattle.book_model.specs.declared.detail.Detail.{Detail}
+use Rattle.table_model.specs.DetailsRead.{detail_shown}
+use Rattle.table_model.specs.PeriodRows.{by_period}
+use Rattle.table_model.specs.Tables.{RecordRow, Tables}
+use Rattle.tree_rows.specs.Rows.{IsFirst}
+use Rattle.tree_rows.proofs.IndexOrders.{by_bytes_exact}
+use Rattle.tree_rows.proofs.Keyed.{row_found}
+use Rattle.tree_rows.proofs.Maps.{head_is, prefix_of}
+use Rattle.tree_tables.specs.Columns.{flag}
+use Rattle.tree_tables.proofs.Layouts.{line_layout, record_layout}
+use Rattle.tree_tables.proofs.RowsRead.{same_blob, same_count, same_int}
+use Rattle.consistent_tables.specs.Consistent.{IsOwnLine, counted_entries, is_counted_row, ruled}
+use Rattle.consistent_tables.specs.DueRows.{due_entry, period_from}
+use Rattle.book_audit.specs.Lines.{IsLateLine}
+use Rattle.book_audit.specs.Details.{ShowsCounted}
+use Rattle.book_audit.specs.Records.{GoesBack, IsTold, Told, counted_prices, detail_key, later_periods, spot_of}
+use Rattle.book_audit.specs.SoundTrees.{AreSound}
+use Rattle.book_audit.specs.Trees.{HasKey}
+use Rattle.book_audit.specs.declared.audited.Counts.{Counts as Numbers}
+use Rattle.book_audit.specs.declared.finding.DetailKey.{DetailKey}
+use Rattle.book_audit.proofs.KeptRows.{of_found}
+use Rattle.book_audit.proofs.Pigeonhole.{IsOneOf}
+use Rattle.book_audit.proofs.SoundRecords.{past_is}
+use Rattle.book_audit.proofs.SoundRulings.{closes_said, days, open_is}
+use Rattle.book_audit.proofs.TreesHold.{name_shown, names_shown, of_one, records_in_order, shown, shown_name}
+use Rattle.book_audit.proofs.TreesHold.{shown_row, so_many, tables_held, told_all, trees_hold}
+
+-- ---- charge rows
+
+-- the prices of the records that are counted, as a list
+prices_are : (counts : List ℕ × RecordRow → Bool) (told : List Told)
+    → AllByRecursion (λ (one : Told). one.1.counted ≡ counts one.0) told
+    → counted_prices told ≡ map (λ (entry : List ℕ × RecordRow). entry.1.priced)
+    (filter counts (map (λ (one : Told). one.0) told))
+prices_are counts [] each = refl
+prices_are counts (one ∷ told) each =
+    let its : List Priced = one.0.1.priced ∷ [] in
+    let others = filter counts (map (λ (told : Told). told.0) told) in
+    ap₂ (λ (b : Bool) (more : List Priced). (if b then its else []) ++ more) each.0
+    (prices_are counts told each.1)
+    ∙ by (counts one.0) others
+  where
+    by : (b : Bool) (others : List (List ℕ × RecordRow))
+        → (if b then one.0.1.priced ∷ [] else [])
+        ++ map (λ (entry : List ℕ × RecordRow). entry.1.priced) others
+        ≡ map (λ (entry : List ℕ × RecordRow). entry.1.priced) (cond b (one.0 ∷ others) others)
+    by true others = refl
+    by false others = refl
+
+-- ---- details
+
+-- a row of details that has a key is one of what is shown
+key_shown : (key : Row) (ds : List Detail) (row : Row) (more : List Row)
+    → from_key plain key (map shown_row ds) ≡ row ∷ more → is_eq (prefix_cmp plain row key) ≡ true
+    → (d : Detail) × IsOneOf d ds × (is_eq (prefix_cmp plain (shown_row d) key) ≡ true)
+key_shown key [] row more begins is = absurd (let e = begins in cc)
+key_shown key (d ∷ ds) row more begins is =
+    elim (is_lt (prefix_cmp plain (shown_row d) key)) as (λ b.
+    cond b (from_key plain key (map shown_row ds)) (shown_row d ∷ map shown_row ds) ≡ row ∷ more
+    → (one : Detail) × IsOneOf one (d ∷ ds) × (is_eq (prefix_cmp plain (shown_row one) key) ≡ true)) [
+      | true ↦ λ later. let it = key_shown key ds row more later is in (it.0, inr it.1, it.2)
+      | false ↦ λ it. (
+        d,
+        inl refl,
+        ap (λ (r : Row). is_eq (prefix_cmp plain r key))
+            (head_is (shown_row d) row (map shown_row ds) more it) ∙ is,
+      )
+    ] begins
+
+has_shown : (key : Row) (ds : List Detail) → HasKey key (map shown_row ds)
+    → (d : Detail) × IsOneOf d ds × (is_eq (prefix_cmp plain (shown_row d) key) ≡ true)
+has_shown key ds has = by has.finds.there has.finds.first has.finds.is
+  where
+    by : (there : Bool) → IsFirst (from_key plain key (map shown_row ds)) has.row there
+        → true ≡ (there && is_eq (prefix_cmp plain has.row key))
+        → (d : Detail) × IsOneOf d ds × (is_eq (prefix_cmp plain (shown_row d) key) ≡ true)
+    by true begins is = key_shown key ds has.row begins.0 begins.1 (sym is)
+    by false begins is = absurd (true≢false is)
+
+-- rows that tie have values at their ends that do
+tie_first : (o : Ordering) → is_eq (ordering_then o Equal) ≡ true → o ≡ Equal
+tie_first Less tie = absurd (let e = tie in cc)
+tie_first Equal tie = refl
+tie_first Greater tie = absurd (let e = tie in cc)
+
+ends_tie : (a b : Row) (x y : Value) → length a ≡ length b
+    → is_eq (row_cmp (a ++ x ∷ []) (b ++ y ∷ [])) ≡ true → value_cmp x y ≡ Equal
+ends_tie [] [] x y long tie = tie_first (value_cmp x y) tie
+ends_tie [] (v ∷ b) x y long tie = absurd (omega (arith, long))
+ends_tie (u ∷ a) [] x y long tie = absurd (omega (arith, long))
+ends_tie (u ∷ a) (v ∷ b) x y long tie =
+    elim (value_cmp u v) as (λ o. is_eq (ordering_then o (row_cmp (a ++ x ∷ []) (b ++ y ∷ []))) ≡ true
+    → value_cmp x y ≡ Equal) [
+      | Less ↦ λ tie. absurd (let e = tie in cc)
+      | Equal ↦ λ tie. ends_tie a b x y (omega (arith, long)) tie
+      | Greater ↦ λ tie. absurd (let e = tie in cc)
+    ] tie
+
+-- so what is shown at the place of a record has its name
+same_name : (d : Detail) (spot : DetailKey)
+    → is_eq (prefix_cmp plain (shown_row d) (detail_key spot)) ≡ true → d.name ≡ spot.name
+same_name d spot tie =
+    let own : DetailKey = spot_of d in
+    let a : Row = Int own.place.day ∷ Text own.place.centre ∷ Text own.place.shift ∷ Int (pos own.time) ∷ [] in
+    let b : Row = Int spot.place.day ∷ Text spot.place.centre ∷ Text spot.place.shift ∷ Int (pos spot.time) ∷ [] in
+    by_bytes_exact d.name spot.name
+    (sym (value_cmp-Blob d.name spot.name)
+    ∙ ends_tie a b (Blob d.name) (Blob spot.name) refl
+    (sym (ap is_eq (prefix_of (detail_key own) (drop 5 (shown_row d)) (detail_key spot) refl)) ∙ tie))
+
+same_mark : (one other : Bool) → flag one ≡ flag other → one ≡ other
+same_mark true true same = refl
+same_mark true false same = absurd (omega (arith, same))
+same_mark false true same = absurd (omega (arith, same))
+same_mark false false same = refl
+
+-- ---- the names of what is counted
+
+-- a name with nothing else
+abbrev named : List ℕ × RecordRow → List ℕ × Unit {0}
+named entry = (entry.0, tt)
+
+-- the name of an entry that is found and counted is found among those that are counted
+name_counted : (counts : List ℕ × RecordRow → Bool) (es : List (List ℕ × RecordRow)) (name : List ℕ)
+    (row : RecordRow) → find by_bytes name es ≡ Some row → counts (name, row) ≡ true
+    → find by_bytes name (map named (filter counts es)) ≡ Some tt
+name_counted counts [] name row there is = absurd (let e = there in cc)
+name_counted counts (e ∷ es) name row there is =
+    elim (by_bytes name e.0) as (λ o. by_bytes name e.0 ≡ o
+    → cond (is_eq o) (Some e.1) (find by_bytes name es) ≡ Some row
+    → find by_bytes name (map named (filter counts (e ∷ es))) ≡ Some tt) [
+      | Less ↦ λ at later. passed (counts e) (ap is_eq at) (name_counted counts es name row later is)
+      | Equal ↦ λ at it.
+          let same : (name, row) ≡ e = λ i. (by_bytes_exact name e.0 at i, same_Some row e.1 (sym it) i) in
+          own (counts e) (ap is_eq at) (sym (ap counts same) ∙ is)
+      | Greater ↦ λ at later. passed (counts e) (ap is_eq at) (name_counted counts es name row later is)
+    ] refl there
+  where
+    passed : (b : Bool) → is_eq (by_bytes name e.0) ≡ false
+        → find by_bytes name (map named (filter counts es)) ≡ Some tt
+        → find by_bytes name (map named (cond b (e ∷ filter counts es) (filter counts es))) ≡ Some tt
+    passed true other rest =
+        ap (λ b. cond b (Some tt) (find by_bytes name (map named (filter counts es)))) other ∙ rest
+    passed false other rest = rest
+
+    own : (b : Bool) → is_eq (by_bytes name e.0) ≡ true → b ≡ true
+        → find by_bytes name (map named (cond b (e ∷ filter counts es) (filter counts es))) ≡ Some tt
+    own true tie is = ap (λ b. cond b (Some tt) (find by_bytes name (map named (filter counts es)))) tie
+    own false tie is = absurd (true≢false (sym is))
+
+-- the entries of records, and the one of a name among them that is counted
+abbrev entries_told : List Told → List (List ℕ × RecordRow)
+entries_told told = map (λ (one : Told). one.0) told
+
+abbrev FindsCounted : (List ℕ × RecordRow → Bool) → List Told → List ℕ → Type 0
+FindsCounted counts told name =
+    (one : Told) × IsOneOf one told × (counts one.0 ≡ true) × (one.0.0 ≡ name)
+
+later_counted : (counts : List ℕ × RecordRow → Bool) (first : Told) (told : List Told) (name : List ℕ)
+    → FindsCounted counts told name → FindsCounted counts (first ∷ told) name
+later_counted counts first told name it = (it.0, inr it.1, it.2, it.3)
+
+-- a name that is found there is that of a record that is counted
+counted_named : (counts : List ℕ × RecordRow → Bool) (told : List Told) (name : List ℕ)
+    → find by_bytes name (map named (filter counts (entries_told told))) ≡ Some tt
+    → FindsCounted counts told name
+counted_named counts [] name there = absurd (let e = there in cc)
+counted_named counts (one ∷ told) name there =
+    by (counts one.0) refl (λ at. later_counted counts one told name (counted_named counts told name at)) there
+  where
+    first : counts one.0 ≡ true
+        → (find by_bytes name (map named (filter counts (entries_told told))) ≡ Some tt
+        → FindsCounted counts (one ∷ told) name) → (o : Ordering) → by_bytes name one.0.0 ≡ o
+        → cond (is_eq o) (Some tt) (find by_bytes name (map named (filter counts (entries_told told))))
+        ≡ Some tt → FindsCounted counts (one ∷ told) name
+    first is later Less tie at = later at
+    first is later Equal tie at = (one, inl refl, is, sym (by_bytes_exact name one.0.0 tie))
+    first is later Greater tie at = later at
+
+    by : (b : Bool) → counts one.0 ≡ b
+        → (find by_bytes name (map named (filter counts (entries_told told))) ≡ Some tt
+        → FindsCounted counts (one ∷ told) name)
+        → find by_bytes name (map named (cond b (one.0 ∷ filter counts (entries_told told))
+        (filter counts (entries_told told)))) ≡ Some tt → FindsCounted counts (one ∷ told) name
+    by true is later at = first is later (by_bytes name one.0.0) refl at
+    by false isnt later at = later at
+
+-- what is found in both or in neither is the same
+same_found : (one other : Option (Unit {0})) → (one ≡ Some tt → other ≡ Some tt)
+    → (other ≡ Some tt → one ≡ Some tt) → one ≡ other
+same_found None None there back = refl
+same_found None (Some it) there back = back refl
+same_found (Some it) other there back = sym (there refl)
+
+-- ---- the tables
+
+module _ (trees : Trees) (numbers : Numbers) (sound : AreSound trees numbers) where
+  abbrev tables : Tables
+  tables = tables_held trees numbers sound
+
+  abbrev closes : List ℤ
+  closes = days trees numbers sound
+
+  abbrev told_here : List Told
+  told_here = told_all trees numbers sound
+
+  abbrev counts : List ℕ × RecordRow → Bool
+  counts = is_counted_row tables
+
+  -- what is told of a record is what the tables say
+  is_told : (one : Told) → IsTold trees closes one → one.1.counted ≡ counts one.0
+  is_told one is = (past_is trees numbers sound one.0.0 one.0.1 one.1.counted one.1.lines is.past).0
+
+  counted_are : counted_entries tables ≡ filter counts (entries_told told_here)
+  counted_are = ap (filter counts) (records_in_order trees numbers sound)
+
+  pub days_are : tables.days ≡ from_entries {R = by_period by_key} (map (due_entry (ruled tables).closes)
+      (charge_rows (map (λ (entry : List ℕ × RecordRow). entry.1.priced) (counted_entries tables))))
+  days_are =
+      ap₂ (λ (all : List ℤ) (prices : List Priced).
+      from_entries {R = by_period by_key} (map (due_entry all) (charge_rows prices)))
+      (sym (closes_said trees numbers sound))
+      (prices_are counts told_here
+      (all_weaker (IsTold trees closes) (λ (one : Told). one.1.counted ≡ counts one.0) is_told told_here
+      sound.records.are.past)
+      ∙ ap (map (λ (entry : List ℕ × RecordRow). entry.1.priced)) (sym counted_are))
+
+  -- ---- details
+
+  -- what is shown is counted
+  shown_counted : (d : Detail) → IsOneOf d (shown trees numbers sound)
+      → (row : RecordRow) × (get tables.records d.name ≡ Some row) × (counts (d.name, row) ≡ true)
+  shown_counted d one =
+      let shows = of_one (ShowsCounted trees closes) (shown trees numbers sound) sound.details.each d one in
+      let entry : List ℕ × RecordRow = shows.entry in
+      let at = row_found record_layout tables.records d.name shows.held
+      (trees_hold trees numbers sound).records refl in
+      let name : entry.0 ≡ d.name = same_blob entry.0 d.name (ap (λ (r : Row). column r 0) at.2) in
+      let day : entry.1.priced.day ≡ at.0.priced.day =
+      same_int entry.1.priced.day at.0.priced.day (ap (λ (r : Row). column r 3) at.2) in
+      let charged : entry.1.charged ≡ at.0.charged =
+      same_mark entry.1.charged at.0.charged
+      (same_count (flag entry.1.charged) (flag at.0.charged) (ap (λ (r : Row). column r 9) at.2)) in
+      let past : GoesBack (trees 5) d.name (length closes + 1) (later_periods closes at.0.priced.day)
+      at.0.charged true shows.counted.count =
+      subst (λ (it : List ℕ × ℤ × Bool). GoesBack (trees 5) it.0 (length closes + 1)
+      (later_periods closes it.1) it.2 true shows.counted.count)
+      (λ i. (name i, day i, charged i)) shows.counted.past in (
+        at.0,
+        at.1,
+        sym (past_is trees numbers sound d.name at.0 true shows.counted.count past).0,
+      )
+
+  -- and what is counted is shown
+  counted_shown : (one : Told) → IsOneOf one told_here → counts one.0 ≡ true
+      → find by_bytes one.0.0 (names_shown (shown trees numbers sound)) ≡ Some tt
+  counted_shown one is counted =
+      let told = of_one (IsTold trees closes) told_here sound.records.are.past one is in
+      let spot : DetailKey = spot_of (detail_shown one.0) in
+      let has : HasKey (detail_key spot) (map shown_row (shown trees numbers sound)) =
+      subst (HasKey (detail_key spot)) sound.details.are (told.shown (is_told one told ∙ counted)) in
+      let it = has_shown (detail_key spot) (shown trees numbers sound) has in
+      subst (λ (name : List ℕ). find by_bytes name (names_shown (shown trees numbers sound)) ≡ Some tt)
+      (same_name it.0 spot it.2) (shown_name (shown trees numbers sound) it.0 it.1)
+
+  names_found : (name : List ℕ)
+      → find by_bytes name (names_shown (shown trees numbers sound))
+      ≡ find by_bytes name (map named (counted_entries tables))
+  names_found name =
+      same_found (find by_bytes name (names_shown (shown trees numbers sound)))
+      (find by_bytes name (map named (counted_entries tables)))
+      (λ there.
+      let one = name_shown name (shown trees numbers sound) there in
+      let it = shown_counted one.0 one.1 in
+      subst (λ (own : List ℕ). find by_bytes own (map named (counted_entries tables)) ≡ Some tt) one.2
+      (name_counted counts (entries tables.records) one.0.name it.0
+      (sym (get-entries tables.records one.0.name) ∙ it.1) it.2))
+      (λ there.
+      let one = counted_named counts told_here name
+      (sym (ap (λ (es : List (List ℕ × RecordRow)). find by_bytes name (map named es)) counted_are) ∙ there) in
+      subst (λ (own : List ℕ). find by_bytes own (names_shown (shown trees numbers sound)) ≡ Some tt) one.3
+      (counted_shown one.0 one.1 one.2))
+
+  pub names_are : tables.counted ≡ from_entries {R = by_bytes} (map named (counted_entries tables))
+  names_are =
+      same_map nat_list_cmp_total by_bytes_exact tables.counted
+      (from_entries {R = by_bytes} (map named (counted_entries tables))) (λ name.
+      get-from_entries nat_list_cmp_total (names_shown (shown trees numbers sound)) name ∙ names_found name
+      ∙ sym (get-from_entries nat_list_cmp_total (map named (counted_entries tables)) name))
+
+  -- ---- lines
+
+  late_line : (period : ℕ) (name : List ℕ) (plus : Bool) → get tables.lines (period, name) ≡ Some plus
+      → IsOwnLine tables period name
+  late_line period name plus there =
+      let late = of_found line_layout (IsLateLine (trees 3) closes) sound.lines.lines sound.lines.each
+      (period, name) plus
+      (sym (get-from_entries line_layout.total sound.lines.lines (period, name)) ∙ there) in
+      let at = row_found record_layout tables.records name late.held
+      (trees_hold trees numbers sound).records refl in
+      let day : late.entry.1.priced.day ≡ at.0.priced.day =
+      same_int late.entry.1.priced.day at.0.priced.day (ap (λ (r : Row). column r 3) at.2) in
+      record {
+        row = at.0;
+        held = at.1;
+        after = subst (λ (it : List ℤ × ℤ). period_from 1 it.0 it.1 < period)
+            (λ i. (sym (closes_said trees numbers sound) i, day i)) late.after;
+        begun = subst (λ n. period ≤ n) (sym (open_is trees numbers sound)) late.begun;
+      }
+
+  pub own_line : (period : ℕ) (name : List ℕ) → IsSome (get tables.lines (period, name))
+      → IsOwnLine tables period name
+  own_line period name = by (get tables.lines (period, name)) refl
+    where
+      by : (found : Option Bool) → get tables.lines (period, name) ≡ found → IsSome found
+          → IsOwnLine tables period name
+      by None at some = absurd (true≢false (sym some))
+      by (Some plus) at some = late_line period name plus at
+
+  -- ---- numbers
+
+  pub held_are : tables.book.held ≡ length (entries tables.records)
+  held_are = sym sound.held ∙ so_many trees numbers sound
+
+  pub held_few : tables.book.held ≤ most_held
+  held_few = subst (λ n. n ≤ most_held) sound.held sound.records.few
+
+  pub amount_is : tables.book.amount ≡ sum_by (λ (row : RecordRow). row.priced.amount) (values tables.records)
+  amount_is =
+      let amount : RecordRow → ℕ = λ (row : RecordRow). row.priced.amount in
+      let value : List ℕ × RecordRow → RecordRow = λ (entry : List ℕ × RecordRow). entry.1 in
+      sound.records.are.summed ∙ sym (sum-map (λ (one : Told). one.0.1.priced.amount) told_here)
+      ∙ ap sum (sym (map-map (λ (entry : List ℕ × RecordRow). entry.1.priced.amount) (λ (one : Told). one.0)
+      told_here)
+      ∙ ap (map (λ (entry : List ℕ × RecordRow). entry.1.priced.amount))
+      (sym (records_in_order trees numbers sound))
+      ∙ sym (map-map amount value (entries tables.records)))
+      ∙ sum-map amount (values tables.records)

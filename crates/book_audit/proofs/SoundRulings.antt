@@ -1,0 +1,322 @@
+-- The rulings of sound trees are those that their tables say.
+use Rattle.std.proofs.Common.{◌≡◌, ◌∙◌, ◌<◌, ◌≤◌, ◌+◌, ◌∷◌, [], ◌⊎◌, inl, inr, ℕ, suc, ℤ, List, Bool, true, false}
+use Rattle.std.proofs.Common.{◌&&◌, ◌==◌, All, Option, Some, None, ap, arith, length, map, refl, subst, sym}
+use Rattle.std.specs.FinMap.{entries, get, values}
+use Rattle.std.specs.List.{AllByRecursion, cons_option, filter_map, list_all}
+use Rattle.std.specs.List.Sorted.{IsStrictlySortedBy}
+use Rattle.std.specs.Option.{option_map, option_map_or}
+use Rattle.std.specs.Ordering.{int_cmp}
+use Rattle.std.specs.Prelude.{◌<ℤ◌, if◌then◌else◌, int_lt, nat_le, nat_lt}
+use Rattle.std.specs.declared.cmp.Ordering.TheVariants.{Less}
+use Rattle.std.proofs.lemmas.Bool.Decides.{nat_tests}
+use Rattle.std.proofs.lemmas.Int.{ints}
+use Rattle.std.proofs.lemmas.List.{length-map}
+use Rattle.std.proofs.lemmas.List.Elements.{All-cons, All-from_recursion, All-nil}
+use Rattle.std.proofs.lemmas.Option.{same_Some}
+use Rattle.smf_type30.specs.Usage.{day_of, identity2_of, identity_of}
+use Rattle.tariff_rules.specs.Price.{price_by}
+use Rattle.tariff_rules.specs.Terms.{Terms}
+use Rattle.tariff_rules.specs.declared.priced.Priced.{Priced}
+use Rattle.sqlite_trees.specs.Tree.{IsAscending, Trees}
+use Rattle.sqlite_value.specs.Order.{Row, column}
+use Rattle.book_model.specs.Words.{AcceptedTerms, Choice, IsDay, Rulings as Ruled, are_rising}
+use Rattle.book_model.specs.Words.{first_rule, identity_by, last_period, most_choices, open_by}
+use Rattle.book_model.specs.Words.{price_in, price_under, second_rule}
+use Rattle.book_model.proofs.LatestLemmas.{begun-last}
+use Rattle.book_model.proofs.RecordSets.{first_of, second_of}
+use Rattle.table_model.specs.BookIn.{adopted_read, choice_read, row_record}
+use Rattle.table_model.specs.Readable.{IsTexted}
+use Rattle.table_model.specs.Tables.{BookRow, ChoiceRow, RecordRow, RecordTable, Tables, never_adopted}
+use Rattle.table_model.specs.TablesOf.{close_entries, tariff_entries, under_numbers}
+use Rattle.table_model.proofs.CloseOrder.{earlier}
+use Rattle.table_model.proofs.RulingsReading.{tariffs_back}
+use Rattle.table_model.proofs.UnderNumbers.{entries-numbers, values-numbers}
+use Rattle.tree_rows.specs.Layouts.{row_of}
+use Rattle.tree_rows.proofs.Keyed.{row_found}
+use Rattle.tree_tables.proofs.Layouts.{record_layout, tariff_layout}
+use Rattle.tree_tables.proofs.RowsRead.{same_blob}
+use Rattle.consistent_tables.specs.Consistent.{IsOwnRule, choice_numbers, ruled}
+use Rattle.book_audit.specs.ChoiceRows.{IsMade, Made, said}
+use Rattle.book_audit.specs.Data.{has_begun, price_of}
+use Rattle.book_audit.specs.Rules.{identity_under, is_by, may_be_open, rule_of}
+use Rattle.book_audit.specs.SoundTrees.{AreSound}
+use Rattle.book_audit.specs.Walks.{AreRising}
+use Rattle.book_audit.specs.declared.audited.Counts.{Counts as Numbers}
+use Rattle.book_audit.specs.declared.finding.Tree.TheVariants.{Tariffs}
+use Rattle.book_audit.specs.declared.identity_rule.IdentityRule.{IdentityRule}
+use Rattle.book_audit.specs.declared.identity_rule.IdentityRule.TheVariants.{First, SecondSince}
+use Rattle.book_audit.proofs.KeptRows.{entries_kept, keys_rise}
+use Rattle.book_audit.proofs.LastPassing.{found_made}
+use Rattle.book_audit.proofs.TreesHold.{made, tables_held, trees_hold}
+
+-- ---- tariffs
+
+-- tariffs whose days are above one begin later
+later_tariffs : (day : ℤ) (tariffs : List AcceptedTerms)
+    → AllByRecursion (λ (b : ℤ × Option (List ℕ)). int_cmp day b.0 ≡ Less) (tariff_entries tariffs)
+    → list_all (λ later. int_lt day later.terms.effective) tariffs ≡ true
+later_tariffs day [] above = refl
+later_tariffs day (tariff ∷ tariffs) above =
+    let less : day <ℤ tariff.terms.effective = earlier day tariff.terms.effective above.0 in
+    let first : int_lt day tariff.terms.effective ≡ true = grind (arith, ints) in
+    let rest = later_tariffs day tariffs above.1 in
+    λ i. first i && rest i
+
+-- tariffs rise where their rows do
+tariffs_rise : (tariffs : List AcceptedTerms)
+    → IsAscending (λ (a b : ℤ × Option (List ℕ)). int_cmp a.0 b.0 ≡ Less) (tariff_entries tariffs)
+    → are_rising tariffs ≡ true
+tariffs_rise [] up = refl
+tariffs_rise (tariff ∷ tariffs) up =
+    let first = later_tariffs tariff.terms.effective tariffs up.0 in
+    let rest = tariffs_rise tariffs up.1 in
+    λ i. first i && rest i
+
+-- what usage costs by rising tariffs is what it costs by their terms
+price_said : (rulings : Ruled) (accepted : List AcceptedTerms) (bytes : List ℕ)
+    → rulings.tariffs ≡ accepted → are_rising accepted ≡ true
+    → price_in rulings bytes ≡ price_of (map (λ (tariff : AcceptedTerms). tariff.terms) accepted) bytes
+price_said rulings accepted bytes is rising =
+    let terms : AcceptedTerms → Terms = λ (tariff : AcceptedTerms). tariff.terms in
+    let price : Terms → Priced = λ (one : Terms). price_by one bytes in
+    ap (λ (all : List AcceptedTerms). price_under all bytes) is
+    ∙ ap (λ (found : Option AcceptedTerms). option_map price (option_map terms found))
+    (begun-last accepted (day_of bytes) rising)
+    ∙ sym (ap (option_map price) (found_made terms (has_begun (day_of bytes)) accepted))
+
+-- ---- the rule of identity
+
+-- numbers that a test finds equal, and one that is above none or no later
+same_number : (a b : ℕ) → (a == b) ≡ true → a ≡ b
+same_number a b same = grind (arith, nat_tests)
+
+above_none : (n : ℕ) → nat_lt 0 n ≡ true → 0 < n
+above_none n above = grind (arith, nat_tests)
+
+no_later : (a b : ℕ) → nat_le a b ≡ true → a ≤ b
+no_later a b early = grind (arith, nat_tests)
+
+-- the rule that two numbers say
+which_rule : (rule adopted : ℕ) (found : IdentityRule) → rule_of rule adopted ≡ Some found
+    → ((found ≡ First) × (rule ≡ first_rule) × (adopted ≡ never_adopted))
+    ⊎ ((found ≡ SecondSince adopted) × (rule ≡ second_rule) × (0 < adopted))
+which_rule rule adopted found is =
+    let second : Option IdentityRule =
+    if (rule == second_rule) && may_be_open adopted then Some (SecondSince adopted) else None in
+    elim ((rule == first_rule) && (adopted == never_adopted)) as (λ b.
+    ((rule == first_rule) && (adopted == never_adopted)) ≡ b
+    → (if b then Some First else second) ≡ Some found
+    → ((found ≡ First) × (rule ≡ first_rule) × (adopted ≡ never_adopted))
+    ⊎ ((found ≡ SecondSince adopted) × (rule ≡ second_rule) × (0 < adopted))) [
+      | true ↦ λ both at. inl (
+        sym (same_Some First found at),
+        same_number rule first_rule
+            (first_of (rule == first_rule) (adopted == never_adopted) both),
+        same_number adopted never_adopted
+            (second_of (rule == first_rule) (adopted == never_adopted) both),
+      )
+      | false ↦ λ neither at. inr (by_second ((rule == second_rule) && may_be_open adopted) refl at)
+    ] refl is
+  where
+    by_second : (b : Bool) → ((rule == second_rule) && may_be_open adopted) ≡ b
+        → (if b then Some (SecondSince adopted) else None) ≡ Some found
+        → (found ≡ SecondSince adopted) × (rule ≡ second_rule) × (0 < adopted)
+    by_second true both at = (
+      sym (same_Some (SecondSince adopted) found at),
+      same_number rule second_rule (first_of (rule == second_rule) (may_be_open adopted) both),
+      above_none adopted (first_of (nat_lt 0 adopted) (nat_le adopted last_period)
+          (second_of (rule == second_rule) (may_be_open adopted) both)),
+    )
+    by_second false neither at = absurd (let e = at in cc)
+
+-- so the row of the book says the rule
+own_rule : (tables : Tables) (row : BookRow) (found : IdentityRule)
+    → rule_of row.rule row.adopted ≡ Some found → is_by (open_by (ruled tables)) found ≡ true
+    → IsOwnRule tables row
+own_rule tables row found is begun = elim (which_rule row.rule row.adopted found is) [
+  | inl it ↦ inl (it.1, it.2)
+  | inr it ↦ inr (
+    it.1,
+    it.2,
+    no_later row.adopted (open_by (ruled tables))
+        (subst (λ (one : IdentityRule). is_by (open_by (ruled tables)) one ≡ true) it.0 begun),
+  )
+]
+
+-- and whose work a record measures
+identity_said : (row : BookRow) (found : IdentityRule) (bytes : List ℕ)
+    → rule_of row.rule row.adopted ≡ Some found
+    → identity_under found bytes
+    ≡ option_map_or (λ (period : ℕ). identity2_of bytes) (adopted_read row) (identity_of bytes)
+identity_said row found bytes is =
+    let by_number : ℕ → List ℕ = λ (rule : ℕ).
+    option_map_or (λ (period : ℕ). identity2_of bytes)
+    (if rule == second_rule then Some row.adopted else None) (identity_of bytes) in
+    elim (which_rule row.rule row.adopted found is) [
+      | inl it ↦ ap (λ (one : IdentityRule). identity_under one bytes) it.0
+          ∙ sym (ap by_number it.1)
+      | inr it ↦ ap (λ (one : IdentityRule). identity_under one bytes) it.0
+          ∙ sym (ap by_number it.1)
+    ]
+
+-- ---- choices
+
+-- the record of a choice is held, and has its identity
+abbrev pub IsHeldChoice : RecordTable → Made → Type 0
+IsHeldChoice records one =
+    (row : RecordRow) × (get records one.1.name ≡ Some row) × (row.identity ≡ one.0)
+
+-- the choice of a row, by its record
+abbrev choice_of : ChoiceRow → RecordRow → Choice
+choice_of choice row = record { chosen = row_record row; period = choice.period }
+
+-- so each choice is read,
+all_found : (records : RecordTable) (made : List Made) → AllByRecursion (IsHeldChoice records) made
+    → length (filter_map (choice_read records) (said made)) ≡ length (said made)
+all_found records [] held = refl
+all_found records (one ∷ made) held =
+    ap (λ (found : Option RecordRow). length (cons_option (option_map (choice_of one.1) found)
+    (filter_map (choice_read records) (said made)))) held.0.1
+    ∙ ap suc (all_found records made held.1)
+
+-- and was made in a period that has begun
+abbrev IsTimelyBy : ℕ → Choice → Type 0
+IsTimelyBy last choice = (0 < choice.period) × (choice.period ≤ last)
+
+all_timely : (records : RecordTable) (last : ℕ) (made : List Made)
+    → AllByRecursion (λ (one : Made). 0 < one.1.period) made
+    → AllByRecursion (λ (one : Made). one.1.period ≤ last) made
+    → All (IsTimelyBy last) (filter_map (choice_read records) (said made))
+all_timely records last [] numbered begun = All-nil (IsTimelyBy last)
+all_timely records last (one ∷ made) numbered begun =
+    let rest = all_timely records last made numbered.1 begun.1 in
+    let more : List Choice = filter_map (choice_read records) (said made) in
+    elim (get records one.1.name) as (λ (found : Option RecordRow).
+    All (IsTimelyBy last) (cons_option (option_map (choice_of one.1) found) more)) [
+      | None ↦ rest
+      | Some row ↦ All-cons (IsTimelyBy last) (choice_of one.1 row) more (numbered.0, begun.0) rest
+    ]
+
+module _ (trees : Trees) (numbers : Numbers) (sound : AreSound trees numbers) where
+  abbrev tables : Tables
+  tables = tables_held trees numbers sound
+
+  abbrev accepted : List AcceptedTerms
+  accepted = sound.ruled.tariffs.accepted
+
+  abbrev pub days : List ℤ
+  days = sound.rulings.closes.items
+
+  -- ---- tariffs
+
+  tariffs_up : AreRising Tariffs (map (row_of tariff_layout) (tariff_entries accepted))
+  tariffs_up = subst (AreRising Tariffs) sound.ruled.tariffs.are sound.ruled.tariffs.rising
+
+  tariffs_in_order : entries tables.tariffs ≡ tariff_entries accepted
+  tariffs_in_order = entries_kept tariff_layout Tariffs (λ k. refl) (tariff_entries accepted) tariffs_up
+
+  rising : are_rising accepted ≡ true
+  rising =
+      tariffs_rise accepted
+      (keys_rise tariff_layout Tariffs (λ k. refl) (tariff_entries accepted) tariffs_up)
+
+  texted : All IsTexted accepted
+  texted = All-from_recursion IsTexted accepted sound.ruled.tariffs.texts
+
+  pub tariffs_said : (ruled tables).tariffs ≡ accepted
+  tariffs_said = tariffs_back accepted rising texted
+
+  pub tariffs_texted : All IsTexted (ruled tables).tariffs
+  tariffs_texted = subst (All IsTexted) (sym tariffs_said) texted
+
+  pub tariffs_entered : tariff_entries (ruled tables).tariffs ≡ entries tables.tariffs
+  tariffs_entered = ap tariff_entries tariffs_said ∙ sym tariffs_in_order
+
+  pub price_is : (bytes : List ℕ)
+      → price_in (ruled tables) bytes ≡ price_of sound.rulings.tariffs.items bytes
+  price_is bytes =
+      price_said (ruled tables) accepted bytes tariffs_said rising
+      ∙ ap (λ (all : List Terms). price_of all bytes) sound.ruled.tariffs.terms
+
+  -- ---- closes
+
+  pub closes_said : (ruled tables).closes ≡ days
+  closes_said = values-numbers days
+
+  pub open_is : open_by (ruled tables) ≡ length days + 1
+  open_is = ap (λ (all : List ℤ). length all + 1) closes_said
+
+  pub closes_entered : entries tables.closes ≡ close_entries 1 (ruled tables).closes
+  closes_entered = entries-numbers days ∙ ap (close_entries 1) (sym closes_said)
+
+  pub closes_days : All IsDay (ruled tables).closes
+  closes_days = subst (All IsDay) (sym closes_said) sound.ruled.closes.valid
+
+  pub closes_rise : IsStrictlySortedBy int_cmp (ruled tables).closes
+  closes_rise = subst (IsStrictlySortedBy int_cmp) (sym closes_said) sound.ruled.closes.in_order
+
+  pub closes_few : length (ruled tables).closes < last_period
+  closes_few = subst (λ (all : List ℤ). length all < last_period) (sym closes_said) sound.rulings.few
+
+  -- ---- the rule of identity
+
+  pub rule_is : IsOwnRule tables tables.book
+  rule_is =
+      own_rule tables tables.book sound.rulings.rule sound.ruled.book.is.known
+      (subst (λ n. is_by n sound.rulings.rule ≡ true) (sym open_is) sound.ruled.begun)
+
+  pub identity_is : (bytes : List ℕ)
+      → identity_under sound.rulings.rule bytes ≡ identity_by (ruled tables) bytes
+  identity_is bytes = identity_said tables.book sound.rulings.rule bytes sound.ruled.book.is.known
+
+  -- ---- choices
+
+  abbrev its_choices : List Made
+  its_choices = made trees numbers sound
+
+  held_choices : (n : ℕ) (some : List Made)
+      → AllByRecursion (IsMade trees sound.rulings.rule) (under_numbers n some)
+      → AllByRecursion (IsHeldChoice tables.records) some
+  held_choices n [] each = tt
+  held_choices n (one ∷ some) each =
+      let among = each.0.among in
+      let held = row_found record_layout tables.records one.1.name among.held
+      (trees_hold trees numbers sound).records refl in (
+        (
+          held.0,
+          held.1,
+          same_blob held.0.identity one.0
+              (sym (ap (λ (r : Row). column r 1) held.2) ∙ among.identity_of),
+        ),
+        held_choices (suc n) some each.1,
+      )
+
+  pub choices_held : AllByRecursion (IsHeldChoice tables.records) its_choices
+  choices_held = held_choices 1 its_choices sound.ruled.choices.are.each
+
+  pub choices_said : values tables.choices ≡ said its_choices
+  choices_said = values-numbers (said its_choices)
+
+  pub choices_numbered : entries tables.choices ≡ choice_numbers tables
+  choices_numbered = entries-numbers (said its_choices) ∙ ap (under_numbers 1) (sym choices_said)
+
+  pub choices_read : length (ruled tables).choices ≡ length (values tables.choices)
+  choices_read =
+      ap (λ (rows : List ChoiceRow). length (filter_map (choice_read tables.records) rows)) choices_said
+      ∙ all_found tables.records its_choices choices_held ∙ ap length (sym choices_said)
+
+  pub choices_timely : All (IsTimelyBy (open_by (ruled tables))) (ruled tables).choices
+  choices_timely =
+      subst (λ n. All (IsTimelyBy n) (ruled tables).choices) (sym open_is)
+      (subst (λ (rows : List ChoiceRow). All (IsTimelyBy (length days + 1))
+      (filter_map (choice_read tables.records) rows)) (sym choices_said)
+      (all_timely tables.records (length days + 1) its_choices sound.ruled.choices.are.numbered
+      sound.ruled.choices.are.begun))
+
+  pub choices_counted : sound.rulings.chosen.count ≡ length (ruled tables).choices
+  choices_counted =
+      sound.ruled.choices.are.counted ∙ sym (length-map its_choices (λ (one : Made). one.1))
+      ∙ sym (choices_read ∙ ap length choices_said)
+
+  pub choices_few : length (ruled tables).choices ≤ most_choices
+  choices_few = subst (λ n. n ≤ most_choices) choices_counted sound.ruled.choices.few

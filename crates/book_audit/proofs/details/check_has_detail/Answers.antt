@@ -1,0 +1,65 @@
+use Rattle.std.proofs.Common.{◌≡◌, ◌∙◌, List, ℕ, ap, false, rules, subst, sym}
+use Rattle.std.specs.Prelude.{is_ok}
+use Rattle.smf_frames.specs.Framed.{record_with}
+use Rattle.sqlite_trees.specs.Tree.{Trees}
+use Rattle.sqlite_trees.specs.View.{IsClean}
+use Rattle.sqlite_trees.specs.declared.error.StoreError.{StoreError}
+use Rattle.sqlite_trees.specs.declared.error.StoreError.TheVariants.{OutOfMemory}
+use Rattle.sqlite_value.specs.Order.{Row}
+use Rattle.book_model.specs.Words.{IsUsage}
+use Rattle.table_model.specs.DetailsRead.{detail_shown}
+use Rattle.table_model.specs.Tables.{RecordRow}
+use Rattle.tree_rows.specs.Calls.{OnlyLooks}
+use Rattle.tree_rows.specs.Rows.{Finds}
+use Rattle.tree_tables.specs.Stored.{stored_entry}
+use Rattle.tree_tables.specs.UsageData.{IsUsageData}
+use Rattle.book_audit.specs.Records.{detail_key, spot_of}
+use Rattle.book_audit.proofs.OwnDetails.{counted_usage, detail_found}
+use Rattle.book_audit.proofs.OwnSteps.{never_with, passed_with}
+use Rattle.book_audit.proofs.OwnStops.{err_fits, met_memory}
+use Rattle.book_audit.proofs.WalkSteps.{look_back}
+use Rattle.book_audit.proofs.details.check_has_detail.Goals as goal
+
+-- the data of a record of own books are those of usage,
+pub returns-in_err-map_err-clause-own : goal.returns-in_err-map_err-clause-own
+returns-in_err-map_err-clause-own g c =
+    let start = c.args.trees.now.store in
+    let trees : Trees = (g.S.Store.view start).trees in
+    let entry : List ℕ × RecordRow = stored_entry c.args.record.now in
+    let stop = c.in_err-map_err.field-0.0 in
+    let refused : is_ok c.put_data.result ≡ false =
+    sym c.map_err.ensures.variant ∙ ap is_ok c.in_err-map_err.was in
+    passed_with g.S.Store start start stop c.from_residual.result c.from_residual.ensures.1
+    (λ known finding said clean own.
+    let memory = err_fits (λ (error : StoreError). error ≡ OutOfMemory) c.put_data.result
+    c.put_data.ensures.taken
+    (subst IsUsageData (sym c.deref.ensures.value) (counted_usage trees entry (known clean))) in
+    absurd (met_memory c.put_data.result c.map_err.result stop (λ error stop stands. search rules)
+    c.map_err.ensures.cases c.in_err-map_err.was refused memory finding said))
+
+pub returns-in_err-usage-clause-own : goal.returns-in_err-usage-clause-own
+returns-in_err-usage-clause-own g c =
+    let start = c.args.trees.now.store in
+    let trees : Trees = (g.S.Store.view start).trees in
+    let entry : List ℕ × RecordRow = stored_entry c.args.record.now in
+    let refused : is_ok c.usage_in.result ≡ false =
+    sym c.map_err-2.ensures.variant ∙ ap is_ok c.in_err-usage.was in
+    never_with g.S.Store start _ _ (λ known clean own.
+    let bytes : c.deref-2.result.now ≡ record_with c.args.record.now.data_bytes.items = search rules in
+    let usage : IsUsage c.deref-2.result.now =
+    subst IsUsage (sym bytes) (counted_usage trees entry (known clean)).usage in
+    let there = c.usage_in.ensures.usage.1 usage in
+    absurd (search rules))
+
+-- and it has a row of details
+pub returns-else-found-clause-own : goal.returns-else-found-clause-own
+returns-else-found-clause-own g c premise finding is clean own =
+    let start = c.args.trees.now.store in
+    let new = c.has_detail.new.self.store in
+    let trees : Trees = (g.S.Store.view start).trees in
+    let row : Row = c.has_detail.new.self.found in
+    let looks : OnlyLooks g.S.Store start new = search rules in
+    let finds : IsClean (g.S.Store.view new) → Finds (detail_key
+    (spot_of (detail_shown (stored_entry c.args.record.now)))) (trees 10) row false = search rules in
+    absurd (detail_found trees (stored_entry c.args.record.now)
+    (premise (look_back g.S.Store start new looks clean)) row (finds clean))

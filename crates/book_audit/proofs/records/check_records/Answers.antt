@@ -1,0 +1,88 @@
+use Rattle.std.proofs.Common.{◌≡◌, ◌∙◌, length, refl, rules, sym, ap}
+use Rattle.sqlite_trees.specs.Tree.{Trees}
+use Rattle.sqlite_trees.specs.View.{IsClean}
+use Rattle.tree_rows.specs.Calls.{OnlyLooks}
+use Rattle.tree_rows.proofs.Calls.{quiet_both}
+use Rattle.book_audit.proofs.OwnEntries.{identities_many, marks_many}
+use Rattle.book_audit.proofs.OwnSteps.{passed_with}
+use Rattle.book_audit.proofs.OwnStops.{stop_on}
+use Rattle.book_audit.proofs.OwnSums.{amount_is, count_is, own_held, own_sums}
+use Rattle.book_audit.proofs.OwnTables.{own_tables}
+use Rattle.book_audit.proofs.WalkSteps.{look_back, looks_on, trees_stay}
+use Rattle.book_audit.proofs.records.check_records.Goals as goal
+
+-- as many records are found by their identities as are held,
+pub returns-in_err-check_entries-clause-own : goal.returns-in_err-check_entries-clause-own
+returns-in_err-check_entries-clause-own g c =
+    let start = c.args.trees.now.store in
+    let mid = c.read_records.new.trees.store in
+    let new = c.check_entries.new.trees.store in
+    let trees : Trees = (g.S.Store.view start).trees in
+    let stop = c.in_err-check_entries.field-0.0 in
+    let first : OnlyLooks g.S.Store start mid = c.in_ok-held.ensures.same in
+    passed_with g.S.Store start new stop _ c.from_residual-in_err-check_entries.ensures.1 (λ known.
+    stop_on g.S.Store start mid new stop first c.read_records.ensures.quiet
+    c.check_entries.ensures.quiet (c.in_err-check_entries.ensures.own refl (λ back own.
+    count_is trees c.args.rulings.now _ _ _ _ _ (c.in_ok-held.ensures.records back)
+    ∙ sym (ap (λ (all : Trees). length (all 3)) (trees_stay g.S.Store start mid first back))
+    ∙ sym (identities_many (g.S.Store.view mid).trees (own_tables (g.S.Store.view mid).trees own)
+    own.holds))))
+
+-- and by their marks,
+pub returns-in_err-check_entries-2-clause-own : goal.returns-in_err-check_entries-2-clause-own
+returns-in_err-check_entries-2-clause-own g c =
+    let start = c.args.trees.now.store in
+    let mid = c.read_records.new.trees.store in
+    let next = c.check_entries.new.trees.store in
+    let new = c.check_entries-2.new.trees.store in
+    let trees : Trees = (g.S.Store.view start).trees in
+    let stop = c.in_err-check_entries-2.field-0.0 in
+    let first : OnlyLooks g.S.Store start mid = c.in_ok-held.ensures.same in
+    let second : OnlyLooks g.S.Store mid next = c.in_ok-check_entries.ensures.same in
+    let both : OnlyLooks g.S.Store start next = looks_on g.S.Store start mid next first second in
+    passed_with g.S.Store start new stop _ c.from_residual-in_err-check_entries-2.ensures.1 (λ known.
+    stop_on g.S.Store start next new stop both
+    (quiet_both g.S.Store c.read_records.ensures.quiet c.check_entries.ensures.quiet)
+    c.check_entries-2.ensures.quiet (c.in_err-check_entries-2.ensures.own refl (λ back own.
+    count_is trees c.args.rulings.now _ _ _ _ _
+    (c.in_ok-held.ensures.records (look_back g.S.Store mid next second back))
+    ∙ sym (ap (λ (all : Trees). length (all 3)) (trees_stay g.S.Store start next both back))
+    ∙ sym (marks_many (g.S.Store.view next).trees (own_tables (g.S.Store.view next).trees own)
+    own.holds))))
+
+-- and the row of the book says how many they are, and what they cost
+pub returns-then-held-rulings-clause-own : goal.returns-then-held-rulings-clause-own
+returns-then-held-rulings-clause-own g c known finding said clean own =
+    let start = c.args.trees.now.store in
+    let mid = c.read_records.new.trees.store in
+    let next = c.check_entries.new.trees.store in
+    let new = c.check_entries-2.new.trees.store in
+    let trees : Trees = (g.S.Store.view start).trees in
+    let first : OnlyLooks g.S.Store start mid = c.in_ok-held.ensures.same in
+    let second : OnlyLooks g.S.Store mid next = c.in_ok-check_entries.ensures.same in
+    let third : OnlyLooks g.S.Store next new = c.in_ok-check_entries-2.ensures.same in
+    let back : IsClean (g.S.Store.view mid) =
+    look_back g.S.Store mid next second (look_back g.S.Store next new third clean) in
+    let sums = own_sums trees own c.args.rulings.now (known.0 (look_back g.S.Store start mid first back)) in
+    let same : c.in_ok-held.held.records ≡ c.args.rulings.now.held =
+    count_is trees c.args.rulings.now _ _ _ _ _ (c.in_ok-held.ensures.records back)
+    ∙ own_held trees own ∙ sym sums.0 in
+    absurd (search rules)
+
+pub returns-then-held-rulings-2-clause-own : goal.returns-then-held-rulings-2-clause-own
+returns-then-held-rulings-2-clause-own g c known finding said clean own =
+    let start = c.args.trees.now.store in
+    let mid = c.read_records.new.trees.store in
+    let next = c.check_entries.new.trees.store in
+    let new = c.check_entries-2.new.trees.store in
+    let trees : Trees = (g.S.Store.view start).trees in
+    let first : OnlyLooks g.S.Store start mid = c.in_ok-held.ensures.same in
+    let second : OnlyLooks g.S.Store mid next = c.in_ok-check_entries.ensures.same in
+    let third : OnlyLooks g.S.Store next new = c.in_ok-check_entries-2.ensures.same in
+    let back : IsClean (g.S.Store.view mid) =
+    look_back g.S.Store mid next second (look_back g.S.Store next new third clean) in
+    let sums = own_sums trees own c.args.rulings.now (known.0 (look_back g.S.Store start mid first back)) in
+    let same : c.in_ok-held.held.amount ≡ c.args.rulings.now.amount =
+    amount_is trees own c.args.rulings.now _ _ _ _ _ (c.in_ok-held.ensures.records back)
+    ∙ sym sums.1 in
+    absurd (search rules)

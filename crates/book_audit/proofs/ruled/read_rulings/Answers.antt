@@ -1,0 +1,140 @@
+use Rattle.std.proofs.Common.{◌≡◌, ◌<◌, ◌+◌, ◌∙◌, ℤ, List, ap, arith, false, length, rules, subst}
+use Rattle.std.proofs.Common.{sym, true, true≢false, Some}
+use Rattle.sqlite_trees.specs.Tree.{Trees}
+use Rattle.sqlite_trees.specs.View.{IsClean}
+use Rattle.book_model.specs.Words.{last_period}
+use Rattle.tree_rows.specs.Calls.{OnlyLooks}
+use Rattle.tree_rows.proofs.Calls.{quiet_both}
+use Rattle.book_audit.specs.ChoiceRows.{AreChoices}
+use Rattle.book_audit.specs.Entries.{AreCounted}
+use Rattle.book_audit.specs.Own.{AreOwn}
+use Rattle.book_audit.specs.OwnChoices.{AreItsRulings}
+use Rattle.book_audit.specs.Rules.{is_by}
+use Rattle.book_audit.specs.Rulings.{AreClosed, AreTariffs}
+use Rattle.book_audit.specs.declared.finding.Tree.TheVariants.{ChoiceNames}
+use Rattle.book_audit.specs.declared.identity_rule.IdentityRule.{IdentityRule}
+use Rattle.book_audit.specs.declared.rulings.BookRow.{BookRow}
+use Rattle.book_audit.proofs.OwnRulings.{known_rule, own_closes, own_readable, own_rule, own_rulings}
+use Rattle.book_audit.proofs.OwnStops.{stop_on, stop_passed}
+use Rattle.book_audit.proofs.WalkSteps.{look_back, looks_on, trees_stay}
+use Rattle.book_audit.proofs.ruled.read_rulings.Goals as goal
+
+pub returns-clause-ruled : goal.returns-clause-ruled
+returns-clause-ruled g c clean =
+    let start = c.args.trees.now.store in
+    let one = c.read_book.new.trees.store in
+    let two = c.read_tariffs.new.trees.store in
+    let three = c.read_closes.new.trees.store in
+    let four = c.read_choices.new.trees.store in
+    let first : OnlyLooks g.S.Store start one = c.in_ok-book.ensures.same in
+    let second : OnlyLooks g.S.Store one two = c.in_ok-tariffs.ensures.same in
+    let third : OnlyLooks g.S.Store two three = c.in_ok-closes.ensures.same in
+    let fourth : OnlyLooks g.S.Store three four = c.in_ok-chosen.ensures.same in
+    let at_three : IsClean (g.S.Store.view three) = look_back g.S.Store three four fourth clean in
+    let at_two : IsClean (g.S.Store.view two) = look_back g.S.Store two three third at_three in
+    let at_one : IsClean (g.S.Store.view one) = look_back g.S.Store one two second at_two in
+    let to_two : OnlyLooks g.S.Store start two = looks_on g.S.Store start one two first second in
+    let to_three : OnlyLooks g.S.Store start three = looks_on g.S.Store start two three to_two third in
+    let stay = trees_stay g.S.Store start three to_three at_three in
+    let rule : IdentityRule = c.in_ok-book.book.rule in
+    let chosen = c.in_ok-chosen.chosen in
+    let days : List ℤ = c.in_ok-closes.closes.items in
+    let many : c.len-2.result ≡ length days = search rules in
+    let begun : is_by (c.len-2.result + 1) rule ≡ true = search rules in
+    record {
+      book = c.in_ok-book.ensures.book at_one;
+      tariffs = subst (λ (all : Trees). AreTariffs (all 1) c.in_ok-tariffs.tariffs.items)
+          (trees_stay g.S.Store start one first at_one) (c.in_ok-tariffs.ensures.tariffs at_two);
+      closes = subst (λ (all : Trees). AreClosed (all 2) days)
+          (trees_stay g.S.Store start two to_two at_two) (c.in_ok-closes.ensures.closed at_three);
+      choices = subst (λ (all : Trees). AreChoices all rule (length days + 1) chosen) stay
+          (subst (λ n. AreChoices (g.S.Store.view three).trees rule (n + 1) chosen) many
+          (c.in_ok-chosen.ensures.choices clean));
+      choice_names = subst (λ (all : Trees). AreCounted ChoiceNames (all 9) chosen.count) stay
+          (c.in_ok-chosen.ensures.names clean);
+      begun = subst (λ n. is_by (n + 1) rule ≡ true) many begun;
+    }
+
+-- the closes of books that calls made are no more than can be
+pub returns-then-len-gt-MAX_CLOSES-clause-own : goal.returns-then-len-gt-MAX_CLOSES-clause-own
+returns-then-len-gt-MAX_CLOSES-clause-own g c finding is clean own =
+    let start = c.args.trees.now.store in
+    let one = c.read_book.new.trees.store in
+    let two = c.read_tariffs.new.trees.store in
+    let three = c.read_closes.new.trees.store in
+    let days : List ℤ = c.in_ok-closes.closes.items in
+    let to_two : OnlyLooks g.S.Store start two =
+    looks_on g.S.Store start one two c.in_ok-book.ensures.same c.in_ok-tariffs.ensures.same in
+    let at_two : IsClean (g.S.Store.view two) =
+    look_back g.S.Store two three c.in_ok-closes.ensures.same clean in
+    let same = own_closes (g.S.Store.view start).trees own days
+    (subst (λ (all : Trees). AreClosed (all 2) days) (trees_stay g.S.Store start two to_two at_two)
+    (c.in_ok-closes.ensures.closed clean)) in
+    let few : length own.book.rulings.closes < last_period =
+    (own_readable (g.S.Store.view start).trees own).limits.closes in
+    let long = ap length same in
+    let many : c.len.result ≡ length days = search rules in
+    let above = c.if-len-gt-MAX_CLOSES.true in
+    absurd (omega (arith, few, long, many, above))
+
+-- and an adoption is not still to come
+pub returns-then-not-is_by-clause-own : goal.returns-then-not-is_by-clause-own
+returns-then-not-is_by-clause-own g c finding is clean own =
+    let start = c.args.trees.now.store in
+    let one = c.read_book.new.trees.store in
+    let two = c.read_tariffs.new.trees.store in
+    let three = c.read_closes.new.trees.store in
+    let days : List ℤ = c.in_ok-closes.closes.items in
+    let to_two : OnlyLooks g.S.Store start two =
+    looks_on g.S.Store start one two c.in_ok-book.ensures.same c.in_ok-tariffs.ensures.same in
+    let at_two : IsClean (g.S.Store.view two) =
+    look_back g.S.Store two three c.in_ok-closes.ensures.same clean in
+    let at_one : IsClean (g.S.Store.view one) =
+    look_back g.S.Store one two c.in_ok-tariffs.ensures.same at_two in
+    let trees : Trees = (g.S.Store.view start).trees in
+    let read : BookRow = c.in_ok-book.book in
+    let same = own_closes trees own days
+    (subst (λ (all : Trees). AreClosed (all 2) days) (trees_stay g.S.Store start two to_two at_two)
+    (c.in_ok-closes.ensures.closed clean)) in
+    let known = known_rule own.book (own_readable trees own) in
+    let its : Some known.0 ≡ Some read.rule =
+    sym known.1 ∙ own_rule trees own read (c.in_ok-book.ensures.book at_one) in
+    let rule : known.0 ≡ read.rule = (let e = its in cc) in
+    let many : c.len-2.result ≡ length days = search rules in
+    let late : is_by (c.len-2.result + 1) read.rule ≡ false = search rules in
+    let begun : is_by (c.len-2.result + 1) read.rule ≡ true =
+    ap (λ n. is_by (n + 1) read.rule) (many ∙ ap length same)
+    ∙ ap (is_by (length own.book.rulings.closes + 1)) (sym rule) ∙ known.2 in
+    absurd (true≢false (sym begun ∙ late))
+
+pub returns-in_err-chosen-clause-own : goal.returns-in_err-chosen-clause-own
+returns-in_err-chosen-clause-own g c =
+    let start = c.args.trees.now.store in
+    let one = c.read_book.new.trees.store in
+    let two = c.read_tariffs.new.trees.store in
+    let three = c.read_closes.new.trees.store in
+    let four = c.read_choices.new.trees.store in
+    let days : List ℤ = c.in_ok-closes.closes.items in
+    let read : BookRow = c.in_ok-book.book in
+    let to_two : OnlyLooks g.S.Store start two =
+    looks_on g.S.Store start one two c.in_ok-book.ensures.same c.in_ok-tariffs.ensures.same in
+    let to_three : OnlyLooks g.S.Store start three =
+    looks_on g.S.Store start two three to_two c.in_ok-closes.ensures.same in
+    let many : c.len-2.result ≡ length days = search rules in
+    stop_passed g.S.Store start four c.in_err-chosen.field-0.0 c.from_residual-in_err-chosen.result
+    c.from_residual-in_err-chosen.ensures.1
+    (stop_on g.S.Store start three four c.in_err-chosen.field-0.0 to_three
+    (quiet_both g.S.Store (quiet_both g.S.Store c.read_book.ensures.quiet c.read_tariffs.ensures.quiet)
+    c.read_closes.ensures.quiet) c.read_choices.ensures.quiet
+    (c.in_err-chosen.ensures.own (λ at_three.
+    let at_two : IsClean (g.S.Store.view two) =
+    look_back g.S.Store two three c.in_ok-closes.ensures.same at_three in
+    let at_one : IsClean (g.S.Store.view one) =
+    look_back g.S.Store one two c.in_ok-tariffs.ensures.same at_two in
+    subst (λ (trees : Trees). (own : AreOwn trees)
+    → AreItsRulings read.rule (c.len-2.result + 1) own.book)
+    (sym (trees_stay g.S.Store start three to_three at_three))
+    (λ own. own_rulings (g.S.Store.view start).trees own read days (c.len-2.result + 1)
+    (c.in_ok-book.ensures.book at_one)
+    (subst (λ (all : Trees). AreClosed (all 2) days) (trees_stay g.S.Store start two to_two at_two)
+    (c.in_ok-closes.ensures.closed at_three)) (ap (λ n. n + 1) many)))))

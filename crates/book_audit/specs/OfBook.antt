@@ -1,0 +1,32 @@
+-- Trees that hold a book.
+use Rattle.std.specs.Prelude.{◌≡◌, All, length}
+use Rattle.std.specs.FinMap.{entries}
+use Rattle.sha2.specs.Sha256.{sha256}
+use Rattle.sqlite_trees.specs.Tree.{Trees}
+use Rattle.book_model.specs.Words.{Book, Naming, members}
+use Rattle.table_model.specs.Readable.{IsReadable}
+use Rattle.table_model.specs.TablesOf.{tables_of}
+use Rattle.tree_tables.specs.Holds.{Holds}
+use Rattle.book_audit.specs.Rulings.{IsOfCharacters}
+use Rattle.book_audit.specs.declared.audited.Counts.{Counts}
+
+-- records are named by the SHA-256 of their data
+abbrev pub sha_names : Naming
+sha_names = sha256
+
+-- the texts of the tariffs consist of characters, like any text that is given to a call
+abbrev pub HasTexts : Book → Type 0
+HasTexts book = All IsOfCharacters book.rulings.tariffs
+
+-- The trees hold the tables of a book that can be read back, and these are its counts.
+pub record AreOfBook (naming : Naming) (trees : Trees) (counts : Counts) : Type 0 where
+  pub book : Book
+  pub readable : IsReadable naming book
+  pub texts : HasTexts book
+  pub holds : Holds trees (tables_of naming book)
+  pub records : counts.records ≡ length (members book.held)
+  pub tariffs : counts.tariffs ≡ length book.rulings.tariffs
+  pub closes : counts.closes ≡ length book.rulings.closes
+  pub choices : counts.choices ≡ length book.rulings.choices
+  pub rows : counts.rows ≡ length (entries (tables_of naming book).days)
+  pub lines : counts.lines ≡ length (entries (tables_of naming book).lines)

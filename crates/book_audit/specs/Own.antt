@@ -1,0 +1,47 @@
+-- Books that calls made are not called unsound.
+use Rattle.std.specs.Prelude.{◌≡◌, ◌≢◌, Bool, false, true}
+use Rattle.sqlite_disk.specs.Disk.{MoreFaults}
+use Rattle.sqlite_trees.specs.Tree.{Trees}
+use Rattle.sqlite_trees.specs.View.{IsClean}
+use Rattle.sqlite_trees.specs.declared.error.StoreError.{StoreError}
+use Rattle.sqlite_trees.specs.declared.store.Store.{Ghosts}
+use Rattle.book_model.specs.Words.{Book}
+use Rattle.table_model.specs.FromCalls.{IsFromCalls}
+use Rattle.table_model.specs.TablesOf.{tables_of}
+use Rattle.tree_rows.specs.Calls.{IsCausedByStore}
+use Rattle.tree_tables.specs.Holds.{Holds}
+use Rattle.book_audit.specs.OfBook.{HasTexts, sha_names}
+use Rattle.book_audit.specs.declared.finding.Finding.{Finding}
+use Rattle.book_audit.specs.declared.finding.Tree.{Tree}
+use Rattle.book_audit.specs.declared.finding.Tree.TheVariants.{ChoiceNames, Identities, Marks}
+use Rattle.book_audit.specs.declared.stop.Stop.{Stop}
+use Rattle.book_audit.specs.declared.stop.Stop.TheVariants.{Unsound}
+
+-- The trees hold the tables of a book that calls made.
+pub record AreOwn (trees : Trees) : Type 0 where
+  pub book : Book
+  pub calls : IsFromCalls sha_names book
+  pub texts : HasTexts book
+  pub holds : Holds trees (tables_of sha_names book)
+
+-- what stops an audit finds nothing wrong
+abbrev pub FindsNothing : Stop → Type 0
+FindsNothing stop = (finding : Finding) → stop ≢ Unsound finding
+
+-- What stops an audit of such trees is no finding, unless the disk failed or refused meanwhile.
+abbrev pub IsOwnStop : {S : Type 0} → Ghosts S → S → S → Stop → Type 0
+IsOwnStop ghosts old new stop =
+    (finding : Finding) → stop ≡ Unsound finding → IsClean (ghosts.view new)
+    → AreOwn (ghosts.view old).trees → MoreFaults (ghosts.faults old) (ghosts.faults new)
+
+-- a tree that finds the rows of a table
+abbrev pub is_index : Tree → Bool
+is_index Identities = true
+is_index Marks = true
+is_index ChoiceNames = true
+is_index _ = false
+
+-- A look-up in such trees fails for a cause of the store alone.
+abbrev pub IsOwnCause : {S : Type 0} → Ghosts S → S → S → StoreError → Type 0
+IsOwnCause ghosts old new error =
+    AreOwn (ghosts.view old).trees → IsCausedByStore ghosts old new error
