@@ -14,7 +14,7 @@ use Rattle.sqlite_trees.specs.View.{IsClean}
 use Rattle.sqlite_trees.specs.declared.error.StoreError.{StoreError}
 use Rattle.sqlite_trees.specs.declared.error.StoreError.TheVariants.{OutOfMemory}
 use Rattle.sqlite_wal.specs.Recovery.{Image}
-use Rattle.book_model.specs.Words.{Book, Naming, book_after}
+use Rattle.book_model.specs.Words.{Book, Naming}
 use Rattle.book_model.specs.declared.fault.LedgerFault.{LedgerFault}
 use Rattle.book_model.specs.declared.fault.LedgerFault.TheVariants as ledger
 use Rattle.book_trees.specs.Copies.{IsCopyRefusedFor}
@@ -38,7 +38,7 @@ use Rattle.book_files.proofs.NewParts.{opened_empty}
 use Rattle.book_files.proofs.SessionParts.{opened_stands}
 use Rattle.office.specs.declared.repository.RepositoryFault.{RepositoryFault}
 use Rattle.office.specs.declared.repository.RepositoryFault.TheVariants.{Io, Exists, Busy, Ledger}
-use Rattle.table_model.specs.FromCalls.{IsFromCalls}
+use Rattle.table_model.specs.Readable.{IsReadable}
 use Rattle.table_ledger.specs.Commits.{Stores}
 use Rattle.table_ledger.specs.Loaded.{HasTexts, IsOpenCause, IsOpenFault, IsStoreFault}
 use Rattle.table_ledger.specs.Loaded.{IsToldBy}
@@ -59,7 +59,12 @@ pub ok_so : {A E : Type 0} {One Other : A → Type 0} (result : Result A E) → 
 ok_so (Ok answer) one so = so answer one
 ok_so (Err fault) one so = tt
 
--- what holds of each error holds of the one that there may be
+-- what holds of each answer, or of each error, holds of the one that there may be
+pub ok_each : {A E : Type 0} {Says : A → Type 0} (result : Result A E)
+    → ((answer : A) → Says answer) → IfOk result Says
+ok_each (Ok answer) each = each answer
+ok_each (Err fault) each = tt
+
 pub err_each : {A E : Type 0} {Says : E → Type 0} (result : Result A E)
     → ((fault : E) → Says fault) → IfErr result Says
 err_each (Ok answer) each = tt
@@ -145,11 +150,11 @@ store_failed old new fault is (inr failed) = failed.1
 -- it has one where books are opened that a ledger left
 pub ours_failed : (names : Naming) (old new : State) (fault : LedgerFault) → fault ≡ ledger.Store
     → IsToldBy (has_book old.view.trees) old new fault
-    → ((book : Book) → IsFromCalls names book → HasTexts book
+    → ((book : Book) → IsReadable names book → HasTexts book
     → Stores old.view (tables_of names book) → IsOpenCause old new fault)
     → ShowsOurs names old.view → MoreFaults old.faults new.faults
 ours_failed names old new fault is told own (inl ours) =
-    store_failed old new fault is (own ours.book ours.at.kept.calls ours.texts
+    store_failed old new fault is (own ours.book ours.at.kept.readable ours.texts
     (record { holds = ours.at.kept.holds; rest = ours.at.rest }))
 ours_failed names old new fault is told own (inr empty) =
     elim (told.absent (book_absent old.view.trees empty.none) empty.rest) [
@@ -172,10 +177,9 @@ module _ {D : Type 0} {g : Ghosts D} (names : Naming) (first : Image) (store : F
   where
     shows_ours : HoldsOurBooks names first → ∥ ShowsOurBooks names (view store) ∥₁
     shows_ours ours =
-        ∥∥₁_map ours.held.held λ kept. record {
-          book = book_after ours.history;
-          at = opened_stands names (book_after ours.history) first store ready found kept.0 kept.1
-              clean;
+        ∥∥₁_map ours.held λ kept. record {
+          book = ours.book;
+          at = opened_stands names ours.book first store ready found kept.0 kept.1 clean;
           texts = ours.texts;
         }
 

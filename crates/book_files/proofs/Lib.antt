@@ -1,9 +1,10 @@
 -- The lemmas: what a session leaves of files; what is left where new books are made; where they are
 -- continued; that books to which nothing was submitted are those of no history; why a session has no
--- answer, and why there is no copy.
+-- answer, and why there is no copy; what an audit says.
 pub mod SessionParts
 pub mod NewParts
 pub mod ResumeParts
 pub mod UnusedBooks
 pub mod Causes
 pub mod UpgradeParts
+pub mod AuditParts

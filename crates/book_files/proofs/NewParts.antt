@@ -29,6 +29,7 @@ use Rattle.table_model.proofs.EventLemmas.{tables_follow}
 use Rattle.table_model.specs.TablesAfter.{new_tables}
 use Rattle.table_model.specs.TablesOf.{tables_of}
 use Rattle.table_model.proofs.CallsLemmas.{calls_stay}
+use Rattle.table_model.proofs.ReadableLemmas.{calls_read}
 use Rattle.tree_tables.specs.Forms.{this_form}
 use Rattle.tree_tables.specs.Holds.{Holds}
 use Rattle.table_ledger.specs.LedgerState.{seen_of}
@@ -45,7 +46,7 @@ new_follow naming =
 pub holds_new : (naming : Naming) (trees : Trees) → Holds trees new_tables
     → IsStoredIn naming new_book trees
 holds_new naming trees holds = record {
-  calls = calls_stay.start naming;
+  readable = calls_read naming new_book (calls_stay.start naming);
   holds = subst (Holds trees) (new_follow naming) holds;
 }
 

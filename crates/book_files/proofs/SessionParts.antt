@@ -1,6 +1,6 @@
 -- What a session leaves of files, part by part.
-use Rattle.std.proofs.Common.{◌≡◌, IsTrue, List, [], ◌++◌, ℕ, refl, sym, ap, subst, inl, inr}
-use Rattle.std.proofs.Common.{Option, None, Some, Result, Ok, Err, false}
+use Rattle.std.proofs.Common.{◌≡◌, IsTrue, List, ◌++◌, ℕ, sym, ap, subst, inl, inr}
+use Rattle.std.proofs.Common.{Option, None, Some, Result, Ok, Err}
 use Rattle.std.proofs.Math.Logic.{∥∥₁_elim, ∥∥₁_map, ∥∥₁_prop}
 use Rattle.std.specs.Prelude.{IfOk, IfSome, MatchResult}
 use Rattle.office.specs.declared.repository.RepositoryFault.{RepositoryFault}
@@ -17,7 +17,7 @@ use Rattle.sqlite_trees.proofs.Doubt.{clean_of}
 use Rattle.sqlite_trees.specs.Tree.{Trees}
 use Rattle.sqlite_wal.specs.Reads.{AreClean}
 use Rattle.sqlite_wal.specs.Recovery.{Image}
-use Rattle.book_model.specs.Words.{Book, Event, book_after, IsMadeByCalls, Naming}
+use Rattle.book_model.specs.Words.{Book, Event, IsMadeByCalls, Naming}
 use Rattle.book_core.specs.Follow.{MakesAnswered}
 use Rattle.book_core.specs.Transition.{Transition, NoEvent}
 use Rattle.book_trees.proofs.ClosedFiles.{both_true, first_true, second_true}
@@ -32,7 +32,7 @@ use Rattle.table_ledger.specs.Ready.{IsStoredIn}
 use Rattle.book_restarts.specs.FileBooks.{HoldsBook, LeavesBook, LeavesTrees}
 use Rattle.book_restarts.specs.FileBooks.{GoesOn, StandsAt, done_by, file_names}
 use Rattle.book_restarts.proofs.SessionLemmas.{book_goes_on, found_goes_on, held_as_found}
-use Rattle.book_restarts.proofs.SessionLemmas.{held_leaves}
+use Rattle.book_restarts.proofs.SessionLemmas.{held_leaves, still_held}
 use Rattle.book_files.specs.Sessions.{IsFileAlone, MayFollow, WereOnlyRead}
 use Rattle.book_files.specs.declared.session.Ended.TheVariants.{Refused}
 use Rattle.book_files.specs.declared.session.Ended.TheVariants as ended
@@ -89,7 +89,7 @@ done_answered work names answers (Ok answer) = answers answer
 done_answered work names answers (Err fault) = λ history was events is none answered.
     subst (λ (events : List Event). IsMadeByCalls names (events ++ history)) (sym none.none) answered
 
--- what an opened store leaves of each book, the files leave of each history
+-- what an opened store leaves of each book, the files leave of it, and so of each history
 pub session_goes_on : {D : Type 0} {g : Ghosts D} (names : Naming) (Made : Transition)
     (first image : Image) (store : FileStore D g) → IsReady store
     → (IsTrue (state store).is_clean → (held : HoldsBooks first) → (view store).trees ≡ trees_held held)
@@ -124,37 +124,23 @@ pub refused_goes_on : {D : Type 0} (g : Ghosts D) → ((file : D) → g.may_leav
 refused_goes_on g stays names first None kept image never = absurd never
 refused_goes_on g stays names first (Some files) kept image (inl may) =
     found_goes_on names first image (kept image may)
-refused_goes_on g stays names first (Some files) kept image (inr alone) = λ history held. ∣ (record {
-  events = [];
-  is = false;
-  made = record { none = refl; same = refl };
-  left = record {
-    answered = held.answered;
-    held = tables_alone {wanted = books_schema} g (IsStoredIn names (book_after history)) files image
-        alone (held_as_found names (book_after history) first
-        (record { log = g.seen files.log; db = image.db })
-        (kept (record { log = g.seen files.log; db = image.db })
-        (alone.clean, (stays files.log, alone.file))) held.held);
-  };
-}) ∣₁
+refused_goes_on g stays names first (Some files) kept image (inr alone) =
+    let whole : Image = record { log = g.seen files.log; db = image.db } in
+    still_held names first image (λ book held.
+    tables_alone {wanted = books_schema} g (IsStoredIn names book) files image alone
+    (held_as_found names book first whole (kept whole (alone.clean, (stays files.log, alone.file)))
+    held))
 
--- what is held of each book, is held of each history
+-- so do files that an opened store leaves as they were
 pub held_goes_on : {D : Type 0} {g : Ghosts D} (names : Naming) (first image : Image)
     (store : FileStore D g) → IsReady store
     → (IsTrue (state store).is_clean → (held : HoldsBooks first) → (view store).trees ≡ trees_held held)
     → ((book : Book) → StandsAt names book (view store) → HoldsBook names book image)
     → GoesOn names NoEvent first image
-held_goes_on names first image store ready found each history held =
-    ∥∥₁_elim held.held ∥∥₁_prop λ kept. ∣ (record {
-      events = [];
-      is = false;
-      made = record { none = refl; same = refl };
-      left = record {
-        answered = held.answered;
-        held = each (book_after history)
-            (opened_stands names (book_after history) first store ready found kept.0 kept.1);
-      };
-    }) ∣₁
+held_goes_on names first image store ready found each =
+    still_held names first image (λ book held.
+    ∥∥₁_elim held ∥∥₁_prop λ kept.
+    each book (opened_stands names book first store ready found kept.0 kept.1))
 
 -- what is said of the work of a visit, whatever was answered, is said where it was done
 pub where_answered : {A F : Type 0} (work : A → Transition) (Says : Transition → Type 0)

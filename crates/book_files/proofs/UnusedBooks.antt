@@ -16,10 +16,8 @@ use Rattle.book_model.specs.Words.{PeriodClosed, RecordChosen, RecordKept, Secon
 use Rattle.book_model.specs.Words.{TariffAccepted, book_after, has, members, open_by}
 use Rattle.book_model.specs.Sound.{IsChoiceOf}
 use Rattle.book_trees.specs.LedgerFiles.{HoldsBooks, trees_held}
-use Rattle.table_model.proofs.ReadableLemmas.{calls_read}
 use Rattle.table_model.proofs.RulingsReading.{tariffs_kept}
 use Rattle.table_model.proofs.UnderNumbers.{entries-numbers}
-use Rattle.table_model.specs.FromCalls.{IsFromCalls}
 use Rattle.table_model.specs.Readable.{IsReadable}
 use Rattle.table_model.specs.TablesOf.{close_entries, tables_of, tariff_entries}
 use Rattle.table_ledger.specs.Ready.{IsStoredIn}
@@ -77,11 +75,8 @@ one_more : {A : Type 0} (xs : List A) (x : A) → length (xs ++ x ∷ []) ≡ 0 
 one_more xs x none = omega (arith, length-append xs (x ∷ []), none)
 
 -- what the tables of an unused book say of it
-module _ (naming : Naming) (book : Book) (calls : IsFromCalls naming book)
+module _ (naming : Naming) (book : Book) (whole : IsReadable naming book)
     (unused : are_unused (tables_of naming book) ≡ true) where
-  whole : IsReadable naming book
-  whole = calls_read naming book calls
-
   none : AreNone (length (entries (tables_of naming book).tariffs))
       (length (entries (tables_of naming book).closes)) (tables_of naming book).book.held
       (tables_of naming book).book.adopted
@@ -99,32 +94,32 @@ module _ (naming : Naming) (book : Book) (calls : IsFromCalls naming book)
 
 -- so a history with an event is that of no such book
 used : (naming : Naming) (event : Event) (older : List Event)
-    → IsFromCalls naming (book_after (event ∷ older))
+    → IsReadable naming (book_after (event ∷ older))
     → are_unused (tables_of naming (book_after (event ∷ older))) ≡ true → ⊥
-used naming (RecordKept bytes) older calls unused =
+used naming (RecordKept bytes) older whole unused =
     let before = book_after older in
     not_held (book_after (RecordKept bytes ∷ older)).held bytes
-    (none naming (book_after (RecordKept bytes ∷ older)) calls unused).held_none
+    (none naming (book_after (RecordKept bytes ∷ older)) whole unused).held_none
     (has_with before.held bytes bytes ∙ ap (λ t. t || has before.held bytes) (is_itself bytes))
-used naming (TariffAccepted text terms) older calls unused =
+used naming (TariffAccepted text terms) older whole unused =
     one_more (book_after older).rulings.tariffs (record { text = text; terms = terms })
-    (no_tariffs naming (book_after (TariffAccepted text terms ∷ older)) calls unused)
-used naming (PeriodClosed day) older calls unused =
+    (no_tariffs naming (book_after (TariffAccepted text terms ∷ older)) whole unused)
+used naming (PeriodClosed day) older whole unused =
     one_more (book_after older).rulings.closes day
-    (no_closes naming (book_after (PeriodClosed day ∷ older)) calls unused)
-used naming (RecordChosen bytes) older calls unused =
+    (no_closes naming (book_after (PeriodClosed day ∷ older)) whole unused)
+used naming (RecordChosen bytes) older whole unused =
     let book = book_after (RecordChosen bytes ∷ older) in
     let before = (book_after older).rulings in
     let choice : Choice = record { chosen = bytes; period = open_by before } in
     let chosen = (All-pop (IsChoiceOf book.held) book.rulings.choices before.choices (Some choice)
-    refl (whole naming book calls unused).sound.chosen).1 in
-    not_held book.held bytes (none naming book calls unused).held_none chosen
-used naming SecondRuleAdopted older calls unused =
+    refl whole.sound.chosen).1 in
+    not_held book.held bytes (none naming book whole unused).held_none chosen
+used naming SecondRuleAdopted older whole unused =
     let book = book_after (SecondRuleAdopted ∷ older) in
     let before = (book_after older).rulings in
-    let begun = (whole naming book calls unused).adopted
+    let begun = whole.adopted
     (unwrap_or before.adopted (open_by before)) refl in
-    let never = (none naming book calls unused).never in
+    let never = (none naming book whole unused).never in
     omega (arith, begun.numbered, never)
 
 -- what files held that were continued is that of no history, where all went well
@@ -137,5 +132,5 @@ none_resumed names history first (Err fault) held unused = tt
 none_resumed names [] first (Ok made) held unused = refl
 none_resumed names (event ∷ older) first (Ok made) held unused =
     let never : ⊥ = ∥∥₁_elim held.held (λ one other. absurd one) λ kept.
-    used names event older kept.1.calls (unused kept.0 kept.1) in
+    used names event older kept.1.readable (unused kept.0 kept.1) in
     absurd never

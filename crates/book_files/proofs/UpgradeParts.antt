@@ -134,8 +134,8 @@ all_written names old mid new first ordered adds filled listed =
       more = more_listed new (listed sound)
           (ap (λ (v : View). v.shape 10) filled.only ∙ adds.shapes 10 (omega arith));
       kept = λ book at. record {
-        calls = at.kept.calls;
-        holds = subst (Holds new.trees) (details_are names book at.kept.calls)
+        readable = at.kept.readable;
+        holds = subst (Holds new.trees) (details_are names book at.kept.readable)
             (filled.made (uncounted (tables_of names book))
             (holds_same (added_same old mid adds none) at.kept.holds) refl);
       };
@@ -150,7 +150,7 @@ module _ (names : Naming) (old new : View) (written : IsWritten names old new) w
       subst (IsBroughtOver names book) (sym said) (
         written.more,
         record {
-          calls = kept.calls;
+          readable = kept.readable;
           holds = holds_same (λ tree small. said_tables new.trees this_form tree
               (omega (arith, small))) kept.holds;
         },

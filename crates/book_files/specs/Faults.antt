@@ -1,5 +1,5 @@
 -- Why a session on files has no answer.
-use Rattle.std.specs.Prelude.{◌≡◌, ◌⊎◌, ◌+◌, Bool, true, false, List, Option, None, Some}
+use Rattle.std.specs.Prelude.{◌≡◌, ◌⊎◌, ◌+◌, Bool, true, false, Option, None, Some}
 use Rattle.std.specs.Prelude.{Result, Ok, Err, ⊤}
 use Rattle.std.specs.declared.io.ErrorKind.{ErrorKind}
 use Rattle.std.specs.declared.io.ErrorKind.TheVariants as kind
@@ -11,7 +11,7 @@ use Rattle.sqlite_trees.specs.declared.error.StoreError.TheVariants as store
 use Rattle.sqlite_trees.specs.View.{View}
 use Rattle.sqlite_wal.specs.Reads.{AreClean}
 use Rattle.sqlite_wal.specs.Recovery.{Image}
-use Rattle.book_model.specs.Words.{Book, Event, Naming, book_after}
+use Rattle.book_model.specs.Words.{Book, Naming}
 use Rattle.book_model.specs.declared.fault.LedgerFault.TheVariants as ledger
 use Rattle.book_audit.specs.declared.audited.Audited.{Audited}
 use Rattle.book_audit.specs.declared.audited.Audited.TheVariants.{Unsound}
@@ -29,7 +29,7 @@ use Rattle.book_trees.specs.declared.integrity.LookFault.{LookFault}
 use Rattle.book_trees.specs.declared.integrity.LookFault.TheVariants.{Pages, Open}
 use Rattle.table_ledger.specs.Loaded.{HasTexts}
 use Rattle.tree_tables.specs.Holds.{has_book}
-use Rattle.book_restarts.specs.FileBooks.{HoldsHistory, RestsAt, file_names}
+use Rattle.book_restarts.specs.FileBooks.{HoldsBook, RestsAt, file_names}
 use Rattle.book_files.specs.NewBooks.{IsEmpty}
 use Rattle.book_files.specs.declared.copies.CopyFault.{CopyFault}
 use Rattle.book_files.specs.declared.copies.CopyFault.TheVariants as copies
@@ -94,11 +94,11 @@ tried_answer (Ok answer) = Ok answer
 tried_answer (Err copies.Pages) = Err (Ledger ledger.Store)
 tried_answer (Err (copies.Refused fault)) = Err fault
 
--- the files hold the books of some history, whose tariffs are texts, as calls are given them
+-- the files hold a book that can be read back, whose tariffs are texts, as calls are given them
 pub record HoldsOurBooks (naming : Naming) (image : Image) : Type 0 where
-  pub history : List Event
-  pub held : HoldsHistory naming history image
-  pub texts : HasTexts (book_after history)
+  pub book : Book
+  pub held : HoldsBook naming book image
+  pub texts : HasTexts book
 
 -- a store is at rest with such books
 pub record ShowsOurBooks (naming : Naming) (view : View) : Type 0 where
@@ -106,7 +106,7 @@ pub record ShowsOurBooks (naming : Naming) (view : View) : Type 0 where
   pub at : RestsAt naming book view
   pub texts : HasTexts book
 
--- the files hold what a ledger left: such books, or tables with no row
+-- the files hold what a ledger leaves: such books, or tables with no row
 abbrev pub HoldsOurs : Naming → Image → Type 0
 HoldsOurs naming image = HoldsOurBooks naming image ⊎ HoldsEmptyBooks image
 

@@ -9,6 +9,8 @@ ghost use Rattle.sqlite_trees.specs.Tree.{Trees};
 ghost use Rattle.sqlite_trees.specs.View.{IsClean};
 ghost use Rattle.sqlite_wal.specs.Reads.{AreClean};
 ghost use Rattle.sqlite_wal.specs.Recovery.{Image};
+ghost use Rattle.book_audit.specs.OfBook.{AreOfBook};
+ghost use Rattle.book_audit.specs.declared.audited.Counts.{Counts};
 ghost use Rattle.book_model.specs.Words.{Book};
 ghost use Rattle.book_trees.specs.Closing.{HaveFailed, IsShort, MayBeFound};
 ghost use Rattle.book_files.specs.Faults.{HasFaultCause, IsResumed, ShowsOurs, store_fault};
@@ -329,6 +331,10 @@ fn audit_in<S: Store, W: Watch>(
     ensures held { (book : Book) → StandsAt file_names book (S.Store.view store)
         → IsClean (S.Store.view result.1) → (trees : Trees) → S.Store.recovers result.1 trees
         → IsStoredIn file_names book trees }
+    ensures book { IfOk result.0 (λ audited. (counts : Counts) → audited ≡ Audited.Sound counts
+        → IsClean (S.Store.view result.1)
+        → AreOfBook file_names (S.Store.view store).trees counts) }
+    ensures clean { IsClean (S.Store.view result.1) → IsClean (S.Store.view store) }
 {
     let (audited, store) = audit_trees(alloc, store, watch);
     (audited.map_err(RepositoryFault::Ledger), store)
@@ -346,6 +352,10 @@ pub(crate) fn audit_and_close<D: Disk, W: Watch>(
     ensures held { IsTrue result.1.is_kept → (book : Book) → StandsAt file_names book (view store)
         → (image : Image) → MayBeFound D.Disk result.1.files image
         → HoldsBook file_names book image }
+    ensures book { IfOk result.0 (λ audited. (counts : Counts) → audited ≡ Audited.Sound counts
+        → AreClean D.Disk result.1.files.log result.1.files.db
+        → AreOfBook file_names (view store).trees counts) }
+    ensures clean { AreClean D.Disk result.1.files.log result.1.files.db → IsClean (view store) }
 {
     let (audited, store) = audit_in(alloc, store, watch);
     (audited, close_unchanged(store))

@@ -7,6 +7,8 @@ ghost use Rattle.sqlite_wal.specs.Files.{image_at};
 ghost use Rattle.sqlite_wal.specs.Recovery.{Image};
 ghost use Rattle.book_model.specs.Words.{Event};
 ghost use Rattle.book_core.specs.Transition.{NoEvent};
+ghost use Rattle.book_audit.specs.declared.audited.Counts.{Counts};
+ghost use Rattle.book_files.specs.Audits.{HoldCounted};
 ghost use Rattle.book_files.specs.Faults.{HasFaultCause, HasNoAnswerFor, HoldsOurs, first_answer};
 ghost use Rattle.book_files.specs.Faults.{resume_fault};
 ghost use Rattle.book_files.specs.NewBooks.{MakesBooks, MayBeMade};
@@ -18,6 +20,7 @@ ghost use Rattle.book_trees.specs.Forms.{HoldsThisForm};
 ghost use Rattle.book_trees.specs.LedgerFiles.{HoldsBooks, HoldsEmptyBooks, HoldsNothing};
 ghost use Rattle.book_trees.specs.LedgerFiles.{HoldsFirstBooks, trees_held};
 ghost use Rattle.book_trees.specs.Refusals.{AreFull, StopCreating};
+ghost use Rattle.book_trees.specs.StoreView.{ListsBooks};
 ghost use Rattle.tree_tables.specs.Holds.{has_book};
 
 use crate::books::{
@@ -179,6 +182,15 @@ pub fn audit_at<S: Start, W: Watch>(
 ) -> (Result<Audited, RepositoryFault>, Ended<FileFrom<S>>)
     ensures history { (image : Image) → MayFollow ⟦<FileFrom<S> as Disk>⟧ result.1 image
         → GoesOn file_names NoEvent (image_at S.Start) image }
+
+    // Files that are called sound hold a book, whoever wrote them, and the counts are its own. Any
+    // other answer too is given of no files but those that list the tables of books.
+    ensures book { IfOk result.0 (λ audited. (counts : Counts) → audited ≡ Audited.Sound counts
+        → (image : Image) → MayFollow ⟦<FileFrom<S> as Disk>⟧ result.1 image
+        → HoldCounted counts (image_at S.Start)) }
+    ensures listed { IfOk result.0 (λ audited. (image : Image)
+        → MayFollow ⟦<FileFrom<S> as Disk>⟧ result.1 image
+        → ∥ ListsBooks (image_at S.Start) ∥₁) }
 
     // Of files that were looked through this says nothing.
     ensures cause { IfErr result.0 (λ fault. HasNoAnswerFor ⟦<FileFrom<S> as Disk>⟧

@@ -3,14 +3,15 @@ use Rattle.std.proofs.Common.{◌≡◌, ℕ, ◌+◌, ◌≤◌, List, refl, ap
 use Rattle.std.proofs.Common.{is_some, not, ◌&&◌, arith}
 use Rattle.std.specs.Prelude.{ℤ, pos, Option, sum_by}
 use Rattle.std.specs.FinMap as map
-use Rattle.book_model.specs.Words.{Period, period_by, is_dated_after, book_after, Records}
+use Rattle.book_model.specs.Words.{Book, Naming, Period, period_by, is_dated_after, book_after, Records}
 use Rattle.book_model.specs.Words.{by_bytes, has, without, all_periods, charged_of, AreDatedThrough}
 use Rattle.book_model.proofs.RecordSets.{has_those}
 use Rattle.book_model.proofs.SumLemmas.{sum_by-plus}
 use Rattle.book_laws.specs.NetCounts.{one_if, times_counted, times_added, times_reversed, net_count}
 use Rattle.book_laws.specs.NetCounts.{NamesOnce}
-use Rattle.book_laws.specs.HistoryLaws.{ChargedOnce, PostedOnce, NamedOnce}
-use Rattle.book_laws.proofs.PeriodLemmas.{net, past_nets, all_nets, all_hold}
+use Rattle.table_model.specs.Readable.{IsReadable}
+use Rattle.book_laws.specs.HistoryLaws.{BooksChargeOnce, ChargedOnce, PostedOnce, NamedOnce}
+use Rattle.book_laws.proofs.PeriodLemmas.{net, past_nets, all_nets, all_hold, book_nets}
 
 -- A record is charged before a period or not, at its end or not, and dated after the close before
 -- it or not: its row, plus line and minus line make the difference.
@@ -85,6 +86,23 @@ charged_once history bytes =
     net_of bytes (all_periods (book_after history)) (charged_of (book_after history))
     (all_nets (given bytes) (taken bytes) (λ records. one_if (has records bytes)) (none bytes)
     (one_period bytes) history)
+
+-- before the first close nothing was charged
+nothing_first : {naming : Naming} (book : Book) (whole : IsReadable naming book) (bytes : List ℕ)
+    → one_if (has (whole.past.charged 0) bytes) ≡ 0
+nothing_first book whole bytes =
+    elim (has (whole.past.charged 0) bytes) as (λ b. has (whole.past.charged 0) bytes ≡ b
+    → one_if b ≡ 0) [
+      | true ↦ λ there. absurd (true≢false (whole.past.dated 0 (omega arith) bytes there))
+      | false ↦ λ none. refl
+    ] refl
+
+-- so the same is true of a book that can be read back
+pub books_charge_once : BooksChargeOnce
+books_charge_once naming book bytes whole =
+    net_of bytes (all_periods book) (charged_of book)
+    (book_nets (given bytes) (taken bytes) (λ records. one_if (has records bytes)) (none bytes)
+    (one_period bytes) book whole (nothing_first book whole bytes))
 
 -- the same for the closed periods
 pub posted_once : PostedOnce

@@ -16,7 +16,6 @@ use Rattle.book_model.specs.Words.{what_if_answer, what_if_outcome}
 use Rattle.book_model.proofs.SumsAlike.{length-sum_by}
 use Rattle.table_model.specs.Readable.{IsReadable}
 use Rattle.table_model.proofs.PriceSums.{some_within}
-use Rattle.table_model.proofs.ReadableLemmas.{calls_read}
 use Rattle.book_laws.specs.StatementWidths.{AreAligned, WhatIfsAreAligned}
 use Rattle.book_laws.proofs.OtherPriceLemmas.{answered_rows, counted_held}
 use Rattle.book_laws.proofs.OtherWorkLemmas.{IsWork, same_sums}
@@ -83,8 +82,7 @@ module _ (naming : Naming) (book : Book) (number : ℕ) (terms : Terms) (period 
 
 -- the law
 pub what_ifs_are_aligned : WhatIfsAreAligned
-what_ifs_are_aligned naming book number terms period rows made there priced answer =
-    let whole = calls_read naming book made in
+what_ifs_are_aligned naming book number terms period rows whole there priced answer =
     subst AreAligned (answered_rows book number terms period rows there answer)
     (are_even (costs_under terms period.counted)
     (others_priced naming book number terms period rows whole there answer priced)

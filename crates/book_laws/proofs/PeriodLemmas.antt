@@ -1,7 +1,7 @@
 -- What the periods of a history give and take, each by what is charged before it and at its end.
-use Rattle.std.proofs.Common.{◌≡◌, ℕ, ◌+◌, List, [], ◌∷◌, ◌++◌, sym, ap, ◌∙◌}
-use Rattle.std.proofs.Common.{true≢false, Option, None, is_some, arith}
-use Rattle.std.specs.Prelude.{All, sum_by, ℤ, pos, ◌-ℤ◌}
+use Rattle.std.proofs.Common.{◌≡◌, ℕ, zero, suc, ◌+◌, List, [], ◌∷◌, ◌++◌, length, sym, ap, ◌∙◌}
+use Rattle.std.proofs.Common.{subst, true≢false, Option, None, is_some, arith}
+use Rattle.std.specs.Prelude.{All, sum_by, ℤ, pos, ◌-ℤ◌, ◌≤◌}
 use Rattle.std.specs.FinMap as map
 use Rattle.std.proofs.lemmas.Int.{ints}
 use Rattle.std.proofs.lemmas.List.Elements.{All-nil, All-cons, All-append}
@@ -9,9 +9,11 @@ use Rattle.std.proofs.lemmas.List.Sums.{sum_by_push}
 use Rattle.book_model.specs.Words.{Period, period_by, Book, all_periods, charged_of, is_dated_after}
 use Rattle.book_model.specs.Words.{charged_through, Event, RecordKept, TariffAccepted, PeriodClosed}
 use Rattle.book_model.specs.Words.{RecordChosen, SecondRuleAdopted, book_after, Records, by_bytes}
-use Rattle.book_model.specs.Words.{last_close, AreDatedThrough}
+use Rattle.book_model.specs.Words.{last_close, AreDatedThrough, Naming}
 use Rattle.book_model.proofs.ListLemmas.{last_or-behind}
 use Rattle.book_model.proofs.SoundLemmas.{through_dated}
+use Rattle.table_model.specs.BookIn.{close_after}
+use Rattle.table_model.specs.Readable.{IsReadable, chained}
 
 -- a difference of what is given and taken
 pub net : (given taken rest : ℕ) → given ≡ rest + taken → pos given -ℤ pos taken ≡ pos rest
@@ -70,6 +72,34 @@ module _ (given taken : Period → ℕ) (standing : Records → ℕ) (none : sta
       let book : Book = book_after history in
       nets_with book.past (last_close book.rulings) book.posted (charged_of book)
       (posted_dated history) (past_nets history)
+
+  -- periods that are linked by what was charged, where at first nothing was
+  chained_net : (closes : List ℤ) (charged : ℕ → Records)
+      → ((k : ℕ) → k ≤ length closes → AreDatedThrough (close_after k closes) (charged k))
+      → standing (charged 0) ≡ 0 → (k : ℕ) → k ≤ length closes
+      → sum_by given (chained k closes charged)
+      ≡ standing (charged k) + sum_by taken (chained k closes charged)
+  chained_net closes charged dated first zero within = omega (arith, first)
+  chained_net closes charged dated first (suc k) within =
+      let before : k ≤ length closes = omega (arith, within) in
+      nets_with (chained k closes charged) (close_after k closes) (charged k) (charged (suc k))
+      (dated k before) (chained_net closes charged dated first k before)
+
+  -- and so all periods of a book that can be read back
+  pub book_nets : {naming : Naming} (book : Book) (whole : IsReadable naming book)
+      → standing (whole.past.charged 0) ≡ 0
+      → sum_by given (all_periods book) ≡ standing (charged_of book) + sum_by taken (all_periods book)
+  book_nets book whole first =
+      let closes : List ℤ = book.rulings.closes in
+      let chain = whole.past in
+      let linked : List Period = chained (length closes) closes chain.charged in
+      let net = chained_net closes chain.charged chain.dated first (length closes) (omega arith) in
+      let past = subst (λ past. sum_by given past ≡ standing book.posted + sum_by taken past)
+      (sym chain.past)
+      (subst (λ posted. sum_by given linked ≡ standing posted + sum_by taken linked)
+      (sym chain.posted) net) in
+      nets_with book.past (last_close book.rulings) book.posted (charged_of book) whole.sound.dated
+      past
 
 -- what holds of each period that some sets of records make holds of all periods
 module _ (P : Period → Type 0)

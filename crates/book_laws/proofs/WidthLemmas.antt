@@ -39,7 +39,6 @@ use Rattle.report_texts.specs.Statements.{heading, key_columns, number_columns, 
 use Rattle.report_texts.specs.Statements.{sum_columns, total_line}
 use Rattle.table_model.specs.Readable.{IsReadable}
 use Rattle.table_model.proofs.PriceSums.{all_priced, part_within, some_within}
-use Rattle.table_model.proofs.ReadableLemmas.{calls_read}
 use Rattle.book_laws.specs.StatementWidths.{AreAligned, StatementsAreAligned}
 
 -- a text that fits fills its column
@@ -296,5 +295,5 @@ module _ (naming : Naming) (book : Book) (whole : IsReadable naming book) where
 
 -- the law
 pub statements_are_aligned : StatementsAreAligned
-statements_are_aligned naming book number rows made is =
-    period_even naming book (calls_read naming book made) number (period_of book number) refl rows is
+statements_are_aligned naming book number rows whole is =
+    period_even naming book whole number (period_of book number) refl rows is

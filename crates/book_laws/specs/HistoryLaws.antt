@@ -4,6 +4,7 @@ use Rattle.std.specs.Prelude.{◌-ℤ◌, ◌++◌}
 use Rattle.book_model.specs.Words.{Period, Book, charged_of, all_periods, is_dated_after, Event}
 use Rattle.book_model.specs.Words.{book_after, day_of_close, Naming, Rulings, has, total_of}
 use Rattle.book_model.specs.Words.{IsMadeByCalls, IsSound}
+use Rattle.table_model.specs.Readable.{IsReadable}
 use Rattle.book_laws.specs.NetCounts.{net_count, one_if, NamesOnce}
 use Rattle.book_laws.specs.PeriodLines.{AreReadOnce}
 use Rattle.book_laws.specs.ClosedPeriods.{IsClosed, IsReadAlike}
@@ -17,6 +18,12 @@ ChargedOnce =
     (history : List Event) (bytes : List ℕ)
     → net_count (all_periods (book_after history)) bytes
     ≡ pos (one_if (has (charged_of (book_after history)) bytes))
+
+-- The same of any book that can be read back, wherever it came from.
+abbrev pub BooksChargeOnce : Type 0
+BooksChargeOnce =
+    (naming : Naming) (book : Book) (bytes : List ℕ) → IsReadable naming book
+    → net_count (all_periods book) bytes ≡ pos (one_if (has (charged_of book) bytes))
 
 -- Over the closed periods alone it is charged once net if the last close charged it.
 abbrev pub PostedOnce : Type 0

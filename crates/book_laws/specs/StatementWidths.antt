@@ -4,7 +4,7 @@ use Rattle.book_model.specs.Words.{Book, IsPriced, Naming, Period, Terms, charge
 use Rattle.book_model.specs.Words.{period_of, price_by, what_if_outcome}
 use Rattle.book_model.specs.declared.row.ChargeRow.{ChargeRow}
 use Rattle.report_texts.specs.Statements.{heading, row_line, total_line}
-use Rattle.table_model.specs.FromCalls.{IsFromCalls}
+use Rattle.table_model.specs.Readable.{IsReadable}
 
 -- a line of a statement: 114 characters, and its end
 abbrev pub line_length : ℕ
@@ -16,12 +16,12 @@ pub record AreAligned (rows : List ChargeRow) : Type 0 where
   pub each : All (λ row. length (row_line row) ≡ line_length) rows
   pub below : length (total_line rows) ≡ line_length
 
--- This holds for the rows of any period of books that calls made: the office's limits keep each
--- number within its column.
+-- This holds for the rows of any period of books that can be read back, as those are that calls made:
+-- the office's limits keep each number within its column.
 abbrev pub StatementsAreAligned : Type 0
 StatementsAreAligned =
     (naming : Naming) (book : Book) (number : ℕ) (rows : List ChargeRow)
-    → IsFromCalls naming book → (charges_outcome number book).answer ≡ Ok rows → AreAligned rows
+    → IsReadable naming book → (charges_outcome number book).answer ≡ Ok rows → AreAligned rows
 
 -- It holds as well of the rows of such a period by another tariff, where the prices by it that are
 -- summed are within the limits of a price, as those of any tariff file are.
@@ -29,7 +29,7 @@ abbrev pub WhatIfsAreAligned : Type 0
 WhatIfsAreAligned =
     (naming : Naming) (book : Book) (number : ℕ) (terms : Terms) (period : Period)
     (rows : List ChargeRow)
-    → IsFromCalls naming book
+    → IsReadable naming book
     → period_of book number ≡ Some period
     → ((bytes : List ℕ) → has period.counted bytes ≡ true → IsPriced (price_by terms bytes))
     → (what_if_outcome number terms book).answer ≡ Ok rows → AreAligned rows

@@ -1,14 +1,20 @@
 //! Laws of whole histories, which hold of the definitions alone. Each is the contract of a function
 //! that does nothing.
 
-ghost use Rattle.book_laws.specs.HistoryLaws.{ChargedOnce, ClosedStays, Conserved, ConservedInSets};
-ghost use Rattle.book_laws.specs.HistoryLaws.{DatedRight, LinesOnce, NamedOnce, PostedOnce};
+ghost use Rattle.book_laws.specs.HistoryLaws.{BooksChargeOnce, ChargedOnce, ClosedStays, Conserved};
+ghost use Rattle.book_laws.specs.HistoryLaws.{ConservedInSets, DatedRight, LinesOnce, NamedOnce};
+ghost use Rattle.book_laws.specs.HistoryLaws.{PostedOnce};
 ghost use Rattle.book_laws.specs.WrongPeriods.{WrongPeriodsFail};
 
 /// Over all periods a record that is charged now is charged once net, and any other nets to
 /// nothing.
 pub fn charged_once()
     ensures { ChargedOnce }
+{}
+
+/// The same of any book that can be read back, as of one that an audit found in a file.
+pub fn books_charge_once()
+    ensures { BooksChargeOnce }
 {}
 
 /// Over the closed periods a record is charged once net if the last close charged it.

@@ -23,8 +23,8 @@ pub use details::{
     tariffs_read_kept,
 };
 pub use histories::{
-    charged_once, closed_stays, conserved, conserved_in_sets, dated_right, lines_once, named_once,
-    posted_once, wrong_periods_fail,
+    books_charge_once, charged_once, closed_stays, conserved, conserved_in_sets, dated_right,
+    lines_once, named_once, posted_once, wrong_periods_fail,
 };
 pub use other_prices::{what_if, what_ifs_are_aligned};
 pub use pages::page_totals_are_the_reports;

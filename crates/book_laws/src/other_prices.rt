@@ -11,7 +11,7 @@ pub fn what_if()
     ensures { WhatIf }
 {}
 
-/// The lines of such rows have 114 characters too, for any period of books that calls made.
+/// The lines of such rows have 114 characters too, for any period of books that can be read back.
 pub fn what_ifs_are_aligned()
     ensures { WhatIfsAreAligned }
 {}

@@ -62,8 +62,8 @@ pub fn lists_conserve<L: Ledger>()
     ensures { ListsConserve L.seen }
 {}
 
-/// Each line of a statement but the first has 114 characters, for any period of books that calls
-/// made: within the office's limits no number is wider than its column.
+/// Each line of a statement but the first has 114 characters, for any period of books that can be
+/// read back: within the office's limits no number is wider than its column.
 pub fn statements_are_aligned()
     ensures { StatementsAreAligned }
 {}

@@ -37,7 +37,7 @@ module _ (work : ℕ → ℕ → Naming → Transition) (order : ℕ → ℕ) (f
   are_one_history naming start (suc turns) held each =
       ∥∥₁_elim (are_one_history naming start turns held
       (λ turn below. each turn (below_next turn turns below))) ∥∥₁_prop λ before.
-      ∥∥₁_map (each turns (last_below turns) (events_of before.shares ++ start) before.left) λ one.
+      ∥∥₁_map ((each turns (last_below turns)).history (events_of before.shares ++ start) before.left) λ one.
       let number = had_before order turns (order turns) in
       let share : Share = record { program = order turns; session = number; events = one.events } in
       record {

@@ -5,7 +5,7 @@ use Rattle.sqlite_trees.specs.View.{View, IsClean}
 use Rattle.book_model.specs.Words.{Book, Naming}
 use Rattle.book_core.specs.Ledgers.{Seen, IsOpenAt, may_have}
 use Rattle.table_model.specs.TablesOf.{tables_of}
-use Rattle.table_model.specs.FromCalls.{IsFromCalls}
+use Rattle.table_model.specs.Readable.{IsReadable}
 use Rattle.table_ledger.specs.Commits.{IsAtRest, Stores}
 use Rattle.table_ledger.specs.Ready.{IsStoredIn}
 use Rattle.table_ledger.specs.LedgerState.{AreBooks, seen_of}
@@ -17,7 +17,7 @@ module _ (naming : Naming) (view : View) (may_leave : Trees → Type 0) (must_re
     (summary : Summary) (last : LeavesTheLast view may_leave) (found : View) (new : Seen)
     (rest : new.is_honest → IsAtRest found) (left : new.is_honest → may_leave found.trees)
     (given : Naming) (same : given ≡ naming) (opens : new.is_honest → (book : Book)
-    → IsFromCalls given book → Stores found (tables_of given book) → IsOpenAt given book new)
+    → IsReadable given book → Stores found (tables_of given book) → IsOpenAt given book new)
   where
     -- what was seen of the ledger that was released
     abbrev old : Seen
@@ -37,9 +37,9 @@ module _ (naming : Naming) (view : View) (may_leave : Trees → Type 0) (must_re
     opened : new.is_honest → (book : Book) → IsStoredIn naming book found.trees
         → IsOpenAt naming book new
     opened honest book kept =
-        let open_at = subst (λ name. IsFromCalls name book → Stores found (tables_of name book)
+        let open_at = subst (λ name. IsReadable name book → Stores found (tables_of name book)
         → IsOpenAt name book new) same (opens honest book) in
-        open_at kept.calls (record { holds = kept.holds; rest = rest honest })
+        open_at kept.readable (record { holds = kept.holds; rest = rest honest })
 
     -- so this is a restart
     pub restarted : IsRestart old new

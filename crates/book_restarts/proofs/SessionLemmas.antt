@@ -21,7 +21,7 @@ use Rattle.table_ledger.specs.ReadyBooks.{LeavesTheLast, settled_on, book_of_sto
 use Rattle.table_ledger.specs.declared.summary.Summary.{Summary}
 use Rattle.book_restarts.specs.FileBooks.{HoldsBook, HoldsHistory, LeavesTrees, LeavesBook}
 use Rattle.book_restarts.specs.FileBooks.{LeavesHistory, GoesOn}
-use Rattle.book_restarts.specs.Laws.{SessionsFollowHistory}
+use Rattle.book_restarts.specs.Laws.{SessionsFollowBook, SessionsFollowHistory}
 use Rattle.book_restarts.proofs.LifeLemmas.{own_book, below_next, last_below}
 
 -- A ledger on a store, after work on the book at which it was opened.
@@ -94,35 +94,50 @@ held_as_found naming book first left (inr same) held =
       found.1,
     )
 
--- so nothing was done to them
+-- files that hold each book that they held go on with no event
+pub still_held : (naming : Naming) (first left : Image)
+    → ((book : Book) → HoldsBook naming book first → HoldsBook naming book left)
+    → GoesOn naming NoEvent first left
+still_held naming first left each = record {
+  book = λ book held. ∣ (record {
+    events = [];
+    is = false;
+    made = record { none = refl; same = refl };
+    held = each book held;
+  }) ∣₁;
+  history = λ history held. ∣ (record {
+    events = [];
+    is = false;
+    made = record { none = refl; same = refl };
+    left = record { answered = held.answered; held = each (book_after history) held.held };
+  }) ∣₁;
+}
+
+-- so nothing was done to files that stand for the same
 pub found_goes_on : (naming : Naming) (first left : Image) → IsAsFound first left
     → GoesOn naming NoEvent first left
-found_goes_on naming first left same history held = ∣ (record {
-  events = [];
-  is = false;
-  made = record { none = refl; same = refl };
-  left = record {
-    answered = held.answered;
-    held = held_as_found naming (book_after history) first left same held.held;
-  };
-}) ∣₁
+found_goes_on naming first left same =
+    still_held naming first left (λ book held. held_as_found naming book first left same held)
 
 -- what is left of each book is left of each history
 pub book_goes_on : (naming : Naming) (Made : Transition) (first left : Image)
     → MakesAnswered naming Made
     → ((book : Book) → HoldsBook naming book first → ∥ LeavesBook naming Made book left ∥₁)
     → GoesOn naming Made first left
-book_goes_on naming Made first left answers each history held =
-    ∥∥₁_map (each (book_after history) held.held) λ found. record {
-      events = found.events;
-      is = found.is;
-      made = found.made;
-      left = record {
-        answered = answers history false found.events found.is found.made held.answered;
-        held = subst (λ book. HoldsBook naming book left)
-            (sym (after_all-append found.events history new_book)) found.held;
+book_goes_on naming Made first left answers each = record {
+  book = each;
+  history = λ history held.
+      ∥∥₁_map (each (book_after history) held.held) λ found. record {
+        events = found.events;
+        is = found.is;
+        made = found.made;
+        left = record {
+          answered = answers history false found.events found.is found.made held.answered;
+          held = subst (λ book. HoldsBook naming book left)
+              (sym (after_all-append found.events history new_book)) found.held;
+        };
       };
-    }
+}
 
 -- all sessions on the files of a history
 pub sessions_follow : (work : ℕ → Naming → Transition) (files : ℕ → Image)
@@ -132,7 +147,7 @@ sessions_follow work files naming start zero held each =
 sessions_follow work files naming start (suc sessions) held each =
     ∥∥₁_elim (sessions_follow work files naming start sessions held
     (λ session below. each session (below_next session sessions below))) ∥∥₁_prop λ before.
-    ∥∥₁_map (each sessions (last_below sessions) (before.events ++ start) before.left) λ one.
+    ∥∥₁_map ((each sessions (last_below sessions)).history (before.events ++ start) before.left) λ one.
     record {
       events = one.events ++ before.events;
       made = (
@@ -146,4 +161,20 @@ sessions_follow work files naming start (suc sessions) held each =
       );
       left = subst (λ history. HoldsHistory naming history (files (suc sessions)))
           (sym (append_assoc one.events before.events start)) one.left;
+    }
+
+-- and on those of any book
+pub sessions_follow_book : (work : ℕ → Naming → Transition) (files : ℕ → Image)
+    → SessionsFollowBook work files
+sessions_follow_book work files naming start zero held each =
+    ∣ (record { events = []; made = refl; left = held }) ∣₁
+sessions_follow_book work files naming start (suc sessions) held each =
+    ∥∥₁_elim (sessions_follow_book work files naming start sessions held
+    (λ session below. each session (below_next session sessions below))) ∥∥₁_prop λ before.
+    ∥∥₁_map ((each sessions (last_below sessions)).book (after_all before.events start) before.left)
+    λ one. record {
+      events = one.events ++ before.events;
+      made = (before.events, one.events, one.is, before.made, one.made, refl);
+      left = subst (λ book. HoldsBook naming book (files (suc sessions)))
+          (sym (after_all-append one.events before.events start)) one.held;
     }

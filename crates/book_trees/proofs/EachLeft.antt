@@ -86,10 +86,11 @@ module _ {D : Type 0} {g : Ghosts D} (it : FileStore D g) (schema : schema_of it
       → recovers it (view next).trees
   shown_outcome image may next shows =
       let here = sized it schema size unaltered image may in
-      let found = subst (λ s. Recovers s image shows.pages) (sym here) shows.found in (
+      let pages = shows.lists.pages in
+      let found = subst (λ s. Recovers s image pages) (sym here) shows.lists.found in (
         image,
-        shows.pages,
+        pages,
         may,
         ∣ found ∣₁,
-        shows.trees ∙ sym (reads it schema size unaltered shows.pages here),
+        shows.trees ∙ sym (reads it schema size unaltered pages here),
       )

@@ -1,5 +1,5 @@
 -- Why a look through files fails.
-use Rattle.std.proofs.Common.{◌≡◌, ◌≤◌, ℕ, inl, inr, subst, sym}
+use Rattle.std.proofs.Common.{◌≡◌, ◌∙◌, ◌≤◌, ℕ, inl, inr, refl, subst, sym}
 use Rattle.std.specs.Prelude.{◌⊎◌}
 use Rattle.std.specs.declared.io.ErrorKind.{ErrorKind}
 use Rattle.std.specs.declared.io.ErrorKind.TheVariants as kind
@@ -15,7 +15,7 @@ use Rattle.book_trees.proofs.FileParts.{file_cause}
 use Rattle.book_trees.proofs.Refused.{cause_since}
 use Rattle.book_trees.specs.declared.faults.OpenFault.TheVariants as opening
 use Rattle.book_trees.specs.Copies.{copy_fault_for}
-use Rattle.book_trees.specs.Looks.{look_fault_for, HasLookCause}
+use Rattle.book_trees.specs.Looks.{look_fault_for, HasLookCause, IsToldLook}
 use Rattle.book_trees.specs.Refusals.{faults_in}
 use Rattle.book_trees.specs.declared.integrity.LookFault.{LookFault}
 use Rattle.book_trees.specs.declared.integrity.LookFault.TheVariants.{Pages, Open}
@@ -77,3 +77,9 @@ look_cause_for old new old' new' AtLimit Held Held' rose so (Open opening.Store)
     elim cause [ inl more ↦ inl (rose more) | inr full ↦ inr full ]
 look_cause_for old new old' new' AtLimit Held Held' rose so (Open opening.Busy) cause = cause
 look_cause_for old new old' new' AtLimit Held Held' rose so (Open opening.Path) cause = cause
+
+-- pages that are told of files were met
+pub told_pages : {D : Type 0} (fault : LookFault) (files : Files D) (told : LookFault)
+    (last : Files D) → IsToldLook fault files told last → told ≡ Pages → fault ≡ Pages
+told_pages Pages files told last tells is = refl
+told_pages (Open fault) files told last tells is = absurd (let other = sym tells.1 ∙ is in cc)

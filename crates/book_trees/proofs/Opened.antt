@@ -1,7 +1,7 @@
 -- From what the files held to what an opened store shows.
 use Rattle.std.proofs.Common.{◌≡◌, ◌≢◌, List, [], true, IsTrue}
 use Rattle.std.proofs.Common.{refl, sym, subst, ap, ◌∙◌, inl, inr, arith}
-use Rattle.std.proofs.Math.Logic.{∥∥₁_elim}
+use Rattle.std.proofs.Math.Logic.{∥∥₁_elim, ∥∥₁_map}
 use Rattle.sqlite_disk.specs.declared.Disk.{Ghosts}
 use Rattle.sqlite_pages.specs.PageMap.{PageMap}
 use Rattle.sqlite_pool.specs.File.{in_use, IsSoundFile}
@@ -18,6 +18,7 @@ use Rattle.sqlite_store.specs.Unopened.{IsCatalogOf, Opens}
 use Rattle.sqlite_store.specs.declared.catalog.Wanted.{Wanted}
 use Rattle.sqlite_store.specs.declared.store.FileStore.{FileStore}
 use Rattle.sqlite_store.specs.declared.store.open.Unopened.{Unopened}
+use Rattle.sqlite_trees.proofs.Doubt.{no_doubt}
 use Rattle.sqlite_trees.specs.declared.store.Shape.TheVariants.{Table}
 use Rattle.sqlite_value.specs.Order.{Row}
 use Rattle.sqlite_wal.specs.State.{State}
@@ -189,3 +190,16 @@ module _ {wanted : List Wanted} {D : Type 0} {g : Ghosts D} (store : FileStore D
       ∙ ap (λ s. file_trees s kept (state store).committed) size
       ∙ ap (λ (w : List Wanted). file_trees page_size w (state store).committed) plain
       ∙ ap (file_trees page_size wanted) same
+
+  -- and these are those of a sound file
+  pub sound_tables : IsReady store → schema_of store ≡ wanted
+      → (state store).page_size ≡ page_size → IsTrue (state store).is_clean
+      → (pages : PageMap) → (state store).committed ≡ pages → ∥ IsFile page_size wanted pages ∥₁
+  sound_tables ready schema size clean pages same =
+      let kept = kept_schema store.saved (schema_of store) in
+      let plain : kept ≡ wanted =
+      ap (λ s. kept_schema s (schema_of store)) ready.unaltered ∙ schema in
+      ∥∥₁_map (store.stored (ready.is_open (no_doubt _ clean))) λ stored.
+      subst (IsFile page_size wanted) same
+      (subst (λ (w : List Wanted). IsFile page_size w (state store).committed) plain
+      (subst (λ s. IsFile s kept (state store).committed) size stored.ours.file))

@@ -14,6 +14,7 @@ ghost use Rattle.book_trees.specs.Looks.{look_fault_for, HasLookCause, IsLookRef
 ghost use Rattle.book_trees.specs.Looks.{IsToldLook, IsUnopenedLook};
 ghost use Rattle.book_trees.specs.Refusals.{faults_in, AreFull, AreKept, IsAsFound, MayLeave};
 ghost use Rattle.book_trees.specs.Schema.{books_schema};
+ghost use Rattle.book_trees.specs.StoreView.{ListsBooks};
 ghost use Rattle.tree_tables.specs.Holds.{HasShapes};
 
 use crate::catalog::{lists_books, unlisted_fault};
@@ -61,10 +62,14 @@ fn look_through_all<D: Disk>(files: Unopened<D>) -> Result<FileStore<D>, (LookFa
         → IsTrue (state_of files).is_clean) }
     ensures found { IfOk result (λ store. IsTrue (state store).is_clean
         → (held : HoldsBooks (image files)) → (view store).trees ≡ trees_held held) }
+    ensures held { IfOk result (λ store. IsTrue (state store).is_clean
+        → ∥ HoldsBooks (image files) ∥₁) }
     ensures kept { IfOk result (λ store. IsTrue (state store).is_clean → Opens files (state store)) }
     ensures cause { IfErr result (λ refusal. IsTrue (state_of refusal.1).is_clean
         → HasLookCause (state_of files).faults (state_of refusal.1).faults (IsFullFile refusal.1)
         (HoldsBooks (image files)) refusal.0) }
+    ensures listed { IfErr result (λ refusal. refusal.0 ≡ LookFault.Pages
+        → IsTrue (state_of refusal.1).is_clean → ListsBooks (image files)) }
     ensures unharmed { IfErr result (λ refusal. IsTrue (state_of refusal.1).is_clean
         → Opens files (state_of refusal.1)) }
 {
@@ -99,6 +104,8 @@ fn look_known<D: Disk>(
         → AreClean D.Disk files.log files.db) }
     ensures found { IfOk result (λ store. IsTrue (state store).is_clean
         → (held : HoldsBooks (image_of D.Disk files)) → (view store).trees ≡ trees_held held) }
+    ensures held { IfOk result (λ store. IsTrue (state store).is_clean
+        → ∥ HoldsBooks (image_of D.Disk files) ∥₁) }
 
     // If they are closed at once, they are kept.
     ensures closed { IfOk result (λ store. (last : Files D) → (last.log, last.db) ≡ files_of store
@@ -106,6 +113,8 @@ fn look_known<D: Disk>(
     ensures cause { IfErr result (λ refusal. AreClean D.Disk refusal.1.log refusal.1.db
         → HasLookCause (faults_in D.Disk files) (faults_in D.Disk refusal.1)
         (AreFull D.Disk refusal.1) (HoldsBooks (image_of D.Disk files)) refusal.0) }
+    ensures listed { IfErr result (λ refusal. refusal.0 ≡ LookFault.Pages
+        → AreClean D.Disk refusal.1.log refusal.1.db → ListsBooks (image_of D.Disk files)) }
     ensures unharmed { IfErr result (λ refusal. AreClean D.Disk refusal.1.log refusal.1.db
         → AreKept D.Disk files refusal.1) }
 {
@@ -136,12 +145,18 @@ pub fn look_through<D: Disk>(
         → AreClean D.Disk files.log files.db) }
     ensures found { IfOk result (λ store. IsTrue (state store).is_clean
         → (held : HoldsBooks (image_of D.Disk files)) → (view store).trees ≡ trees_held held) }
+    ensures held { IfOk result (λ store. IsTrue (state store).is_clean
+        → ∥ HoldsBooks (image_of D.Disk files) ∥₁) }
 
     // Files that hold books of this form are not looked through only because of memory and the
     // disk.
     ensures cause { IfErr result (λ refusal. AreClean D.Disk refusal.1.log refusal.1.db
         → HasLookCause (faults_in D.Disk files) (faults_in D.Disk refusal.1)
         (AreFull D.Disk refusal.1) (HoldsThisForm (image_of D.Disk files)) refusal.0) }
+
+    // Their pages are called wrong only of files that list the tables of books.
+    ensures listed { IfErr result (λ refusal. refusal.0 ≡ LookFault.Pages
+        → AreClean D.Disk refusal.1.log refusal.1.db → ListsBooks (image_of D.Disk files)) }
     ensures unharmed { IfErr result (λ refusal. AreClean D.Disk refusal.1.log refusal.1.db
         → AreKept D.Disk files refusal.1) }
 {
@@ -183,12 +198,17 @@ pub fn look_through_at<S: Start>(
     ensures trees { IfOk result (λ store. HasShapes (view store)) }
     ensures found { IfOk result (λ store. IsTrue (state store).is_clean
         → (held : HoldsBooks (image_at S.Start)) → (view store).trees ≡ trees_held held) }
+    ensures held { IfOk result (λ store. IsTrue (state store).is_clean
+        → ∥ HoldsBooks (image_at S.Start) ∥₁) }
 
     // What a stop leaves of files that were not looked through is what they held, or stands for the
     // same.
     ensures cause { IfErr result (λ refusal. MatchOption refusal.1 (IsUnopenedLook refusal.0)
         (IsLookRefusedFor ⟦<FileFrom<S> as Disk>⟧ (HoldsThisForm (image_at S.Start))
         (AreFull ⟦<FileFrom<S> as Disk>⟧) refusal.0)) }
+    ensures listed { IfErr result (λ refusal. refusal.0 ≡ LookFault.Pages
+        → IfSome refusal.1 (λ files. AreClean ⟦<FileFrom<S> as Disk>⟧ files.log files.db
+        → ListsBooks (image_at S.Start))) }
     ensures kept { IfErr result (λ refusal. IfSome refusal.1 (λ files. (left : Image)
         → MayLeave ⟦<FileFrom<S> as Disk>⟧ files left → IsAsFound (image_at S.Start) left)) }
 {

@@ -4,7 +4,7 @@ use Rattle.std.proofs.Common.{inr, refl, sym, ap, subst}
 use Rattle.std.specs.Prelude.{string_bytes}
 use Rattle.book_model.specs.declared.fault.LedgerFault.{LedgerFault}
 use Rattle.book_model.specs.declared.fault.LedgerFault.TheVariants.{Memory, Store, Reopen}
-use Rattle.book_model.specs.Words.{front, IsMadeByCalls, Book, new_book, Event, book_after}
+use Rattle.book_model.specs.Words.{front, IsMadeByCalls, Book, new_book, Event, after_all, book_after}
 use Rattle.book_model.specs.Words.{book_of, Outcome, tariff_outcome, close_outcome}
 use Rattle.book_model.specs.Words.{choose_outcome, adopt_outcome, Naming}
 use Rattle.book_model.proofs.OrderLemmas.{order_is_free}
@@ -28,8 +28,9 @@ use Rattle.office.specs.declared.request.Asked.TheVariants.{ImportBytes, Report,
 use Rattle.office.specs.Requests.{Dump, Response, Ruling, Count, Text, response_by, response_outcome}
 use Rattle.office.specs.Requests.{Receives, Asks}
 use Rattle.office.specs.Outcomes.{AskedOutcome, events_by, asked_outcome_by, import_asked_outcome, asked_outcome, is_hindering, is_hindered}
-use Rattle.office.specs.Laws.{Exchange, ledger_after, AreAnswered}
-use Rattle.office.specs.Laws.{AnswersFollowHistory, AnswersAreFree, IsStillOpen, DiffersAsAllowed}
+use Rattle.office.specs.Laws.{AnswersAreFree, AnswersFollowBook, AnswersFollowHistory, AreAnswered}
+use Rattle.office.specs.Laws.{AreAnsweredAfter, AreAnsweredOf, DiffersAsAllowed, Exchange}
+use Rattle.office.specs.Laws.{IsAnsweredOf, IsStillOpen, ledger_after}
 use Rattle.office.proofs.LeavingLemmas.{work_leaves, open_earlier}
 
 -- the event of an outcome is answered, if calls with it make only answered events
@@ -166,25 +167,19 @@ open_at_first seen before [] done still = still
 open_at_first seen before (exchange ∷ later) done still =
     open_earlier done.0.work (open_at_first seen exchange.after later done.1 still)
 
--- the headline
-pub answers_follow_history : {L : Type 0} (seen : L → Seen) → AnswersFollowHistory seen
-answers_follow_history seen naming start before [] answered opened done still =
+-- each answer is that of the book that those before it left
+pub answers_follow_book : {L : Type 0} (seen : L → Seen) → AnswersFollowBook seen
+answers_follow_book seen naming start before [] opened done still =
     record { end = start; told = refl; left = opened }
-answers_follow_history seen naming start before (exchange ∷ later) answered opened done still =
+answers_follow_book seen naming start before (exchange ∷ later) opened done still =
     let one = done.0 in
     let told : Result Response LedgerFault = response_by exchange.answer in
     let gone = work_leaves opened one.work
     (open_at_first seen exchange.after later done.1 still) in
-    let first = subst (λ naming. Asks naming exchange.asked one.dump told false
-    (book_after start) gone.events false) opened.naming gone.made in
-    let work = subst (λ book. Asks naming exchange.asked one.dump told false book gone.events
-    false) (books_follow_history start) first in
-    let history : List Event = gone.events ++ start in
-    let more = asks_answered naming exchange.asked one.dump told start false gone.events false
-    first answered in
-    let rest = answers_follow_history seen naming history exchange.after later more
-    (subst (λ book. IsOpenAt naming book (seen exchange.after))
-    (sym (after_all-append gone.events start new_book)) gone.left) done.1 still in
+    let work = subst (λ naming. Asks naming exchange.asked one.dump told false start gone.events
+    false) opened.naming gone.made in
+    let rest = answers_follow_book seen naming (after_all gone.events start) exchange.after later
+    gone.left done.1 still in
     record {
       end = rest.end;
       told = (
@@ -193,12 +188,50 @@ answers_follow_history seen naming start before (exchange ∷ later) answered op
           dump = one.dump;
           given = one.given;
           work = work;
-          is = asks_done naming exchange.asked one.dump told (book_of start) gone.events false work;
-          answered = more;
+          is = asks_done naming exchange.asked one.dump told start gone.events false work;
         },
         rest.told,
       );
       left = rest.left;
+    }
+
+-- and where that was the book of a history, it is that of the history
+told_after : {L : Type 0} (naming : Naming) (start : List Event) (exchanges : List (Exchange L))
+    (end : Book) → IsMadeByCalls naming start → AreAnsweredOf naming (book_after start) exchanges end
+    → (history : List Event) × AreAnsweredAfter naming start exchanges history
+    × (end ≡ book_after history)
+told_after naming start [] end answered is = (start, refl, is)
+told_after naming start (exchange ∷ later) end answered told =
+    let made : List Event = told.0 in
+    let more = asks_answered naming exchange.asked told.1.dump (response_by exchange.answer) start
+    false made false told.1.work answered in
+    let rest = told_after naming (made ++ start) later end more
+    (subst (λ book. AreAnsweredOf naming book later end)
+    (sym (after_all-append made start new_book)) told.2) in (
+      rest.0,
+      (
+        made,
+        record {
+          said = subst (λ book. IsAnsweredOf naming book exchange made)
+              (books_follow_history start) told.1;
+          answered = more;
+        },
+        rest.1,
+      ),
+      rest.2,
+    )
+
+-- the headline
+pub answers_follow_history : {L : Type 0} (seen : L → Seen) → AnswersFollowHistory seen
+answers_follow_history seen naming start before exchanges answered opened done still =
+    let follow = answers_follow_book seen naming (book_after start) before exchanges opened done
+    still in
+    let history = told_after naming start exchanges follow.end answered follow.told in
+    record {
+      end = history.0;
+      told = history.1;
+      left = subst (λ book. IsOpenAt naming book (seen (ledger_after before exchanges))) history.2
+          follow.left;
     }
 
 -- histories that differ as allowed define one book,
@@ -213,8 +246,8 @@ pub answers_are_free : {L M : Type 0} (seen : L → Seen) (seen_other : M → Se
     → AnswersAreFree seen seen_other
 answers_are_free seen seen_other naming history other one two made made_other first second differs
     asked dump free free_other =
-    let is = first.is free in
-    let is_other = second.is free_other in
+    let is = first.said.is free in
+    let is_other = second.said.is free_other in
     ap (λ (done : AskedOutcome). done.told)
     (sym is
     ∙ (λ i. asked_outcome naming (asked i) (dump i) (same_book history other differs i))

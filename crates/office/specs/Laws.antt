@@ -1,10 +1,10 @@
--- Requests, one after the other, on one ledger: each has the answer that the whole history before
--- it defines.
+-- Requests, one after the other, on one ledger: each has the answer that the book before it
+-- defines, and where that is the book of a history, the whole history.
 use Rattle.std.specs.Prelude.{◌≡◌, false, List, [], ◌∷◌, ◌++◌, Result}
 use Rattle.streams.specs.InputOutput.{Input}
 use Rattle.book_model.specs.declared.fault.LedgerFault.{LedgerFault}
-use Rattle.book_model.specs.Words.{IsMadeByCalls, Event, book_after, book_of, Naming, rulings_in}
-use Rattle.book_model.specs.Words.{record_batches}
+use Rattle.book_model.specs.Words.{Book, IsMadeByCalls, Event, after_all, book_after, book_of}
+use Rattle.book_model.specs.Words.{Naming, record_batches, rulings_in}
 use Rattle.book_core.specs.Ledgers.{Seen, IsOpenAt, books}
 use Rattle.office.specs.declared.request.Asked.{Asked}
 use Rattle.office.specs.declared.request.Answer.{Answer}
@@ -41,18 +41,45 @@ AreAnswered seen before (exchange ∷ later) =
     IsAsked exchange.asked exchange.answer (books seen before exchange.after) exchange.input
     × AreAnswered seen exchange.after later
 
--- After a history this was asked and answered, and it made these events, the newest first. Unless a
--- lack of memory or the store hindered it, the answer is what the definitions say of the history,
--- looked at as a whole.
-pub record IsAnsweredAfter {L : Type 0} (naming : Naming) (history : List Event)
-    (exchange : Exchange L) (made : List Event) : Type 0 where
+-- Of a book this was asked and answered, and it made these events, the newest first. Unless a lack of
+-- memory or the store hindered it, the answer is what the definitions say of the book.
+pub record IsAnsweredOf {L : Type 0} (naming : Naming) (book : Book) (exchange : Exchange L)
+    (made : List Event) : Type 0 where
   pub dump : Dump
   pub given : Gives exchange.asked dump (response_by exchange.answer) exchange.input
-  pub work :
-      Asks naming exchange.asked dump (response_by exchange.answer) false (book_of history) made false
+  pub work : Asks naming exchange.asked dump (response_by exchange.answer) false book made false
   pub is : is_hindered (response_by exchange.answer) ≡ false
-      → asked_outcome naming exchange.asked dump (book_of history)
+      → asked_outcome naming exchange.asked dump book
       ≡ record { told = response_by exchange.answer; events = made }
+
+-- so was each, of the book that those before it left,
+abbrev pub AreAnsweredOf : {L : Type 0} → Naming → Book → List (Exchange L) → Book → Type 0
+AreAnsweredOf naming book [] end = end ≡ book
+AreAnsweredOf naming book (exchange ∷ later) end =
+    (made : List Event) × IsAnsweredOf naming book exchange made
+    × AreAnsweredOf naming (after_all made book) later end
+
+-- and the ledger is open at the book that all of it left
+pub record FollowBook {L : Type 0} (naming : Naming) (start : Book) (exchanges : List (Exchange L))
+    (after : Seen) : Type 0 where
+  pub end : Book
+  pub told : AreAnsweredOf naming start exchanges end
+  pub left : IsOpenAt naming end after
+
+-- Whatever is asked of any book, wherever it came from, each answer is the one that the definitions
+-- give for that book, with what was made of it since.
+abbrev pub AnswersFollowBook : {L : Type 0} → (L → Seen) → Type 0
+AnswersFollowBook {L} seen =
+    (naming : Naming) (start : Book) (before : L) (exchanges : List (Exchange L))
+    → IsOpenAt naming start (seen before)
+    → AreAnswered seen before exchanges → IsStillOpen (seen (ledger_after before exchanges))
+    → FollowBook naming start exchanges (seen (ledger_after before exchanges))
+
+-- After a history this was asked and answered of its book, looked at as a whole; and calls made the
+-- history that goes on with what it made.
+pub record IsAnsweredAfter {L : Type 0} (naming : Naming) (history : List Event)
+    (exchange : Exchange L) (made : List Event) : Type 0 where
+  pub said : IsAnsweredOf naming (book_of history) exchange made
   pub answered : IsMadeByCalls naming (made ++ history)
 
 -- so was each, after the history that goes on with what those before it made,
@@ -86,7 +113,7 @@ AnswersAreFree {L} {M} seen seen_other =
     (naming : Naming) (history other : List Event) (one : Exchange L) (two : Exchange M)
     (made made_other : List Event) (first : IsAnsweredAfter naming history one made)
     (second : IsAnsweredAfter naming other two made_other)
-    → DiffersAsAllowed history other → one.asked ≡ two.asked → first.dump ≡ second.dump
+    → DiffersAsAllowed history other → one.asked ≡ two.asked → first.said.dump ≡ second.said.dump
     → is_hindered (response_by one.answer) ≡ false
     → is_hindered (response_by two.answer) ≡ false
     → response_by one.answer ≡ response_by two.answer

@@ -15,7 +15,7 @@ pub use asking::{ask, ask_without_reader};
 pub use away::AwayBooks;
 pub use book_reports::{PeriodReport, Report, StatementForm, WhatIf, centre_named, report_of_all};
 pub use choosing::{Chosen, choose_each};
-pub use laws::{answers_are_free, answers_follow_history, run_twice_is_once};
+pub use laws::{answers_are_free, answers_follow_book, answers_follow_history, run_twice_is_once};
 pub use repository::{Opened, Repository, RepositoryFault, Upgraded, Visit};
 pub use request::{Answer, Asked};
 pub use running::run;

@@ -1,4 +1,4 @@
--- Lists of books that calls made: what is read from their tables can be shown.
+-- Lists of books that can be read back: what is read from their tables can be shown.
 use Rattle.std.proofs.Common.{◌≡◌, ◌∙◌, ℕ, Bool, List, [], ◌∷◌, Option, None, Some, map, sym, ap, subst}
 use Rattle.std.proofs.Common.{refl, true}
 use Rattle.std.specs.FinMap.{get}
@@ -17,7 +17,6 @@ use Rattle.table_model.specs.TablesOf.{tables_of}
 use Rattle.table_model.specs.ListsRead.{is_period}
 use Rattle.table_model.specs.Readable.{IsReadable}
 use Rattle.table_model.proofs.CountedLemmas.{counted_follows}
-use Rattle.table_model.proofs.ReadableLemmas.{calls_read}
 use Rattle.table_model.proofs.ShownDisputes.{lists_show}
 use Rattle.table_model.specs.DisputesRead.{IsNextDisputed}
 use Rattle.tree_tables.specs.Answers.{ListsDays, ListsLines, ListsSharing, ListsUncharged}
@@ -81,7 +80,7 @@ module _ {naming : Naming} {summary : Summary} {view : View} {book : Book}
     (ready : IsReadyAt naming summary view book) where
   -- the book can be read back
   whole : IsReadable naming book
-  whole = calls_read naming book ready.kept.calls
+  whole = ready.kept.readable
 
   -- a period that exists by what is remembered exists
   there_is : (number : ℕ) → is_period number (ruled_in summary.rulings) ≡ true

@@ -1,5 +1,5 @@
--- The rows of books that calls made: they fit, they can be shown, and there are no more of them
--- than can be listed at once.
+-- The rows of books that can be read back: they fit, they can be shown, and there are no more of
+-- them than can be listed at once.
 use Rattle.std.proofs.Common.{◌≡◌, ◌∙◌, ◌+◌, ◌*◌, ◌≤◌, ℕ, List, [], ◌∷◌, length, map}
 use Rattle.std.proofs.Common.{Bool, true, false, cond, Some, refl, sym, ap, subst, arith}
 use Rattle.std.specs.Prelude.{◌==◌, All, filter}

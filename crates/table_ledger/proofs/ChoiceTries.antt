@@ -28,7 +28,6 @@ use Rattle.table_model.specs.Readable.{IsReadable}
 use Rattle.table_model.specs.RulingsRead.{chosen_by, choose_row}
 use Rattle.table_model.proofs.ChoiceLemmas.{choices_follow}
 use Rattle.table_model.proofs.ChoiceReading.{choices_count}
-use Rattle.table_model.proofs.ReadableLemmas.{calls_read}
 use Rattle.tree_tables.specs.Answers.{FindsRecord, FindsSharing, charged_with}
 use Rattle.tree_tables.specs.States.{State}
 use Rattle.tree_tables.specs.Steps.{Looks}
@@ -114,7 +113,7 @@ module _ (naming : Naming) (was : Summary) (name : List ℕ) (view : View) (book
 
   -- the book can be read back
   readable : IsReadable naming book
-  readable = calls_read naming book ready.kept.calls
+  readable = ready.kept.readable
 
   -- the answer, by the row of the name
   told : (found : Option RecordRow) → get tables.records name ≡ found

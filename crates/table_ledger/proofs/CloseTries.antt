@@ -22,7 +22,6 @@ use Rattle.table_model.specs.TablesOf.{tables_of, day_entries}
 use Rattle.table_model.proofs.CloseDays.{closed_open}
 use Rattle.table_model.proofs.MoveLemmas.{not_number}
 use Rattle.table_model.proofs.NumberedLemmas.{by_period_total, find-under, is_number}
-use Rattle.table_model.proofs.ReadableLemmas.{calls_read}
 use Rattle.table_model.proofs.TouchedRecords.{posts_few}
 use Rattle.sqlite_trees.specs.View.{View}
 use Rattle.tree_tables.specs.Days.{NoneNext}
@@ -84,7 +83,7 @@ close_is_event {naming = naming} was number day last is_day answer last_is book 
     let done : close_answer book number day ≡ Ok Done =
     ap (λ rulings. close_ruled rulings number day) (sym at.remembers.rulings) ∙ answer in
     let own = closed_open book number day done in
-    let sound = (calls_read naming book at.kept.calls).sound in
+    let sound = at.kept.readable.sound in
     let late = last_is ∙ ap last_close at.remembers.rulings in
     record {
       event = PeriodClosed day;

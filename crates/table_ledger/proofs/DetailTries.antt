@@ -29,7 +29,6 @@ use Rattle.table_model.specs.ListsRead.{is_period, of_period}
 use Rattle.table_model.specs.Tables.{Tables}
 use Rattle.table_model.specs.TablesOf.{tables_of}
 use Rattle.table_model.proofs.DetailReading.{details_follow}
-use Rattle.table_model.proofs.ReadableLemmas.{calls_read}
 use Rattle.tree_rows.proofs.IndexOrders.{by_bytes_exact, second_equal}
 use Rattle.tree_rows.proofs.Taking.{some_is}
 use Rattle.tree_tables.specs.Details.{FindsDetail, is_reached}
@@ -286,7 +285,7 @@ module _ (naming : Naming) (summary : Summary) (number : ℕ) (centre : Option (
         try_answered (next_detail_outcome naming number centre last) saw_none
         (record { stored = refl; served = refl })
         (λ book at known.
-        let whole = calls_read naming book at.kept.calls in
+        let whole = at.kept.readable in
         makes_refused (λ (found : Option Detail). found)
         (next_detail_outcome naming number centre last book) NoSuchPeriod
         (ap (λ (outcome : Outcome (Option Detail)). outcome.answer)
@@ -308,7 +307,7 @@ module _ (naming : Naming) (summary : Summary) (number : ℕ) (centre : Option (
             try_answered (next_detail_outcome naming number centre last) saw
             (record { stored = refl; served = refl })
             (λ book at known.
-            let whole = calls_read naming book at.kept.calls in
+            let whole = at.kept.readable in
             let own = rulings_are at.remembers in
             let first = close_is ∙ ap (through_of (number - 1)) (sym own) in
             let end = through_is ∙ ap (through_of number) (sym own) in

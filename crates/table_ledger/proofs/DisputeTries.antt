@@ -22,7 +22,6 @@ use Rattle.table_model.specs.DisputesRead.{FindsDisputed, IsDisputedFrom, IsNext
 use Rattle.table_model.specs.DisputesRead.{variant_read}
 use Rattle.table_model.specs.Readable.{IsReadable}
 use Rattle.table_model.proofs.DisputeLemmas.{disputes_follow}
-use Rattle.table_model.proofs.ReadableLemmas.{calls_read}
 use Rattle.tree_tables.specs.Answers.{IsNextUncharged, IsUnchargedFrom, ListsSharing, is_charged}
 use Rattle.tree_tables.specs.Stored.{stored_entry}
 use Rattle.tree_tables.specs.declared.stored_record.StoredRecord.{StoredRecord}
@@ -133,7 +132,7 @@ made_shows made identity rows is long shown =
 module _ {naming : Naming} {summary : Summary} {view : View} {book : Book}
     (at : IsAt naming summary view book) (from : List ℕ) where
   whole : IsReadable naming book
-  whole = calls_read naming book at.kept.calls
+  whole = at.kept.readable
 
   -- no dispute is left
   pub none_left : FindsDisputed from (tables_of naming book).records None

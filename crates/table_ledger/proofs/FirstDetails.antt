@@ -5,11 +5,10 @@ use Rattle.std.specs.Prelude.{ℤ}
 use Rattle.std.specs.FinMap.{entries}
 use Rattle.book_model.specs.Words.{Book, Naming, by_bytes, set_of}
 use Rattle.table_model.specs.CountedRead.{first_line}
-use Rattle.table_model.specs.FromCalls.{IsFromCalls}
+use Rattle.table_model.specs.Readable.{IsReadable}
 use Rattle.table_model.specs.Tables.{Tables}
 use Rattle.table_model.specs.TablesOf.{tables_of}
 use Rattle.table_model.proofs.CountedFirst.{names_told}
-use Rattle.table_model.proofs.ReadableLemmas.{calls_read}
 use Rattle.table_model.proofs.UnderNumbers.{values-numbers}
 use Rattle.table_ledger.specs.FirstForm.{names_by, open_read, uncounted, with_details}
 
@@ -22,11 +21,11 @@ open_of naming book =
     ∙ ap length (values-numbers book.rulings.closes))
 
 -- so with the details that they tell the tables are those of the book
-pub details_are : (naming : Naming) (book : Book) → IsFromCalls naming book
+pub details_are : (naming : Naming) (book : Book) → IsReadable naming book
     → with_details (uncounted (tables_of naming book)) ≡ tables_of naming book
-details_are naming book calls =
+details_are naming book whole =
     let tables : Tables = tables_of naming book in
     let counted = ap (λ (last : ℕ). set_of by_bytes
     (names_by (λ name. first_line tables.lines name 1 last) (entries tables.records)))
-    (open_of naming book) ∙ names_told naming book (calls_read naming book calls) in
+    (open_of naming book) ∙ names_told naming book whole in
     λ i. record tables { counted = counted i }

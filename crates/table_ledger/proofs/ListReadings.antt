@@ -10,7 +10,6 @@ use Rattle.table_model.specs.Tables.{Tables}
 use Rattle.table_model.specs.TablesOf.{tables_of}
 use Rattle.table_model.specs.ListsRead.{is_period, of_period}
 use Rattle.table_model.specs.Readable.{IsReadable}
-use Rattle.table_model.proofs.ReadableLemmas.{calls_read}
 use Rattle.table_ledger.specs.Commits.{Saw}
 use Rattle.table_ledger.specs.Ready.{Remembers}
 use Rattle.book_core.specs.OfficeRulings.{ruled_in}
@@ -38,7 +37,7 @@ pub list_read : {V A : Type 0} {view : V → A} {naming : Naming} {summary : Sum
     → AttemptsOne view naming summary summary old new outcome (Ok (Ok value))
 list_read {view = view} {naming = naming} {outcome = outcome} read law value saw says =
     try_answered outcome saw (record { stored = refl; served = refl }) (λ book ready known.
-    let whole = calls_read naming book ready.kept.calls in
+    let whole = ready.kept.readable in
     read_makes view (outcome book) _ value (law book whole) (ap Ok (says book whole known)))
 
 -- whether there is a period, by what is remembered
@@ -59,9 +58,9 @@ module _ {V A : Type 0} {view : V → A} {naming : Naming} {summary : Summary}
       → AttemptsOne view naming summary summary state state outcome (Ok (Err NoSuchPeriod))
   no_period absent = try_answered outcome saw_none (record { stored = refl; served = refl })
       (λ book ready known. (
-        ap (λ (of : Outcome A). of.answer) (law book (calls_read naming book ready.kept.calls))
+        ap (λ (of : Outcome A). of.answer) (law book ready.kept.readable)
             ∙ answer_is number (read (tables_of naming book)) false book absent
-            (calls_read naming book ready.kept.calls) ready.remembers,
+            ready.kept.readable ready.remembers,
         refl,
       ))
 
@@ -72,7 +71,7 @@ module _ {V A : Type 0} {view : V → A} {naming : Naming} {summary : Summary}
       → AttemptsOne view naming summary summary old new outcome (Ok (Ok value))
   period_read value there saw says =
       try_answered outcome saw (record { stored = refl; served = refl }) (λ book ready known.
-      let whole = calls_read naming book ready.kept.calls in
+      let whole = ready.kept.readable in
       read_makes view (outcome book) _ value (law book whole)
       (answer_is number (read (tables_of naming book)) true book there whole ready.remembers
       ∙ ap Ok (says (tables_of naming book) known)))

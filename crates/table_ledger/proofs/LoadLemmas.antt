@@ -17,9 +17,8 @@ use Rattle.book_core.specs.Ledgers.{IsOpenAt}
 use Rattle.table_model.specs.Tables.{BookRow, Tables}
 use Rattle.table_model.specs.TablesOf.{tables_of}
 use Rattle.table_model.specs.BookIn.{adopted_read, tariff_read}
-use Rattle.table_model.specs.FromCalls.{IsFromCalls}
+use Rattle.table_model.specs.Readable.{IsReadable}
 use Rattle.table_model.proofs.BookLemmas.{book_follows}
-use Rattle.table_model.proofs.ReadableLemmas.{calls_read}
 use Rattle.tree_tables.specs.Steps.{Looks}
 use Rattle.tree_tables.specs.Stored.{book_entry, close_entry, tariff_of}
 use Rattle.tree_tables.specs.declared.book_row.StoredBook.{StoredBook as Stored}
@@ -132,16 +131,15 @@ recalled_by (Ok summary) tables row texts days choices shows kinds refused are =
     recalled summary tables row texts days choices shows are
 recalled_by (Err fault) tables row texts days choices shows kinds refused are = (
   kinds,
-  λ store naming of calls same.
-      refused store of.rulings (rows_of naming of row texts days choices calls
+  λ store naming of readable same.
+      refused store of.rulings (rows_of naming of row texts days choices readable
       (subst (λ tables. AreRowsIn tables row texts days choices) same are)),
 )
 
 -- a summary of the tables of a book is one of the book
-pub remembered : (naming : Naming) (book : Book) (summary : Summary) → IsFromCalls naming book
+pub remembered : (naming : Naming) (book : Book) (summary : Summary) → IsReadable naming book
     → SummarizesTables summary (tables_of naming book) → Remembers summary book
-remembered naming book summary calls recalls =
-    let whole = calls_read naming book calls in
+remembered naming book summary whole recalls =
     let back = ap (λ (book : Book). book.rulings) (book_follows naming book whole) in
     record {
       rulings = recalls.rulings ∙ ap (λ (rulings : Rulings). record rulings { choices = [] }) back;
@@ -188,19 +186,19 @@ never_both fault none (inr store) = absurd (let e = sym none ∙ store in cc)
 -- books that were read are open
 pub read_open : (naming : Naming) (old new : State) (summary : Summary) (book : Book)
     → LeavesTheLast new.view new.may_leave → Reads (Ok summary) old new → HasCleanDisk new
-    → IsFromCalls naming book → Stores old.view (tables_of naming book)
+    → IsReadable naming book → Stores old.view (tables_of naming book)
     → IsOpenAt naming book (seen_on (record {
       naming = naming;
       state = new;
       must_reopen = false;
       summary = summary;
     }))
-read_open naming old new summary book last reads clean calls keeping =
+read_open naming old new summary book last reads clean readable keeping =
     let read = reads.read clean in
     let tables = tables_of naming book in
-    opened naming new summary book last clean calls
+    opened naming new summary book last clean readable
     (record {
       holds = holds_on old.view new.view tables read.same keeping.holds;
       rest = rest_on old.view new.view read.same keeping.rest;
     })
-    (remembered naming book summary calls (read.known tables keeping.holds))
+    (remembered naming book summary readable (read.known tables keeping.holds))

@@ -8,8 +8,9 @@ use Rattle.table_model.specs.TablesAfter.{new_tables}
 use Rattle.table_model.specs.Tables.{Tables}
 use Rattle.table_model.specs.TablesOf.{tables_of}
 use Rattle.table_model.proofs.EventLemmas.{tables_follow}
-use Rattle.table_model.specs.FromCalls.{IsFromCalls}
+use Rattle.table_model.specs.Readable.{IsReadable}
 use Rattle.table_model.proofs.CallsLemmas.{calls_stay}
+use Rattle.table_model.proofs.ReadableLemmas.{calls_read}
 use Rattle.table_ledger.specs.Commits.{Stores}
 use Rattle.table_ledger.specs.Ready.{IsStoredIn, IsReadyAt, Remembers}
 use Rattle.table_ledger.specs.LedgerState.{seen_on}
@@ -19,7 +20,7 @@ use Rattle.table_ledger.specs.declared.summary.Summary.{Summary}
 
 -- the ledger is open at the book
 pub opened : (naming : Naming) (state : State) (summary : Summary) (book : Book)
-    → LeavesTheLast state.view state.may_leave → HasCleanDisk state → IsFromCalls naming book
+    → LeavesTheLast state.view state.may_leave → HasCleanDisk state → IsReadable naming book
     → Stores state.view (tables_of naming book) → Remembers summary book
     → IsOpenAt naming book (seen_on (record {
       naming = naming;
@@ -27,10 +28,10 @@ pub opened : (naming : Naming) (state : State) (summary : Summary) (book : Book)
       must_reopen = false;
       summary = summary;
     }))
-opened naming state summary book last clean calls keeping remembers =
+opened naming state summary book last clean readable keeping remembers =
     let rest = keeping.rest in
     let kept : IsStoredIn naming book state.view.trees =
-    record { calls = calls; holds = keeping.holds } in
+    record { readable = readable; holds = keeping.holds } in
     let ready : IsReadyAt naming summary state.view book = record {
       rest = rest;
       kept = kept;
@@ -67,7 +68,8 @@ pub created : (naming : Naming) (state : State) (summary : Summary)
       summary = summary;
     }))
 created naming state summary last clean keeping none choices held total =
-    opened naming state summary new_book last clean (calls_stay.start naming)
+    opened naming state summary new_book last clean
+    (calls_read naming new_book (calls_stay.start naming))
     (subst (Stores state.view) (new_follow naming) keeping)
     (record {
       rulings = none;

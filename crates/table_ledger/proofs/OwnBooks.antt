@@ -1,4 +1,4 @@
--- Books that calls made are read again: their rows fit, and what fails has a cause in the store.
+-- Books that can be read back are read: their rows fit, and what fails has a cause in the store.
 use Rattle.std.proofs.Common.{◌≡◌, ◌∙◌, ◌+◌, ◌≤◌, ◌<◌, ◌^◌, ℕ, ℤ, suc, List, [], ◌∷◌, Option, Some}
 use Rattle.std.proofs.Common.{Result, Ok, Err, IsTrue, ap, arith, false, inl, inr, length, map, pos}
 use Rattle.std.proofs.Common.{refl, rules, subst, sym, true, true≢false}
@@ -19,9 +19,8 @@ use Rattle.book_model.specs.declared.fault.LedgerFault.{LedgerFault}
 use Rattle.book_model.specs.declared.fault.LedgerFault.TheVariants.{Memory, Store}
 use Rattle.table_model.specs.Tables.{Tables}
 use Rattle.table_model.specs.TablesOf.{close_entries, tables_of, tariff_entries}
-use Rattle.table_model.specs.FromCalls.{IsFromCalls}
+use Rattle.table_model.specs.Readable.{IsReadable}
 use Rattle.table_model.specs.Readable.{IsTexted}
-use Rattle.table_model.proofs.ReadableLemmas.{calls_read}
 use Rattle.table_model.proofs.RulingsReading.{tariffs_kept}
 use Rattle.table_model.proofs.UnderNumbers.{entries-numbers}
 use Rattle.tree_rows.proofs.Failing.{caused_after}
@@ -162,11 +161,10 @@ tariffs_few (tariff ∷ tariffs) rising texted =
     within : (n : ℕ) (day : ℤ) → IsDay day → (pos n +ℤ day) ≤ℤ pos 47481 → suc n ≤ 2 ^ 32
     within n day is few = grind (arith, ints)
 
--- so the rows of books that calls made can be listed
-pub can_be_listed : (naming : Naming) (book : Book) → IsFromCalls naming book → HasTexts book
+-- so the rows of books that can be read back can be listed
+pub can_be_listed : (naming : Naming) (book : Book) → IsReadable naming book → HasTexts book
     → CanBeListed (tables_of naming book)
-can_be_listed naming book calls texts =
-    let whole = calls_read naming book calls in
+can_be_listed naming book whole texts =
     let tariffs = book.rulings.tariffs in
     let closes = book.rulings.closes in
     let texted = whole.texts in
@@ -230,15 +228,15 @@ cause_told old middle new Broken fault rest cause one two clean kind served mend
 cause_told old middle new Unstorable fault rest cause one two clean kind served mended =
     absurd cause
 
--- an answer of looks is no fault of the store, if calls made the tables
+-- an answer of looks is no fault of the store, if the tables are of a book that can be read back
 pub own_answer : (old new : State) (answer : Result Summary LedgerFault)
     → Looks (Ok answer) old new IsLoaded → ReadsItsOwn answer old new
 own_answer old new (Ok summary) looks = tt
-own_answer old new (Err fault) looks = λ clean naming book calls texts keeping.
+own_answer old new (Err fault) looks = λ clean naming book whole texts keeping.
     let known = (looks.found clean).known (tables_of naming book) keeping.holds in
     elim known.0 [
       | inl memory ↦ inl memory
-      | inr store ↦ absurd (known.1 store naming book calls refl)
+      | inr store ↦ absurd (known.1 store naming book whole refl)
     ]
 
 -- nor is that of looks that were refused
@@ -250,8 +248,8 @@ pub own_refused : (old middle new : State) (error : StoreError) (fault : LedgerF
     → (HasCleanDisk new → error ≡ OutOfMemory → new.view.is_broken ≡ false → fault ≡ Memory)
     → (HasCleanDisk new → IsTrue new.view.is_open → new.view.is_broken ≡ false)
     → ReadsItsOwn (Err fault) old new
-own_refused old middle new error fault cause one two kind served mended clean naming book calls
+own_refused old middle new error fault cause one two kind served mended clean naming book whole
     texts keeping =
     cause_told old middle new error fault keeping.rest
     (cause (clean_before two clean) (tables_of naming book) keeping.holds
-    (can_be_listed naming book calls texts)) one two clean kind (served clean) (mended clean)
+    (can_be_listed naming book whole texts)) one two clean kind (served clean) (mended clean)

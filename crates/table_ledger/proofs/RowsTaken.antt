@@ -21,9 +21,8 @@ use Rattle.book_model.proofs.RecordSets.{first_of, second_of}
 use Rattle.table_model.specs.Tables.{BookRow, Tables, never_adopted}
 use Rattle.table_model.specs.TablesOf.{close_entries, tables_of, tariff_entries}
 use Rattle.table_model.specs.BookIn.{tariff_read}
-use Rattle.table_model.specs.FromCalls.{IsFromCalls}
+use Rattle.table_model.specs.Readable.{IsReadable}
 use Rattle.table_model.specs.Readable.{IsTexted}
-use Rattle.table_model.proofs.ReadableLemmas.{calls_read}
 use Rattle.table_model.proofs.RulingsReading.{one_read, tariffs_kept}
 use Rattle.table_model.proofs.UnderNumbers.{entries-numbers}
 use Rattle.tree_tables.specs.Answers.{last_number}
@@ -221,13 +220,12 @@ pub record AreRowsIn (tables : Tables) (row : Stored) (texts : List StoredTariff
   pub closes : map close_entry days ≡ entries tables.closes
   pub made : choices ≡ last_number tables.choices
 
--- rows of the tables of a book that calls made are those of its rulings, within the limits
+-- rows of the tables of a book that can be read back are those of its rulings, within the limits
 pub rows_of : (naming : Naming) (book : Book) (row : Stored) (texts : List StoredTariff)
-    (days : List Close) (choices : ℕ) → IsFromCalls naming book
+    (days : List Close) (choices : ℕ) → IsReadable naming book
     → AreRowsIn (tables_of naming book) row texts days choices
     → AreRowsOf row texts days choices book.rulings
-rows_of naming book row texts days choices calls are =
-    let whole = calls_read naming book calls in
+rows_of naming book row texts days choices whole are =
     let rulings = book.rulings in
     let held : row.held ≡ length (members book.held) = ap (λ (it : BookRow). it.held) are.book in
     let cost : row.amount ≡ total_of rulings book.held = ap (λ (it : BookRow). it.amount) are.book in

@@ -20,7 +20,6 @@ use Rattle.table_model.specs.ListsRead.{choice_read_at, choice_shown}
 use Rattle.table_model.specs.Readable.{IsReadable}
 use Rattle.table_model.proofs.FitsLemmas.{numbers_fit}
 use Rattle.table_model.proofs.ListedChoices.{choice_listed, choice_row_at}
-use Rattle.table_model.proofs.ReadableLemmas.{calls_read}
 use Rattle.tree_tables.specs.Fits.{IsNumbered}
 use Rattle.tree_tables.specs.Stored.{choice_entry}
 use Rattle.tree_tables.specs.declared.choice_rows.StoredChoice.{StoredChoice}
@@ -72,12 +71,12 @@ module _ {summary : Summary} {book : Book} (remembers : Remembers summary book) 
       pub is_one : place < length book.rulings.choices
       is_one = subst (λ count. place < count) remembers.choices stands.0
 
--- A choice of a book that calls made is in its table, and its row fits.
+-- A choice of a book that can be read back is in its table, and its row fits.
 pub own_choice : {naming : Naming} {summary : Summary} {view : View} {book : Book}
     → IsReadyAt naming summary view book → HasWideNames naming → (place : ℕ)
     → place < length book.rulings.choices → IsNumbered (place + 1) (tables_of naming book)
 own_choice {naming = naming} {book = book} ready wide place within =
-    let whole : IsReadable naming book = calls_read naming book ready.kept.calls in
+    let whole : IsReadable naming book = ready.kept.readable in
     let some : Choice = record { chosen = []; period = 0 } in
     let choice = get_or book.rulings.choices place some in
     let row : ChoiceRow = record { name = name_of naming choice.chosen; period = choice.period } in

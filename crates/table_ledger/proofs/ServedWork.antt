@@ -55,7 +55,7 @@ module _ {V : Type 0} {Made : Result V LedgerFault → Book → List Event → T
   was_clean : HasCleanDisk new.state → HasCleanDisk old.state
   was_clean clean = clean_before serves.survives clean
 
-  -- whatever a stop may leave after the work are books that calls made
+  -- whatever a stop may leave after the work are books that can be read back
   books_left : HasCleanDisk new.state → AreBooksOn old → (trees : Trees) → new.state.may_leave trees
       → StoreSomeBook new.naming trees
   books_left clean books trees left =

@@ -11,8 +11,6 @@ use Rattle.table_model.specs.Tables.{Tables}
 use Rattle.table_model.specs.TablesOf.{tables_of}
 use Rattle.table_model.proofs.EventLemmas.{event_follows}
 use Rattle.table_model.specs.FromCalls.{IsSubmittedTo}
-use Rattle.table_model.proofs.CallsLemmas.{calls_stay}
-use Rattle.table_model.proofs.ReadableLemmas.{calls_read}
 use Rattle.tree_rows.proofs.Calls.{only_looks, kept_after_look}
 use Rattle.tree_tables.specs.Holds.{Holds}
 use Rattle.tree_tables.specs.States.{State, HasCleanDisk, Survives}
@@ -23,6 +21,7 @@ use Rattle.table_ledger.specs.Commits.{Saw}
 use Rattle.table_ledger.specs.Ready.{Remembers}
 use Rattle.table_ledger.specs.Stages.{IsAtAs, IsStoredAs, LeavesOne, MakesOf, StagesAs, StagesBy}
 use Rattle.table_ledger.specs.declared.summary.Summary.{Summary}
+use Rattle.table_ledger.proofs.ReadableStays.{readable_stays}
 use Rattle.table_ledger.proofs.Remembered.{remembers_as}
 use Rattle.table_ledger.proofs.SurvivalLemmas.{clean_before, survives_then}
 use Rattle.table_ledger.proofs.UnchangedStores.{holds_on, stands_kept, trees_same}
@@ -170,7 +169,7 @@ stage_steps {naming = naming} {first = first} {middle = middle} {last = last} {w
       let seen = saw.seen (clean_before does.survives clean) in
       let event = events book at (seen.known tables at.kept.holds) in
       let changes = does.done clean in
-      let whole = calls_read naming book at.kept.calls in
+      let whole = at.kept.readable in
       let follows =
       event_follows naming book event.event whole.sound whole.usage event.answered in
       record {
@@ -179,8 +178,7 @@ stage_steps {naming = naming} {first = first} {middle = middle} {last = last} {w
         leaves = inr (ap listed (sym event.is));
         only = only_both first.view (only_looks first.view seen.same) changes.only;
         kept = record {
-          calls = calls_stay.stay naming book event.event at.kept.calls event.submitted
-              event.answered;
+          readable = readable_stays naming book event.event whole event.submitted event.answered;
           holds = subst (Holds last.view.trees) (event.changes ∙ ap written (sym follows))
               (changes.made tables
               (holds_on first.view middle.view tables seen.same at.kept.holds) event.when);

@@ -34,7 +34,7 @@ pub sums_remembered : {naming : Naming} {was : Summary} {view : View} {book : Bo
     → IsAt naming was view book → IsAtAs (set_sums was.held was.total) naming was view book
 sums_remembered {naming = naming} {was = was} {view = view} {book = book} at = record {
   kept = record {
-    calls = at.kept.calls;
+    readable = at.kept.readable;
     holds = subst (Holds view.trees)
         (sums_there was.held was.total (tables_of naming book)
         (record { held_is = sym at.remembers.held; amount_is = sym at.remembers.total }))
@@ -49,7 +49,7 @@ pub sums_written : {naming : Naming} {is : Summary} {middle new : View} {book : 
     → IsAtAs (set_sums held amount) naming is middle book → IsAt naming is new book
 sums_written {naming = naming} {is = is} {middle = middle} {new = new} {book = book} held amount changes at = record {
   kept = record {
-    calls = at.kept.calls;
+    readable = at.kept.readable;
     holds = subst (Holds new.trees)
         (sym (sums_there is.held is.total (tables_of naming book)
         (record { held_is = sym at.remembers.held; amount_is = sym at.remembers.total })))

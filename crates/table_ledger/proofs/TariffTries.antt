@@ -22,7 +22,6 @@ use Rattle.table_model.specs.TableChanges.{amount_under}
 use Rattle.table_model.specs.Tables.{Tables}
 use Rattle.table_model.specs.TablesOf.{tables_of}
 use Rattle.table_model.proofs.LateRows.{amount_is_read, late_counted}
-use Rattle.table_model.proofs.ReadableLemmas.{calls_read}
 use Rattle.table_model.proofs.RulingLemmas.{terms_follow}
 use Rattle.table_model.specs.Readable.{IsReadable}
 use Rattle.tree_tables.specs.States.{State}
@@ -91,7 +90,7 @@ module _ (summary : Summary) (text : List ℕ) (terms : Terms) where
 
     -- the book as it is read back
     readable : IsReadable naming book
-    readable = calls_read naming book ready.kept.calls
+    readable = ready.kept.readable
 
     -- the answer to the text
     answered : (tariff_outcome text book).answer ≡ terms_ruled ruled much text terms

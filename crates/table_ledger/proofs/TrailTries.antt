@@ -1,5 +1,5 @@
--- The trail of a record that is tried: what is answered, and that books that calls made can be read
--- for it.
+-- The trail of a record that is tried: what is answered, and that books that can be read back can be
+-- read for it.
 use Rattle.std.proofs.Common.{◌≡◌, ◌∙◌, ℕ, List, refl, sym, ap, subst, Option, None}
 use Rattle.std.proofs.Common.{Some, Ok, Err, arith, map}
 use Rattle.std.specs.Prelude.{All}
@@ -25,7 +25,6 @@ use Rattle.table_model.specs.DisputesRead.{NamedRow, variant_read}
 use Rattle.table_model.specs.Readable.{IsReadable}
 use Rattle.table_model.specs.TrailRead.{choices_with, life_read, trail_at, trail_read, trail_row}
 use Rattle.table_model.proofs.FitsLemmas.{numbers_fit}
-use Rattle.table_model.proofs.ReadableLemmas.{calls_read}
 use Rattle.table_model.proofs.TableParts.{what_is}
 use Rattle.table_model.proofs.TrailLemmas.{trails_follow}
 use Rattle.tree_tables.specs.Answers.{FindsRecord, ListsSharing}
@@ -108,7 +107,7 @@ module _ {naming : Naming} {summary : Summary} {view : View} {book : Book}
   by_tables : (trail_outcome naming name book).answer ≡ trail_read ruled kept name
   by_tables =
       ap (λ (of : Outcome TrailSeen). of.answer)
-      (trails_follow naming book name (calls_read naming book at.kept.calls))
+      (trails_follow naming book name at.kept.readable)
       ∙ ap (λ (rulings : Rulings). trail_read rulings kept name) (rulings_are at.remembers)
 
   -- no record has the name
@@ -149,12 +148,12 @@ module _ {naming : Naming} {summary : Summary} {view : View} {book : Book}
         life = sym life i;
       }))
 
--- ---- books that calls made
+-- ---- books that can be read back
 
 module _ {naming : Naming} {summary : Summary} {view : View} {book : Book}
     (ready : IsReadyAt naming summary view book) (wide : HasWideNames naming) where
   whole : IsReadable naming book
-  whole = calls_read naming book ready.kept.calls
+  whole = ready.kept.readable
 
   -- their choices fit,
   own_chosen : ChosenFit (tables_of naming book)

@@ -81,14 +81,14 @@ looks_known saw answers = record {
 pub at_ready : {naming : Naming} {summary : Summary} {view : View} {book : Book}
     → IsReadyAt naming summary view book → IsAt naming summary view book
 at_ready ready = record {
-  kept = record { calls = ready.kept.calls; holds = ready.kept.holds };
+  kept = record { readable = ready.kept.readable; holds = ready.kept.holds };
   remembers = ready.remembers;
 }
 
 -- trees that hold the tables with all that was written hold the book
 pub stored_in : {naming : Naming} {book : Book} {trees : Trees}
     → IsStoredAs (λ tables. tables) naming book trees → IsStoredIn naming book trees
-stored_in kept = record { calls = kept.calls; holds = kept.holds }
+stored_in kept = record { readable = kept.readable; holds = kept.holds }
 
 -- a ledger is ready after what changes nothing
 pub ready_same : {naming : Naming} {was : Summary} {book : Book} (old new : View)

@@ -15,7 +15,6 @@ use Rattle.table_model.specs.TablesOf.{tables_of}
 use Rattle.table_model.specs.CountedRead.{counted_rows, row_costs, what_if_read}
 use Rattle.table_model.specs.ListsRead.{is_period}
 use Rattle.table_model.proofs.CountedLemmas.{counted_follows}
-use Rattle.table_model.proofs.ReadableLemmas.{calls_read}
 use Rattle.tree_tables.specs.States.{State}
 use Rattle.table_ledger.specs.Commits.{Saw}
 use Rattle.table_ledger.specs.Ready.{IsReadyAt, Remembers}
@@ -65,7 +64,7 @@ module _ (naming : Naming) (summary : Summary) (number : ℕ) (terms : Terms) wh
       (counted_rows number (ruled_in summary.rulings) (tables_of naming book)))
       else Err NoSuchPeriod)
   answer_by view book at there is =
-      let whole = calls_read naming book at.kept.calls in
+      let whole = at.kept.readable in
       ap (λ (outcome : Outcome (List ChargeRow)). outcome.answer)
       (counted_follows.what_if naming book number terms whole)
       ∙ read_by book at.remembers there is
@@ -116,7 +115,7 @@ module _ (naming : Naming) (summary : Summary) (number : ℕ) (terms : Terms) wh
       → IsTestOf number (ruled_in summary.rulings) (tables_of naming book) test
       → FindsRowsUnder terms test (tables_of naming book) (Some rows) → AreRows rows.items
   what_if_shown test rows book there ready tests finds =
-      let whole = calls_read naming book ready.kept.calls in
+      let whole = ready.kept.readable in
       let costs = costs_tested number (ruled_in summary.rulings) terms (tables_of naming book) test
       tests in
       let own = ap (λ (rulings : Rulings). row_costs terms

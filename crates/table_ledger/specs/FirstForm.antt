@@ -7,7 +7,7 @@ use Rattle.sqlite_trees.specs.Tree.{Trees}
 use Rattle.sqlite_trees.specs.View.{View, IsClean}
 use Rattle.book_model.specs.Words.{Book, Naming, by_bytes, set_of}
 use Rattle.table_model.specs.CountedRead.{charged_before_lines, first_line}
-use Rattle.table_model.specs.FromCalls.{IsFromCalls}
+use Rattle.table_model.specs.Readable.{IsReadable}
 use Rattle.table_model.specs.Steps.{count_row}
 use Rattle.table_model.specs.Tables.{RecordRow, Tables}
 use Rattle.table_model.specs.TablesOf.{tables_of}
@@ -19,9 +19,9 @@ use Rattle.table_ledger.specs.declared.upgrading.Counted.{Counted}
 abbrev pub uncounted : Tables → Tables
 uncounted tables = record tables { counted = empty }
 
--- the trees hold the book, which calls made, without its details
+-- the trees hold the book, which can be read back, without its details
 pub record IsStoredInFirst (naming : Naming) (book : Book) (trees : Trees) : Type 0 where
-  pub calls : IsFromCalls naming book
+  pub readable : IsReadable naming book
   pub holds : Holds trees (uncounted (tables_of naming book))
 
 -- a store is open between two transactions, and its trees hold the book so

@@ -44,8 +44,8 @@ book_of_trees trees = book_in (tables_in trees)
 abbrev pub MayFind : (Trees → Type 0) → Book → Type 0
 MayFind may_leave book = (trees : Trees) × may_leave trees × (book ≡ book_of_trees trees)
 
--- A ledger wrote what is stored there: whatever a stop may leave are books that calls made; and the
--- ledger is ready, unless it is to be reopened.
+-- A ledger wrote what is stored there, or could have: whatever a stop may leave are books that can be
+-- read back; and the ledger is ready, unless it is to be reopened.
 pub record AreBooks (naming : Naming) (view : View) (may_leave : Trees → Type 0)
     (must_reopen : Bool) (summary : Summary) : Type 0 where
   pub left : IsClean view → (trees : Trees) → may_leave trees → StoreSomeBook naming trees

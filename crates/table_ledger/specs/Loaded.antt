@@ -16,7 +16,7 @@ use Rattle.book_model.specs.declared.fault.LedgerFault.TheVariants.{Memory, NotB
 use Rattle.table_model.specs.Tables.{Tables, first_rule, never_adopted}
 use Rattle.table_model.specs.TablesOf.{close_entries, tables_of}
 use Rattle.table_model.specs.BookIn.{rulings_of_tables, tariff_read}
-use Rattle.table_model.specs.FromCalls.{IsFromCalls}
+use Rattle.table_model.specs.Readable.{IsReadable}
 use Rattle.tree_tables.specs.Answers.{last_number}
 use Rattle.tree_tables.specs.Columns.{closed_columns, tariff_columns}
 use Rattle.tree_tables.specs.Fits.{CloseFits, RowsFit, TariffFits}
@@ -105,13 +105,13 @@ pub record SummarizesTables (summary : Summary) (tables : Tables) : Type 0 where
   pub held : summary.held ≡ tables.book.held
   pub total : summary.total ≡ tables.book.amount
 
--- the tables are those of no book that calls made
+-- the tables are those of no book that can be read back
 abbrev pub AreOfNone : Tables → Type 0
 AreOfNone tables =
-    (naming : Naming) (book : Book) → IsFromCalls naming book → tables ≢ tables_of naming book
+    (naming : Naming) (book : Book) → IsReadable naming book → tables ≢ tables_of naming book
 
 -- If the tables of books are looked at, the summary is theirs; no fault says that there are none,
--- and one is of the store only if calls made no such tables.
+-- and one is of the store only if they are of no book that can be read back.
 abbrev pub IsLoaded : Tables → Result Summary LedgerFault → Type 0
 IsLoaded tables (Ok summary) = SummarizesTables summary tables
 IsLoaded tables (Err fault) = IsStoreFault fault × (fault ≡ Store → AreOfNone tables)
@@ -163,11 +163,11 @@ abbrev pub ReadsByRow : Bool → State → State → Result Summary LedgerFault 
 ReadsByRow there old new (Ok summary) = there ≡ true
 ReadsByRow there old new (Err fault) = IsToldBy there old new fault
 
--- books that calls made are read again, or there is such a cause
+-- books that can be read back are read, or there is such a cause
 abbrev pub ReadsItsOwn : Result Summary LedgerFault → State → State → Type 0
 ReadsItsOwn result old new =
     IfErr result (λ fault. HasCleanDisk new → (naming : Naming) (book : Book)
-    → IsFromCalls naming book → HasTexts book → Stores old.view (tables_of naming book)
+    → IsReadable naming book → HasTexts book → Stores old.view (tables_of naming book)
     → IsOpenCause old new fault)
 
 -- Books are looked for in a store, and nothing is committed.

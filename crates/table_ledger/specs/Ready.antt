@@ -1,11 +1,11 @@
--- A ledger in trees that is ready: its store keeps a book that calls made, and it remembers that
--- book.
+-- A ledger in trees that is ready: its store keeps a book that can be read back, as those are that
+-- calls made, and it remembers that book.
 use Rattle.std.specs.Prelude.{◌≡◌, [], length}
 use Rattle.sqlite_trees.specs.Tree.{Trees}
 use Rattle.sqlite_trees.specs.View.{View}
 use Rattle.book_model.specs.Words.{total_of, Book, Naming, members}
 use Rattle.table_model.specs.TablesOf.{tables_of}
-use Rattle.table_model.specs.FromCalls.{IsFromCalls}
+use Rattle.table_model.specs.Readable.{IsReadable}
 use Rattle.tree_tables.specs.Holds.{Holds}
 use Rattle.table_ledger.specs.Commits.{IsAtRest}
 use Rattle.book_core.specs.OfficeRulings.{ruled_in}
@@ -18,9 +18,9 @@ pub record Remembers (summary : Summary) (book : Book) : Type 0 where
   pub held : summary.held ≡ length (members book.held)
   pub total : summary.total ≡ total_of book.rulings book.held
 
--- the trees hold the book, which calls made
+-- the trees hold the book, which can be read back
 pub record IsStoredIn (naming : Naming) (book : Book) (trees : Trees) : Type 0 where
-  pub calls : IsFromCalls naming book
+  pub readable : IsReadable naming book
   pub holds : Holds trees (tables_of naming book)
 
 -- this holds for some book
@@ -28,8 +28,8 @@ pub record StoreSomeBook (naming : Naming) (trees : Trees) : Type 0 where
   pub book : Book
   pub kept : IsStoredIn naming book trees
 
--- The store is open between two transactions, and keeps the book, which calls made; and the summary
--- is that of the book.
+-- The store is open between two transactions, and keeps the book, which can be read back; and the
+-- summary is that of the book.
 pub record IsReadyAt (naming : Naming) (summary : Summary) (view : View) (book : Book) : Type 0
   where
     pub rest : IsAtRest view

@@ -11,7 +11,6 @@ use Rattle.table_model.specs.TablesOf.{tables_of}
 use Rattle.table_model.specs.BookIn.{book_in, charged_before, close_after, past_in, period_in}
 use Rattle.table_model.specs.BookIn.{records_of_rows}
 use Rattle.table_model.proofs.BookLemmas.{book_follows}
-use Rattle.table_model.proofs.ReadableLemmas.{calls_read}
 use Rattle.table_ledger.specs.Ready.{IsReadyAt, IsStoredIn}
 use Rattle.table_ledger.specs.LedgerState.{book_of_trees, AreBooks, seen_of}
 use Rattle.table_ledger.specs.TablesRead.{tables_read}
@@ -37,7 +36,7 @@ pub book_of_stored : {naming : Naming} {book : Book} {trees : Trees} → IsStore
     → book_of_trees trees ≡ book
 book_of_stored {naming} {book} {trees} kept =
     ap book_in (tables_read trees (tables_of naming book) kept.holds)
-    ∙ book_alike empty (tables_of naming book) ∙ book_follows naming book (calls_read naming book kept.calls)
+    ∙ book_alike empty (tables_of naming book) ∙ book_follows naming book kept.readable
 
 -- what a ledger that is ready shows determines its book
 pub book_of_ready : {naming : Naming} {summary : Summary} {view : View} {book : Book}

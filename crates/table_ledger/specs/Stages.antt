@@ -12,9 +12,9 @@ use Rattle.book_core.specs.Calls.{Calls, Makes, is_store, is_reopen, listed}
 use Rattle.book_core.specs.OfficeRulings.{ruled_in}
 use Rattle.book_core.specs.Submissions.{Accepts, Takes, first_of}
 use Rattle.table_model.specs.Changed.{kept_at}
+use Rattle.table_model.specs.Readable.{IsReadable}
 use Rattle.table_model.specs.Tables.{Tables}
 use Rattle.table_model.specs.TablesOf.{tables_of}
-use Rattle.table_model.specs.FromCalls.{IsFromCalls}
 use Rattle.tree_tables.specs.Holds.{Holds}
 use Rattle.tree_tables.specs.States.{State, HasCleanDisk, Survives}
 use Rattle.tree_tables.specs.Steps.{KeepsLastCommit}
@@ -25,11 +25,11 @@ use Rattle.table_ledger.specs.declared.summary.Summary.{Summary}
 
 -- ---- inside a transaction
 
--- the trees hold the tables of the book, which calls made, as they are at this point of the
+-- the trees hold the tables of the book, which can be read back, as they are at this point of the
 -- transaction: what is written later is not there yet
 pub record IsStoredAs (written : Tables → Tables) (naming : Naming) (book : Book) (trees : Trees)
     : Type 0 where
-  pub calls : IsFromCalls naming book
+  pub readable : IsReadable naming book
   pub holds : Holds trees (written (tables_of naming book))
 
 -- The trees hold the tables of the book so, as the transaction sees them; and the summary is that

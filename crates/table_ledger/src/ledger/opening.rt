@@ -14,18 +14,18 @@ impl<S: Store, N: Naming + Drop> TableLedger<S, N> {
     ghost use Rattle.book_core.specs.Ledgers.{IsOpenAt};
     ghost use Rattle.table_model.specs.Tables.{Tables};
     ghost use Rattle.table_model.specs.TablesOf.{tables_of};
-    ghost use Rattle.table_model.specs.FromCalls.{IsFromCalls};
+    ghost use Rattle.table_model.specs.Readable.{IsReadable};
     ghost use Rattle.tree_rows.specs.Rows.{IsUnchanged};
     ghost use Rattle.tree_tables.specs.Holds.{HasShapes, Holds, has_book};
     ghost use Rattle.tree_tables.specs.States.{HasCleanDisk, Survives, state};
     ghost use Rattle.table_ledger.specs.Commits.{Stores};
     ghost use Rattle.table_ledger.specs.Loaded.{HasTexts, IsOpenCause, IsOpenFault, IsToldBy};
 
-    /// The books that a store holds.
+    /// The books that a store holds: those that calls made, and any others that can be read back.
     pub fn open(alloc: Global, store: S, naming: N) -> Result<TableLedger<S, N>, (LedgerFault, S)>
         requires { IsClean (S.Store.view store) → HasShapes (S.Store.view store) }
         ensures books { IfOk result (λ ledger. HasCleanDisk (state S.Store ledger.tables.store)
-            → (book : Book) → IsFromCalls (N.name_of naming) book
+            → (book : Book) → IsReadable (N.name_of naming) book
             → Stores (S.Store.view store) (tables_of (N.name_of naming) book)
             → IsOpenAt (N.name_of naming) book (⟦<TableLedger<S, N> as Ledger>⟧.seen ledger)) }
 
@@ -50,9 +50,9 @@ impl<S: Store, N: Naming + Drop> TableLedger<S, N> {
             → IsToldBy (has_book (S.Store.view store).trees) (state S.Store store)
             (state S.Store refused.1) refused.0) }
 
-        // What calls made is read again, unless memory runs out or the disk fails.
+        // A book that can be read back is read, unless memory runs out or the disk fails.
         ensures own { IfErr result (λ refused. HasCleanDisk (state S.Store refused.1)
-            → (book : Book) → IsFromCalls (N.name_of naming) book → HasTexts book
+            → (book : Book) → IsReadable (N.name_of naming) book → HasTexts book
             → Stores (S.Store.view store) (tables_of (N.name_of naming) book)
             → IsOpenCause (state S.Store store) (state S.Store refused.1) refused.0) }
         ensures shaped { IfErr result (λ refused. IsClean (S.Store.view refused.1)

@@ -1,16 +1,27 @@
-use Rattle.std.proofs.Common.{inl, refl, subst, sym}
-use Rattle.std.specs.Prelude.{IfErr, ⊤}
+use Rattle.std.proofs.Common.{◌≡◌, inl, refl, subst, sym}
+use Rattle.std.proofs.Math.Logic.{∥∥₁_map}
+use Rattle.std.specs.Prelude.{IfErr, IfOk, ⊤}
 use Rattle.sqlite_disk.specs.contracts.modelled.ModelledDisk.TheImpl as modelled
 use Rattle.sqlite_std_file.specs.contracts.host.Host.{the_row}
 use Rattle.sqlite_std_file.specs.contracts.host.HostCalls.TheImpl as host
+use Rattle.sqlite_trees.proofs.Doubt.{clean_of}
 use Rattle.sqlite_wal.specs.Files.{image_at}
+use Rattle.sqlite_wal.specs.Recovery.{Image}
+use Rattle.book_audit.specs.OfBook.{AreOfBook}
+use Rattle.book_audit.specs.declared.audited.Audited.TheVariants.{Sound}
+use Rattle.book_audit.specs.declared.audited.Counts.{Counts}
 use Rattle.book_restarts.specs.FileBooks.{file_names}
+use Rattle.book_trees.proofs.ListingLemmas.{books_listed}
 use Rattle.book_trees.specs.Forms.{HoldsThisForm}
 use Rattle.book_trees.specs.Refusals.{AreFull}
+use Rattle.book_trees.specs.StoreView.{ListsBooks}
+use Rattle.book_files.specs.Audits.{HoldCounted}
 use Rattle.book_files.specs.Faults.{HasFaultCause, HasNoAnswerFor}
+use Rattle.book_files.specs.Sessions.{MayFollow}
 use Rattle.book_files.specs.declared.session.Ended.TheVariants.{Refused}
-use Rattle.book_files.proofs.Causes.{err_each, look_cause}
-use Rattle.book_files.proofs.SessionParts.{held_goes_on, refused_goes_on}
+use Rattle.book_files.proofs.AuditParts.{looked_listed, never_sound}
+use Rattle.book_files.proofs.Causes.{err_each, look_cause, ok_each, ok_so}
+use Rattle.book_files.proofs.SessionParts.{found_clean, held_goes_on, refused_goes_on}
 use Rattle.book_files.proofs.session.audit_at.Goals as goal
 
 pub returns-in-Ok-clause-history : goal.returns-in-Ok-clause-history
@@ -38,3 +49,51 @@ returns-in-Err-clause-cause g c =
     (sym c.not_looked_through.ensures)
     (look_cause disk (HoldsThisForm (image_at g.S.Start)) (AreFull disk) (λ _ _. ⊤) c.in-Err.fault
     c.in-Err.files c.in-Err.ensures.cause)
+
+pub returns-in-Ok-clause-book : goal.returns-in-Ok-clause-book
+returns-in-Ok-clause-book g c =
+    let audited = c.audit_and_close-audited in
+    let disk = modelled.ghosts the_row g.row.S host.ghosts host.dict g.S.Start g.S.Start-dict
+    g.S.Destruct-dict in
+    ok_so audited.result.0 audited.ensures.book (λ told book counts is image may.
+    let honest = found_clean disk audited.result.1.files image may.1 in
+    let clean = clean_of _ (audited.ensures.clean honest) in
+    ∥∥₁_map (c.in-Ok.ensures.held clean) λ held. (
+      held,
+      subst (λ trees. AreOfBook file_names trees counts) (c.in-Ok.ensures.found clean held)
+          (book counts is honest),
+    ))
+
+pub returns-in-Ok-clause-listed : goal.returns-in-Ok-clause-listed
+returns-in-Ok-clause-listed g c =
+    let audited = c.audit_and_close-audited in
+    let disk = modelled.ghosts the_row g.row.S host.ghosts host.dict g.S.Start g.S.Start-dict
+    g.S.Destruct-dict in
+    ok_each audited.result.0 (λ told image may.
+    let honest = found_clean disk audited.result.1.files image may.1 in
+    ∥∥₁_map (c.in-Ok.ensures.held (clean_of _ (audited.ensures.clean honest))) λ held.
+    record {
+      pages = held.pages;
+      found = held.found;
+      listed = books_listed held.pages held.file;
+    })
+
+pub returns-in-Err-clause-book : goal.returns-in-Err-clause-book
+returns-in-Err-clause-book g c =
+    let disk = modelled.ghosts the_row g.row.S host.ghosts host.dict g.S.Start g.S.Start-dict
+    g.S.Destruct-dict in
+    subst (λ result. IfOk result (λ audited. (counts : Counts) → audited ≡ Sound counts
+    → (image : Image) → MayFollow disk (Refused c.in-Err.files) image
+    → HoldCounted counts (image_at g.S.Start))) (sym c.not_looked_through.ensures)
+    (never_sound (λ counts. (image : Image) → MayFollow disk (Refused c.in-Err.files) image
+    → HoldCounted counts (image_at g.S.Start)) c.in-Err.fault)
+
+pub returns-in-Err-clause-listed : goal.returns-in-Err-clause-listed
+returns-in-Err-clause-listed g c =
+    let disk = modelled.ghosts the_row g.row.S host.ghosts host.dict g.S.Start g.S.Start-dict
+    g.S.Destruct-dict in
+    subst (λ result. IfOk result (λ audited. (image : Image)
+    → MayFollow disk (Refused c.in-Err.files) image → ∥ ListsBooks (image_at g.S.Start) ∥₁))
+    (sym c.not_looked_through.ensures)
+    (looked_listed disk (ListsBooks (image_at g.S.Start)) c.in-Err.fault c.in-Err.files
+    c.in-Err.ensures.listed)

@@ -1,9 +1,11 @@
-use Rattle.std.proofs.Common.{◌≡◌, sym, ap, ◌∙◌, subst}
+use Rattle.std.proofs.Common.{◌≡◌, sym, ap, ◌∙◌, subst, true}
+use Rattle.std.proofs.Math.Logic.{∥∥₁_map}
 use Rattle.sqlite_store.specs.FileStore.{state}
 use Rattle.sqlite_store.specs.Unopened.{state_of, image, HasFile, HasSomeFile, IsFullFile}
 use Rattle.book_trees.proofs.LookCauses.{look_cause_of, look_since}
-use Rattle.book_trees.proofs.Opened.{committed_is, held_file, held_listed, opens_twice}
-use Rattle.book_trees.proofs.Opened.{shows_tables, some_file}
+use Rattle.book_trees.proofs.Opened.{committed_is, committed_listed, found_old, held_file}
+use Rattle.book_trees.proofs.Opened.{held_listed, opens_twice, rows_are, shows_tables, some_file}
+use Rattle.book_trees.proofs.Opened.{sound_tables}
 use Rattle.book_trees.proofs.Refused.{cause_of, unlisted_cause}
 use Rattle.book_trees.proofs.Trees.{has_trees}
 use Rattle.book_trees.specs.LedgerFiles.{page_size, HoldsBooks}
@@ -101,3 +103,39 @@ returns-in-Ok-open-clause-kept g c clean =
     opens_twice c.args.files c.read_catalog.new.self c.in-Ok.listed.items
     (c.in-Ok.ensures.ok then) c.requires.size (state c.in-Ok-open.store)
     (c.read_catalog.ensures.kept then) (c.in-Ok-open.ensures.kept clean)
+
+pub returns-in-Ok-open-clause-held : goal.returns-in-Ok-open-clause-held
+returns-in-Ok-open-clause-held g c clean =
+    let opened = c.in-Ok-open.ensures in
+    let then = opened.honest clean in
+    let store = c.in-Ok-open.store in
+    let old = c.args.files in
+    let mid = c.read_catalog.new.self in
+    let rows = c.in-Ok.listed.items in
+    let listed = c.in-Ok.ensures.ok then in
+    let size : (state_of mid).page_size ≡ page_size =
+    (c.read_catalog.ensures.kept then).size ∙ c.requires.size in
+    ∥∥₁_map (sound_tables store opened.ready
+    (opened.schema ∙ c.read_catalog.ensures.schema ∙ c.requires.schema)
+    ((opened.kept clean).size ∙ size) clean listed.pages
+    (committed_listed old mid rows listed c.requires.size (state store).committed size
+    (opened.found clean))) λ file. record {
+      pages = listed.pages;
+      found = found_old old mid rows listed c.requires.size;
+      file = file;
+    }
+
+pub returns-clause-listed : goal.returns-clause-listed
+returns-clause-listed g c is clean =
+    let old = c.args.files in
+    let mid = c.read_catalog.new.self in
+    let rows = c.in-Ok.listed.items in
+    let listed = c.in-Ok.ensures.ok (c.in-Err-open.ensures.falls clean) in
+    let books : lists_books rows ≡ true =
+    ap lists_books (sym c.as_slice.ensures.value) ∙ sym c.lists_books.ensures
+    ∙ c.if-not-lists_books.false in
+    record {
+      pages = listed.pages;
+      found = found_old old mid rows listed c.requires.size;
+      listed = ap lists_books (sym (rows_are old mid rows listed c.requires.size)) ∙ books;
+    }

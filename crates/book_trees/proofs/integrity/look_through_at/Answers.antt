@@ -10,6 +10,7 @@ use Rattle.book_trees.specs.Forms.{HoldsThisForm}
 use Rattle.book_trees.specs.LedgerFiles.{image_of, page_size, HoldsBooks, trees_held}
 use Rattle.book_trees.specs.Looks.{HasLookCause}
 use Rattle.book_trees.specs.Refusals.{faults_in, AreFull}
+use Rattle.book_trees.specs.StoreView.{ListsBooks}
 use Rattle.book_trees.proofs.integrity.look_through_at.Goals as goal
 
 pub returns-in-Ok-look_through-clause-found : goal.returns-in-Ok-look_through-clause-found
@@ -43,3 +44,16 @@ returns-in-Err-look_through-clause-cause g c clean =
     (HoldsThisForm (image_of disk c.in-Ok.files)) fault)
     (fresh_faults g.S.Start.log g.S.Start.db fresh.0 fresh.1)
     (c.in-Err-look_through.ensures.cause clean))
+
+pub returns-in-Ok-look_through-clause-held : goal.returns-in-Ok-look_through-clause-held
+returns-in-Ok-look_through-clause-held g c clean =
+    let fresh = c.in-Ok.ensures.fresh in
+    subst (λ (i : Image). ∥ HoldsBooks i ∥₁)
+    (fresh_image g.S.Start.log g.S.Start.db fresh.0 fresh.1)
+    (c.in-Ok-look_through.ensures.held clean)
+
+pub returns-in-Err-look_through-clause-listed : goal.returns-in-Err-look_through-clause-listed
+returns-in-Err-look_through-clause-listed g c is clean =
+    let fresh = c.in-Ok.ensures.fresh in
+    subst ListsBooks (fresh_image g.S.Start.log g.S.Start.db fresh.0 fresh.1)
+    (c.in-Err-look_through.ensures.listed is clean)

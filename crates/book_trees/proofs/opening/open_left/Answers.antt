@@ -81,9 +81,11 @@ returns-in-Ok-open_trusted-clause-read g c clean =
     ap lists_books (sym c.as_slice.ensures.value) ∙ sym c.lists_books.ensures
     ∙ c.if-not-lists_books.false in
     record {
-      pages = listed.pages;
-      found = found_old old mid rows listed c.requires.size;
-      listed = ap lists_books (sym (rows_are old mid rows listed c.requires.size)) ∙ books;
+      lists = record {
+        pages = listed.pages;
+        found = found_old old mid rows listed c.requires.size;
+        listed = ap lists_books (sym (rows_are old mid rows listed c.requires.size)) ∙ books;
+      };
       trees = shows_tables store opened.ready
           (opened.schema ∙ c.read_catalog.ensures.schema ∙ c.requires.schema)
           ((opened.kept clean).size ∙ size) clean listed.pages same;

@@ -9,12 +9,12 @@ use Rattle.table_ledger.proofs.LoadLemmas.{never_both, read_open}
 use Rattle.table_ledger.proofs.ledger.TableLedger.open.Goals as goal
 
 pub returns-in-Ok-clause-books : goal.returns-in-Ok-clause-books
-returns-in-Ok-clause-books g c = λ clean book calls keeping.
+returns-in-Ok-clause-books g c = λ clean book whole keeping.
     let names = g.N.Naming.name_of c.args.naming in
     read_open names (state g.S.Store c.over-tables.result.store)
     (state g.S.Store c.read_summary.new.tables.store) c.in-Ok.summary book
     (λ (trees : Trees). g.met.S.Store.settled c.read_summary.new.tables.store trees)
-    c.in-Ok.ensures.reads clean calls
+    c.in-Ok.ensures.reads clean whole
     (subst (λ store. Stores (g.S.Store.view store) (tables_of names book))
     (sym c.over-tables.ensures) keeping)
 
@@ -26,12 +26,12 @@ returns-in-Err-clause-found g c = λ none clean tables holds.
     (subst (λ store. Holds (g.S.Store.view store).trees tables) (sym c.over-tables.ensures) holds))
 
 pub returns-in-Err-clause-own : goal.returns-in-Err-clause-own
-returns-in-Err-clause-own g c = λ clean book calls texts keeping.
+returns-in-Err-clause-own g c = λ clean book whole texts keeping.
     let names = g.N.Naming.name_of c.args.naming in
     let fault = c.in-Err.fault in
     let own = c.in-Err.ensures.own
     (subst (λ store. HasCleanDisk (state g.S.Store store)) c.into_store.ensures.same clean) names
-    book calls texts
+    book whole texts
     (subst (λ store. Stores (g.S.Store.view store) (tables_of names book))
     (sym c.over-tables.ensures) keeping) in
     subst (λ store. IsOpenCause (state g.S.Store store) (state g.S.Store c.into_store.result) fault)

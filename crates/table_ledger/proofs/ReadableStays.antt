@@ -1,0 +1,340 @@
+-- Each call that is an event leaves a book that can be read back so.
+use Rattle.std.proofs.Common.{◌≡◌, ◌∙◌, ◌++◌, ◌+◌, ◌∷◌, [], ℕ, zero, suc, List, length, refl, sym}
+use Rattle.std.proofs.Common.{ap, subst, true, false, Bool, ◌||◌, Option, Some, None, Ok, Err, arith}
+use Rattle.std.specs.Prelude.{◌≤◌, ◌<◌, ◌==◌, nat_le, nat_lt, if◌then◌else◌, All, unwrap_or, ℤ}
+use Rattle.std.specs.List.{list_any}
+use Rattle.std.proofs.lemmas.Bool.{ltb-false, leb-false}
+use Rattle.std.proofs.lemmas.Bool.Decides.{nat_tests}
+use Rattle.std.proofs.lemmas.List.{length-append}
+use Rattle.std.proofs.lemmas.List.Elements.{All-push, All-weaker}
+use Rattle.book_model.specs.Words.{AreDatedThrough, AcceptedTerms, Book, Choice, Event, IsDay}
+use Rattle.book_model.specs.Words.{IsSound, IsUsageRecord, Naming, PeriodClosed, RecordChosen}
+use Rattle.book_model.specs.Words.{RecordKept, Records, Rulings, SecondRuleAdopted, TariffAccepted}
+use Rattle.book_model.specs.Words.{Terms, accept_answer, accept_priced, adopt, after, choose}
+use Rattle.book_model.specs.Words.{choose_answer, chosen_answer, clashes, close, close_answer, has}
+use Rattle.book_model.specs.Words.{has_text, is_chosen, is_closed, is_early, is_effective, is_later}
+use Rattle.book_model.specs.Words.{is_too_dear, is_unrivalled, keep, last_close, last_period, members}
+use Rattle.book_model.specs.Words.{most_choices, most_cost, most_held, name_of, open_by, open_number}
+use Rattle.book_model.specs.Words.{period_by, price_in, put_in_force, record_named, terms_answer}
+use Rattle.book_model.specs.Words.{total_of, with, with_tariff}
+use Rattle.book_model.specs.declared.answer.Accepted.TheVariants.{Kept}
+use Rattle.book_model.specs.declared.answer.Ruled.TheVariants.{Done}
+use Rattle.book_model.specs.declared.fault.LedgerFault.TheVariants.{Full}
+use Rattle.book_model.proofs.CallLemmas.{calls_go_forward, leaves_room, passes}
+use Rattle.book_model.proofs.LatestLemmas.{later-before, rising-behind}
+use Rattle.book_model.proofs.ListLemmas.{slice_get-front}
+use Rattle.book_model.proofs.RecordSets.{one_or}
+use Rattle.book_model.proofs.SoundLemmas.{steps_stay_sound}
+use Rattle.table_model.specs.BookIn.{close_after}
+use Rattle.table_model.specs.Changed.{IsAnswered}
+use Rattle.table_model.specs.FromCalls.{ArePriced, IsReadFrom, IsSubmitted, IsSubmittedTo}
+use Rattle.table_model.specs.Readable.{IsBegun, IsChain, IsReadable, IsTexted, IsTimely, chained}
+use Rattle.table_model.specs.Tables.{BookRow}
+use Rattle.table_model.proofs.ChoiceChanges.{tests_passed}
+use Rattle.table_model.proofs.CloseDays.{closed_open, ended_open, posted_by}
+use Rattle.table_model.proofs.CloseOrder.{rise_behind}
+use Rattle.table_model.proofs.CountedReading.{last_after}
+use Rattle.table_model.proofs.KeptLemmas.{kept_tests}
+use Rattle.table_model.proofs.KeptPrice.{kept_cost}
+use Rattle.table_model.proofs.LinesStay.{lines_stay}
+use Rattle.table_model.proofs.RecordChanges.{book_row-with}
+
+-- What the closes charged, with one close more, which posts this.
+module _ (closes : List ℤ) (day : ℤ) (charged : ℕ → Records) (posted : Records) where
+  abbrev charged_on : ℕ → Records
+  charged_on k = if nat_le k (length closes) then charged k else posted
+
+  -- the earlier ones charged what they did,
+  still_charged : (k : ℕ) → k ≤ length closes → charged_on k ≡ charged k
+  still_charged k within =
+      let early : nat_le k (length closes) ≡ true = grind (arith, nat_tests, within) in
+      ap (λ b. if b then charged k else posted) early
+
+  -- through the same days,
+  still_after : (k : ℕ) → k ≤ length closes
+      → close_after k (closes ++ day ∷ []) ≡ close_after k closes
+  still_after zero within = refl
+  still_after (suc k) within = slice_get-front closes day k (omega (arith, within))
+
+  -- and made the same periods;
+  still_chained : (k : ℕ) → k ≤ length closes
+      → chained k closes charged ≡ chained k (closes ++ day ∷ []) charged_on
+  still_chained zero within = refl
+  still_chained (suc k) within =
+      let before : k ≤ length closes = omega (arith, within) in
+      let earlier = still_chained k before in
+      let last = sym (still_after k before) in
+      let first = sym (still_charged k before) in
+      let end = sym (still_charged (suc k) within) in
+      λ i. earlier i ++ period_by (last i) (first i) (end i) ∷ []
+
+  -- and the last one charged what it posts
+  now_charged : charged_on (suc (length closes)) ≡ posted
+  now_charged =
+      let late : nat_le (suc (length closes)) (length closes) ≡ false = grind (arith, nat_tests) in
+      ap (λ b. if b then charged (suc (length closes)) else posted) late
+
+-- so the closed periods stay linked by what the closes charged
+close_chain : (naming : Naming) (book : Book) (day : ℤ) → IsChain book
+    → IsSound naming (close day book) → IsChain (close day book)
+close_chain naming book day chain sound =
+    let closes : List ℤ = book.rulings.closes in
+    let posted : Records = posted_by day book in
+    let on : ℕ → Records = charged_on closes day chain.charged posted in
+    let within : length closes ≤ length closes = omega arith in
+    let more = length-append closes (day ∷ []) in
+    let count : suc (length closes) ≡ length (closes ++ day ∷ []) = omega (arith, more) in
+    let earlier = chain.past
+    ∙ still_chained closes day chain.charged posted (length closes) within in
+    let last : last_close book.rulings ≡ close_after (length closes) (closes ++ day ∷ []) =
+    last_after closes ∙ sym (still_after closes day chain.charged posted (length closes) within) in
+    let before : book.posted ≡ on (length closes) =
+    chain.posted ∙ sym (still_charged closes day chain.charged posted (length closes) within) in
+    let now : posted ≡ on (suc (length closes)) =
+    sym (now_charged closes day chain.charged posted) in
+    let past : (close day book).past ≡ chained (suc (length closes)) (closes ++ day ∷ []) on =
+    (λ i. earlier i ++ period_by (last i) (before i) (now i) ∷ []) in
+    record {
+      charged = on;
+      past = subst (λ m. (close day book).past ≡ chained m (closes ++ day ∷ []) on) count past;
+      posted = now ∙ ap on count;
+      dated = λ k came.
+          elim (nat_le k (length closes)) as (λ b. nat_le k (length closes) ≡ b
+          → AreDatedThrough (close_after k (closes ++ day ∷ []))
+          (if b then chain.charged k else posted)) [
+            | true ↦ λ is.
+                let early : k ≤ length closes = grind (arith, nat_tests, is) in
+                subst (λ last. AreDatedThrough last (chain.charged k))
+                (sym (still_after closes day chain.charged posted k early)) (chain.dated k early)
+            | false ↦ λ is.
+                let late = leb-false k (length closes) is in
+                let so_far : k ≤ length (closes ++ day ∷ []) = came in
+                let its : length (closes ++ day ∷ []) ≡ k = omega (arith, late, so_far, count) in
+                subst (λ last. AreDatedThrough last posted)
+                (last_after (closes ++ day ∷ [])
+                ∙ ap (λ m. close_after m (closes ++ day ∷ [])) its) sound.dated
+          ] refl;
+    }
+
+-- the tests that a record passed if it is kept: there is room for it
+leaves_both : (full dear : Bool) → (if full || dear then Err Full else Ok Kept) ≡ Ok Kept
+    → (full ≡ false) × (dear ≡ false)
+leaves_both true dear kept = cc
+leaves_both false true kept = cc
+leaves_both false false kept = (refl, refl)
+
+module _ (naming : Naming) (book : Book) (whole : IsReadable naming book) where
+  -- the periods of choices, and that of the adoption, have begun in all later books
+  still_begun : (later : Book) → open_number book ≤ open_number later
+      → All (IsTimely later) book.rulings.choices
+      × ((period : ℕ) → book.rulings.adopted ≡ Some period → IsBegun later period)
+  still_begun later goes_on = (
+    All-weaker (IsTimely book) (IsTimely later) (λ choice. begun choice.period)
+        book.rulings.choices whole.timely,
+    λ period is. begun period (whole.adopted period is),
+  )
+    where
+      begun : (period : ℕ) → IsBegun book period → IsBegun later period
+      begun period was =
+          let before = was.begun in record { numbered = was.numbered; begun = omega arith }
+
+  -- and the closed periods stay linked where no period is closed
+  still_linked : (later : Book) → later.past ≡ book.past → later.posted ≡ book.posted
+      → later.rulings.closes ≡ book.rulings.closes → IsChain later
+  still_linked later past posted closes = record {
+    charged = whole.past.charged;
+    past = past ∙ whole.past.past
+        ∙ ap (λ days. chained (length days) days whole.past.charged) (sym closes);
+    posted = posted ∙ whole.past.posted ∙ ap (λ days. whole.past.charged (length days)) (sym closes);
+    dated = subst (λ days. (k : ℕ) → k ≤ length days
+        → AreDatedThrough (close_after k days) (whole.past.charged k)) (sym closes) whole.past.dated;
+  }
+
+  -- a record that is kept
+  keep_stays : (bytes : List ℕ) → IsSubmitted book.rulings bytes
+      → accept_answer naming book bytes ≡ Ok Kept → IsReadable naming (keep bytes book)
+  keep_stays bytes handed kept =
+      let cost = kept_cost naming book bytes whole.sound kept in
+      let held : ℕ = length (members book.held) in
+      let total : ℕ = total_of book.rulings book.held + cost.0.amount in
+      let tests =
+      kept_tests (has book.held bytes) (clashes naming book.held bytes)
+      (accept_priced book (price_in book.rulings bytes)) kept in
+      let room = leaves_both (nat_le most_held held) (nat_lt most_cost total)
+      (ap (accept_priced book) (sym cost.1) ∙ tests.2) in
+      let few : held + 1 ≤ most_held = omega (arith, leb-false most_held held room.0) in
+      let still = still_begun (keep bytes book) (omega arith) in
+      let row = book_row-with book.rulings book.held bytes cost.0 tests.0 cost.1 in
+      let count : length (members (with book.held bytes)) ≡ length (members book.held) + 1 =
+      ap (λ (row : BookRow). row.held) row in
+      let amount : total_of book.rulings (with book.held bytes)
+      ≡ total_of book.rulings book.held + cost.0.amount = ap (λ (row : BookRow). row.amount) row in
+      record {
+        sound = steps_stay_sound.keep naming book bytes whole.sound kept;
+        lines = lines_stay.keep book bytes whole.lines handed.usage.framed;
+        usage = λ other there.
+            one_or book.held bytes other there (λ same. subst IsUsageRecord (sym same) handed.usage)
+            (λ held. whole.usage other held);
+        priced = λ other priced there price.
+            one_or book.held bytes other there
+            (λ same. handed.priced priced (ap (price_in book.rulings) (sym same) ∙ price))
+            (λ held. whole.priced other priced held price);
+        texts = whole.texts;
+        rising = whole.rising;
+        days = whole.days;
+        in_order = whole.in_order;
+        timely = still.0;
+        adopted = still.1;
+        past = still_linked (keep bytes book) refl refl refl;
+        limits = record {
+          held = subst (λ n. n ≤ most_held) (sym count) few;
+          cost = subst (λ n. n ≤ most_cost) (sym amount) (ltb-false most_cost total room.1);
+          closes = whole.limits.closes;
+          choices = whole.limits.choices;
+        };
+      }
+
+  -- a tariff that is put in force
+  tariff_stays : (text : List ℕ) (terms : Terms) → IsReadFrom text terms
+      → ArePriced (with_tariff (Some text) terms book.rulings) book.held
+      → terms_answer book text terms ≡ Ok Done
+      → IsReadable naming (put_in_force (Some text) terms book)
+  tariff_stays text terms said priced done =
+      let later : AcceptedTerms = record { text = Some text; terms = terms } in
+      let ruled : Rulings = with_tariff (Some text) terms book.rulings in
+      let told : Bool = list_any (has_text text) book.rulings.tariffs in
+      let there : Bool = list_any (is_effective terms.effective) book.rulings.tariffs in
+      let after_all : Bool = is_later terms.effective book.rulings in
+      let dear : Bool = is_too_dear ruled book.held in
+      let still = still_begun (put_in_force (Some text) terms book) (omega arith) in
+      record {
+        sound = steps_stay_sound.tariff naming book text terms whole.sound done;
+        lines = lines_stay.tariff book text terms whole.lines;
+        usage = whole.usage;
+        priced = λ bytes one there price. priced bytes one there price;
+        texts = All-push IsTexted book.rulings.tariffs later whole.texts
+            (record { text = text; is = refl; said = said.said; day = said.day });
+        rising = rising-behind book.rulings.tariffs later whole.rising
+            (later-before terms.effective book.rulings (passes told there after_all dear done));
+        days = whole.days;
+        in_order = whole.in_order;
+        timely = still.0;
+        adopted = still.1;
+        past = still_linked (put_in_force (Some text) terms book) refl refl refl;
+        limits = record {
+          held = whole.limits.held;
+          cost = ltb-false most_cost (total_of ruled book.held)
+              (leaves_room told there after_all dear done);
+          closes = whole.limits.closes;
+          choices = whole.limits.choices;
+        };
+      }
+
+  -- a period that is closed
+  close_stays : (number : ℕ) (day : ℤ) → IsDay day → close_answer book number day ≡ Ok Done
+      → IsReadable naming (close day book)
+  close_stays number day on done =
+      let is_open : number ≡ length book.rulings.closes + 1 = closed_open book number day done in
+      let full = (ended_open (open_number book) (is_closed number day book.rulings)
+      (number == open_number book) (is_early day book.rulings) (number == last_period) done).1 in
+      let more = length-append book.rulings.closes (day ∷ []) in
+      let few = whole.limits.closes in
+      let still = still_begun (close day book) (omega arith) in
+      let sound = steps_stay_sound.close naming book number day whole.sound done in
+      record {
+        sound = sound;
+        lines = lines_stay.close book day whole.lines;
+        usage = whole.usage;
+        priced = whole.priced;
+        texts = whole.texts;
+        rising = whole.rising;
+        days = All-push IsDay book.rulings.closes day whole.days on;
+        in_order = rise_behind book.rulings.closes day whole.in_order
+            (calls_go_forward.close book number day done);
+        timely = still.0;
+        adopted = still.1;
+        past = close_chain naming book day whole.past sound;
+        limits = record {
+          held = whole.limits.held;
+          cost = whole.limits.cost;
+          closes = grind (arith, nat_tests);
+          choices = whole.limits.choices;
+        };
+      }
+
+  -- a record that is chosen
+  choose_stays : (name bytes : List ℕ) → choose_answer naming book name ≡ Ok Done
+      → record_named naming book.held name ≡ Some bytes → IsReadable naming (choose bytes book)
+  choose_stays name bytes done found =
+      let tests = tests_passed (is_unrivalled book.rulings book.held bytes)
+      (is_chosen book.rulings bytes) (nat_le most_choices (length book.rulings.choices))
+      (ap (chosen_answer book) (sym found) ∙ done) in
+      let choice : Choice = record { chosen = bytes; period = open_by book.rulings } in
+      let more = length-append book.rulings.choices (choice ∷ []) in
+      let room : length book.rulings.choices < most_choices =
+      leb-false most_choices (length book.rulings.choices) tests.1 in
+      let still = still_begun (choose bytes book) (omega arith) in
+      record {
+        sound = steps_stay_sound.choose naming book name bytes whole.sound found;
+        lines = lines_stay.choose book bytes whole.lines;
+        usage = whole.usage;
+        priced = whole.priced;
+        texts = whole.texts;
+        rising = whole.rising;
+        days = whole.days;
+        in_order = whole.in_order;
+        timely = All-push (IsTimely (choose bytes book)) book.rulings.choices choice still.0
+            (record { numbered = omega arith; begun = omega arith });
+        adopted = still.1;
+        past = still_linked (choose bytes book) refl refl refl;
+        limits = record {
+          held = whole.limits.held;
+          cost = whole.limits.cost;
+          closes = whole.limits.closes;
+          choices = omega arith;
+        };
+      }
+
+  -- the second rule of identity that is adopted: in an earlier period, or in the open one
+  adopt_stays : IsReadable naming (adopt book)
+  adopt_stays = record {
+    sound = steps_stay_sound.adopt naming book whole.sound;
+    lines = lines_stay.adopt book whole.lines;
+    usage = whole.usage;
+    priced = whole.priced;
+    texts = whole.texts;
+    rising = whole.rising;
+    days = whole.days;
+    in_order = whole.in_order;
+    timely = (still_begun (adopt book) (omega arith)).0;
+    adopted = adopted_in book.rulings.adopted refl;
+    past = still_linked (adopt book) refl refl refl;
+    limits = record {
+      held = whole.limits.held;
+      cost = whole.limits.cost;
+      closes = whole.limits.closes;
+      choices = whole.limits.choices;
+    };
+  }
+    where
+      adopted_in : (before : Option ℕ) → book.rulings.adopted ≡ before → (period : ℕ)
+          → Some (unwrap_or before (open_number book)) ≡ Some period → IsBegun (adopt book) period
+      adopted_in None none period is =
+          let same : open_number book ≡ period = cc in
+          record { numbered = omega arith; begun = omega arith }
+      adopted_in (Some other) was period is =
+          (still_begun (adopt book) (omega arith)).1 period (was ∙ is)
+
+-- an event
+pub readable_stays : (naming : Naming) (book : Book) (event : Event) → IsReadable naming book
+    → IsSubmittedTo book event → IsAnswered naming event book → IsReadable naming (after event book)
+readable_stays naming book (RecordKept bytes) whole handed answered =
+    keep_stays naming book whole bytes handed answered
+readable_stays naming book (TariffAccepted (Some text) terms) whole handed answered =
+    tariff_stays naming book whole text terms handed.0 handed.1 answered
+readable_stays naming book (TariffAccepted None terms) whole none answered = absurd none
+readable_stays naming book (PeriodClosed day) whole handed answered =
+    close_stays naming book whole (open_number book) day handed answered
+readable_stays naming book (RecordChosen bytes) whole handed answered =
+    choose_stays naming book whole (name_of naming bytes) bytes answered.0 answered.1
+readable_stays naming book SecondRuleAdopted whole handed answered = adopt_stays naming book whole
