@@ -7,7 +7,7 @@ use Rattle.std.proofs.lemmas.List.{take-append-le}
 use Rattle.std.specs.Io.KnownBytes.{Appends}
 use Rattle.std.proofs.KnownBytes.{Appends-trans}
 use Rattle.book_model.specs.declared.fault.LedgerFault.{LedgerFault}
-use Rattle.book_model.specs.Words.{after_all}
+use Rattle.book_model.specs.Words.{Naming, after_all}
 use Rattle.book_core.specs.Calls.{Calls, IsCall, Reopens}
 use Rattle.book_core.specs.Ledgers.{Seen}
 use Rattle.book_core.specs.Transition.{IsTransition, NoEvent, Then, Transition}
@@ -31,7 +31,7 @@ use Rattle.book_http.specs.declared.served.Served.TheVariants as served
 use Rattle.book_http.specs.declared.status.Status.TheVariants.{Done}
 use Rattle.book_http.specs.Answer.{AnswersDetails, form_kind}
 use Rattle.book_http.specs.AnswerHead.{answer_head}
-use Rattle.book_http.specs.Replies.{success}
+use Rattle.book_http.specs.Replies.{Reply, success}
 use Rattle.book_http.specs.Served.{IsMeasured, IsSentAsRead, SendsDetails, SendsReplyAsRead, is_cut}
 use Rattle.book_http.specs.Served.{is_unanswered, is_write_fault, served_as}
 use Rattle.book_http.proofs.AnswerLemmas.{front_behind}
@@ -142,17 +142,22 @@ is_begun (Err Write) = refl
 is_begun (Err Memory) = refl
 is_begun (Err (Ledger fault)) = refl
 
+-- details were answered by a text of so many bytes
+abbrev pub AnswersSized : Naming → DetailReport → ℕ → Reply → Transition
+AnswersSized naming wanted size reply = λ was before events is.
+    AnswersDetails naming wanted reply was before events is × (length reply.body ≡ size)
+
 -- details were measured and then sent: all by one book
-pub measured_sent : (old mid new : Seen) (details : DetailReport) (size : ℕ)
+pub sized_sent : (old mid new : Seen) (details : DetailReport) (size : ℕ)
     (held holds : Option (List ℕ)) (what : Served) → IsMeasured old mid details size
     → IsTransition mid new (SendsDetails details size mid.naming held holds what)
-    → IsTransition old new (SendsReplyAsRead (AnswersDetails old.naming details) held holds what)
-measured_sent old mid new details size held holds what measured sends =
+    → IsTransition old new (SendsReplyAsRead (AnswersSized old.naming details size) held holds what)
+sized_sent old mid new details size held holds what measured sends =
     let Measuring : Transition =
     Calls (λ size. size) (detail_length_outcome details old.naming) (Ok size) in
     let Sending : Transition = SendsDetails details size old.naming held holds what in
     work_as old new (Then Measuring Sending)
-    (SendsReplyAsRead (AnswersDetails old.naming details) held holds what)
+    (SendsReplyAsRead (AnswersSized old.naming details size) held holds what)
     (λ was before events is both.
     let said = shown_back length (detail_answer details old.naming before) size
     both.first.makes.0 in
@@ -162,20 +167,23 @@ measured_sent old mid new details size held holds what measured sends =
     ap (λ events. after_all events before) early in
     record {
       reply = success (form_kind details.form) said.0;
-      answer = record {
-        told = Ok (Text said.0);
-        made = record {
-          makes = (
-            ap (shown_by Text) said.1,
-            both.all ∙ ap (λ late. late ++ both.early) both.next.none ∙ early,
-          );
-          reopens = record {
-            reopen = unfailed;
-            store = sym unfailed ∙ ap (λ b. b || false) unfailed;
+      answer = (
+        record {
+          told = Ok (Text said.0);
+          made = record {
+            makes = (
+              ap (shown_by Text) said.1,
+              both.all ∙ ap (λ late. late ++ both.early) both.next.none ∙ early,
+            );
+            reopens = record {
+              reopen = unfailed;
+              store = sym unfailed ∙ ap (λ b. b || false) unfailed;
+            };
           };
-        };
-        replied = refl;
-      };
+          replied = refl;
+        },
+        said.2,
+      );
       sent = both.next.sent said.0 (ap (detail_answer details old.naming) middle ∙ said.1) said.2;
       stands = λ whole.
           both.next.stands whole ∙ goes_on size was both.between both.first.reopens;
@@ -183,3 +191,19 @@ measured_sent old mid new details size held holds what measured sends =
     (work_then old mid new Measuring Sending measured
     (subst (λ naming. IsTransition mid new (SendsDetails details size naming held holds what))
     measured.naming sends))
+
+-- so they were sent, however many bytes they have
+pub measured_sent : (old mid new : Seen) (details : DetailReport) (size : ℕ)
+    (held holds : Option (List ℕ)) (what : Served) → IsMeasured old mid details size
+    → IsTransition mid new (SendsDetails details size mid.naming held holds what)
+    → IsTransition old new (SendsReplyAsRead (AnswersDetails old.naming details) held holds what)
+measured_sent old mid new details size held holds what measured sends =
+    work_as old new (SendsReplyAsRead (AnswersSized old.naming details size) held holds what)
+    (SendsReplyAsRead (AnswersDetails old.naming details) held holds what)
+    (λ was before events is it. record {
+      reply = it.reply;
+      answer = it.answer.0;
+      sent = it.sent;
+      stands = it.stands;
+    })
+    (sized_sent old mid new details size held holds what measured sends)

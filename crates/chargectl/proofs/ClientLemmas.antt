@@ -1,9 +1,8 @@
 -- One request of a client, from books that are open only while they are asked.
-use Rattle.std.proofs.Common.{◌≡◌, ◌∙◌, Bool, true, false, List, [], ◌++◌, ℕ, refl, sym, ap, subst}
+use Rattle.std.proofs.Common.{◌≡◌, ◌∙◌, ◌<◌, Bool, true, false, List, [], ◌++◌, ℕ, refl, sym, ap, subst}
 use Rattle.std.proofs.Common.{inl, inr, Option, Result, Ok, Err, true≢false}
-use Rattle.streams.specs.InputOutput.{Output}
 use Rattle.book_model.specs.Words.{Book, Event, Naming}
-use Rattle.book_core.specs.Ledgers.{Books}
+use Rattle.book_core.specs.Ledgers.{Seen}
 use Rattle.book_core.specs.Transition.{IsTransition, NoEvent}
 use Rattle.book_core.proofs.TransitionLemmas.{work_as}
 use Rattle.book_reports.specs.declared.streamed_details.DetailReport.{DetailReport}
@@ -13,12 +12,12 @@ use Rattle.book_http.specs.declared.requested.Requested.TheVariants as requested
 use Rattle.book_http.specs.declared.served.Served.{Served}
 use Rattle.book_http.specs.declared.served.Served.TheVariants as served
 use Rattle.book_http.specs.declared.status.Status.TheVariants.{BadRequest, Unavailable}
-use Rattle.book_http.specs.Answer.{AnswersDetails, Answers, RefusesRequest, a_head, no_head, no_memory}
+use Rattle.book_http.specs.Answer.{Answers, RefusesRequest, a_head, most_gathered, no_head, no_memory}
 use Rattle.book_http.specs.Replies.{Reply, refusal, reply_of}
 use Rattle.book_http.specs.Requested.{AreAsking, RequestSeen, headed, headless, request_seen}
-use Rattle.book_http.specs.Served.{IsSent, IsSentAsRead, SendsReplyAsRead, ServesDetails}
-use Rattle.book_http.specs.Served.{is_unanswered}
+use Rattle.book_http.specs.Served.{IsSent, IsSentAsRead, SendsReplyAsRead, is_unanswered}
 use Rattle.book_http.proofs.ServeLemmas.{bytes_answered}
+use Rattle.book_http.proofs.StreamLemmas.{AnswersSized}
 use Rattle.office.specs.declared.repository.RepositoryFault.{RepositoryFault}
 use Rattle.office.specs.declared.repository.RepositoryFault.TheVariants as shelf
 use Rattle.office.specs.Shelves.{ComesBy, IsDoneTo, IsOpened, IsUntouched, Shelf}
@@ -41,29 +40,19 @@ as_read reply held holds served.Cut sent = absurd sent
 as_read reply held holds served.Closed sent = absurd sent
 as_read reply held holds served.ReadFault sent = absurd sent
 
--- details were answered, and sent while they were read
-pub details_open : (books : Books) (details : DetailReport) (output : Output) (what : Served)
-    → ServesDetails books details output what
-    → IsTransition books.old books.new
-    (StreamsAnswer books.old.naming (requested.Details details) output.old.holds output.new.holds what)
-details_open books details output what (inl refused) =
-    work_as books.old books.new (AnswersDetails books.old.naming details refused.reply)
-    (StreamsAnswer books.old.naming (requested.Details details) output.old.holds output.new.holds what)
-    (λ was before events is made. record {
-      reply = refused.reply;
-      left = is;
-      answer = made;
-      sent = as_read refused.reply output.old.holds output.new.holds what refused.sent;
-    })
-    refused.answer
-details_open books details output what (inr sends) =
-    work_as books.old books.new
-    (SendsReplyAsRead (AnswersDetails books.old.naming details) output.old.holds output.new.holds what)
-    (StreamsAnswer books.old.naming (requested.Details details) output.old.holds output.new.holds what)
+-- long details were answered, and sent while they were read
+pub details_open : (old new : Seen) (details : DetailReport) (size : ℕ)
+    (held holds : Option (List ℕ)) (what : Served) → most_gathered < size
+    → IsTransition old new (SendsReplyAsRead (AnswersSized old.naming details size) held holds what)
+    → IsTransition old new (StreamsAnswer old.naming (requested.Details details) held holds what)
+details_open old new details size held holds what long sends =
+    work_as old new (SendsReplyAsRead (AnswersSized old.naming details size) held holds what)
+    (StreamsAnswer old.naming (requested.Details details) held holds what)
     (λ was before events is it. record {
       reply = it.reply;
+      long = subst (λ size. most_gathered < size) (sym it.answer.1) long;
       left = was;
-      answer = it.answer;
+      answer = it.answer.0;
       sent = it.sent;
     })
     sends

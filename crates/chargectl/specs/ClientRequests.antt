@@ -1,5 +1,6 @@
 -- One request of a client. The books are open only while they are asked.
-use Rattle.std.specs.Prelude.{◌≡◌, ℕ, Bool, true, false, List, [], Option, Result, Ok, Err}
+use Rattle.std.specs.Prelude.{◌≡◌, ◌<◌, ℕ, Bool, true, false, List, [], length}
+use Rattle.std.specs.Prelude.{Option, Result, Ok, Err}
 use Rattle.book_model.specs.Words.{Book, Event, Naming}
 use Rattle.book_core.specs.Transition.{Transition}
 use Rattle.book_core.specs.Follow.{MakesAnswered}
@@ -8,6 +9,7 @@ use Rattle.book_http.specs.declared.requested.Requested.TheVariants as requested
 use Rattle.book_http.specs.declared.served.Served.{Served}
 use Rattle.book_http.specs.declared.served.Served.TheVariants as served
 use Rattle.book_http.specs.declared.status.Status.TheVariants.{Unavailable}
+use Rattle.book_http.specs.Answer.{most_gathered}
 use Rattle.book_http.specs.Replies.{Reply, busy, refusal, reply_of}
 use Rattle.book_http.specs.Requested.{AnswersRequest, IsAsking, request_seen}
 use Rattle.book_http.specs.Served.{IsSent, IsSentAsRead, is_unanswered}
@@ -23,10 +25,12 @@ abbrev pub is_streamed : Requested → Bool
 is_streamed (requested.Details details) = true
 is_streamed request = false
 
--- a request was answered, and the answer was sent while it was read
+-- a request was answered, and the answer, which is longer than what is gathered, was sent while it was
+-- read
 pub record StreamsAnswer (naming : Naming) (request : Requested) (held holds : Option (List ℕ))
     (served : Served) (was : Bool) (before : Book) (events : List Event) (is : Bool) : Type 0 where
   pub reply : Reply
+  pub long : most_gathered < length reply.body
   pub left : Bool
   pub answer : AnswersRequest naming (request_seen request) reply was before events left
   pub sent : IsSentAsRead reply held holds served
@@ -38,7 +42,7 @@ AsksOpen naming request held holds (tells.Due answer) =
 AsksOpen naming request held holds (tells.Sent what) =
     StreamsAnswer naming request held holds what
 
--- Nothing but details is sent while they are open.
+-- Nothing but details is sent while they are open; those are long (StreamsAnswer).
 abbrev pub SendsOpen : Requested → Option (List ℕ) → Option (List ℕ) → Told → Type 0
 SendsOpen request held holds (tells.Due answer) = holds ≡ held
 SendsOpen request held holds (tells.Sent what) =

@@ -12,6 +12,7 @@ ghost use Rattle.chargectl.specs.ClientRequests as spec;
 ghost use Rattle.chargectl.specs.ClientRequests.{AsksOpen, EndsBy, IsAnsweredFrom, IsServedFrom};
 ghost use Rattle.chargectl.specs.ClientRequests.{SendsOpen};
 
+use crate::port::Peer;
 use book_core::{Ledger, Sink, Source};
 use book_http::{
     Answer, OfficeRequest, Requested, Served, Status, Unanswered, ask_details, ask_office,
@@ -19,7 +20,6 @@ use book_http::{
 };
 use office::{Opened, Repository, RepositoryFault, Visit};
 use std::alloc::Global;
-use std::io::Write;
 use std::mem;
 use streams::Reader;
 
@@ -34,14 +34,14 @@ enum Told {
 
 /// A request that is asked of the books, and the writer that details go to.
 #[derive(Drop)]
-struct OpenRequest<W: Write + Copy + Drop> {
+struct OpenRequest<W: Peer + Drop> {
     alloc: Global,
     /// Settled, once it was asked.
     request: Requested,
     writer: W,
 }
 
-impl<W: Write + Copy + Drop> Visit for OpenRequest<W> {
+impl<W: Peer + Drop> Visit for OpenRequest<W> {
     ghost use Rattle.chargectl.specs.ClientRequests.{AsksOpen, SendsOpen, open_answered};
 
     type Answer = Told;
@@ -69,7 +69,7 @@ impl<W: Write + Copy + Drop> Visit for OpenRequest<W> {
 }
 
 /// Asks open books, and sends nothing but long details.
-fn ask_open<L: Ledger, W: Write + Copy + Drop>(
+fn ask_open<L: Ledger, W: Peer + Drop>(
     alloc: Global,
     books: &mut L,
     request: Requested,
@@ -89,6 +89,7 @@ fn ask_open<L: Ledger, W: Write + Copy + Drop>(
         Requested::Details(details) => match ask_details(alloc, books, &details) {
             Err(reply) => (Told::Due(reply), writer),
             Ok(size) => {
+                writer.hurry();
                 let mut sink = Sink::new(writer);
                 let what = send_details(alloc, books, details, size, &mut sink);
                 (Told::Sent(what), sink.into_inner())
@@ -108,7 +109,7 @@ fn is_streamed(request: &Requested) -> bool
 }
 
 /// Sends an answer.
-fn send_to<W: Write + Copy + Drop>(writer: W, answer: &Answer) -> (Served, W)
+fn send_to<W: Peer + Drop>(writer: W, answer: &Answer) -> (Served, W)
     ensures sent { IsSent (reply_of answer.now) (W.contents writer) (W.contents result.1) result.0 }
     ensures answered { is_unanswered result.0 ≡ false }
 {
@@ -118,7 +119,7 @@ fn send_to<W: Write + Copy + Drop>(writer: W, answer: &Answer) -> (Served, W)
 }
 
 /// Answers a client after the books were closed.
-fn end_request<W: Write + Copy + Drop>(
+fn end_request<W: Peer + Drop>(
     streamed: bool,
     told: Result<Told, RepositoryFault>,
     writer: W,
@@ -133,11 +134,7 @@ fn end_request<W: Write + Copy + Drop>(
 }
 
 /// Answers a client that the books were in the way of, unless it may have an answer already.
-fn send_away<W: Write + Copy + Drop>(
-    streamed: bool,
-    fault: RepositoryFault,
-    writer: W,
-) -> (Served, W)
+fn send_away<W: Peer + Drop>(streamed: bool, fault: RepositoryFault, writer: W) -> (Served, W)
     ensures { EndsBy streamed (Err fault) (W.contents writer) (W.contents result.1) result.0 }
 {
     match fault {
@@ -156,7 +153,7 @@ fn send_away<W: Write + Copy + Drop>(
 }
 
 /// Opens the books for a request, asks them once, and answers the client once they are closed.
-fn answer_from_books<W: Write + Copy + Drop, S: Repository>(
+fn answer_from_books<W: Peer + Drop, S: Repository>(
     alloc: Global,
     request: Requested,
     writer: W,
@@ -186,7 +183,7 @@ fn answer_from_books<W: Write + Copy + Drop, S: Repository>(
 
 /// Serves one request as `book_http::serve_one` does, from the books of a name, which are opened for
 /// it once it came whole. Whether a log is left beside them is handed on.
-pub fn serve_request<R: Reader + Drop, W: Write + Copy + Drop, S: Repository>(
+pub fn serve_request<R: Reader + Drop, W: Peer + Drop, S: Repository>(
     alloc: Global,
     source: &mut Source<R>,
     writer: W,

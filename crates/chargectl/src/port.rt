@@ -61,6 +61,10 @@ pub trait Peer: Read + Write + Copy {
     /// What it still sends was read, so that it can read its answer.
     ghost is_drained: { Self → Bool };
 
+    /// Says that others wait for what is written to it from here on: it may keep them waiting for a
+    /// short time in all.
+    fn hurry(&self);
+
     /// Shows it that the answer is whole, and reads what it still sends.
     fn drain(self) -> Self
         ensures { is_drained result ≡ true };
@@ -137,7 +141,8 @@ fn answer_stream<S: Repository>(
         (S.shelf repository.old) (S.shelf repository.new) }
     ensures log { (S.shelf repository.new).has_log book.now has_log.new }
 {
-    let Ok(client) = Client::accepted(rt, stream) else {
+    let patience = Client::patience();
+    let Ok(client) = Client::accepted(rt, stream, &patience) else {
         return Served::ReadFault;
     };
     let (served, _) = answer_peer(rt.alloc(), client, repository, book, has_log);

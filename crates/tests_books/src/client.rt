@@ -107,6 +107,8 @@ impl Write for ScriptedPeer<'_, '_> {
 impl Peer for ScriptedPeer<'_, '_> {
     ghost is_drained = { λ peer. peer.is_drained };
 
+    fn hurry(&self) {}
+
     fn drain(mut self) -> Self {
         self.read_rest();
         self.client.is_drained.set(true);

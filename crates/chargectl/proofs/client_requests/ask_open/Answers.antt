@@ -1,12 +1,10 @@
-use Rattle.std.proofs.Common.{ap, inr, refl}
-use Rattle.streams.specs.InputOutput.{output}
+use Rattle.std.proofs.Common.{ap, refl}
 use Rattle.streams.specs.Sinks.{writer_of}
-use Rattle.book_core.specs.Ledgers.{books}
 use Rattle.book_core.specs.Transition.{IsTransition}
 use Rattle.book_http.specs.declared.requested.Requested.TheVariants as requested
 use Rattle.book_http.specs.Replies.{reply_of}
 use Rattle.book_http.proofs.ServeLemmas.{refuses}
-use Rattle.book_http.proofs.StreamLemmas.{measured_sent}
+use Rattle.book_http.proofs.StreamLemmas.{sized_sent}
 use Rattle.chargectl.specs.ClientRequests.{StreamsAnswer}
 use Rattle.chargectl.proofs.ClientLemmas.{details_open}
 use Rattle.chargectl.proofs.FirstByteLemmas.{written_so}
@@ -37,10 +35,10 @@ returns-in-Ok-clause-done g c =
     (λ held holds. IsTransition old new
     (StreamsAnswer old.naming (requested.Details c.in-Details.details) held holds sent.result))
     _ _ _ _ (ap contents c.new-sink.ensures.writer) (ap contents c.into_inner.ensures)
-    (details_open (books seen c.args.books.now sent.new.ledger) c.in-Details.details
-    (output contents c.new-sink.result sent.new.sink) sent.result
-    (inr (measured_sent old (seen c.ask_details.new.ledger) new c.in-Details.details c.in-Ok.size
-    held holds sent.result c.in-Ok.ensures.asked sent.ensures.sent))))
+    (details_open old new c.in-Details.details c.in-Ok.size held holds sent.result
+    c.in-Ok.ensures.long
+    (sized_sent old (seen c.ask_details.new.ledger) new c.in-Details.details c.in-Ok.size
+    held holds sent.result c.in-Ok.ensures.asked sent.ensures.sent)))
 
 pub returns-in-Ok-clause-came : goal.returns-in-Ok-clause-came
 returns-in-Ok-clause-came g c =
