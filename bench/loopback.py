@@ -93,10 +93,7 @@ def asked(server, request):
     """All that is answered to a request."""
     with server.connect() as client:
         client.sendall(request)
-        answer = b""
-        while piece := client.recv(65_536):
-            answer += piece
-    return answer
+        return b"".join(iter(lambda: client.recv(65_536), b""))
 
 
 def get(path):

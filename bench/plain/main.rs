@@ -8,11 +8,14 @@
 //! Built with `--cfg books`, `plain import BOOK FILE CPU EXCP RECORD` keeps books in a file, by SQLite's own
 //! library, `plain tariff BOOK FILE` puts a tariff in force there, `plain adopt BOOK` adopts the second rule of
 //! identity, `plain statement BOOK PERIOD --tariff FILE` prints what a period would be charged by that tariff,
-//! `plain details BOOK PERIOD` prints the details of a period, `plain upgrade BOOK` brings books of form 0 over, and
-//! `plain serve BOOK PORT REQUESTS CPU EXCP RECORD` answers for them over HTTP.
+//! `plain details BOOK PERIOD` prints the details of a period, `plain upgrade BOOK` brings books of form 0 over,
+//! `plain audit BOOK` reads books a second time, and `plain serve BOOK PORT REQUESTS CPU EXCP RECORD` answers for them over
+//! HTTP.
 
 #[cfg(books)]
 mod adopted;
+#[cfg(books)]
+mod audited;
 mod books;
 #[cfg(books)]
 mod detailed;
@@ -145,6 +148,24 @@ fn upgrade(book: &str) -> ExitCode {
     ExitCode::SUCCESS
 }
 
+/// Reads books a second time, and prints what they have, if all is right.
+#[cfg(books)]
+fn audit(book: &str) -> ExitCode {
+    let db = filed::open(book);
+    let told = audited::audit(&db);
+    db.close();
+    match told {
+        Ok(text) => {
+            print!("{text}");
+            ExitCode::SUCCESS
+        }
+        Err(what) => {
+            eprintln!("plain: {what}");
+            ExitCode::from(4)
+        }
+    }
+}
+
 fn main() -> ExitCode {
     let words: Vec<String> = env::args().skip(1).collect();
     let words: Vec<&str> = words.iter().map(String::as_str).collect();
@@ -165,6 +186,8 @@ fn main() -> ExitCode {
         ["adopt", book] => return adopt(book),
         #[cfg(books)]
         ["upgrade", book] => return upgrade(book),
+        #[cfg(books)]
+        ["audit", book] => return audit(book),
         #[cfg(books)]
         ["details", book, period] => {
             let period = period.parse().expect("a period is a number");
