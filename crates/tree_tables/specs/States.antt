@@ -4,6 +4,7 @@ use Rattle.sqlite_disk.specs.Disk.{MoreFaults}
 use Rattle.sqlite_trees.specs.Tree.{Trees}
 use Rattle.sqlite_trees.specs.View.{View, IsClean, doubt}
 use Rattle.sqlite_trees.specs.declared.store.Store.{Ghosts}
+use Rattle.tree_tables.specs.declared.tables.TreeTables.{TreeTables}
 
 -- its trees and its last commit, how often the disk has failed, whether each later read is tested,
 -- and the trees that an open after a stop at this moment may find
@@ -20,6 +21,10 @@ state ghosts store = record {
   IsShielded = ghosts.is_shielded store;
   may_leave = ghosts.recovers store;
 }
+
+-- what the tables of books show: that of their store, which is known by their type
+abbrev pub state_of : {S : Type 0} {ghosts : Ghosts S} → TreeTables S ghosts → State
+state_of {ghosts = ghosts} tables = state ghosts tables.store
 
 -- the disk has returned what was written to it
 abbrev pub HasCleanDisk : State → Type 0
