@@ -1,6 +1,6 @@
 -- A choice that is tried: what it answers, and what it writes.
 use Rattle.std.proofs.Common.{◌≡◌, ◌∙◌, ℕ, ◌+◌, List, length, refl, sym, ap, subst, Bool, Ok, Err}
-use Rattle.std.proofs.Common.{Option, None, Some, Result, arith, slice_get}
+use Rattle.std.proofs.Common.{Option, None, Some, Result, arith}
 use Rattle.std.specs.Global.{Global}
 use Rattle.std.specs.Prelude.{Vec, ℤ, nat_le, ◌==◌}
 use Rattle.std.specs.Cmp.{nat_cmp_total}
@@ -8,6 +8,7 @@ use Rattle.std.specs.FinMap.{get, get-from_entries}
 use Rattle.std.specs.Option.{option_map, option_map_or}
 use Rattle.std.proofs.lemmas.List.{length-append, length-map}
 use Rattle.sqlite_trees.specs.View.{View}
+use Rattle.sqlite_trees.specs.declared.error.StoreError.{StoreError}
 use Rattle.book_core.specs.Effects.{choice_effects}
 use Rattle.book_core.specs.OfficeRulings.{ruled_in}
 use Rattle.book_core.specs.declared.effects.ChoiceEffects.{ChoiceEffects}
@@ -28,20 +29,21 @@ use Rattle.table_model.specs.Readable.{IsReadable}
 use Rattle.table_model.specs.RulingsRead.{chosen_by, choose_row}
 use Rattle.table_model.proofs.ChoiceLemmas.{choices_follow}
 use Rattle.table_model.proofs.ChoiceReading.{choices_count}
-use Rattle.tree_tables.specs.Answers.{FindsRecord, FindsSharing, charged_with}
+use Rattle.tree_tables.specs.Answers.{FindsRecord, FindsSharing}
 use Rattle.tree_tables.specs.States.{State}
-use Rattle.tree_tables.specs.Steps.{Looks}
+use Rattle.tree_tables.specs.Steps.{Does, Looks}
 use Rattle.tree_tables.specs.Stored.{stored_entry}
 use Rattle.tree_tables.specs.declared.stored_record.StoredRecord.{StoredRecord}
 use Rattle.table_ledger.specs.Attempts.{LeavesOpen}
 use Rattle.table_ledger.specs.Commits.{Saw}
 use Rattle.table_ledger.specs.Premises.{IsNext}
-use Rattle.table_ledger.specs.Stages.{IsAt}
+use Rattle.table_ledger.specs.ChoiceReads.{FindsChoiceEffects}
+use Rattle.table_ledger.specs.Stages.{IsAt, LeavesOne, MakesOf, StagesBy}
 use Rattle.table_ledger.specs.declared.summary.Summary.{Summary}
 use Rattle.table_ledger.proofs.AcceptTries.{none_found, saw_as}
 use Rattle.table_ledger.proofs.Answering.{opens, opens_if}
 use Rattle.table_ledger.proofs.Remembered.{Says}
-use Rattle.table_ledger.proofs.StageLemmas.{IsEvent}
+use Rattle.table_ledger.proofs.StageLemmas.{IsEvent, stage_steps}
 use Rattle.table_ledger.proofs.TryLemmas.{saw_found, saw_so, saw_then}
 use Rattle.book_core.proofs.NamedLemmas.{its_name}
 
@@ -151,9 +153,7 @@ module _ (naming : Naming) (was : Summary) (name : List ℕ) (view : View) (book
         chosen_by (many == 1) stored.charged (nat_le most_choices was.choices) ≡ Ok Done
         → (period : ℕ) (through : Option ℤ) (effects : ChoiceEffects)
         → period ≡ open_by (ruled_in was.rulings) → through ≡ last_close (ruled_in was.rulings)
-        → effects ≡ choice_effects through
-        (option_map member_at (slice_get (charged_with row.identity tables.records) 0))
-        (member_at (stored_entry stored))
+        → FindsChoiceEffects through (stored_entry stored) tables effects
         → IsEvent (λ (ruled : Ruled). ruled) naming (choose_outcome naming name) Done
         (Says (ruled_in was.rulings) (was.choices + 1) was.held was.total)
         (IsNext (was.choices + 1)) (put_choice (was.choices + 1) period name effects) book
@@ -188,3 +188,28 @@ module _ (naming : Naming) (was : Summary) (name : List ℕ) (view : View) (book
             total = says.total ∙ ready.remembers.total;
           };
         }
+
+-- What a choice writes is staged, after the looks that its tests and its effects rest on.
+pub choose_staged : {first second third fourth last : State} {found : Option StoredRecord}
+    {sharing : Vec StoredRecord Global} {identity : List ℕ} {effects : ChoiceEffects}
+    {T : Type 0} {written : Result T StoreError} {many : ℕ} (naming : Naming) (was : Summary)
+    (name : List ℕ) (stored : StoredRecord) (period : ℕ) (through : Option ℤ)
+    → found ≡ Some stored → identity ≡ stored.identity.items
+    → Looks (Ok found) first second (FindsRecord name)
+    → Looks (Ok sharing) second third (λ tables found. FindsSharing identity tables found.items)
+    → Looks (Ok effects) third fourth (FindsChoiceEffects through (stored_entry stored))
+    → Does written fourth last (IsNext (was.choices + 1))
+    (put_choice (was.choices + 1) period name effects)
+    → many ≡ length sharing.items
+    → chosen_by (many == 1) stored.charged (nat_le most_choices was.choices) ≡ Ok Done
+    → period ≡ open_by (ruled_in was.rulings) → through ≡ last_close (ruled_in was.rulings)
+    → StagesBy (λ tables. tables) (λ (done : T). Ok Done)
+    (MakesOf (λ (ruled : Ruled). ruled) (choose_outcome naming name))
+    (LeavesOne (choose_outcome naming name)) naming was
+    (Says (ruled_in was.rulings) (was.choices + 1) was.held was.total) first last written
+choose_staged {sharing = sharing} {effects = effects} {written = written} naming was name stored period through is same
+    looks shared seen writes count tests period_is through_is =
+    stage_steps written
+    (saw_then (saw_shared name stored is same looks shared) (saw_found seen)) writes
+    (λ book at known. choose_is_event naming was name _ book at stored known.0.0 sharing.items
+    count known.0.1 tests period through effects period_is through_is known.1)

@@ -21,7 +21,7 @@ use Rattle.tree_tables.specs.Answers.{FindsRecord, FindsSharing}
 use Rattle.tree_tables.specs.Stored.{IsAsRead, choice_entry, stored_entry}
 use Rattle.tree_tables.specs.declared.choice_rows.StoredChoice.{StoredChoice}
 use Rattle.tree_tables.specs.declared.stored_record.StoredRecord.{StoredRecord}
-use Rattle.table_ledger.specs.Adoptions.{IsLast, IsLastOf, is_last, last_chosen}
+use Rattle.table_ledger.specs.Adoptions.{IsLast, IsLastOf, JoinsLast, is_last, last_chosen}
 use Rattle.table_ledger.specs.declared.chosen.Chosen.{Chosen}
 use Rattle.table_ledger.proofs.AcceptTries.{none_found}
 use Rattle.table_ledger.proofs.ChoiceTries.{found_row}
@@ -38,9 +38,7 @@ pub joins_found : (chosen more : Chosen) (name : List ℕ) (stored : StoredRecor
     → FindsRecord name tables (Some stored)
     → ((other : List ℕ) → last_chosen more other
     ≡ (if same_bytes other stored.identity.items then Some name else last_chosen chosen other))
-    → (identity : List ℕ)
-    → last_chosen more identity
-    ≡ (if name_has_identity tables.records identity name then Some name else last_chosen chosen identity)
+    → JoinsLast name tables.records chosen more
 joins_found chosen more name stored tables found puts identity =
     let row = (found_row name stored (get tables.records name) found).0 in
     puts identity
@@ -49,18 +47,14 @@ joins_found chosen more name stored tables found puts identity =
 
 -- a choice for which no record was found changes nothing
 pub joins_none : (chosen : Chosen) (name : List ℕ) (tables : Tables)
-    → FindsRecord name tables None → (identity : List ℕ)
-    → last_chosen chosen identity
-    ≡ (if name_has_identity tables.records identity name then Some name else last_chosen chosen identity)
+    → FindsRecord name tables None → JoinsLast name tables.records chosen chosen
 joins_none chosen name tables found identity =
     ap (λ (is : Bool). if is then Some name else last_chosen chosen identity)
     (sym (ap (has_row identity) (none_found name (get tables.records name) found)))
 
 -- one more choice
 pub last_more : (names : List (List ℕ)) (name : List ℕ) (records : RecordTable)
-    (chosen more : Chosen) → IsLastOf names records chosen
-    → ((identity : List ℕ) → last_chosen more identity
-    ≡ (if name_has_identity records identity name then Some name else last_chosen chosen identity))
+    (chosen more : Chosen) → IsLastOf names records chosen → JoinsLast name records chosen more
     → IsLastOf (names ++ name ∷ []) records more
 last_more names name records chosen more lasts joins identity =
     joins identity

@@ -7,7 +7,6 @@ mod Answering
 mod Refusals
 mod Remembered
 mod StepLemmas
-mod ReadableStays
 mod StageLemmas
 mod CommitLemmas
 mod ManyLemmas

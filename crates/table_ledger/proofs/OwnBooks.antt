@@ -232,7 +232,7 @@ cause_told old middle new Unstorable fault rest cause one two clean kind served 
 pub own_answer : (old new : State) (answer : Result Summary LedgerFault)
     → Looks (Ok answer) old new IsLoaded → ReadsItsOwn answer old new
 own_answer old new (Ok summary) looks = tt
-own_answer old new (Err fault) looks = λ clean naming book whole texts keeping.
+own_answer old new (Err fault) looks = λ naming clean book whole texts keeping.
     let known = (looks.found clean).known (tables_of naming book) keeping.holds in
     elim known.0 [
       | inl memory ↦ inl memory
@@ -248,7 +248,7 @@ pub own_refused : (old middle new : State) (error : StoreError) (fault : LedgerF
     → (HasCleanDisk new → error ≡ OutOfMemory → new.view.is_broken ≡ false → fault ≡ Memory)
     → (HasCleanDisk new → IsTrue new.view.is_open → new.view.is_broken ≡ false)
     → ReadsItsOwn (Err fault) old new
-own_refused old middle new error fault cause one two kind served mended clean naming book whole
+own_refused old middle new error fault cause one two kind served mended naming clean book whole
     texts keeping =
     cause_told old middle new error fault keeping.rest
     (cause (clean_before two clean) (tables_of naming book) keeping.holds

@@ -21,7 +21,7 @@ use Rattle.table_ledger.specs.Commits.{Saw}
 use Rattle.table_ledger.specs.Ready.{Remembers}
 use Rattle.table_ledger.specs.Stages.{IsAtAs, IsStoredAs, LeavesOne, MakesOf, StagesAs, StagesBy}
 use Rattle.table_ledger.specs.declared.summary.Summary.{Summary}
-use Rattle.table_ledger.proofs.ReadableStays.{readable_stays}
+use Rattle.table_model.proofs.ReadableStays.{readable_stays}
 use Rattle.table_ledger.proofs.Remembered.{remembers_as}
 use Rattle.table_ledger.proofs.SurvivalLemmas.{clean_before, survives_then}
 use Rattle.table_ledger.proofs.UnchangedStores.{holds_on, stands_kept, trees_same}

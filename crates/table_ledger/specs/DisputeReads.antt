@@ -1,10 +1,11 @@
 -- Records as disputes are made from them, and the next identity in dispute.
-use Rattle.std.specs.Prelude.{◌≡◌, ◌⊎◌, ℕ, List, Option, Vec, length, map}
+use Rattle.std.specs.Prelude.{◌≡◌, ◌⊎◌, ℕ, List, Option, Vec, filter, length, map}
 use Rattle.std.specs.Global.{Global}
 use Rattle.std.specs.Option.{option_map}
 use Rattle.book_model.specs.Words.{Disputed, IsDay, identity_length, identity2_length}
 use Rattle.table_model.specs.Tables.{Tables}
-use Rattle.table_model.specs.DisputesRead.{FindsDisputed, NamedRow, variant_read}
+use Rattle.table_model.specs.DisputesRead.{FindsDisputed, NamedRow, grouped, has_none_charged}
+use Rattle.table_model.specs.DisputesRead.{variant_read}
 use Rattle.tree_tables.specs.Stored.{stored_entry}
 use Rattle.tree_tables.specs.declared.stored_record.StoredRecord.{StoredRecord}
 
@@ -22,6 +23,11 @@ pub record IsShownRow (row : NamedRow) : Type 0 where
 abbrev pub dispute_made : List ℕ → List StoredRecord → Disputed
 dispute_made identity rows =
     record { identity = identity; members = map variant_read (map stored_entry rows) }
+
+-- rows in groups, each of one identity, but for those of whose identity a record is charged
+abbrev pub FindsGroups : List NamedRow → Tables → List Disputed → Type 0
+FindsGroups rows tables found =
+    found ≡ grouped (filter (has_none_charged tables.records) rows)
 
 -- the least identity in dispute from some bytes on, if there is one
 abbrev pub FindsNext : List ℕ → Tables → Option (Vec ℕ Global) → Type 0

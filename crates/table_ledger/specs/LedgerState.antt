@@ -30,10 +30,9 @@ state_on ghosts naming store must_reopen summary = record {
 }
 
 -- a ledger's own, by what its store shows and how it names records
-abbrev pub ledger_state : {S N : Type 0} → (ghosts : Ghosts S) → (N → Naming)
-    → TableLedger S N ghosts
-    → LedgerState
-ledger_state ghosts name_of ledger =
+abbrev pub ledger_state : {S N : Type 0} {ghosts : Ghosts S} → (N → Naming)
+    → TableLedger S N ghosts → LedgerState
+ledger_state {ghosts = ghosts} name_of ledger =
     state_on ghosts (name_of ledger.naming) ledger.tables.store ledger.must_reopen ledger.summary
 
 -- the book that trees determine
@@ -66,6 +65,6 @@ abbrev pub seen_on : LedgerState → Seen
 seen_on shelf =
     seen_of shelf.naming shelf.state.view shelf.state.may_leave shelf.must_reopen shelf.summary
 
-abbrev pub seen_in : {S N : Type 0} → (ghosts : Ghosts S) → (N → Naming) → TableLedger S N ghosts
+abbrev pub seen_in : {S N : Type 0} {ghosts : Ghosts S} → (N → Naming) → TableLedger S N ghosts
     → Seen
-seen_in ghosts name_of ledger = seen_on (ledger_state ghosts name_of ledger)
+seen_in name_of ledger = seen_on (ledger_state name_of ledger)

@@ -8,11 +8,13 @@ use Rattle.std.specs.Ordering.{int_cmp}
 use Rattle.std.specs.FinMap.{entries}
 use Rattle.std.specs.Str.{IsUtf8}
 use Rattle.sqlite_disk.specs.Disk.{MoreFaults}
+use Rattle.sqlite_trees.specs.View.{View}
 use Rattle.tree_tables.specs.States.{State, HasCleanDisk, Survives}
 use Rattle.book_model.specs.Words.{IsDay, AcceptedTerms, Rulings, Book, Naming, are_rising, last_period}
 use Rattle.book_model.specs.Words.{most_choices, most_cost, most_held, second_rule}
 use Rattle.book_model.specs.declared.fault.LedgerFault.{LedgerFault}
 use Rattle.book_model.specs.declared.fault.LedgerFault.TheVariants.{Memory, NotBooks, Store}
+use Rattle.book_core.specs.Ledgers.{IsOpenAt, Seen}
 use Rattle.table_model.specs.Tables.{Tables, first_rule, never_adopted}
 use Rattle.table_model.specs.TablesOf.{close_entries, tables_of}
 use Rattle.table_model.specs.BookIn.{rulings_of_tables, tariff_read}
@@ -163,12 +165,22 @@ abbrev pub ReadsByRow : Bool → State → State → Result Summary LedgerFault 
 ReadsByRow there old new (Ok summary) = there ≡ true
 ReadsByRow there old new (Err fault) = IsToldBy there old new fault
 
--- books that can be read back are read, or there is such a cause
+-- A book that can be read back, and that the store held, is open now, where the disk is clean.
+abbrev pub OpensStored : Naming → View → State → Seen → Type 0
+OpensStored naming old new seen =
+    HasCleanDisk new → (book : Book) → IsReadable naming book → Stores old (tables_of naming book)
+    → IsOpenAt naming book seen
+
+-- such a book is refused for such a cause alone
+abbrev pub RefusesForCause : Naming → State → State → LedgerFault → Type 0
+RefusesForCause naming old new fault =
+    HasCleanDisk new → (book : Book) → IsReadable naming book → HasTexts book
+    → Stores old.view (tables_of naming book) → IsOpenCause old new fault
+
+-- so it is when the summary is read
 abbrev pub ReadsItsOwn : Result Summary LedgerFault → State → State → Type 0
 ReadsItsOwn result old new =
-    IfErr result (λ fault. HasCleanDisk new → (naming : Naming) (book : Book)
-    → IsReadable naming book → HasTexts book → Stores old.view (tables_of naming book)
-    → IsOpenCause old new fault)
+    IfErr result (λ fault. (naming : Naming) → RefusesForCause naming old new fault)
 
 -- Books are looked for in a store, and nothing is committed.
 pub record Reads (result : Result Summary LedgerFault) (old new : State) : Type 0 where

@@ -2,7 +2,8 @@
 use Rattle.std.specs.Prelude.{◌≡◌, false, OnOk, Result}
 use Rattle.sqlite_trees.specs.Tree.{Trees}
 use Rattle.sqlite_trees.specs.View.{View}
-use Rattle.sqlite_trees.specs.declared.error.StoreError.{StoreError}
+use Rattle.book_model.specs.Words.{Naming, new_book}
+use Rattle.book_core.specs.Ledgers.{IsOpenAt, Seen}
 use Rattle.table_model.specs.TablesAfter.{new_tables}
 use Rattle.tree_tables.specs.Holds.{Holds, has_book}
 use Rattle.tree_tables.specs.States.{State, HasCleanDisk, Survives}
@@ -17,8 +18,14 @@ pub record MayHoldNew (old : View) (trees : Trees) : Type 0 where
 
 -- The tables of new books are made and committed, if the trees had no rows; and none are made where
 -- the row of a book is there.
-pub record MakesNew {T : Type 0} (result : Result T StoreError) (old new : State) : Type 0 where
+pub record MakesNew {T E : Type 0} (result : Result T E) (old new : State) : Type 0 where
   pub survives : Survives old new (MayHoldNew old.view)
   pub absent : HasCleanDisk new → OnOk result (has_book old.view.trees ≡ false)
   pub made : HasCleanDisk new → IsAtRest old.view → HasNoRows old.view.trees
       → OnOk result (Stores new.view new_tables)
+
+-- New books are open, where the disk is clean and the store was an empty one: between two
+-- transactions, and without rows.
+abbrev pub OpensNew : Naming → View → State → Seen → Type 0
+OpensNew naming old new seen =
+    HasCleanDisk new → IsAtRest old → HasNoRows old.trees → IsOpenAt naming new_book seen

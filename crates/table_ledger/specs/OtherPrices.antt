@@ -1,10 +1,13 @@
 -- What is found out about a period, and about its records by another tariff, in a walk over all
 -- records.
-use Rattle.std.specs.Prelude.{◌≡◌, ◌≤◌, ◌<◌, ◌^◌, ℕ, Bool, true, false, ◌&&◌, List, All, filter}
-use Rattle.std.specs.Prelude.{length, map, MatchOption, Ok, Err, Option, Vec, sum_by}
+use Rattle.std.specs.Prelude.{◌≡◌, ◌≤◌, ◌<◌, ◌^◌, ◌++◌, ◌∷◌, [], ℕ, Bool, true, false, ◌&&◌, List, All}
+use Rattle.std.specs.Prelude.{filter, length, map, MatchOption, Ok, Err, Option, Vec, sum_by}
 use Rattle.std.specs.BTreeMap.{get}
 use Rattle.std.specs.FinMap.{entries}
 use Rattle.std.specs.Global.{Global}
+use Rattle.sqlite_trees.specs.declared.error.StoreError.{StoreError}
+use Rattle.sqlite_trees.specs.declared.error.StoreError.TheVariants.{OutOfMemory}
+use Rattle.sqlite_value.specs.Order.{Row}
 use Rattle.tariff_rules.specs.declared.priced.Priced.{Priced}
 use Rattle.book_model.specs.declared.fault.LedgerFault.TheVariants.{Full}
 use Rattle.book_model.specs.declared.row.ChargeRow.{ChargeRow}
@@ -16,8 +19,10 @@ use Rattle.table_model.specs.CountedRead.{charged_before_lines, is_day_between, 
 use Rattle.table_model.specs.CountedRead.{row_costs}
 use Rattle.table_model.specs.DisputesRead.{NamedRow}
 use Rattle.table_model.specs.ListsRead.{is_period}
-use Rattle.tree_tables.specs.Fits.{LinesFit}
+use Rattle.tree_tables.specs.Columns.{record_columns}
+use Rattle.tree_tables.specs.Fits.{LinesFit, RecordFits}
 use Rattle.tree_tables.specs.Stored.{mark_of}
+use Rattle.tree_tables.specs.UsageData.{IsUsageData}
 use Rattle.tree_tables.specs.declared.stored_record.RecordMark.{RecordMark}
 use Rattle.table_ledger.specs.RecordReads.{CanBeRead}
 use Rattle.table_ledger.specs.declared.count_test.CountTest.{CountTest}
@@ -76,6 +81,21 @@ SumsUp sums costs false = most_cost < sum_by (λ one. one.amount) costs
 -- what the records that pass a test cost by a tariff
 abbrev pub costs_of : Terms → CountTest → List NamedRow → List Priced
 costs_of terms test rows = row_costs terms (filter (passes test) rows)
+
+-- The record of a row joins the sums of some others, where it is counted: with it they are the sums
+-- of all of them, or there is no room.
+abbrev pub JoinsSums : Terms → CountTest → Row → RowSums → RowSums → Bool → Type 0
+JoinsSums terms test row old new room =
+    (passed : List NamedRow) (entry : NamedRow) → row ≡ record_columns entry
+    → SumsUp old (costs_of terms test passed) true
+    → SumsUp new (costs_of terms test (passed ++ entry ∷ [])) room
+
+-- where the row fits, and no more records passed than may be held, only memory can be wanting for it
+abbrev pub WantsMemory : Terms → CountTest → Row → RowSums → StoreError → Type 0
+WantsMemory terms test row sums error =
+    (passed : List NamedRow) (entry : NamedRow) → row ≡ record_columns entry
+    → SumsUp sums (costs_of terms test passed) true → length passed < most_held
+    → RecordFits row → IsUsageData entry.1.data_bytes → error ≡ OutOfMemory
 
 -- the charge rows of costs, each of them what a record may cost; or none where they are too dear
 abbrev pub AreRowsOf : List Priced → Option (Vec ChargeRow Global) → Type 0

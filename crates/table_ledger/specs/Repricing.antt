@@ -12,6 +12,8 @@ use Rattle.table_model.specs.Readable.{IsReadable}
 use Rattle.table_model.specs.TableChanges.{amount_under, reprice_step}
 use Rattle.table_model.specs.Tables.{RecordRow, Tables}
 use Rattle.table_model.specs.TablesOf.{tables_of}
+use Rattle.tree_tables.specs.Stored.{IsAsRead}
+use Rattle.tree_tables.specs.declared.stored_record.StoredRecord.{StoredRecord}
 
 -- what a row's record costs by a tariff, if it is dated on the first day or later
 abbrev pub tariff_price : Terms → RecordRow → Option Priced
@@ -45,6 +47,11 @@ pub record TakesTariff (period : ℕ) (terms : Terms) (tables : Tables) : Type 0
   pub number : period ≡ open_number book
   pub are : tables ≡ tables_of naming book
 
+-- that is so, and the book counts this many records
+abbrev pub TakesAndCounts : ℕ → Terms → ℕ → Tables → Type 0
+TakesAndCounts period terms held tables =
+    TakesTariff period terms tables × CountsRecords held tables
+
 -- of the records that the terms are for, which are dated on the first day or later, those are
 -- counted that are charged
 abbrev pub CountsLate : Terms → Tables → Type 0
@@ -64,3 +71,8 @@ StandsPriced period terms name tables =
     (row : RecordRow) → get tables.records name ≡ Some row
     → row.priced ≡ price_by terms (record_with row.data_bytes)
     → reprice_step period terms name tables ≡ tables
+
+-- a record is in the tables as it was read, and one that is met again stays as it is
+abbrev pub CanBeRepriced : ℕ → Terms → StoredRecord → Tables → Type 0
+CanBeRepriced period terms stored tables =
+    IsAsRead stored tables × StandsPriced period terms stored.name tables

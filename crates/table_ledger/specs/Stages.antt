@@ -13,6 +13,7 @@ use Rattle.book_core.specs.OfficeRulings.{ruled_in}
 use Rattle.book_core.specs.Submissions.{Accepts, Takes, first_of}
 use Rattle.table_model.specs.Changed.{kept_at}
 use Rattle.table_model.specs.Readable.{IsReadable}
+use Rattle.table_model.specs.Steps.{set_sums}
 use Rattle.table_model.specs.Tables.{Tables}
 use Rattle.table_model.specs.TablesOf.{tables_of}
 use Rattle.tree_tables.specs.Holds.{Holds}
@@ -213,3 +214,11 @@ abbrev pub AttemptsOne : {V A : Type 0} → (V → A) → Naming → Summary →
     → (Book → Outcome A) → Result (Result V LedgerFault) StoreError → Type 0
 AttemptsOne view naming was is old new outcome tried =
     AttemptsBy (MakesOf view outcome) (LeavesOne outcome) naming was is old new tried
+
+-- a record is answered, and staged if it is kept, but for the sums in the row of the book, whatever
+-- these were
+abbrev pub StagesRecord : Naming → List ℕ → Summary → Summary → State → State
+    → Result (Result Accepted LedgerFault) StoreError → Type 0
+StagesRecord naming bytes was is old new staged =
+    (held amount : ℕ) → StagesAs (set_sums held amount) (λ (accepted : Accepted). accepted) naming
+    was is old new (accept_outcome naming bytes) staged

@@ -1,7 +1,8 @@
 //! Records that are submitted.
 
-ghost use Rattle.std.specs.Prelude.{◌≡◌, ◌<◌, Ok, Err, [], false, if◌then◌else◌, All, IfOk, length, ℕ};
-ghost use Rattle.tree_tables.specs.States.{state};
+ghost use Rattle.std.specs.Prelude.{◌≡◌, ◌<◌, Ok, Err, [], if◌then◌else◌, All, IfOk, OnErr, OnOk};
+ghost use Rattle.std.specs.Prelude.{length};
+ghost use Rattle.tree_tables.specs.States.{state_of};
 ghost use Rattle.book_model.specs.Words.{data_of, accept_outcome, IsUsageRecord, record_with};
 ghost use Rattle.book_model.specs.Words.{same_bytes};
 ghost use Rattle.book_core.specs.Identities.{identity_in};
@@ -10,9 +11,10 @@ ghost use Rattle.book_core.specs.Submissions.{records_in};
 ghost use Rattle.table_model.specs.Steps.{count_where_row, set_sums};
 ghost use Rattle.tree_tables.specs.Steps.{Does};
 ghost use Rattle.tree_tables.specs.Stored.{IsFree, IsUncounted, new_entry};
+ghost use Rattle.table_ledger.specs.Commits.{CommitsWritten};
 ghost use Rattle.table_ledger.specs.Premises.{AreRemembered};
 ghost use Rattle.table_ledger.specs.Stages.{AttemptsMany, AttemptsOne, KeepsRulings, Stages};
-ghost use Rattle.table_ledger.specs.Stages.{StagesAs, StagesFirst, StagesMany, staged_at};
+ghost use Rattle.table_ledger.specs.Stages.{StagesFirst, StagesMany, StagesRecord, staged_at};
 
 use crate::commits::{commit_written, write_effects, write_sums};
 use crate::disputes::IDENTITY_LENGTH;
@@ -59,7 +61,7 @@ fn count_kept<S: Store>(
     usage: &Type30<'_>,
 ) -> Result<(), StoreError>
     requires same { usage.now ≡ record_with kept.now.data_bytes.now }
-    ensures does { Does result (state S.Store tables.old.store) (state S.Store tables.new.store)
+    ensures does { Does result (state_of tables.old) (state_of tables.new)
         (IsUncounted (new_entry kept.now)) (count_where_row change.now (new_entry kept.now).0) }
 {
     match change {
@@ -81,7 +83,7 @@ fn write_new<S: Store>(
 ) -> Result<(), StoreError>
     requires same { usage.now ≡ bytes.now }
     requires usage { IsUsageRecord bytes.now }
-    ensures does { Does result (state S.Store tables.old.store) (state S.Store tables.new.store)
+    ensures does { Does result (state_of tables.old) (state_of tables.new)
         (λ tables. AreRemembered summary.now tables × IsFree name tables)
         (staged_at (ruled_in summary.now.rulings) name bytes.now priced.now) }
 {
@@ -113,10 +115,8 @@ fn stage_one<S: Store, N: Naming>(
     bytes: &[u8],
 ) -> Result<Result<Accepted, LedgerFault>, StoreError>
     requires usage { IsUsageRecord bytes.now }
-    ensures stages { (held amount : ℕ) → StagesAs (set_sums held amount) (λ accepted. accepted)
-        (N.name_of naming.now) summary.old summary.new
-        (state S.Store tables.old.store) (state S.Store tables.new.store)
-        (accept_outcome (N.name_of naming.now) bytes.now) result }
+    ensures stages { StagesRecord (N.name_of naming.now) bytes.now summary.old summary.new
+        (state_of tables.old) (state_of tables.new) result }
     ensures ruled { KeepsRulings summary.old summary.new }
 {
     let name = name_of(naming, bytes);
@@ -147,7 +147,7 @@ fn stage_record<S: Store, N: Naming>(
 ) -> Result<Result<Accepted, LedgerFault>, StoreError>
     requires usage { IsUsageRecord bytes.now }
     ensures stages { Stages (λ accepted. accepted) (N.name_of naming.now) summary.old summary.new
-        (state S.Store tables.old.store) (state S.Store tables.new.store)
+        (state_of tables.old) (state_of tables.new)
         (accept_outcome (N.name_of naming.now) bytes.now) result }
     ensures ruled { KeepsRulings summary.old summary.new }
 {
@@ -169,9 +169,8 @@ fn stage_each<S: Store, N: Naming>(
 ) -> Result<Result<(), LedgerFault>, StoreError>
     requires usage { All (λ one. IsUsageRecord one.items) records.now }
     requires none { answers.old.items ≡ [] }
-    ensures stages { StagesMany (set_sums summary.old.held summary.old.total)
-        (N.name_of naming.now) (records_in records.now)
-        summary.old summary.new (state S.Store tables.old.store) (state S.Store tables.new.store)
+    ensures stages { StagesMany (set_sums summary.old.held summary.old.total) (N.name_of naming.now)
+        (records_in records.now) summary.old summary.new (state_of tables.old) (state_of tables.new)
         answers.new.items result }
     ensures ruled { KeepsRulings summary.old summary.new }
     ensures all { IfOk result (λ told. told ≡ Ok tt
@@ -197,9 +196,8 @@ fn stage_many<S: Store, N: Naming>(
 ) -> Result<Result<Vec<Accepted>, LedgerFault>, StoreError>
     requires some { 0 < length records.now }
     requires usage { All (λ one. IsUsageRecord one.items) records.now }
-    ensures stages { StagesFirst (N.name_of naming.now) (records_in records.now)
-        summary.old summary.new (state S.Store tables.old.store) (state S.Store tables.new.store)
-        result }
+    ensures stages { StagesFirst (N.name_of naming.now) (records_in records.now) summary.old
+        summary.new (state_of tables.old) (state_of tables.new) result }
     ensures ruled { KeepsRulings summary.old summary.new }
     ensures some { IfOk result (λ answer. IfOk answer (λ answers. 0 < length answers.items)) }
 {
@@ -216,6 +214,29 @@ fn stage_many<S: Store, N: Naming>(
     Ok(Ok(answers))
 }
 
+/// Commits what was staged. Where that fails it is rolled back, and the sums are again those that
+/// were before it.
+fn commit_staged<S: Store, T: Drop>(
+    tables: &mut TreeTables<S>,
+    summary: &mut Summary,
+    held: usize,
+    total: u64,
+    staged: Result<T, StoreError>,
+) -> Result<T, StoreError>
+    ensures commits { CommitsWritten S.Store staged result tables.old.store tables.new.store }
+    ensures kept { OnOk result (summary.new ≡ summary.old) }
+    ensures back { OnErr result (summary.new ≡ record summary.old { held = held; total = total }) }
+{
+    match commit_written(tables, staged) {
+        Ok(answer) => Ok(answer),
+        Err(error) => {
+            summary.held = held;
+            summary.total = total;
+            Err(error)
+        }
+    }
+}
+
 /// Submits records, in order, as one commit, up to the first that is refused.
 pub(crate) fn try_accept_many<S: Store, N: Naming>(
     tables: &mut TreeTables<S>,
@@ -226,23 +247,13 @@ pub(crate) fn try_accept_many<S: Store, N: Naming>(
 ) -> Result<Result<Vec<Accepted>, LedgerFault>, StoreError>
     requires some { 0 < length records.now }
     requires usage { All (λ one. IsUsageRecord one.items) records.now }
-    ensures tries { AttemptsMany (N.name_of naming.now) (records_in records.now)
-        summary.old summary.new (state S.Store tables.old.store) (state S.Store tables.new.store)
-        result }
+    ensures tries { AttemptsMany (N.name_of naming.now) (records_in records.now) summary.old
+        summary.new (state_of tables.old) (state_of tables.new) result }
     ensures some { IfOk result (λ answer. IfOk answer (λ answers. 0 < length answers.items)) }
 {
-    let held = summary.held;
-    let total = summary.total;
+    let (held, total) = (summary.held, summary.total);
     let staged = stage_many(tables, alloc, naming, summary, records);
-    match commit_written(tables, staged) {
-        Ok(answer) => Ok(answer),
-        Err(error) => {
-            // What was written is rolled back.
-            summary.held = held;
-            summary.total = total;
-            Err(error)
-        }
-    }
+    commit_staged(tables, summary, held, total, staged)
 }
 
 /// Submits a record as one commit.
@@ -254,20 +265,11 @@ pub(crate) fn try_accept<S: Store, N: Naming>(
     bytes: &[u8],
 ) -> Result<Result<Accepted, LedgerFault>, StoreError>
     requires usage { IsUsageRecord bytes.now }
-    ensures tries { AttemptsOne (λ accepted. accepted) (N.name_of naming.now) summary.old summary.new
-        (state S.Store tables.old.store) (state S.Store tables.new.store)
+    ensures tries { AttemptsOne (λ accepted. accepted) (N.name_of naming.now) summary.old
+        summary.new (state_of tables.old) (state_of tables.new)
         (accept_outcome (N.name_of naming.now) bytes.now) result }
 {
-    let held = summary.held;
-    let total = summary.total;
+    let (held, total) = (summary.held, summary.total);
     let staged = stage_record(tables, alloc, naming, summary, bytes);
-    match commit_written(tables, staged) {
-        Ok(answer) => Ok(answer),
-        Err(error) => {
-            // What was written is rolled back.
-            summary.held = held;
-            summary.total = total;
-            Err(error)
-        }
-    }
+    commit_staged(tables, summary, held, total, staged)
 }

@@ -3,7 +3,7 @@
 ghost use Rattle.std.specs.Prelude.{◌≡◌, ◌≤◌, ◌^◌, IfOk, IfSome, IsTrue, None, false, map, sum_by};
 ghost use Rattle.std.specs.List.{IsDistinct};
 ghost use Rattle.std.specs.Ordering.{is_lt};
-ghost use Rattle.tree_tables.specs.States.{state};
+ghost use Rattle.tree_tables.specs.States.{state_of};
 ghost use Rattle.book_model.specs.Words.{IsDay, AreLines, by_line, adjustments_outcome, Naming};
 ghost use Rattle.book_model.specs.Words.{by_bytes, same_bytes, members, set_of};
 ghost use Rattle.tree_tables.specs.Steps.{FailsByStore, Looks};
@@ -31,10 +31,9 @@ fn read_line<S: Store>(
     period: u16,
     stored: &StoredLine,
 ) -> Result<Option<Line>, StoreError>
-    ensures looks { Looks result (state S.Store tables.old.store) (state S.Store tables.new.store)
+    ensures looks { Looks result (state_of tables.old) (state_of tables.new)
         (λ tables line. line ≡ line_stored period tables.records stored.now) }
-    ensures cause { FailsByStore result (state S.Store tables.old.store)
-        (state S.Store tables.new.store) CanBeRead }
+    ensures cause { FailsByStore result (state_of tables.old) (state_of tables.new) CanBeRead }
 {
     let Some(held) = tables.find_record(alloc, &stored.name)? else {
         return Ok(None);
@@ -56,10 +55,9 @@ fn read_lines<S: Store>(
     period: u16,
     found: &[StoredLine],
 ) -> Result<Vec<Line>, StoreError>
-    ensures looks { Looks result (state S.Store tables.old.store) (state S.Store tables.new.store)
+    ensures looks { Looks result (state_of tables.old) (state_of tables.new)
         (λ tables lines. lines.items ≡ lines_stored period tables.records found.now) }
-    ensures cause { FailsByStore result (state S.Store tables.old.store)
-        (state S.Store tables.new.store) CanBeRead }
+    ensures cause { FailsByStore result (state_of tables.old) (state_of tables.new) CanBeRead }
 {
     let mut lines = Vec::new(alloc);
     for stored in found {
@@ -145,13 +143,12 @@ pub(crate) fn try_adjustments<S: Store>(
     alloc: Global,
     period: u16,
 ) -> Result<Result<Vec<Line>, LedgerFault>, StoreError>
-    ensures tries { (naming : Naming) → AttemptsOne (λ lines. lines.items) naming summary.now summary.now
-        (state S.Store tables.old.store) (state S.Store tables.new.store) (adjustments_outcome naming period)
+    ensures tries { (naming : Naming) → AttemptsOne (λ lines. lines.items) naming summary.now
+        summary.now (state_of tables.old) (state_of tables.new) (adjustments_outcome naming period)
         result }
     ensures shown { IfOk result (λ answer. IfOk answer (λ lines. AreLines lines.items)) }
     ensures own { (naming : Naming) → HasWideNames naming
-        → TriesItsOwn naming summary.now (state S.Store tables.old.store)
-        (state S.Store tables.new.store) result }
+        → TriesItsOwn naming summary.now (state_of tables.old) (state_of tables.new) result }
 {
     if !summary.has_period(period) {
         return Ok(Err(LedgerFault::NoSuchPeriod));

@@ -1,15 +1,14 @@
 //! The second rule of identity, which an office adopts once.
 
 ghost use Rattle.std.specs.Prelude.{◌≡◌};
-ghost use Rattle.std.specs.FinMap.{keys};
 ghost use Rattle.book_model.specs.Words.{Naming, adopt_outcome};
 ghost use Rattle.table_model.specs.Changed.{adopted_at};
-ghost use Rattle.table_model.specs.TableChanges as change;
+ghost use Rattle.table_model.specs.TableChanges.{charge_each_due};
 ghost use Rattle.table_model.specs.Views.{is_due_in};
-ghost use Rattle.tree_tables.specs.States.{state};
+ghost use Rattle.tree_tables.specs.States.{state_of};
 ghost use Rattle.tree_tables.specs.Steps.{Always, Does, Looks};
 ghost use Rattle.tree_tables.specs.Stored.{IsAsRead};
-ghost use Rattle.table_ledger.specs.Adoptions.{IsLast};
+ghost use Rattle.table_ledger.specs.Adoptions.{IsLast, charge_where_due};
 ghost use Rattle.table_ledger.specs.Stages.{AttemptsOne};
 
 use crate::choices::charge;
@@ -36,7 +35,7 @@ fn is_due<S: Store>(
     chosen: &Chosen,
     stored: &StoredRecord,
 ) -> Result<bool, StoreError>
-    ensures looks { Looks result (state S.Store tables.old.store) (state S.Store tables.new.store)
+    ensures looks { Looks result (state_of tables.old) (state_of tables.new)
         (λ tables due. IsAsRead stored.now tables → IsLast chosen.now tables
         → due ≡ is_due_in tables stored.now.name) }
 {
@@ -56,9 +55,9 @@ fn charge_due_record<S: Store>(
     chosen: &Chosen,
     stored: &StoredRecord,
 ) -> Result<(), StoreError>
-    ensures does { Does result (state S.Store tables.old.store) (state S.Store tables.new.store)
+    ensures does { Does result (state_of tables.old) (state_of tables.new)
         (λ tables. IsAsRead stored.now tables × IsLast chosen.now tables)
-        (λ tables. change.charge_due_step period through (is_due_in tables) stored.now.name tables) }
+        (charge_where_due period through stored.now.name) }
 {
     if stored.charged {
         return Ok(());
@@ -78,10 +77,8 @@ fn charge_all_due<S: Store>(
     through: Option<i32>,
     chosen: &Chosen,
 ) -> Result<(), StoreError>
-    ensures does { Does result (state S.Store tables.old.store) (state S.Store tables.new.store)
-        (IsLast chosen.now)
-        (λ tables. change.walk (change.charge_due_step period through (is_due_in tables))
-        (keys tables.records) tables) }
+    ensures does { Does result (state_of tables.old) (state_of tables.new) (IsLast chosen.now)
+        (charge_each_due period through) }
 {
     let mut last = None;
     'records: for _ in 0..MOST_STEPS {
@@ -102,9 +99,8 @@ fn charge_due<S: Store>(
     period: u16,
     through: Option<i32>,
 ) -> Result<(), StoreError>
-    ensures does { Does result (state S.Store tables.old.store) (state S.Store tables.new.store)
-        Always (λ tables. change.walk (change.charge_due_step period through (is_due_in tables))
-        (keys tables.records) tables) }
+    ensures does { Does result (state_of tables.old) (state_of tables.new) Always
+        (charge_each_due period through) }
 {
     let chosen = look_for_chosen(tables, alloc)?;
     charge_all_due(tables, alloc, period, through, &chosen)
@@ -117,8 +113,8 @@ fn write_adoption<S: Store>(
     period: u16,
     through: Option<i32>,
 ) -> Result<(), StoreError>
-    ensures { Does result (state S.Store tables.old.store) (state S.Store tables.new.store)
-        Always (adopted_at period through) }
+    ensures { Does result (state_of tables.old) (state_of tables.new) Always
+        (adopted_at period through) }
 {
     tables.rename_records(alloc)?;
     charge_due(tables, alloc, period, through)?;
@@ -133,8 +129,7 @@ pub(crate) fn try_adopt<S: Store>(
     rule: u8,
 ) -> Result<Result<Ruled, LedgerFault>, StoreError>
     ensures tries { (naming : Naming) → AttemptsOne (λ ruled. ruled) naming summary.old summary.new
-        (state S.Store tables.old.store) (state S.Store tables.new.store)
-        (adopt_outcome rule) result }
+        (state_of tables.old) (state_of tables.new) (adopt_outcome rule) result }
 {
     let answer = summary.rulings.adopt_answer(rule);
     if !is_done(&answer) {

@@ -1,7 +1,7 @@
 //! The charge rows of a period.
 
 ghost use Rattle.std.specs.Prelude.{◌≡◌, ◌+◌, IfOk, IfSome, IsTrue, None, false};
-ghost use Rattle.tree_tables.specs.States.{state};
+ghost use Rattle.tree_tables.specs.States.{state_of};
 ghost use Rattle.book_model.specs.Words.{IsDay, charges_outcome, Naming, AreRows};
 ghost use Rattle.table_ledger.specs.Attempts.{TriesItsOwn};
 ghost use Rattle.table_ledger.specs.Stages.{AttemptsOne};
@@ -83,11 +83,11 @@ pub(crate) fn try_charges<S: Store>(
     summary: &Summary,
     period: u16,
 ) -> Result<Result<Vec<ChargeRow>, LedgerFault>, StoreError>
-    ensures tries { (naming : Naming) → AttemptsOne (λ rows. rows.items) naming summary.now summary.now
-        (state S.Store tables.old.store) (state S.Store tables.new.store) (charges_outcome period) result }
+    ensures tries { (naming : Naming) → AttemptsOne (λ rows. rows.items) naming summary.now
+        summary.now (state_of tables.old) (state_of tables.new) (charges_outcome period) result }
     ensures shown { IfOk result (λ answer. IfOk answer (λ rows. AreRows rows.items)) }
-    ensures own { (naming : Naming) → TriesItsOwn naming summary.now (state S.Store tables.old.store)
-        (state S.Store tables.new.store) result }
+    ensures own { (naming : Naming) → TriesItsOwn naming summary.now (state_of tables.old)
+        (state_of tables.new) result }
 {
     if !summary.has_period(period) {
         return Ok(Err(LedgerFault::NoSuchPeriod));

@@ -1,16 +1,14 @@
 //! Choices among the records of an identity.
 
-ghost use Rattle.std.specs.Prelude.{◌≡◌, ◌<◌, ◌==◌, Ok, nat_le, slice_get};
-ghost use Rattle.std.specs.Option.{option_map, option_map_or};
-ghost use Rattle.book_core.specs.Effects.{choice_effects};
+ghost use Rattle.std.specs.Prelude.{◌≡◌, ◌<◌, ◌==◌, Ok, nat_le};
+ghost use Rattle.std.specs.Option.{option_map_or};
 ghost use Rattle.book_model.specs.Words.{choose_outcome, most_choices, Naming};
 ghost use Rattle.table_model.specs.TableChanges as change;
-ghost use Rattle.table_model.specs.Views.{member_at};
 ghost use Rattle.table_model.specs.RulingsRead.{chosen_by};
-ghost use Rattle.tree_tables.specs.Answers.{charged_with};
-ghost use Rattle.tree_tables.specs.States.{state};
+ghost use Rattle.tree_tables.specs.States.{state_of};
 ghost use Rattle.tree_tables.specs.Steps.{Always, Does, Looks};
 ghost use Rattle.tree_tables.specs.Stored.{stored_entry};
+ghost use Rattle.table_ledger.specs.ChoiceReads.{FindsChoiceEffects};
 ghost use Rattle.table_ledger.specs.Premises.{IsNext};
 ghost use Rattle.table_ledger.specs.Stages.{AttemptsOne};
 
@@ -40,10 +38,8 @@ fn look_for_choice<S: Store>(
     through: Option<i32>,
     stored: &StoredRecord,
 ) -> Result<ChoiceEffects, StoreError>
-    ensures looks { Looks result (state S.Store tables.old.store) (state S.Store tables.new.store)
-        (λ tables effects. effects ≡ choice_effects through
-        (option_map member_at (slice_get (charged_with stored.now.identity.items tables.records) 0))
-        (member_at (stored_entry stored.now))) }
+    ensures looks { Looks result (state_of tables.old) (state_of tables.new)
+        (FindsChoiceEffects through (stored_entry stored.now)) }
 {
     let current = tables.find_charged(alloc, &stored.identity)?;
     let current = match &current {
@@ -59,9 +55,8 @@ fn withdraw<S: Store>(
     period: u16,
     withdrawn: &Option<Effects>,
 ) -> Result<(), StoreError>
-    ensures does { Does result (state S.Store tables.old.store) (state S.Store tables.new.store)
-        Always (λ tables. option_map_or (λ gone. change.apply period gone tables) withdrawn.now
-        tables) }
+    ensures does { Does result (state_of tables.old) (state_of tables.new) Always
+        (λ tables. option_map_or (λ gone. change.apply period gone tables) withdrawn.now tables) }
 {
     match withdrawn {
         Some(gone) => write_effects(tables, period, gone),
@@ -76,8 +71,8 @@ pub(crate) fn charge<S: Store>(
     name: &[u8; 32],
     effects: &Effects,
 ) -> Result<(), StoreError>
-    ensures does { Does result (state S.Store tables.old.store) (state S.Store tables.new.store)
-        Always (change.charge_in period name.now effects.now) }
+    ensures does { Does result (state_of tables.old) (state_of tables.new) Always
+        (change.charge_in period name.now effects.now) }
 {
     write_effects(tables, period, effects)?;
     tables.mark_record(name)?;
@@ -86,9 +81,8 @@ pub(crate) fn charge<S: Store>(
 
 /// Writes a choice.
 fn write_choice<S: Store>(tables: &mut TreeTables<S>, choice: &Choice) -> Result<(), StoreError>
-    ensures { Does result (state S.Store tables.old.store) (state S.Store tables.new.store)
-        (IsNext choice.now.number) (change.put_choice choice.now.number choice.now.period
-        choice.now.name choice.now.effects) }
+    ensures { Does result (state_of tables.old) (state_of tables.new) (IsNext choice.now.number)
+        (change.put_choice choice.now.number choice.now.period choice.now.name choice.now.effects) }
 {
     withdraw(tables, choice.period, &choice.effects.withdrawn)?;
     charge(tables, choice.period, &choice.name, &choice.effects.chosen)?;
@@ -124,8 +118,7 @@ pub(crate) fn try_choose<S: Store>(
     name: [u8; 32],
 ) -> Result<Result<Ruled, LedgerFault>, StoreError>
     ensures tries { (naming : Naming) → AttemptsOne (λ ruled. ruled) naming summary.old summary.new
-        (state S.Store tables.old.store) (state S.Store tables.new.store)
-        (choose_outcome naming name) result }
+        (state_of tables.old) (state_of tables.new) (choose_outcome naming name) result }
 {
     let Some(stored) = tables.find_record(alloc, &name)? else {
         return Ok(Err(LedgerFault::NoSuchRecord));

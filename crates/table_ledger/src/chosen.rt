@@ -1,10 +1,9 @@
 //! The records that were chosen last, by identity, as the choices of the tables say.
 
-ghost use Rattle.std.specs.Prelude.{◌≡◌, ℕ, List, Some, if◌then◌else◌, map};
-ghost use Rattle.table_model.specs.Views.{name_has_identity};
-ghost use Rattle.table_ledger.specs.Adoptions.{IsLast, IsLastOf, last_chosen};
-ghost use Rattle.tree_tables.specs.States.{state};
+ghost use Rattle.std.specs.Prelude.{map};
+ghost use Rattle.tree_tables.specs.States.{state_of};
 ghost use Rattle.tree_tables.specs.Steps.{Looks};
+ghost use Rattle.table_ledger.specs.Adoptions.{IsLast, IsLastOf, JoinsLast};
 
 use sqlite_trees::error::StoreError;
 use sqlite_trees::store::Store;
@@ -60,10 +59,8 @@ fn join<S: Store>(
     chosen: &mut Chosen,
     choice: &StoredChoice,
 ) -> Result<(), StoreError>
-    ensures looks { Looks result (state S.Store tables.old.store) (state S.Store tables.new.store)
-        (λ tables joined. (identity : List ℕ) → last_chosen chosen.new identity
-        ≡ if name_has_identity tables.records identity choice.now.name then Some choice.now.name
-        else last_chosen chosen.old identity) }
+    ensures looks { Looks result (state_of tables.old) (state_of tables.new)
+        (λ tables joined. JoinsLast choice.now.name tables.records chosen.old chosen.new) }
 {
     if let Some(stored) = tables.find_record(alloc, &choice.name)? {
         chosen.put(stored.identity, choice.name)?;
@@ -77,7 +74,7 @@ fn last_of<S: Store>(
     alloc: Global,
     choices: &[StoredChoice],
 ) -> Result<Chosen, StoreError>
-    ensures looks { Looks result (state S.Store tables.old.store) (state S.Store tables.new.store)
+    ensures looks { Looks result (state_of tables.old) (state_of tables.new)
         (λ tables chosen. IsLastOf (map (λ choice. choice.name) choices.now) tables.records
         chosen) }
 {
@@ -94,7 +91,7 @@ pub(crate) fn look_for_chosen<S: Store>(
     tables: &mut TreeTables<S>,
     alloc: Global,
 ) -> Result<Chosen, StoreError>
-    ensures looks { Looks result (state S.Store tables.old.store) (state S.Store tables.new.store)
+    ensures looks { Looks result (state_of tables.old) (state_of tables.new)
         (λ tables chosen. IsLast chosen tables) }
 {
     let choices = tables.list_choices(alloc)?;

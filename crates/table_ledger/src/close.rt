@@ -4,7 +4,7 @@ ghost use Rattle.book_model.specs.Words.{IsDay, close_outcome, Naming};
 ghost use Rattle.table_model.specs.Changed.{closed_at};
 ghost use Rattle.table_model.specs.PostedLaws.{PostsTouched};
 ghost use Rattle.table_model.specs.Steps as step;
-ghost use Rattle.tree_tables.specs.States.{state};
+ghost use Rattle.tree_tables.specs.States.{state_of};
 ghost use Rattle.tree_tables.specs.Steps.{Always, Does, Looks};
 ghost use Rattle.table_ledger.specs.Posting.{CanClose, Gathers, RestIsPosted, names_in};
 ghost use Rattle.table_ledger.specs.Stages.{AttemptsOne};
@@ -30,8 +30,8 @@ fn post_lines<S: Store>(
     close: &Close,
 ) -> Result<(), StoreError>
     requires { IsDay close.now.through }
-    ensures { Does result (state S.Store tables.old.store) (state S.Store tables.new.store)
-        Always (step.post_each close.now.through (names_in lines.now)) }
+    ensures { Does result (state_of tables.old) (state_of tables.new) Always
+        (step.post_each close.now.through (names_in lines.now)) }
 {
     for line in lines {
         tables.post_record(&line.name, close.through)?;
@@ -46,8 +46,8 @@ fn post_each<S: Store>(
     close: &Close,
 ) -> Result<(), StoreError>
     requires { IsDay close.now.through }
-    ensures { Does result (state S.Store tables.old.store) (state S.Store tables.new.store)
-        Always (step.post_each close.now.through names.now) }
+    ensures { Does result (state_of tables.old) (state_of tables.new) Always
+        (step.post_each close.now.through names.now) }
 {
     for name in names {
         tables.post_record(name, close.through)?;
@@ -63,8 +63,8 @@ fn post_names<S: Store>(
     close: &Close,
 ) -> Result<(), StoreError>
     requires { IsDay close.now.through }
-    ensures { Does result (state S.Store tables.old.store) (state S.Store tables.new.store)
-        Always (step.post_each close.now.through names.items) }
+    ensures { Does result (state_of tables.old) (state_of tables.new) Always
+        (step.post_each close.now.through names.items) }
 {
     let mut names = names;
     names.sort_unstable();
@@ -81,7 +81,7 @@ fn gather_names<S: Store>(
     passed: &mut Option<Detail>,
 ) -> Result<Vec<[u8; 32]>, StoreError>
     requires { IsDay close.now.through }
-    ensures { Looks result (state S.Store tables.old.store) (state S.Store tables.new.store)
+    ensures { Looks result (state_of tables.old) (state_of tables.new)
         (λ tables names. Gathers last close.now.through passed.old passed.new names.items tables) }
 {
     let mut names = Vec::new(alloc);
@@ -111,7 +111,7 @@ fn post_details<S: Store>(
     close: &Close,
 ) -> Result<(), StoreError>
     requires { IsDay close.now.through }
-    ensures { Does result (state S.Store tables.old.store) (state S.Store tables.new.store)
+    ensures { Does result (state_of tables.old) (state_of tables.new)
         (RestIsPosted last close.now.through) (step.post_rows close.now.through) }
 {
     let mut passed = None;
@@ -126,24 +126,9 @@ fn post_details<S: Store>(
     Err(StoreError::OutOfMemory)
 }
 
-/// Posts what is dated on or before the day of a close, and looks at no record that the period does
-/// not touch: what it charges has a detail of its days, and what became of earlier records a line.
-fn post_touched<S: Store>(
-    tables: &mut TreeTables<S>,
-    alloc: Global,
-    last: Option<i32>,
-    close: &Close,
-) -> Result<(), StoreError>
-    requires { IsDay close.now.through }
-    ensures { Does result (state S.Store tables.old.store) (state S.Store tables.new.store)
-        (PostsTouched close.now.period last) (step.post_rows close.now.through) }
-{
-    let lines = tables.list_lines(alloc, close.period)?;
-    post_lines(tables, &lines, close)?;
-    post_details(tables, alloc, last, close)
-}
-
-/// Posts what is dated on or before the day of a close.
+/// Posts what is dated on or before the day of a close. Where that is not much, no record is looked
+/// at that the period does not touch: what it charges has a detail of its days, and what became of
+/// earlier records a line.
 fn post_charged<S: Store>(
     tables: &mut TreeTables<S>,
     alloc: Global,
@@ -152,13 +137,15 @@ fn post_charged<S: Store>(
     close: &Close,
 ) -> Result<(), StoreError>
     requires { IsDay close.now.through }
-    ensures { Does result (state S.Store tables.old.store) (state S.Store tables.new.store)
+    ensures { Does result (state_of tables.old) (state_of tables.new)
         (PostsTouched close.now.period last) (step.post_rows close.now.through) }
 {
     if counts_many(tables, alloc, held, close.period, FIRST_DAY, close.through)? {
         return tables.post_records(close.through);
     }
-    post_touched(tables, alloc, last, close)
+    let lines = tables.list_lines(alloc, close.period)?;
+    post_lines(tables, &lines, close)?;
+    post_details(tables, alloc, last, close)
 }
 
 /// Writes a close: its day, the marks of what it charged, and the rows that it leaves to the next
@@ -171,7 +158,7 @@ fn write_close<S: Store>(
     close: &Close,
 ) -> Result<(), StoreError>
     requires { IsDay close.now.through }
-    ensures { Does result (state S.Store tables.old.store) (state S.Store tables.new.store)
+    ensures { Does result (state_of tables.old) (state_of tables.new)
         (CanClose close.now.period last) (closed_at close.now.period close.now.through) }
 {
     tables.put_close(close)?;
@@ -189,7 +176,7 @@ pub(crate) fn try_close<S: Store>(
 ) -> Result<Result<Ruled, LedgerFault>, StoreError>
     requires day { IsDay close.now.through }
     ensures tries { (naming : Naming) → AttemptsOne (λ ruled. ruled) naming summary.old summary.new
-        (state S.Store tables.old.store) (state S.Store tables.new.store)
+        (state_of tables.old) (state_of tables.new)
         (close_outcome close.now.period close.now.through) result }
 {
     let answer = summary.rulings.close_answer(close.period, close.through);

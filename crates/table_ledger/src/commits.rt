@@ -3,7 +3,7 @@
 ghost use Rattle.table_model.specs.RowChanges.{change_line, change_mark, uncounted_by};
 ghost use Rattle.table_model.specs.Steps.{count_where_row, set_sums};
 ghost use Rattle.table_model.specs.TableChanges.{apply};
-ghost use Rattle.tree_tables.specs.States.{state};
+ghost use Rattle.tree_tables.specs.States.{state_of};
 ghost use Rattle.tree_tables.specs.Steps.{Always, Does};
 ghost use Rattle.table_ledger.specs.Commits.{CommitsWritten};
 ghost use Rattle.table_ledger.specs.Premises.{HaveSums};
@@ -21,8 +21,8 @@ fn write_line<S: Store>(
     period: u16,
     change: &Option<LineChange>,
 ) -> Result<(), StoreError>
-    ensures does { Does result (state S.Store tables.old.store) (state S.Store tables.new.store)
-        Always (λ tables. record tables { lines = change_line period change.now tables.lines }) }
+    ensures does { Does result (state_of tables.old) (state_of tables.new) Always
+        (λ tables. record tables { lines = change_line period change.now tables.lines }) }
 {
     match change {
         None => Ok(()),
@@ -39,8 +39,8 @@ fn write_mark<S: Store>(
     tables: &mut TreeTables<S>,
     unmark: &Option<[u8; 32]>,
 ) -> Result<(), StoreError>
-    ensures does { Does result (state S.Store tables.old.store) (state S.Store tables.new.store)
-        Always (λ tables. record tables { records = change_mark unmark.now tables.records }) }
+    ensures does { Does result (state_of tables.old) (state_of tables.new) Always
+        (λ tables. record tables { records = change_mark unmark.now tables.records }) }
 {
     match unmark {
         None => Ok(()),
@@ -53,8 +53,8 @@ fn write_uncounted<S: Store>(
     tables: &mut TreeTables<S>,
     effects: &Effects,
 ) -> Result<(), StoreError>
-    ensures does { Does result (state S.Store tables.old.store) (state S.Store tables.new.store)
-        Always (λ tables. record tables { counted = uncounted_by effects.now tables.counted }) }
+    ensures does { Does result (state_of tables.old) (state_of tables.new) Always
+        (λ tables. record tables { counted = uncounted_by effects.now tables.counted }) }
 {
     let Some(name) = &effects.unmark else {
         return Ok(());
@@ -71,8 +71,8 @@ pub(crate) fn write_counted<S: Store>(
     change: &Option<DayChange>,
     name: &[u8; 32],
 ) -> Result<(), StoreError>
-    ensures does { Does result (state S.Store tables.old.store) (state S.Store tables.new.store)
-        Always (count_where_row change.now name.now) }
+    ensures does { Does result (state_of tables.old) (state_of tables.new) Always
+        (count_where_row change.now name.now) }
 {
     match change {
         None | Some(DayChange::Take(_)) => Ok(()),
@@ -87,8 +87,8 @@ pub(crate) fn write_sums<S: Store>(
     total: u64,
     summary: &Summary,
 ) -> Result<(), StoreError>
-    ensures does { Does result (state S.Store tables.old.store) (state S.Store tables.new.store)
-        (HaveSums held total) (set_sums summary.now.held summary.now.total) }
+    ensures does { Does result (state_of tables.old) (state_of tables.new) (HaveSums held total)
+        (set_sums summary.now.held summary.now.total) }
 {
     if summary.held == held && summary.total == total {
         return Ok(());
@@ -106,8 +106,8 @@ pub(crate) fn write_effects<S: Store>(
     period: u16,
     effects: &Effects,
 ) -> Result<(), StoreError>
-    ensures { Does result (state S.Store tables.old.store) (state S.Store tables.new.store)
-        Always (apply period effects.now) }
+    ensures { Does result (state_of tables.old) (state_of tables.new) Always
+        (apply period effects.now) }
 {
     change_day(tables, period, &effects.day)?;
     write_line(tables, period, &effects.line)?;

@@ -8,7 +8,7 @@ ghost use Rattle.std.specs.Option.{option_or};
 ghost use Rattle.book_model.specs.Words.{by_bytes};
 ghost use Rattle.table_model.specs.CountedRead.{first_line};
 ghost use Rattle.tree_tables.specs.Fits.{LinesFit};
-ghost use Rattle.tree_tables.specs.States.{state};
+ghost use Rattle.tree_tables.specs.States.{state_of};
 ghost use Rattle.tree_tables.specs.Steps.{FailsByStore, Looks};
 ghost use Rattle.tree_tables.specs.Stored.{signed_name};
 
@@ -55,11 +55,10 @@ fn first_lines<S: Store>(
     last: u16,
 ) -> Result<BTreeMap<[u8; 32], bool>, StoreError>
     requires { after ≤ last }
-    ensures looks { Looks result (state S.Store tables.old.store) (state S.Store tables.new.store)
+    ensures looks { Looks result (state_of tables.old) (state_of tables.new)
         (λ tables lines. (name : List ℕ) → get by_bytes lines name
         ≡ first_line tables.lines name (suc after) (last - after)) }
-    ensures cause { FailsByStore result (state S.Store tables.old.store)
-        (state S.Store tables.new.store)
+    ensures cause { FailsByStore result (state_of tables.old) (state_of tables.new)
         (λ tables. (number : ℕ) → after < number → number ≤ last → LinesFit number tables) }
 {
     let mut lines = BTreeMap::new(alloc);
@@ -76,7 +75,7 @@ impl CountTest {
     ghost use Rattle.std.specs.Prelude.{◌≡◌, true};
     ghost use Rattle.book_core.specs.OfficeRulings.{ruled_in};
     ghost use Rattle.table_model.specs.ListsRead.{is_period};
-    ghost use Rattle.tree_tables.specs.States.{state};
+    ghost use Rattle.tree_tables.specs.States.{state_of};
     ghost use Rattle.tree_tables.specs.Steps.{FailsByStore, Looks};
     ghost use Rattle.table_ledger.specs.OtherPrices.{AllLinesFit, IsTestOf, passes_mark};
 
@@ -88,10 +87,10 @@ impl CountTest {
         period: u16,
     ) -> Result<CountTest, StoreError>
         requires { is_period period (ruled_in summary.now.rulings) ≡ true }
-        ensures looks { Looks result (state S.Store tables.old.store)
-            (state S.Store tables.new.store) (IsTestOf period (ruled_in summary.now.rulings)) }
-        ensures cause { FailsByStore result (state S.Store tables.old.store)
-            (state S.Store tables.new.store) (AllLinesFit (ruled_in summary.now.rulings)) }
+        ensures looks { Looks result (state_of tables.old) (state_of tables.new)
+            (IsTestOf period (ruled_in summary.now.rulings)) }
+        ensures cause { FailsByStore result (state_of tables.old) (state_of tables.new)
+            (AllLinesFit (ruled_in summary.now.rulings)) }
     {
         let lines = first_lines(tables, alloc, period, summary.rulings.open_number())?;
         Ok(CountTest {

@@ -7,7 +7,7 @@ ghost use Rattle.book_model.specs.Rows as rows;
 ghost use Rattle.table_model.specs.RowChanges as changed;
 ghost use Rattle.table_model.specs.Steps as step;
 ghost use Rattle.tree_tables.specs.Days.{RowFits};
-ghost use Rattle.tree_tables.specs.States.{state};
+ghost use Rattle.tree_tables.specs.States.{state_of};
 ghost use Rattle.tree_tables.specs.Steps.{Always, Does};
 ghost use Rattle.table_ledger.specs.TotalsFit.{FitsPrice};
 
@@ -111,8 +111,8 @@ fn put_row<S: Store>(
     period: u16,
     row: &ChargeRow,
 ) -> Result<(), StoreError>
-    ensures does { Does result (state S.Store tables.old.store) (state S.Store tables.new.store)
-        Always (step.put_day_row period row.now) }
+    ensures does { Does result (state_of tables.old) (state_of tables.new) Always
+        (step.put_day_row period row.now) }
 {
     if !fits(row) {
         return Err(StoreError::Corrupt);
@@ -127,8 +127,8 @@ fn put_with<S: Store>(
     row: &ChargeRow,
     priced: &Priced,
 ) -> Result<(), StoreError>
-    ensures does { Does result (state S.Store tables.old.store) (state S.Store tables.new.store)
-        Always (step.put_day_row period (changed.with_price row.now priced.now)) }
+    ensures does { Does result (state_of tables.old) (state_of tables.new) Always
+        (step.put_day_row period (changed.with_price row.now priced.now)) }
 {
     let Some(more) = with_price(row, priced) else {
         return Err(StoreError::Corrupt);
@@ -142,8 +142,8 @@ pub(crate) fn add_price<S: Store>(
     period: u16,
     priced: &Priced,
 ) -> Result<(), StoreError>
-    ensures does { Does result (state S.Store tables.old.store) (state S.Store tables.new.store)
-        Always (step.change_day_row period (Some (Add priced.now))) }
+    ensures does { Does result (state_of tables.old) (state_of tables.new) Always
+        (step.change_day_row period (Some (Add priced.now))) }
 {
     let place = key_of(priced);
     let found = tables.find_day(&DayKey { period, place })?;
@@ -157,8 +157,8 @@ pub(crate) fn take_price<S: Store>(
     period: u16,
     priced: &Priced,
 ) -> Result<(), StoreError>
-    ensures does { Does result (state S.Store tables.old.store) (state S.Store tables.new.store)
-        Always (step.change_day_row period (Some (Take priced.now))) }
+    ensures does { Does result (state_of tables.old) (state_of tables.new) Always
+        (step.change_day_row period (Some (Take priced.now))) }
 {
     let place = key_of(priced);
     let Some(row) = tables.find_day(&DayKey { period, place })? else {
@@ -179,8 +179,8 @@ pub(crate) fn replace_price<S: Store>(
     new: &Priced,
 ) -> Result<(), StoreError>
     requires { rows.key_of old.now ≡ rows.key_of new.now }
-    ensures does { Does result (state S.Store tables.old.store) (state S.Store tables.new.store)
-        Always (λ tables. step.change_day_row period (Some (Add new.now))
+    ensures does { Does result (state_of tables.old) (state_of tables.new) Always
+        (λ tables. step.change_day_row period (Some (Add new.now))
         (step.change_day_row period (Some (Take old.now)) tables)) }
 {
     let place = key_of(old);
@@ -194,8 +194,8 @@ pub(crate) fn change_day<S: Store>(
     period: u16,
     change: &Option<DayChange>,
 ) -> Result<(), StoreError>
-    ensures does { Does result (state S.Store tables.old.store) (state S.Store tables.new.store)
-        Always (step.change_day_row period change.now) }
+    ensures does { Does result (state_of tables.old) (state_of tables.new) Always
+        (step.change_day_row period change.now) }
 {
     match change {
         None => Ok(()),

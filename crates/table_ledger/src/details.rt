@@ -4,7 +4,7 @@ ghost use Rattle.std.specs.Prelude.{◌≡◌, IfOk, IsTrue, false};
 ghost use Rattle.book_model.specs.Words.{Naming, ShowsDetail, next_detail_outcome};
 ghost use Rattle.table_model.specs.DetailsRead.{FindsLeast};
 ghost use Rattle.tree_tables.specs.Details.{DetailsFit};
-ghost use Rattle.tree_tables.specs.States.{state};
+ghost use Rattle.tree_tables.specs.States.{state_of};
 ghost use Rattle.tree_tables.specs.Steps.{FailsByStore, Looks};
 ghost use Rattle.table_ledger.specs.Attempts.{TriesItsOwn};
 ghost use Rattle.table_ledger.specs.DetailReads.{seeks};
@@ -99,10 +99,9 @@ pub(crate) fn next_sought<S: Store>(
     tables: &mut TreeTables<S>,
     sought: &Sought,
 ) -> Result<Option<Detail>, StoreError>
-    ensures looks { Looks result (state S.Store tables.old.store) (state S.Store tables.new.store)
+    ensures looks { Looks result (state_of tables.old) (state_of tables.new)
         (FindsLeast (seeks sought.now)) }
-    ensures cause { FailsByStore result (state S.Store tables.old.store)
-        (state S.Store tables.new.store) DetailsFit }
+    ensures cause { FailsByStore result (state_of tables.old) (state_of tables.new) DetailsFit }
 {
     let mut start = sought.first();
     'details: for _ in 0..MOST_STEPS {
@@ -141,12 +140,11 @@ pub(crate) fn try_next_detail<S: Store>(
     last: Option<Detail>,
 ) -> Result<Result<Option<Detail>, LedgerFault>, StoreError>
     ensures tries { (naming : Naming) → AttemptsOne (λ found. found) naming summary.now summary.now
-        (state S.Store tables.old.store) (state S.Store tables.new.store)
-        (next_detail_outcome naming period centre last) result }
+        (state_of tables.old) (state_of tables.new) (next_detail_outcome naming period centre last)
+        result }
     ensures shown { IfOk result (λ answer. IfOk answer ShowsDetail) }
     ensures own { (naming : Naming) → HasWideNames naming
-        → TriesItsOwn naming summary.now (state S.Store tables.old.store)
-        (state S.Store tables.new.store) result }
+        → TriesItsOwn naming summary.now (state_of tables.old) (state_of tables.new) result }
 {
     if !summary.has_period(period) {
         return Ok(Err(LedgerFault::NoSuchPeriod));

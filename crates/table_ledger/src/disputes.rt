@@ -1,14 +1,14 @@
 //! Identities that two or more records have, and for which none was chosen.
 
-ghost use Rattle.std.specs.Prelude.{◌≡◌, All, IfErr, IfOk, IsTrue, false, filter, map, option_map};
-ghost use Rattle.tree_tables.specs.States.{state};
+ghost use Rattle.std.specs.Prelude.{◌≡◌, All, IfErr, IfOk, IsTrue, false, map, option_map};
+ghost use Rattle.tree_tables.specs.States.{state_of};
 ghost use Rattle.book_model.specs.Words.{AreDisputes, dispute_shown, disputes_outcome, Naming};
 ghost use Rattle.book_model.specs.Words.{ShowsDispute, dispute_outcome};
 ghost use Rattle.tree_tables.specs.Stored.{stored_entry};
-ghost use Rattle.table_model.specs.DisputesRead as reading;
 ghost use Rattle.table_model.specs.DisputesRead.{join_last, dispute_of_one, variant_read};
 ghost use Rattle.tree_tables.specs.Steps.{Always, FailsByStore, Looks};
-ghost use Rattle.table_ledger.specs.DisputeReads.{FindsNext, IsIdentity, IsShownRow, dispute_made};
+ghost use Rattle.table_ledger.specs.DisputeReads.{FindsGroups, FindsNext, IsIdentity, IsShownRow};
+ghost use Rattle.table_ledger.specs.DisputeReads.{dispute_made};
 ghost use Rattle.table_ledger.specs.RecordReads.{HasWideNames};
 ghost use Rattle.tree_tables.specs.UsageData.{IsUsageData};
 ghost use Rattle.table_ledger.specs.Attempts.{TriesItsOwn};
@@ -119,12 +119,11 @@ fn grouped<S: Store>(
     rows: &[StoredRecord],
 ) -> Result<Vec<Dispute>, StoreError>
     requires shown { All (λ row. IsShownRow (stored_entry row)) rows.now }
-    ensures looks { Looks result (state S.Store tables.old.store) (state S.Store tables.new.store)
-        (λ tables found. map dispute_shown found.items ≡ reading.grouped
-        (filter (reading.has_none_charged tables.records) (map stored_entry rows.now))) }
+    ensures looks { Looks result (state_of tables.old) (state_of tables.new)
+        (λ tables found. FindsGroups (map stored_entry rows.now) tables
+        (map dispute_shown found.items)) }
     ensures shown { IfOk result (λ found. AreDisputes (map dispute_shown found.items)) }
-    ensures cause { FailsByStore result (state S.Store tables.old.store)
-        (state S.Store tables.new.store)
+    ensures cause { FailsByStore result (state_of tables.old) (state_of tables.new)
         (λ tables. All (λ row. IsUsageData row.data_bytes.items) rows.now) }
 {
     let mut found = Vec::new(alloc);
@@ -144,13 +143,12 @@ pub(crate) fn try_disputes<S: Store>(
     alloc: Global,
 ) -> Result<Result<Vec<Dispute>, LedgerFault>, StoreError>
     ensures tries { (naming : Naming) → AttemptsOne (λ found. map dispute_shown found.items) naming
-        summary.now summary.now (state S.Store tables.old.store) (state S.Store tables.new.store)
+        summary.now summary.now (state_of tables.old) (state_of tables.new)
         (disputes_outcome naming) result }
     ensures shown { IfOk result (λ answer.
         IfOk answer (λ found. AreDisputes (map dispute_shown found.items))) }
     ensures own { (naming : Naming) → HasWideNames naming
-        → TriesItsOwn naming summary.now (state S.Store tables.old.store)
-        (state S.Store tables.new.store) result }
+        → TriesItsOwn naming summary.now (state_of tables.old) (state_of tables.new) result }
 {
     let rows = tables.list_uncharged(alloc)?;
     if !can_show(&rows) {
@@ -166,10 +164,8 @@ fn next_disputed<S: Store>(
     alloc: Global,
     from: &[u8],
 ) -> Result<Option<Vec<u8>>, StoreError>
-    ensures looks { Looks result (state S.Store tables.old.store) (state S.Store tables.new.store)
-        (FindsNext from.now) }
-    ensures cause { FailsByStore result (state S.Store tables.old.store)
-        (state S.Store tables.new.store) Always }
+    ensures looks { Looks result (state_of tables.old) (state_of tables.new) (FindsNext from.now) }
+    ensures cause { FailsByStore result (state_of tables.old) (state_of tables.new) Always }
 {
     let mut reached = Vec::from_slice(alloc, from)?;
     'identities: for _steps in 0..MOST_STEPS {
@@ -225,12 +221,11 @@ pub(crate) fn try_dispute<S: Store>(
     from: &[u8],
 ) -> Result<Result<Option<Dispute>, LedgerFault>, StoreError>
     ensures tries { (naming : Naming) → AttemptsOne (λ found. option_map dispute_shown found) naming
-        summary.now summary.now (state S.Store tables.old.store) (state S.Store tables.new.store)
+        summary.now summary.now (state_of tables.old) (state_of tables.new)
         (dispute_outcome naming from.now) result }
     ensures shown { IfOk result (λ answer. IfOk answer ShowsDispute) }
     ensures own { (naming : Naming) → HasWideNames naming
-        → TriesItsOwn naming summary.now (state S.Store tables.old.store)
-        (state S.Store tables.new.store) result }
+        → TriesItsOwn naming summary.now (state_of tables.old) (state_of tables.new) result }
 {
     let Some(identity) = next_disputed(tables, alloc, from)? else {
         return Ok(Ok(None));

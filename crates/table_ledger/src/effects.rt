@@ -1,7 +1,7 @@
 //! What a new record changes besides its own row, by the records that share its identity.
 
 ghost use Rattle.std.specs.Prelude.{◌≡◌, IfOk, map};
-ghost use Rattle.tree_tables.specs.States.{state};
+ghost use Rattle.tree_tables.specs.States.{state_of};
 ghost use Rattle.book_core.specs.Effects.{HasOnly, effects_of};
 ghost use Rattle.tree_tables.specs.Stored.{stored_entry};
 ghost use Rattle.table_model.specs.Views.{member_at, rows_with};
@@ -37,7 +37,7 @@ fn look_for_view<S: Store>(
     through: Option<i32>,
     sharing: &[StoredRecord],
 ) -> Result<View, StoreError>
-    ensures looks { Looks result (state S.Store tables.old.store) (state S.Store tables.new.store)
+    ensures looks { Looks result (state_of tables.old) (state_of tables.new)
         (λ tables view. view ≡ view_with through tables.choices (map stored_entry sharing.now)) }
     ensures only { IfOk result HasOnly }
 {
@@ -71,9 +71,10 @@ pub(crate) fn look_for_effects<S: Store>(
     name: [u8; 32],
     priced: &Priced,
 ) -> Result<Effects, StoreError>
-    ensures looks { Looks result (state S.Store tables.old.store) (state S.Store tables.new.store)
-        (λ tables effects. effects ≡ effects_of (view_with through tables.choices
-        (rows_with identity.now tables.records)) name priced.now) }
+    ensures looks { Looks result (state_of tables.old) (state_of tables.new)
+        (λ tables effects. effects ≡ effects_of
+        (view_with through tables.choices (rows_with identity.now tables.records)) name
+        priced.now) }
 {
     let sharing = tables.find_sharing(alloc, identity)?;
     let view = look_for_view(tables, through, &sharing)?;

@@ -2,7 +2,7 @@
 
 ghost use Rattle.std.specs.Prelude.{◌≡◌, ◌⊎◌, IfErr, IsErrOf, IsTrue, false};
 ghost use Rattle.sqlite_trees.specs.View.{IsClean};
-ghost use Rattle.tree_tables.specs.States.{Survives, state};
+ghost use Rattle.tree_tables.specs.States.{Survives, state_of};
 ghost use Rattle.table_ledger.specs.Attempts.{IsRolledBack, Finishes};
 
 use book_core::LedgerFault;
@@ -15,15 +15,13 @@ use tree_tables::TreeTables;
 pub(crate) fn fault_of<S: Store>(tables: &mut TreeTables<S>, error: StoreError) -> LedgerFault
     ensures kind { (result ≡ LedgerFault.Memory) ⊎ (result ≡ LedgerFault.Store) }
     ensures told { result ≡ LedgerFault.Memory → error ≡ StoreError.OutOfMemory }
-    ensures served { IsClean (S.Store.view tables.new.store) → error ≡ StoreError.OutOfMemory
-        → (S.Store.view tables.new.store).is_broken ≡ false → result ≡ LedgerFault.Memory }
-    ensures mended { IsClean (S.Store.view tables.new.store)
-        → IsTrue (S.Store.view tables.new.store).is_open
-        → (S.Store.view tables.new.store).is_broken ≡ false }
-    ensures back { IsClean (S.Store.view tables.new.store) → result ≡ LedgerFault.Memory
-        → IsRolledBack (S.Store.view tables.old.store) (S.Store.view tables.new.store) }
-    ensures survives { Survives (state S.Store tables.old.store) (state S.Store tables.new.store)
-        (λ trees. ⊥) }
+    ensures served { IsClean (state_of tables.new).view → error ≡ StoreError.OutOfMemory
+        → (state_of tables.new).view.is_broken ≡ false → result ≡ LedgerFault.Memory }
+    ensures mended { IsClean (state_of tables.new).view → IsTrue (state_of tables.new).view.is_open
+        → (state_of tables.new).view.is_broken ≡ false }
+    ensures back { IsClean (state_of tables.new).view → result ≡ LedgerFault.Memory
+        → IsRolledBack (state_of tables.old).view (state_of tables.new).view }
+    ensures survives { Survives (state_of tables.old) (state_of tables.new) (λ trees. ⊥) }
 {
     tables.roll_back();
     if error == StoreError::OutOfMemory && !tables.is_broken() {
@@ -42,12 +40,12 @@ pub(crate) fn finish<S: Store, V: Drop>(
     requires { must_reopen.old ≡ false }
     ensures settles { Finishes S.Store tables.old.store tables.new.store must_reopen.old
         must_reopen.new tried result }
-    ensures served { IfErr tried (λ error. IsClean (S.Store.view tables.new.store)
-        → error ≡ StoreError.OutOfMemory → (S.Store.view tables.new.store).is_broken ≡ false
+    ensures served { IfErr tried (λ error. IsClean (state_of tables.new).view
+        → error ≡ StoreError.OutOfMemory → (state_of tables.new).view.is_broken ≡ false
         → IsErrOf result LedgerFault.Memory) }
-    ensures mended { IfErr tried (λ error. IsClean (S.Store.view tables.new.store)
-        → IsTrue (S.Store.view tables.new.store).is_open
-        → (S.Store.view tables.new.store).is_broken ≡ false) }
+    ensures mended { IfErr tried (λ error. IsClean (state_of tables.new).view
+        → IsTrue (state_of tables.new).view.is_open
+        → (state_of tables.new).view.is_broken ≡ false) }
 {
     match tried {
         Ok(answer) => answer,

@@ -73,7 +73,7 @@ impl<S: Store, N: Naming + Drop> Ledger for TableLedger<S, N> {
     ghost use Rattle.table_ledger.specs.LedgerState.{seen_in, ledger_state};
     ghost use Rattle.table_ledger.specs.ReadyBooks.{settled_on};
 
-    ghost seen = { seen_in S.Store N.name_of };
+    ghost seen = { seen_in N.name_of };
 
     fn tariff(&mut self, text: &str) -> Result<Ruled, LedgerFault> {
         if self.must_reopen {
@@ -129,15 +129,14 @@ impl<S: Store, N: Naming + Drop> Ledger for TableLedger<S, N> {
     fn accept_many(&mut self, records: &[Vec<u8>]) -> Result<Vec<Accepted>, LedgerFault>
         requires some { 0 < length records.now }
         requires usage { All (λ one. IsUsageRecord one.items) records.now }
-        ensures takes { IsTransition (seen_in S.Store N.name_of self.old)
-            (seen_in S.Store N.name_of self.new)
+        ensures takes { IsTransition (seen_in N.name_of self.old) (seen_in N.name_of self.new)
             (Takes (N.name_of self.old.naming) (records_in records.now) result) }
         ensures some { IfOk result (λ answers. 0 < length answers.items) }
 
         // It is one commit, which takes no more records than this, also where a stop comes within.
-        ensures few { IsTransition (seen_in S.Store N.name_of self.old)
-            (seen_in S.Store N.name_of self.new) (Takes (N.name_of self.old.naming)
-            (records_in (take most_in_commit records.now)) result) }
+        ensures few { IsTransition (seen_in N.name_of self.old) (seen_in N.name_of self.new)
+            (Takes (N.name_of self.old.naming) (records_in (take most_in_commit records.now))
+            result) }
     {
         if self.must_reopen {
             return Err(LedgerFault::Reopen);
@@ -154,13 +153,13 @@ impl<S: Store, N: Naming + Drop> Ledger for TableLedger<S, N> {
     }
 
     fn charges(&mut self, period: u16) -> Result<Vec<ChargeRow>, LedgerFault>
-        ensures rows { IsCall (λ rows. rows.items) (seen_in S.Store N.name_of self.old)
-            (seen_in S.Store N.name_of self.new) result (charges_outcome period) }
+        ensures rows { IsCall (λ rows. rows.items) (seen_in N.name_of self.old)
+            (seen_in N.name_of self.new) result (charges_outcome period) }
         ensures shown { IfOk result (λ rows. AreRows rows.items) }
 
         // What fails in books that calls made is the store's own.
-        ensures own { FailsAsItsOwn result (ledger_state S.Store N.name_of self.old)
-            (ledger_state S.Store N.name_of self.new) }
+        ensures own { FailsAsItsOwn result (ledger_state N.name_of self.old)
+            (ledger_state N.name_of self.new) }
     {
         if self.must_reopen {
             return Err(LedgerFault::Reopen);
@@ -170,13 +169,13 @@ impl<S: Store, N: Naming + Drop> Ledger for TableLedger<S, N> {
     }
 
     fn charges_under(&mut self, period: u16, tariff: &Tariff) -> Result<Vec<ChargeRow>, LedgerFault>
-        ensures rows { IsCall (λ rows. rows.items) (seen_in S.Store N.name_of self.old)
-            (seen_in S.Store N.name_of self.new) result (what_if_outcome period tariff.now) }
+        ensures rows { IsCall (λ rows. rows.items) (seen_in N.name_of self.old)
+            (seen_in N.name_of self.new) result (what_if_outcome period tariff.now) }
         ensures shown { IfOk result (λ rows. AreRows rows.items) }
 
         // It is refused also where the books cannot hold what the records would cost.
-        ensures own { FailsBut IsWhatIfRefusal result (ledger_state S.Store N.name_of self.old)
-            (ledger_state S.Store N.name_of self.new) }
+        ensures own { FailsBut IsWhatIfRefusal result (ledger_state N.name_of self.old)
+            (ledger_state N.name_of self.new) }
     {
         if self.must_reopen {
             return Err(LedgerFault::Reopen);
@@ -186,12 +185,12 @@ impl<S: Store, N: Naming + Drop> Ledger for TableLedger<S, N> {
     }
 
     fn adjustments(&mut self, period: u16) -> Result<Vec<Line>, LedgerFault>
-        ensures lines { IsCall (λ lines. lines.items) (seen_in S.Store N.name_of self.old)
-            (seen_in S.Store N.name_of self.new) result
+        ensures lines { IsCall (λ lines. lines.items) (seen_in N.name_of self.old)
+            (seen_in N.name_of self.new) result
             (adjustments_outcome (N.name_of self.old.naming) period) }
         ensures shown { IfOk result (λ lines. AreLines lines.items) }
-        ensures own { FailsAsItsOwn result (ledger_state S.Store N.name_of self.old)
-            (ledger_state S.Store N.name_of self.new) }
+        ensures own { FailsAsItsOwn result (ledger_state N.name_of self.old)
+            (ledger_state N.name_of self.new) }
     {
         if self.must_reopen {
             return Err(LedgerFault::Reopen);
@@ -206,12 +205,12 @@ impl<S: Store, N: Naming + Drop> Ledger for TableLedger<S, N> {
         centre: Option<Name>,
         after: Option<Detail>,
     ) -> Result<Option<Detail>, LedgerFault>
-        ensures detail { IsCall (λ found. found) (seen_in S.Store N.name_of self.old)
-            (seen_in S.Store N.name_of self.new) result
+        ensures detail { IsCall (λ found. found) (seen_in N.name_of self.old)
+            (seen_in N.name_of self.new) result
             (next_detail_outcome (N.name_of self.old.naming) period centre after) }
         ensures shown { IfOk result ShowsDetail }
-        ensures own { FailsAsItsOwn result (ledger_state S.Store N.name_of self.old)
-            (ledger_state S.Store N.name_of self.new) }
+        ensures own { FailsAsItsOwn result (ledger_state N.name_of self.old)
+            (ledger_state N.name_of self.new) }
     {
         if self.must_reopen {
             return Err(LedgerFault::Reopen);
@@ -222,11 +221,11 @@ impl<S: Store, N: Naming + Drop> Ledger for TableLedger<S, N> {
 
     fn disputes(&mut self) -> Result<Vec<Dispute>, LedgerFault>
         ensures disputes { IsCall (λ found. map dispute_shown found.items)
-            (seen_in S.Store N.name_of self.old) (seen_in S.Store N.name_of self.new) result
+            (seen_in N.name_of self.old) (seen_in N.name_of self.new) result
             (disputes_outcome (N.name_of self.old.naming)) }
         ensures shown { IfOk result (λ found. AreDisputes (map dispute_shown found.items)) }
-        ensures own { FailsAsItsOwn result (ledger_state S.Store N.name_of self.old)
-            (ledger_state S.Store N.name_of self.new) }
+        ensures own { FailsAsItsOwn result (ledger_state N.name_of self.old)
+            (ledger_state N.name_of self.new) }
     {
         if self.must_reopen {
             return Err(LedgerFault::Reopen);
@@ -237,11 +236,11 @@ impl<S: Store, N: Naming + Drop> Ledger for TableLedger<S, N> {
 
     fn dispute_from(&mut self, from: &[u8]) -> Result<Option<Dispute>, LedgerFault>
         ensures dispute { IsCall (λ found. option_map dispute_shown found)
-            (seen_in S.Store N.name_of self.old) (seen_in S.Store N.name_of self.new) result
+            (seen_in N.name_of self.old) (seen_in N.name_of self.new) result
             (dispute_outcome (N.name_of self.old.naming) from.now) }
         ensures shown { IfOk result ShowsDispute }
-        ensures own { FailsAsItsOwn result (ledger_state S.Store N.name_of self.old)
-            (ledger_state S.Store N.name_of self.new) }
+        ensures own { FailsAsItsOwn result (ledger_state N.name_of self.old)
+            (ledger_state N.name_of self.new) }
     {
         if self.must_reopen {
             return Err(LedgerFault::Reopen);
@@ -251,11 +250,11 @@ impl<S: Store, N: Naming + Drop> Ledger for TableLedger<S, N> {
     }
 
     fn periods(&mut self) -> Result<Vec<i32>, LedgerFault>
-        ensures days { IsCall (λ days. days.items) (seen_in S.Store N.name_of self.old)
-            (seen_in S.Store N.name_of self.new) result periods_outcome }
+        ensures days { IsCall (λ days. days.items) (seen_in N.name_of self.old)
+            (seen_in N.name_of self.new) result periods_outcome }
         ensures shown { IfOk result (λ days. All IsDay days.items) }
-        ensures own { FailsAsItsOwn result (ledger_state S.Store N.name_of self.old)
-            (ledger_state S.Store N.name_of self.new) }
+        ensures own { FailsAsItsOwn result (ledger_state N.name_of self.old)
+            (ledger_state N.name_of self.new) }
     {
         if self.must_reopen {
             return Err(LedgerFault::Reopen);
@@ -266,11 +265,11 @@ impl<S: Store, N: Naming + Drop> Ledger for TableLedger<S, N> {
 
     fn ruling(&mut self, number: u64) -> Result<Option<ListedRuling>, LedgerFault>
         ensures ruling { IsCall (λ found. option_map ruling_shown found)
-            (seen_in S.Store N.name_of self.old) (seen_in S.Store N.name_of self.new) result
+            (seen_in N.name_of self.old) (seen_in N.name_of self.new) result
             (ruling_outcome (N.name_of self.old.naming) number) }
         ensures shown { IfOk result ShowsDays }
-        ensures own { FailsAsItsOwn result (ledger_state S.Store N.name_of self.old)
-            (ledger_state S.Store N.name_of self.new) }
+        ensures own { FailsAsItsOwn result (ledger_state N.name_of self.old)
+            (ledger_state N.name_of self.new) }
     {
         if self.must_reopen {
             return Err(LedgerFault::Reopen);
@@ -280,12 +279,11 @@ impl<S: Store, N: Naming + Drop> Ledger for TableLedger<S, N> {
     }
 
     fn trail_of(&mut self, alloc: Global, name: &[u8; 32]) -> Result<Trail, LedgerFault>
-        ensures trail { IsCall trail_shown (seen_in S.Store N.name_of self.old)
-            (seen_in S.Store N.name_of self.new) result
-            (trail_outcome (N.name_of self.old.naming) name.now) }
+        ensures trail { IsCall trail_shown (seen_in N.name_of self.old) (seen_in N.name_of self.new)
+            result (trail_outcome (N.name_of self.old.naming) name.now) }
         ensures shown { IfOk result (λ trail. IsTrail (trail_shown trail)) }
-        ensures own { FailsBut IsNoRecord result (ledger_state S.Store N.name_of self.old)
-            (ledger_state S.Store N.name_of self.new) }
+        ensures own { FailsBut IsNoRecord result (ledger_state N.name_of self.old)
+            (ledger_state N.name_of self.new) }
     {
         if self.must_reopen {
             return Err(LedgerFault::Reopen);

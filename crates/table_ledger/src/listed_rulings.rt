@@ -5,7 +5,7 @@ ghost use Rattle.book_model.specs.Words.{Naming, ShowsDays, HasDays, most_choice
 ghost use Rattle.book_model.specs.Words.{ruling_shown};
 ghost use Rattle.table_model.specs.ListsRead.{choice_read_at};
 ghost use Rattle.tree_tables.specs.Fits.{IsNumbered};
-ghost use Rattle.tree_tables.specs.States.{state};
+ghost use Rattle.tree_tables.specs.States.{state_of};
 ghost use Rattle.tree_tables.specs.Steps.{FailsByStore, Looks};
 ghost use Rattle.table_ledger.specs.Attempts.{TriesItsOwn};
 ghost use Rattle.table_ledger.specs.RecordReads.{HasWideNames};
@@ -24,11 +24,11 @@ fn look_for_choice<S: Store>(
     place: u32,
 ) -> Result<ListedRuling, StoreError>
     requires { place < most_choices }
-    ensures looks { Looks result (state S.Store tables.old.store) (state S.Store tables.new.store)
+    ensures looks { Looks result (state_of tables.old) (state_of tables.new)
         (λ tables ruling. choice_read_at (place + 1) tables.choices ≡ Some (ruling_shown ruling)) }
     ensures days { IfOk result (λ ruling. HasDays (ruling_shown ruling)) }
-    ensures cause { FailsByStore result (state S.Store tables.old.store)
-        (state S.Store tables.new.store) (IsNumbered (place + 1)) }
+    ensures cause { FailsByStore result (state_of tables.old) (state_of tables.new)
+        (IsNumbered (place + 1)) }
 {
     let Some(choice) = tables.find_choice(place + 1)? else {
         return Err(StoreError::Corrupt);
@@ -50,12 +50,11 @@ pub(crate) fn try_ruling<S: Store>(
     number: u64,
 ) -> Result<Result<Option<ListedRuling>, LedgerFault>, StoreError>
     ensures tries { (naming : Naming) → AttemptsOne (λ found. option_map ruling_shown found) naming
-        summary.now summary.now (state S.Store tables.old.store) (state S.Store tables.new.store)
+        summary.now summary.now (state_of tables.old) (state_of tables.new)
         (ruling_outcome naming number) result }
     ensures shown { IfOk result (λ answer. IfOk answer ShowsDays) }
     ensures own { (naming : Naming) → HasWideNames naming
-        → TriesItsOwn naming summary.now (state S.Store tables.old.store)
-        (state S.Store tables.new.store) result }
+        → TriesItsOwn naming summary.now (state_of tables.old) (state_of tables.new) result }
 {
     let listed = summary.rulings.listed_at(alloc, summary.choices, number)?;
     match listed {

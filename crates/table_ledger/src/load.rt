@@ -4,7 +4,7 @@ ghost use Rattle.std.specs.Prelude.{◌≡◌, ◌⊎◌, ◌<◌, ◌≤◌, If
 ghost use Rattle.std.specs.Prelude.{true, ℕ, ℤ, IfSome, Option};
 ghost use Rattle.std.specs.List.{AllZip, last_or};
 ghost use Rattle.tree_tables.specs.Holds.{has_book};
-ghost use Rattle.tree_tables.specs.States.{HasCleanDisk, state};
+ghost use Rattle.tree_tables.specs.States.{HasCleanDisk, state_of};
 ghost use Rattle.book_model.specs.Words.{Rulings, AcceptedTerms, are_rising, last_period, most_cost};
 ghost use Rattle.book_model.specs.Words.{most_choices, most_held};
 ghost use Rattle.tree_tables.specs.Steps.{FailsByStore, IsCaused, Looks};
@@ -192,16 +192,14 @@ fn look_for_summary<S: Store>(
     alloc: Global,
     tables: &mut TreeTables<S>,
 ) -> Result<Result<Summary, LedgerFault>, StoreError>
-    ensures looks { Looks result (state S.Store tables.old.store) (state S.Store tables.new.store)
-        IsLoaded }
+    ensures looks { Looks result (state_of tables.old) (state_of tables.new) IsLoaded }
     ensures kinds { IfOk result (λ answer. IfErr answer IsOpenFault) }
-    ensures cause { FailsByStore result (state S.Store tables.old.store)
-        (state S.Store tables.new.store) CanBeListed }
-    ensures tells { IfOk result (λ answer. HasCleanDisk (state S.Store tables.new.store)
-        → TellsBooks (has_book (S.Store.view tables.old.store).trees) answer) }
-    ensures absent { IfErr result (λ error. HasCleanDisk (state S.Store tables.new.store)
-        → has_book (S.Store.view tables.old.store).trees ≡ false
-        → IsCaused (state S.Store tables.old.store) (state S.Store tables.new.store) error) }
+    ensures cause { FailsByStore result (state_of tables.old) (state_of tables.new) CanBeListed }
+    ensures tells { IfOk result (λ answer. HasCleanDisk (state_of tables.new)
+        → TellsBooks (has_book (state_of tables.old).view.trees) answer) }
+    ensures absent { IfErr result (λ error. HasCleanDisk (state_of tables.new)
+        → has_book (state_of tables.old).view.trees ≡ false
+        → IsCaused (state_of tables.old) (state_of tables.new) error) }
 {
     let Some(row) = tables.find_book()? else {
         return Ok(Err(LedgerFault::NotBooks));
@@ -217,13 +215,12 @@ pub(crate) fn read_summary<S: Store>(
     alloc: Global,
     tables: &mut TreeTables<S>,
 ) -> Result<Summary, LedgerFault>
-    ensures reads { Reads result (state S.Store tables.old.store) (state S.Store tables.new.store) }
+    ensures reads { Reads result (state_of tables.old) (state_of tables.new) }
     ensures kinds { IfErr result IsOpenFault }
-    ensures own { ReadsItsOwn result (state S.Store tables.old.store)
-        (state S.Store tables.new.store) }
-    ensures row { HasCleanDisk (state S.Store tables.new.store)
-        → ReadsByRow (has_book (S.Store.view tables.old.store).trees)
-        (state S.Store tables.old.store) (state S.Store tables.new.store) result }
+    ensures own { ReadsItsOwn result (state_of tables.old) (state_of tables.new) }
+    ensures row { HasCleanDisk (state_of tables.new)
+        → ReadsByRow (has_book (state_of tables.old).view.trees) (state_of tables.old)
+        (state_of tables.new) result }
 {
     match look_for_summary(alloc, tables) {
         Ok(answer) => answer,

@@ -1,7 +1,7 @@
 //! Whether a call touches many of the records that are held. Where it does, they are written in the
 //! order of their names: each page of them once, and the log has it once.
 
-ghost use Rattle.tree_tables.specs.States.{state};
+ghost use Rattle.tree_tables.specs.States.{state_of};
 ghost use Rattle.tree_tables.specs.Steps.{Always, Looks};
 
 use book_core::ChargeRow;
@@ -42,7 +42,7 @@ pub(crate) fn counts_many<S: Store>(
     first: i32,
     last: i32,
 ) -> Result<bool, StoreError>
-    ensures { Looks result (state S.Store tables.old.store) (state S.Store tables.new.store)
+    ensures { Looks result (state_of tables.old) (state_of tables.new)
         (λ tables many. Always tables) }
 {
     let rows = tables.list_days(alloc, period)?;

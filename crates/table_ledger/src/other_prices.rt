@@ -1,16 +1,12 @@
 //! The charge rows that a period would have by another tariff.
 
-ghost use Rattle.std.specs.Prelude.{◌≡◌, ◌<◌, ◌++◌, ◌∷◌, [], List, IfErr, IfOk, OnOk, length, true};
-ghost use Rattle.book_model.specs.Words.{AreRows, Naming, most_held, what_if_outcome};
-ghost use Rattle.table_model.specs.DisputesRead.{NamedRow};
-ghost use Rattle.tree_tables.specs.Columns.{record_columns};
-ghost use Rattle.tree_tables.specs.Fits.{RecordFits};
-ghost use Rattle.tree_tables.specs.States.{state};
+ghost use Rattle.std.specs.Prelude.{◌≡◌, ◌++◌, ◌∷◌, [], IfErr, IfOk, OnOk};
+ghost use Rattle.book_model.specs.Words.{AreRows, Naming, what_if_outcome};
+ghost use Rattle.tree_tables.specs.States.{state_of};
 ghost use Rattle.tree_tables.specs.Steps.{FailsByStore, Looks};
-ghost use Rattle.tree_tables.specs.UsageData.{IsUsageData};
 ghost use Rattle.table_ledger.specs.Attempts.{IsWhatIfRefusal, TriesBut};
 ghost use Rattle.table_ledger.specs.OtherPrices.{CanBeWalked, Costs, CostsFit, FindsRowsUnder};
-ghost use Rattle.table_ledger.specs.OtherPrices.{SumsUp, costs_of, keyed_rows};
+ghost use Rattle.table_ledger.specs.OtherPrices.{JoinsSums, WantsMemory, keyed_rows};
 ghost use Rattle.table_ledger.specs.RecordReads.{HasWideNames};
 ghost use Rattle.table_ledger.specs.Stages.{AttemptsOne};
 
@@ -109,15 +105,8 @@ fn add_counted(
     test: &CountTest,
     row: &Row,
 ) -> Result<bool, StoreError>
-    ensures counted { IfOk result (λ room. (passed : List NamedRow) (entry : NamedRow)
-        → row.now ≡ record_columns entry
-        → SumsUp sums.old (costs_of tariff.now test.now passed) true
-        → SumsUp sums.new (costs_of tariff.now test.now (passed ++ entry ∷ [])) room) }
-    ensures taken { IfErr result (λ error. (passed : List NamedRow) (entry : NamedRow)
-        → row.now ≡ record_columns entry
-        → SumsUp sums.old (costs_of tariff.now test.now passed) true → length passed < most_held
-        → RecordFits row.now → IsUsageData entry.1.data_bytes
-        → error ≡ StoreError.OutOfMemory) }
+    ensures counted { IfOk result (JoinsSums tariff.now test.now row.now sums.old sums.new) }
+    ensures taken { IfErr result (WantsMemory tariff.now test.now row.now sums.old) }
 {
     // Whether it is counted is told first, so that of a record that is not no data are copied.
     let mark = read_mark(row)?;
@@ -136,10 +125,9 @@ fn rows_under<S: Store>(
     tariff: &Tariff,
     test: &CountTest,
 ) -> Result<Option<Vec<ChargeRow>>, StoreError>
-    ensures looks { Looks result (state S.Store tables.old.store) (state S.Store tables.new.store)
+    ensures looks { Looks result (state_of tables.old) (state_of tables.new)
         (FindsRowsUnder tariff.now test.now) }
-    ensures cause { FailsByStore result (state S.Store tables.old.store)
-        (state S.Store tables.new.store) CanBeWalked }
+    ensures cause { FailsByStore result (state_of tables.old) (state_of tables.new) CanBeWalked }
 {
     let mut sums = RowSums::new(alloc);
     let mut row = Row::new(alloc);
@@ -169,12 +157,12 @@ pub(crate) fn try_charges_under<S: Store>(
     tariff: &Tariff,
 ) -> Result<Result<Vec<ChargeRow>, LedgerFault>, StoreError>
     ensures tries { (naming : Naming) → AttemptsOne (λ rows. rows.items) naming summary.now
-        summary.now (state S.Store tables.old.store) (state S.Store tables.new.store)
-        (what_if_outcome period tariff.now) result }
+        summary.now (state_of tables.old) (state_of tables.new) (what_if_outcome period tariff.now)
+        result }
     ensures shown { IfOk result (λ answer. IfOk answer (λ rows. AreRows rows.items)) }
     ensures own { (naming : Naming) → HasWideNames naming
-        → TriesBut IsWhatIfRefusal naming summary.now (state S.Store tables.old.store)
-        (state S.Store tables.new.store) result }
+        → TriesBut IsWhatIfRefusal naming summary.now (state_of tables.old) (state_of tables.new)
+        result }
 {
     if !summary.has_period(period) {
         return Ok(Err(LedgerFault::NoSuchPeriod));

@@ -6,14 +6,13 @@ ghost use Rattle.std.specs.Prelude.{◌≡◌, ◌≤◌, ◌+◌, IfOk, IfSome,
 ghost use Rattle.book_core.specs.declared.effects.DayChange.TheVariants.{Add, Take};
 ghost use Rattle.book_core.specs.Repricing.{if_room};
 ghost use Rattle.book_model.specs.Words.{most_cost};
-ghost use Rattle.std.specs.FinMap.{keys};
 ghost use Rattle.table_model.specs.Steps as step;
 ghost use Rattle.table_model.specs.TableChanges as change;
 ghost use Rattle.tree_tables.specs.LateRecords.{FindsLate};
-ghost use Rattle.tree_tables.specs.States.{state};
+ghost use Rattle.tree_tables.specs.States.{state_of};
 ghost use Rattle.tree_tables.specs.Steps.{Always, Does, Looks};
 ghost use Rattle.tree_tables.specs.Stored.{IsAsRead, stored_entry};
-ghost use Rattle.table_ledger.specs.Repricing.{CanBeSummed, CanCost, CostUnder, StandsPriced};
+ghost use Rattle.table_ledger.specs.Repricing.{CanBeRepriced, CanBeSummed, CanCost, CostUnder};
 ghost use Rattle.table_ledger.specs.Repricing.{TakesTariff, tariff_price};
 
 use crate::day_write::{add_price, key_of, replace_price, take_price};
@@ -65,7 +64,7 @@ fn next_late<S: Store>(
     tariff: &Tariff,
     last: &Option<LateRecord>,
 ) -> Result<Option<LateRecord>, StoreError>
-    ensures looks { Looks result (state S.Store tables.old.store) (state S.Store tables.new.store)
+    ensures looks { Looks result (state_of tables.old) (state_of tables.new)
         (FindsLate tariff.now.effective last.now) }
 {
     tables.next_late(alloc, tariff.effective(), last)
@@ -94,7 +93,7 @@ fn cost_of_late<S: Store>(
     tariff: &Tariff,
     total: u64,
 ) -> Result<Option<u64>, StoreError>
-    ensures looks { Looks result (state S.Store tables.old.store) (state S.Store tables.new.store)
+    ensures looks { Looks result (state_of tables.old) (state_of tables.new)
         (λ tables found. CanBeSummed tariff.now total tables → CostUnder tariff.now tables found) }
     ensures small { IfOk result (λ found. IfSome found (λ cost. cost ≤ most_cost)) }
 {
@@ -129,7 +128,7 @@ fn cost_by_name<S: Store>(
     alloc: Global,
     tariff: &Tariff,
 ) -> Result<Option<u64>, StoreError>
-    ensures looks { Looks result (state S.Store tables.old.store) (state S.Store tables.new.store)
+    ensures looks { Looks result (state_of tables.old) (state_of tables.new)
         (CostUnder tariff.now) }
     ensures small { IfOk result (λ found. IfSome found (λ cost. cost ≤ most_cost)) }
 {
@@ -158,7 +157,7 @@ pub(crate) fn cost_under<S: Store>(
     total: u64,
     many: bool,
 ) -> Result<Option<u64>, StoreError>
-    ensures looks { Looks result (state S.Store tables.old.store) (state S.Store tables.new.store)
+    ensures looks { Looks result (state_of tables.old) (state_of tables.new)
         (λ tables found. CanBeSummed tariff.now total tables → CostUnder tariff.now tables found) }
     ensures small { IfOk result (λ found. IfSome found (λ cost. cost ≤ most_cost)) }
 {
@@ -176,8 +175,8 @@ fn change_price<S: Store>(
     old: &Priced,
     new: &Priced,
 ) -> Result<(), StoreError>
-    ensures does { Does result (state S.Store tables.old.store) (state S.Store tables.new.store)
-        Always (λ tables. step.change_day_row period (Some (Add new.now))
+    ensures does { Does result (state_of tables.old) (state_of tables.new) Always
+        (λ tables. step.change_day_row period (Some (Add new.now))
         (step.change_day_row period (Some (Take old.now)) tables)) }
 {
     if key_of(old) == key_of(new) {
@@ -194,8 +193,7 @@ fn set_price<S: Store>(
     stored: &StoredRecord,
     priced: &Priced,
 ) -> Result<(), StoreError>
-    ensures does { Does result (state S.Store tables.old.store) (state S.Store tables.new.store)
-        (IsAsRead stored.now)
+    ensures does { Does result (state_of tables.old) (state_of tables.new) (IsAsRead stored.now)
         (change.reprice period stored.now.name (stored_entry stored.now).1 priced.now) }
 {
     tables.set_price(stored, priced)?;
@@ -221,9 +219,8 @@ fn reprice<S: Store>(
     tariff: &Tariff,
     stored: &StoredRecord,
 ) -> Result<(), StoreError>
-    ensures does { Does result (state S.Store tables.old.store) (state S.Store tables.new.store)
-        (λ tables. IsAsRead stored.now tables
-        × StandsPriced period tariff.now stored.now.name tables)
+    ensures does { Does result (state_of tables.old) (state_of tables.new)
+        (CanBeRepriced period tariff.now stored.now)
         (change.reprice_step period tariff.now stored.now.name) }
 {
     let Some(priced) = new_price(alloc, tariff, stored)? else {
@@ -243,9 +240,8 @@ fn reprice_late<S: Store>(
     period: u16,
     tariff: &Tariff,
 ) -> Result<(), StoreError>
-    ensures does { Does result (state S.Store tables.old.store) (state S.Store tables.new.store)
-        (TakesTariff period tariff.now) (λ tables. change.walk
-        (change.reprice_step period tariff.now) (keys tables.records) tables) }
+    ensures does { Does result (state_of tables.old) (state_of tables.new)
+        (TakesTariff period tariff.now) (change.reprice_each period tariff.now) }
 {
     let mut last = None;
     'records: for _ in 0..MOST_STEPS {
@@ -267,8 +263,8 @@ fn reprice_once<S: Store>(
     tariff: &Tariff,
     stored: &StoredRecord,
 ) -> Result<(), StoreError>
-    ensures does { Does result (state S.Store tables.old.store) (state S.Store tables.new.store)
-        (IsAsRead stored.now) (change.reprice_step period tariff.now stored.now.name) }
+    ensures does { Does result (state_of tables.old) (state_of tables.new) (IsAsRead stored.now)
+        (change.reprice_step period tariff.now stored.now.name) }
 {
     let Some(priced) = new_price(alloc, tariff, stored)? else {
         return Ok(());
@@ -284,9 +280,8 @@ fn reprice_by_name<S: Store>(
     period: u16,
     tariff: &Tariff,
 ) -> Result<(), StoreError>
-    ensures does { Does result (state S.Store tables.old.store) (state S.Store tables.new.store)
-        Always (λ tables. change.walk (change.reprice_step period tariff.now)
-        (keys tables.records) tables) }
+    ensures does { Does result (state_of tables.old) (state_of tables.new) Always
+        (change.reprice_each period tariff.now) }
 {
     let mut last = None;
     'records: for _ in 0..MOST_STEPS {
@@ -308,9 +303,8 @@ pub(crate) fn reprice_all<S: Store>(
     tariff: &Tariff,
     many: bool,
 ) -> Result<(), StoreError>
-    ensures does { Does result (state S.Store tables.old.store) (state S.Store tables.new.store)
-        (TakesTariff period tariff.now) (λ tables. change.walk
-        (change.reprice_step period tariff.now) (keys tables.records) tables) }
+    ensures does { Does result (state_of tables.old) (state_of tables.new)
+        (TakesTariff period tariff.now) (change.reprice_each period tariff.now) }
 {
     if many {
         return reprice_by_name(tables, alloc, period, tariff);

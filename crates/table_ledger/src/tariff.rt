@@ -1,13 +1,13 @@
 //! Tariffs that are submitted.
 
 ghost use Rattle.std.specs.Prelude.{◌≡◌, ◌<◌, ◌^◌, false, IfErr, IfOk, Ok, OnOk, Some, string_bytes};
-ghost use Rattle.tree_tables.specs.States.{state};
+ghost use Rattle.tree_tables.specs.States.{state_of};
 ghost use Rattle.book_model.specs.RulingAnswers.{terms_ruled};
 ghost use Rattle.book_model.specs.Words.{terms_in, tariff_outcome, Naming};
 ghost use Rattle.book_core.specs.OfficeRulings.{HasTariffRoom, ruled_in};
 ghost use Rattle.table_model.specs.Changed.{tariff_at};
 ghost use Rattle.tree_tables.specs.Steps.{Does};
-ghost use Rattle.table_ledger.specs.Repricing.{CountsRecords, TakesTariff};
+ghost use Rattle.table_ledger.specs.Repricing.{TakesAndCounts};
 ghost use Rattle.table_ledger.specs.TariffRefusals.{IsNoTariff};
 ghost use Rattle.table_ledger.specs.Stages.{AttemptsOne};
 
@@ -36,8 +36,8 @@ fn write_tariff<S: Store>(
 ) -> Result<(), StoreError>
     requires held { sums.now.held < 2 ^ 63 }
     requires amount { sums.now.amount < 2 ^ 63 }
-    ensures { Does result (state S.Store tables.old.store) (state S.Store tables.new.store)
-        (λ tables. TakesTariff period tariff.now tables × CountsRecords sums.now.held tables)
+    ensures { Does result (state_of tables.old) (state_of tables.new)
+        (TakesAndCounts period tariff.now sums.now.held)
         (tariff_at period (Some text.now) tariff.now sums.now.amount) }
 {
     reprice_all(tables, alloc, period, tariff, many)?;
@@ -82,7 +82,7 @@ fn put_in_force<S: Store>(
     requires done { terms_ruled (ruled_in summary.old.rulings) false text.now tariff
         ≡ Ok Ruled.Done }
     ensures tries { (naming : Naming) → AttemptsOne (λ ruled. ruled) naming summary.old summary.new
-        (state S.Store tables.old.store) (state S.Store tables.new.store) (tariff_outcome text.now) result }
+        (state_of tables.old) (state_of tables.new) (tariff_outcome text.now) result }
 {
     let period = summary.rulings.open_number();
     let first = tariff.effective();
@@ -112,7 +112,7 @@ pub(crate) fn try_tariff<S: Store>(
     text: &str,
 ) -> Result<Result<Ruled, LedgerFault>, StoreError>
     ensures tries { (naming : Naming) → AttemptsOne (λ ruled. ruled) naming summary.old summary.new
-        (state S.Store tables.old.store) (state S.Store tables.new.store) (tariff_outcome text.now) result }
+        (state_of tables.old) (state_of tables.new) (tariff_outcome text.now) result }
 {
     let tariff = match tariff_of(alloc, text) {
         Ok(tariff) => tariff,

@@ -7,7 +7,7 @@ ghost use Rattle.book_model.specs.Words.{IsDay, IsTrail, Naming, trail_outcome, 
 ghost use Rattle.book_model.specs.Words.{turn_if};
 ghost use Rattle.table_model.specs.TrailRead.{life_read, line_turn, line_turns};
 ghost use Rattle.tree_tables.specs.Fits.{ChosenFit};
-ghost use Rattle.tree_tables.specs.States.{state};
+ghost use Rattle.tree_tables.specs.States.{state_of};
 ghost use Rattle.tree_tables.specs.Steps.{Always, FailsByStore, Looks};
 ghost use Rattle.tree_tables.specs.Stored.{choice_entry, stored_entry};
 ghost use Rattle.table_ledger.specs.Attempts.{IsNoRecord, TriesBut};
@@ -53,11 +53,10 @@ fn later_turns<S: Store>(
     last: u16,
 ) -> Result<Vec<Turn>, StoreError>
     requires { after ≤ last }
-    ensures looks { Looks result (state S.Store tables.old.store) (state S.Store tables.new.store)
-        (λ tables turns. turns.items
-        ≡ line_turns tables.lines name.now (suc after) (last - after)) }
-    ensures cause { FailsByStore result (state S.Store tables.old.store)
-        (state S.Store tables.new.store) Always }
+    ensures looks { Looks result (state_of tables.old) (state_of tables.new)
+        (λ tables turns. turns.items ≡ line_turns tables.lines name.now (suc after)
+        (last - after)) }
+    ensures cause { FailsByStore result (state_of tables.old) (state_of tables.new) Always }
 {
     let mut turns = Vec::new(alloc);
     let mut period = after;
@@ -105,11 +104,10 @@ fn look_for_life<S: Store>(
     summary: &Summary,
     stored: &StoredRecord,
 ) -> Result<Vec<Turn>, StoreError>
-    ensures looks { Looks result (state S.Store tables.old.store) (state S.Store tables.new.store)
-        (λ tables life. life.items
-        ≡ life_read (ruled_in summary.now.rulings) tables.lines (stored_entry stored.now)) }
-    ensures cause { FailsByStore result (state S.Store tables.old.store)
-        (state S.Store tables.new.store) Always }
+    ensures looks { Looks result (state_of tables.old) (state_of tables.new)
+        (λ tables life. life.items ≡ life_read (ruled_in summary.now.rulings) tables.lines
+        (stored_entry stored.now)) }
+    ensures cause { FailsByStore result (state_of tables.old) (state_of tables.new) Always }
 {
     let own = summary.rulings.period_of_day(&stored.priced.day);
     let last = summary.rulings.open_number();
@@ -125,10 +123,9 @@ fn chosen_among<S: Store>(
     alloc: Global,
     rows: &[StoredRecord],
 ) -> Result<Vec<StoredChoice>, StoreError>
-    ensures looks { Looks result (state S.Store tables.old.store) (state S.Store tables.new.store)
+    ensures looks { Looks result (state_of tables.old) (state_of tables.new)
         (λ tables found. map choice_entry found.items ≡ chosen_of rows.now tables) }
-    ensures cause { FailsByStore result (state S.Store tables.old.store)
-        (state S.Store tables.new.store) ChosenFit }
+    ensures cause { FailsByStore result (state_of tables.old) (state_of tables.new) ChosenFit }
 {
     let mut all = Vec::new(alloc);
     for stored in rows {
@@ -167,10 +164,9 @@ fn choices_among<S: Store>(
     alloc: Global,
     rows: &[StoredRecord],
 ) -> Result<Vec<NamedChoice>, StoreError>
-    ensures looks { Looks result (state S.Store tables.old.store) (state S.Store tables.new.store)
+    ensures looks { Looks result (state_of tables.old) (state_of tables.new)
         (λ tables choices. ListsKinChoices rows.now tables choices.items) }
-    ensures cause { FailsByStore result (state S.Store tables.old.store)
-        (state S.Store tables.new.store) ChosenFit }
+    ensures cause { FailsByStore result (state_of tables.old) (state_of tables.new) ChosenFit }
 {
     let found = chosen_among(tables, alloc, rows)?;
     let sorted = in_order(found)?;
@@ -190,12 +186,10 @@ fn look_for_kin<S: Store>(
     alloc: Global,
     identity: &[u8],
 ) -> Result<Kin, StoreError>
-    ensures looks { Looks result (state S.Store tables.old.store) (state S.Store tables.new.store)
-        (IsKin identity.now) }
+    ensures looks { Looks result (state_of tables.old) (state_of tables.new) (IsKin identity.now) }
     ensures shown { IfOk result (λ kin.
         All (λ member. IsDay member.priced.day) kin.members.items) }
-    ensures cause { FailsByStore result (state S.Store tables.old.store)
-        (state S.Store tables.new.store) CanBeTraced }
+    ensures cause { FailsByStore result (state_of tables.old) (state_of tables.new) CanBeTraced }
 {
     let rows = tables.list_sharing(alloc, identity)?;
     if !can_show(&rows) {
@@ -215,12 +209,11 @@ pub(crate) fn try_trail_of<S: Store>(
     name: &[u8; 32],
 ) -> Result<Result<Trail, LedgerFault>, StoreError>
     ensures tries { (naming : Naming) → AttemptsOne trail_shown naming summary.now summary.now
-        (state S.Store tables.old.store) (state S.Store tables.new.store)
-        (trail_outcome naming name.now) result }
+        (state_of tables.old) (state_of tables.new) (trail_outcome naming name.now) result }
     ensures shown { IfOk result (λ answer. IfOk answer (λ trail. IsTrail (trail_shown trail))) }
     ensures own { (naming : Naming) → HasWideNames naming
-        → TriesBut IsNoRecord naming summary.now (state S.Store tables.old.store)
-        (state S.Store tables.new.store) result }
+        → TriesBut IsNoRecord naming summary.now (state_of tables.old) (state_of tables.new)
+        result }
 {
     let Some(stored) = tables.find_record(alloc, name)? else {
         return Ok(Err(LedgerFault::NoSuchRecord));

@@ -67,8 +67,8 @@ pub mod ListOrder
 pub mod Finding
 pub mod SetReading
 pub mod CallsLemmas
-pub mod ChainLemmas
 pub mod CloseOrder
+pub mod ReadableStays
 pub mod ReadableLemmas
 pub mod RulingsReading
 pub mod RecordReading

@@ -1,6 +1,6 @@
 -- What each event does to the tables, by the rulings before it; and which answer makes it an event.
 use Rattle.std.specs.Prelude.{◌≡◌, ℕ, ℤ, ◌+◌, List, length, Option, Some, None, Ok, sum_by}
-use Rattle.std.specs.FinMap.{get, keys, values}
+use Rattle.std.specs.FinMap.{get, values}
 use Rattle.std.specs.Option.{option_map_or}
 use Rattle.tariff_rules.specs.declared.priced.Priced.{Priced}
 use Rattle.book_model.specs.Words.{Book, Event, RecordKept, TariffAccepted, PeriodClosed}
@@ -13,10 +13,10 @@ use Rattle.book_model.specs.declared.answer.Ruled.TheVariants.{Done}
 use Rattle.book_core.specs.Effects.{effects_of, choice_effects}
 use Rattle.table_model.specs.Steps.{move_day_rows, post_rows, put_close_row, put_tariff_row}
 use Rattle.table_model.specs.Steps.{rename_rows, set_rule, set_sums}
-use Rattle.table_model.specs.TableChanges.{amount_under, charge_due_step, put_choice, put_new}
-use Rattle.table_model.specs.TableChanges.{reprice_step, walk}
+use Rattle.table_model.specs.TableChanges.{amount_under, charge_each_due, put_choice, put_new}
+use Rattle.table_model.specs.TableChanges.{reprice_each}
 use Rattle.table_model.specs.Tables.{RecordRow, Tables}
-use Rattle.table_model.specs.Views.{current_in, is_due_in, member_at, view_in}
+use Rattle.table_model.specs.Views.{current_in, member_at, view_in}
 
 -- The tables with a record that is kept under a name at a price: its row, counted in the row of the
 -- book, and its effects, by what the tables have of its identity.
@@ -30,8 +30,7 @@ kept_at ruled name bytes priced tables =
 abbrev pub tariff_at : ℕ → Option (List ℕ) → Terms → ℕ → Tables → Tables
 tariff_at period text terms amount tables =
     set_sums tables.book.held amount
-    (put_tariff_row terms.effective text
-    (walk (reprice_step period terms) (keys tables.records) tables))
+    (put_tariff_row terms.effective text (reprice_each period terms tables))
 
 -- The tables after a period is closed through a day: that day is stored, what is charged by then is
 -- posted, and later charge rows move on to the next period.
@@ -51,9 +50,7 @@ chosen_at ruled name row tables =
 -- due is charged, in a walk by name; then the row of the book has the rule.
 abbrev pub adopted_at : ℕ → Option ℤ → Tables → Tables
 adopted_at period last tables =
-    let named : Tables = rename_rows tables in
-    set_rule second_rule period
-    (walk (charge_due_step period last (is_due_in named)) (keys named.records) named)
+    set_rule second_rule period (charge_each_due period last (rename_rows tables))
 
 -- The tables after an event, by the rulings before it. A record is kept at the price that the
 -- rulings give it; what all records cost under a tariff is read from their rows; and a choice is of

@@ -2,7 +2,7 @@
 -- choice, with theirs; and what a tariff and an adoption do to the records, one after another.
 use Rattle.std.specs.Prelude.{ℕ, ℤ, ◌+◌, int_lt, Bool, true, false, not, ◌&&◌, if◌then◌else◌, List}
 use Rattle.std.specs.Prelude.{[], ◌∷◌, Option}
-use Rattle.std.specs.FinMap.{get, insert}
+use Rattle.std.specs.FinMap.{get, insert, keys}
 use Rattle.std.specs.Option.{option_map_or}
 use Rattle.book_model.specs.Words.{data_of, record_with, price_by, Terms, Rulings, identity_by}
 use Rattle.book_model.specs.Words.{open_by}
@@ -15,7 +15,7 @@ use Rattle.table_model.specs.RowChanges.{take_price, uncounted_by}
 use Rattle.table_model.specs.Steps.{count_where_row, put_choice_row, put_record_row, set_mark_row}
 use Rattle.table_model.specs.Steps.{set_sums}
 use Rattle.table_model.specs.Tables.{RecordRow, Tables}
-use Rattle.table_model.specs.Views.{member_at}
+use Rattle.table_model.specs.Views.{is_due_in, member_at}
 
 -- the tables with the effects of a record in the open period
 abbrev pub apply : ℕ → Effects → Tables → Tables
@@ -87,6 +87,10 @@ reprice_step period terms name tables =
     else reprice period name row (price_by terms (record_with row.data_bytes)) tables)
     (get tables.records name) tables
 
+-- a tariff's walk over the records, by name
+abbrev pub reprice_each : ℕ → Terms → Tables → Tables
+reprice_each period terms tables = walk (reprice_step period terms) (keys tables.records) tables
+
 -- a step of an adoption's walk: a record that is not charged becomes charged if it is due
 abbrev pub charge_due_step : ℕ → Option ℤ → (List ℕ → Bool) → List ℕ → Tables → Tables
 charge_due_step period last is_due name tables =
@@ -95,3 +99,8 @@ charge_due_step period last is_due name tables =
     then charge_in period name (charge_held last (member_at (name, row))) tables
     else tables)
     (get tables.records name) tables
+
+-- an adoption's walk over the records, by name: which of them are due is told by the tables before it
+abbrev pub charge_each_due : ℕ → Option ℤ → Tables → Tables
+charge_each_due period last tables =
+    walk (charge_due_step period last (is_due_in tables)) (keys tables.records) tables

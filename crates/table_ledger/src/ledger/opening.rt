@@ -10,30 +10,24 @@ use tree_tables::TreeTables;
 impl<S: Store, N: Naming + Drop> TableLedger<S, N> {
     ghost use Rattle.std.specs.Prelude.{◌≡◌, true, IfErr, IfOk};
     ghost use Rattle.sqlite_trees.specs.View.{IsClean};
-    ghost use Rattle.book_model.specs.Words.{Book};
-    ghost use Rattle.book_core.specs.Ledgers.{IsOpenAt};
     ghost use Rattle.table_model.specs.Tables.{Tables};
-    ghost use Rattle.table_model.specs.TablesOf.{tables_of};
-    ghost use Rattle.table_model.specs.Readable.{IsReadable};
     ghost use Rattle.tree_rows.specs.Rows.{IsUnchanged};
     ghost use Rattle.tree_tables.specs.Holds.{HasShapes, Holds, has_book};
-    ghost use Rattle.tree_tables.specs.States.{HasCleanDisk, Survives, state};
-    ghost use Rattle.table_ledger.specs.Commits.{Stores};
-    ghost use Rattle.table_ledger.specs.Loaded.{HasTexts, IsOpenCause, IsOpenFault, IsToldBy};
+    ghost use Rattle.tree_tables.specs.States.{HasCleanDisk, Survives, state, state_of};
+    ghost use Rattle.table_ledger.specs.Loaded.{IsOpenFault, IsToldBy, OpensStored};
+    ghost use Rattle.table_ledger.specs.Loaded.{RefusesForCause};
 
     /// The books that a store holds: those that calls made, and any others that can be read back.
     pub fn open(alloc: Global, store: S, naming: N) -> Result<TableLedger<S, N>, (LedgerFault, S)>
         requires { IsClean (S.Store.view store) → HasShapes (S.Store.view store) }
-        ensures books { IfOk result (λ ledger. HasCleanDisk (state S.Store ledger.tables.store)
-            → (book : Book) → IsReadable (N.name_of naming) book
-            → Stores (S.Store.view store) (tables_of (N.name_of naming) book)
-            → IsOpenAt (N.name_of naming) book (⟦<TableLedger<S, N> as Ledger>⟧.seen ledger)) }
+        ensures books { IfOk result (λ ledger. OpensStored (N.name_of naming) (S.Store.view store)
+            (state_of ledger.tables) (⟦<TableLedger<S, N> as Ledger>⟧.seen ledger)) }
 
         // Nothing is written.
-        ensures same { IfOk result (λ ledger. HasCleanDisk (state S.Store ledger.tables.store)
-            → IsUnchanged (S.Store.view store) (S.Store.view ledger.tables.store)) }
+        ensures same { IfOk result (λ ledger. HasCleanDisk (state_of ledger.tables)
+            → IsUnchanged (S.Store.view store) (state_of ledger.tables).view) }
         ensures crash { IfOk result (λ ledger. Survives (state S.Store store)
-            (state S.Store ledger.tables.store) (λ trees. ⊥)) }
+            (state_of ledger.tables) (λ trees. ⊥)) }
         ensures crash_refused { IfErr result (λ refused. Survives (state S.Store store)
             (state S.Store refused.1) (λ trees. ⊥)) }
 
@@ -44,17 +38,15 @@ impl<S: Store, N: Naming + Drop> TableLedger<S, N> {
         ensures refused { IfErr result (λ refused. IsOpenFault refused.0) }
 
         // There are books exactly where their row is there.
-        ensures there { IfOk result (λ ledger. HasCleanDisk (state S.Store ledger.tables.store)
+        ensures there { IfOk result (λ ledger. HasCleanDisk (state_of ledger.tables)
             → has_book (S.Store.view store).trees ≡ true) }
         ensures told { IfErr result (λ refused. HasCleanDisk (state S.Store refused.1)
             → IsToldBy (has_book (S.Store.view store).trees) (state S.Store store)
             (state S.Store refused.1) refused.0) }
 
         // A book that can be read back is read, unless memory runs out or the disk fails.
-        ensures own { IfErr result (λ refused. HasCleanDisk (state S.Store refused.1)
-            → (book : Book) → IsReadable (N.name_of naming) book → HasTexts book
-            → Stores (S.Store.view store) (tables_of (N.name_of naming) book)
-            → IsOpenCause (state S.Store store) (state S.Store refused.1) refused.0) }
+        ensures own { IfErr result (λ refused. RefusesForCause (N.name_of naming)
+            (state S.Store store) (state S.Store refused.1) refused.0) }
         ensures shaped { IfErr result (λ refused. IsClean (S.Store.view refused.1)
             → HasShapes (S.Store.view refused.1)) }
     {

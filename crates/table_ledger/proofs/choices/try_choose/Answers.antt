@@ -3,11 +3,10 @@ use Rattle.std.specs.Prelude.{nat_le, ◌==◌}
 use Rattle.book_model.specs.Words.{most_choices, record_named}
 use Rattle.table_ledger.proofs.AcceptTries.{saw_as}
 use Rattle.table_ledger.proofs.Answering.{opens, ruled_other}
-use Rattle.table_ledger.proofs.ChoiceTries.{again_none, choice_plain, choose_is_event, choose_none}
+use Rattle.table_ledger.proofs.ChoiceTries.{again_none, choice_plain, choose_none, choose_staged}
 use Rattle.table_ledger.proofs.ChoiceTries.{choose_told, saw_shared}
 use Rattle.table_ledger.proofs.CommitLemmas.{committed, uncommitted}
-use Rattle.table_ledger.proofs.StageLemmas.{stage_steps}
-use Rattle.table_ledger.proofs.TryLemmas.{saw_found, saw_none, saw_then, try_refused}
+use Rattle.table_ledger.proofs.TryLemmas.{saw_found, saw_none, try_refused}
 use Rattle.table_ledger.proofs.choices.try_choose.Goals as goal
 
 -- the record was not looked for
@@ -70,21 +69,14 @@ pub returns-in_err-commit_written : goal.returns-in_err-commit_written
 returns-in_err-commit_written g c = record {
   tries =
       λ naming.
-      let name = c.args.name in
-      let stored = c.in-Some.stored in
       let tests = sym c.choice_answer-answer.ensures.answer
       ∙ c.is_done.ensures.done c.if-not-is_done.false in
       uncommitted g.S.Store _ _ c.from_residual-in_err-commit_written.ensures.0
-      (stage_steps _
-      (saw_then
-      (saw_shared name stored c.in-Some.is c.deref.ensures.value c.in_ok-stored.ensures.looks
-      c.in_ok-sharing.ensures.looks)
-      (saw_found c.in_ok-effects.ensures.looks))
-      c.write_choice-written.ensures
-      (λ book at known. choose_is_event naming c.args.summary.now name _ book at stored known.0.0
-      c.in_ok-sharing.sharing.items (c.len.ensures ∙ c.in_ok-sharing.sharing.ok.0) known.0.1 tests
-      c.open_number.result c.last_close.result c.in_ok-effects.effects
-      c.open_number.ensures.number c.last_close.ensures known.1))
+      (choose_staged naming c.args.summary.now c.args.name c.in-Some.stored c.open_number.result
+      c.last_close.result c.in-Some.is c.deref.ensures.value c.in_ok-stored.ensures.looks
+      c.in_ok-sharing.ensures.looks c.in_ok-effects.ensures.looks c.write_choice-written.ensures
+      (c.len.ensures ∙ c.in_ok-sharing.sharing.ok.0) tests c.open_number.ensures.number
+      c.last_close.ensures)
       c.in_err-commit_written.ensures (λ book same. same);
 }
 
@@ -93,21 +85,14 @@ pub returns : goal.returns
 returns g c = record {
   tries =
       λ naming.
-      let name = c.args.name in
-      let stored = c.in-Some.stored in
       let tests = sym c.choice_answer-answer.ensures.answer
       ∙ c.is_done.ensures.done c.if-not-is_done.false in
       committed g.S.Store
-      (stage_steps _
-      (saw_then
-      (saw_shared name stored c.in-Some.is c.deref.ensures.value c.in_ok-stored.ensures.looks
-      c.in_ok-sharing.ensures.looks)
-      (saw_found c.in_ok-effects.ensures.looks))
-      c.write_choice-written.ensures
-      (λ book at known. choose_is_event naming c.args.summary.now name _ book at stored known.0.0
-      c.in_ok-sharing.sharing.items (c.len.ensures ∙ c.in_ok-sharing.sharing.ok.0) known.0.1 tests
-      c.open_number.result c.last_close.result c.in_ok-effects.effects
-      c.open_number.ensures.number c.last_close.ensures known.1))
+      (choose_staged naming c.args.summary.now c.args.name c.in-Some.stored c.open_number.result
+      c.last_close.result c.in-Some.is c.deref.ensures.value c.in_ok-stored.ensures.looks
+      c.in_ok-sharing.ensures.looks c.in_ok-effects.ensures.looks c.write_choice-written.ensures
+      (c.len.ensures ∙ c.in_ok-sharing.sharing.ok.0) tests c.open_number.ensures.number
+      c.last_close.ensures)
       c.in_ok-commit_written.ensures
       (record { rulings = refl; choices = refl; held = refl; total = refl });
 }

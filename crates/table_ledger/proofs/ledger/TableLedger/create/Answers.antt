@@ -12,11 +12,11 @@ returns-in-Ok-clause-books g c = λ clean rest none.
     let given = sym c.over-tables.ensures in
     created (g.N.Naming.name_of c.args.naming) (state g.S.Store c.make_books.new.tables.store) _
     (λ (trees : Trees). g.met.S.Store.settled c.make_books.new.tables.store trees) clean
-    (c.in-Ok.ensures.made clean (subst (λ store. IsAtRest (g.S.Store.view store)) given rest)
+    (c.in-Ok.ensures.makes.made clean (subst (λ store. IsAtRest (g.S.Store.view store)) given rest)
     (subst (λ store. HasNoRows (g.S.Store.view store).trees) given none))
     c.new.ensures refl refl refl
 
 pub returns-in-Ok-clause-absent : goal.returns-in-Ok-clause-absent
 returns-in-Ok-clause-absent g c = λ clean.
     subst (λ store. has_book (g.S.Store.view store).trees ≡ false) c.over-tables.ensures
-    (c.in-Ok.ensures.absent clean)
+    (c.in-Ok.ensures.makes.absent clean)

@@ -29,9 +29,9 @@ pub returns-in-Err-clause-own : goal.returns-in-Err-clause-own
 returns-in-Err-clause-own g c = λ clean book whole texts keeping.
     let names = g.N.Naming.name_of c.args.naming in
     let fault = c.in-Err.fault in
-    let own = c.in-Err.ensures.own
-    (subst (λ store. HasCleanDisk (state g.S.Store store)) c.into_store.ensures.same clean) names
-    book whole texts
+    let own = c.in-Err.ensures.own names
+    (subst (λ store. HasCleanDisk (state g.S.Store store)) c.into_store.ensures.same clean) book
+    whole texts
     (subst (λ store. Stores (g.S.Store.view store) (tables_of names book))
     (sym c.over-tables.ensures) keeping) in
     subst (λ store. IsOpenCause (state g.S.Store store) (state g.S.Store c.into_store.result) fault)

@@ -4,7 +4,7 @@ use Rattle.table_ledger.proofs.ledger.TableLedgerLedger.accept.Goals as goal
 
 pub returns-then-self : goal.returns-then-self
 returns-then-self g c =
-    call_reopen (ledger_state g.S.Store g.N.Naming.name_of c.args.self.now) c.if-self.true
+    call_reopen (ledger_state g.N.Naming.name_of c.args.self.now) c.if-self.true
 
 pub returns : goal.returns
 returns g c =

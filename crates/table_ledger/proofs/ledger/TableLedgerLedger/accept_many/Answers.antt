@@ -13,12 +13,12 @@ use Rattle.table_ledger.proofs.ledger.TableLedgerLedger.accept_many.Goals as goa
 
 pub returns-then-self-clause-takes : goal.returns-then-self-clause-takes
 returns-then-self-clause-takes g c =
-    many_reopen (ledger_state g.S.Store g.N.Naming.name_of c.args.self.now)
+    many_reopen (ledger_state g.N.Naming.name_of c.args.self.now)
     (g.N.Naming.name_of c.args.self.now.naming) (records_in c.args.records.now) c.if-self.true
 
 pub returns-then-self-clause-few : goal.returns-then-self-clause-few
 returns-then-self-clause-few g c =
-    many_reopen (ledger_state g.S.Store g.N.Naming.name_of c.args.self.now)
+    many_reopen (ledger_state g.N.Naming.name_of c.args.self.now)
     (g.N.Naming.name_of c.args.self.now.naming)
     (records_in (take most_in_commit c.args.records.now)) c.if-self.true
 

@@ -6,7 +6,7 @@ use Rattle.table_ledger.proofs.ledger.TableLedgerLedger.adjustments.Goals as goa
 
 pub returns-then-self-clause-lines : goal.returns-then-self-clause-lines
 returns-then-self-clause-lines g c =
-    call_reopen (ledger_state g.S.Store g.N.Naming.name_of c.args.self.now) c.if-self.true
+    call_reopen (ledger_state g.N.Naming.name_of c.args.self.now) c.if-self.true
 
 pub returns-clause-lines : goal.returns-clause-lines
 returns-clause-lines g c =

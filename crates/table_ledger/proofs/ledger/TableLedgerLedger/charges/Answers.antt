@@ -6,7 +6,7 @@ use Rattle.table_ledger.proofs.ledger.TableLedgerLedger.charges.Goals as goal
 
 pub returns-then-self-clause-rows : goal.returns-then-self-clause-rows
 returns-then-self-clause-rows g c =
-    call_reopen (ledger_state g.S.Store g.N.Naming.name_of c.args.self.now) c.if-self.true
+    call_reopen (ledger_state g.N.Naming.name_of c.args.self.now) c.if-self.true
 
 pub returns-clause-rows : goal.returns-clause-rows
 returns-clause-rows g c =

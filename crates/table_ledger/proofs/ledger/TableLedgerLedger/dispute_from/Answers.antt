@@ -6,7 +6,7 @@ use Rattle.table_ledger.proofs.ledger.TableLedgerLedger.dispute_from.Goals as go
 
 pub returns-then-self-clause-dispute : goal.returns-then-self-clause-dispute
 returns-then-self-clause-dispute g c =
-    call_reopen (ledger_state g.S.Store g.N.Naming.name_of c.args.self.now) c.if-self.true
+    call_reopen (ledger_state g.N.Naming.name_of c.args.self.now) c.if-self.true
 
 pub returns-clause-dispute : goal.returns-clause-dispute
 returns-clause-dispute g c =

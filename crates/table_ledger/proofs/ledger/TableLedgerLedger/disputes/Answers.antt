@@ -6,7 +6,7 @@ use Rattle.table_ledger.proofs.ledger.TableLedgerLedger.disputes.Goals as goal
 
 pub returns-then-self-clause-disputes : goal.returns-then-self-clause-disputes
 returns-then-self-clause-disputes g c =
-    call_reopen (ledger_state g.S.Store g.N.Naming.name_of c.args.self.now) c.if-self.true
+    call_reopen (ledger_state g.N.Naming.name_of c.args.self.now) c.if-self.true
 
 pub returns-clause-disputes : goal.returns-clause-disputes
 returns-clause-disputes g c =

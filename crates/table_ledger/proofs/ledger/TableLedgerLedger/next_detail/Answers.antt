@@ -6,7 +6,7 @@ use Rattle.table_ledger.proofs.ledger.TableLedgerLedger.next_detail.Goals as goa
 
 pub returns-then-self-clause-detail : goal.returns-then-self-clause-detail
 returns-then-self-clause-detail g c =
-    call_reopen (ledger_state g.S.Store g.N.Naming.name_of c.args.self.now) c.if-self.true
+    call_reopen (ledger_state g.N.Naming.name_of c.args.self.now) c.if-self.true
 
 pub returns-clause-detail : goal.returns-clause-detail
 returns-clause-detail g c =

@@ -6,7 +6,7 @@ use Rattle.table_ledger.proofs.ledger.TableLedgerLedger.periods.Goals as goal
 
 pub returns-then-self-clause-days : goal.returns-then-self-clause-days
 returns-then-self-clause-days g c =
-    call_reopen (ledger_state g.S.Store g.N.Naming.name_of c.args.self.now) c.if-self.true
+    call_reopen (ledger_state g.N.Naming.name_of c.args.self.now) c.if-self.true
 
 pub returns-clause-days : goal.returns-clause-days
 returns-clause-days g c =

@@ -6,7 +6,7 @@ use Rattle.table_ledger.proofs.ledger.TableLedgerLedger.ruling.Goals as goal
 
 pub returns-then-self-clause-ruling : goal.returns-then-self-clause-ruling
 returns-then-self-clause-ruling g c =
-    call_reopen (ledger_state g.S.Store g.N.Naming.name_of c.args.self.now) c.if-self.true
+    call_reopen (ledger_state g.N.Naming.name_of c.args.self.now) c.if-self.true
 
 pub returns-clause-ruling : goal.returns-clause-ruling
 returns-clause-ruling g c =

@@ -6,7 +6,7 @@ use Rattle.table_ledger.proofs.ledger.TableLedgerLedger.trail_of.Goals as goal
 
 pub returns-then-self-clause-trail : goal.returns-then-self-clause-trail
 returns-then-self-clause-trail g c =
-    call_reopen (ledger_state g.S.Store g.N.Naming.name_of c.args.self.now) c.if-self.true
+    call_reopen (ledger_state g.N.Naming.name_of c.args.self.now) c.if-self.true
 
 pub returns-clause-trail : goal.returns-clause-trail
 returns-clause-trail g c =

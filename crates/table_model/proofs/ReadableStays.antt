@@ -1,4 +1,4 @@
--- Each call that is an event leaves a book that can be read back so.
+-- Each call that is an event leaves a book that can be read back.
 use Rattle.std.proofs.Common.{◌≡◌, ◌∙◌, ◌++◌, ◌+◌, ◌∷◌, [], ℕ, zero, suc, List, length, refl, sym}
 use Rattle.std.proofs.Common.{ap, subst, true, false, Bool, ◌||◌, Option, Some, None, Ok, Err, arith}
 use Rattle.std.specs.Prelude.{◌≤◌, ◌<◌, ◌==◌, nat_le, nat_lt, if◌then◌else◌, All, unwrap_or, ℤ}
