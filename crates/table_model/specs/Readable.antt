@@ -3,6 +3,7 @@ use Rattle.std.specs.Prelude.{◌≡◌, ℕ, zero, suc, ◌≤◌, ◌<◌, tru
 use Rattle.std.specs.Prelude.{All, Some, Ok, ℤ}
 use Rattle.std.specs.List.Sorted.{IsStrictlySortedBy}
 use Rattle.std.specs.Ordering.{int_cmp}
+use Rattle.std.specs.Str.{IsUtf8}
 use Rattle.book_model.specs.Words.{IsDay, IsPriced, terms_in, total_of, Book, most_held, most_cost}
 use Rattle.book_model.specs.Words.{last_period, Period, period_by, Records, Naming, IsUsageRecord}
 use Rattle.book_model.specs.Words.{AcceptedTerms, price_in, are_rising, members, has, IsSound}
@@ -17,6 +18,14 @@ pub record IsTexted (tariff : AcceptedTerms) : Type 0 where
   pub is : tariff.text ≡ Some text
   pub said : terms_in text ≡ Ok tariff.terms
   pub day : IsDay tariff.terms.effective
+
+-- the text of a tariff, if it came with one, consists of characters
+abbrev pub IsOfCharacters : AcceptedTerms → Type 0
+IsOfCharacters tariff = (text : List ℕ) → tariff.text ≡ Some text → IsUtf8 text
+
+-- so do the texts of all tariffs, like any text that is given to a call
+abbrev pub HasTexts : Book → Type 0
+HasTexts book = All IsOfCharacters book.rulings.tariffs
 
 -- this many periods, each made of what was charged before it and at its end
 abbrev pub chained : ℕ → List ℤ → (ℕ → Records) → List Period
