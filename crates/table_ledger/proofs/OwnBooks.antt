@@ -1,10 +1,9 @@
 -- Books that can be read back are read: their rows fit, and what fails has a cause in the store.
-use Rattle.std.proofs.Common.{◌≡◌, ◌∙◌, ◌+◌, ◌≤◌, ◌<◌, ◌^◌, ℕ, ℤ, suc, List, [], ◌∷◌, Option, Some}
+use Rattle.std.proofs.Common.{◌≡◌, ◌∙◌, ◌+◌, ◌≤◌, ◌<◌, ◌^◌, ℕ, ℤ, suc, List, [], ◌∷◌}
 use Rattle.std.proofs.Common.{Result, Ok, Err, IsTrue, ap, arith, false, inl, inr, length, map, pos}
 use Rattle.std.proofs.Common.{refl, rules, subst, sym, true, true≢false}
 use Rattle.std.specs.Prelude.{◌⊎◌, All, IsErrAnd, int_lt, ◌≤ℤ◌, ◌+ℤ◌}
 use Rattle.std.specs.List.{AllByRecursion, list_all}
-use Rattle.std.specs.Str.{IsUtf8}
 use Rattle.std.proofs.lemmas.Int.{ints}
 use Rattle.std.proofs.lemmas.List.Elements.{All-head, All-tail}
 use Rattle.sqlite_disk.specs.Disk.{MoreFaults}
@@ -13,24 +12,24 @@ use Rattle.sqlite_trees.specs.Tree.{Trees}
 use Rattle.sqlite_trees.specs.declared.error.StoreError.{StoreError}
 use Rattle.sqlite_trees.specs.declared.error.StoreError.TheVariants.{Broken, Corrupt, Full, Io}
 use Rattle.sqlite_trees.specs.declared.error.StoreError.TheVariants.{OutOfMemory, Unstorable}
-use Rattle.book_model.specs.Words.{Book, IsDay, Naming, AcceptedTerms, are_rising, last_period}
+use Rattle.book_model.specs.Words.{Book, IsDay, Naming, AcceptedTerms, are_rising}
 use Rattle.book_model.proofs.RecordSets.{first_of, second_of}
 use Rattle.book_model.specs.declared.fault.LedgerFault.{LedgerFault}
 use Rattle.book_model.specs.declared.fault.LedgerFault.TheVariants.{Memory, Store}
 use Rattle.table_model.specs.Tables.{Tables}
 use Rattle.table_model.specs.TablesOf.{close_entries, tables_of, tariff_entries}
-use Rattle.table_model.specs.Readable.{IsReadable}
-use Rattle.table_model.specs.Readable.{IsTexted}
+use Rattle.table_model.specs.Readable.{HasTexts, IsReadable, IsTexted}
 use Rattle.table_model.proofs.RulingsReading.{tariffs_kept}
 use Rattle.table_model.proofs.UnderNumbers.{entries-numbers}
 use Rattle.tree_rows.proofs.Failing.{caused_after}
-use Rattle.tree_tables.specs.Columns.{closed_columns, tariff_columns, tariff_value}
-use Rattle.tree_tables.specs.Fits.{CloseFits, HasText, TariffFits}
+use Rattle.tree_tables.specs.Columns.{closed_columns, tariff_columns}
+use Rattle.tree_tables.specs.Fits.{CloseFits, TariffFits}
 use Rattle.tree_tables.specs.Holds.{Holds}
 use Rattle.tree_tables.specs.States.{State, HasCleanDisk, Survives}
 use Rattle.tree_tables.specs.Steps.{FailsByStore, IsCaused, Looks}
+use Rattle.tree_tables.proofs.RulingRows.{closes_fit, tariffs_fit}
 use Rattle.table_ledger.specs.Commits.{IsAtRest, Saw}
-use Rattle.table_ledger.specs.Loaded.{CanBeListed, HasTexts, IsOpenCause, IsLoaded, ReadsItsOwn}
+use Rattle.table_ledger.specs.Loaded.{CanBeListed, IsOpenCause, IsLoaded, ReadsItsOwn}
 use Rattle.table_ledger.specs.Ready.{IsReadyAt}
 use Rattle.table_ledger.specs.Attempts.{TriesBut}
 use Rattle.table_ledger.specs.declared.summary.Summary.{Summary}
@@ -79,41 +78,6 @@ own_failed {V = V} {naming = naming} {When = When} {Answers = Answers} Refuses (
     λ clean book ready. fails_after_look {A = Result V LedgerFault} {When = When} {Answers = Answers} (Err other) is saw looks
     cause clean (tables_of naming book) ready.kept.holds (when clean book ready)
 own_failed Refuses (Ok answer) is saw looks cause when = absurd is
-
--- a tariff's text that consists of characters
-text_fits : (found : Option (List ℕ)) (text : List ℕ) → found ≡ Some text → IsUtf8 text
-    → HasText (tariff_value found)
-text_fits found text is utf8 = (text, utf8, ap tariff_value is)
-
--- the rows of tariffs with texts fit
-tariffs_fit : (tariffs : List AcceptedTerms) → All IsTexted tariffs
-    → All (λ (tariff : AcceptedTerms). (text : List ℕ) → tariff.text ≡ Some text → IsUtf8 text) tariffs
-    → AllByRecursion TariffFits (map tariff_columns (tariff_entries tariffs))
-tariffs_fit [] texted texts = tt
-tariffs_fit (tariff ∷ tariffs) texted texts =
-    let Utf8 : AcceptedTerms → Type 0 =
-    λ tariff. (text : List ℕ) → tariff.text ≡ Some text → IsUtf8 text in
-    let one = All-head IsTexted tariff tariffs texted in (
-      record {
-        day = (tariff.terms.effective, one.day, refl);
-        text = text_fits tariff.text one.text one.is
-            (All-head Utf8 tariff tariffs texts one.text one.is);
-      },
-      tariffs_fit tariffs (All-tail IsTexted tariff tariffs texted)
-          (All-tail Utf8 tariff tariffs texts),
-    )
-
--- the rows of this many closes fit
-closes_fit : (number : ℕ) (days : List ℤ) → number + length days ≤ last_period → All IsDay days
-    → AllByRecursion CloseFits (map closed_columns (close_entries number days))
-closes_fit number [] few dated = tt
-closes_fit number (day ∷ days) few dated = (
-  record {
-    period = (number, omega (arith, few), refl);
-    through = (day, All-head IsDay day days dated, refl);
-  },
-  closes_fit (suc number) days (omega (arith, few)) (All-tail IsDay day days dated),
-)
 
 -- there are as many rows as closes
 closes_many : (number : ℕ) (days : List ℤ)

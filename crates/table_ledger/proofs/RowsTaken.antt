@@ -2,15 +2,12 @@
 use Rattle.std.proofs.Common.{◌≡◌, ◌∙◌, ℕ, ℤ, zero, suc, List, [], ◌∷◌, ap, arith, map, refl}
 use Rattle.std.proofs.Common.{subst, sym, None, Option, Some, slice_index_or, take, ◌<◌, ◌+◌, true}
 use Rattle.std.proofs.Common.{length, Bool, ◌&&◌}
-use Rattle.std.specs.Prelude.{All, int_lt, ◌<ℤ◌, ◌≤◌, if◌then◌else◌, is_some, unwrap_or}
+use Rattle.std.specs.Prelude.{All, int_lt, ◌≤◌, if◌then◌else◌, is_some, unwrap_or}
 use Rattle.std.specs.FinMap.{entries}
-use Rattle.std.specs.Cmp.{int_ranked}
-use Rattle.std.specs.List.{AllByRecursion, AllZip, last_or, list_all}
+use Rattle.std.specs.List.{AllZip, last_or, list_all}
 use Rattle.std.specs.List.Sorted.{IsStrictlySortedBy}
 use Rattle.std.specs.Option.{option_map_or}
 use Rattle.std.specs.Ordering.{int_cmp}
-use Rattle.std.specs.declared.cmp.Ordering.TheVariants.{Less}
-use Rattle.std.proofs.lemmas.Int.{ints}
 use Rattle.std.proofs.lemmas.List.{get_or_default}
 use Rattle.std.proofs.lemmas.List.Elements.{All-head, All-tail}
 use Rattle.std.proofs.lemmas.Option.{same_Some}
@@ -23,6 +20,7 @@ use Rattle.table_model.specs.TablesOf.{close_entries, tables_of, tariff_entries}
 use Rattle.table_model.specs.BookIn.{tariff_read}
 use Rattle.table_model.specs.Readable.{IsReadable}
 use Rattle.table_model.specs.Readable.{IsTexted}
+use Rattle.table_model.proofs.CloseOrder.{Behind, late_first}
 use Rattle.table_model.proofs.RulingsReading.{one_read, tariffs_kept}
 use Rattle.table_model.proofs.UnderNumbers.{entries-numbers}
 use Rattle.tree_tables.specs.Answers.{last_number}
@@ -93,19 +91,6 @@ before_at (first ∷ rows) (suc at) (one ∷ so_far) (other ∷ tariffs) row tar
     let others = before_at rows at so_far tariffs row tariff said.1 tells.1
     (second_of all (are_rising tariffs) rising) rest is says in
     λ i. own i && others i
-
--- days that are later than one, if there is one
-abbrev Behind : Option ℤ → List ℤ → Type 0
-Behind None days = Unit {0}
-Behind (Some last) days = AllByRecursion (λ day. int_cmp last day ≡ Less) days
-
--- the first of them is
-late_first : (last : Option ℤ) (day : ℤ) (days : List ℤ) → Behind last (day ∷ days)
-    → option_map_or (λ last. int_lt last day) last true ≡ true
-late_first None day days behind = refl
-late_first (Some last) day days behind =
-    let less : last <ℤ day = int_ranked last day Less (sym behind.0) in
-    grind (arith, ints)
 
 -- a row of closes is that of the next close after those before it,
 next_from : (number at : ℕ) (last : Option ℤ) (rows : List Close) (so_far days : List ℤ)

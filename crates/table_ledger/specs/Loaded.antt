@@ -6,7 +6,6 @@ use Rattle.std.specs.List.Sorted.{IsStrictlySortedBy}
 use Rattle.std.specs.Option.{option_map_or}
 use Rattle.std.specs.Ordering.{int_cmp}
 use Rattle.std.specs.FinMap.{entries}
-use Rattle.std.specs.Str.{IsUtf8}
 use Rattle.sqlite_disk.specs.Disk.{MoreFaults}
 use Rattle.sqlite_trees.specs.View.{View}
 use Rattle.tree_tables.specs.States.{State, HasCleanDisk, Survives}
@@ -18,7 +17,7 @@ use Rattle.book_core.specs.Ledgers.{IsOpenAt, Seen}
 use Rattle.table_model.specs.Tables.{Tables, first_rule, never_adopted}
 use Rattle.table_model.specs.TablesOf.{close_entries, tables_of}
 use Rattle.table_model.specs.BookIn.{rulings_of_tables, tariff_read}
-use Rattle.table_model.specs.Readable.{IsReadable}
+use Rattle.table_model.specs.Readable.{HasTexts, IsReadable}
 use Rattle.tree_tables.specs.Answers.{last_number}
 use Rattle.tree_tables.specs.Columns.{closed_columns, tariff_columns}
 use Rattle.tree_tables.specs.Fits.{CloseFits, RowsFit, TariffFits}
@@ -124,12 +123,6 @@ pub record CanBeListed (tables : Tables) : Type 0 where
   pub tariffs : RowsFit TariffFits (map tariff_columns (entries tables.tariffs))
   pub closes : RowsFit CloseFits (map closed_columns (entries tables.closes))
   pub choices : last_number tables.choices < 2 ^ 32
-
--- the texts of the tariffs consist of characters, like any text that is given to a call
-abbrev pub HasTexts : Book → Type 0
-HasTexts book =
-    All (λ (tariff : AcceptedTerms). (text : List ℕ) → tariff.text ≡ Some text → IsUtf8 text)
-    book.rulings.tariffs
 
 -- why books are not opened: memory ran out, or the disk failed or refused meanwhile
 abbrev pub IsOpenCause : State → State → LedgerFault → Type 0
