@@ -1,6 +1,6 @@
 use Rattle.std.proofs.Common.{◌∙◌, sym, true≢false}
 use Rattle.table_ledger.specs.LedgerState.{ledger_state}
-use Rattle.table_ledger.proofs.FinishedLists.{own_settled}
+use Rattle.table_ledger.proofs.FinishedLists.{answer_said, own_settled}
 use Rattle.table_ledger.proofs.OneCall.{call_reopen, call_settled}
 use Rattle.table_ledger.proofs.ledger.TableLedgerLedger.charges.Goals as goal
 
@@ -24,3 +24,6 @@ returns-clause-own g c =
     own_settled _ g.S.Store c.args.self.now.tables.store c.finish.ensures.settles
     (c.try_charges-tried.ensures.tries _) (c.try_charges-tried.ensures.own _)
     c.finish.ensures.served c.finish.ensures.mended
+
+pub returns-clause-shown : goal.returns-clause-shown
+returns-clause-shown g c = answer_said c.finish.ensures.settles c.try_charges-tried.ensures.shown

@@ -1,6 +1,6 @@
 use Rattle.std.proofs.Common.{◌∙◌, sym, true≢false}
 use Rattle.table_ledger.specs.LedgerState.{ledger_state}
-use Rattle.table_ledger.proofs.FinishedLists.{own_settled}
+use Rattle.table_ledger.proofs.FinishedLists.{answer_said, own_settled}
 use Rattle.table_ledger.proofs.OneCall.{call_reopen, call_settled}
 use Rattle.table_ledger.proofs.ledger.TableLedgerLedger.trail_of.Goals as goal
 
@@ -25,3 +25,6 @@ returns-clause-own g c =
     (c.try_trail_of-tried.ensures.tries _)
     (c.try_trail_of-tried.ensures.own _ (g.met.N.Naming.wide c.args.self.now.naming))
     c.finish.ensures.served c.finish.ensures.mended
+
+pub returns-clause-shown : goal.returns-clause-shown
+returns-clause-shown g c = answer_said c.finish.ensures.settles c.try_trail_of-tried.ensures.shown
