@@ -4,6 +4,7 @@ use Rattle.std.proofs.Common.{◌≡◌, ℕ, zero, suc, ◌+◌, ◌-◌, ◌�
 use Rattle.std.proofs.Common.{ap, ◌∙◌, subst, true, false, true≢false, Bool, cond, not, ◌&&◌}
 use Rattle.std.proofs.Common.{Some, None, arith, map}
 use Rattle.std.specs.Prelude.{filter}
+use Rattle.std.specs.FinMap as fin
 use Rattle.std.specs.FinMap.{entries, from_entries, get, get-from_entries, insert}
 use Rattle.std.specs.List.{filter_map}
 use Rattle.std.specs.List.Sorted.{IsPermutation}
@@ -37,7 +38,7 @@ use Rattle.table_model.proofs.NumberedLemmas.{by_period_total}
 use Rattle.table_model.proofs.PeriodPlaces.{slice_get-map}
 use Rattle.table_model.proofs.PeriodReading.{find-at}
 use Rattle.table_model.proofs.RecordReading.{entry}
-use Rattle.table_model.proofs.RowsWhere.{AreMembers, first_entry, others_held, passing_held}
+use Rattle.table_model.proofs.RowsWhere.{AreMembers, first_entry, others_held}
 use Rattle.table_model.proofs.RowsWhere.{rows_where, those_among}
 
 -- what never holds is false
@@ -177,13 +178,12 @@ module _ (naming : Naming) (book : Book) (whole : IsReadable naming book) (bytes
       ∙ counted_from (length book.rulings.closes) 0 (omega arith) refl
 
 -- the table of some names, with nothing under them, is their set
-names_alone : (naming : Naming) (ks : List (List ℕ))
-    → from_entries {R = by_bytes}
-    (map {B = List ℕ × Unit {0}} (λ bytes. (name_of naming bytes, tt)) ks)
-    ≡ set_of by_bytes (map (name_of naming) ks)
-names_alone naming [] = refl
-names_alone naming (k ∷ ks) =
-    ap (λ (names : CountedTable). insert names (name_of naming k) tt) (names_alone naming ks)
+pub names_alone : {X : Type 0} (name : X → List ℕ) (xs : List X)
+    → from_entries {R = by_bytes} (map {B = List ℕ × Unit {0}} (λ x. (name x, tt)) xs)
+    ≡ set_of by_bytes (map name xs)
+names_alone name [] = refl
+names_alone name (x ∷ xs) =
+    ap (λ (names : CountedTable). insert names (name x) tt) (names_alone name xs)
 
 module _ (naming : Naming) (book : Book) (whole : IsReadable naming book) where
   abbrev tables : Tables
@@ -222,23 +222,32 @@ module _ (naming : Naming) (book : Book) (whole : IsReadable naming book) where
       ap (map (λ (row : NamedRow). row.0)) first.2
       ∙ ap (λ names. name_of naming k ∷ names) (own_names ks (others_held book.held k ks held))
 
-  -- so the names of the rows of which they do are those that are counted
+  -- so rows of the records that are counted have the names that are
+  pub names_counted : (rows : List NamedRow)
+      → IsPermutation rows
+      (filter_map (entry naming book whole.sound) (members (counted_of book)))
+      → set_of by_bytes (map (λ (row : NamedRow). row.0) rows) ≡ tables.counted
+  names_counted rows counted =
+      let ks : List (List ℕ) = members (counted_of book) in
+      let told : List (List ℕ) = map (λ (row : NamedRow). row.0) rows in
+      let names : List (List ℕ) = map (name_of naming) ks in
+      let same : IsPermutation told names =
+      subst (IsPermutation told)
+      (own_names ks (λ bytes among.
+      in_those (is_counted book) book.held bytes (fin.contains_key-keys (counted_of book) bytes ∙ among)))
+      (IsPermutation-map (λ (row : NamedRow). row.0) rows
+      (filter_map (entry naming book whole.sound) ks) counted) in
+      set_of-same nat_list_cmp_total exact_bytes told names
+      (λ q. list_any-IsPermutation (eq_by_cmp by_bytes q) told names same)
+      ∙ sym (names_alone (name_of naming) ks)
+
+  -- and so do the rows of which they tell it
   pub names_told : set_of by_bytes
       (map (λ (row : NamedRow). row.0) (filter is_told (entries tables.records)))
       ≡ tables.counted
   names_told =
       let rows : List NamedRow = filter is_told (entries tables.records) in
-      let made : List NamedRow =
-      filter_map (entry naming book whole.sound) (filter is_its (members book.held)) in
-      let told : List (List ℕ) = map (λ (row : NamedRow). row.0) rows in
-      let names : List (List ℕ) = map (name_of naming) (members (counted_of book)) in
-      let same : IsPermutation told names =
-      subst (IsPermutation told)
-      (own_names (filter is_its (members book.held)) (passing_held is_its book.held)
-      ∙ ap (map (name_of naming)) its_members)
-      (IsPermutation-map (λ (row : NamedRow). row.0) rows made
+      names_counted rows
+      (subst (λ ks. IsPermutation rows (filter_map (entry naming book whole.sound) ks)) its_members
       (rows_where naming book whole.sound (status_of book) whole.sound.priced is_told is_its
-      (λ bytes cost costs. refl))) in
-      set_of-same nat_list_cmp_total exact_bytes told names
-      (λ q. list_any-IsPermutation (eq_by_cmp by_bytes q) told names same)
-      ∙ sym (names_alone naming (members (counted_of book)))
+      (λ bytes cost costs. refl)))
