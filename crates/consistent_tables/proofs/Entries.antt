@@ -11,15 +11,7 @@ use Rattle.std.specs.declared.cmp.Ordering.{Ordering}
 use Rattle.std.specs.declared.cmp.Ordering.TheVariants.{Less, Equal, Greater}
 use Rattle.std.proofs.Math.Bool.{or-true}
 use Rattle.std.proofs.lemmas.Map.Views.{tells_apart}
-
--- where two tests hold, each does,
-pub one_holds : (a b : Bool) → T (a && b) → T a
-one_holds true b both = tt
-one_holds false b both = absurd both
-
-pub other_holds : (a b : Bool) → T (a && b) → T b
-other_holds true b both = both
-other_holds false b both = absurd both
+use Rattle.table_model.proofs.UnderNumbers.{one_holds, other_holds}
 
 pub nothing : {V : Type 0} (value : V) → ◌≡◌ {A = Option V} None (Some value) → ⊥
 nothing value is = cc

@@ -7,8 +7,6 @@ use Rattle.std.specs.FinMap.{entries_sorted}
 use Rattle.std.specs.FinMap.Entries.{below_all, is_sorted}
 use Rattle.std.specs.List.{list_all}
 use Rattle.std.specs.Ordering.{int_cmp, is_lt}
-use Rattle.std.specs.declared.cmp.Ordering.{Ordering}
-use Rattle.std.specs.declared.cmp.Ordering.TheVariants.{Less, Equal, Greater}
 use Rattle.std.proofs.lemmas.Int.{ints}
 use Rattle.std.proofs.lemmas.Option.{same_Some}
 use Rattle.book_model.specs.Words.{AcceptedTerms, Naming, are_rising, first_rule, second_rule}
@@ -17,14 +15,9 @@ use Rattle.table_model.specs.Readable.{IsBegun}
 use Rattle.table_model.specs.Tables.{BookRow, Tables, never_adopted}
 use Rattle.table_model.specs.TablesOf.{tariff_entries}
 use Rattle.table_model.proofs.CloseOrder.{earlier}
+use Rattle.table_model.proofs.UnderNumbers.{is_less, one_holds, other_holds}
 use Rattle.consistent_tables.specs.Consistent.{AreConsistent, ruled}
-use Rattle.consistent_tables.proofs.Entries.{nothing, one_holds, other_holds}
-
--- the test that an answer is less
-is_less : (r : Ordering) → T (is_lt r) → r ≡ Less
-is_less Less less = refl
-is_less Equal less = absurd less
-is_less Greater less = absurd less
+use Rattle.consistent_tables.proofs.Entries.{nothing}
 
 -- a day that is below those of tariffs is before them
 before_days : (day : ℤ) (tariffs : List AcceptedTerms)

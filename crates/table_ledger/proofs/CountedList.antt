@@ -25,6 +25,7 @@ use Rattle.table_model.specs.CountedRead.{charged_before_lines, first_line}
 use Rattle.table_model.specs.DisputesRead.{NamedRow}
 use Rattle.table_model.specs.Steps.{count_row}
 use Rattle.table_model.specs.Tables.{Tables}
+use Rattle.table_model.proofs.WalkLemmas.{or_turn}
 use Rattle.tree_tables.specs.Answers.{ListsCloses, ListsLines}
 use Rattle.tree_tables.specs.Columns.{record_columns}
 use Rattle.tree_tables.specs.Passes.{HasRecordsLeft, TakesFirst, TakesNext}
@@ -163,13 +164,6 @@ counted_on all i any tables within =
     ∙ fold-append (λ (so_far : Tables) (name : List ℕ). count_row name so_far) tables
     (names_of (take i all)) ((get_or all i any).name ∷ []))
 
--- three tests of which one holds, in another order
-or_swap : (a b c : Bool) → (a || (b || c)) ≡ ((b || a) || c)
-or_swap true true c = refl
-or_swap true false c = refl
-or_swap false true c = refl
-or_swap false false c = refl
-
 -- which names are counted then
 counted_has : (names : List (List ℕ)) (tables : Tables) (q : List ℕ)
     → has (count_each names tables).counted q ≡ (list_any (is q) names || has tables.counted q)
@@ -177,7 +171,7 @@ counted_has [] tables q = refl
 counted_has (name ∷ names) tables q =
     counted_has names (count_row name tables) q
     ∙ ap (λ b. list_any (is q) names || b) (has_with tables.counted name q)
-    ∙ or_swap (list_any (is q) names) (is q name) (has tables.counted q)
+    ∙ or_turn (list_any (is q) names) (is q name) (has tables.counted q)
 
 -- nothing else is changed
 rest_stays : (names : List (List ℕ)) (tables : Tables)

@@ -43,7 +43,6 @@ mod RisingNames
 mod JoinLemmas
 mod DisputeTries
 mod DetailTries
-mod Underway
 mod PostedDetails
 mod DetailsRead
 mod OpenLemmas

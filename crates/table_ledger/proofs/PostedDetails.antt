@@ -42,7 +42,7 @@ use Rattle.table_ledger.specs.DetailReads.{seeks}
 use Rattle.table_ledger.specs.Posting.{Gathers, RestIsPosted, days_after, names_in}
 use Rattle.table_ledger.proofs.CountTestLemmas.{line_listed}
 use Rattle.table_ledger.proofs.DetailTries.{after_or_named, is_sought_by}
-use Rattle.table_ledger.proofs.Underway.{Shows}
+use Rattle.table_ledger.proofs.Walks.{Shows}
 
 -- ---- lines
 

@@ -13,6 +13,10 @@ use Rattle.tree_tables.proofs.Looking.{only_looks, survives_both, was_clean}
 use Rattle.table_ledger.proofs.SurvivalLemmas.{survives_none}
 use Rattle.table_ledger.proofs.UnchangedStores.{trees_same}
 
+-- what is known of any tables that some trees hold
+abbrev pub Shows : Trees → (Tables → Type 0) → Type 0
+Shows trees Known = (now : Tables) → Holds trees now → Known now
+
 -- A walk has come so far: nothing is committed; and by the tables before the walk, where the premise
 -- holds of them, this is said of the trees as they are now.
 pub record WalksTo (When : Tables → Type 0) (Come : Tables → Trees → Type 0) (old new : State)
@@ -54,8 +58,8 @@ module _ {When : Tables → Type 0} {Come : Tables → Trees → Type 0} where
         {Next : Tables → Trees → Type 0}
         → Looks (Ok answer) mid seen Answers → Does (Ok done) seen new Before change
         → ((tables : Tables) → Come tables mid.view.trees
-        → ((now : Tables) → Holds mid.view.trees now
-        → Answers now answer × (Before now → Holds new.view.trees (change now)))
+        → Shows mid.view.trees (λ now.
+        Answers now answer × (Before now → Holds new.view.trees (change now)))
         → Next tables new.view.trees)
         → WalksTo When Next old new
     walks_on looks does goes = record {
@@ -78,9 +82,8 @@ module _ {When : Tables → Type 0} {Come : Tables → Trees → Type 0} where
     -- a look finds that there is no more to do
     pub walks_all : {A T : Type 0} {new : State} {Answers : Tables → A → Type 0} {answer : A}
         {change : Tables → Tables} {done : T} → Looks (Ok answer) mid new Answers
-        → ((tables : Tables) → Come tables mid.view.trees
-        → ((now : Tables) → Holds mid.view.trees now → Answers now answer)
-        → Holds mid.view.trees (change tables))
+        → ((tables : Tables) → When tables → Come tables mid.view.trees
+        → Shows mid.view.trees (λ now. Answers now answer) → Holds mid.view.trees (change tables))
         → Does (Ok done) old new When change
     walks_all looks ends = record {
       survives = survives_both walks.survives looks.survives;
@@ -91,7 +94,7 @@ module _ {When : Tables → Type 0} {Come : Tables → Trees → Type 0} where
             only = only_both old.view (walks.only before) (only_looks mid.view look.same);
             made = λ tables holds when.
                 held_after_look mid.view look.same
-                (ends tables (walks.come before tables holds when) look.known);
+                (ends tables when (walks.come before tables holds when) look.known);
           };
       refused = λ clean. tt;
     }

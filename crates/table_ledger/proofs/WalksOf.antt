@@ -70,5 +70,5 @@ module _ {When : Tables → Type 0} {Still : Tables → Tables → Type 0}
         → Looks (Ok None) mid new (FindsNext last)
         → Does (Ok done) old new When (λ tables. walk (step tables) (keys tables.records) tables)
     of_all looks =
-        walks_all walks looks (λ tables walked seen.
+        walks_all walks looks (λ tables when walked seen.
         walking_ends last walked.so_far (seen walked.so_far.now walked.so_far.holds))

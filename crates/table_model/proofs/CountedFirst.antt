@@ -10,6 +10,7 @@ use Rattle.std.specs.List.{filter_map}
 use Rattle.std.specs.List.Sorted.{IsPermutation}
 use Rattle.std.specs.Option.{option_map_or, option_or}
 use Rattle.std.specs.Ordering.{eq_by_cmp}
+use Rattle.std.proofs.lemmas.Bool.{false_from_ne_true}
 use Rattle.std.proofs.lemmas.Cmp.{nat_list_cmp_total}
 use Rattle.std.proofs.lemmas.List.Sorted.{IsPermutation-map, list_any-IsPermutation}
 use Rattle.std.proofs.lemmas.Map.Lookups.{exact_bytes}
@@ -41,11 +42,6 @@ use Rattle.table_model.proofs.RecordReading.{entry}
 use Rattle.table_model.proofs.RowsWhere.{AreMembers, first_entry, others_held}
 use Rattle.table_model.proofs.RowsWhere.{rows_where, those_among}
 
--- what never holds is false
-never : (b : Bool) → (b ≡ true → ⊥) → b ≡ false
-never true not_so = absurd (not_so refl)
-never false not_so = refl
-
 -- no line is found on either side
 no_side : (added taken : Bool) → added ≡ false → taken ≡ false
     → else_find (cond added (Some true) None) (cond taken (Some false) None) ≡ None
@@ -66,7 +62,7 @@ module _ (naming : Naming) (book : Book) (whole : IsReadable naming book) (bytes
       → has (sets naming book whole k) bytes ≡ false
   not_yet k within late =
       ap (λ records. has records bytes) (sets_past naming book whole k within)
-      ∙ never (has (whole.past.charged k) bytes) (λ was.
+      ∙ false_from_ne_true (has (whole.past.charged k) bytes) (λ was.
       true≢false (sym late ∙ whole.past.dated k within bytes was))
 
   -- so it has no line in the period after the close

@@ -8,6 +8,7 @@ use Rattle.std.specs.List.{last_or}
 use Rattle.std.specs.List.Sorted.{IsStrictlySortedBy}
 use Rattle.std.specs.Option.{option_map_or, option_or}
 use Rattle.std.specs.Ordering.{int_cmp}
+use Rattle.std.proofs.lemmas.Bool.{false_from_ne_true}
 use Rattle.std.proofs.lemmas.Bool.Decides.{nat_tests}
 use Rattle.std.proofs.lemmas.Cmp.{nat_list_cmp_total}
 use Rattle.std.proofs.lemmas.Int.{ints}
@@ -242,7 +243,7 @@ module _ (naming : Naming) (book : Book) (whole : IsReadable naming book) where
         → (not b && charged) ≡ has (sets (suc k)) bytes) [
           | true ↦ λ late.
               sym (ap (λ records. has records bytes) (sets_past (suc k) inside)
-              ∙ never (has (whole.past.charged (suc k)) bytes) (λ was.
+              ∙ false_from_ne_true (has (whole.past.charged (suc k)) bytes) (λ was.
               true≢false (sym late
               ∙ ap (λ close. is_dated_after close bytes) (sym some)
               ∙ whole.past.dated (suc k) inside bytes was)))
@@ -250,10 +251,6 @@ module _ (naming : Naming) (book : Book) (whole : IsReadable naming book) where
               charged_back (open_by book.rulings - suc k) (suc k) (omega arith) (λ inside.
               ap (λ close. is_dated_after close bytes) some ∙ early)
         ] refl
-      where
-        never : (b : Bool) → (b ≡ true → ⊥) → b ≡ false
-        never true not_so = absurd (not_so refl)
-        never false not_so = refl
 
     -- so the test says whether the period counts it
     pub counted_back : (k : ℕ) → k ≤ length days

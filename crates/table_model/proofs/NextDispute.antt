@@ -9,9 +9,8 @@ use Rattle.std.specs.FinMap.Entries.{below_all}
 use Rattle.std.specs.List.{AllByRecursion, filter_map, list_any}
 use Rattle.std.specs.List.Sorted.{IsPermutation, IsStrictlySortedBy}
 use Rattle.std.specs.Option.{option_map}
-use Rattle.std.specs.Ordering.{eq_by_cmp, is_lt, ordering_then}
-use Rattle.std.specs.declared.cmp.Ordering.{Ordering}
-use Rattle.std.specs.declared.cmp.Ordering.TheVariants.{Less, Equal, Greater}
+use Rattle.std.specs.Ordering.{eq_by_cmp, ordering_then}
+use Rattle.std.specs.declared.cmp.Ordering.TheVariants.{Less}
 use Rattle.std.proofs.Math.Bool.{or-true}
 use Rattle.std.proofs.lemmas.Cmp.{nat_list_cmp_total, nat_list_eq_equiv}
 use Rattle.std.proofs.lemmas.List.Sorted.{IsPermutation-refl, IsPermutation-sym, IsPermutation-trans}
@@ -43,6 +42,7 @@ use Rattle.table_model.proofs.RowsWhere.{AreMembers, rows_where}
 use Rattle.table_model.proofs.RowOrder.{rows_in_order}
 use Rattle.table_model.proofs.SetReading.{one_passes}
 use Rattle.table_model.proofs.Texts.{same_text}
+use Rattle.table_model.proofs.UnderNumbers.{is_less, one_holds, other_holds}
 
 -- ---- what is found first of texts in order
 
@@ -114,21 +114,6 @@ find_none p (k ∷ ks) never =
 
 -- ---- the rows of one identity
 
--- what is below is so
-less : (o : Ordering) → T (is_lt o) → o ≡ Less
-less Less is = refl
-less Equal is = absurd is
-less Greater is = absurd is
-
--- two tests that are passed together
-one_of_two : (a b : Bool) → T (a && b) → T a
-one_of_two true b both = tt
-one_of_two false b both = absurd both
-
-other_of_two : (a b : Bool) → T (a && b) → T b
-other_of_two true b both = both
-other_of_two false b both = absurd both
-
 module _ (id : List ℕ) where
   -- a row has the identity
   abbrev has_id : NamedRow → Bool
@@ -140,7 +125,7 @@ module _ (id : List ℕ) where
       → AllByRecursion (λ other. by_identity row other ≡ Less) (filter has_id rows)
   below_with row [] below own = tt
   below_with row (other ∷ rows) below own =
-      let rest = below_with row rows (other_of_two _ _ below) own in
+      let rest = below_with row rows (other_holds _ _ below) own in
       elim (has_id other) as (λ b. has_id other ≡ b
       → AllByRecursion (λ other. by_identity row other ≡ Less)
       (cond b (other ∷ filter has_id rows) (filter has_id rows))) [
@@ -149,7 +134,7 @@ module _ (id : List ℕ) where
               (by_bytes row.0 other.0))
               ∙ ap (λ o. ordering_then o (by_bytes row.0 other.0))
               (tied_itself nat_list_cmp_total id)
-              ∙ less (by_bytes row.0 other.0) (one_of_two _ _ below),
+              ∙ is_less (by_bytes row.0 other.0) (one_holds _ _ below),
           rest,
         )
         | false ↦ λ differ. rest
@@ -161,11 +146,11 @@ module _ (id : List ℕ) where
   unfolding IsStrictlySortedBy
   with_rise [] sorted = tt
   with_rise (row ∷ rows) sorted =
-      let rest = with_rise rows (other_of_two _ _ sorted) in
+      let rest = with_rise rows (other_holds _ _ sorted) in
       elim (has_id row) as (λ b. has_id row ≡ b → IsStrictlySortedBy by_identity
       (cond b (row ∷ filter has_id rows) (filter has_id rows))) [
         | true ↦ λ same.
-            (below_with row rows (one_of_two _ _ sorted) (same_text row.1.identity id same), rest)
+            (below_with row rows (one_holds _ _ sorted) (same_text row.1.identity id same), rest)
         | false ↦ λ differ. rest
       ] refl
 

@@ -9,17 +9,33 @@ use Rattle.std.specs.FinMap.{nat_cmp-IsAntisymmetric}
 use Rattle.std.specs.FinMap.Entries.{below_all, is_sorted}
 use Rattle.std.specs.List.{last_or}
 use Rattle.std.specs.Ordering.{is_lt, nat_cmp, is_eq}
-use Rattle.std.specs.declared.cmp.Ordering.TheVariants.{Less}
+use Rattle.std.specs.declared.cmp.Ordering.{Ordering}
+use Rattle.std.specs.declared.cmp.Ordering.TheVariants.{Less, Equal, Greater}
 use Rattle.book_model.proofs.FilterLemmas.{entries-sorted}
 use Rattle.table_model.specs.TablesOf.{under_numbers}
 use Rattle.table_model.proofs.MoveLemmas.{not_number}
 use Rattle.std.proofs.lemmas.Bool.Decides.{nat_tests}
 use Rattle.std.proofs.lemmas.Option.{slice_get_past}
 
+-- what is below compares as less
+pub is_less : (order : Ordering) → T (is_lt order) → order ≡ Less
+is_less Less less = refl
+is_less Equal less = absurd less
+is_less Greater less = absurd less
+
 -- two tests that both hold
 pub both_hold : (a b : Bool) → T a → T b → T (a && b)
 both_hold true b one other = other
 both_hold false b one other = one
+
+-- and each of two that hold together
+pub one_holds : (a b : Bool) → T (a && b) → T a
+one_holds true b both = tt
+one_holds false b both = absurd both
+
+pub other_holds : (a b : Bool) → T (a && b) → T b
+other_holds true b both = both
+other_holds false b both = absurd both
 
 module _ {V : Type 0} where
   -- the numbers rise,

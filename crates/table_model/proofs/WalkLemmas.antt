@@ -27,6 +27,13 @@ use Rattle.table_model.proofs.Restated.{tables-alike}
 use Rattle.table_model.proofs.RowsWhere.{any_row, one_passes, some_passes}
 use Rattle.table_model.proofs.TableParts.{what_is}
 
+-- three tests of which one holds, in another order
+pub or_turn : (a b c : Bool) → (a || (b || c)) ≡ ((b || a) || c)
+or_turn true true c = refl
+or_turn true false c = refl
+or_turn false true c = refl
+or_turn false false c = refl
+
 module _ (naming : Naming) (book : Book) (sound : IsSound naming book) (standing : RecordStatus)
     (status : IsStatus book standing) where
   -- the table of the records
@@ -91,13 +98,7 @@ module _ (naming : Naming) (book : Book) (sound : IsSound naming book) (standing
           (λ name among. named name (later name among))
           (λ name among. (λ i. not_first first names rising name among i || done name)
           ∙ fresh name (later name among))
-          ∙ (λ i. T (λ name. turn (list_any (is name) names) (is name first) (done name) i))
-        where
-          turn : (a b c : Bool) → (a || (b || c)) ≡ ((b || a) || c)
-          turn true true c = refl
-          turn true false c = refl
-          turn false true c = refl
-          turn false false c = refl
+          ∙ (λ i. T (λ name. or_turn (list_any (is name) names) (is name first) (done name) i))
 
       -- so after the walk all names are done
       pub walk_all : walk step (keys table) (T (λ name. false))

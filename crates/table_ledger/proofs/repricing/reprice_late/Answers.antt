@@ -21,7 +21,7 @@ returns-in_err-late g c = record {
 pub returns-in_default : goal.returns-in_default
 returns-in_default g c = record {
   does = walks_all c.records.invariant (rw c.in_default.is at c.in_ok-late.ensures.looks)
-      (λ tables so seen. priced_all so (seen so.now so.holds));
+      (λ tables takes so seen. priced_all so (seen so.now so.holds));
 }
 
 -- its step failed
