@@ -33,6 +33,7 @@ use Rattle.table_model.specs.Tables.{ChoiceRow, RecordRow, RecordTable, Tables}
 use Rattle.table_model.specs.Views.{name_has_identity}
 use Rattle.table_model.specs.DisputesRead.{NamedRow}
 use Rattle.table_model.specs.TrailRead.{choices_with, row_choice}
+use Rattle.table_model.proofs.PickedRows.{filter-nothing}
 use Rattle.table_model.proofs.RowOrder.{list_any-filter}
 use Rattle.tree_tables.specs.Answers.{ListsChosen, ListsSharing, names_it}
 use Rattle.tree_tables.specs.Stored.{choice_entry, stored_entry}
@@ -109,11 +110,6 @@ parted {X} p q apart xs =
     subst (IsPermutation some) (λ i. one i ++ other i)
     (IsPermutation-filter_both p (λ x. not (p x)) (λ x. refl) some)
 
--- nothing passes a test that always fails
-none_pass : {X : Type 0} (xs : List X) → filter (λ (x : X). false) xs ≡ []
-none_pass [] = refl
-none_pass (x ∷ xs) = none_pass xs
-
 -- ---- the choices of records with different names
 
 -- the names differ
@@ -143,7 +139,7 @@ pub chosen_parted : (rows : List StoredRecord) → IsDistinct same_names rows �
     → IsPermutation (filter (names_one rows) es)
     (flat_map (λ (row : StoredRecord). filter (names_it row.name) es) rows)
 chosen_parted [] distinct es =
-    subst (λ some. IsPermutation some []) (sym (none_pass es)) (IsPermutation-refl [])
+    subst (λ some. IsPermutation some []) (sym (filter-nothing es)) (IsPermutation-refl [])
 chosen_parted (row ∷ rows) distinct es =
     let own : List Entry = filter (names_it row.name) es in
     let others : List Entry = filter (names_one rows) es in

@@ -4,7 +4,7 @@ pub mod SurvivalLemmas
 pub mod UnchangedStores
 mod TryLemmas
 mod Answering
-mod Refusals
+pub mod Refusals
 mod Remembered
 mod StepLemmas
 mod StageLemmas

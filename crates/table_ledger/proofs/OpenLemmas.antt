@@ -1,13 +1,12 @@
 -- A store that keeps the tables of a book, with its summary, is an open ledger.
-use Rattle.std.proofs.Common.{◌≡◌, ◌∙◌, [], ap, false, refl, subst, sym, true≢false}
+use Rattle.std.proofs.Common.{◌≡◌, ◌∙◌, ap, false, refl, subst, sym}
 use Rattle.tree_tables.specs.States.{State, HasCleanDisk}
 use Rattle.book_model.specs.Words.{Book, new_book, Naming, no_rulings}
-use Rattle.book_model.proofs.SoundLemmas.{none_in}
 use Rattle.book_core.specs.Ledgers.{IsOpenAt}
 use Rattle.table_model.specs.TablesAfter.{new_tables}
 use Rattle.table_model.specs.Tables.{Tables}
 use Rattle.table_model.specs.TablesOf.{tables_of}
-use Rattle.table_model.proofs.EventLemmas.{tables_follow}
+use Rattle.table_model.proofs.EventLemmas.{new_follow}
 use Rattle.table_model.specs.Readable.{IsReadable}
 use Rattle.table_model.proofs.CallsLemmas.{calls_stay}
 use Rattle.table_model.proofs.ReadableLemmas.{calls_read}
@@ -51,11 +50,6 @@ opened naming state summary book last clean readable keeping remembers =
         ready = λ open_now clean_now. record { book = book; ready = ready };
       };
     }
-
--- the tables of new books are those of the new book
-pub new_follow : (naming : Naming) → new_tables ≡ tables_of naming new_book
-new_follow naming =
-    tables_follow naming [] tt (λ bytes there. absurd (true≢false (sym there ∙ none_in bytes)))
 
 -- new books are open, when nothing is remembered
 pub created : (naming : Naming) (state : State) (summary : Summary)

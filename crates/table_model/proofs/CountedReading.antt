@@ -95,7 +95,7 @@ last_after [] = refl
 last_after (day ∷ days) = last_or-is day days
 
 -- a day is after a close as a record of that day
-after_test : (last : Option ℤ) (bytes : List ℕ)
+pub after_test : (last : Option ℤ) (bytes : List ℕ)
     → option_map_or (λ close. int_lt close (day_of bytes)) last true ≡ is_dated_after last bytes
 after_test None bytes = refl
 after_test (Some day) bytes = refl

@@ -1,8 +1,8 @@
 -- The details of a period are read from the records that are counted: they are those of its days.
-use Rattle.std.proofs.Common.{◌≡◌, ℕ, zero, suc, ◌+◌, ◌-◌, ◌≤◌, ◌<◌, List, [], ◌∷◌, map, length, refl}
+use Rattle.std.proofs.Common.{◌≡◌, ℕ, zero, suc, ◌-◌, ◌≤◌, List, [], ◌∷◌, map, length, refl}
 use Rattle.std.proofs.Common.{sym, ap, ◌∙◌, subst, true, false, true≢false, Bool, ◌&&◌, arith}
 use Rattle.std.proofs.Common.{Option, Some, None}
-use Rattle.std.specs.Prelude.{ℤ, filter, find, if◌then◌else◌, int_lt, nat_le, not, slice_get}
+use Rattle.std.specs.Prelude.{ℤ, filter, find, nat_le, not, slice_get}
 use Rattle.std.specs.FinMap.{contains_key, entries, get}
 use Rattle.std.specs.FinMap as fin
 use Rattle.std.specs.List.{Contains, cons_option, filter_map}
@@ -40,8 +40,8 @@ use Rattle.table_model.specs.ListLaws.{DetailsFollow}
 use Rattle.table_model.specs.Readable.{IsReadable}
 use Rattle.table_model.proofs.CostLemmas.{day-price}
 use Rattle.table_model.proofs.CountedHeld.{names_follow}
-use Rattle.table_model.proofs.CountedReading.{in_counted, its_period, period_after, sets}
-use Rattle.table_model.proofs.CountedReading.{sets_past}
+use Rattle.table_model.proofs.CountedReading.{after_test, in_counted, its_period, period_after}
+use Rattle.table_model.proofs.CountedReading.{sets, sets_past}
 use Rattle.table_model.proofs.LineReading.{held_row}
 use Rattle.table_model.proofs.ListLemmas.{answered}
 use Rattle.table_model.proofs.PeriodPlaces.{at_place}
@@ -50,12 +50,6 @@ use Rattle.table_model.proofs.RowsWhere.{AreMembers, first_entry, first_held, ot
 use Rattle.table_model.proofs.RowsWhere.{passing_held, rows_where, those_among}
 
 -- ---- days
-
--- a day is after a close as a record of that day
-day_after : (last : Option ℤ) (bytes : List ℕ)
-    → option_map_or (λ close. int_lt close (day_of bytes)) last true ≡ is_dated_after last bytes
-day_after None bytes = refl
-day_after (Some day) bytes = refl
 
 -- a detail is dated as its record
 its_day : (naming : Naming) (rulings : Rulings) (bytes : List ℕ) (price : Option Priced)
@@ -75,7 +69,7 @@ dated_alike naming rulings number bytes detail is =
     (its_day naming rulings bytes (price_in rulings bytes) detail refl is)
     ∙ ap (λ b. b
     && option_map_or (λ day. is_dated_through day bytes) (through_of number rulings) true)
-    (day_after (through_of (number - 1) rulings) bytes)
+    (after_test (through_of (number - 1) rulings) bytes)
 
 -- what is not dated after a close is dated through it
 pub through_close : (close : Option ℤ) (bytes : List ℕ) → is_dated_after close bytes ≡ false

@@ -185,9 +185,13 @@ held_before (PeriodClosed day) book q held = held
 held_before (RecordChosen bytes) book q held = held
 held_before SecondRuleAdopted book q held = held
 
+-- the tables of new books are those of the new book
+pub new_follow : (naming : Naming) → new_tables ≡ tables_of naming new_book
+new_follow naming = sym (new_under naming [])
+
 -- so the tables follow a history
 pub tables_follow : TablesFollow
-tables_follow naming [] made usage = sym (new_under naming [])
+tables_follow naming [] made usage = new_follow naming
 tables_follow naming (event ∷ older) made usage =
     let answered = answered_so naming event older made in
     let before = λ (q : List ℕ) (held : has (book_after older).held q ≡ true).

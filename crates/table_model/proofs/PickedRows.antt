@@ -54,7 +54,7 @@ module _ {X Y : Type 0} (give : X → Option Y) (test : Y → Bool) where
           ] refl
 
 -- nothing passes a test that always fails
-filter-nothing : {X : Type 0} (xs : List X) → filter (λ (x : X). false) xs ≡ []
+pub filter-nothing : {X : Type 0} (xs : List X) → filter (λ (x : X). false) xs ≡ []
 filter-nothing [] = refl
 filter-nothing (x ∷ xs) = filter-nothing xs
 
