@@ -17,7 +17,6 @@ pub mod SetChanges
 pub mod CountedLemmas
 pub mod ChargedChanges
 pub mod ChosenLemmas
-pub mod UnchosenLemmas
 pub mod PermutedSets
 pub mod GivenLemmas
 pub mod LineOrder

@@ -73,16 +73,7 @@ pub any_with : (p : List ℕ → Bool) (s : Records) (k : List ℕ) → has s k 
     → list_any p (members (with s k)) ≡ (p k || list_any p (members s))
 any_with p s k new = list_any-alike p (members_with s k new)
 
--- to take those of a set with one more
-pub those-with : (p : List ℕ → Bool) (s : Records) (k : List ℕ) → p k ≡ true
-    → those p (with s k) ≡ with (those p s) k
-those-with p s k passes = same_records (those p (with s k)) (with (those p s) k) (λ q.
-    has_those p (with s k) q ∙ ap (λ b. p q && b) (has_with s k q)
-    ∙ by_record q k (λ t. p q && (t || has s q)) (λ t. t || (p q && has s q))
-    (λ same. ap (λ b. b && true) (ap p same ∙ passes)) (λ apart. refl)
-    ∙ sym (has_with (those p s) k q ∙ ap (λ b. is q k || b) (has_those p s q)))
-
--- where that one fails the test, they are those of the set
+-- to take those of a set with one more that fails the test
 pub those-with_out : (p : List ℕ → Bool) (s : Records) (k : List ℕ) → p k ≡ false
     → those p (with s k) ≡ those p s
 those-with_out p s k fails = same_records (those p (with s k)) (those p s) (λ q.
@@ -119,17 +110,6 @@ with-except s one there = same_records (with (except one s) one) s (λ q.
 pub has-except : (s : Records) (one : List ℕ) → has (except one s) one ≡ false
 has-except s one =
     has_those (λ bytes. not (is bytes one)) s one ∙ ap (λ b. not b && has s one) (is_itself one)
-
--- those of a set without a member that fails the test
-pub those-except_out : (p : List ℕ → Bool) (s : Records) (one : List ℕ) → p one ≡ false
-    → those p (except one s) ≡ those p s
-those-except_out p s one fails = same_records (those p (except one s)) (those p s) (λ q.
-    has_those p (except one s) q ∙ ap (λ b. p q && b) (has_those (λ bytes. not (is bytes one)) s q)
-    ∙ by_record q one (λ t. p q && (not t && has s q)) (λ t. p q && has s q)
-    (λ same. ap (λ b. b && false) (ap p same ∙ fails)
-    ∙ sym (ap (λ b. b && has s q) (ap p same ∙ fails)))
-    (λ apart. refl)
-    ∙ sym (has_those p s q))
 
 -- no record of the set has the name of this one
 abbrev pub IsUnnamed : Naming → List ℕ → Records → Type 0
