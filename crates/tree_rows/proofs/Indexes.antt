@@ -39,7 +39,7 @@ none_hides false true x = refl
 none_hides false false x = refl
 
 -- of what is there only where a test is passed, nothing is left once that is removed
-none_left : {A : Type 0} (b : Bool) (x : A) → cond b None (cond b (Some x) None) ≡ None
+pub none_left : {A : Type 0} (b : Bool) (x : A) → cond b None (cond b (Some x) None) ≡ None
 none_left true x = refl
 none_left false x = refl
 

@@ -10,9 +10,8 @@ use Rattle.std.specs.Ordering.{eq_by_cmp, is_eq}
 use Rattle.std.specs.declared.cmp.Ordering.{Ordering}
 use Rattle.std.proofs.lemmas.Cmp.{eq_by_cmp_equiv}
 use Rattle.std.proofs.lemmas.Map.Views.{tells_apart}
-use Rattle.tree_rows.specs.Changes.{moved, MovesApart, above, MovedTo}
+use Rattle.tree_rows.specs.Changes.{moved, MovesApart}
 use Rattle.tree_rows.proofs.Maps.{first, second, not_none}
-use Rattle.tree_rows.proofs.Passing.{passed_with, all_passed}
 use Rattle.tree_rows.proofs.Taking.{some_is, find_above}
 
 -- where keys are equal they tie
@@ -118,17 +117,6 @@ module _ {K V : Type 0} {R : K → K → Ordering} (total : IsTotalOrder R)
       (tells_apart exact (change k) (change x) tie)))
       (λ tie. tied total (change k) (change x) (ap change (tells_apart exact k x tie))))
       ∙ there
-
-  -- nothing is found under a key that none is changed to
-  pub get_moved_none : (change : K → K) (m : FinMap R V) (q : K)
-      → ((k : K) → contains_key m k ≡ true → change k ≡ q → ⊥) → get (moved change m) q ≡ None
-  get_moved_none change m q none =
-      elim (get (moved change m) q) as (λ found. get (moved change m) q ≡ found → found ≡ None) [
-        | None ↦ λ is. refl
-        | Some w ↦ λ is.
-            let it = moved_from change m q w is in
-            absurd (none it.0 (ap is_some it.1) it.2)
-      ] refl
 
   -- where no key is changed any more, all are changed
   pub moved_done : (change : K → K) (m : FinMap R V)
@@ -254,40 +242,3 @@ module _ {K V : Type 0} {R : K → K → Ordering} (total : IsTotalOrder R)
         same_map total exact (moved change after) (moved change m) (λ q.
         same_answer (get (moved change after) q) (get (moved change m) q) (step_to q)
         (step_from q))
-
-  -- before its first step a walk has passed nothing
-  pub moved_start : (change : K → K) (m : FinMap R V) → MovedTo change None m
-  moved_start change m k v there behind = absurd (true≢false behind)
-
-  -- the row is put under a key that is not changed any more: all that is passed is done
-  pub moved_past : (change : K → K) (at : Option K) (m : FinMap R V) (k l : K) (v : V)
-      (more : List (K × V)) → above at m ≡ (k, v) ∷ more → change l ≡ l → MovedTo change at m
-      → MovedTo change (Some k) (insert (remove m k) l v)
-  moved_past change at m k l v more is stays done q u there behind =
-      elim (put_from m k l v q u there) [
-        | inl new ↦ ap change new.0 ∙ stays ∙ sym new.0
-        | inr old ↦ elim (passed_with total exact at m k v more is q u old.1 behind) [
-          | inl same ↦ absurd (old.0 same)
-          | inr before ↦ done q u old.1 before
-        ]
-      ]
-
-  -- the row is already where the change puts it, and is passed
-  pub moved_kept : (change : K → K) (at : Option K) (m : FinMap R V) (k : K) (v : V)
-      (more : List (K × V)) → above at m ≡ (k, v) ∷ more → change k ≡ k → MovedTo change at m
-      → MovedTo change (Some k) m
-  moved_kept change at m k v more is kept done q u there behind =
-      elim (passed_with total exact at m k v more is q u there behind) [
-        | inl same ↦ ap change same ∙ kept ∙ sym same
-        | inr before ↦ done q u there before
-      ]
-
-  -- where a walk has passed all, the map is what the move of all its rows makes of it
-  pub moved_all : (change : K → K) (at : Option K) (m : FinMap R V) → above at m ≡ []
-      → MovedTo change at m → moved change m ≡ m
-  moved_all change at m none done =
-      moved_done change m (λ k has.
-      elim (get m k) as (λ found. get m k ≡ found → is_some found ≡ true → change k ≡ k) [
-        | None ↦ λ is no. absurd (true≢false (sym no))
-        | Some v ↦ λ is yes. done k v is (all_passed total exact at m none k v is)
-      ] refl has)

@@ -1,10 +1,8 @@
 -- An index by a part of each value and then by name: those with a given part are there by name.
-use Rattle.std.proofs.Common.{◌≡◌, List, map, Bool, true, ℕ}
-use Rattle.std.proofs.Common.{refl, ap, ◌∙◌}
+use Rattle.std.proofs.Common.{◌≡◌, List, map, Bool, true, ℕ, refl}
 use Rattle.std.specs.Prelude.{filter}
 use Rattle.std.specs.Cmp.Lexicographic.{nat_list_cmp_total}
 use Rattle.std.specs.FinMap.{FinMap, entries}
-use Rattle.sqlite_trees.proofs.ListLemmas.{map-map}
 use Rattle.tree_rows.specs.Indexes.{IsIndexKey, index_of, indexed_by}
 use Rattle.tree_rows.specs.Indexes.{by_bytes, by_both, part_and_name}
 use Rattle.tree_rows.proofs.IndexLists.{index_in_order}
@@ -32,13 +30,3 @@ module _ {V : Type 0} (part : V → List ℕ) (given : List ℕ) (t : List ℕ �
     part_in_order m =
         index_in_order (part_named part) nat_list_cmp_total (λ q. q.0) (λ e f. refl) given
         (λ q. t q.0) (λ q. only q.0) m
-
-    -- so the index gives the names of those that have the part in the order of the map
-    pub part_names : (m : FinMap by_bytes V)
-        → map (λ e. e.0.1)
-        (filter (λ e. t e.0.0) (entries (index_of {P = by_both} (part_and_name part) m)))
-        ≡ map (λ e. e.0) (filter (λ e. t (part e.1)) (entries m))
-    part_names m =
-        ap (map (λ e. e.0.1)) (part_in_order m)
-        ∙ map-map (λ e. e.0.1) (indexed_by (part_and_name part))
-        (filter (λ e. t (part e.1)) (entries m))

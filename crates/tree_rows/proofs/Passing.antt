@@ -117,15 +117,3 @@ module _ {K V : Type 0} {R : K → K → Ordering} (layout : Layout K V R) where
   pub walk_start : (m : FinMap R V) (row : Row) (there : Bool)
       → IsFirst (rows_of layout m) row there → FindsAbove layout None m row there
   walk_start m row there begins = finds_first None m (entries m) row there refl begins
-
-  -- so does a look-up of the key with no columns, below which no row is
-  pub walk_start_from : (m : FinMap R V) (row : Row) (there : Bool)
-      → IsFirst (from_key plain [] (rows_of layout m)) row there
-      → FindsAbove layout None m row there
-  walk_start_from m row there begins =
-      walk_start m row there
-      (subst (λ rows. IsFirst rows row there) (from_none (rows_of layout m)) begins)
-    where
-      from_none : (rows : List Row) → from_key plain [] rows ≡ rows
-      from_none [] = refl
-      from_none (one ∷ rows) = refl

@@ -31,7 +31,7 @@ use Rattle.tree_rows.specs.Runs.{has_part, run_of}
 use Rattle.tree_rows.proofs.Maps.{first, second, less, prefix_of}
 
 -- each row is not below the key of no columns
-from_no_part : (rows : List Row) → from_key plain [] rows ≡ rows
+pub from_no_part : (rows : List Row) → from_key plain [] rows ≡ rows
 from_no_part [] = refl
 from_no_part (row ∷ rows) = refl
 
@@ -95,10 +95,6 @@ pub run_whole : (rows : List Row) → run_of [] rows ≡ rows
 run_whole rows = ap (take_while (has_part [])) (from_no_part rows) ∙ all_begin rows
 
 module _ {K V : Type 0} {R : K → K → Ordering} (layout : Layout K V R) where
-  -- the part of no columns is that of each key
-  pub run_all : (m : FinMap R V) → run_of [] (rows_of layout m) ≡ rows_of layout m
-  run_all m = run_whole (rows_of layout m)
-
   module _ (part : Row) (rank : K → Ordering)
       (at : (e : K × V) → prefix_cmp plain (row_of layout e) part ≡ rank e.0)
       (falls : (k l : K) → R k l ≡ Less → rank l ≡ Less → rank k ≡ Less)

@@ -35,6 +35,12 @@ IsCausedByStore ghosts old new error =
     IsClean (ghosts.view new)
     → HasCause (ghosts.view old) (MoreFaults (ghosts.faults old) (ghosts.faults new)) ⊥ error
 
+-- where the premise holds, there is no other cause than these
+abbrev pub IsCausedWhere : {S : Type 0} → Ghosts S → S → S → Type 0 → StoreError → Type 0
+IsCausedWhere ghosts old new When error =
+    IsClean (ghosts.view new) → When
+    → HasCause (ghosts.view old) (MoreFaults (ghosts.faults old) (ghosts.faults new)) ⊥ error
+
 -- the call commits nothing and forgets no fault
 abbrev pub CommitsNothing : {S : Type 0} → Ghosts S → S → S → Type 0
 CommitsNothing ghosts = IsQuiet ghosts.view ghosts.faults ghosts.recovers ghosts.is_shielded

@@ -1,6 +1,5 @@
 -- Changes of all rows of a finite map, and how far a walk by key has brought them.
-use Rattle.std.specs.Prelude.{◌≡◌, ℕ, ◌+◌, Bool, true, false, Option, Some, None, List, ◌∷◌, []}
-use Rattle.std.specs.Prelude.{map, filter, length}
+use Rattle.std.specs.Prelude.{◌≡◌, Bool, true, false, Option, Some, None, List, ◌∷◌, [], map, filter}
 use Rattle.std.specs.FinMap.{FinMap, get, entries, contains_key, from_entries}
 use Rattle.std.specs.Ordering.{is_lt}
 use Rattle.std.specs.declared.cmp.Ordering.{Ordering}
@@ -41,19 +40,6 @@ abbrev pub DoneTo :
     {K V : Type 0} {R : K → K → Ordering} → (V → V) → Option K → FinMap R V → Type 0
 DoneTo {K} {V} {R} change at m =
     (k : K) (v : V) → get m k ≡ Some v → is_above R at k ≡ false → change v ≡ v
-
--- the keys that a walk has passed are as the change leaves them
-abbrev pub MovedTo :
-    {K V : Type 0} {R : K → K → Ordering} → (K → K) → Option K → FinMap R V → Type 0
-MovedTo {K} {V} {R} change at m =
-    (k : K) (v : V) → get m k ≡ Some v → is_above R at k ≡ false → change k ≡ k
-
--- the most steps that are left in a walk that moves the rows with keys that pass a test: one for
--- each entry that is still to come, and one more where it is moved, for it may come again
-abbrev pub steps_left :
-    {K V : Type 0} {R : K → K → Ordering} → (K → Bool) → Option K → FinMap R V → ℕ
-steps_left {K} {V} moves at m =
-    length (above at m) + length (filter (λ (e : K × V). moves e.0) (above at m))
 
 -- what a step of a walk finds: the row of the first entry that is still to come, or that none is
 abbrev pub FindsAbove :

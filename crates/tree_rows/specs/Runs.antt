@@ -1,7 +1,9 @@
--- The rows of a tree that begin with given columns.
-use Rattle.std.specs.Prelude.{Bool, List, take_while}
+-- The rows of a tree that begin with given columns, and rows that can be read.
+use Rattle.std.specs.Prelude.{◌≤◌, ◌^◌, ℕ, Bool, List, length, take_while}
+use Rattle.std.specs.List.{AllByRecursion}
 use Rattle.std.specs.Ordering.{is_eq}
 use Rattle.sqlite_trees.specs.Tree.{from_key}
+use Rattle.sqlite_trees.specs.declared.store.Store.{Ghosts}
 use Rattle.sqlite_value.specs.Keys.{plain, prefix_cmp}
 use Rattle.sqlite_value.specs.Order.{Row}
 
@@ -12,3 +14,12 @@ has_part part row = is_eq (prefix_cmp plain row part)
 -- the rows that begin with these columns, one after the other as in a sorted tree
 abbrev pub run_of : Row → List Row → List Row
 run_of part rows = take_while (has_part part) (from_key plain part rows)
+
+-- those of a tree of a store
+abbrev pub run_in : {S : Type 0} → Ghosts S → S → ℕ → Row → List Row
+run_in ghosts store tree part = run_of part ((ghosts.view store).trees tree)
+
+-- all of some rows fit, and they are no more than are listed at once
+pub record RowsFit (Fits : Row → Type 0) (rows : List Row) : Type 0 where
+  pub fit : AllByRecursion Fits rows
+  pub few : length rows ≤ 2 ^ 32

@@ -1,12 +1,12 @@
 //! The rows that begin alike, read in order into values.
 
-ghost use Rattle.std.specs.Prelude.{◌≡◌, ◌≤◌, ◌^◌, length, take, IfOk, IfErr, OnErr, OnOk};
+ghost use Rattle.std.specs.Prelude.{◌≡◌, take, IfOk, IfErr, OnErr, OnOk};
 ghost use Rattle.std.specs.List.{AllByRecursion, AllZip};
-ghost use Rattle.sqlite_disk.specs.Disk.{MoreFaults};
-ghost use Rattle.sqlite_trees.specs.View.{HasCause, IsClean, KeepsSchema};
+ghost use Rattle.sqlite_trees.specs.View.{IsClean, KeepsSchema};
 ghost use Rattle.sqlite_value.specs.Order.{Row as Columns};
-ghost use Rattle.tree_rows.specs.Calls.{CommitsNothing, IsSorted, LeavesCommitted, OnlyLooks};
-ghost use Rattle.tree_rows.specs.Runs.{run_of};
+ghost use Rattle.tree_rows.specs.Calls.{CommitsNothing, IsCausedWhere, IsSorted, LeavesCommitted};
+ghost use Rattle.tree_rows.specs.Calls.{OnlyLooks};
+ghost use Rattle.tree_rows.specs.Runs.{RowsFit, run_in};
 
 use crate::lookup::has_key;
 use sqlite_trees::error::StoreError;
@@ -48,15 +48,12 @@ pub fn list_first<S: Store, T: ReadRow + Drop>(
 ) -> Result<Vec<T>, StoreError>
     requires { IsSorted S.Store store.old tree }
     ensures found { IfOk result (λ all. IsClean (S.Store.view store.new)
-        → AllZip T.ReadRow.says
-        (take most (run_of part.now ((S.Store.view store.old).trees tree))) all.items) }
+        → AllZip T.ReadRow.says (take most (run_in S.Store store.old tree part.now)) all.items) }
     ensures same { OnOk result (OnlyLooks S.Store store.old store.new) }
     ensures schema { KeepsSchema (S.Store.view store.old) (S.Store.view store.new) }
     ensures kept { OnErr result (LeavesCommitted S.Store store.old store.new) }
-    ensures cause { IfErr result (λ error. IsClean (S.Store.view store.new)
-        → AllByRecursion T.ReadRow.fits (run_of part.now ((S.Store.view store.old).trees tree))
-        → HasCause (S.Store.view store.old)
-        (MoreFaults (S.Store.faults store.old) (S.Store.faults store.new)) ⊥ error) }
+    ensures cause { IfErr result (IsCausedWhere S.Store store.old store.new
+        (AllByRecursion T.ReadRow.fits (run_in S.Store store.old tree part.now))) }
     ensures quiet { CommitsNothing S.Store store.old store.new }
 {
     store.seek(LIST, tree, part, Direction::Forward)?;
@@ -84,16 +81,12 @@ pub fn list_run<S: Store, T: ReadRow + Drop>(
 ) -> Result<Vec<T>, StoreError>
     requires { IsSorted S.Store store.old tree }
     ensures found { IfOk result (λ all. IsClean (S.Store.view store.new)
-        → AllZip T.ReadRow.says (run_of part.now ((S.Store.view store.old).trees tree))
-        all.items) }
+        → AllZip T.ReadRow.says (run_in S.Store store.old tree part.now) all.items) }
     ensures same { OnOk result (OnlyLooks S.Store store.old store.new) }
     ensures schema { KeepsSchema (S.Store.view store.old) (S.Store.view store.new) }
     ensures kept { OnErr result (LeavesCommitted S.Store store.old store.new) }
-    ensures cause { IfErr result (λ error. IsClean (S.Store.view store.new)
-        → AllByRecursion T.ReadRow.fits (run_of part.now ((S.Store.view store.old).trees tree))
-        → length (run_of part.now ((S.Store.view store.old).trees tree)) ≤ 2 ^ 32
-        → HasCause (S.Store.view store.old)
-        (MoreFaults (S.Store.faults store.old) (S.Store.faults store.new)) ⊥ error) }
+    ensures cause { IfErr result (IsCausedWhere S.Store store.old store.new
+        (RowsFit T.ReadRow.fits (run_in S.Store store.old tree part.now))) }
     ensures quiet { CommitsNothing S.Store store.old store.new }
 {
     // One more is asked for, to find out whether there are more.

@@ -1,11 +1,11 @@
 //! Rows are written under their keys.
 
 ghost use Rattle.std.specs.Prelude.{◌≡◌, OnErr, OnOk};
-ghost use Rattle.sqlite_trees.specs.Tree.{insert_entry, remove_entry};
+ghost use Rattle.sqlite_trees.specs.Tree.{insert_entry};
 ghost use Rattle.sqlite_trees.specs.View.{IsClean, KeepsSchema};
 ghost use Rattle.sqlite_value.specs.Keys.{plain};
 ghost use Rattle.tree_rows.specs.Calls.{CommitsNothing, IsSorted, LeavesCommitted};
-ghost use Rattle.tree_rows.specs.Rows.{Drops, Puts, Replaces, Rewrites};
+ghost use Rattle.tree_rows.specs.Rows.{ChangesRow, Drops, Puts, Replaces, Rewrites};
 
 use crate::lookup::find_row;
 use sqlite_trees::error::StoreError;
@@ -38,9 +38,7 @@ pub fn change_row<S: Store>(
 ) -> Result<(), StoreError>
     requires { IsSorted S.Store store.old tree }
     ensures done { OnOk result (IsClean (S.Store.view store.new)
-        → Rewrites (S.Store.view store.old) (S.Store.view store.new) tree
-        (insert_entry plain new.now (remove_entry plain old.now
-        ((S.Store.view store.old).trees tree)))) }
+        → ChangesRow (S.Store.view store.old) (S.Store.view store.new) tree old.now new.now) }
     ensures kept { OnErr result (LeavesCommitted S.Store store.old store.new) }
     ensures schema { KeepsSchema (S.Store.view store.old) (S.Store.view store.new) }
     ensures quiet { CommitsNothing S.Store store.old store.new }

@@ -13,11 +13,11 @@ returns-clause-found g c clean =
 
 -- a run that is no longer than the most rows is not refused as longer
 pub returns-then-len-gt-MOST_ROWS-clause-cause : goal.returns-then-len-gt-MOST_ROWS-clause-cause
-returns-then-len-gt-MOST_ROWS-clause-cause g c = λ clean fit few.
+returns-then-len-gt-MOST_ROWS-clause-cause g c = λ clean fits.
     let less = no_more g.T.ReadRow.says
     (run_of c.args.part.now ((g.S.Store.view c.args.store.now).trees c.args.tree))
     c.in_ok-all.all.items (MOST_ROWS + 1) (c.in_ok-all.ensures.found clean) in
-    absurd (omega (arith, less, few, c.len.ensures, c.if-len-gt-MOST_ROWS.true))
+    absurd (omega (arith, less, fits.few, c.len.ensures, c.if-len-gt-MOST_ROWS.true))
 
 pub returns-then-len-gt-MOST_ROWS-clause-kept : goal.returns-then-len-gt-MOST_ROWS-clause-kept
 returns-then-len-gt-MOST_ROWS-clause-kept g c clean = kept_same (c.in_ok-all.ensures.same clean)
