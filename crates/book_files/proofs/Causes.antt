@@ -29,8 +29,8 @@ use Rattle.book_trees.specs.declared.first_form.FirstFault.{FirstFault}
 use Rattle.book_trees.specs.declared.first_form.FirstFault.TheVariants as form
 use Rattle.book_trees.specs.declared.integrity.LookFault.{LookFault}
 use Rattle.book_trees.specs.declared.integrity.LookFault.TheVariants.{Pages, Open}
-use Rattle.book_files.specs.Faults.{HasFaultCause, HasNoAnswerFor, HasNoCopyFor, HoldsOurBooks}
-use Rattle.book_files.specs.Faults.{HoldsOurs, IsWithoutFiles, ShowsOurBooks, ShowsOurs}
+use Rattle.book_files.specs.Causes.{HasFaultCause, HasNoAnswerFor, HaveNoBookRow, HoldsOurBooks}
+use Rattle.book_files.specs.Causes.{HoldsOurs, IsWithoutFiles, ShowsOurBooks, ShowsOurs, WhyNotCopied}
 use Rattle.book_files.specs.Faults.{first_answer, look_answer, not_copied, open_fault, resume_fault}
 use Rattle.book_files.specs.Faults.{store_fault}
 use Rattle.book_files.specs.declared.session.Ended.TheVariants.{Refused}
@@ -195,7 +195,7 @@ module _ {D : Type 0} {g : Ghosts D} (names : Naming) (first : Image) (store : F
     left_failed Failed failed (inr begun) =
         failed (inr (opened_empty first store ready found begun clean))
 
-    told_by_row : (there : Bool) → has_book (view store).trees ≡ there → (held : HoldsBooks first)
+    pub told_by_row : (there : Bool) → has_book (view store).trees ≡ there → (held : HoldsBooks first)
         → has_book (trees_held held) ≡ there
     told_by_row there told held =
         subst (λ (trees : Trees). has_book trees ≡ there) (found (clean_of _ clean) held) told
@@ -204,11 +204,9 @@ module _ {D : Type 0} {g : Ghosts D} (names : Naming) (first : Image) (store : F
     pub visited_cause : (Failed : Type 0) (fault : RepositoryFault)
         → HasFaultCause (has_book (view store).trees ≡ false) ⊥
         (ShowsOurs names (view store) → ∥ Failed ∥₁) fault
-        → HasFaultCause ((held : HoldsBooks first) → has_book (trees_held held) ≡ false) ⊥
-        (HoldsOurs names first → ∥ Failed ∥₁) fault
+        → HasFaultCause (HaveNoBookRow first) ⊥ (HoldsOurs names first → ∥ Failed ∥₁) fault
     visited_cause Failed fault cause =
-        cause_so (has_book (view store).trees ≡ false)
-        ((held : HoldsBooks first) → has_book (trees_held held) ≡ false) ⊥ ⊥
+        cause_so (has_book (view store).trees ≡ false) (HaveNoBookRow first) ⊥ ⊥
         (ShowsOurs names (view store) → ∥ Failed ∥₁) (HoldsOurs names first → ∥ Failed ∥₁)
         (told_by_row false) (λ never. never) (left_failed Failed) fault cause
 
@@ -282,7 +280,7 @@ pub uncopied_cause : {A B : Type 0} (one : Ghosts A) (two : Ghosts B) (found : I
     (first original : Files A) → image_of one first ≡ found → (fault : LookFault)
     (copy : Option (Files B))
     → MatchOption copy (IsUnopenedLook fault) (IsCopyRefusedFor one two first original fault)
-    → HasNoCopyFor one two found (not_copied fault) (Some original) (Refused copy)
+    → WhyNotCopied one two found (Some original) (Refused copy) (not_copied fault)
 uncopied_cause one two found first original same Pages None cause = cause
 uncopied_cause one two found first original same (Open fault) None cause =
     without_files open_fault refl refl refl fault cause

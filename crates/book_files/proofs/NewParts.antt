@@ -7,7 +7,7 @@ use Rattle.sqlite_disk.specs.declared.files.Files.{Files}
 use Rattle.sqlite_disk.specs.declared.Disk.{Ghosts}
 use Rattle.sqlite_pool.specs.StoredLaws.{carried}
 use Rattle.sqlite_store.proofs.ListingLemmas.{past_version}
-use Rattle.sqlite_store.specs.FileStore.{state, view, recovers, IsReady}
+use Rattle.sqlite_store.specs.FileStore.{state, view, IsReady}
 use Rattle.sqlite_store.specs.declared.store.FileStore.{FileStore}
 use Rattle.sqlite_trees.specs.Objects.{with_version}
 use Rattle.sqlite_trees.specs.Tree.{Trees}
@@ -60,15 +60,6 @@ open_leaves naming view may_leave must_reopen summary last start opened trees le
     let same = settled_on naming view may_leave must_reopen summary last opened.honest opened.books
     opened.is_open some.book (trees, left, sym (book_of_stored some.kept)) in
     subst (λ book. IsStoredIn naming book trees) (same ∙ opened.book) some.kept
-
--- what trees hold, the files hold
-pub closed_holds : {D : Type 0} {g : Ghosts D} (image : Image) (store : FileStore D g)
-    (Left : Trees → Type 0)
-    → ∥ ((held : HoldsBooks image) × recovers store (trees_held held)) ∥₁
-    → ((trees : Trees) → recovers store trees → Left trees)
-    → ∥ ((held : HoldsBooks image) × Left (trees_held held)) ∥₁
-closed_holds image store Left held each =
-    ∥∥₁_map held λ found. (found.0, each (trees_held found.0) found.1)
 
 -- each table is as it was under another form
 pub said_tables : (trees : Trees) (form : ℕ) → HaveSameTables trees (with_version trees form)

@@ -12,7 +12,7 @@ use Rattle.table_model.specs.Tables.{Tables}
 use Rattle.table_model.specs.TablesOf.{tables_of}
 use Rattle.office.specs.declared.repository.RepositoryFault.{RepositoryFault}
 use Rattle.tree_rows.specs.Rows.{IsUnchanged}
-use Rattle.tree_tables.proofs.Looking.{looks_also}
+use Rattle.tree_tables.proofs.Looking.{looks_also, was_clean}
 use Rattle.tree_tables.proofs.TheBook.{book_absent, book_held}
 use Rattle.tree_tables.specs.Answers.{FindsBook, ListsCloses, ListsTariffs}
 use Rattle.tree_tables.specs.Holds.{has_book}
@@ -24,9 +24,10 @@ use Rattle.tree_tables.specs.declared.closed_rows.Close.{Close}
 use Rattle.tree_tables.specs.declared.tariff_rows.StoredTariff.{StoredTariff}
 use Rattle.table_ledger.specs.Commits.{IsAtRest}
 use Rattle.table_ledger.specs.Ready.{IsStoredIn}
-use Rattle.book_restarts.specs.FileBooks.{RestsAt}
-use Rattle.book_files.specs.Faults.{IsResumed}
+use Rattle.book_restarts.specs.FileBooks.{RestsAt, StandsAt, file_names}
+use Rattle.book_files.specs.Causes.{IsResumed}
 use Rattle.book_files.specs.NewBooks.{IsEmpty, LeavesNew}
+use Rattle.book_files.specs.Stores.{StopKeepsBook, StopLeaves}
 use Rattle.book_files.specs.Unused.{SaysUnused, are_unused, unused_by}
 
 -- a look that is refused
@@ -69,25 +70,24 @@ looks_unused {found = found} {tariffs = tariffs} {Texts = Texts} book texts days
     × Texts tables tariffs} {third = found} book texts (λ tables finds lists. (finds, lists))) days
     (λ tables known lists. says tables known.0 known.1 lists)
 
--- A look at a store whose trees are at rest leaves them.
+-- A look at a store leaves it as it was.
 module _ (old new : State)
     (settled : (trees : Trees) → IsTrue old.view.is_open → old.may_leave trees
     → trees ≡ old.view.committed)
     (survives : Survives old new (λ trees. ⊥))
   where
-    pub looked_leaves : IsAtRest old.view → HasCleanDisk new → (trees : Trees) → new.may_leave trees
-        → trees ≡ old.view.trees
+    pub looked_leaves : IsAtRest old.view → StopLeaves new (λ trees. trees ≡ old.view.trees)
     looked_leaves rest clean trees left =
         elim (survives.crash clean trees left) [
           | inl was ↦ settled trees rest.is_open was ∙ sym rest.settled
           | inr none ↦ absurd none
         ]
 
-    -- so the book that they held is held
-    pub looked_holds : (names : Naming) (book : Book) → RestsAt names book old.view
-        → HasCleanDisk new → (trees : Trees) → new.may_leave trees → IsStoredIn names book trees
-    looked_holds names book at clean trees left =
-        subst (IsStoredIn names book) (sym (looked_leaves at.rest clean trees left)) at.kept
+    -- so the book that it held is held
+    pub looked_keeps : StopKeepsBook old.view new
+    looked_keeps book stands clean trees left =
+        let at = stands (was_clean survives clean) in
+        subst (IsStoredIn file_names book) (sym (looked_leaves at.rest clean trees left)) at.kept
 
 -- a row that was looked for is that of the book
 pub row_of_book : (names : Naming) (book : Book) (view : View) → RestsAt names book view
@@ -152,12 +152,28 @@ module _ (old new : State) (found : Result (Option Bool) StoreError)
         → IsUnchanged old.view new.view
     looked_same there is clean = (seen there is clean).same
 
-    -- whether anything was submitted to the book
-    pub told_unused : (names : Naming) (book : Book) (unused : Bool) → found ≡ Ok (Some unused)
-        → RestsAt names book old.view → HasCleanDisk new
-        → unused ≡ are_unused (tables_of names book)
-    told_unused names book unused is at clean =
-        let said = (seen (Some unused) is clean).known (tables_of names book) at.kept.holds in cc
+    -- whether anything was submitted to the book at which it stood
+    pub told_resumed : (unused : Bool) → found ≡ Ok (Some unused) → (book : Book)
+        → StandsAt file_names book old.view → HasCleanDisk new
+        → are_unused (tables_of file_names book) ≡ unused
+    told_resumed unused is book stands clean =
+        let at = stands (was_clean looks.survives clean) in
+        let said = (seen (Some unused) is clean).known (tables_of file_names book) at.kept.holds in
+        cc
+
+    -- where there is the row, the store was not empty
+    pub told_filled : {X : Type 0} (unused : Bool) → found ≡ Ok (Some unused)
+        → (IsClean old.view → IsEmpty old.view) → HasCleanDisk new → X
+    told_filled unused is empty clean =
+        never_there old.view (empty (was_clean looks.survives clean))
+        (told_row (Some unused) is clean)
+
+    -- and where there is none, it stood at no book
+    pub told_gone : {X : Type 0} → found ≡ Ok None → (book : Book)
+        → StandsAt file_names book old.view → HasCleanDisk new → X
+    told_gone is book stands clean =
+        never_gone file_names book old.view (stands (was_clean looks.survives clean))
+        (told_row None is clean)
 
 -- that all went well is answered where nothing was submitted
 pub resumed_unused : {A : Type 0} (unused : Bool) (result : Result A RepositoryFault)

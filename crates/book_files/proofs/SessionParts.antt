@@ -13,8 +13,9 @@ use Rattle.sqlite_disk.specs.declared.files.Files.{Files}
 use Rattle.sqlite_store.specs.FileStore.{state, view, recovers, IsReady}
 use Rattle.sqlite_store.specs.declared.catalog.Wanted.{Wanted}
 use Rattle.sqlite_store.specs.declared.store.FileStore.{FileStore}
-use Rattle.sqlite_trees.proofs.Doubt.{clean_of}
+use Rattle.sqlite_trees.proofs.Doubt.{clean_of, no_doubt}
 use Rattle.sqlite_trees.specs.Tree.{Trees}
+use Rattle.sqlite_trees.specs.View.{IsClean}
 use Rattle.sqlite_wal.specs.Reads.{AreClean}
 use Rattle.sqlite_wal.specs.Recovery.{Image}
 use Rattle.book_model.specs.Words.{Book, Event, IsMadeByCalls, Naming}
@@ -29,11 +30,12 @@ use Rattle.book_trees.specs.Refusals.{IsAsFound, MayLeave}
 use Rattle.book_trees.specs.Schema.{books_schema}
 use Rattle.book_trees.proofs.UnusedLogs.{short_alone}
 use Rattle.table_ledger.specs.Ready.{IsStoredIn}
-use Rattle.book_restarts.specs.FileBooks.{HoldsBook, LeavesBook, LeavesTrees}
+use Rattle.book_restarts.specs.FileBooks.{HoldsBook, LeavesBook}
 use Rattle.book_restarts.specs.FileBooks.{GoesOn, StandsAt, done_by, file_names}
 use Rattle.book_restarts.proofs.SessionLemmas.{book_goes_on, found_goes_on, held_as_found}
-use Rattle.book_restarts.proofs.SessionLemmas.{held_leaves, still_held}
+use Rattle.book_restarts.proofs.SessionLemmas.{still_held}
 use Rattle.book_files.specs.Sessions.{IsFileAlone, MayFollow, WereOnlyRead}
+use Rattle.book_files.specs.Stores.{CloseLeaves}
 use Rattle.book_files.specs.declared.session.Ended.TheVariants.{Refused}
 use Rattle.book_files.specs.declared.session.Ended.TheVariants as ended
 
@@ -43,14 +45,17 @@ pub found_clean : {D : Type 0} (g : Ghosts D) (files : Files D) (image : Image)
 found_clean g files image (inl may) = may.0
 found_clean g files image (inr alone) = alone.clean
 
--- what trees hold, the files hold
-pub closed_leaves : {D : Type 0} {g : Ghosts D} (names : Naming) (Made : Transition) (book : Book)
-    (image : Image) (store : FileStore D g)
-    → ∥ ((held : HoldsBooks image) × recovers store (trees_held held)) ∥₁
-    → ((trees : Trees) → recovers store trees → LeavesTrees names Made book trees)
-    → ∥ LeavesBook names Made book image ∥₁
-closed_leaves names Made book image store held each =
-    ∥∥₁_map held λ found. held_leaves names Made book image found.0 (each (trees_held found.0) found.1)
+-- what a stop may leave of a store, its closed files hold
+pub close_leaves : {D : Type 0} (g : Ghosts D) (store : FileStore D g) (closed : Closed D)
+    (So : Trees → Type 0)
+    → (AreClean g closed.files.log closed.files.db → IsTrue (state store).is_clean)
+    → CloseLeaves g closed
+    (λ image. ∥ ((held : HoldsBooks image) × recovers store (trees_held held)) ∥₁)
+    → (IsClean (view store) → (trees : Trees) → recovers store trees → So trees)
+    → CloseLeaves g closed (λ image. ∥ ((held : HoldsBooks image) × So (trees_held held)) ∥₁)
+close_leaves g store closed So honest left each = λ kept image may.
+    let clean = no_doubt _ (honest (found_clean g closed.files image may)) in
+    ∥∥₁_map (left kept image may) λ found. (found.0, each clean (trees_held found.0) found.1)
 
 -- a log that is said to be short is short
 pub closed_short : {D : Type 0} (g : Ghosts D) (store : FileStore D g) (closed : Closed D)

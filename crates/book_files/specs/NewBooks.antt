@@ -10,7 +10,7 @@ use Rattle.book_files.specs.declared.session.Ended.TheVariants.{Closed, Refused}
 use Rattle.book_trees.specs.Closing.{MayBeFound}
 use Rattle.book_trees.specs.LedgerFiles.{HoldsBooks, trees_held}
 use Rattle.book_trees.specs.Refusals.{IsBegun, MayLeave}
-use Rattle.book_restarts.specs.FileBooks.{HoldsHistory}
+use Rattle.book_restarts.specs.FileBooks.{HoldsHistory, file_names}
 use Rattle.table_ledger.specs.Commits.{IsAtRest}
 use Rattle.table_ledger.specs.Ready.{IsStoredIn}
 use Rattle.tree_tables.specs.Steps.{HasNoRows}
@@ -48,3 +48,8 @@ abbrev pub MayBeMade : {D : Type 0} (g : Ghosts D) → Ended D → Image → Typ
 MayBeMade g (Closed closed) image = IsTrue closed.is_kept × MayBeFound g closed.files image
 MayBeMade g (Refused (Some files)) image = MayLeave g files image
 MayBeMade g (Refused None) image = ⊥
+
+-- so new books were made, whatever that is
+abbrev pub NewBooksMade : {D A F : Type 0} (g : Ghosts D) → Result A F → Ended D → Type 0
+NewBooksMade g made ended =
+    (image : Image) → MayBeMade g ended image → MakesBooks file_names made image

@@ -5,7 +5,7 @@ use Rattle.sqlite_disk.specs.declared.files.Files.{Files}
 use Rattle.sqlite_wal.specs.Reads.{AreClean}
 use Rattle.sqlite_wal.specs.Recovery.{Image}
 use Rattle.book_restarts.specs.FileBooks.{GoesOn, file_names}
-use Rattle.book_core.specs.Transition.{NoEvent}
+use Rattle.book_core.specs.Transition.{NoEvent, Transition}
 use Rattle.book_trees.specs.Closing.{MayBeFound}
 use Rattle.book_trees.specs.Refusals.{MayLeave}
 use Rattle.book_trees.specs.declared.closing.LogLeft.TheVariants.{Short}
@@ -18,6 +18,11 @@ abbrev pub MayFollow : {D : Type 0} (g : Ghosts D) → Ended D → Image → Typ
 MayFollow g (Closed closed) image = IsTrue closed.is_kept × MayBeFound g closed.files image
 MayFollow g (Refused (Some files)) image = MayBeFound g files image
 MayFollow g (Refused None) image = ⊥
+
+-- Whatever that is, it goes on from what this session found, with what was made in it.
+abbrev pub FilesGoOn : {D : Type 0} (g : Ghosts D) → Transition → Image → Ended D → Type 0
+FilesGoOn g Made found ended =
+    (image : Image) → MayFollow g ended image → GoesOn file_names Made found image
 
 -- What may be found of the file of books that were closed, where their log was short, and no log is
 -- there any more.

@@ -1,5 +1,6 @@
 -- Books of the first form that were to be brought to this one.
 use Rattle.std.specs.Prelude.{◌≡◌, ◌⊎◌, List, Result, Ok, Err}
+use Rattle.sqlite_disk.specs.declared.Disk.{Ghosts}
 use Rattle.sqlite_store.specs.Listing.{listed_from}
 use Rattle.sqlite_trees.specs.Objects.{catalog_tree}
 use Rattle.sqlite_trees.specs.Tree.{Trees}
@@ -10,7 +11,9 @@ use Rattle.tree_tables.specs.Forms.{this_form}
 use Rattle.book_trees.specs.FirstForm.{ListMore}
 use Rattle.book_trees.specs.LedgerFiles.{HoldsFirstBooks, trees_held}
 use Rattle.book_trees.specs.Schema.{first_schema}
-use Rattle.book_restarts.specs.FileBooks.{HoldsBook, HoldsHistory, RestsAt}
+use Rattle.book_restarts.specs.FileBooks.{HoldsBook, HoldsHistory, RestsAt, file_names}
+use Rattle.book_files.specs.Sessions.{MayFollow}
+use Rattle.book_files.specs.declared.session.Ended.{Ended}
 use Rattle.table_ledger.specs.FirstForm.{IsStoredInFirst, RestsAtFirst}
 use Rattle.table_ledger.specs.Ready.{IsStoredIn}
 use Rattle.office.specs.declared.repository.RepositoryFault.{RepositoryFault}
@@ -72,3 +75,10 @@ BringsOver naming history (Ok (To form)) image = HoldsHistory naming history ima
 BringsOver naming history (Ok Already) image = ⊥
 BringsOver naming history (Err fault) image =
     ∥ (HoldsFirstHistory naming history image ⊎ HoldsHistory naming history image) ∥₁
+
+-- so the next session finds whatever history the files held in the first form
+abbrev pub FilesBroughtOver : {D : Type 0} (g : Ghosts D) → Image → Result Upgraded RepositoryFault
+    → Ended D → Type 0
+FilesBroughtOver g found told ended =
+    (image : Image) → MayFollow g ended image → (history : List Event)
+    → HoldsFirstHistory file_names history found → BringsOver file_names history told image

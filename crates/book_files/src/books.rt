@@ -1,29 +1,28 @@
 //! The books in a store, and the store of a file, which is closed after a visit. What is done to
 //! open books is written for any store, so that it is proved once.
 
-ghost use Rattle.std.specs.Prelude.{◌≡◌, true, false, is_some, ⊤, IfErr, IfOk, IsTrue, MatchResult};
-ghost use Rattle.std.specs.Prelude.{OnOk};
+ghost use Rattle.std.specs.Prelude.{◌≡◌, false, is_some, true, ⊤, IfErr, IfOk, MatchResult, OnOk};
 ghost use Rattle.sqlite_disk.specs.Disk.{MoreFaults};
 ghost use Rattle.sqlite_store.specs.FileStore.{view};
-ghost use Rattle.sqlite_trees.specs.Tree.{Trees};
 ghost use Rattle.sqlite_trees.specs.View.{IsClean};
 ghost use Rattle.sqlite_wal.specs.Reads.{AreClean};
-ghost use Rattle.sqlite_wal.specs.Recovery.{Image};
 ghost use Rattle.book_audit.specs.OfBook.{AreOfBook};
+ghost use Rattle.book_audit.specs.Own.{AreOwn};
 ghost use Rattle.book_audit.specs.declared.audited.Counts.{Counts};
 ghost use Rattle.book_model.specs.Words.{Book};
-ghost use Rattle.book_trees.specs.Closing.{HaveFailed, IsShort, MayBeFound};
-ghost use Rattle.book_files.specs.Faults.{HasFaultCause, IsResumed, ShowsOurs, store_fault};
-ghost use Rattle.book_files.specs.NewBooks.{IsEmpty, LeavesNew, LeavesNewBooks};
+ghost use Rattle.book_trees.specs.Closing.{HaveFailed, IsShort};
+ghost use Rattle.book_files.specs.Audits.{FindsWrongBy};
+ghost use Rattle.book_files.specs.Causes.{HasFaultCause, IsResumed, IsUnvisitedFor};
+ghost use Rattle.book_files.specs.Faults.{store_fault};
+ghost use Rattle.book_files.specs.Stores.{CloseGoesOn, CloseKeepsBook, CloseLeaves, CloseLeavesNew};
+ghost use Rattle.book_files.specs.Stores.{StopGoesOn, StopKeepsBook, StopLeaves, StopLeavesNew};
 ghost use Rattle.book_files.specs.Unused.{SaysUnused, are_unused, unused_by};
 ghost use Rattle.book_files.specs.Upgrades.{HoldsUpgraded, LeavesUpgraded, MayBringOver};
 ghost use Rattle.book_files.specs.Upgrades.{RestsBroughtOver};
 ghost use Rattle.book_trees.specs.FirstForm.{HasFirstTrees};
-ghost use Rattle.book_restarts.specs.FileBooks.{HoldsBook, LeavesBook, LeavesTrees, StandsAt};
-ghost use Rattle.book_restarts.specs.FileBooks.{done_by, file_names};
+ghost use Rattle.book_restarts.specs.FileBooks.{StandsAt, done_by, file_names};
 ghost use Rattle.table_ledger.specs.FirstForm.{StandsAtFirst};
 ghost use Rattle.table_ledger.specs.Loaded.{CanBeListed};
-ghost use Rattle.table_ledger.specs.Ready.{IsStoredIn};
 ghost use Rattle.table_model.specs.TablesOf.{tables_of};
 ghost use Rattle.tree_tables.specs.Holds.{HasShapes, has_book};
 ghost use Rattle.tree_tables.specs.States.{HasCleanDisk, Survives, state};
@@ -49,9 +48,8 @@ pub fn visit_in<S: Store, V: Visit>(
     visit: &mut V,
 ) -> (Result<V::Answer, RepositoryFault>, S)
     requires { IsClean (S.Store.view store) → HasShapes (S.Store.view store) }
-    ensures left { (book : Book) → StandsAt file_names book (S.Store.view store)
-        → IsClean (S.Store.view result.1) → (trees : Trees) → S.Store.recovers result.1 trees
-        → LeavesTrees file_names (done_by (V.Visit.work file_names visit.old visit.new) result.0) book trees }
+    ensures left { StopGoesOn (done_by (V.Visit.work file_names visit.old visit.new) result.0)
+        (S.Store.view store) (state S.Store result.1) }
     ensures clean { IsClean (S.Store.view result.1) → IsClean (S.Store.view store) }
     ensures came { MatchResult result.0 (V.Visit.comes visit.old visit.new)
         (λ _. visit.new ≡ visit.old) }
@@ -60,9 +58,8 @@ pub fn visit_in<S: Store, V: Visit>(
 
     // Books that a ledger left are not visited only because of memory and the store.
     ensures cause { IfErr result.0 (λ fault. IsClean (S.Store.view result.1)
-        → HasFaultCause (has_book (S.Store.view store).trees ≡ false) ⊥
-        (ShowsOurs file_names (S.Store.view store)
-        → MoreFaults (S.Store.faults store) (S.Store.faults result.1)) fault) }
+        → IsUnvisitedFor (S.Store.view store)
+        (MoreFaults (S.Store.faults store) (S.Store.faults result.1)) fault) }
 {
     match TableLedger::open(alloc, store, ShaNames) {
         Ok(mut books) => {
@@ -76,9 +73,7 @@ pub fn visit_in<S: Store, V: Visit>(
 /// Makes new books in a store that has none, whatever it says of its form. The store is given back.
 fn create_in<S: Store>(alloc: Global, store: S) -> (Result<(), RepositoryFault>, S)
     requires { IsClean (S.Store.view store) → HasShapes (S.Store.view store) }
-    ensures left { (IsClean (S.Store.view store) → IsEmpty (S.Store.view store))
-        → IsClean (S.Store.view result.1) → (trees : Trees) → S.Store.recovers result.1 trees
-        → LeavesNew file_names (S.Store.view store) result.0 trees }
+    ensures left { StopLeavesNew (S.Store.view store) result.0 (state S.Store result.1) }
     ensures clean { IsClean (S.Store.view result.1) → IsClean (S.Store.view store) }
     ensures kinds { IfErr result.0 (HasFaultCause ⊥ ⊥ ⊤) }
 {
@@ -92,9 +87,7 @@ fn create_in<S: Store>(alloc: Global, store: S) -> (Result<(), RepositoryFault>,
 /// said before there are any, so books always say it.
 fn make_in<S: Alter>(alloc: Global, store: S) -> (Result<(), RepositoryFault>, S)
     requires { IsClean (S.Store.view store) → HasShapes (S.Store.view store) }
-    ensures left { (IsClean (S.Store.view store) → IsEmpty (S.Store.view store))
-        → IsClean (S.Store.view result.1) → (trees : Trees) → S.Store.recovers result.1 trees
-        → LeavesNew file_names (S.Store.view store) result.0 trees }
+    ensures left { StopLeavesNew (S.Store.view store) result.0 (state S.Store result.1) }
     ensures clean { IsClean (S.Store.view result.1) → IsClean (S.Store.view store) }
     ensures kinds { IfErr result.0 (HasFaultCause ⊥ ⊥ ⊤) }
 {
@@ -160,15 +153,11 @@ fn fault_of(error: StoreError) -> RepositoryFault
 /// which anything was submitted belong to somebody: nothing is written to them.
 fn resume_in<S: Alter>(alloc: Global, store: S) -> (Result<(), RepositoryFault>, S)
     requires { IsClean (S.Store.view store) → HasShapes (S.Store.view store) }
-    ensures held { (book : Book) → StandsAt file_names book (S.Store.view store)
-        → IsClean (S.Store.view result.1) → (trees : Trees) → S.Store.recovers result.1 trees
-        → IsStoredIn file_names book trees }
+    ensures held { StopKeepsBook (S.Store.view store) (state S.Store result.1) }
     ensures told { (book : Book) → StandsAt file_names book (S.Store.view store)
         → IsClean (S.Store.view result.1)
         → IsResumed (are_unused (tables_of file_names book)) result.0 }
-    ensures left { (IsClean (S.Store.view store) → IsEmpty (S.Store.view store))
-        → IsClean (S.Store.view result.1) → (trees : Trees) → S.Store.recovers result.1 trees
-        → LeavesNew file_names (S.Store.view store) result.0 trees }
+    ensures left { StopLeavesNew (S.Store.view store) result.0 (state S.Store result.1) }
     ensures clean { IsClean (S.Store.view result.1) → IsClean (S.Store.view store) }
     ensures cause { IfErr result.0 (λ fault. IsClean (S.Store.view result.1)
         → HasFaultCause ⊥ (has_book (S.Store.view store).trees ≡ true) ⊤ fault) }
@@ -196,9 +185,8 @@ pub(crate) fn visit_and_close<D: Disk, V: Visit>(
     visit: &mut V,
 ) -> (Result<V::Answer, RepositoryFault>, Closed<D>)
     requires { HasShapes (view store) }
-    ensures left { IsTrue result.1.is_kept → (book : Book) → StandsAt file_names book (view store)
-        → (image : Image) → MayBeFound D.Disk result.1.files image
-        → ∥ LeavesBook file_names (done_by (V.Visit.work file_names visit.old visit.new) result.0) book image ∥₁ }
+    ensures left { CloseGoesOn D.Disk
+        (done_by (V.Visit.work file_names visit.old visit.new) result.0) (view store) result.1 }
     ensures short { IsShort D.Disk result.1 }
     ensures clean { AreClean D.Disk result.1.files.log result.1.files.db → IsClean (view store) }
     ensures came { MatchResult result.0 (V.Visit.comes visit.old visit.new)
@@ -208,8 +196,7 @@ pub(crate) fn visit_and_close<D: Disk, V: Visit>(
         → has_book (view store).trees ≡ true) }
     ensures cause { IfErr result.0 (λ fault.
         AreClean D.Disk result.1.files.log result.1.files.db
-        → HasFaultCause (has_book (view store).trees ≡ false) ⊥
-        (ShowsOurs file_names (view store) → HaveFailed D.Disk result.1.files) fault) }
+        → IsUnvisitedFor (view store) (HaveFailed D.Disk result.1.files) fault) }
 {
     let (answer, store) = visit_in(alloc, store, visit);
     (answer, close_books(store))
@@ -223,9 +210,7 @@ pub(crate) fn make_and_close<D: Disk>(
     store: FileStore<D>,
 ) -> (Result<(), RepositoryFault>, Closed<D>)
     requires { HasShapes (view store) }
-    ensures left { IsTrue result.1.is_kept → (IsClean (view store) → IsEmpty (view store))
-        → (image : Image) → MayBeFound D.Disk result.1.files image
-        → LeavesNewBooks file_names (view store) result.0 image }
+    ensures left { CloseLeavesNew D.Disk (view store) result.0 result.1 }
     ensures kinds { IfErr result.0 (HasFaultCause ⊥ ⊥ ⊤) }
 {
     let (made, store) = make_in(alloc, store);
@@ -240,15 +225,11 @@ pub(crate) fn resume_and_close<D: Disk>(
     store: FileStore<D>,
 ) -> (Result<(), RepositoryFault>, Closed<D>)
     requires { HasShapes (view store) }
-    ensures held { IsTrue result.1.is_kept → (book : Book) → StandsAt file_names book (view store)
-        → (image : Image) → MayBeFound D.Disk result.1.files image
-        → HoldsBook file_names book image }
+    ensures held { CloseKeepsBook D.Disk (view store) result.1 }
     ensures told { (book : Book) → StandsAt file_names book (view store)
         → AreClean D.Disk result.1.files.log result.1.files.db
         → IsResumed (are_unused (tables_of file_names book)) result.0 }
-    ensures left { IsTrue result.1.is_kept → (IsClean (view store) → IsEmpty (view store))
-        → (image : Image) → MayBeFound D.Disk result.1.files image
-        → LeavesNewBooks file_names (view store) result.0 image }
+    ensures left { CloseLeavesNew D.Disk (view store) result.0 result.1 }
     ensures clean { AreClean D.Disk result.1.files.log result.1.files.db → IsClean (view store) }
     ensures cause { IfErr result.0 (λ fault.
         AreClean D.Disk result.1.files.log result.1.files.db
@@ -277,8 +258,7 @@ fn write_details<S: Alter>(alloc: Global, store: &mut S) -> Result<(), StoreErro
 fn upgrade_in<S: Alter>(alloc: Global, store: S) -> (Result<(), RepositoryFault>, S)
     requires { IsClean (S.Store.view store) → HasFirstTrees (S.Store.view store) }
     ensures left { (book : Book) → StandsAtFirst file_names book (S.Store.view store)
-        → IsClean (S.Store.view result.1) → (trees : Trees) → S.Store.recovers result.1 trees
-        → LeavesUpgraded file_names book result.0 trees }
+        → StopLeaves (state S.Store result.1) (LeavesUpgraded file_names book result.0) }
     ensures clean { IsClean (S.Store.view result.1) → IsClean (S.Store.view store) }
     ensures cause { IfErr result.0 (λ fault. IsClean (S.Store.view result.1)
         → HasFaultCause (has_book (S.Store.view store).trees ≡ false) ⊥ ⊤ fault) }
@@ -305,10 +285,8 @@ pub(crate) fn upgrade_and_close<D: Disk>(
     store: FileStore<D>,
 ) -> (Result<(), RepositoryFault>, Closed<D>)
     requires { IsClean (view store) → HasFirstTrees (view store) }
-    ensures left { IsTrue result.1.is_kept → (book : Book)
-        → StandsAtFirst file_names book (view store) → (image : Image)
-        → MayBeFound D.Disk result.1.files image
-        → HoldsUpgraded file_names book result.0 image }
+    ensures left { (book : Book) → StandsAtFirst file_names book (view store)
+        → CloseLeaves D.Disk result.1 (HoldsUpgraded file_names book result.0) }
     ensures clean { AreClean D.Disk result.1.files.log result.1.files.db → IsClean (view store) }
     ensures cause { IfErr result.0 (λ fault.
         AreClean D.Disk result.1.files.log result.1.files.db
@@ -328,12 +306,13 @@ fn audit_in<S: Store, W: Watch>(
     watch: &mut W,
 ) -> (Result<Audited, RepositoryFault>, S)
     requires { IsClean (S.Store.view store) → HasShapes (S.Store.view store) }
-    ensures held { (book : Book) → StandsAt file_names book (S.Store.view store)
-        → IsClean (S.Store.view result.1) → (trees : Trees) → S.Store.recovers result.1 trees
-        → IsStoredIn file_names book trees }
+    ensures held { StopKeepsBook (S.Store.view store) (state S.Store result.1) }
     ensures book { IfOk result.0 (λ audited. (counts : Counts) → audited ≡ Audited.Sound counts
         → IsClean (S.Store.view result.1)
         → AreOfBook file_names (S.Store.view store).trees counts) }
+    ensures own { IfOk result.0 (λ audited. IsClean (S.Store.view result.1)
+        → FindsWrongBy (AreOwn (S.Store.view store).trees)
+        (MoreFaults (S.Store.faults store) (S.Store.faults result.1)) audited) }
     ensures clean { IsClean (S.Store.view result.1) → IsClean (S.Store.view store) }
 {
     let (audited, store) = audit_trees(alloc, store, watch);
@@ -349,12 +328,13 @@ pub(crate) fn audit_and_close<D: Disk, W: Watch>(
     watch: &mut W,
 ) -> (Result<Audited, RepositoryFault>, Closed<D>)
     requires { HasShapes (view store) }
-    ensures held { IsTrue result.1.is_kept → (book : Book) → StandsAt file_names book (view store)
-        → (image : Image) → MayBeFound D.Disk result.1.files image
-        → HoldsBook file_names book image }
+    ensures held { CloseKeepsBook D.Disk (view store) result.1 }
     ensures book { IfOk result.0 (λ audited. (counts : Counts) → audited ≡ Audited.Sound counts
         → AreClean D.Disk result.1.files.log result.1.files.db
         → AreOfBook file_names (view store).trees counts) }
+    ensures own { IfOk result.0 (λ audited.
+        AreClean D.Disk result.1.files.log result.1.files.db
+        → FindsWrongBy (AreOwn (view store).trees) (HaveFailed D.Disk result.1.files) audited) }
     ensures clean { AreClean D.Disk result.1.files.log result.1.files.db → IsClean (view store) }
 {
     let (audited, store) = audit_in(alloc, store, watch);

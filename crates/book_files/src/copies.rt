@@ -2,11 +2,11 @@
 
 ghost use Rattle.std.specs.Prelude.{◌≡◌, IfErr, IfOk, IfSome, IsOk, IsSome, MatchResult};
 ghost use Rattle.sqlite_wal.specs.Files.{image_at};
-ghost use Rattle.sqlite_wal.specs.Recovery.{Image};
 ghost use Rattle.book_core.specs.Transition.{NoEvent};
-ghost use Rattle.book_files.specs.Faults.{HasNoCopyFor, not_copied, tried_answer};
-ghost use Rattle.book_files.specs.Sessions.{AreHonest, MayFollow, WereOnlyRead};
-ghost use Rattle.book_restarts.specs.FileBooks.{GoesOn, file_names};
+ghost use Rattle.book_files.specs.Causes.{WhyNotCopied};
+ghost use Rattle.book_files.specs.Faults.{not_copied, tried_answer};
+ghost use Rattle.book_files.specs.Sessions.{AreHonest, FilesGoOn, WereOnlyRead};
+ghost use Rattle.book_restarts.specs.FileBooks.{file_names};
 
 use crate::books::visit_and_close;
 use crate::repository::refused;
@@ -69,10 +69,8 @@ pub fn visit_copy_at<S: Start, T: Start, V: Visit>(
     visit: &mut V,
 ) -> Copied<V::Answer, FileFrom<S>, FileFrom<T>>
     ensures history { IfOk result.answer (λ answer.
-        AreHonest ⟦<FileFrom<S> as Disk>⟧ result.original
-        → (image : Image) → MayFollow ⟦<FileFrom<T> as Disk>⟧ result.copy image
-        → GoesOn file_names (V.Visit.work file_names visit.old visit.new answer) (image_at S.Start)
-        image) }
+        AreHonest ⟦<FileFrom<S> as Disk>⟧ result.original → FilesGoOn ⟦<FileFrom<T> as Disk>⟧
+        (V.Visit.work file_names visit.old visit.new answer) (image_at S.Start) result.copy) }
 
     // The books that are copied were only read.
     ensures original { IfSome result.original
@@ -83,8 +81,8 @@ pub fn visit_copy_at<S: Start, T: Start, V: Visit>(
 
     // Of books that a ledger left there is no copy only because of memory, a call on either pair of
     // files that failed, and the limits of the format.
-    ensures cause { IfErr result.answer (λ fault. HasNoCopyFor ⟦<FileFrom<S> as Disk>⟧
-        ⟦<FileFrom<T> as Disk>⟧ (image_at S.Start) fault result.original result.copy) }
+    ensures cause { IfErr result.answer (WhyNotCopied ⟦<FileFrom<S> as Disk>⟧
+        ⟦<FileFrom<T> as Disk>⟧ (image_at S.Start) result.original result.copy) }
 {
     let mut files = match lock_at(rt, path, start) {
         Ok(files) => files,
@@ -124,13 +122,12 @@ pub fn copy_at<S: Start, T: Start>(
 ) -> Copied<(), FileFrom<S>, FileFrom<T>>
     ensures history { IfOk result.answer (λ copied.
         AreHonest ⟦<FileFrom<S> as Disk>⟧ result.original
-        → (image : Image) → MayFollow ⟦<FileFrom<T> as Disk>⟧ result.copy image
-        → GoesOn file_names NoEvent (image_at S.Start) image) }
+        → FilesGoOn ⟦<FileFrom<T> as Disk>⟧ NoEvent (image_at S.Start) result.copy) }
     ensures original { IfSome result.original
         (WereOnlyRead ⟦<FileFrom<S> as Disk>⟧ (image_at S.Start)) }
     ensures in_hand { IsOk result.answer → IsSome result.original }
-    ensures cause { IfErr result.answer (λ fault. HasNoCopyFor ⟦<FileFrom<S> as Disk>⟧
-        ⟦<FileFrom<T> as Disk>⟧ (image_at S.Start) fault result.original result.copy) }
+    ensures cause { IfErr result.answer (WhyNotCopied ⟦<FileFrom<S> as Disk>⟧
+        ⟦<FileFrom<T> as Disk>⟧ (image_at S.Start) result.original result.copy) }
 {
     visit_copy_at(rt, path, start, copy, held, seed, &mut Look)
 }

@@ -1,27 +1,23 @@
 //! One session on the books in a file: it is opened, visited and closed; or looked through; or new
 //! books are made in it, or continued; or old ones are brought over.
 
-ghost use Rattle.std.specs.Prelude.{◌≡◌, ◌⊎◌, [], false, true, ⊤, IfErr, IfOk, List, MatchResult};
-ghost use Rattle.std.specs.Prelude.{Ok};
+ghost use Rattle.std.specs.Prelude.{◌≡◌, [], IfErr, IfOk, List, MatchResult, Ok};
 ghost use Rattle.sqlite_wal.specs.Files.{image_at};
 ghost use Rattle.sqlite_wal.specs.Recovery.{Image};
 ghost use Rattle.book_model.specs.Words.{Event};
 ghost use Rattle.book_core.specs.Transition.{NoEvent};
 ghost use Rattle.book_audit.specs.declared.audited.Counts.{Counts};
-ghost use Rattle.book_files.specs.Audits.{HoldCounted};
-ghost use Rattle.book_files.specs.Faults.{HasFaultCause, HasNoAnswerFor, HoldsOurs, first_answer};
-ghost use Rattle.book_files.specs.Faults.{resume_fault};
-ghost use Rattle.book_files.specs.NewBooks.{MakesBooks, MayBeMade};
-ghost use Rattle.book_files.specs.Sessions.{IsFileAlone, MayFollow};
-ghost use Rattle.book_files.specs.Upgrades.{BringsOver, HoldsFirstHistory, upgrade_answer};
+ghost use Rattle.book_files.specs.Audits.{HoldCounted, WhyUnsound};
+ghost use Rattle.book_files.specs.Causes.{HaveBookRow, WhyNotAudited, WhyNotContinued, WhyNotMade};
+ghost use Rattle.book_files.specs.Causes.{WhyNotUpgraded, WhyNotVisited};
+ghost use Rattle.book_files.specs.Faults.{first_answer, resume_fault};
+ghost use Rattle.book_files.specs.NewBooks.{NewBooksMade};
+ghost use Rattle.book_files.specs.Sessions.{FilesGoOn, IsFileAlone, MayFollow};
+ghost use Rattle.book_files.specs.Upgrades.{FilesBroughtOver, upgrade_answer};
 ghost use Rattle.book_restarts.specs.FileBooks.{GoesOn, HoldsHistory, done_by, file_names};
 ghost use Rattle.book_trees.specs.FirstForm.{HoldsFirstForm};
-ghost use Rattle.book_trees.specs.Forms.{HoldsThisForm};
-ghost use Rattle.book_trees.specs.LedgerFiles.{HoldsBooks, HoldsEmptyBooks, HoldsNothing};
-ghost use Rattle.book_trees.specs.LedgerFiles.{HoldsFirstBooks, trees_held};
-ghost use Rattle.book_trees.specs.Refusals.{AreFull, StopCreating};
+ghost use Rattle.book_trees.specs.LedgerFiles.{HoldsEmptyBooks, HoldsNothing};
 ghost use Rattle.book_trees.specs.StoreView.{ListsBooks};
-ghost use Rattle.tree_tables.specs.Holds.{has_book};
 
 use crate::books::{
     audit_and_close, make_and_close, resume_and_close, upgrade_and_close, visit_and_close,
@@ -65,14 +61,13 @@ pub fn visit_at<S: LeftByLedger, V: Visit>(
     start: S,
     visit: &mut V,
 ) -> (Result<V::Answer, RepositoryFault>, Ended<FileFrom<S>>)
-    ensures history { (image : Image) → MayFollow ⟦<FileFrom<S> as Disk>⟧ result.1 image
-        → GoesOn file_names (done_by (V.Visit.work file_names visit.old visit.new) result.0) (image_at S.Start)
-        image }
+    ensures history { FilesGoOn ⟦<FileFrom<S> as Disk>⟧
+        (done_by (V.Visit.work file_names visit.old visit.new) result.0) (image_at S.Start) result.1 }
 
     // Where the log is left short, the file alone, without any log, holds all of that.
     ensures alone { (image : Image) → IsFileAlone ⟦<FileFrom<S> as Disk>⟧ result.1 image
-        → GoesOn file_names (done_by (V.Visit.work file_names visit.old visit.new) result.0) (image_at S.Start)
-        image }
+        → GoesOn file_names (done_by (V.Visit.work file_names visit.old visit.new) result.0)
+        (image_at S.Start) image }
 
     ensures came { MatchResult result.0 (V.Visit.comes visit.old visit.new)
         (λ _. visit.new ≡ visit.old) }
@@ -82,13 +77,9 @@ pub fn visit_at<S: LeftByLedger, V: Visit>(
     // of the store is told of what a ledger left only where a call on the files failed, or met a
     // limit.
     ensures there { IfOk result.0 (λ answer. (image : Image)
-        → MayFollow ⟦<FileFrom<S> as Disk>⟧ result.1 image
-        → (held : HoldsBooks (image_at S.Start)) → has_book (trees_held held) ≡ true) }
-    ensures cause { IfErr result.0 (λ fault. HasNoAnswerFor ⟦<FileFrom<S> as Disk>⟧
-        (AreFull ⟦<FileFrom<S> as Disk>⟧) (HasFaultCause (¬ HoldsThisForm (image_at S.Start)) ⊥)
-        (λ Failed. HasFaultCause
-        ((held : HoldsBooks (image_at S.Start)) → has_book (trees_held held) ≡ false) ⊥
-        (HoldsOurs file_names (image_at S.Start) → Failed)) fault result.1) }
+        → MayFollow ⟦<FileFrom<S> as Disk>⟧ result.1 image → HaveBookRow (image_at S.Start)) }
+    ensures cause { IfErr result.0
+        (WhyNotVisited ⟦<FileFrom<S> as Disk>⟧ (image_at S.Start) result.1) }
 {
     let pages = pages_for(visit.is_brief());
     match open_at(rt, path, seed, pages, start) {
@@ -109,12 +100,10 @@ pub fn make_at<S: Start>(
     seed: u64,
     start: S,
 ) -> (Result<(), RepositoryFault>, Ended<FileFrom<S>>)
-    ensures made { HoldsNothing (image_at S.Start) → (image : Image)
-        → MayBeMade ⟦<FileFrom<S> as Disk>⟧ result.1 image
-        → MakesBooks file_names result.0 image }
-    ensures cause { IfErr result.0 (λ fault. HasNoAnswerFor ⟦<FileFrom<S> as Disk>⟧
-        (StopCreating ⟦<FileFrom<S> as Disk>⟧) (HasFaultCause (¬ HoldsNothing (image_at S.Start)) ⊥)
-        (λ Failed. HasFaultCause ⊥ ⊥ ⊤) fault result.1) }
+    ensures made { HoldsNothing (image_at S.Start)
+        → NewBooksMade ⟦<FileFrom<S> as Disk>⟧ result.0 result.1 }
+    ensures cause { IfErr result.0
+        (WhyNotMade ⟦<FileFrom<S> as Disk>⟧ (image_at S.Start) result.1) }
 {
     match create_at(rt, path, seed, start) {
         Ok(store) => {
@@ -145,21 +134,16 @@ pub fn resume_at<S: LeftByLedger>(
     seed: u64,
     start: S,
 ) -> (Result<(), RepositoryFault>, Ended<FileFrom<S>>)
-    ensures history { (image : Image) → MayFollow ⟦<FileFrom<S> as Disk>⟧ result.1 image
-        → GoesOn file_names NoEvent (image_at S.Start) image }
+    ensures history { FilesGoOn ⟦<FileFrom<S> as Disk>⟧ NoEvent (image_at S.Start) result.1 }
     ensures none { (image : Image) → MayFollow ⟦<FileFrom<S> as Disk>⟧ result.1 image
         → (history : List Event) → HoldsHistory file_names history (image_at S.Start)
         → IfOk result.0 (λ made. history ≡ []) }
-    ensures made { HoldsEmptyBooks (image_at S.Start) → (image : Image)
-        → MayBeMade ⟦<FileFrom<S> as Disk>⟧ result.1 image
-        → MakesBooks file_names result.0 image }
+    ensures made { HoldsEmptyBooks (image_at S.Start)
+        → NewBooksMade ⟦<FileFrom<S> as Disk>⟧ result.0 result.1 }
 
     // That books are there is answered of files that hold none of ours, or have their row.
-    ensures cause { IfErr result.0 (λ fault. HasNoAnswerFor ⟦<FileFrom<S> as Disk>⟧
-        (AreFull ⟦<FileFrom<S> as Disk>⟧) (HasFaultCause ⊥ (¬ HoldsThisForm (image_at S.Start)))
-        (λ Failed. HasFaultCause ⊥
-        ((held : HoldsBooks (image_at S.Start)) → has_book (trees_held held) ≡ true) ⊤)
-        fault result.1) }
+    ensures cause { IfErr result.0
+        (WhyNotContinued ⟦<FileFrom<S> as Disk>⟧ (image_at S.Start) result.1) }
 {
     match open_at(rt, path, seed, CACHE_PAGES, start) {
         Ok(store) => {
@@ -180,8 +164,7 @@ pub fn audit_at<S: Start, W: Watch>(
     start: S,
     watch: &mut W,
 ) -> (Result<Audited, RepositoryFault>, Ended<FileFrom<S>>)
-    ensures history { (image : Image) → MayFollow ⟦<FileFrom<S> as Disk>⟧ result.1 image
-        → GoesOn file_names NoEvent (image_at S.Start) image }
+    ensures history { FilesGoOn ⟦<FileFrom<S> as Disk>⟧ NoEvent (image_at S.Start) result.1 }
 
     // Files that are called sound hold a book, whoever wrote them, and the counts are its own. Any
     // other answer too is given of no files but those that list the tables of books.
@@ -192,10 +175,13 @@ pub fn audit_at<S: Start, W: Watch>(
         → MayFollow ⟦<FileFrom<S> as Disk>⟧ result.1 image
         → ∥ ListsBooks (image_at S.Start) ∥₁) }
 
+    // Files that hold a book which calls made are not called unsound, but where a call on them failed.
+    ensures own { IfOk result.0
+        (WhyUnsound ⟦<FileFrom<S> as Disk>⟧ (image_at S.Start) result.1) }
+
     // Of files that were looked through this says nothing.
-    ensures cause { IfErr result.0 (λ fault. HasNoAnswerFor ⟦<FileFrom<S> as Disk>⟧
-        (AreFull ⟦<FileFrom<S> as Disk>⟧) (HasFaultCause (¬ HoldsThisForm (image_at S.Start)) ⊥)
-        (λ _ _. ⊤) fault result.1) }
+    ensures cause { IfErr result.0
+        (WhyNotAudited ⟦<FileFrom<S> as Disk>⟧ (image_at S.Start) result.1) }
 {
     match look_through_at(rt, path, seed, start) {
         Ok(store) => {
@@ -236,25 +222,17 @@ pub fn upgrade_at<S: Start>(
     seed: u64,
     start: S,
 ) -> (Result<Upgraded, RepositoryFault>, Ended<FileFrom<S>>)
-    ensures history { HoldsFirstForm (image_at S.Start) → (image : Image)
-        → MayFollow ⟦<FileFrom<S> as Disk>⟧ result.1 image → (history : List Event)
-        → HoldsFirstHistory file_names history (image_at S.Start)
-        → BringsOver file_names history result.0 image }
+    ensures history { HoldsFirstForm (image_at S.Start)
+        → FilesBroughtOver ⟦<FileFrom<S> as Disk>⟧ (image_at S.Start) result.0 result.1 }
 
     // Books of this form are left as they are.
-    ensures already { result.0 ≡ Ok Upgraded.Already → (image : Image)
-        → MayFollow ⟦<FileFrom<S> as Disk>⟧ result.1 image
-        → GoesOn file_names NoEvent (image_at S.Start) image }
+    ensures already { result.0 ≡ Ok Upgraded.Already
+        → FilesGoOn ⟦<FileFrom<S> as Disk>⟧ NoEvent (image_at S.Start) result.1 }
 
     // Files that hold books of the first form, and their row, are refused only because of memory
     // and the disk.
-    ensures cause { IfErr result.0 (λ fault. HasNoAnswerFor ⟦<FileFrom<S> as Disk>⟧
-        (AreFull ⟦<FileFrom<S> as Disk>⟧)
-        (λ Failed. HasFaultCause (¬ HoldsFirstForm (image_at S.Start)) ⊥
-        (Failed ⊎ (¬ HoldsFirstForm (image_at S.Start))))
-        (λ Failed. HasFaultCause
-        ((held : HoldsFirstBooks (image_at S.Start)) → has_book (trees_held held) ≡ false) ⊥ ⊤)
-        fault result.1) }
+    ensures cause { IfErr result.0
+        (WhyNotUpgraded ⟦<FileFrom<S> as Disk>⟧ (image_at S.Start) result.1) }
 {
     match open_first_at(rt, path, seed, start) {
         Ok(store) => {

@@ -1,27 +1,37 @@
 use Rattle.std.proofs.Common.{◌∙◌, ◌≡◌, subst, sym}
+use Rattle.sqlite_disk.specs.Disk.{MoreFaults}
 use Rattle.sqlite_trees.specs.View.{IsClean}
 use Rattle.book_audit.specs.OfBook.{AreOfBook}
+use Rattle.book_audit.specs.Own.{AreOwn}
 use Rattle.book_audit.specs.declared.audited.Audited.TheVariants.{Sound}
 use Rattle.book_audit.specs.declared.audited.Counts.{Counts}
 use Rattle.book_restarts.proofs.OpenStores.{clean_before}
 use Rattle.book_restarts.specs.FileBooks.{file_names}
 use Rattle.office.specs.declared.repository.RepositoryFault.TheVariants.{Ledger}
 use Rattle.table_ledger.specs.Ready.{IsStoredIn}
-use Rattle.book_files.proofs.Causes.{mapped_ok}
+use Rattle.book_files.specs.Audits.{FindsWrongBy}
+use Rattle.book_files.proofs.Causes.{mapped_ok, ok_so}
 use Rattle.book_files.proofs.books.audit_in.Goals as goal
 
 pub returns : goal.returns
 returns g c =
-    let quiet = c.audit_trees-audited.ensures.quiet in
+    let audited = c.audit_trees-audited in
+    let quiet = audited.ensures.quiet in
+    let old = c.args.store in
+    let new = audited.result.1 in
     record {
       held = λ book stands clean trees left.
           let at = stands (clean_before _ _ quiet.clean clean) in
-          subst (IsStoredIn file_names book) (sym (g.met.S.Store.settled c.args.store trees
+          subst (IsStoredIn file_names book) (sym (g.met.S.Store.settled old trees
           at.rest.is_open (quiet.outcomes trees left) ∙ sym at.rest.settled)) at.kept;
       book = mapped_ok (λ audited. (counts : Counts) → audited ≡ Sound counts
-          → IsClean (g.S.Store.view c.audit_trees-audited.result.1)
-          → AreOfBook file_names (g.S.Store.view c.args.store).trees counts) Ledger
-          c.audit_trees-audited.result.0 c.map_err.result c.map_err.ensures.cases
-          c.audit_trees-audited.ensures.book;
+          → IsClean (g.S.Store.view new) → AreOfBook file_names (g.S.Store.view old).trees counts)
+          Ledger audited.result.0 c.map_err.result c.map_err.ensures.cases audited.ensures.book;
+      own = mapped_ok (λ audited. IsClean (g.S.Store.view new)
+          → FindsWrongBy (AreOwn (g.S.Store.view old).trees)
+          (MoreFaults (g.S.Store.faults old) (g.S.Store.faults new)) audited) Ledger
+          audited.result.0 c.map_err.result c.map_err.ensures.cases
+          (ok_so audited.result.0 audited.ensures.own (λ told own clean finding is ours.
+          own finding is clean ours));
       clean = λ clean. clean_before _ _ quiet.clean clean;
     }

@@ -4,7 +4,7 @@ use Rattle.sqlite_trees.specs.Tree.{Trees}
 use Rattle.table_ledger.proofs.SurvivalLemmas.{clean_before}
 use Rattle.tree_tables.specs.Forms.{this_form}
 use Rattle.book_restarts.specs.FileBooks.{file_names}
-use Rattle.book_files.specs.Faults.{HasFaultCause}
+use Rattle.book_files.specs.Causes.{HasFaultCause}
 use Rattle.book_files.proofs.Causes.{error_cause}
 use Rattle.book_files.proofs.NewParts.{said_empty, said_leaves, said_tables}
 use Rattle.book_files.proofs.books.make_in.Goals as goal

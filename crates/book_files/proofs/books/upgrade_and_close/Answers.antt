@@ -6,7 +6,7 @@ use Rattle.book_files.proofs.UpgradeParts.{brought_holds, unbrought_holds}
 use Rattle.book_files.proofs.books.upgrade_and_close.Goals as goal
 
 pub returns-in-Ok-clause-left : goal.returns-in-Ok-clause-left
-returns-in-Ok-clause-left g c = λ kept book stands image may.
+returns-in-Ok-clause-left g c = λ book stands kept image may.
     let closed = c.close_books.result in
     let clean = no_doubt _ (c.close_books.ensures.honest
     (found_clean g.D.Disk closed.files image may)) in
@@ -24,7 +24,7 @@ returns-in-Ok-clause-cause g c =
     (λ fault cause clean. cause (no_doubt _ (c.close_books.ensures.honest clean)))
 
 pub returns-in-Err-clause-left : goal.returns-in-Err-clause-left
-returns-in-Err-clause-left g c = λ kept book stands image may.
+returns-in-Err-clause-left g c = λ book stands kept image may.
     let closed = c.close_first.result in
     let clean = no_doubt _ (c.close_first.ensures.honest
     (found_clean g.D.Disk closed.files image may)) in

@@ -9,7 +9,7 @@ use Rattle.table_ledger.proofs.SurvivalLemmas.{clean_before, survives_both, surv
 use Rattle.book_model.specs.declared.fault.LedgerFault.TheVariants as ledger
 use Rattle.office.specs.declared.repository.RepositoryFault.TheVariants.{Ledger}
 use Rattle.book_restarts.specs.FileBooks.{file_names}
-use Rattle.book_files.specs.Faults.{HasFaultCause}
+use Rattle.book_files.specs.Causes.{HasFaultCause}
 use Rattle.book_files.proofs.Causes.{error_cause}
 use Rattle.book_files.proofs.UpgradeParts.{first_on, not_over_left, over_before, over_left, rests_before}
 use Rattle.book_files.proofs.books.upgrade_in.Goals as goal

@@ -1,25 +1,25 @@
 use Rattle.std.proofs.Common.{◌≡◌, false}
+use Rattle.std.proofs.Math.Logic.{∥∥₁_map}
 use Rattle.sqlite_disk.specs.Disk.{MoreFaults}
 use Rattle.sqlite_store.specs.FileStore.{faults, view}
 use Rattle.sqlite_trees.proofs.Doubt.{no_doubt}
 use Rattle.book_trees.specs.Closing.{HaveFailed}
-use Rattle.book_restarts.specs.FileBooks.{done_by, file_names}
+use Rattle.book_restarts.proofs.SessionLemmas.{held_leaves}
+use Rattle.book_restarts.specs.FileBooks.{LeavesTrees, done_by, file_names}
 use Rattle.tree_tables.specs.Holds.{has_book}
-use Rattle.book_files.specs.Faults.{ShowsOurs}
+use Rattle.book_files.specs.Causes.{ShowsOurs}
 use Rattle.book_files.proofs.Causes.{cause_so, err_so, ok_so, since_none}
-use Rattle.book_files.proofs.SessionParts.{closed_leaves, closed_short, found_clean}
+use Rattle.book_files.proofs.SessionParts.{close_leaves, closed_short}
 use Rattle.book_files.proofs.books.visit_and_close.Goals as goal
 
 pub returns-clause-left : goal.returns-clause-left
-returns-clause-left g c = λ kept book stands image may.
-    let closed = c.close_books.result in
-    let clean = no_doubt _ (c.close_books.ensures.honest
-    (found_clean g.D.Disk closed.files image may)) in
-    closed_leaves file_names (done_by
-    (g.V.Visit.work file_names c.args.visit.now c.visit_in-answer.new.visit) c.visit_in-answer.result.0)
-    book image c.visit_in-answer.result.1
-    (c.close_books.ensures.left kept image may)
-    (λ trees left. c.visit_in-answer.ensures.left book stands clean trees left)
+returns-clause-left g c = λ book stands kept image may.
+    let visited = c.visit_in-answer in
+    let closed = c.close_books in
+    let Made = done_by (g.V.Visit.work file_names c.args.visit.now visited.new.visit) visited.result.0 in
+    ∥∥₁_map (close_leaves g.D.Disk visited.result.1 closed.result (LeavesTrees file_names Made book)
+    closed.ensures.honest closed.ensures.left (visited.ensures.left book stands) kept image may)
+    λ found. held_leaves file_names Made book image found.0 found.1
 
 pub returns-clause-short : goal.returns-clause-short
 returns-clause-short g c =

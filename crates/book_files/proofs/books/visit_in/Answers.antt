@@ -8,7 +8,7 @@ use Rattle.book_restarts.specs.FileBooks.{file_names}
 use Rattle.table_ledger.specs.Ready.{IsStoredIn}
 use Rattle.tree_tables.specs.Holds.{has_book}
 use Rattle.tree_tables.specs.States.{state}
-use Rattle.book_files.specs.Faults.{ShowsOurs}
+use Rattle.book_files.specs.Causes.{ShowsOurs}
 use Rattle.book_files.proofs.Causes.{opened_cause, ours_failed}
 use Rattle.book_files.proofs.books.visit_in.Goals as goal
 

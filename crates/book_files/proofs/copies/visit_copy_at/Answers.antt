@@ -6,10 +6,11 @@ use Rattle.sqlite_store.specs.FileStore.{view}
 use Rattle.sqlite_wal.specs.Files.{image_at}
 use Rattle.sqlite_wal.specs.Recovery.{Image}
 use Rattle.book_core.specs.Transition.{Transition}
-use Rattle.book_restarts.specs.FileBooks.{GoesOn, done_by, file_names}
+use Rattle.book_restarts.specs.FileBooks.{done_by, file_names}
 use Rattle.book_trees.specs.LedgerFiles.{HoldsBooks, trees_held}
-use Rattle.book_files.specs.Faults.{HasNoCopyFor, IsWithoutFiles, open_fault}
-use Rattle.book_files.specs.Sessions.{AreHonest, MayFollow}
+use Rattle.book_files.specs.Causes.{IsWithoutFiles, WhyNotCopied}
+use Rattle.book_files.specs.Faults.{open_fault}
+use Rattle.book_files.specs.Sessions.{AreHonest, FilesGoOn}
 use Rattle.book_files.specs.declared.copies.CopyFault.TheVariants as copies
 use Rattle.book_files.specs.declared.session.Ended.TheVariants.{Closed, Refused}
 use Rattle.book_files.proofs.Causes.{mapped_came, mapped_err, mapped_ok, uncopied_cause}
@@ -29,18 +30,17 @@ returns-in-Ok-copy_to-clause-history g c =
     let original = Some c.copy_to.new.from in
     let copy = Closed visited.result.1 in
     let first = image_at g.S.Start in
-    mapped_ok (λ answer. AreHonest one original → (image : Image) → MayFollow two copy image
-    → GoesOn file_names (work answer) first image) copies.Refused visited.result.0 c.map_err.result
-    c.map_err.ensures.cases
-    (where_answered work (λ (Made : Transition). AreHonest one original → (image : Image)
-    → MayFollow two copy image → GoesOn file_names Made first image) visited.result.0
+    mapped_ok (λ answer. AreHonest one original → FilesGoOn two (work answer) first copy)
+    copies.Refused visited.result.0 c.map_err.result c.map_err.ensures.cases
+    (where_answered work (λ (Made : Transition). AreHonest one original
+    → FilesGoOn two Made first copy) visited.result.0
     (λ honest image may. session_goes_on file_names (done_by work visited.result.0) first image
     c.in-Ok-copy_to.store c.in-Ok-copy_to.ensures.ready
     (λ clean. subst (λ (i : Image). (held : HoldsBooks i) → (view c.in-Ok-copy_to.store).trees
     ≡ trees_held held) c.in-Ok.ensures.held (c.in-Ok-copy_to.ensures.found clean honest))
     (done_answered work file_names
     (g.met.V.Visit.answered file_names c.args.visit.now visited.new.visit) visited.result.0)
-    (λ book stands. visited.ensures.left may.0 book stands image may.1)))
+    (λ book stands. visited.ensures.left book stands may.0 image may.1)))
 
 pub returns-in-Ok-copy_to-clause-original : goal.returns-in-Ok-copy_to-clause-original
 returns-in-Ok-copy_to-clause-original g c =
@@ -74,7 +74,7 @@ returns-in-Err-copy_to-clause-cause g c =
     g.T.Destruct-dict in
     let original = c.copy_to.new.from in
     let copy = c.in-Err-copy_to.copies in
-    subst (λ fault. HasNoCopyFor one two (image_at g.S.Start) fault (Some original) (Refused copy))
+    subst (WhyNotCopied one two (image_at g.S.Start) (Some original) (Refused copy))
     (sym c.copy_fault.ensures)
     (uncopied_cause one two (image_at g.S.Start) c.in-Ok.files original c.in-Ok.ensures.held
     c.in-Err-copy_to.fault copy c.in-Err-copy_to.ensures.cause)
@@ -87,7 +87,7 @@ returns-in-Ok-copy_to-clause-cause g c =
     g.T.Destruct-dict in
     let visited = c.visit_and_close-opened in
     let store = c.in-Ok-copy_to.store in
-    mapped_err (λ fault. HasNoCopyFor one two (image_at g.S.Start) fault (Some c.copy_to.new.from)
+    mapped_err (WhyNotCopied one two (image_at g.S.Start) (Some c.copy_to.new.from)
     (Closed visited.result.1)) copies.Refused visited.result.0 c.map_err.result c.map_err.ensures.cases
     visited.ensures.cause (λ fault cause honest clean.
     visited_cause file_names (image_at g.S.Start) store c.in-Ok-copy_to.ensures.ready

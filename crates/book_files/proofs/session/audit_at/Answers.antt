@@ -15,11 +15,12 @@ use Rattle.book_trees.proofs.ListingLemmas.{books_listed}
 use Rattle.book_trees.specs.Forms.{HoldsThisForm}
 use Rattle.book_trees.specs.Refusals.{AreFull}
 use Rattle.book_trees.specs.StoreView.{ListsBooks}
-use Rattle.book_files.specs.Audits.{HoldCounted}
-use Rattle.book_files.specs.Faults.{HasFaultCause, HasNoAnswerFor}
+use Rattle.book_audit.specs.Own.{AreOwn}
+use Rattle.book_files.specs.Audits.{HoldCounted, WhyUnsound}
+use Rattle.book_files.specs.Causes.{WhyNotAudited}
 use Rattle.book_files.specs.Sessions.{MayFollow}
 use Rattle.book_files.specs.declared.session.Ended.TheVariants.{Refused}
-use Rattle.book_files.proofs.AuditParts.{looked_listed, never_sound}
+use Rattle.book_files.proofs.AuditParts.{looked_listed, never_sound, never_unsound}
 use Rattle.book_files.proofs.Causes.{err_each, look_cause, ok_each, ok_so}
 use Rattle.book_files.proofs.SessionParts.{found_clean, held_goes_on, refused_goes_on}
 use Rattle.book_files.proofs.session.audit_at.Goals as goal
@@ -28,7 +29,7 @@ pub returns-in-Ok-clause-history : goal.returns-in-Ok-clause-history
 returns-in-Ok-clause-history g c = λ image may.
     held_goes_on file_names (image_at g.S.Start) image c.in-Ok.store c.in-Ok.ensures.ready
     c.in-Ok.ensures.found
-    (λ book stands. c.audit_and_close-audited.ensures.held may.0 book stands image may.1)
+    (λ book stands. c.audit_and_close-audited.ensures.held book stands may.0 image may.1)
 
 pub returns-in-Ok-clause-cause : goal.returns-in-Ok-clause-cause
 returns-in-Ok-clause-cause g c =
@@ -44,11 +45,27 @@ pub returns-in-Err-clause-cause : goal.returns-in-Err-clause-cause
 returns-in-Err-clause-cause g c =
     let disk = modelled.ghosts the_row g.row.S host.ghosts host.dict g.S.Start g.S.Start-dict
     g.S.Destruct-dict in
-    subst (λ result. IfErr result (λ fault. HasNoAnswerFor disk (AreFull disk)
-    (HasFaultCause (¬ HoldsThisForm (image_at g.S.Start)) ⊥) (λ _ _. ⊤) fault (Refused c.in-Err.files)))
+    let first = image_at g.S.Start in
+    subst (λ result. IfErr result (WhyNotAudited disk first (Refused c.in-Err.files)))
     (sym c.not_looked_through.ensures)
-    (look_cause disk (HoldsThisForm (image_at g.S.Start)) (AreFull disk) (λ _ _. ⊤) c.in-Err.fault
-    c.in-Err.files c.in-Err.ensures.cause)
+    (look_cause disk (HoldsThisForm first) (AreFull disk) (λ _ _. ⊤) c.in-Err.fault c.in-Err.files
+    c.in-Err.ensures.cause)
+
+pub returns-in-Ok-clause-own : goal.returns-in-Ok-clause-own
+returns-in-Ok-clause-own g c =
+    let audited = c.audit_and_close-audited in
+    ok_so audited.result.0 audited.ensures.own (λ told own honest finding is ours.
+    own honest finding is (subst AreOwn
+    (sym (c.in-Ok.ensures.found (clean_of _ (audited.ensures.clean honest)) ours.form.held)) ours.own))
+
+pub returns-in-Err-clause-own : goal.returns-in-Err-clause-own
+returns-in-Err-clause-own g c =
+    let disk = modelled.ghosts the_row g.row.S host.ghosts host.dict g.S.Start g.S.Start-dict
+    g.S.Destruct-dict in
+    let first = image_at g.S.Start in
+    subst (λ result. IfOk result (WhyUnsound disk first (Refused c.in-Err.files)))
+    (sym c.not_looked_through.ensures)
+    (never_unsound disk first (AreFull disk) c.in-Err.fault c.in-Err.files c.in-Err.ensures.cause)
 
 pub returns-in-Ok-clause-book : goal.returns-in-Ok-clause-book
 returns-in-Ok-clause-book g c =

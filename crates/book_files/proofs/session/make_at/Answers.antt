@@ -7,7 +7,7 @@ use Rattle.sqlite_wal.specs.Files.{image_at}
 use Rattle.book_restarts.specs.FileBooks.{file_names}
 use Rattle.book_trees.specs.LedgerFiles.{HoldsNothing}
 use Rattle.book_trees.specs.Refusals.{StopCreating}
-use Rattle.book_files.specs.Faults.{HasFaultCause, HasNoAnswerFor}
+use Rattle.book_files.specs.Causes.{HasFaultCause, WhyNotMade}
 use Rattle.book_files.specs.declared.session.Ended.TheVariants.{Refused}
 use Rattle.book_files.proofs.Causes.{err_so, refused_cause}
 use Rattle.book_files.proofs.NewParts.{made_at, refused_begun}
@@ -17,7 +17,7 @@ pub returns-in-Ok-clause-made : goal.returns-in-Ok-clause-made
 returns-in-Ok-clause-made g c = λ nothing image may.
     made_at file_names c.in-Ok.store c.in-Ok.ensures.ready c.in-Ok.ensures.empty
     c.make_and_close-made.result.0 image
-    (λ empty. c.make_and_close-made.ensures.left may.0 empty image may.1)
+    (λ empty. c.make_and_close-made.ensures.left empty may.0 image may.1)
 
 pub returns-in-Ok-clause-cause : goal.returns-in-Ok-clause-cause
 returns-in-Ok-clause-cause g c =
@@ -33,8 +33,7 @@ pub returns-in-Err-clause-cause : goal.returns-in-Err-clause-cause
 returns-in-Err-clause-cause g c =
     let disk = modelled.ghosts the_row g.row.S host.ghosts host.dict g.S.Start g.S.Start-dict
     g.S.Destruct-dict in
-    subst (λ fault. HasNoAnswerFor disk (StopCreating disk)
-    (HasFaultCause (¬ HoldsNothing (image_at g.S.Start)) ⊥) (λ Failed. HasFaultCause ⊥ ⊥ ⊤) fault
-    (Refused c.in-Err.files)) (sym c.refused.ensures)
-    (refused_cause disk (HoldsNothing (image_at g.S.Start)) (StopCreating disk)
-    (λ Failed. HasFaultCause ⊥ ⊥ ⊤) c.in-Err.fault c.in-Err.files c.in-Err.ensures.cause)
+    let first = image_at g.S.Start in
+    subst (WhyNotMade disk first (Refused c.in-Err.files)) (sym c.refused.ensures)
+    (refused_cause disk (HoldsNothing first) (StopCreating disk) (λ Failed. HasFaultCause ⊥ ⊥ ⊤)
+    c.in-Err.fault c.in-Err.files c.in-Err.ensures.cause)

@@ -1,22 +1,20 @@
-use Rattle.std.proofs.Common.{◌≡◌, inl, refl, subst, sym, true}
+use Rattle.std.proofs.Common.{◌≡◌, inl, refl, sym, subst, true}
 use Rattle.std.specs.Prelude.{⊤}
 use Rattle.sqlite_disk.specs.contracts.modelled.ModelledDisk.TheImpl as modelled
 use Rattle.sqlite_std_file.specs.contracts.host.Host.{the_row}
 use Rattle.sqlite_std_file.specs.contracts.host.HostCalls.TheImpl as host
 use Rattle.sqlite_store.specs.FileStore.{view}
-use Rattle.sqlite_trees.proofs.Doubt.{clean_of}
 use Rattle.sqlite_wal.specs.Files.{image_at}
 use Rattle.book_model.specs.Words.{book_after}
 use Rattle.book_restarts.specs.FileBooks.{file_names}
 use Rattle.book_trees.specs.Forms.{HoldsThisForm}
-use Rattle.book_trees.specs.LedgerFiles.{HoldsBooks, trees_held}
 use Rattle.book_trees.specs.Refusals.{AreFull}
 use Rattle.table_model.specs.TablesOf.{tables_of}
 use Rattle.tree_tables.specs.Holds.{has_book}
-use Rattle.book_files.specs.Faults.{HasFaultCause, HasNoAnswerFor}
+use Rattle.book_files.specs.Causes.{HasFaultCause, HaveBookRow, WhyNotContinued}
 use Rattle.book_files.specs.Unused.{are_unused}
 use Rattle.book_files.specs.declared.session.Ended.TheVariants.{Refused}
-use Rattle.book_files.proofs.Causes.{cause_so, err_so, unresumed_cause}
+use Rattle.book_files.proofs.Causes.{cause_so, err_so, told_by_row, unresumed_cause}
 use Rattle.book_files.proofs.NewParts.{refused_still, resumed_at}
 use Rattle.book_files.proofs.ResumeParts.{resumed_unused}
 use Rattle.book_files.proofs.SessionParts.{found_clean, held_goes_on, opened_stands}
@@ -28,7 +26,7 @@ pub returns-in-Ok-clause-history : goal.returns-in-Ok-clause-history
 returns-in-Ok-clause-history g c = λ image may.
     held_goes_on file_names (image_at g.S.Start) image c.in-Ok.store c.in-Ok.ensures.ready
     c.in-Ok.ensures.found
-    (λ book stands. c.resume_and_close-made.ensures.held may.0 book stands image may.1)
+    (λ book stands. c.resume_and_close-made.ensures.held book stands may.0 image may.1)
 
 pub returns-in-Ok-clause-none : goal.returns-in-Ok-clause-none
 returns-in-Ok-clause-none g c = λ image may history held.
@@ -45,17 +43,16 @@ pub returns-in-Ok-clause-made : goal.returns-in-Ok-clause-made
 returns-in-Ok-clause-made g c = λ begun image may.
     resumed_at (image_at g.S.Start) c.in-Ok.store c.in-Ok.ensures.ready c.in-Ok.ensures.found begun
     file_names c.resume_and_close-made.result.0 image
-    (λ empty. c.resume_and_close-made.ensures.left may.0 empty image may.1)
+    (λ empty. c.resume_and_close-made.ensures.left empty may.0 image may.1)
 
 pub returns-in-Ok-clause-cause : goal.returns-in-Ok-clause-cause
 returns-in-Ok-clause-cause g c =
     let resumed = c.resume_and_close-made in
+    let first = image_at g.S.Start in
     err_so resumed.result.0 resumed.ensures.cause (λ fault cause clean.
-    cause_so ⊥ ⊥ (has_book (view c.in-Ok.store).trees ≡ true) ((held : HoldsBooks (image_at g.S.Start)) → has_book (trees_held held) ≡ true) ⊤ ⊤
-    (λ never. never)
-    (λ there held. subst (λ trees. has_book trees ≡ true)
-    (c.in-Ok.ensures.found (clean_of _ (resumed.ensures.clean clean)) held) there)
-    (λ failed. failed) fault (cause clean))
+    cause_so ⊥ ⊥ (has_book (view c.in-Ok.store).trees ≡ true) (HaveBookRow first) ⊤ ⊤ (λ never. never)
+    (told_by_row file_names first c.in-Ok.store c.in-Ok.ensures.ready c.in-Ok.ensures.found
+    (resumed.ensures.clean clean) true) (λ failed. failed) fault (cause clean))
 
 pub returns-in-Err-clause-history : goal.returns-in-Err-clause-history
 returns-in-Err-clause-history g c = λ image may.
@@ -73,10 +70,8 @@ pub returns-in-Err-clause-cause : goal.returns-in-Err-clause-cause
 returns-in-Err-clause-cause g c =
     let disk = modelled.ghosts the_row g.row.S host.ghosts host.dict g.S.Start g.S.Start-dict
     g.S.Destruct-dict in
-    subst (λ fault. HasNoAnswerFor disk (AreFull disk)
-    (HasFaultCause ⊥ (¬ HoldsThisForm (image_at g.S.Start)))
-    (λ Failed. HasFaultCause ⊥
-    ((held : HoldsBooks (image_at g.S.Start)) → has_book (trees_held held) ≡ true) ⊤) fault (Refused c.in-Err.files)) (sym c.unresumed.ensures)
-    (unresumed_cause disk (HoldsThisForm (image_at g.S.Start)) (AreFull disk)
-    (λ Failed. HasFaultCause ⊥
-    ((held : HoldsBooks (image_at g.S.Start)) → has_book (trees_held held) ≡ true) ⊤) c.in-Err.fault c.in-Err.files c.in-Err.ensures.cause)
+    let first = image_at g.S.Start in
+    subst (WhyNotContinued disk first (Refused c.in-Err.files)) (sym c.unresumed.ensures)
+    (unresumed_cause disk (HoldsThisForm first) (AreFull disk)
+    (λ Failed. HasFaultCause ⊥ (HaveBookRow first) ⊤) c.in-Err.fault c.in-Err.files
+    c.in-Err.ensures.cause)

@@ -1,4 +1,4 @@
-use Rattle.std.proofs.Common.{◌≡◌, ◌⊎◌, ◌∙◌, false, inl, refl, subst, sym}
+use Rattle.std.proofs.Common.{◌≡◌, ◌∙◌, false, inl, refl, subst, sym}
 use Rattle.std.specs.Prelude.{IfErr, ⊤}
 use Rattle.sqlite_disk.specs.contracts.modelled.ModelledDisk.TheImpl as modelled
 use Rattle.sqlite_std_file.specs.contracts.host.Host.{the_row}
@@ -9,11 +9,9 @@ use Rattle.sqlite_wal.specs.Files.{image_at}
 use Rattle.book_model.specs.Words.{book_after}
 use Rattle.book_restarts.specs.FileBooks.{file_names}
 use Rattle.book_trees.specs.FirstForm.{HoldsFirstForm}
-use Rattle.book_trees.specs.LedgerFiles.{HoldsFirstBooks, trees_held}
 use Rattle.book_trees.specs.Refusals.{AreFull}
 use Rattle.tree_tables.specs.Holds.{has_book}
-use Rattle.book_files.specs.Faults.{HasFaultCause, HasNoAnswerFor}
-use Rattle.office.specs.declared.repository.RepositoryFault.{RepositoryFault}
+use Rattle.book_files.specs.Causes.{HasFaultCause, HaveNoFirstRow, WhyNotUpgraded}
 use Rattle.book_files.specs.Upgrades.{BringsOver}
 use Rattle.book_files.specs.declared.session.Ended.TheVariants.{Closed, Refused}
 use Rattle.book_files.proofs.Causes.{cause_so, err_so, first_cause}
@@ -27,7 +25,7 @@ returns-in-Ok-clause-history g c = λ form image may history held.
     subst (λ result. BringsOver file_names history result image) (sym c.told_upgraded.ensures)
     (brings_over file_names history (image_at g.S.Start) image c.in-Ok.store c.in-Ok.ensures.ready
     c.in-Ok.ensures.found held upgraded.result.0
-    (λ stands. upgraded.ensures.left may.0 (book_after history) stands image may.1))
+    (λ stands. upgraded.ensures.left (book_after history) stands may.0 image may.1))
 
 pub returns-in-Ok-clause-already : goal.returns-in-Ok-clause-already
 returns-in-Ok-clause-already g c = λ is.
@@ -39,14 +37,11 @@ returns-in-Ok-clause-cause g c =
     let disk = modelled.ghosts the_row g.row.S host.ghosts host.dict g.S.Start g.S.Start-dict
     g.S.Destruct-dict in
     let first = image_at g.S.Start in
-    let Absent = (held : HoldsFirstBooks first) → has_book (trees_held held) ≡ false in
-    let Why : RepositoryFault → Type 0 = λ fault. HasNoAnswerFor disk (AreFull disk)
-    (λ Failed. HasFaultCause (¬ HoldsFirstForm first) ⊥ (Failed ⊎ (¬ HoldsFirstForm first)))
-    (λ Failed. HasFaultCause Absent ⊥ ⊤) fault (Closed upgraded.result.1) in
-    subst (λ result. IfErr result Why) (sym c.told_upgraded.ensures)
-    (told_why Why upgraded.result.0
+    subst (λ result. IfErr result (WhyNotUpgraded disk first (Closed upgraded.result.1)))
+    (sym c.told_upgraded.ensures)
+    (told_why (WhyNotUpgraded disk first (Closed upgraded.result.1)) upgraded.result.0
     (err_so upgraded.result.0 upgraded.ensures.cause (λ fault cause clean.
-    cause_so (has_book (view c.in-Ok.store).trees ≡ false) Absent ⊥ ⊥ ⊤ ⊤
+    cause_so (has_book (view c.in-Ok.store).trees ≡ false) (HaveNoFirstRow first) ⊥ ⊥ ⊤ ⊤
     (λ none held. subst (λ trees. has_book trees ≡ false)
     (c.in-Ok.ensures.found (clean_of _ (upgraded.ensures.clean clean)) held) none)
     (λ never. never) (λ failed. failed) fault (cause clean))))
@@ -56,13 +51,11 @@ returns-in-Err-clause-cause g c =
     let disk = modelled.ghosts the_row g.row.S host.ghosts host.dict g.S.Start g.S.Start-dict
     g.S.Destruct-dict in
     let first = image_at g.S.Start in
-    let Absent = (held : HoldsFirstBooks first) → has_book (trees_held held) ≡ false in
-    subst (λ result. IfErr result (λ fault. HasNoAnswerFor disk (AreFull disk)
-    (λ Failed. HasFaultCause (¬ HoldsFirstForm first) ⊥ (Failed ⊎ (¬ HoldsFirstForm first)))
-    (λ Failed. HasFaultCause Absent ⊥ ⊤) fault (Refused c.in-Err.files)))
+    subst (λ result. IfErr result (WhyNotUpgraded disk first (Refused c.in-Err.files)))
     (sym c.not_upgraded.ensures)
-    (first_cause disk (HoldsFirstForm first) (AreFull disk) (λ Failed. HasFaultCause Absent ⊥ ⊤)
-    c.in-Err.fault c.in-Err.files c.in-Err.ensures.cause)
+    (first_cause disk (HoldsFirstForm first) (AreFull disk)
+    (λ Failed. HasFaultCause (HaveNoFirstRow first) ⊥ ⊤) c.in-Err.fault c.in-Err.files
+    c.in-Err.ensures.cause)
 
 pub returns-in-Err-clause-history : goal.returns-in-Err-clause-history
 returns-in-Err-clause-history g c = λ form image may history held.

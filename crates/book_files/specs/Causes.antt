@@ -1,0 +1,160 @@
+-- Why a session has no answer, by what the files held and by what is in hand of them.
+use Rattle.std.specs.Prelude.{◌≡◌, ◌⊎◌, ◌+◌, Bool, true, false, Option, None, Some, Result, Ok, Err, ⊤}
+use Rattle.sqlite_disk.specs.Disk.{MoreFaults}
+use Rattle.sqlite_disk.specs.declared.Disk.{Ghosts}
+use Rattle.sqlite_disk.specs.declared.files.Files.{Files}
+use Rattle.sqlite_trees.specs.View.{View}
+use Rattle.sqlite_wal.specs.Reads.{AreClean}
+use Rattle.sqlite_wal.specs.Recovery.{Image}
+use Rattle.book_model.specs.Words.{Book, Naming}
+use Rattle.book_model.specs.declared.fault.LedgerFault.TheVariants as ledger
+use Rattle.book_trees.specs.Closing.{HaveFailed}
+use Rattle.book_trees.specs.FirstForm.{HoldsFirstForm}
+use Rattle.book_trees.specs.Forms.{HoldsThisForm}
+use Rattle.book_trees.specs.LedgerFiles.{HoldsBooks, HoldsEmptyBooks, HoldsFirstBooks, HoldsNothing}
+use Rattle.book_trees.specs.LedgerFiles.{trees_held}
+use Rattle.book_trees.specs.Refusals.{faults_in, AreFull, StopCreating}
+use Rattle.table_ledger.specs.Loaded.{HasTexts}
+use Rattle.tree_tables.specs.Holds.{has_book}
+use Rattle.book_restarts.specs.FileBooks.{HoldsBook, RestsAt, file_names}
+use Rattle.book_files.specs.NewBooks.{IsEmpty}
+use Rattle.book_files.specs.declared.copies.CopyFault.{CopyFault}
+use Rattle.book_files.specs.declared.copies.CopyFault.TheVariants as copies
+use Rattle.book_files.specs.declared.session.Ended.{Ended}
+use Rattle.book_files.specs.declared.session.Ended.TheVariants.{Closed, Refused}
+use Rattle.office.specs.declared.repository.RepositoryFault.{RepositoryFault}
+use Rattle.office.specs.declared.repository.RepositoryFault.TheVariants.{Io, Exists, Busy, Ledger}
+
+-- the files hold a book that can be read back, whose tariffs are texts, as calls are given them
+pub record HoldsOurBooks (naming : Naming) (image : Image) : Type 0 where
+  pub book : Book
+  pub held : HoldsBook naming book image
+  pub texts : HasTexts book
+
+-- a store is at rest with such books
+pub record ShowsOurBooks (naming : Naming) (view : View) : Type 0 where
+  pub book : Book
+  pub at : RestsAt naming book view
+  pub texts : HasTexts book
+
+-- the files hold what a ledger leaves: such books, or tables with no row
+abbrev pub HoldsOurs : Naming → Image → Type 0
+HoldsOurs naming image = HoldsOurBooks naming image ⊎ HoldsEmptyBooks image
+
+-- a store is at rest with it
+abbrev pub ShowsOurs : Naming → View → Type 0
+ShowsOurs naming view = ShowsOurBooks naming view ⊎ IsEmpty view
+
+-- in whatever books the files hold, the row of the book is there; or it is not
+abbrev pub HaveBookRow : Image → Type 0
+HaveBookRow found = (held : HoldsBooks found) → has_book (trees_held held) ≡ true
+
+abbrev pub HaveNoBookRow : Image → Type 0
+HaveNoBookRow found = (held : HoldsBooks found) → has_book (trees_held held) ≡ false
+
+-- nor is it in whatever books of the first form they hold
+abbrev pub HaveNoFirstRow : Image → Type 0
+HaveNoFirstRow found = (held : HoldsFirstBooks found) → has_book (trees_held held) ≡ false
+
+-- no files are in hand: memory ran out, another program has them, or they are out of reach
+abbrev pub IsWithoutFiles : RepositoryFault → Type 0
+IsWithoutFiles fault = (fault ≡ Ledger ledger.Memory) ⊎ ((fault ≡ Busy) ⊎ (fault ≡ Io))
+
+-- Files are in hand, and a fault has its cause: that there are no books of this form, that books are
+-- there, or that a store failed. Memory may run out at any time. No other fault comes then.
+abbrev pub HasFaultCause : Type 0 → Type 0 → Type 0 → RepositoryFault → Type 0
+HasFaultCause Absent There Failed (Ledger ledger.NotBooks) = Absent
+HasFaultCause Absent There Failed (Ledger ledger.OldForm) = Absent
+HasFaultCause Absent There Failed (Ledger ledger.NewForm) = Absent
+HasFaultCause Absent There Failed (Ledger ledger.Memory) = ⊤
+HasFaultCause Absent There Failed (Ledger ledger.Store) = Failed
+HasFaultCause Absent There Failed Exists = There
+HasFaultCause Absent There Failed _ = ⊥
+
+-- Books were to be continued, and this says whether anything was submitted to them: they are new
+-- where it was answered that all went well; and that books are there is answered only where they are
+-- not.
+abbrev pub IsResumed : {A : Type 0} → Bool → Result A RepositoryFault → Type 0
+IsResumed unused (Ok made) = unused ≡ true
+IsResumed unused (Err fault) = HasFaultCause ⊥ (unused ≡ false) ⊤ fault
+
+-- Why a session has no answer, by what is in hand of its files: what is said of a fault where they
+-- were not opened, by a failure of their disk or a limit of the format; and where they were.
+abbrev pub HasNoAnswerFor : {D : Type 0} (g : Ghosts D) → (Files D → Type 0)
+    → (Type 0 → RepositoryFault → Type 0) → (Type 0 → RepositoryFault → Type 0) → RepositoryFault
+    → Ended D → Type 0
+HasNoAnswerFor g AtLimit Unopened Opened fault (Refused None) = IsWithoutFiles fault
+HasNoAnswerFor g AtLimit Unopened Opened fault (Refused (Some files)) =
+    AreClean g files.log files.db → Unopened (MoreFaults 0 (faults_in g files) ⊎ AtLimit files) fault
+HasNoAnswerFor g AtLimit Unopened Opened fault (Closed closed) =
+    AreClean g closed.files.log closed.files.db → Opened (HaveFailed g closed.files) fault
+
+-- Books that are open are not visited: their row is not there; or, of what a ledger left, a store
+-- failed.
+abbrev pub IsUnvisitedFor : View → Type 0 → RepositoryFault → Type 0
+IsUnvisitedFor found Failed =
+    HasFaultCause (has_book found.trees ≡ false) ⊥ (ShowsOurs file_names found → Failed)
+
+-- so it is said of files
+abbrev pub AreUnvisitedFor : Image → Type 0 → RepositoryFault → Type 0
+AreUnvisitedFor found Failed =
+    HasFaultCause (HaveNoBookRow found) ⊥ (HoldsOurs file_names found → Failed)
+
+-- Why each session had no answer, by what the files held when it found them, and by what is in hand
+-- of them. `Failed` stands for a call on them that failed, or met a limit of the format.
+module _ {D : Type 0} (g : Ghosts D) (found : Image) (ended : Ended D) where
+  -- books were not visited: there are none of this form, or not their row
+  abbrev pub WhyNotVisited : RepositoryFault → Type 0
+  WhyNotVisited fault =
+      HasNoAnswerFor g (AreFull g) (HasFaultCause (¬ HoldsThisForm found) ⊥) (AreUnvisitedFor found)
+      fault ended
+
+  -- new books were not made: the files held something
+  abbrev pub WhyNotMade : RepositoryFault → Type 0
+  WhyNotMade fault =
+      HasNoAnswerFor g (StopCreating g) (HasFaultCause (¬ HoldsNothing found) ⊥)
+      (λ Failed. HasFaultCause ⊥ ⊥ ⊤) fault ended
+
+  -- new books were not continued: others are there, or the row of a book
+  abbrev pub WhyNotContinued : RepositoryFault → Type 0
+  WhyNotContinued fault =
+      HasNoAnswerFor g (AreFull g) (HasFaultCause ⊥ (¬ HoldsThisForm found))
+      (λ Failed. HasFaultCause ⊥ (HaveBookRow found) ⊤) fault ended
+
+  -- books were not looked through: there are none of this form; of those that were this says nothing
+  abbrev pub WhyNotAudited : RepositoryFault → Type 0
+  WhyNotAudited fault =
+      HasNoAnswerFor g (AreFull g) (HasFaultCause (¬ HoldsThisForm found) ⊥) (λ Failed other. ⊤)
+      fault ended
+
+  -- books were not brought to this form: there are none of the first form, or not their row
+  abbrev pub WhyNotUpgraded : RepositoryFault → Type 0
+  WhyNotUpgraded fault =
+      HasNoAnswerFor g (AreFull g)
+      (λ Failed. HasFaultCause (¬ HoldsFirstForm found) ⊥ (Failed ⊎ (¬ HoldsFirstForm found)))
+      (λ Failed. HasFaultCause (HaveNoFirstRow found) ⊥ ⊤) fault ended
+
+-- a fault of a copy has its cause: that its pages are wrong, or that of another fault
+abbrev pub HasCopyCause : Type 0 → Type 0 → Type 0 → CopyFault → Type 0
+HasCopyCause Wrong Absent Failed copies.Pages = Wrong
+HasCopyCause Wrong Absent Failed (copies.Refused fault) = HasFaultCause Absent ⊥ Failed fault
+
+-- one of the two pairs of files is not in hand
+abbrev pub IsCopyWithoutFiles : CopyFault → Type 0
+IsCopyWithoutFiles copies.Pages = ⊥
+IsCopyWithoutFiles (copies.Refused fault) = IsWithoutFiles fault
+
+-- Why there is no copy of files that were found so, by what is in hand of them and of the copy, where
+-- no disk lied: the copy was not looked through; or it was, and its books were not opened.
+abbrev pub WhyNotCopied : {A B : Type 0} (one : Ghosts A) (two : Ghosts B) → Image
+    → Option (Files A) → Ended B → CopyFault → Type 0
+WhyNotCopied one two found None copy fault = IsCopyWithoutFiles fault
+WhyNotCopied one two found (Some files) (Refused None) fault = IsCopyWithoutFiles fault
+WhyNotCopied one two found (Some files) (Refused (Some copy)) fault =
+    AreClean one files.log files.db → AreClean two copy.log copy.db
+    → HasCopyCause (¬ HoldsThisForm found) (¬ HoldsThisForm found)
+    (MoreFaults 0 (faults_in one files + faults_in two copy) ⊎ AreFull two copy) fault
+WhyNotCopied one two found (Some files) (Closed closed) fault =
+    AreClean one files.log files.db → AreClean two closed.files.log closed.files.db
+    → HasCopyCause ⊥ (HaveNoBookRow found) (HoldsOurs file_names found → HaveFailed two closed.files)
+    fault

@@ -1,0 +1,54 @@
+-- What is left of a store of books, and of the files in which it was closed.
+use Rattle.std.specs.Prelude.{IsTrue, Result}
+use Rattle.sqlite_disk.specs.declared.Disk.{Ghosts}
+use Rattle.sqlite_trees.specs.Tree.{Trees}
+use Rattle.sqlite_trees.specs.View.{View, IsClean}
+use Rattle.sqlite_wal.specs.Recovery.{Image}
+use Rattle.book_model.specs.Words.{Book}
+use Rattle.book_core.specs.Transition.{Transition}
+use Rattle.book_trees.specs.Closing.{MayBeFound}
+use Rattle.book_trees.specs.declared.closing.Closed.{Closed}
+use Rattle.tree_tables.specs.States.{State, HasCleanDisk}
+use Rattle.table_ledger.specs.Ready.{IsStoredIn}
+use Rattle.book_restarts.specs.FileBooks.{HoldsBook, LeavesBook, LeavesTrees, StandsAt, file_names}
+use Rattle.book_files.specs.NewBooks.{IsEmpty, LeavesNew, LeavesNewBooks}
+
+-- So are all trees that a stop may leave of a store which was honest so far.
+abbrev pub StopLeaves : State → (Trees → Type 0) → Type 0
+StopLeaves left So = HasCleanDisk left → (trees : Trees) → left.may_leave trees → So trees
+
+-- So is all that may be found of closed files which are known to hold books.
+abbrev pub CloseLeaves : {D : Type 0} (g : Ghosts D) → Closed D → (Image → Type 0) → Type 0
+CloseLeaves g closed So =
+    IsTrue closed.is_kept → (image : Image) → MayBeFound g closed.files image → So image
+
+-- a stop leaves what such work made of the book at which the store stood; so does a close
+abbrev pub StopGoesOn : Transition → View → State → Type 0
+StopGoesOn Made found left =
+    (book : Book) → StandsAt file_names book found
+    → StopLeaves left (LeavesTrees file_names Made book)
+
+abbrev pub CloseGoesOn : {D : Type 0} (g : Ghosts D) → Transition → View → Closed D → Type 0
+CloseGoesOn g Made found closed =
+    (book : Book) → StandsAt file_names book found
+    → CloseLeaves g closed (λ image. ∥ LeavesBook file_names Made book image ∥₁)
+
+-- a stop leaves the book at which the store stood; so does a close
+abbrev pub StopKeepsBook : View → State → Type 0
+StopKeepsBook found left =
+    (book : Book) → StandsAt file_names book found → StopLeaves left (IsStoredIn file_names book)
+
+abbrev pub CloseKeepsBook : {D : Type 0} (g : Ghosts D) → View → Closed D → Type 0
+CloseKeepsBook g found closed =
+    (book : Book) → StandsAt file_names book found
+    → CloseLeaves g closed (HoldsBook file_names book)
+
+-- Where the store had no row, a stop leaves new books; or, where they were not made, its tables as
+-- they were. So does a close.
+abbrev pub StopLeavesNew : {A F : Type 0} → View → Result A F → State → Type 0
+StopLeavesNew found made left =
+    (IsClean found → IsEmpty found) → StopLeaves left (LeavesNew file_names found made)
+
+abbrev pub CloseLeavesNew : {D A F : Type 0} (g : Ghosts D) → View → Result A F → Closed D → Type 0
+CloseLeavesNew g found made closed =
+    (IsClean found → IsEmpty found) → CloseLeaves g closed (LeavesNewBooks file_names found made)
