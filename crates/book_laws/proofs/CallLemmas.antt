@@ -1,9 +1,7 @@
 -- Calls on one ledger, one after another: their work, and the events that they make.
-use Rattle.std.proofs.Common.{◌≡◌, ◌∙◌, Bool, false, List, [], ◌∷◌, ◌++◌, Result, refl, sym, subst}
-use Rattle.std.proofs.Common.{ap, map, append-nil, append_assoc}
+use Rattle.std.proofs.Common.{false, List, [], ◌∷◌, ◌++◌, Result, map, refl, sym, subst}
 use Rattle.std.specs.Option.{option_map}
 use Rattle.book_model.specs.Words.{accept_answer, IsMadeByCalls, Book, new_book, dispute_shown}
-use Rattle.book_model.specs.Words.{Event, after_all}
 use Rattle.book_model.specs.Words.{book_after, Outcome, accept_outcome, charges_outcome}
 use Rattle.book_model.specs.Words.{adjustments_outcome, disputes_outcome, periods_outcome, Naming}
 use Rattle.book_model.specs.Words.{dispute_outcome, next_detail_outcome, ruling_outcome}
@@ -11,11 +9,11 @@ use Rattle.book_model.specs.Words.{ruling_shown, trail_outcome, trail_shown, wha
 use Rattle.book_model.specs.declared.fault.LedgerFault.{LedgerFault}
 use Rattle.book_core.specs.Calls.{Calls, listed}
 use Rattle.book_core.specs.Ledgers.{Seen, IsOpenAt}
-use Rattle.book_core.specs.Transition.{NoEvent, Then, IsTransition}
+use Rattle.book_core.specs.Transition.{IsTransition}
 use Rattle.book_core.proofs.FollowLemmas.{then_answered, calls_answered, none_answered}
 use Rattle.book_core.specs.Follow.{MakesAnswered}
 use Rattle.book_core.proofs.FollowLemmas.{accept_event-answered}
-use Rattle.book_core.proofs.TransitionLemmas.{no_work, work_as, work_then, after_all-append}
+use Rattle.book_core.proofs.TransitionLemmas.{no_work, work_then, after_all-append}
 use Rattle.book_reports.proofs.ReadingLemmas.{IsReading}
 use Rattle.office.proofs.LawLemmas.{asks_answered}
 use Rattle.office.proofs.LeavingLemmas.{work_leaves}
@@ -26,7 +24,7 @@ use Rattle.book_laws.specs.Calls.{Call, Request, RunRequests, AcceptRecord, Read
 use Rattle.book_laws.specs.Calls.{HttpRequest, ReadAdjustments, ReadDisputes, ReadPeriods}
 use Rattle.book_laws.specs.Calls.{ReadChargesUnder, ReadDetail, ReadDispute, ReadRuling, ReadTrail}
 use Rattle.book_laws.specs.Calls.{Step}
-use Rattle.book_laws.specs.Calls.{AreDone, SomeCalls, calls_of, ledger_after_calls, work_of, works_of}
+use Rattle.book_laws.specs.Calls.{AreDone, calls_of, ledger_after_calls, work_of, works_of}
 
 -- what is read makes none
 readings_answered : {V A : Type 0} (naming : Naming) (view : V → A) (outcome : Book → Outcome A)
@@ -79,67 +77,6 @@ calls_are_answered naming [] = none_answered naming
 calls_are_answered naming (call ∷ later) =
     then_answered naming (work_of naming call) (works_of naming later) (call_answered naming call)
     (calls_are_answered naming later)
-
-pub some_are_answered : (naming : Naming) → MakesAnswered naming (SomeCalls naming)
-some_are_answered naming history was events is some =
-    calls_are_answered naming some.calls history was events is some.made
-
--- calls, and then other calls
-calls_then : (naming : Naming) (first next : List Call) (was : Bool) (before : Book)
-    (early late : List Event) (between is : Bool) → works_of naming first was before early between
-    → works_of naming next between (after_all early before) late is
-    → works_of naming (first ++ next) was before (late ++ early) is
-calls_then naming [] next was before early late between is one two =
-    let same : late ++ early ≡ late = ap (λ events. late ++ events) one.none ∙ append-nil late in
-    subst (λ events. works_of naming next was before events is) (sym same)
-    (subst (λ flag. works_of naming next flag before late is) one.same
-    (subst (λ (events : List Event). works_of naming next between (after_all events before) late is)
-    one.none two))
-calls_then naming (call ∷ first) next was before early late between is one two = record {
-  between = one.between;
-  early = one.early;
-  late = late ++ one.late;
-  first = one.first;
-  next = calls_then naming first next one.between (after_all one.early before) one.late late between
-      is one.next (subst (λ book. works_of naming next between book late is)
-      (ap (λ events. after_all events before) one.all
-      ∙ after_all-append one.late one.early before) two);
-  all = ap (λ events. late ++ events) one.all ∙ sym (append_assoc late one.late one.early);
-}
-
--- no call at all
-pub no_calls : (naming : Naming) (seen : Seen) → IsTransition seen seen (SomeCalls naming)
-no_calls naming seen = work_as seen seen NoEvent (SomeCalls naming)
-    (λ was before events is none. record { calls = []; made = none }) (no_work seen)
-
--- one call
-pub one_call : (naming : Naming) (call : Call) (old new : Seen)
-    → IsTransition old new (work_of naming call) → IsTransition old new (SomeCalls naming)
-one_call naming call old new = work_as old new (work_of naming call) (SomeCalls naming)
-    (λ was before events is made. record {
-      calls = call ∷ [];
-      made = record {
-        between = is;
-        early = events;
-        late = [];
-        first = made;
-        next = record { none = refl; same = refl };
-        all = refl;
-      };
-    })
-
--- some calls, and then others
-pub some_then : (naming : Naming) (one two three : Seen) → IsTransition one two (SomeCalls naming)
-    → IsTransition two three (SomeCalls naming) → IsTransition one three (SomeCalls naming)
-some_then naming one two three first next =
-    work_as one three (Then (SomeCalls naming) (SomeCalls naming)) (SomeCalls naming)
-    (λ was before events is made. record {
-      calls = made.first.calls ++ made.next.calls;
-      made = subst (λ events. works_of naming (made.first.calls ++ made.next.calls) was before events is)
-          (sym made.all) (calls_then naming made.first.calls made.next.calls was before made.early
-          made.late made.between is made.first.made made.next.made);
-    })
-    (work_then one two three (SomeCalls naming) (SomeCalls naming) first next)
 
 -- calls that were done are one work
 pub done_is_work : {L : Type 0} (seen : L → Seen) (before : L) (steps : List (Step L))

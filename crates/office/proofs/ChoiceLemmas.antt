@@ -1,6 +1,6 @@
 -- Choices, one after the other: one more, what they make, and what the definitions say of them.
-use Rattle.std.proofs.Common.{◌≡◌, ◌∙◌, Bool, true, false, ℕ, List, [], ◌∷◌, ◌++◌, Option, Some, None}
-use Rattle.std.proofs.Common.{Result, Ok, Err, refl, sym, ap, subst, append_assoc, append-nil}
+use Rattle.std.proofs.Common.{◌≡◌, ◌∙◌, Bool, false, ℕ, List, [], ◌∷◌, ◌++◌, Option, Some, None}
+use Rattle.std.proofs.Common.{Result, Ok, Err, sym, ap, subst, append_assoc, append-nil}
 use Rattle.std.proofs.Common.{◌+◌, ◌<◌, drop, get_or, length, take, take-append-drop}
 use Rattle.std.proofs.lemmas.List.{take_more}
 use Rattle.std.proofs.lemmas.List.Concat.{flat_map-append}
@@ -8,69 +8,33 @@ use Rattle.book_model.specs.declared.answer.Ruled.{Ruled}
 use Rattle.book_model.specs.declared.fault.LedgerFault.{LedgerFault}
 use Rattle.book_model.specs.declared.fault.LedgerFault.TheVariants.{Memory, Store, Reopen}
 use Rattle.book_model.specs.Words.{Book, Event, Naming, Outcome, after_all, choose_outcome}
-use Rattle.book_core.specs.Calls.{Calls, listed}
+use Rattle.book_core.specs.Calls.{listed}
 use Rattle.book_core.specs.Follow.{MakesAnswered}
 use Rattle.book_core.specs.Ledgers.{Seen}
 use Rattle.book_core.specs.Transition.{IsTransition, NoEvent, Then}
 use Rattle.book_core.proofs.FollowLemmas.{choose_answered, none_answered, then_answered}
-use Rattle.book_core.proofs.TransitionLemmas.{after_all-append, work_as, work_then}
+use Rattle.book_core.proofs.ThenLemmas.{last_two, next_as, nothing_more, nothing_then}
+use Rattle.book_core.proofs.TransitionLemmas.{Implies, work_as, work_then}
 use Rattle.office.specs.Choices.{Chooses, ChoosesEach, ChoicesOutcome, are_hindered}
 use Rattle.office.specs.Answers.{answer_text}
 use Rattle.office.specs.Choices.{answer_lines, choices_after, choices_by, choices_outcome}
 use Rattle.office.specs.Requests.{Ruling}
-use Rattle.office.proofs.RunLemmas.{none_then}
 
 -- choices that were all answered, and then others
-pub choices_then : (naming : Naming) (names : List (List ℕ)) (answers : List Ruled)
+choices_then : (naming : Naming) (names : List (List ℕ)) (answers : List Ruled)
     (others : List (List ℕ)) (more : List Ruled) (refusal : Option LedgerFault)
-    (was : Bool) (before : Book) (events : List Event) (is : Bool)
-    → Then (ChoosesEach naming names answers None) (ChoosesEach naming others more refusal) was before
-    events is
-    → ChoosesEach naming (names ++ others) (answers ++ more) refusal was before events is
+    → Implies
+    (Then (ChoosesEach naming names answers None) (ChoosesEach naming others more refusal))
+    (ChoosesEach naming (names ++ others) (answers ++ more) refusal)
 choices_then naming [] [] others more refusal was before events is both =
-    subst (λ events. ChoosesEach naming others more refusal was before events is)
-    (sym (both.all ∙ ap (λ early. both.late ++ early) both.first.none ∙ append-nil both.late))
-    (none_then (ChoosesEach naming others more refusal) was both.between before both.early both.late is
-    both.first both.next)
+    nothing_then (ChoosesEach naming others more refusal) was before events is both
 choices_then naming [] (ruled ∷ answers) others more refusal was before events is both =
     absurd both.first
 choices_then naming (name ∷ names) [] others more refusal was before events is both =
     absurd both.first
 choices_then naming (name ∷ names) (ruled ∷ answers) others more refusal was before events is both =
-    let ran = both.first in
-    let middle : Book = after_all ran.early before in
-    record {
-      between = ran.between;
-      early = ran.early;
-      late = both.late ++ ran.late;
-      first = ran.first;
-      next = choices_then naming names answers others more refusal ran.between middle
-          (both.late ++ ran.late) is (record {
-            between = both.between;
-            early = ran.late;
-            late = both.late;
-            first = ran.next;
-            next = subst (λ book. ChoosesEach naming others more refusal both.between book both.late is)
-                (ap (λ events. after_all events before) ran.all
-                ∙ after_all-append ran.late ran.early before) both.next;
-            all = refl;
-          });
-      all = both.all ∙ ap (λ early. both.late ++ early) ran.all
-          ∙ sym (append_assoc both.late ran.late ran.early);
-    }
-
--- one choice that was answered
-one_choice : (naming : Naming) (name : List ℕ) (ruled : Ruled) (was : Bool) (before : Book)
-    (events : List Event) (is : Bool) → Chooses naming name (Ok ruled) was before events is
-    → ChoosesEach naming (name ∷ []) (ruled ∷ []) None was before events is
-one_choice naming name ruled was before events is made = record {
-  between = is;
-  early = events;
-  late = [];
-  first = made;
-  next = record { none = refl; same = refl };
-  all = refl;
-}
+    next_as (choices_then naming names answers others more refusal) was before events is
+    (last_two was before events is both)
 
 -- nothing was chosen yet
 pub none_chosen : (naming : Naming) (told : List Ruled) → told ≡ []
@@ -88,15 +52,8 @@ pub one_more_chosen : (naming : Naming) (names all : List (List ℕ)) (answers t
 one_more_chosen naming names all answers told name ruled more so was before events is both =
     subst (λ all. ChoosesEach naming all told None was before events is) more
     (subst (λ told. ChoosesEach naming (names ++ name ∷ []) told None was before events is) (sym so)
-    (choices_then naming names answers (name ∷ []) (ruled ∷ []) None was before events is (record {
-      between = both.between;
-      early = both.early;
-      late = both.late;
-      first = both.first;
-      next = one_choice naming name ruled both.between (after_all both.early before) both.late is
-          both.next;
-      all = both.all;
-    })))
+    (choices_then naming names answers (name ∷ []) (ruled ∷ []) None was before events is
+    (next_as (nothing_more (Chooses naming name (Ok ruled))) was before events is both)))
 
 -- the next one was refused
 pub refused_after : (naming : Naming) (names all : List (List ℕ)) (answers : List Ruled)

@@ -1,11 +1,12 @@
 -- Requests that bring their dumps, one after another: their work, and the events that they make.
 use Rattle.std.proofs.Common.{◌≡◌, ◌∙◌, Bool, false, List, [], ◌∷◌, ◌++◌, None, Result, refl, sym}
-use Rattle.std.proofs.Common.{ap, subst, append_assoc, append-nil}
-use Rattle.book_model.specs.Words.{front, Naming, Book, Event, after_all, IsMadeByCalls}
-use Rattle.book_core.specs.Transition.{Transition, NoEvent, Then}
-use Rattle.book_core.proofs.TransitionLemmas.{after_all-append}
+use Rattle.std.proofs.Common.{ap, subst}
+use Rattle.book_model.specs.Words.{front, Naming, Book, Event, after_all}
+use Rattle.book_core.specs.Transition.{NoEvent, Then}
+use Rattle.book_core.proofs.ThenLemmas.{last_two, next_as, nothing_more, nothing_then}
+use Rattle.book_core.proofs.TransitionLemmas.{Implies}
 use Rattle.book_model.specs.declared.fault.LedgerFault.{LedgerFault}
-use Rattle.book_core.proofs.FollowLemmas.{then_answered}
+use Rattle.book_core.proofs.FollowLemmas.{none_answered, then_answered}
 use Rattle.book_core.specs.Follow.{MakesAnswered}
 use Rattle.book_import.specs.Dumps.{stop_after}
 use Rattle.book_import.specs.Imports.{Handles}
@@ -17,54 +18,19 @@ use Rattle.office.specs.Requests.{response_by}
 use Rattle.office.specs.Runs.{AsksWithoutReader, Runs, dump_here}
 use Rattle.office.proofs.LawLemmas.{asks_answered}
 
--- what was done to books that stayed as they were, and then other work
-pub none_then : (Next : Transition) (was between : Bool) (before : Book) (early late : List Event) (is : Bool)
-    → NoEvent was before early between → Next between (after_all early before) late is
-    → Next was before late is
-none_then Next was between before early late is none next =
-    subst (λ b. Next b before late is) none.same
-    (subst (λ events. Next between (after_all events before) late is) none.none next)
-
 -- requests that were answered, and one more
 runs_more : (naming : Naming) (requests : List Asked) (answers : List (Result Answer LedgerFault))
-    (asked : Asked) (answer : Result Answer LedgerFault) (was : Bool) (before : Book)
-    (events : List Event) (is : Bool)
-    → Then (Runs naming requests answers) (AsksWithoutReader naming asked answer) was before events is
-    → Runs naming (requests ++ asked ∷ []) (answers ++ answer ∷ []) was before events is
-runs_more naming [] [] asked answer was before events is both = record {
-  between = is;
-  early = both.late;
-  late = [];
-  first = none_then (AsksWithoutReader naming asked answer) was both.between before both.early both.late is
-      both.first both.next;
-  next = record { none = refl; same = refl };
-  all = both.all ∙ ap (λ early. both.late ++ early) both.first.none ∙ append-nil both.late;
-}
-runs_more naming [] (answer ∷ answers) asked another was before events is both = absurd both.first
-runs_more naming (asked ∷ requests) [] another answer was before events is both =
-    absurd both.first
-runs_more naming (first ∷ requests) (answered ∷ answers) asked answer was before events is both =
-    let ran = both.first in
-    let middle : Book = after_all ran.early before in
-    record {
-      between = ran.between;
-      early = ran.early;
-      late = both.late ++ ran.late;
-      first = ran.first;
-      next = runs_more naming requests answers asked answer ran.between middle
-          (both.late ++ ran.late) is (record {
-            between = both.between;
-            early = ran.late;
-            late = both.late;
-            first = ran.next;
-            next = subst (λ book. AsksWithoutReader naming asked answer both.between book both.late is)
-                (ap (λ events. after_all events before) ran.all
-                ∙ after_all-append ran.late ran.early before) both.next;
-            all = refl;
-          });
-      all = both.all ∙ ap (λ early. both.late ++ early) ran.all
-          ∙ sym (append_assoc both.late ran.late ran.early);
-    }
+    (asked : Asked) (answer : Result Answer LedgerFault)
+    → Implies (Then (Runs naming requests answers) (AsksWithoutReader naming asked answer))
+    (Runs naming (requests ++ asked ∷ []) (answers ++ answer ∷ []))
+runs_more naming [] [] asked answer was before events is both =
+    nothing_more (AsksWithoutReader naming asked answer) was before events is
+    (nothing_then (AsksWithoutReader naming asked answer) was before events is both)
+runs_more naming [] (told ∷ answers) asked answer was before events is both = absurd both.first
+runs_more naming (first ∷ requests) [] asked answer was before events is both = absurd both.first
+runs_more naming (first ∷ requests) (told ∷ answers) asked answer was before events is both =
+    next_as (runs_more naming requests answers asked answer) was before events is
+    (last_two was before events is both)
 
 -- nothing was asked yet
 pub none_run : (naming : Naming) (told : List (Result Answer LedgerFault)) → told ≡ []
@@ -89,8 +55,7 @@ one_more_run naming requests all answers told asked answer more so was before ev
 -- requests make only events that the books answered
 pub runs_answered : (naming : Naming) (requests : List Asked)
     (answers : List (Result Answer LedgerFault)) → MakesAnswered naming (Runs naming requests answers)
-runs_answered naming [] [] = λ history was events is none answered.
-    subst (λ events. IsMadeByCalls naming (events ++ history)) (sym none.none) answered
+runs_answered naming [] [] = none_answered naming
 runs_answered naming [] (answer ∷ answers) = λ history was events is never. absurd never
 runs_answered naming (asked ∷ requests) [] = λ history was events is never. absurd never
 runs_answered naming (asked ∷ requests) (answer ∷ answers) =
