@@ -4,6 +4,8 @@ pub mod RulingLemmas
 pub mod ListedLemmas
 pub mod TransitionLemmas
 pub mod ThenLemmas
+pub mod InTurnLemmas
+pub mod OpenLemmas
 pub mod NamedLemmas
 pub mod SubmissionLemmas
 pub mod FollowLemmas

@@ -5,12 +5,12 @@ use Rattle.std.proofs.lemmas.Bool.Decides.{nat_tests}
 use Rattle.std.specs.Prelude.{◌==◌, filter}
 use Rattle.std.proofs.Math.Logic.{∥∥₁_elim, ∥∥₁_map, ∥∥₁_prop}
 use Rattle.sqlite_wal.specs.Recovery.{Image}
-use Rattle.book_model.specs.Words.{book_after, new_book, Naming}
+use Rattle.book_model.specs.Words.{new_book, Naming}
 use Rattle.book_core.specs.Transition.{Transition}
+use Rattle.book_core.proofs.InTurnLemmas.{below_next, last_below}
 use Rattle.book_core.proofs.TransitionLemmas.{after_all-append}
 use Rattle.book_restarts.specs.FileBooks.{HoldsHistory}
 use Rattle.book_restarts.specs.Laws.{SessionsOfManyAreOneHistory, Share, down_from, events_of, had_before}
-use Rattle.book_restarts.proofs.LifeLemmas.{below_next, last_below}
 
 same_number : (one other : ℕ) → (one == other) ≡ true → one ≡ other
 same_number one other is = grind (arith, nat_tests, is)

@@ -1,16 +1,17 @@
 -- A ledger that is opened on what another left is where that one was.
-use Rattle.std.proofs.Common.{◌≡◌, Bool, true, false, refl, sym, subst}
+use Rattle.std.proofs.Common.{◌≡◌, Bool, refl, subst}
 use Rattle.sqlite_trees.specs.Tree.{Trees}
-use Rattle.sqlite_trees.specs.View.{View, IsClean}
+use Rattle.sqlite_trees.specs.View.{View}
 use Rattle.book_model.specs.Words.{Book, Naming}
-use Rattle.book_core.specs.Ledgers.{Seen, IsOpenAt, may_have}
+use Rattle.book_core.specs.Ledgers.{Seen, IsOpenAt}
 use Rattle.table_model.specs.TablesOf.{tables_of}
 use Rattle.table_model.specs.Readable.{IsReadable}
 use Rattle.table_ledger.specs.Commits.{IsAtRest, Stores}
 use Rattle.table_ledger.specs.Ready.{IsStoredIn}
-use Rattle.table_ledger.specs.LedgerState.{AreBooks, seen_of}
-use Rattle.table_ledger.specs.ReadyBooks.{LeavesTheLast, settled_on, book_of_stored}
+use Rattle.table_ledger.specs.LedgerState.{seen_of}
+use Rattle.table_ledger.specs.ReadyBooks.{LeavesTheLast}
 use Rattle.table_ledger.specs.declared.summary.Summary.{Summary}
+use Rattle.book_restarts.proofs.SessionLemmas.{stands}
 use Rattle.book_restarts.specs.Restarts.{IsRestart}
 
 module _ (naming : Naming) (view : View) (may_leave : Trees → Type 0) (must_reopen : Bool)
@@ -23,17 +24,7 @@ module _ (naming : Naming) (view : View) (may_leave : Trees → Type 0) (must_re
     abbrev old : Seen
     old = seen_of naming view may_leave must_reopen summary
 
-    -- it was at the book that is found
-    stood : (flag : Bool) → must_reopen ≡ flag → IsClean view
-        → AreBooks naming view may_leave must_reopen summary → new.is_honest → (book : Book)
-        → IsStoredIn naming book found.trees → may_have flag old book
-    stood true closed clean books honest book kept =
-        (found.trees, left honest, sym (book_of_stored kept))
-    stood false is_open clean books honest book kept =
-        settled_on naming view may_leave must_reopen summary last clean books is_open book
-        (found.trees, left honest, sym (book_of_stored kept))
-
-    -- and the new one is open at it
+    -- the new one is open at a book that is found
     opened : new.is_honest → (book : Book) → IsStoredIn naming book found.trees
         → IsOpenAt naming book new
     opened honest book kept =
@@ -47,6 +38,7 @@ module _ (naming : Naming) (view : View) (may_leave : Trees → Type 0) (must_re
         let kept = books.left clean found.trees (left honest) in
         record {
           book = kept.book;
-          stood = stood must_reopen refl clean books honest kept.book kept.kept;
+          stood = stands naming view may_leave must_reopen summary last must_reopen refl clean books
+              found.trees (left honest) kept.book kept.kept;
           opened = opened honest kept.book kept.kept;
         }

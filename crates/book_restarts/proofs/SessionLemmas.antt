@@ -1,17 +1,17 @@
 -- Sessions on the files of books, one after another.
-use Rattle.std.proofs.Common.{◌≡◌, ◌∙◌, ◌<◌, ℕ, zero, suc, Bool, true, false, List, [], ◌∷◌, ◌++◌}
-use Rattle.std.proofs.Common.{refl, sym, subst, ap, append_assoc, arith, inl, inr}
+use Rattle.std.proofs.Common.{◌≡◌, ◌∙◌, ◌<◌, ℕ, suc, Bool, true, false, List, [], ◌++◌, refl, sym}
+use Rattle.std.proofs.Common.{subst, append_assoc, inl, inr}
 use Rattle.std.proofs.Math.Logic.{∥∥₁_elim, ∥∥₁_map, ∥∥₁_prop}
-use Rattle.sqlite_pool.specs.Stored.{Recovers, RecoversAs}
 use Rattle.sqlite_pool.specs.StoredLaws.{carried}
 use Rattle.sqlite_trees.specs.Tree.{Trees}
 use Rattle.sqlite_trees.specs.View.{View, IsClean}
 use Rattle.sqlite_wal.specs.Recovery.{Image}
-use Rattle.book_model.specs.Words.{Book, Event, after_all, book_after, new_book, IsMadeByCalls}
-use Rattle.book_model.specs.Words.{Naming}
+use Rattle.book_model.specs.Words.{Book, Event, Naming, after_all, book_after, new_book}
 use Rattle.book_core.specs.Ledgers.{Seen, IsOpenAt, may_have}
 use Rattle.book_core.specs.Transition.{Transition, NoEvent, IsTransition}
 use Rattle.book_core.specs.Follow.{MakesAnswered}
+use Rattle.book_core.proofs.InTurnLemmas.{Adds, AllAdd, in_turn}
+use Rattle.book_core.proofs.OpenLemmas.{opened_leads}
 use Rattle.book_core.proofs.TransitionLemmas.{after_all-append}
 use Rattle.book_trees.specs.LedgerFiles.{page_size, HoldsBooks, trees_held}
 use Rattle.book_trees.specs.Refusals.{IsAsFound}
@@ -19,10 +19,8 @@ use Rattle.table_ledger.specs.Ready.{IsStoredIn}
 use Rattle.table_ledger.specs.LedgerState.{AreBooks, seen_of}
 use Rattle.table_ledger.specs.ReadyBooks.{LeavesTheLast, settled_on, book_of_stored}
 use Rattle.table_ledger.specs.declared.summary.Summary.{Summary}
-use Rattle.book_restarts.specs.FileBooks.{HoldsBook, HoldsHistory, LeavesTrees, LeavesBook}
-use Rattle.book_restarts.specs.FileBooks.{LeavesHistory, GoesOn}
+use Rattle.book_restarts.specs.FileBooks.{GoesOn, HoldsBook, HoldsHistory, LeavesBook, LeavesTrees}
 use Rattle.book_restarts.specs.Laws.{SessionsFollowBook, SessionsFollowHistory}
-use Rattle.book_restarts.proofs.LifeLemmas.{own_book, below_next, last_below}
 
 -- A ledger on a store, after work on the book at which it was opened.
 module _ (naming : Naming) (view : View) (may_leave : Trees → Type 0) (must_reopen : Bool)
@@ -32,7 +30,7 @@ module _ (naming : Naming) (view : View) (may_leave : Trees → Type 0) (must_re
     seen = seen_of naming view may_leave must_reopen summary
 
     -- it may have each book that a stop may leave
-    stands : (flag : Bool) → must_reopen ≡ flag → IsClean view
+    pub stands : (flag : Bool) → must_reopen ≡ flag → IsClean view
         → AreBooks naming view may_leave must_reopen summary → (trees : Trees) → may_leave trees
         → (book : Book) → IsStoredIn naming book trees → may_have flag seen book
     stands true closed clean books trees left book kept = (trees, left, sym (book_of_stored kept))
@@ -47,18 +45,13 @@ module _ (naming : Naming) (view : View) (may_leave : Trees → Type 0) (must_re
     visit_leaves before given Made start opened work clean trees left =
         let books = work.books clean opened.books in
         let some = books.left clean trees left in
-        let moved = work.moves clean opened.books some.book
+        let come = opened_leads opened work clean some.book
         (stands must_reopen refl clean books trees left some.book some.kept) in
-        let first : moved.before ≡ start =
-        own_book before start moved.before moved.stood opened.is_open opened.book in
         record {
-          events = moved.events;
+          events = come.events;
           is = must_reopen;
-          made = subst (λ book. Made false book moved.events must_reopen) first
-              (subst (λ was. Made was moved.before moved.events must_reopen) opened.is_open
-              moved.made);
-          kept = subst (λ book. IsStoredIn given book trees)
-              (moved.leads ∙ ap (after_all moved.events) first)
+          made = come.made;
+          kept = subst (λ book. IsStoredIn given book trees) come.leads
               (subst (λ name. IsStoredIn name some.book trees) (work.naming ∙ opened.naming)
               some.kept);
         }
@@ -139,42 +132,42 @@ book_goes_on naming Made first left answers each = record {
       };
 }
 
+-- sessions, one after another, of each of which it is known that it adds something
+sessions_add : (work : ℕ → Transition) (start : Book) (At : ℕ → List Event → Type 0) (sessions : ℕ)
+    → At 0 []
+    → ((session : ℕ) → session < sessions → (early : List Event) → At session early
+    → ∥ Adds (work session) start (At (suc session)) early ∥₁)
+    → ∥ AllAdd work start sessions (At sessions) ∥₁
+sessions_add =
+    in_turn (λ A. ∥ A ∥₁) (λ A one. ∣ one ∣₁) (λ A B one so. ∥∥₁_elim one ∥∥₁_prop so)
+
 -- all sessions on the files of a history
 pub sessions_follow : (work : ℕ → Naming → Transition) (files : ℕ → Image)
     → SessionsFollowHistory work files
-sessions_follow work files naming start zero held each =
-    ∣ (record { events = []; made = refl; left = held }) ∣₁
-sessions_follow work files naming start (suc sessions) held each =
-    ∥∥₁_elim (sessions_follow work files naming start sessions held
-    (λ session below. each session (below_next session sessions below))) ∥∥₁_prop λ before.
-    ∥∥₁_map ((each sessions (last_below sessions)).history (before.events ++ start) before.left) λ one.
-    record {
-      events = one.events ++ before.events;
-      made = (
-        before.events,
-        one.events,
-        one.is,
-        before.made,
-        subst (λ book. work sessions naming false book one.events one.is)
-            (after_all-append before.events start new_book) one.made,
-        refl,
-      );
-      left = subst (λ history. HoldsHistory naming history (files (suc sessions)))
-          (sym (append_assoc one.events before.events start)) one.left;
-    }
+sessions_follow work files naming start sessions held each =
+    ∥∥₁_map (sessions_add (λ session. work session naming) (book_after start)
+    (λ session events. HoldsHistory naming (events ++ start) (files session)) sessions held
+    (λ session below early at.
+    ∥∥₁_map ((each session below).history (early ++ start) at) λ one. record {
+      late = one.events;
+      is = one.is;
+      made = subst (λ book. work session naming false book one.events one.is)
+          (after_all-append early start new_book) one.made;
+      left = subst (λ history. HoldsHistory naming history (files (suc session)))
+          (sym (append_assoc one.events early start)) one.left;
+    })) λ all. record { events = all.events; made = all.made; left = all.left }
 
 -- and on those of any book
 pub sessions_follow_book : (work : ℕ → Naming → Transition) (files : ℕ → Image)
     → SessionsFollowBook work files
-sessions_follow_book work files naming start zero held each =
-    ∣ (record { events = []; made = refl; left = held }) ∣₁
-sessions_follow_book work files naming start (suc sessions) held each =
-    ∥∥₁_elim (sessions_follow_book work files naming start sessions held
-    (λ session below. each session (below_next session sessions below))) ∥∥₁_prop λ before.
-    ∥∥₁_map ((each sessions (last_below sessions)).book (after_all before.events start) before.left)
-    λ one. record {
-      events = one.events ++ before.events;
-      made = (before.events, one.events, one.is, before.made, one.made, refl);
-      left = subst (λ book. HoldsBook naming book (files (suc sessions)))
-          (sym (after_all-append one.events before.events start)) one.held;
-    }
+sessions_follow_book work files naming start sessions held each =
+    ∥∥₁_map (sessions_add (λ session. work session naming) start
+    (λ session events. HoldsBook naming (after_all events start) (files session)) sessions held
+    (λ session below early at.
+    ∥∥₁_map ((each session below).book (after_all early start) at) λ one. record {
+      late = one.events;
+      is = one.is;
+      made = one.made;
+      left = subst (λ book. HoldsBook naming book (files (suc session)))
+          (sym (after_all-append one.events early start)) one.held;
+    })) λ all. record { events = all.events; made = all.made; left = all.left }

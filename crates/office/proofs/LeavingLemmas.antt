@@ -1,18 +1,14 @@
 -- What work on an open ledger leaves of it, if it is still open.
-use Rattle.std.proofs.Common.{◌≡◌, ◌∙◌, Bool, true, false, List, refl, sym, ap, subst}
+use Rattle.std.proofs.Common.{◌≡◌, ◌∙◌, Bool, true, false, List, refl, sym, subst}
 use Rattle.book_model.specs.Words.{Book, Event, after_all, Naming}
 use Rattle.book_core.specs.Ledgers.{Seen, MayHave, may_have, IsOpenAt}
 use Rattle.book_core.specs.Transition.{Transition, IsTransition}
+use Rattle.book_core.proofs.OpenLemmas.{opened_leads}
 use Rattle.office.specs.Laws.{IsStillOpen}
 
--- an open ledger is at its own book, and at no other
+-- an open ledger is at its own book
 stands_open : (seen : Seen) → seen.must_reopen ≡ false → MayHave seen seen.book
 stands_open seen is_open = subst (λ shut. may_have shut seen seen.book) (sym is_open) refl
-
-stood_open : {naming : Naming} {start : Book} {seen : Seen} → IsOpenAt naming start seen
-    → (book : Book) → MayHave seen book → book ≡ start
-stood_open {seen = seen} opened book stood =
-    subst (λ shut. may_have shut seen book) opened.is_open stood ∙ opened.book
 
 -- the work made events of the book, and the ledger is open at the book after them
 pub record Leaves (naming : Naming) (Made : Transition) (start : Book) (new : Seen) : Type 0 where
@@ -23,16 +19,13 @@ pub record Leaves (naming : Naming) (Made : Transition) (start : Book) (new : Se
 pub work_leaves : {naming : Naming} {start : Book} {old new : Seen} {Made : Transition}
     → IsOpenAt naming start old → IsTransition old new Made → IsStillOpen new
     → Leaves naming Made start new
-work_leaves {start = start} {old = old} {new = new} {Made = Made} opened work still =
-    let come = work.moves still.honest opened.books new.book (stands_open new still.is_open) in
-    let was : come.before ≡ start = stood_open opened come.before come.stood in
+work_leaves {start = start} {new = new} {Made = Made} opened work still =
+    let come = opened_leads opened work still.honest new.book (stands_open new still.is_open) in
     record {
       events = come.events;
-      made = subst (λ shut. Made shut start come.events false) opened.is_open
-          (subst (λ shut. Made old.must_reopen start come.events shut) still.is_open
-          (subst (λ before. Made old.must_reopen before come.events new.must_reopen) was come.made));
+      made = subst (λ shut. Made false start come.events shut) still.is_open come.made;
       left = record {
-        book = come.leads ∙ ap (after_all come.events) was;
+        book = come.leads;
         naming = work.naming ∙ opened.naming;
         is_open = still.is_open;
         honest = still.honest;
