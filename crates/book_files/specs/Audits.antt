@@ -39,8 +39,8 @@ abbrev pub FindsWrongBy : Type 0 → Type 0 → Audited → Type 0
 FindsWrongBy Own Failed audited =
     (finding : Finding) → audited ≡ Unsound finding → Own → Failed
 
--- So it is of files that hold the book of calls: they are called unsound only where a call on them
--- failed, or met a limit of the format; and never where they were not looked through.
+-- Files that hold a book which calls made are called unsound only where they were looked through, and a
+-- call on them failed, or met a limit of the format.
 abbrev pub WhyUnsound : {D : Type 0} (g : Ghosts D) → Image → Ended D → Audited → Type 0
 WhyUnsound g found (Refused None) audited = FindsWrongBy (HoldsOwnBook found) ⊥ audited
 WhyUnsound g found (Refused (Some files)) audited =

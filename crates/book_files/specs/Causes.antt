@@ -45,14 +45,15 @@ HoldsOurs naming image = HoldsOurBooks naming image ⊎ HoldsEmptyBooks image
 abbrev pub ShowsOurs : Naming → View → Type 0
 ShowsOurs naming view = ShowsOurBooks naming view ⊎ IsEmpty view
 
--- in whatever books the files hold, the row of the book is there; or it is not
+-- whatever books the files hold, the row of the book is there
 abbrev pub HaveBookRow : Image → Type 0
 HaveBookRow found = (held : HoldsBooks found) → has_book (trees_held held) ≡ true
 
+-- whatever books the files hold, the row of the book is not there
 abbrev pub HaveNoBookRow : Image → Type 0
 HaveNoBookRow found = (held : HoldsBooks found) → has_book (trees_held held) ≡ false
 
--- nor is it in whatever books of the first form they hold
+-- whatever books of the first form the files hold, the row of the book is not there
 abbrev pub HaveNoFirstRow : Image → Type 0
 HaveNoFirstRow found = (held : HoldsFirstBooks found) → has_book (trees_held held) ≡ false
 
@@ -95,39 +96,44 @@ abbrev pub IsUnvisitedFor : View → Type 0 → RepositoryFault → Type 0
 IsUnvisitedFor found Failed =
     HasFaultCause (has_book found.trees ≡ false) ⊥ (ShowsOurs file_names found → Failed)
 
--- so it is said of files
+-- Books in files that were opened are not visited: their row is not there; or, of what a ledger left, a
+-- call on the files failed, or met a limit of the format.
 abbrev pub AreUnvisitedFor : Image → Type 0 → RepositoryFault → Type 0
 AreUnvisitedFor found Failed =
     HasFaultCause (HaveNoBookRow found) ⊥ (HoldsOurs file_names found → Failed)
 
--- Why each session had no answer, by what the files held when it found them, and by what is in hand
--- of them. `Failed` stands for a call on them that failed, or met a limit of the format.
+-- Why a session had no answer, by what the files held when it found them, and by what is in hand of them.
 module _ {D : Type 0} (g : Ghosts D) (found : Image) (ended : Ended D) where
-  -- books were not visited: there are none of this form, or not their row
+  -- Why books were not visited: the files hold none of this form, or not their row; or, of what a
+  -- ledger left, a call on the files failed, or met a limit of the format; or memory ran out.
   abbrev pub WhyNotVisited : RepositoryFault → Type 0
   WhyNotVisited fault =
       HasNoAnswerFor g (AreFull g) (HasFaultCause (¬ HoldsThisForm found) ⊥) (AreUnvisitedFor found)
       fault ended
 
-  -- new books were not made: the files held something
+  -- Why new books were not made: the files held something; or a call on them failed, or met a limit of
+  -- the format; or memory ran out.
   abbrev pub WhyNotMade : RepositoryFault → Type 0
   WhyNotMade fault =
       HasNoAnswerFor g (StopCreating g) (HasFaultCause (¬ HoldsNothing found) ⊥)
       (λ Failed. HasFaultCause ⊥ ⊥ ⊤) fault ended
 
-  -- new books were not continued: others are there, or the row of a book
+  -- Why new books were not continued: the files hold none of this form, or the row of a book; or a call
+  -- on them failed, or met a limit of the format; or memory ran out.
   abbrev pub WhyNotContinued : RepositoryFault → Type 0
   WhyNotContinued fault =
       HasNoAnswerFor g (AreFull g) (HasFaultCause ⊥ (¬ HoldsThisForm found))
       (λ Failed. HasFaultCause ⊥ (HaveBookRow found) ⊤) fault ended
 
-  -- books were not looked through: there are none of this form; of those that were this says nothing
+  -- Why books were not looked through: the files hold none of this form; or a call on them failed, or
+  -- met a limit of the format; or memory ran out. Of files that were looked through this says nothing.
   abbrev pub WhyNotAudited : RepositoryFault → Type 0
   WhyNotAudited fault =
       HasNoAnswerFor g (AreFull g) (HasFaultCause (¬ HoldsThisForm found) ⊥) (λ Failed other. ⊤)
       fault ended
 
-  -- books were not brought to this form: there are none of the first form, or not their row
+  -- Why books were not brought to this form: the files hold none of the first form, or not their row; or
+  -- a call on them failed, or met a limit of the format; or memory ran out.
   abbrev pub WhyNotUpgraded : RepositoryFault → Type 0
   WhyNotUpgraded fault =
       HasNoAnswerFor g (AreFull g)

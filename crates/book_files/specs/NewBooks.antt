@@ -49,7 +49,8 @@ MayBeMade g (Closed closed) image = IsTrue closed.is_kept × MayBeFound g closed
 MayBeMade g (Refused (Some files)) image = MayLeave g files image
 MayBeMade g (Refused None) image = ⊥
 
--- so new books were made, whatever that is
+-- Whatever the next call may find of files in which new books were to be made: these books, if that was
+-- answered; or what such a making may leave.
 abbrev pub NewBooksMade : {D A F : Type 0} (g : Ghosts D) → Result A F → Ended D → Type 0
 NewBooksMade g made ended =
     (image : Image) → MayBeMade g ended image → MakesBooks file_names made image

@@ -19,7 +19,8 @@ MayFollow g (Closed closed) image = IsTrue closed.is_kept × MayBeFound g closed
 MayFollow g (Refused (Some files)) image = MayBeFound g files image
 MayFollow g (Refused None) image = ⊥
 
--- Whatever that is, it goes on from what this session found, with what was made in it.
+-- Whatever the next session may find of the files goes on from what this one found, with what was made
+-- in it.
 abbrev pub FilesGoOn : {D : Type 0} (g : Ghosts D) → Transition → Image → Ended D → Type 0
 FilesGoOn g Made found ended =
     (image : Image) → MayFollow g ended image → GoesOn file_names Made found image

@@ -13,42 +13,46 @@ use Rattle.table_ledger.specs.Ready.{IsStoredIn}
 use Rattle.book_restarts.specs.FileBooks.{HoldsBook, LeavesBook, LeavesTrees, StandsAt, file_names}
 use Rattle.book_files.specs.NewBooks.{IsEmpty, LeavesNew, LeavesNewBooks}
 
--- So are all trees that a stop may leave of a store which was honest so far.
+-- all trees that a stop may leave of a store are so, if its disk was honest
 abbrev pub StopLeaves : State → (Trees → Type 0) → Type 0
 StopLeaves left So = HasCleanDisk left → (trees : Trees) → left.may_leave trees → So trees
 
--- So is all that may be found of closed files which are known to hold books.
+-- all that may be found of closed files is so, if they are known to hold books
 abbrev pub CloseLeaves : {D : Type 0} (g : Ghosts D) → Closed D → (Image → Type 0) → Type 0
 CloseLeaves g closed So =
     IsTrue closed.is_kept → (image : Image) → MayBeFound g closed.files image → So image
 
--- a stop leaves what such work made of the book at which the store stood; so does a close
+-- a stop leaves what such work made of the book at which a store stood
 abbrev pub StopGoesOn : Transition → View → State → Type 0
 StopGoesOn Made found left =
     (book : Book) → StandsAt file_names book found
     → StopLeaves left (LeavesTrees file_names Made book)
 
+-- a close leaves in the files what such work made of the book at which a store stood
 abbrev pub CloseGoesOn : {D : Type 0} (g : Ghosts D) → Transition → View → Closed D → Type 0
 CloseGoesOn g Made found closed =
     (book : Book) → StandsAt file_names book found
     → CloseLeaves g closed (λ image. ∥ LeavesBook file_names Made book image ∥₁)
 
--- a stop leaves the book at which the store stood; so does a close
+-- a stop leaves the book at which a store stood
 abbrev pub StopKeepsBook : View → State → Type 0
 StopKeepsBook found left =
     (book : Book) → StandsAt file_names book found → StopLeaves left (IsStoredIn file_names book)
 
+-- a close leaves in the files the book at which a store stood
 abbrev pub CloseKeepsBook : {D : Type 0} (g : Ghosts D) → View → Closed D → Type 0
 CloseKeepsBook g found closed =
     (book : Book) → StandsAt file_names book found
     → CloseLeaves g closed (HoldsBook file_names book)
 
--- Where the store had no row, a stop leaves new books; or, where they were not made, its tables as
--- they were. So does a close.
+-- Of a store that had no row a stop leaves new books; or, where they were not made, its tables as they
+-- were.
 abbrev pub StopLeavesNew : {A F : Type 0} → View → Result A F → State → Type 0
 StopLeavesNew found made left =
     (IsClean found → IsEmpty found) → StopLeaves left (LeavesNew file_names found made)
 
+-- Of a store that had no row a close leaves new books in the files; or, where they were not made, its
+-- tables as they were.
 abbrev pub CloseLeavesNew : {D A F : Type 0} (g : Ghosts D) → View → Result A F → Closed D → Type 0
 CloseLeavesNew g found made closed =
     (IsClean found → IsEmpty found) → CloseLeaves g closed (LeavesNewBooks file_names found made)

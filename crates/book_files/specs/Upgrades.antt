@@ -76,7 +76,8 @@ BringsOver naming history (Ok Already) image = ⊥
 BringsOver naming history (Err fault) image =
     ∥ (HoldsFirstHistory naming history image ⊎ HoldsHistory naming history image) ∥₁
 
--- so the next session finds whatever history the files held in the first form
+-- Whatever the next session may find of files that held the books of a history in the first form: books
+-- of this history, in this form; or, where they were not brought over, in one of the two.
 abbrev pub FilesBroughtOver : {D : Type 0} (g : Ghosts D) → Image → Result Upgraded RepositoryFault
     → Ended D → Type 0
 FilesBroughtOver g found told ended =

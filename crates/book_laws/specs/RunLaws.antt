@@ -35,7 +35,8 @@ ChargesOnce book =
     → net_count (all_periods book) bytes
     ≡ pos (one_if (is_undisputed book.rulings book.held bytes && has book.held bytes))
 
--- this holds for the book that any run leaves
+-- Whatever run was made after a history: over all periods of the book that it leaves, each record that
+-- is held and undisputed is charged once net; any other nets to nothing.
 abbrev pub RunsChargeOnce : Type 0
 RunsChargeOnce =
     (naming : Naming) (history : List Event) (run : Run) → IsRunAfter naming history run

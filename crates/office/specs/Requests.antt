@@ -63,7 +63,7 @@ abbrev pub IsAskableUnread : Asked → Type 0
 IsAskableUnread (Close period through) = IsDay through
 IsAskableUnread asked = Unit {0}
 
--- the same with any reader: a dump is read from one that may be asked
+-- It may be asked of books with this reader: a dump is read from one that may be asked.
 abbrev pub IsAskable : Asked → ReaderSeen → Type 0
 IsAskable (Import layout) reader = IsReady reader
 IsAskable asked reader = IsAskableUnread asked

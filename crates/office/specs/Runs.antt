@@ -22,7 +22,7 @@ dump_here asked = no_dump
 abbrev pub AsksWithoutReader : Naming → Asked → Result Answer LedgerFault → Transition
 AsksWithoutReader naming asked answer = Asks naming asked (dump_here asked) (response_by answer)
 
--- so were they with one request after another: each has its answer
+-- the books were asked one request after another, each with the dump that it brings, and answered these
 abbrev pub Runs : Naming → List Asked → List (Result Answer LedgerFault) → Transition
 Runs naming [] [] = NoEvent
 Runs naming (asked ∷ requests) (answer ∷ answers) =
