@@ -1,11 +1,10 @@
 -- Lists of requests on an open ledger.
 use Rattle.std.proofs.Common.{◌≡◌, ◌∙◌, ℕ, Bool, true, false, List, [], ◌∷◌, Result, Ok, Err, refl}
 use Rattle.std.proofs.Common.{sym, ap, subst, map}
-use Rattle.std.specs.Prelude.{All, string_bytes}
+use Rattle.std.specs.Prelude.{All}
 use Rattle.std.proofs.lemmas.List.Elements.{All-head, All-tail}
 use Rattle.book_model.specs.declared.fault.LedgerFault.{LedgerFault}
-use Rattle.book_model.specs.Words.{front, Book, Event, after_all, Naming, Outcome, tariff_outcome}
-use Rattle.book_model.specs.Words.{close_outcome, choose_outcome, adopt_outcome}
+use Rattle.book_model.specs.Words.{front, Book, Event, after_all, Naming, Outcome}
 use Rattle.book_core.specs.Calls.{Calls}
 use Rattle.book_core.specs.Ledgers.{Seen, IsOpenAt}
 use Rattle.book_core.specs.Transition.{IsTransition}
@@ -15,13 +14,10 @@ use Rattle.book_import.specs.declared.receipt.Stop.{Stop}
 use Rattle.book_import.specs.Dumps.{stop_after}
 use Rattle.book_import.specs.Imports.{Handles, whole, out_of_memory, store_failed}
 use Rattle.office.specs.declared.request.Asked.{Asked}
-use Rattle.office.specs.declared.request.Asked.TheVariants.{Tariff, Close, Choose, Adopt, Import}
-use Rattle.office.specs.declared.request.Asked.TheVariants.{ImportBytes, Report, WhatIf}
+use Rattle.office.specs.declared.request.Asked.TheVariants.{Import, ImportBytes}
 use Rattle.office.specs.declared.request.Answer.{Answer}
 use Rattle.office.specs.Outcomes.{AskedOutcome, asked_outcome, is_hindered}
-use Rattle.book_reports.specs.BookTexts.{report_outcome}
-use Rattle.book_reports.specs.WhatIfTexts.{what_if_report}
-use Rattle.office.specs.Requests.{Dump, Response, Ruling, Count, Text, Receives, Asks, response_outcome}
+use Rattle.office.specs.Requests.{Dump, Response, Ruling, Count, Text, Receives, Asks}
 use Rattle.office.specs.Requests.{response_by}
 use Rattle.office.specs.Runs.{AsksWithoutReader, Runs, dump_here}
 use Rattle.office.proofs.LawLemmas.{asks_done}
@@ -62,25 +58,12 @@ receipt_opened naming dump (Err fault) was before events is never is_open = absu
 asked_opened : (naming : Naming) (asked : Asked) (dump : Dump) (told : Result Response LedgerFault)
     (was : Bool) (before : Book) (events : List Event) (is : Bool)
     → Asks naming asked dump told was before events is → is ≡ false → was ≡ false
-asked_opened naming (Tariff text) dump told was before events is made is_open =
-    call_opened (response_outcome Ruling (tariff_outcome (string_bytes text))) told was before events is made
-    is_open
-asked_opened naming (Close period through) dump told was before events is made is_open =
-    call_opened (response_outcome Ruling (close_outcome period through)) told was before events is made
-    is_open
-asked_opened naming (Choose name) dump told was before events is made is_open =
-    call_opened (response_outcome Ruling (choose_outcome naming name)) told was before events is made is_open
-asked_opened naming (Adopt rule) dump told was before events is made is_open =
-    call_opened (response_outcome Ruling (adopt_outcome rule)) told was before events is made is_open
 asked_opened naming (Import layout) dump told was before events is made is_open =
     receipt_opened naming dump told was before events is made is_open
 asked_opened naming (ImportBytes layout bytes) dump told was before events is made is_open =
     receipt_opened naming dump told was before events is made is_open
-asked_opened naming (Report report) dump told was before events is made is_open =
-    call_opened (response_outcome Text (report_outcome naming report)) told was before events is made is_open
-asked_opened naming (WhatIf report tariff) dump told was before events is made is_open =
-    call_opened (response_outcome Text (what_if_report report (string_bytes tariff))) told was before
-    events is made is_open
+asked_opened naming other dump told was before events is made is_open =
+    call_opened _ told was before events is made is_open
 
 -- and before one request after another
 run_opened : (naming : Naming) (requests : List Asked) (answers : List (Result Answer LedgerFault))

@@ -140,24 +140,12 @@ pub asks_done : (naming : Naming) (asked : Asked) (dump : Dump) (told : Result R
     (book : Book) (events : List Event) (is : Bool)
     → Asks naming asked dump told false book events is → is_hindered told ≡ false
     → asked_outcome naming asked dump book ≡ record { told = told; events = events }
-asks_done naming (Tariff text) dump told book events is made free =
-    calls_done (response_outcome Ruling (tariff_outcome (string_bytes text))) told book events is made
-    free
-asks_done naming (Close period through) dump told book events is made free =
-    calls_done (response_outcome Ruling (close_outcome period through)) told book events is made free
-asks_done naming (Choose name) dump told book events is made free =
-    calls_done (response_outcome Ruling (choose_outcome naming name)) told book events is made free
-asks_done naming (Adopt rule) dump told book events is made free =
-    calls_done (response_outcome Ruling (adopt_outcome rule)) told book events is made free
 asks_done naming (Import layout) dump told book events is made free =
     receives_done naming dump told book events is made free
 asks_done naming (ImportBytes layout bytes) dump told book events is made free =
     receives_done naming dump told book events is made free
-asks_done naming (Report report) dump told book events is made free =
-    calls_done (response_outcome Text (report_outcome naming report)) told book events is made free
-asks_done naming (WhatIf report tariff) dump told book events is made free =
-    calls_done (response_outcome Text (what_if_report report (string_bytes tariff))) told book events
-    is made free
+asks_done naming other dump told book events is made free =
+    calls_done _ told book events is made free
 
 -- a ledger that is open after requests was open before them
 open_at_first : {L : Type 0} (seen : L → Seen) (before : L) (exchanges : List (Exchange L))
