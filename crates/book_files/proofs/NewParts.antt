@@ -5,7 +5,6 @@ use Rattle.std.proofs.Math.Logic.{∥∥₁_map}
 use Rattle.std.specs.Prelude.{IfSome}
 use Rattle.sqlite_disk.specs.declared.files.Files.{Files}
 use Rattle.sqlite_disk.specs.declared.Disk.{Ghosts}
-use Rattle.sqlite_pool.specs.StoredLaws.{carried}
 use Rattle.sqlite_store.proofs.ListingLemmas.{past_version}
 use Rattle.sqlite_store.specs.FileStore.{state, view, IsReady}
 use Rattle.sqlite_store.specs.declared.store.FileStore.{FileStore}
@@ -19,12 +18,13 @@ use Rattle.book_core.specs.Ledgers.{IsOpenAt}
 use Rattle.sqlite_trees.proofs.Doubt.{clean_of}
 use Rattle.book_trees.specs.Forms.{IsSaid}
 use Rattle.book_trees.specs.LedgerFiles.{HoldsBooks, trees_held, AreEmptyTables, HoldsEmptyBooks}
-use Rattle.book_trees.specs.LedgerFiles.{page_size}
 use Rattle.book_trees.specs.Refusals.{IsAsFound, IsBegun, MayLeave}
+use Rattle.book_trees.specs.Schema.{books_schema}
 use Rattle.book_restarts.specs.FileBooks.{HoldsHistory}
 use Rattle.book_files.specs.NewBooks.{HaveSameTables, IsEmpty, LeavesNew, LeavesNewBooks, MakesBooks}
 use Rattle.book_files.specs.NewBooks.{MayBeMade}
 use Rattle.book_files.specs.declared.session.Ended.TheVariants.{Refused}
+use Rattle.book_files.proofs.SessionParts.{held_still}
 use Rattle.table_model.proofs.EventLemmas.{tables_follow}
 use Rattle.table_model.specs.TablesAfter.{new_tables}
 use Rattle.table_model.specs.TablesOf.{tables_of}
@@ -180,15 +180,10 @@ module _ {D : Type 0} {g : Ghosts D} (first : Image) (store : FileStore D g) (re
 -- files that stand for the same hold the same
 begun_as_found : (first left : Image) → IsAsFound first left → HoldsEmptyBooks first
     → HoldsEmptyBooks left
-begun_as_found first left (inl same) begun = subst HoldsEmptyBooks (sym same) begun
-begun_as_found first left (inr same) begun = record {
-  held = record {
-    pages = begun.held.pages;
-    found = carried page_size first left same begun.held.pages begun.held.found;
-    file = begun.held.file;
-  };
-  empty = begun.empty;
-}
+begun_as_found first left same begun =
+    let still = held_still {wanted = books_schema} AreEmptyTables first left same
+    (begun.held, begun.empty) in
+    record { held = still.0; empty = still.1 }
 
 -- so files that were refused are still begun
 pub refused_still : {D : Type 0} (g : Ghosts D) (names : Naming) (first : Image)

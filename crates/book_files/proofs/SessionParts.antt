@@ -10,6 +10,7 @@ use Rattle.office.proofs.ShelfLemmas.{same_where}
 use Rattle.book_files.specs.Faults.{IsReleased}
 use Rattle.sqlite_disk.specs.declared.Disk.{Ghosts}
 use Rattle.sqlite_disk.specs.declared.files.Files.{Files}
+use Rattle.sqlite_pool.specs.StoredLaws.{carried}
 use Rattle.sqlite_store.specs.FileStore.{state, view, recovers, IsReady}
 use Rattle.sqlite_store.specs.declared.catalog.Wanted.{Wanted}
 use Rattle.sqlite_store.specs.declared.store.FileStore.{FileStore}
@@ -25,15 +26,14 @@ use Rattle.book_trees.proofs.ClosedFiles.{both_true, first_true, second_true}
 use Rattle.book_trees.specs.Copies.{AreOnlyRead}
 use Rattle.book_trees.specs.Closing.{IsShort, IsWithoutLog, LeavesLog, MayBeFound}
 use Rattle.book_trees.specs.declared.closing.Closed.{Closed}
-use Rattle.book_trees.specs.LedgerFiles.{HoldsBooks, HoldsTables, trees_held, without_log}
+use Rattle.book_trees.specs.LedgerFiles.{HoldsBooks, HoldsTables, page_size, trees_held, without_log}
 use Rattle.book_trees.specs.Refusals.{IsAsFound, MayLeave}
 use Rattle.book_trees.specs.Schema.{books_schema}
 use Rattle.book_trees.proofs.UnusedLogs.{short_alone}
 use Rattle.table_ledger.specs.Ready.{IsStoredIn}
 use Rattle.book_restarts.specs.FileBooks.{HoldsBook, LeavesBook}
 use Rattle.book_restarts.specs.FileBooks.{GoesOn, StandsAt, done_by, file_names}
-use Rattle.book_restarts.proofs.SessionLemmas.{book_goes_on, found_goes_on, held_as_found}
-use Rattle.book_restarts.proofs.SessionLemmas.{still_held}
+use Rattle.book_restarts.proofs.SessionLemmas.{book_goes_on, still_held}
 use Rattle.book_files.specs.Sessions.{IsFileAlone, MayFollow, WereOnlyRead}
 use Rattle.book_files.specs.Stores.{CloseLeaves}
 use Rattle.book_files.specs.declared.session.Ended.TheVariants.{Refused}
@@ -107,7 +107,7 @@ session_goes_on names Made first image store ready found answers each =
     each book (opened_stands names book first store ready found kept.0 kept.1)
 
 -- without a log that held nothing, files hold the same
-pub tables_alone : {wanted : List Wanted} {D : Type 0} (g : Ghosts D) (Kept : Trees → Type 0)
+tables_alone : {wanted : List Wanted} {D : Type 0} (g : Ghosts D) (Kept : Trees → Type 0)
     (files : Files D) (image : Image) → IsWithoutLog g files image
     → ∥ ((held : HoldsTables wanted (record { log = g.seen files.log; db = image.db }))
     × Kept (trees_held held)) ∥₁
@@ -121,20 +121,46 @@ tables_alone {wanted} g Kept files image alone held =
     let kept = short_alone whole alone.short found.0 in
     (kept.0, subst Kept (sym kept.1) found.1))
 
--- files that were refused go on as they were
+-- files that stand for the same hold the same tables
+pub held_still : {wanted : List Wanted} (Kept : Trees → Type 0) (first left : Image)
+    → IsAsFound first left → ((held : HoldsTables wanted first) × Kept (trees_held held))
+    → (held : HoldsTables wanted left) × Kept (trees_held held)
+held_still {wanted} Kept first left (inl same) held =
+    subst (λ (image : Image). (held : HoldsTables wanted image) × Kept (trees_held held)) (sym same) held
+held_still {wanted} Kept first left (inr same) held = (
+  record {
+    pages = held.0.pages;
+    found = carried page_size first left same held.0.pages held.0.found;
+    file = held.0.file;
+  },
+  held.1,
+)
+
+-- files that were refused hold what they held, also without a log that held nothing
+pub refused_tables : {wanted : List Wanted} {D : Type 0} (g : Ghosts D)
+    → ((file : D) → g.may_leave file (g.seen file)) → (Kept : Trees → Type 0) (first : Image)
+    (files : Files D) → ((left : Image) → MayLeave g files left → IsAsFound first left)
+    → (image : Image) → MayBeFound g files image
+    → ∥ ((held : HoldsTables wanted first) × Kept (trees_held held)) ∥₁
+    → ∥ ((held : HoldsTables wanted image) × Kept (trees_held held)) ∥₁
+refused_tables {wanted} g stays Kept first files kept image (inl may) held =
+    ∥∥₁_map held (held_still {wanted = wanted} Kept first image (kept image may))
+refused_tables {wanted} g stays Kept first files kept image (inr alone) held =
+    let whole : Image = record { log = g.seen files.log; db = image.db } in
+    tables_alone {wanted = wanted} g Kept files image alone
+    (∥∥₁_map held (held_still {wanted = wanted} Kept first whole
+    (kept whole (alone.clean, (stays files.log, alone.file)))))
+
+-- so they go on as they were
 pub refused_goes_on : {D : Type 0} (g : Ghosts D) → ((file : D) → g.may_leave file (g.seen file))
     → (names : Naming) (first : Image) (files : Option (Files D))
     → IfSome files (λ files. (left : Image) → MayLeave g files left → IsAsFound first left)
     → (image : Image) → MayFollow g (Refused files) image → GoesOn names NoEvent first image
 refused_goes_on g stays names first None kept image never = absurd never
-refused_goes_on g stays names first (Some files) kept image (inl may) =
-    found_goes_on names first image (kept image may)
-refused_goes_on g stays names first (Some files) kept image (inr alone) =
-    let whole : Image = record { log = g.seen files.log; db = image.db } in
+refused_goes_on g stays names first (Some files) kept image may =
     still_held names first image (λ book held.
-    tables_alone {wanted = books_schema} g (IsStoredIn names book) files image alone
-    (held_as_found names book first whole (kept whole (alone.clean, (stays files.log, alone.file)))
-    held))
+    refused_tables {wanted = books_schema} g stays (IsStoredIn names book) first files kept image may
+    held)
 
 -- so do files that an opened store leaves as they were
 pub held_goes_on : {D : Type 0} {g : Ghosts D} (names : Naming) (first image : Image)

@@ -8,7 +8,6 @@ use Rattle.std.proofs.lemmas.Bool.Decides.{nat_tests}
 use Rattle.std.specs.Prelude.{◌==◌, IfErr, IfSome, MatchOption}
 use Rattle.sqlite_disk.specs.declared.Disk.{Ghosts}
 use Rattle.sqlite_disk.specs.declared.files.Files.{Files}
-use Rattle.sqlite_pool.specs.StoredLaws.{carried}
 use Rattle.sqlite_store.specs.FileStore.{recovers, state, view, IsReady}
 use Rattle.sqlite_store.specs.Listing.{all_trees, listed_from}
 use Rattle.sqlite_store.specs.declared.store.FileStore.{FileStore}
@@ -38,7 +37,7 @@ use Rattle.book_trees.proofs.FirstTrees.{more_listed}
 use Rattle.book_trees.specs.FirstForm.{AddsDetails, HasFirstTrees, HoldsFirstForm, IsFirstRefusedFor}
 use Rattle.book_trees.specs.FirstForm.{IsUnopenedFirst, ListMore}
 use Rattle.book_trees.specs.Forms.{IsSaid}
-use Rattle.book_trees.specs.LedgerFiles.{HoldsBooks, HoldsFirstBooks, page_size, trees_held}
+use Rattle.book_trees.specs.LedgerFiles.{HoldsBooks, HoldsFirstBooks, trees_held}
 use Rattle.book_trees.specs.Refusals.{IsAsFound, MayLeave}
 use Rattle.book_trees.specs.Schema.{first_schema}
 use Rattle.book_trees.specs.declared.first_form.FirstFault.{FirstFault}
@@ -46,12 +45,12 @@ use Rattle.book_trees.specs.declared.first_form.FirstFault.TheVariants as fault
 use Rattle.book_restarts.specs.FileBooks.{RestsAt}
 use Rattle.book_files.specs.Faults.{first_answer}
 use Rattle.book_files.specs.Sessions.{MayFollow}
-use Rattle.book_files.specs.Upgrades.{BringsOver, HoldsFirstBook, HoldsFirstHistory, HoldsUpgraded}
+use Rattle.book_files.specs.Upgrades.{BringsOver, HoldsFirstHistory, HoldsUpgraded}
 use Rattle.book_files.specs.Upgrades.{IsBroughtOver, LeavesUpgraded, MayBringOver}
 use Rattle.book_files.specs.Upgrades.{RestsBroughtOver, upgrade_answer}
 use Rattle.book_files.specs.declared.session.Ended.TheVariants.{Refused}
 use Rattle.book_files.proofs.NewParts.{said_tables}
-use Rattle.book_files.proofs.SessionParts.{found_clean, tables_alone}
+use Rattle.book_files.proofs.SessionParts.{found_clean, refused_tables}
 
 -- ---- a look
 
@@ -278,43 +277,17 @@ brings_over names history first image store ready found held (Err why) each =
 
 -- ---- files that were refused
 
--- files that stand for the same hold the same
-first_as_found : (names : Naming) (book : Book) (first left : Image) → IsAsFound first left
-    → HoldsFirstBook names book first → HoldsFirstBook names book left
-first_as_found names book first left (inl same) held =
-    subst (HoldsFirstBook names book) (sym same) held
-first_as_found names book first left (inr same) held =
-    ∥∥₁_map held λ found. (
-      record {
-        pages = found.0.pages;
-        found = carried page_size first left same found.0.pages found.0.found;
-        file = found.0.file;
-      },
-      found.1,
-    )
-
 module _ {D : Type 0} (g : Ghosts D) (stays : (file : D) → g.may_leave file (g.seen file))
     (names : Naming) (first : Image) where
-  -- they hold what they held, also without a log that held nothing
-  refused_first : (book : Book) (files : Files D)
-      → ((left : Image) → MayLeave g files left → IsAsFound first left) → (image : Image)
-      → MayFollow g (Refused (Some files)) image → HoldsFirstBook names book first
-      → HoldsFirstBook names book image
-  refused_first book files kept image (inl may) held =
-      first_as_found names book first image (kept image may) held
-  refused_first book files kept image (inr alone) held =
-      tables_alone {wanted = first_schema} g (IsStoredInFirst names book) files image alone
-      (first_as_found names book first (record { log = g.seen files.log; db = image.db })
-      (kept (record { log = g.seen files.log; db = image.db })
-      (alone.clean, (stays files.log, alone.file))) held)
-
+  -- they hold the history that they held
   first_still : (history : List Event) (files : Files D)
       → ((left : Image) → MayLeave g files left → IsAsFound first left) → (image : Image)
       → MayFollow g (Refused (Some files)) image → HoldsFirstHistory names history first
       → HoldsFirstHistory names history image
   first_still history files kept image may held = record {
     answered = held.answered;
-    held = refused_first (book_after history) files kept image may held.held;
+    held = refused_tables {wanted = first_schema} g stays
+        (IsStoredInFirst names (book_after history)) first files kept image may held.held;
   }
 
   -- and books of the first form are not said to be of this one

@@ -1,8 +1,7 @@
 -- Sessions on the files of books, one after another.
 use Rattle.std.proofs.Common.{◌≡◌, ◌∙◌, ◌<◌, ℕ, suc, Bool, true, false, List, [], ◌++◌, refl, sym}
-use Rattle.std.proofs.Common.{subst, append_assoc, inl, inr}
+use Rattle.std.proofs.Common.{subst, append_assoc}
 use Rattle.std.proofs.Math.Logic.{∥∥₁_elim, ∥∥₁_map, ∥∥₁_prop}
-use Rattle.sqlite_pool.specs.StoredLaws.{carried}
 use Rattle.sqlite_trees.specs.Tree.{Trees}
 use Rattle.sqlite_trees.specs.View.{View, IsClean}
 use Rattle.sqlite_wal.specs.Recovery.{Image}
@@ -13,8 +12,7 @@ use Rattle.book_core.specs.Follow.{MakesAnswered}
 use Rattle.book_core.proofs.InTurnLemmas.{Adds, AllAdd, in_turn}
 use Rattle.book_core.proofs.OpenLemmas.{opened_leads}
 use Rattle.book_core.proofs.TransitionLemmas.{after_all-append}
-use Rattle.book_trees.specs.LedgerFiles.{page_size, HoldsBooks, trees_held}
-use Rattle.book_trees.specs.Refusals.{IsAsFound}
+use Rattle.book_trees.specs.LedgerFiles.{HoldsBooks, trees_held}
 use Rattle.table_ledger.specs.Ready.{IsStoredIn}
 use Rattle.table_ledger.specs.LedgerState.{AreBooks, seen_of}
 use Rattle.table_ledger.specs.ReadyBooks.{LeavesTheLast, settled_on, book_of_stored}
@@ -73,20 +71,6 @@ held_leaves naming Made start image held left = record {
   held = ∣ (held, left.kept) ∣₁;
 }
 
--- files that stand for the same hold the same
-pub held_as_found : (naming : Naming) (book : Book) (first left : Image) → IsAsFound first left
-    → HoldsBook naming book first → HoldsBook naming book left
-held_as_found naming book first left (inl same) held = subst (HoldsBook naming book) (sym same) held
-held_as_found naming book first left (inr same) held =
-    ∥∥₁_map held λ found. (
-      record {
-        pages = found.0.pages;
-        found = carried page_size first left same found.0.pages found.0.found;
-        file = found.0.file;
-      },
-      found.1,
-    )
-
 -- files that hold each book that they held go on with no event
 pub still_held : (naming : Naming) (first left : Image)
     → ((book : Book) → HoldsBook naming book first → HoldsBook naming book left)
@@ -105,12 +89,6 @@ still_held naming first left each = record {
     left = record { answered = held.answered; held = each (book_after history) held.held };
   }) ∣₁;
 }
-
--- so nothing was done to files that stand for the same
-pub found_goes_on : (naming : Naming) (first left : Image) → IsAsFound first left
-    → GoesOn naming NoEvent first left
-found_goes_on naming first left same =
-    still_held naming first left (λ book held. held_as_found naming book first left same held)
 
 -- what is left of each book is left of each history
 pub book_goes_on : (naming : Naming) (Made : Transition) (first left : Image)
