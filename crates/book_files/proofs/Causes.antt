@@ -17,6 +17,7 @@ use Rattle.sqlite_wal.specs.Recovery.{Image}
 use Rattle.book_model.specs.Words.{Book, Naming}
 use Rattle.book_model.specs.declared.fault.LedgerFault.{LedgerFault}
 use Rattle.book_model.specs.declared.fault.LedgerFault.TheVariants as ledger
+pub use Rattle.book_trees.proofs.CopyLemmas.{err_so}
 use Rattle.book_trees.specs.Copies.{IsCopyRefusedFor}
 use Rattle.book_trees.specs.FirstForm.{IsFirstRefusedFor, IsUnopenedFirst}
 use Rattle.book_trees.specs.Forms.{HoldsThisForm}
@@ -47,13 +48,7 @@ use Rattle.tree_tables.proofs.TheBook.{book_absent}
 use Rattle.tree_tables.specs.Holds.{has_book}
 use Rattle.tree_tables.specs.States.{State}
 
--- what is said of an error may be said in other words
-pub err_so : {A E : Type 0} {One Other : E → Type 0} (result : Result A E) → IfErr result One
-    → ((fault : E) → One fault → Other fault) → IfErr result Other
-err_so (Ok answer) one so = tt
-err_so (Err fault) one so = so fault one
-
--- and so may what is said of an answer
+-- what is said of an answer may be said in other words
 pub ok_so : {A E : Type 0} {One Other : A → Type 0} (result : Result A E) → IfOk result One
     → ((answer : A) → One answer → Other answer) → IfOk result Other
 ok_so (Ok answer) one so = so answer one

@@ -1,7 +1,7 @@
 -- Sessions of several programs on the same files.
 use Rattle.std.proofs.Common.{◌≡◌, ◌∙◌, ℕ, zero, suc, Bool, true, false, cond, List, [], ◌∷◌, ◌++◌}
-use Rattle.std.proofs.Common.{arith, ap, ap₂, append_assoc, map, refl, subst, sym}
-use Rattle.std.proofs.lemmas.Bool.Decides.{nat_tests}
+use Rattle.std.proofs.Common.{ap, ap₂, append_assoc, map, refl, subst, sym}
+use Rattle.std.proofs.lemmas.Bool.{eqb-true}
 use Rattle.std.specs.Prelude.{◌==◌, filter}
 use Rattle.std.proofs.Math.Logic.{∥∥₁_elim, ∥∥₁_map, ∥∥₁_prop}
 use Rattle.sqlite_wal.specs.Recovery.{Image}
@@ -11,9 +11,6 @@ use Rattle.book_core.proofs.InTurnLemmas.{below_next, last_below}
 use Rattle.book_core.proofs.TransitionLemmas.{after_all-append}
 use Rattle.book_restarts.specs.FileBooks.{HoldsHistory}
 use Rattle.book_restarts.specs.Laws.{SessionsOfManyAreOneHistory, Share, down_from, events_of, had_before}
-
-same_number : (one other : ℕ) → (one == other) ≡ true → one ≡ other
-same_number one other is = grind (arith, nat_tests, is)
 
 module _ (order : ℕ → ℕ) where
   -- a session that is a program's next one is added to its own, and to those of no other
@@ -27,7 +24,7 @@ module _ (order : ℕ → ℕ) where
       (had_before order turn program))
   next_own turn program share next true is rest own =
       ap₂ (λ session more. session ∷ more)
-      (next ∙ ap (had_before order turn) (same_number (order turn) program is)) own
+      (next ∙ ap (had_before order turn) (eqb-true (order turn) program is)) own
   next_own turn program share next false is rest own = own
 
 module _ (work : ℕ → ℕ → Naming → Transition) (order : ℕ → ℕ) (files : ℕ → Image) where
