@@ -39,10 +39,9 @@ use Rattle.book_files.proofs.NewParts.{opened_empty}
 use Rattle.book_files.proofs.SessionParts.{opened_stands}
 use Rattle.office.specs.declared.repository.RepositoryFault.{RepositoryFault}
 use Rattle.office.specs.declared.repository.RepositoryFault.TheVariants.{Io, Exists, Busy, Ledger}
-use Rattle.table_model.specs.Readable.{IsReadable}
+use Rattle.table_model.specs.Readable.{HasTexts, IsReadable}
 use Rattle.table_ledger.specs.Commits.{Stores}
-use Rattle.table_ledger.specs.Loaded.{HasTexts, IsOpenCause, IsOpenFault, IsStoreFault}
-use Rattle.table_ledger.specs.Loaded.{IsToldBy}
+use Rattle.table_ledger.specs.Loaded.{IsOpenCause, IsOpenFault, IsStoreFault, IsToldBy}
 use Rattle.table_model.specs.TablesOf.{tables_of}
 use Rattle.tree_tables.proofs.TheBook.{book_absent}
 use Rattle.tree_tables.specs.Holds.{has_book}

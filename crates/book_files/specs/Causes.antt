@@ -14,7 +14,7 @@ use Rattle.book_trees.specs.Forms.{HoldsThisForm}
 use Rattle.book_trees.specs.LedgerFiles.{HoldsBooks, HoldsEmptyBooks, HoldsFirstBooks, HoldsNothing}
 use Rattle.book_trees.specs.LedgerFiles.{trees_held}
 use Rattle.book_trees.specs.Refusals.{faults_in, AreFull, StopCreating}
-use Rattle.table_ledger.specs.Loaded.{HasTexts}
+use Rattle.table_model.specs.Readable.{HasTexts}
 use Rattle.tree_tables.specs.Holds.{has_book}
 use Rattle.book_restarts.specs.FileBooks.{HoldsBook, RestsAt, file_names}
 use Rattle.book_files.specs.NewBooks.{IsEmpty}
