@@ -1,8 +1,8 @@
 -- What a head asks, by what was found in it.
-use Rattle.std.proofs.Common.{◌≡◌, ◌∙◌, ℕ, Bool, List, ap, Option}
+use Rattle.std.proofs.Common.{◌≡◌, ◌∙◌, ap, Option}
 use Rattle.httparse.specs.Grammar.{RequestHead}
 use Rattle.book_http.specs.declared.asked.Asked.{Asked}
-use Rattle.book_http.specs.declared.framing.Framing.{Framing}
+use Rattle.book_http.specs.declared.request.Request.{Request}
 use Rattle.book_http.specs.declared.route.Route.{Route}
 use Rattle.book_http.specs.Asked as spec
 use Rattle.book_http.specs.Asked.{asked_framed}
@@ -11,13 +11,16 @@ use Rattle.book_http.specs.Hosts.{is_foreign}
 use Rattle.book_http.specs.Requests.{DescribesHead}
 use Rattle.book_http.specs.Routes.{path_of, route}
 
-pub asked_by : (head : RequestHead) (method target : List ℕ) (body : Framing) (foreign origin : Bool)
-    (found : Option Route) (asked : Asked) → DescribesHead head method target body foreign origin
-    → found ≡ route (path_of target) → asked ≡ asked_framed body foreign found method origin
+pub asked_by : (head : RequestHead) (request : Request) (found : Option Route) (asked : Asked)
+    → DescribesHead head request → found ≡ route (path_of request.target.now)
+    → asked
+    ≡ asked_framed request.framing request.is_foreign found request.method.now request.has_origin
     → asked ≡ spec.asked head
-asked_by head method target body foreign origin found asked says at is =
+asked_by head request found asked says at is =
     let place = route (path_of head.target) in
-    is ∙ ap (λ framed. asked_framed framed foreign found method origin) says.body_is
+    let method = request.method.now in
+    let origin = request.has_origin in
+    is ∙ ap (λ framed. asked_framed framed request.is_foreign found method origin) says.body_is
     ∙ ap (λ foreign. asked_framed (framing head) foreign found method origin) says.foreign_is
     ∙ ap (λ place. asked_framed (framing head) (is_foreign head) place method origin)
     (at ∙ ap (λ words. route (path_of words)) says.target_is)

@@ -1,13 +1,12 @@
 -- What the bytes of a body's reads make of it, after those that came with the head.
 use Rattle.std.proofs.Common.{◌≡◌, ◌∙◌, ℕ, ◌+◌, ◌<◌, ◌≤◌, ◌⊎◌, inl, inr, List, ◌++◌, length, take}
-use Rattle.std.proofs.Common.{drop, refl, sym, ap, subst, arith, Result, Ok, Err, length-append, take_all}
+use Rattle.std.proofs.Common.{drop, sym, ap, subst, arith, Result, Ok, Err, length-append, take_all}
 use Rattle.std.proofs.Common.{take-append-drop, length-take-le}
 use Rattle.std.proofs.lemmas.List.{take-append-le}
 use Rattle.std.proofs.Math.Nat.{eq-or-lt_of_le}
-use Rattle.std.specs.Prelude.{OnOk, IsErrOf}
 use Rattle.book_http.specs.declared.body.BodyFault.{BodyFault}
 use Rattle.book_http.specs.declared.body.BodyFault.TheVariants.{Short, Read, Memory}
-use Rattle.book_http.specs.Bodies.{BodyComes, IsWholeBody}
+use Rattle.book_http.specs.Bodies.{BodyComes, Fills, IsWholeBody}
 use Rattle.book_http.specs.Reads.{IsDueForBody}
 
 -- a body whose first bytes came with the head is whole
@@ -34,16 +33,14 @@ comes_whole front bytes body had size (inr less) few rest long same is =
 -- a body is whole, or too short, after what came with the head
 pub fill_comes : (front bytes body : List ℕ) (had size : ℕ) (result : Result (Unit {0}) BodyFault)
     → had ≤ size → had ≤ length front → (had < size → had ≡ length front) → length body ≡ size
-    → take had body ≡ take had front → OnOk result (bytes ≡ drop had body)
-    → (IsErrOf result Short → had + length bytes < length body)
+    → take had body ≡ take had front → Fills had body result bytes
     → BodyComes (λ _. body) size (front ++ bytes) result
-fill_comes front bytes body had size (Ok done) within few rest long same is short =
+fill_comes front bytes body had size (Ok done) within few rest long same is =
     comes_whole front bytes body had size (eq-or-lt_of_le within) few rest long same is
-fill_comes front bytes body had size (Err Short) within few rest long same is short =
-    let fewer = short refl in
+fill_comes front bytes body had size (Err Short) within few rest long same fewer =
     let less : had < size = omega arith in rw length-append (omega (arith, rest less))
-fill_comes front bytes body had size (Err Read) within few rest long same is short = tt
-fill_comes front bytes body had size (Err Memory) within few rest long same is short = tt
+fill_comes front bytes body had size (Err Read) within few rest long same failed = tt
+fill_comes front bytes body had size (Err Memory) within few rest long same none = tt
 
 -- what was copied is at the beginning
 pub copied_front : (front copied rest : List ℕ) (had : ℕ) → had ≤ length front
@@ -52,19 +49,18 @@ copied_front front copied rest had within is =
     let long : length copied ≡ had = rw is (length-take-le had front within) in
     take-append-le had copied rest (omega arith) ∙ take_all had copied (omega arith) ∙ is
 
--- a fault says the same of any body of that size
-pub same_fault : {A B : Type 0} (one : A → List ℕ) (other : B → List ℕ) (size same : ℕ)
-    (came : List ℕ) (fault : BodyFault) → size ≡ same → BodyComes one size came (Err fault)
-    → BodyComes other same came (Err fault)
-same_fault one other size same came Short is few = subst (λ n. length came < n) is few
-same_fault one other size same came Read is failed = tt
-same_fault one other size same came Memory is none = tt
+-- a fault says the same of any body
+pub same_fault : {A B : Type 0} (one : A → List ℕ) (other : B → List ℕ) (size : ℕ) (came : List ℕ)
+    (fault : BodyFault) → BodyComes one size came (Err fault) → BodyComes other size came (Err fault)
+same_fault one other size came Short few = few
+same_fault one other size came Read failed = tt
+same_fault one other size came Memory none = tt
 
 -- whatever the body would have been
 pub fault_comes : {A : Type 0} (bytes : A → List ℕ) (size : ℕ) (came : List ℕ) (fault : BodyFault)
     → BodyComes bytes size came (Err fault)
     → BodyComes {A = List ℕ} (λ body. body) size came (Err fault)
-fault_comes bytes size came fault is = same_fault bytes (λ body. body) size size came fault refl is
+fault_comes bytes size came fault is = same_fault bytes (λ body. body) size came fault is
 
 -- a vector, all of whose bytes were written
 pub all_written : (body rest : List ℕ) (size : ℕ) → length body ≡ size
@@ -72,13 +68,11 @@ pub all_written : (body rest : List ℕ) (size : ℕ) → length body ≡ size
 all_written body rest size long =
     take-append-le size body rest (omega arith) ∙ take_all size body (omega arith)
 
--- and so does a whole body
-pub same_body : (size same : ℕ) (came body other : List ℕ) → size ≡ same → other ≡ body
-    → IsWholeBody size came body → IsWholeBody same came other
-same_body size same came body other is alike whole = record {
-  enough = subst (λ n. n ≤ length came) is whole.enough;
-  bytes = alike ∙ whole.bytes ∙ ap (λ n. take n came) is;
-}
+-- a vector of the same bytes is as whole
+pub same_body : (size : ℕ) (came body other : List ℕ) → other ≡ body → IsWholeBody size came body
+    → IsWholeBody size came other
+same_body size came body other alike whole =
+    record { enough = whole.enough; bytes = alike ∙ whole.bytes }
 
 -- so a read for the rest of it is due after what came with the head
 pub due_behind_front : (front : List ℕ) (had size : ℕ) → (had < size → had ≡ length front)

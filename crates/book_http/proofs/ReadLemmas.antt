@@ -15,8 +15,8 @@ use Rattle.book_http.proofs.HeadLemmas.{head_before}
 use Rattle.book_http.specs.Asked.{asked}
 use Rattle.book_http.specs.Head.{HasHead}
 use Rattle.book_http.specs.Reads.{ReadOutcome, ReadCall, bytes_given, bytes_read, reader_after}
-use Rattle.book_http.specs.Reads.{AreDue, AreReadsBetween, IsDue, for_head, for_body, IsDueAfterHead}
-use Rattle.book_http.specs.Reads.{IsDueForBody, IsDueForHead}
+use Rattle.book_http.specs.Reads.{AreDue, AreReadsBetween, IsDue, for_head, for_body, IsDueOn}
+use Rattle.book_http.specs.Reads.{IsDueForBody, IsDueForHead, ReadsOn}
 use borrow.Rule.Slice.PartMut.{put_mid}
 
 -- what one read took
@@ -27,41 +27,52 @@ read_taken had left (Err error) given it =
     Consumes-kept had had left [] (Consumes-nil had) it
 
 -- where nothing was read
-pub not_read : {R : Type 0} {answers : _} {bytes : _} (remaining : R → Option (List ℕ))
-    (MayAnswer : ReadOutcome R) (IsDue : List ℕ → ℕ → Type 0)
-    (source : Source R answers bytes)
-    → AreReadsBetween remaining MayAnswer IsDue source source []
-not_read remaining MayAnswer IsDue source = record {
-  due = tt;
-  reader = refl;
-  count = omega arith;
-  taken = Consumes-nil (remaining (reader_of source));
+pub not_read : {R : Type 0} {answers : _} {bytes : _} {remaining : R → Option (List ℕ)}
+    {MayAnswer : ReadOutcome R} {IsDue : List ℕ → ℕ → Type 0} {source : Source R answers bytes}
+    {Gave : List ℕ → Type 0} → Gave [] → ReadsOn remaining MayAnswer IsDue source source Gave
+not_read {remaining} {source} gave = record {
+  reads = [];
+  between = record {
+    due = tt;
+    reader = refl;
+    count = omega arith;
+    taken = Consumes-nil (remaining (reader_of source));
+  };
+  gave = gave;
 }
 
 -- one more read
-pub read_on : {R : Type 0} {answers : _} {bytes : _} (remaining : R → Option (List ℕ))
-    (MayAnswer : ReadOutcome R) (IsDue : List ℕ → ℕ → Type 0)
-    (old between new : Source R answers bytes)
-    (reads : List (ReadCall R)) (room : List ℕ) (answer : Result ℕ Error) (given : List ℕ)
-    → AreReadsBetween remaining MayAnswer IsDue old between reads
-    → IsDue (bytes_read reads) (length room)
+pub read_on : {R : Type 0} {answers : _} {bytes : _} {remaining : R → Option (List ℕ)}
+    {MayAnswer : ReadOutcome R} {IsDue : List ℕ → ℕ → Type 0}
+    {old between new : Source R answers bytes} {Gave Gives : List ℕ → Type 0}
+    {room : List ℕ} {answer : Result ℕ Error} {given : List ℕ}
+    → ReadsOn remaining MayAnswer IsDue old between Gave
     → MayAnswer (reader_of between) room answer (reader_of new) given
     → ReadConsumes (remaining (reader_of between)) (remaining (reader_of new)) answer given
     → reads_of new ≡ reads_of between + 1
-    → AreReadsBetween remaining MayAnswer IsDue old new
-    (record { room = room; answer = answer; after = reader_of new; given = given } ∷ reads)
-read_on remaining MayAnswer IsDue old between new reads room answer given so_far due is gives more =
-    let count = so_far.count in
+    → ((came : List ℕ) → Gave came → IsDue came (length room))
+    → ((came : List ℕ) → Gave came → Gives (came ++ bytes_given answer given))
+    → ReadsOn remaining MayAnswer IsDue old new Gives
+read_on {remaining} {MayAnswer} {between} {new} {room} {answer} {given} so_far is consumes more due
+    gives =
+    let before = so_far.between in
+    let count = before.count in
     let taken = read_taken (remaining (reader_of between)) (remaining (reader_of new)) answer given
-    gives in record {
-      due = (
-        so_far.due,
-        due,
-        subst (λ reader. MayAnswer reader room answer (reader_of new) given) so_far.reader is,
-      );
-      reader = refl;
-      count = omega arith;
-      taken = Consumes-trans _ _ _ _ _ so_far.taken taken;
+    consumes in
+    record {
+      reads = record { room = room; answer = answer; after = reader_of new; given = given }
+          ∷ so_far.reads;
+      between = record {
+        due = (
+          before.due,
+          due (bytes_read so_far.reads) so_far.gave,
+          subst (λ reader. MayAnswer reader room answer (reader_of new) given) before.reader is,
+        );
+        reader = refl;
+        count = omega arith;
+        taken = Consumes-trans _ _ _ _ _ before.taken taken;
+      };
+      gave = gives (bytes_read so_far.reads) so_far.gave;
     }
 
 -- a read into the rest of the buffer for a head is due where there is none in its filled part
@@ -119,7 +130,8 @@ more_filled came body given had filled room count is low within few =
     ∙ sym (drop-append-le had (take filled body) (take count given) inside)
     ∙ ap (drop had) (sym (grown_front filled room count body given within few))
 
--- reads that were due for one reason were due for a weaker one
+-- reads that were due for one reason were due for a weaker one, and what is so of the bytes that they
+-- gave may be said otherwise
 due_as : {R : Type 0} (MayAnswer : ReadOutcome R)
     (IsDue IsDueToo : List ℕ → ℕ → Type 0) (first : R) (reads : List (ReadCall R))
     → ((came : List ℕ) (room : ℕ) → IsDue came room → IsDueToo came room)
@@ -131,19 +143,34 @@ due_as MayAnswer IsDue IsDueToo first (read ∷ before) weaker due = (
   due.2,
 )
 
-pub read_as : {R : Type 0} {answers : _} {bytes : _} (remaining : R → Option (List ℕ))
-    (MayAnswer : ReadOutcome R)
-    (IsDue IsDueToo : List ℕ → ℕ → Type 0) (old new : Source R answers bytes)
-    (reads : List (ReadCall R))
+pub read_as : {R : Type 0} {answers : _} {bytes : _} {remaining : R → Option (List ℕ)}
+    {MayAnswer : ReadOutcome R} {IsDue IsDueToo : List ℕ → ℕ → Type 0}
+    {old new : Source R answers bytes} {Gave Gives : List ℕ → Type 0}
+    → ReadsOn remaining MayAnswer IsDue old new Gave
     → ((came : List ℕ) (room : ℕ) → IsDue came room → IsDueToo came room)
-    → AreReadsBetween remaining MayAnswer IsDue old new reads
-    → AreReadsBetween remaining MayAnswer IsDueToo old new reads
-read_as remaining MayAnswer IsDue IsDueToo old new reads weaker it = record {
-  due = due_as MayAnswer IsDue IsDueToo (reader_of old) reads weaker it.due;
-  reader = it.reader;
-  count = it.count;
-  taken = it.taken;
-}
+    → ((came : List ℕ) → Gave came → Gives came)
+    → ReadsOn remaining MayAnswer IsDueToo old new Gives
+read_as {MayAnswer} {IsDue} {IsDueToo} {old} it weaker so =
+    let before = it.between in
+    record {
+      reads = it.reads;
+      between = record {
+        due = due_as MayAnswer IsDue IsDueToo (reader_of old) it.reads weaker before.due;
+        reader = before.reader;
+        count = before.count;
+        taken = before.taken;
+      };
+      gave = so (bytes_read it.reads) it.gave;
+    }
+
+pub gave_as : {R : Type 0} {answers : _} {bytes : _} {remaining : R → Option (List ℕ)}
+    {MayAnswer : ReadOutcome R} {IsDue : List ℕ → ℕ → Type 0}
+    {old new : Source R answers bytes} {Gave Gives : List ℕ → Type 0}
+    → ReadsOn remaining MayAnswer IsDue old new Gave
+    → ((came : List ℕ) → Gave came → Gives came)
+    → ReadsOn remaining MayAnswer IsDue old new Gives
+gave_as it so =
+    record { reads = it.reads; between = it.between; gave = so (bytes_read it.reads) it.gave }
 
 -- reads after reads
 bytes_behind : {R : Type 0} (later before : List (ReadCall R))
@@ -174,7 +201,7 @@ due_behind MayAnswer IsDue IsDueThen first (read ∷ later) before so due due_la
       (sym (reader_behind_both first later before)) due_later.2,
 )
 
-pub read_behind : {R : Type 0} {answers : _} {bytes : _} (remaining : R → Option (List ℕ))
+read_behind : {R : Type 0} {answers : _} {bytes : _} (remaining : R → Option (List ℕ))
     (MayAnswer : ReadOutcome R)
     (IsDue IsDueThen : List ℕ → ℕ → Type 0) (old between new : Source R answers bytes)
     (later before : List (ReadCall R))
@@ -182,34 +209,46 @@ pub read_behind : {R : Type 0} {answers : _} {bytes : _} (remaining : R → Opti
     → AreReadsBetween remaining MayAnswer IsDue old between before
     → AreReadsBetween remaining MayAnswer IsDueThen between new later
     → AreReadsBetween remaining MayAnswer IsDue old new (later ++ before)
-    × (bytes_read (later ++ before) ≡ bytes_read before ++ bytes_read later)
 read_behind remaining MayAnswer IsDue IsDueThen old between new later before so one two =
     let counts : reads_of new ≡ reads_of old + length (later ++ before) =
     rw length-append (omega (arith, one.count, two.count)) in
-    let both = Consumes-trans _ _ _ (bytes_read before) (bytes_read later) one.taken two.taken in (
-      record {
-        due = due_behind MayAnswer IsDue IsDueThen (reader_of old) later before so one.due
-            (subst (λ reader. AreDue MayAnswer IsDueThen reader later) one.reader two.due);
-        reader = two.reader ∙ ap (λ reader. reader_after reader later) one.reader
-            ∙ sym (reader_behind_both (reader_of old) later before);
-        count = counts;
-        taken = rw (bytes_behind later before) both;
-      },
-      bytes_behind later before,
-    )
+    let both = Consumes-trans _ _ _ (bytes_read before) (bytes_read later) one.taken two.taken in
+    record {
+      due = due_behind MayAnswer IsDue IsDueThen (reader_of old) later before so one.due
+          (subst (λ reader. AreDue MayAnswer IsDueThen reader later) one.reader two.due);
+      reader = two.reader ∙ ap (λ reader. reader_after reader later) one.reader
+          ∙ sym (reader_behind_both (reader_of old) later before);
+      count = counts;
+      taken = rw (bytes_behind later before) both;
+    }
 
--- a read that was due for the head was due
-pub head_read : {R : Type 0} {answers : _} {bytes : _} (remaining : R → Option (List ℕ))
-    (MayAnswer : ReadOutcome R)
-    (old new : Source R answers bytes) (reads : List (ReadCall R))
-    → AreReadsBetween remaining MayAnswer IsDueForHead old new reads
-    → AreReadsBetween remaining MayAnswer IsDue old new reads
-head_read remaining MayAnswer old new reads it =
-    read_as remaining MayAnswer IsDueForHead IsDue old new reads (λ came room due. for_head due) it
-
--- after a head, so was one that was due for what the head asks
-pub behind_head : (bytes front behind : List ℕ) (head : RequestHead) → bytes ≡ front
+-- after a head, a read that was due for what the head asks was due
+behind_head : (bytes front behind : List ℕ) (head : RequestHead) → bytes ≡ front
     → HasHead front head behind → (came : List ℕ) (room : ℕ)
-    → IsDueAfterHead (asked head) (behind ++ came) room → IsDue (bytes ++ came) room
+    → IsDueOn (asked head) behind came room → IsDue (bytes ++ came) room
 behind_head bytes front behind head is stands came room due =
     rw is (for_body head (behind ++ came) (head_before front head behind came stands) due)
+
+-- a head was read, and then on for what it asks
+pub head_then : {R : Type 0} {answers : _} {bytes : _} {remaining : R → Option (List ℕ)}
+    {MayAnswer : ReadOutcome R} {old between new : Source R answers bytes} {front behind : List ℕ}
+    {head : RequestHead} {Gave Gives : List ℕ → Type 0} → HasHead front head behind
+    → ReadsOn remaining MayAnswer IsDueForHead old between (λ came. came ≡ front)
+    → ReadsOn remaining MayAnswer (IsDueOn (asked head) behind) between new Gave
+    → ((came : List ℕ) → Gave came → Gives (front ++ came))
+    → ReadsOn remaining MayAnswer IsDue old new Gives
+head_then {remaining} {MayAnswer} {old} {between} {new} {front} {behind} {head} {Gives} stands begun two
+    gives =
+    let one : ReadsOn remaining MayAnswer IsDue old between (λ came. came ≡ front) =
+    read_as begun (λ came room due. for_head due) (λ came is. is) in
+    let late = bytes_read two.reads in
+    let came : bytes_read (two.reads ++ one.reads) ≡ front ++ late =
+    bytes_behind two.reads one.reads ∙ ap (λ bytes. bytes ++ late) one.gave in
+    record {
+      reads = two.reads ++ one.reads;
+      between = read_behind remaining MayAnswer IsDue (IsDueOn (asked head) behind) old between new
+          two.reads one.reads
+          (behind_head (bytes_read one.reads) front behind head one.gave stands) one.between
+          two.between;
+      gave = subst Gives (sym came) (gives late two.gave);
+    }

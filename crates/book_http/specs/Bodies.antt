@@ -1,5 +1,5 @@
 -- The body of a request.
-use Rattle.std.specs.Prelude.{◌≡◌, ℕ, ◌<◌, ◌≤◌, Bool, false, true, List, length, take}
+use Rattle.std.specs.Prelude.{◌≡◌, ℕ, ◌+◌, ◌<◌, ◌≤◌, Bool, false, true, List, length, take, drop}
 use Rattle.std.specs.Prelude.{Result, Ok, Err}
 use Rattle.book_http.specs.declared.body.BodyFault.{BodyFault}
 use Rattle.book_http.specs.declared.body.BodyFault.TheVariants.{Short, Read, Memory}
@@ -20,6 +20,13 @@ abbrev pub BodyComes : {A : Type 0} → (A → List ℕ) → ℕ → List ℕ �
 BodyComes bytes size behind (Ok body) = IsWholeBody size behind (bytes body)
 BodyComes bytes size behind (Err Short) = length behind < size
 BodyComes bytes size behind (Err fault) = Unit {0}
+
+-- What reads made of the rest of a body, this many bytes of which were there: the rest is what they
+-- gave; or they gave too few.
+abbrev pub Fills : ℕ → List ℕ → Result (Unit {0}) BodyFault → List ℕ → Type 0
+Fills had body (Ok done) came = came ≡ drop had body
+Fills had body (Err Short) came = had + length came < length body
+Fills had body (Err fault) came = Unit {0}
 
 -- a read failed
 abbrev pub is_failed_read : BodyFault → Bool

@@ -56,6 +56,15 @@ pub record AreReadsBetween {R : Type 0} {answers : _} {bytes : _} (remaining : R
   pub count : reads_of new ≡ reads_of old + length reads
   pub taken : Consumes (remaining (reader_of old)) (remaining (reader_of new)) (bytes_read reads)
 
+-- A source was read on by reads that were each due, and by no others; and this is so of the bytes that
+-- they gave.
+pub record ReadsOn {R : Type 0} {answers : _} {bytes : _} (remaining : R → Option (List ℕ))
+    (MayAnswer : ReadOutcome R) (IsDue : List ℕ → ℕ → Type 0) (old new : Source R answers bytes)
+    (Gave : List ℕ → Type 0) : Type 0 where
+  pub reads : List (ReadCall R)
+  pub between : AreReadsBetween remaining MayAnswer IsDue old new reads
+  pub gave : Gave (bytes_read reads)
+
 -- A read is due for the head, within its limit: there is no whole head in what came, and one may
 -- still come.
 pub record IsDueForHead (came : List ℕ) (room : ℕ) : Type 0 where
@@ -69,12 +78,24 @@ pub record IsDueForBody (size came room : ℕ) : Type 0 where
   pub short : came < size
   pub within : came + room ≤ size
 
+-- so is one where this many bytes of the body were there before
+abbrev pub IsDueForRest : ℕ → ℕ → List ℕ → ℕ → Type 0
+IsDueForRest had size came room = IsDueForBody size (had + length came) room
+
+-- and where its first bytes, or all of it, came with the head
+abbrev pub IsDueBehind : List ℕ → ℕ → List ℕ → ℕ → Type 0
+IsDueBehind front size came room = IsDueForBody size (length (front ++ came)) room
+
 -- After a head that asks this, and these bytes, a read is due only for the body of an import or of a
 -- tariff.
 abbrev pub IsDueAfterHead : Asked → List ℕ → ℕ → Type 0
 IsDueAfterHead (asks.Import layout size) behind room = IsDueForBody size (length behind) room
 IsDueAfterHead (asks.WhatIf what_if size) behind room = IsDueForBody size (length behind) room
 IsDueAfterHead asked behind room = ⊥
+
+-- so is one where the first of them came with the head
+abbrev pub IsDueOn : Asked → List ℕ → List ℕ → ℕ → Type 0
+IsDueOn asked front came room = IsDueAfterHead asked (front ++ came) room
 
 -- a read is due for a request of which these bytes came
 pub data IsDue (bytes : List ℕ) (room : ℕ) : Type 0 where

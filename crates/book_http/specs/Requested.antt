@@ -1,8 +1,10 @@
 -- What is asked by a request that was read whole: by what its head asks, and the bytes after that.
 use Rattle.std.specs.Prelude.{◌≡◌, ◌⊎◌, ◌<◌, ℕ, Bool, true, List, [], ◌++◌, length, take, nat_lt}
-use Rattle.std.specs.Prelude.{if◌then◌else◌}
+use Rattle.std.specs.Prelude.{if◌then◌else◌, IfOk, Option, Result, Ok, Err}
 use Rattle.httparse.specs.Grammar.{RequestHead}
 use Rattle.smf_frames.specs.declared.dump.Layout.{Layout}
+use Rattle.streams.specs.declared.source.Source.{Source}
+use Rattle.streams.specs.Sources.{has_ended}
 use Rattle.book_model.specs.Words.{Naming}
 use Rattle.book_core.specs.Transition.{Transition}
 use Rattle.book_reports.specs.declared.report.Report.{Report}
@@ -12,13 +14,17 @@ use Rattle.book_http.specs.declared.asked.Asked.{Asked}
 use Rattle.book_http.specs.declared.asked.Asked.TheVariants as asks
 use Rattle.book_http.specs.declared.requested.OfficeRequest.{OfficeRequest}
 use Rattle.book_http.specs.declared.requested.OfficeRequest.TheVariants as office
+use Rattle.book_http.specs.declared.requested.ReadFailed.{ReadFailed}
 use Rattle.book_http.specs.declared.requested.Requested.{Requested}
 use Rattle.book_http.specs.declared.requested.Requested.TheVariants as requested
+use Rattle.book_http.specs.declared.served.Unanswered.{Unanswered}
+use Rattle.book_http.specs.declared.served.Unanswered.TheVariants.{Closed, Failed}
 use Rattle.book_http.specs.declared.status.Status.TheVariants.{BadRequest, Unavailable}
 use Rattle.book_http.specs.Answer.{AnswersDetails, AnswersImport, AnswersReport, AnswersWhatIf}
 use Rattle.book_http.specs.Answer.{RefusesRequest}
 use Rattle.book_http.specs.Asked.{asked}
 use Rattle.book_http.specs.Head.{HasHead, HasNoHead}
+use Rattle.book_http.specs.Reads.{IsDueOn, ReadOutcome, ReadsOn}
 use Rattle.book_http.specs.Replies.{Reply, other_method, refusal, reply_of}
 
 -- what a request asks of the books; or the reply to it, where it asks nothing of them
@@ -77,6 +83,22 @@ abbrev pub IsAskingAfter : Bool → Asked → List ℕ → Requested → Type 0
 IsAskingAfter ended wanted behind request =
     (more : List ℕ) → (ended ≡ true → more ≡ [])
     → IsUnlessMemory (wanted_by wanted (behind ++ more)) (request_seen request)
+
+-- After a head that asks this, with these bytes behind it, a source was read on for its body alone; and
+-- this is what is asked.
+abbrev pub AsksAfter : {R : Type 0} {answers : _} {bytes : _} → (R → Option (List ℕ)) → ReadOutcome R
+    → Asked → List ℕ → Source R answers bytes → Source R answers bytes → Result Requested ReadFailed
+    → Type 0
+AsksAfter remaining MayAnswer wanted behind old new result =
+    ReadsOn remaining MayAnswer (IsDueOn wanted behind) old new
+    (λ came. IfOk result (IsAskingAfter (has_ended new) wanted (behind ++ came)))
+
+-- What is asked by the bytes that were taken for a request; or nothing, where the input ended before
+-- the first of them, or a read failed.
+abbrev pub IsReadAs : Bool → Result Requested Unanswered → List ℕ → Type 0
+IsReadAs ended (Ok request) taken = IsAsking ended taken request
+IsReadAs ended (Err Closed) taken = taken ≡ []
+IsReadAs ended (Err Failed) taken = Unit {0}
 
 -- a request is answered, and this is the reply
 abbrev pub AnswersRequest : Naming → RequestSeen → Reply → Transition

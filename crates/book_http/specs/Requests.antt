@@ -1,8 +1,8 @@
 -- What a head says that an answer rests on.
-use Rattle.std.specs.Prelude.{◌≡◌, ℕ, Bool, List, map, codes}
+use Rattle.std.specs.Prelude.{◌≡◌, Bool, map, codes}
 use Rattle.httparse.specs.Grammar.{RequestHead}
 use Rattle.httparse.specs.Spans.{name_and_value}
-use Rattle.book_http.specs.declared.framing.Framing.{Framing}
+use Rattle.book_http.specs.declared.request.Request.{Request}
 use Rattle.book_http.specs.Framing as framing
 use Rattle.book_http.specs.Framing.{has_field}
 use Rattle.book_http.specs.Hosts.{is_foreign}
@@ -12,12 +12,11 @@ use Rattle.book_http.specs.Hosts.{is_foreign}
 abbrev pub has_origin : RequestHead → Bool
 has_origin h = has_field (codes "origin") (map name_and_value h.fields)
 
--- the head says this method, this target, this of its body's length, a foreign host or none, and an
--- origin or none
-pub record DescribesHead (h : RequestHead) (method target : List ℕ) (body : Framing)
-    (foreign origin : Bool) : Type 0 where
-  pub method_is : method ≡ h.method
-  pub target_is : target ≡ h.target
-  pub body_is : body ≡ framing.framing h
-  pub foreign_is : foreign ≡ is_foreign h
-  pub origin_is : origin ≡ has_origin h
+-- the head says this: its method, its target, what it says of its body's length, a foreign host or
+-- none, and an origin or none
+pub record DescribesHead (head : RequestHead) (request : Request) : Type 0 where
+  pub method_is : request.method.now ≡ head.method
+  pub target_is : request.target.now ≡ head.target
+  pub body_is : request.framing ≡ framing.framing head
+  pub foreign_is : request.is_foreign ≡ is_foreign head
+  pub origin_is : request.has_origin ≡ has_origin head

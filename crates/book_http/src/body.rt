@@ -1,12 +1,12 @@
 //! The body of a request, read in pieces of any size.
 
-ghost use Rattle.std.specs.Prelude.{◌≡◌, ◌+◌, ◌<◌, ◌≤◌, ◌^◌, ◌++◌, List, false, true};
-ghost use Rattle.std.specs.Prelude.{length, take, drop, OnOk, IsErrOf};
+ghost use Rattle.std.specs.Prelude.{◌≡◌, ◌+◌, ◌≤◌, ◌^◌, ◌++◌, false, true};
+ghost use Rattle.std.specs.Prelude.{length, take, IsErrOf};
 ghost use Rattle.streams.specs.AnswerFlags.{NothingUnread};
 ghost use Rattle.streams.specs.Sources.{reader_of, reads_of, has_failed, has_ended};
-ghost use Rattle.book_http.specs.Bodies.{BodyComes, is_failed_body, most_body_bytes};
+ghost use Rattle.book_http.specs.Bodies.{BodyComes, Fills, is_failed_body, most_body_bytes};
 ghost use Rattle.book_http.specs.Head.{most_head_bytes};
-ghost use Rattle.book_http.specs.Reads.{ReadCall, bytes_read, AreReadsBetween, IsDueForBody};
+ghost use Rattle.book_http.specs.Reads.{IsDueBehind, IsDueForRest, ReadsOn};
 
 use std::alloc::Global;
 use streams::{Reader, Source};
@@ -37,11 +37,8 @@ fn fill<R: Reader + Drop>(
     requires failed { has_failed source.old ≡ false }
     requires ended { has_ended source.old ≡ false }
     ensures kept { take had body.new ≡ take had body.old }
-    ensures reads { (reads : List (ReadCall R)) × AreReadsBetween R.remaining R.may_answer
-        (λ came room. IsDueForBody (length body.old) (had + length came) room)
-        source.old source.new reads
-        × OnOk result (bytes_read reads ≡ drop had body.new)
-        × (IsErrOf result BodyFault.Short → had + length (bytes_read reads) < length body.new) }
+    ensures reads { ReadsOn R.remaining R.may_answer (IsDueForRest had (length body.old))
+        source.old source.new (Fills had body.new result) }
     ensures ended { IsErrOf result BodyFault.Short → has_ended source.new ≡ true }
     ensures failed { has_failed source.new ≡ is_failed_body result }
     ensures memory { IsErrOf result BodyFault.Memory → ⊥ }
@@ -72,10 +69,9 @@ fn fill_body<R: Reader + Drop>(
     requires asked { reads_of source.old ≤ 2 ^ 62 + most_head_bytes }
     requires failed { has_failed source.old ≡ false }
     requires ended { has_ended source.old ≡ false }
-    ensures reads { (reads : List (ReadCall R)) × AreReadsBetween R.remaining R.may_answer
-        (λ came room. IsDueForBody (length body.old) (length (front.now ++ came)) room)
-        source.old source.new reads
-        × BodyComes (λ _. body.new) (length body.old) (front.now ++ bytes_read reads) result }
+    ensures reads { ReadsOn R.remaining R.may_answer (IsDueBehind front.now (length body.old))
+        source.old source.new
+        (λ came. BodyComes (λ _. body.new) (length body.old) (front.now ++ came) result) }
     ensures ended { IsErrOf result BodyFault.Short → has_ended source.new ≡ true }
     ensures failed { has_failed source.new ≡ is_failed_body result }
     ensures memory { IsErrOf result BodyFault.Memory → ⊥ }
@@ -103,10 +99,9 @@ pub fn read_body<R: Reader + Drop>(
 
     // The reads that were made, none of them for a byte after the body: with their bytes the body
     // is whole, or too short.
-    ensures reads { (reads : List (ReadCall R)) × AreReadsBetween R.remaining R.may_answer
-        (λ came room. IsDueForBody size (length (front.now ++ came)) room)
-        source.old source.new reads
-        × BodyComes (λ body. body.items) size (front.now ++ bytes_read reads) result }
+    ensures reads { ReadsOn R.remaining R.may_answer (IsDueBehind front.now size)
+        source.old source.new
+        (λ came. BodyComes (λ body. body.items) size (front.now ++ came) result) }
 
     // It is called too short only at the input's end, and a read failed at no other fault.
     ensures ended { IsErrOf result BodyFault.Short → has_ended source.new ≡ true }

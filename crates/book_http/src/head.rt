@@ -1,13 +1,13 @@
 //! The head of a request, read in pieces of any size.
 
-ghost use Rattle.std.specs.Prelude.{◌≡◌, ◌+◌, ◌≤◌, ◌^◌, false, List, length, take};
+ghost use Rattle.std.specs.Prelude.{◌≡◌, ◌+◌, ◌≤◌, ◌^◌, false, length, take};
 ghost use Rattle.httparse.specs.Grammar.{RequestHead};
 ghost use Rattle.httparse.specs.Spans.{IsRequestWithin};
 ghost use Rattle.streams.specs.AnswerFlags.{NothingUnread};
 ghost use Rattle.streams.specs.Sources.{reader_of, reads_of, has_failed, has_ended};
 ghost use Rattle.book_http.specs.Head.{HeadComes, HoldsHead, IfWhole};
 ghost use Rattle.book_http.specs.Head.{is_failed_head, most_fields, most_head_bytes};
-ghost use Rattle.book_http.specs.Reads.{ReadCall, bytes_read, AreReadsBetween, IsDueForHead};
+ghost use Rattle.book_http.specs.Reads.{IsDueForHead, ReadsOn};
 
 use httparse::Status;
 use httparse::spans::{HeaderSpan, RequestSpans, parse_request};
@@ -56,9 +56,8 @@ pub fn read_head<R: Reader + Drop>(
 
     // The reads that were made, each of them while no head was there yet, and what came of their
     // bytes.
-    ensures reads { (reads : List (ReadCall R))
-        × AreReadsBetween R.remaining R.may_answer IsDueForHead source.old source.new reads
-        × HeadComes result buffer.new (has_ended source.new) (bytes_read reads) }
+    ensures reads { ReadsOn R.remaining R.may_answer IsDueForHead source.old source.new
+        (HeadComes result buffer.new (has_ended source.new)) }
     ensures failed { has_failed source.new ≡ is_failed_head result }
 
     // The head that came, and how much of the buffer was filled for it.

@@ -33,9 +33,8 @@ pub struct Request<'a> {
 pub fn request_in<'a>(bytes: &'a [u8], fields: &[HeaderSpan], spans: RequestSpans) -> Request<'a>
     requires { IsRequestWithin bytes.now fields.now spans }
     ensures behind { result.behind.now ≡ drop spans.len bytes.now }
-    ensures says { (h : RequestHead) → IsRequestAt bytes.now fields.now spans h
-        → DescribesHead h result.method.now result.target.now result.framing
-        result.is_foreign result.has_origin }
+    ensures says { (head : RequestHead) → IsRequestAt bytes.now fields.now spans head
+        → DescribesHead head result }
 {
     let fields = &fields[..spans.headers];
     Request {

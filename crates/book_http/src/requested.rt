@@ -1,6 +1,6 @@
 //! A request that was read whole. Of its body no byte is read that is not asked for.
 
-ghost use Rattle.std.specs.Prelude.{◌≡◌, ◌+◌, ◌≤◌, ◌^◌, ◌++◌, List, [], IfOk, IsErrOf, IsUtf8};
+ghost use Rattle.std.specs.Prelude.{◌≡◌, ◌+◌, ◌≤◌, ◌^◌, IfOk, IsErrOf, IsUtf8};
 ghost use Rattle.std.specs.Prelude.{false, true, is_err};
 ghost use Rattle.httparse.specs.Grammar.{RequestHead};
 ghost use Rattle.streams.specs.AnswerFlags.{NothingUnread};
@@ -9,10 +9,9 @@ ghost use Rattle.book_http.specs.Asked as spec;
 ghost use Rattle.book_http.specs.Asked.{IsServable};
 ghost use Rattle.book_http.specs.Bodies.{body_status, is_failed_read, most_body_bytes};
 ghost use Rattle.book_http.specs.Head.{most_head_bytes};
-ghost use Rattle.book_http.specs.Reads.{ReadCall, bytes_read, AreReadsBetween};
-ghost use Rattle.book_http.specs.Reads.{IsDue, IsDueAfterHead};
+ghost use Rattle.book_http.specs.Reads.{IsDue, ReadsOn};
 ghost use Rattle.book_http.specs.Replies.{refusal};
-ghost use Rattle.book_http.specs.Requested.{IsAsking, IsAskingAfter, Settles, request_seen};
+ghost use Rattle.book_http.specs.Requested.{AsksAfter, IsReadAs, Settles, request_seen};
 ghost use Rattle.book_http.specs.Requests.{DescribesHead};
 ghost use Rattle.book_http.specs.Served.{is_failed};
 
@@ -82,10 +81,7 @@ fn read_asked<R: Reader + Drop>(
     requires asked { reads_of source.old ≤ 2 ^ 62 + most_head_bytes }
     requires failed { has_failed source.old ≡ false }
     requires ended { has_ended source.old ≡ false }
-    ensures asks { (reads : List (ReadCall R)) × AreReadsBetween R.remaining R.may_answer
-        (λ came room. IsDueAfterHead asked (front.now ++ came) room) source.old source.new reads
-        × IfOk result (λ request. IsAskingAfter (has_ended source.new) asked
-        (front.now ++ bytes_read reads) request) }
+    ensures asks { AsksAfter R.remaining R.may_answer asked front.now source.old source.new result }
     ensures failed { has_failed source.new ≡ is_err result }
     ensures asked { reads_of source.new ≤ reads_of source.old + most_body_bytes }
     ensures left { NothingUnread
@@ -117,13 +113,9 @@ fn read_rest<R: Reader + Drop>(
     requires asked { reads_of source.old ≤ 2 ^ 62 + most_head_bytes }
     requires failed { has_failed source.old ≡ false }
     requires ended { has_ended source.old ≡ false }
-    ensures asks { (head : RequestHead) → DescribesHead head request.now.method.now
-        request.now.target.now request.now.framing request.now.is_foreign request.now.has_origin
-        → (reads : List (ReadCall R)) × AreReadsBetween R.remaining R.may_answer
-        (λ came room. IsDueAfterHead (spec.asked head) (request.now.behind.now ++ came) room)
-        source.old source.new reads
-        × IfOk result (λ told. IsAskingAfter (has_ended source.new) (spec.asked head)
-        (request.now.behind.now ++ bytes_read reads) told) }
+    ensures asks { (head : RequestHead) → DescribesHead head request.now
+        → AsksAfter R.remaining R.may_answer (spec.asked head) request.now.behind.now
+        source.old source.new result }
     ensures failed { has_failed source.new ≡ is_err result }
     ensures asked { reads_of source.new ≤ reads_of source.old + most_body_bytes }
     ensures left { NothingUnread
@@ -154,10 +146,8 @@ pub fn read_request<R: Reader + Drop>(
 
     // What is asked, by the bytes that the reads gave, whatever may follow them. Each read was due:
     // while there was no head, or for the rest of the body of an import or a tariff that is served.
-    ensures asks { (reads : List (ReadCall R))
-        × AreReadsBetween R.remaining R.may_answer IsDue source.old source.new reads
-        × IfOk result (λ request. IsAsking (has_ended source.new) (bytes_read reads) request)
-        × (IsErrOf result Unanswered.Closed → bytes_read reads ≡ []) }
+    ensures asks { ReadsOn R.remaining R.may_answer IsDue source.old source.new
+        (IsReadAs (has_ended source.new) result) }
     ensures closed { IsErrOf result Unanswered.Closed → has_ended source.new ≡ true }
     ensures failed { has_failed source.new ≡ is_failed result }
     ensures asked { reads_of source.new

@@ -1,6 +1,6 @@
 //! One request, from the bytes of a reader to the bytes of a writer.
 
-ghost use Rattle.std.specs.Prelude.{◌≡◌, ◌+◌, ◌≤◌, ◌^◌, List, false, true};
+ghost use Rattle.std.specs.Prelude.{◌≡◌, ◌+◌, ◌≤◌, ◌^◌, false, true};
 ghost use Rattle.streams.specs.AnswerFlags.{NothingUnread};
 ghost use Rattle.streams.specs.InputOutput.{output};
 ghost use Rattle.streams.specs.Sinks as sinks;
@@ -8,7 +8,7 @@ ghost use Rattle.streams.specs.Sources.{reader_of, reads_of, has_failed, has_end
 ghost use Rattle.book_core.specs.Ledgers.{books};
 ghost use Rattle.book_http.specs.Bodies.{most_body_bytes};
 ghost use Rattle.book_http.specs.Head.{most_head_bytes};
-ghost use Rattle.book_http.specs.Reads.{ReadCall, bytes_read, AreReadsBetween, IsDue};
+ghost use Rattle.book_http.specs.Reads.{IsDue, ReadsOn};
 ghost use Rattle.book_http.specs.Served.{IsServed, ServesDetails};
 ghost use Rattle.book_http.specs.Served.{is_read_fault, is_unanswered, is_write_fault};
 
@@ -61,10 +61,9 @@ pub fn serve_one<R: Reader + Drop, W: Write + Drop, L: Ledger>(
     // the books' storage is honest. Each read was due: while there was no head, or for the rest of
     // the body of an import or a tariff that is served. Where the source has ended, these are all
     // the bytes of a reader whose bytes are known.
-    ensures served { (reads : List (ReadCall R))
-        × AreReadsBetween R.remaining R.may_answer IsDue source.old source.new reads
-        × IsServed (books L.seen ledger.old ledger.new) (bytes_read reads) (has_ended source.new)
-        (output W.contents sink.old sink.new) result }
+    ensures served { ReadsOn R.remaining R.may_answer IsDue source.old source.new
+        (λ taken. IsServed (books L.seen ledger.old ledger.new) taken (has_ended source.new)
+        (output W.contents sink.old sink.new) result) }
     ensures asked { reads_of source.new
         ≤ reads_of source.old + most_head_bytes + most_body_bytes }
     ensures left { NothingUnread

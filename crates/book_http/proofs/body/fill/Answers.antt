@@ -1,7 +1,7 @@
-use Rattle.std.proofs.Common.{rules, arith, ◌≤◌, length, ◌∙◌, [], length-take-le}
+use Rattle.std.proofs.Common.{rules, arith, ◌≤◌, length, ◌∙◌, ap, drop, length-take-le, take_all}
 use Rattle.std.proofs.lemmas.List.{length-drop}
 use Rattle.std.proofs.lemmas.Slice.{take-put_mid_below}
-use Rattle.book_http.proofs.ReadLemmas.{due_for_body, more_filled, none_came, not_read}
+use Rattle.book_http.proofs.ReadLemmas.{due_for_body, gave_as, more_filled, none_came, not_read}
 use Rattle.book_http.proofs.ReadLemmas.{nothing_filled, read_on}
 use Rattle.book_http.proofs.body.fill.Goals as goal
 
@@ -14,38 +14,31 @@ pieces-init g c = record {
   ended = search rules;
   asked = search rules;
   kept = search rules;
-  reads = ([], not_read _ _ _ _, nothing_filled _ _ c.requires.within);
+  reads = not_read (nothing_filled _ _ c.requires.within);
 }
 
 pub returns-in_default-clause-reads : goal.returns-in_default-clause-reads
 returns-in_default-clause-reads g c =
     let so_far = c.pieces.invariant in
-    let due = due_for_body _ _ _ _ _ so_far.reads.2 so_far.low c.pieces-test.true so_far.size in (
-      _,
-      read_on _ _ _ _ _ _ so_far.reads.0 _ _ _ so_far.reads.1 due c.in_default.ensures.answer
-          c.in_default.ensures.bytes c.read.ensures.asked,
-      tt,
-      search rules,
-    )
+    read_on so_far.reads c.in_default.ensures.answer
+    c.in_default.ensures.bytes c.read.ensures.asked
+    (λ came is. due_for_body _ _ _ _ _ is so_far.low c.pieces-test.true so_far.size) (λ came is. tt)
 
 pub returns-then-count-eq0-clause-reads : goal.returns-then-count-eq0-clause-reads
 returns-then-count-eq0-clause-reads g c =
     let so_far = c.pieces.invariant in
-    let due = due_for_body _ _ _ _ _ so_far.reads.2 so_far.low c.pieces-test.true so_far.size in
-    let came = none_came _ c.read.new.buffer _ c.if-count-eq0.true ∙ so_far.reads.2 in
-    let long = length-take-le c.pieces.filled c.pieces.body so_far.within in (
-      _,
-      read_on _ _ _ _ _ _ so_far.reads.0 _ _ _ so_far.reads.1 due c.in-Ok.ensures.answer
-          c.in-Ok.ensures.bytes c.read.ensures.asked,
-      tt,
-      λ _. rw (came, length-drop, long) (search (rules, so_far.low)),
-    )
+    let long = length-take-le c.pieces.filled c.pieces.body so_far.within in
+    read_on so_far.reads c.in-Ok.ensures.answer c.in-Ok.ensures.bytes
+    c.read.ensures.asked
+    (λ came is. due_for_body _ _ _ _ _ is so_far.low c.pieces-test.true so_far.size)
+    (λ came is. rw
+    (none_came came c.read.new.buffer _ c.if-count-eq0.true ∙ is, length-drop, long)
+    (search (rules, so_far.low)))
 
 pub pieces-preserved : goal.pieces-preserved
 pieces-preserved g c =
     let so_far = c.pieces.invariant in
     let few : c.in-Ok.count ≤ length c.read.new.buffer = omega (arith, c.in-Ok.ensures.bound) in
-    let due = due_for_body _ _ _ _ _ so_far.reads.2 so_far.low c.pieces-test.true so_far.size in
     record {
       low = omega arith;
       within = search (rules, c.in-Ok.ensures.bound);
@@ -54,10 +47,14 @@ pieces-preserved g c =
       ended = search rules;
       asked = omega (arith, c.read.ensures.asked, so_far.asked);
       kept = take-put_mid_below _ _ _ _ _ so_far.low so_far.within ∙ so_far.kept;
-      reads = (
-        _,
-        read_on _ _ _ _ _ _ so_far.reads.0 _ _ _ so_far.reads.1 due c.in-Ok.ensures.answer
-            c.in-Ok.ensures.bytes c.read.ensures.asked,
-        more_filled _ _ _ _ _ _ _ so_far.reads.2 so_far.low so_far.within few,
-      );
+      reads = read_on so_far.reads c.in-Ok.ensures.answer
+          c.in-Ok.ensures.bytes c.read.ensures.asked
+          (λ came is. due_for_body _ _ _ _ _ is so_far.low c.pieces-test.true so_far.size)
+          (λ came is. more_filled _ _ _ _ _ _ _ is so_far.low so_far.within few);
     }
+
+pub returns-clause-reads : goal.returns-clause-reads
+returns-clause-reads g c =
+    gave_as c.pieces.invariant.reads
+    (λ came is. is
+    ∙ ap (drop c.args.had) (take_all c.pieces.filled c.pieces.body c.pieces-test.false))

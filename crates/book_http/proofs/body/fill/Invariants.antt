@@ -1,6 +1,6 @@
-use Rattle.std.proofs.Common.{◌≡◌, ◌+◌, ◌-◌, ◌≤◌, length, take, drop, false, List}
+use Rattle.std.proofs.Common.{◌≡◌, ◌+◌, ◌-◌, ◌≤◌, length, take, drop, false}
 use Rattle.streams.specs.Sources.{reads_of, has_failed, has_ended}
-use Rattle.book_http.specs.Reads.{ReadCall, bytes_read, AreReadsBetween, IsDueForBody}
+use Rattle.book_http.specs.Reads.{IsDueForRest, ReadsOn}
 use Rattle.book_http.proofs.body.fill.Given as goal
 
 -- what was read follows what was there, and each read gave at least one byte
@@ -13,9 +13,9 @@ invariant-pieces g l = record {
   ended : has_ended l.source ≡ false;
   asked : reads_of l.source ≤ reads_of l.initial.source + l.filled;
   kept : take l.had l.body ≡ take l.had l.initial.body;
-  reads : (reads : List (ReadCall _)) × AreReadsBetween g.R.Read.remaining g.R.Reader.may_answer
-      (λ came room. IsDueForBody (length l.initial.body) (l.had + length came) room)
-      l.initial.source l.source reads × (bytes_read reads ≡ drop l.had (take l.filled l.body));
+  reads : ReadsOn g.R.Read.remaining g.R.Reader.may_answer
+      (IsDueForRest l.had (length l.initial.body)) l.initial.source l.source
+      (λ came. came ≡ drop l.had (take l.filled l.body));
 }
 
 abbrev pub decreases-pieces : goal.decreases-pieces

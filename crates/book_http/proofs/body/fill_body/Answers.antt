@@ -14,10 +14,8 @@ returns-clause-reads g c =
     let same : take had copied ≡ take had front =
     copied_front front c.copy_from_slice.new.self (drop had c.args.body.now) had
     (omega (arith, c.min-had.ensures)) (search rules) in
-    let reads = c.fill.ensures.reads in (
-      reads.0,
-      read_as _ _ _ _ _ _ reads.0 (due_behind_front front had size rest) (rw long at reads.1),
-      fill_comes front _ c.fill.new.body had size c.fill.result (omega (arith, c.min-had.ensures))
-          (omega (arith, c.min-had.ensures)) rest (search rules) (c.fill.ensures.kept ∙ same)
-          reads.2 reads.3,
-    )
+    let long_still : length c.fill.new.body ≡ size = search rules in
+    read_as (rw long at c.fill.ensures.reads) (due_behind_front front had size rest)
+    (λ came fills. fill_comes front came c.fill.new.body had size c.fill.result
+    (omega (arith, c.min-had.ensures)) (omega (arith, c.min-had.ensures)) rest long_still
+    (c.fill.ensures.kept ∙ same) fills)

@@ -1,9 +1,10 @@
 use Rattle.std.proofs.Common.{rules, ◌≡◌, ◌∙◌, ◌<◌, ◌≤◌, true, length, take, ◌-◌, arith, take_all}
-use Rattle.std.proofs.Common.{[], refl, ap, length-take-le}
+use Rattle.std.proofs.Common.{refl, ap, length-take-le, ◌+◌}
 use Rattle.streams.specs.Sources.{has_ended}
 use Rattle.book_http.proofs.HeadLemmas.{end_refuses, full_refuses, holds_head, overflow_refuses}
 use Rattle.book_http.proofs.PieceLemmas.{grown_length}
-use Rattle.book_http.proofs.ReadLemmas.{due_for_head, more_came, none_came, not_read, read_on}
+use Rattle.book_http.proofs.ReadLemmas.{due_for_head, gave_as, more_came, none_came, not_read}
+use Rattle.book_http.proofs.ReadLemmas.{read_on}
 use Rattle.book_http.proofs.head.read_head.Goals as goal
 
 pub pieces-init : goal.pieces-init
@@ -14,7 +15,7 @@ pieces-init g c = record {
   failed = search rules;
   ended = search rules;
   asked = search rules;
-  reads = ([], not_read _ _ _ _, refl);
+  reads = not_read refl;
   none = search rules;
   may_come = search rules;
 }
@@ -22,57 +23,46 @@ pieces-init g c = record {
 pub returns-in_default-clause-reads : goal.returns-in_default-clause-reads
 returns-in_default-clause-reads g c =
     let so_far = c.pieces.invariant in
-    let due =
-    due_for_head _ _ _ so_far.reads.2 so_far.within so_far.size so_far.none so_far.may_come in (
-      _,
-      read_on _ _ _ _ _ _ so_far.reads.0 _ _ _ so_far.reads.1 due c.in_default.ensures.answer
-          c.in_default.ensures.bytes c.read.ensures.asked,
-      tt,
-    )
+    read_on so_far.reads c.in_default.ensures.answer
+    c.in_default.ensures.bytes c.read.ensures.asked
+    (λ came is. due_for_head _ _ _ is so_far.within so_far.size so_far.none so_far.may_come)
+    (λ came is. tt)
 
 pub returns-then-filled-eq0-clause-reads : goal.returns-then-filled-eq0-clause-reads
 returns-then-filled-eq0-clause-reads g c =
     let so_far = c.pieces.invariant in
-    let due =
-    due_for_head _ _ _ so_far.reads.2 so_far.within so_far.size so_far.none so_far.may_come in (
-      _,
-      read_on _ _ _ _ _ _ so_far.reads.0 _ _ _ so_far.reads.1 due c.in-Ok.ensures.answer
-          c.in-Ok.ensures.bytes c.read.ensures.asked,
-      (
-        search rules,
-        none_came _ _ _ c.if-count-eq0.true ∙ so_far.reads.2
-            ∙ ap (λ n. take n c.pieces.buffer) c.if-filled-eq0.true,
-      ),
-    )
+    let ended : has_ended c.read.new.self ≡ true = search rules in
+    read_on so_far.reads c.in-Ok.ensures.answer c.in-Ok.ensures.bytes
+    c.read.ensures.asked
+    (λ came is. due_for_head _ _ _ is so_far.within so_far.size so_far.none so_far.may_come)
+    (λ came is. (
+      ended,
+      none_came _ _ _ c.if-count-eq0.true ∙ is
+          ∙ ap (λ n. take n c.pieces.buffer) c.if-filled-eq0.true,
+    ))
 
 pub returns-else-filled-eq0-clause-reads : goal.returns-else-filled-eq0-clause-reads
 returns-else-filled-eq0-clause-reads g c =
     let so_far = c.pieces.invariant in
     let some : 0 < c.pieces.filled = omega arith in
     let ended : has_ended c.read.new.self ≡ true = search rules in
-    let due =
-    due_for_head _ _ _ so_far.reads.2 so_far.within so_far.size so_far.none so_far.may_come in
-    let came = none_came _ c.read.new.buffer _ c.if-count-eq0.true ∙ so_far.reads.2 in (
-      _,
-      read_on _ _ _ _ _ _ so_far.reads.0 _ _ _ so_far.reads.1 due c.in-Ok.ensures.answer
-          c.in-Ok.ensures.bytes c.read.ensures.asked,
-      (
-        rw (came, length-take-le c.pieces.filled c.pieces.buffer so_far.within) some,
-        rw came (end_refuses _ _ ended (so_far.none some)),
-      ),
-    )
+    read_on so_far.reads c.in-Ok.ensures.answer c.in-Ok.ensures.bytes
+    c.read.ensures.asked
+    (λ came is. due_for_head _ _ _ is so_far.within so_far.size so_far.none so_far.may_come)
+    (λ came is.
+    let same = none_came came c.read.new.buffer _ c.if-count-eq0.true ∙ is in (
+      rw (same, length-take-le c.pieces.filled c.pieces.buffer so_far.within) some,
+      rw same (end_refuses _ _ ended (so_far.none some)),
+    ))
 
 pub returns-in-Ok-Complete-clause-reads : goal.returns-in-Ok-Complete-clause-reads
 returns-in-Ok-Complete-clause-reads g c =
     let so_far = c.pieces.invariant in
     let few : c.in-Ok.count ≤ length c.read.new.buffer = omega (arith, c.in-Ok.ensures.bound) in
-    let due =
-    due_for_head _ _ _ so_far.reads.2 so_far.within so_far.size so_far.none so_far.may_come in (
-      _,
-      read_on _ _ _ _ _ _ so_far.reads.0 _ _ _ so_far.reads.1 due c.in-Ok.ensures.answer
-          c.in-Ok.ensures.bytes c.read.ensures.asked,
-      more_came _ _ _ _ _ _ so_far.reads.2 so_far.within few,
-    )
+    read_on so_far.reads c.in-Ok.ensures.answer c.in-Ok.ensures.bytes
+    c.read.ensures.asked
+    (λ came is. due_for_head _ _ _ is so_far.within so_far.size so_far.none so_far.may_come)
+    (λ came is. more_came _ _ _ _ _ _ is so_far.within few)
 
 pub returns-in-Ok-Complete-clause-head : goal.returns-in-Ok-Complete-clause-head
 returns-in-Ok-Complete-clause-head g c =
@@ -83,8 +73,6 @@ pub pieces-preserved : goal.pieces-preserved
 pieces-preserved g c =
     let so_far = c.pieces.invariant in
     let few : c.in-Ok.count ≤ length c.read.new.buffer = omega (arith, c.in-Ok.ensures.bound) in
-    let due =
-    due_for_head _ _ _ so_far.reads.2 so_far.within so_far.size so_far.none so_far.may_come in
     let parsed = rw c.in-Ok-Partial.field-0-is at c.in-Ok-Partial.ensures in
     record {
       within = search rules;
@@ -93,12 +81,10 @@ pieces-preserved g c =
       failed = search rules;
       ended = search rules;
       asked = omega (arith, c.read.ensures.asked, so_far.asked);
-      reads = (
-        _,
-        read_on _ _ _ _ _ _ so_far.reads.0 _ _ _ so_far.reads.1 due c.in-Ok.ensures.answer
-            c.in-Ok.ensures.bytes c.read.ensures.asked,
-        more_came _ _ _ _ _ _ so_far.reads.2 so_far.within few,
-      );
+      reads = read_on so_far.reads c.in-Ok.ensures.answer
+          c.in-Ok.ensures.bytes c.read.ensures.asked
+          (λ came is. due_for_head _ _ _ is so_far.within so_far.size so_far.none so_far.may_come)
+          (λ came is. more_came _ _ _ _ _ _ is so_far.within few);
       none = λ _. parsed.partial;
       may_come = λ _. parsed.unfinished;
     }
@@ -111,29 +97,23 @@ returns-in-Err-clause-reads g c =
     let given = length c.pieces.buffer - c.pieces.filled in
     let grown = grown_length c.pieces.filled given c.in-Ok.count c.pieces.buffer
     c.read.new.buffer so_far.within few in
-    let due =
-    due_for_head _ _ _ so_far.reads.2 so_far.within so_far.size so_far.none so_far.may_come in
-    let came = more_came _ c.pieces.buffer c.read.new.buffer c.pieces.filled given c.in-Ok.count
-    so_far.reads.2 so_far.within few in (
-      _,
-      read_on _ _ _ _ _ _ so_far.reads.0 _ _ _ so_far.reads.1 due c.in-Ok.ensures.answer
-          c.in-Ok.ensures.bytes c.read.ensures.asked,
-      (
-        rw (came, grown) (omega arith),
-        rw came (overflow_refuses _ _ (rw room at c.in-Err.ensures.no_room)),
-      ),
-    )
+    let some : 0 < c.pieces.filled + c.in-Ok.count = omega arith in
+    read_on so_far.reads c.in-Ok.ensures.answer c.in-Ok.ensures.bytes
+    c.read.ensures.asked
+    (λ came is. due_for_head _ _ _ is so_far.within so_far.size so_far.none so_far.may_come)
+    (λ came is.
+    let more = more_came came c.pieces.buffer c.read.new.buffer c.pieces.filled given c.in-Ok.count
+    is so_far.within few in (
+      rw (more, grown) some,
+      rw more (overflow_refuses _ _ (rw room at c.in-Err.ensures.no_room)),
+    ))
 
 pub returns-clause-reads : goal.returns-clause-reads
 returns-clause-reads g c =
     let so_far = c.pieces.invariant in
     let all : take c.pieces.filled c.pieces.buffer ≡ c.pieces.buffer =
     take_all c.pieces.filled c.pieces.buffer (omega arith) in
-    let full : 16384 ≤ length (take c.pieces.filled c.pieces.buffer) = rw all (omega arith) in (
-      so_far.reads.0,
-      so_far.reads.1,
-      (
-        rw so_far.reads.2 (omega (arith, full)),
-        rw so_far.reads.2 (full_refuses _ _ full (so_far.none (omega arith))),
-      ),
-    )
+    let full : 16384 ≤ length (take c.pieces.filled c.pieces.buffer) = rw all (omega arith) in
+    let none = so_far.none (omega arith) in
+    gave_as so_far.reads
+    (λ came is. (rw is (omega (arith, full)), rw is (full_refuses _ _ full none)))

@@ -1,7 +1,7 @@
-use Rattle.std.proofs.Common.{length, ◌-◌, ◌+◌, ◌≡◌, ◌≤◌, ◌<◌, take, false, List}
+use Rattle.std.proofs.Common.{length, ◌-◌, ◌+◌, ◌≡◌, ◌≤◌, ◌<◌, take, false}
 use Rattle.httparse.specs.Grammar.{HasNoRequest, MayBecomeRequest}
 use Rattle.streams.specs.Sources.{reads_of, has_failed, has_ended}
-use Rattle.book_http.specs.Reads.{ReadCall, bytes_read, AreReadsBetween, IsDueForHead}
+use Rattle.book_http.specs.Reads.{IsDueForHead, ReadsOn}
 use Rattle.book_http.proofs.head.read_head.Given as goal
 
 -- what was read is no head yet, and each read gave at least one byte
@@ -13,8 +13,8 @@ invariant-pieces g l = record {
   failed : has_failed l.source ≡ false;
   ended : has_ended l.source ≡ false;
   asked : reads_of l.source ≤ reads_of l.initial.source + l.filled;
-  reads : (reads : List (ReadCall _)) × AreReadsBetween g.R.Read.remaining g.R.Reader.may_answer
-      IsDueForHead l.initial.source l.source reads × (bytes_read reads ≡ take l.filled l.buffer);
+  reads : ReadsOn g.R.Read.remaining g.R.Reader.may_answer IsDueForHead l.initial.source l.source
+      (λ came. came ≡ take l.filled l.buffer);
   none : 0 < l.filled → HasNoRequest (take l.filled l.buffer);
   may_come : 0 < l.filled → MayBecomeRequest (take l.filled l.buffer);
 }
