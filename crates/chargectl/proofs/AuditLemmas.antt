@@ -1,5 +1,5 @@
 -- How an audit ends.
-use Rattle.std.proofs.Common.{◌≡◌, Bool, ℕ, List, Option, Result, Ok, Err, ap, inl, inr, refl, subst, sym}
+use Rattle.std.proofs.Common.{◌≡◌, ℕ, List, Option, Result, Ok, Err, ap, inl, inr, refl, subst, sym}
 use Rattle.std.proofs.Common.{true≢false}
 use Rattle.std.specs.Prelude.{IsErr, IsErrAnd, OnOk}
 use Rattle.std.specs.Io.KnownBytes.{Appends}
@@ -10,6 +10,8 @@ use Rattle.book_audit.specs.declared.audited.Counts.{Counts}
 use Rattle.book_audit.specs.declared.finding.Finding.{Finding}
 use Rattle.book_audit.specs.Texts.{IsAuditText, sound_text}
 use Rattle.office.specs.declared.repository.RepositoryFault.{RepositoryFault}
+use Rattle.office.specs.Shelves.{Shelf}
+use Rattle.office.proofs.ShelfLemmas.{untouched}
 use Rattle.chargectl.specs.declared.command_fault.CommandFault.{CommandFault}
 use Rattle.chargectl.specs.declared.command_fault.CommandFault.TheVariants as fault
 use Rattle.chargectl.specs.declared.ended.Ended.{Ended}
@@ -47,12 +49,10 @@ audit_unsound audited finding held holds is =
     subst (λ audited. EndsAudit (Ok audited) held holds (Err fault.Unsound)) (sym is) (inl refl)
 
 -- there is nothing of that name
-pub audits_none : (IsDone : Result Audited RepositoryFault → Type 0) (HasLog : Bool → Type 0)
-    (Untouched : Type 0) (held : Option (List ℕ)) (why : RepositoryFault)
-    (result : Result Ended CommandFault) → IsErr result
-    → IsErrAnd result (λ fault. fault ≡ shelf_fault why) → Untouched
-    → AuditsBy IsDone HasLog Untouched held held result
-audits_none IsDone HasLog Untouched held why (Ok ended) bad is untouched =
-    absurd (true≢false (sym bad))
-audits_none IsDone HasLog Untouched held why (Err fault) bad is untouched =
-    ((why, is), untouched, refl)
+pub audits_none : (IsDone : Result Audited RepositoryFault → Type 0) (book : List ℕ) (shelf : Shelf)
+    (held : Option (List ℕ)) (why : RepositoryFault) (result : Result Ended CommandFault)
+    → IsErr result → IsErrAnd result (λ fault. fault ≡ shelf_fault why)
+    → AuditsBy IsDone book shelf shelf held held result
+audits_none IsDone book shelf held why (Ok ended) bad is = absurd (true≢false (sym bad))
+audits_none IsDone book shelf held why (Err fault) bad is =
+    ((why, is), untouched book shelf, refl)

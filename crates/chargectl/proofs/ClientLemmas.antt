@@ -119,15 +119,17 @@ settled book place answer held holds what sent = record {
 }
 
 -- what was answered was served
-pub served_from : (book : List ℕ) (old new : Shelf) (taken : List ℕ) (ended : Bool)
+pub served_from : {S : Type 0} (seen : S → Shelf) (old new : S) (book taken : List ℕ) (ended : Bool)
     (held holds : Option (List ℕ)) (what : Served) → is_unanswered what ≡ false
-    → IsReplied book old new taken ended held holds what
-    → IsServedFrom book old new taken ended held holds what
-served_from book old new taken ended held holds (served.Answered status) begun it = it
-served_from book old new taken ended held holds served.WriteFault begun it = it
-served_from book old new taken ended held holds served.Cut begun it = it
-served_from book old new taken ended held holds served.Closed begun it = absurd (true≢false begun)
-served_from book old new taken ended held holds served.ReadFault begun it = absurd (true≢false begun)
+    → IsReplied book (seen old) (seen new) taken ended held holds what
+    → IsServedFrom seen old new book ended held holds what taken
+served_from seen old new book taken ended held holds (served.Answered status) begun it = it
+served_from seen old new book taken ended held holds served.WriteFault begun it = it
+served_from seen old new book taken ended held holds served.Cut begun it = it
+served_from seen old new book taken ended held holds served.Closed begun it =
+    absurd (true≢false begun)
+served_from seen old new book taken ended held holds served.ReadFault begun it =
+    absurd (true≢false begun)
 
 -- ---- what that did to the books
 
@@ -152,11 +154,12 @@ away_is naming bytes request was before events is (headed head behind stands due
 module _ (book : List ℕ) (old new : Shelf) (bytes : List ℕ) (request : Requested)
     (asks : AreAsking bytes (request_seen request)) (held shown holds : Option (List ℕ))
     (what : Served) where
-  -- it was done, and another reply says that the books were in the way
-  done_away : (told : Told) → Fits what (refusal Unavailable)
-      → IsDoneTo book (AsksOpen old.naming request held shown told) old new
+  -- this is due, and was replied; or the reply says that the books were in the way
+  due_done : (answer : Answer) (reply : Reply)
+      → (reply ≡ reply_of answer) ⊎ (reply.status ≡ Unavailable) → Fits what reply
+      → IsDoneTo book (AsksOpen old.naming request held shown (tells.Due answer)) old new
       → IsDoneTo book (Replies old.naming what) old new
-  done_away (tells.Due answer) fits done =
+  due_done answer reply told fits done =
       done_as book (AsksOpen old.naming request held shown (tells.Due answer))
       (Replies old.naming what) old new
       (λ before events is made. record {
@@ -165,25 +168,43 @@ module _ (book : List ℕ) (old new : Shelf) (bytes : List ℕ) (request : Reque
         left = is;
         made = bytes_answered old.naming bytes (request_seen request) (reply_of answer) asks false
             before events is made;
-        reply = refusal Unavailable;
-        told = inr refl;
+        reply = reply;
+        told = told;
         fits = fits;
       })
       done
-  done_away (tells.Sent so) fits done =
+
+  -- so with details, which were sent while the books were open
+  sent_done : (so : Served)
+      → ((due : Reply) → IsSentAsRead due held shown so
+      → (reply : Reply) × ((reply ≡ due) ⊎ (reply.status ≡ Unavailable)) × Fits what reply)
+      → IsDoneTo book (AsksOpen old.naming request held shown (tells.Sent so)) old new
+      → IsDoneTo book (Replies old.naming what) old new
+  sent_done so told done =
       done_as book (AsksOpen old.naming request held shown (tells.Sent so))
       (Replies old.naming what) old new
-      (λ before events is it. record {
+      (λ before events is it.
+      let replied = told it.reply it.sent in
+      record {
         bytes = bytes;
         due = it.reply;
         left = it.left;
         made = bytes_answered old.naming bytes (request_seen request) it.reply asks false before
             events it.left it.answer;
-        reply = refusal Unavailable;
-        told = inr refl;
-        fits = fits;
+        reply = replied.0;
+        told = replied.1;
+        fits = replied.2;
       })
       done
+
+  -- it was done, and another reply says that the books were in the way
+  done_away : (told : Told) → Fits what (refusal Unavailable)
+      → IsDoneTo book (AsksOpen old.naming request held shown told) old new
+      → IsDoneTo book (Replies old.naming what) old new
+  done_away (tells.Due answer) fits done =
+      due_done answer (refusal Unavailable) (inr refl) fits done
+  done_away (tells.Sent so) fits done =
+      sent_done so (λ due sent. (refusal Unavailable, inr refl, fits)) done
 
   -- nothing was done
   none_away : (reply : Reply) → reply.status ≡ Unavailable → Fits what reply
@@ -225,34 +246,17 @@ module _ (book : List ℕ) (old new : Shelf) (bytes : List ℕ) (request : Reque
       → EndsBy (is_streamed request) told shown holds what
       → IsDoneTo book (Replies old.naming what) old new
   request_done (Ok (tells.Due answer)) done ends =
-      done_as book (AsksOpen old.naming request held shown (tells.Due answer))
-      (Replies old.naming what) old new
-      (λ before events is made. record {
-        bytes = bytes;
-        due = reply_of answer;
-        left = is;
-        made = bytes_answered old.naming bytes (request_seen request) (reply_of answer) asks false
-            before events is made;
-        reply = reply_of answer;
-        told = inl refl;
-        fits = sent_fits (reply_of answer) shown holds what
-            (as_read (reply_of answer) shown holds what ends);
-      })
+      due_done answer (reply_of answer) (inl refl)
+      (sent_fits (reply_of answer) shown holds what
+      (as_read (reply_of answer) shown holds what ends))
       done
   request_done (Ok (tells.Sent so)) done ends =
-      done_as book (AsksOpen old.naming request held shown (tells.Sent so))
-      (Replies old.naming what) old new
-      (λ before events is it. record {
-        bytes = bytes;
-        due = it.reply;
-        left = it.left;
-        made = bytes_answered old.naming bytes (request_seen request) it.reply asks false before
-            events it.left it.answer;
-        reply = it.reply;
-        told = inl refl;
-        fits = subst (λ what. Fits what it.reply) (sym ends.0)
-            (sent_fits it.reply held shown so it.sent);
-      })
+      sent_done so
+      (λ due sent. (
+        due,
+        inl refl,
+        subst (λ what. Fits what due) (sym ends.0) (sent_fits due held shown so sent),
+      ))
       done
   request_done (Err shelf.Unseen) (inl seen) ends =
       done_away seen.0 (unseen_fits (is_streamed request) ends) seen.1
@@ -271,7 +275,7 @@ replied_done seen old new book taken ended held holds what it =
 -- so it is with whatever was served
 pub served_one : {S : Type 0} (seen : S → Shelf) (old new : S) (book taken : List ℕ) (ended : Bool)
     (held holds : Option (List ℕ)) (what : Served)
-    → IsServedFrom book (seen old) (seen new) taken ended held holds what
+    → IsServedFrom seen old new book ended held holds what taken
     → (is_unanswered what ≡ true → new ≡ old)
     → IsDoneTo book (ServesOne (seen old).naming what) (seen old) (seen new)
 served_one seen old new book taken ended held holds served.Closed it none =

@@ -4,7 +4,6 @@ use Rattle.std.proofs.Common.{◌++◌, Option, Some, None, Result, Ok, Err, ap,
 use Rattle.std.specs.Prelude.{IfOk}
 use Rattle.std.specs.Cmp.Lexicographic.{bytes_decides}
 use Rattle.std.specs.declared.alloc.AllocError.{AllocError}
-use Rattle.book_audit.specs.Copies.{IsCopied}
 use Rattle.book_model.specs.Records.{same_bytes}
 use Rattle.book_model.specs.declared.fault.LedgerFault.{LedgerFault}
 use Rattle.book_model.specs.Words.{Book, Event, IsMadeByCalls, Naming, book_after, book_of}
@@ -41,7 +40,7 @@ use Rattle.chargectl.specs.declared.streamed_lists.StreamedList.{StreamedList}
 use Rattle.chargectl.specs.declared.streamed_lists.StreamedList.TheVariants as list
 use Rattle.chargectl.specs.Choices.{ChoosesBy, ChoosesListed, ComesOfList, list_answered}
 use Rattle.chargectl.specs.Commands.{AsksAndTells, AsksOnceBy, ComesOf, once_answered}
-use Rattle.chargectl.specs.Audits.{AuditsBy}
+use Rattle.chargectl.specs.Audits.{AuditsBooks, BacksUp}
 use Rattle.chargectl.specs.CommandLaws.{AreCommanded, AskedBy, AsksOfHistory, Commanded}
 use Rattle.chargectl.specs.CommandLaws.{ChoicesFollow, CommandsFollowHistory, DoesToHistory, Follows}
 use Rattle.chargectl.specs.CommandLaws.{IsListed, LeaveHistory, ListBy, ListOfHistory, ListsHistoryBy}
@@ -459,17 +458,13 @@ module _ (history : List Event) (name : List ℕ) (old new : Shelf)
       by_came (Err why) it = still_on book book it.1
   does_on book (asks.Audit quiet) has holds ended does = by_came does.came does.does
     where
-      by_came : (came : Result Ended CommandFault)
-          → AuditsBy (λ audited. IsUntouched book old new) (new.has_log book) (IsUntouched book old new)
-          has holds came
+      by_came : (came : Result Ended CommandFault) → AuditsBooks book old new has holds came
           → Step old.naming history name old new (Where book name (λ made. made ≡ []))
       by_came (Ok ended) it = still_on book book it.done
       by_came (Err why) it = still_on book book it.1
   does_on book (asks.BackUp copy quiet) has holds ended does = by_came does.came does.does
     where
-      by_came : (came : Result Ended CommandFault)
-          → AuditsBy (IsCopied book copy.now old new) (new.has_log book) (IsUntouched book old new) has
-          holds came
+      by_came : (came : Result Ended CommandFault) → BacksUp book copy.now old new has holds came
           → Step old.naming history name old new (Where book name (λ made. made ≡ []))
       by_came (Ok ended) it = still_on book copy.now it.done.kept
       by_came (Err why) it = still_on book book it.1
@@ -542,7 +537,7 @@ runs_on shelf history name old new answered held (Err fault) had has holds Says 
     same_place shelf history name old new answered held done.0
 
 -- commands in turn, at a place that names records so
-in_turn : {S E : Type 0} (shelf : S → Shelf) (Says : E → List (List ℕ) → E → Type 0)
+in_turn : {S E : Type 0} (shelf : S → Shelf) (Says : List (List ℕ) → E → E → Type 0)
     (naming : Naming) (name : List ℕ) (start : List Event) (before : S) (commands : List (Commanded S E))
     → (shelf before).naming ≡ naming → IsMadeByCalls naming start → (shelf before).holds name start
     → AreCommanded shelf Says before commands
@@ -555,7 +550,7 @@ in_turn shelf Says naming name start before (command ∷ later) names answered h
     (RunsOn naming name start one.asked command.held command.holds command.status)) names
     (runs_on shelf start name before command.after
     (subst (λ naming. IsMadeByCalls naming start) (sym names) answered) held one.asked command.had
-    command.held command.holds (λ lines. Says command.quiet lines command.said) command.status
+    command.held command.holds (λ lines. Says lines command.quiet command.said) command.status
     one.done) in
     let rest = in_turn shelf Says naming name (step.made ++ start) command.after later (step.named ∙ names)
     step.answered step.held done.1 in
@@ -571,6 +566,6 @@ in_turn shelf Says naming name start before (command ∷ later) names answered h
 
 -- the headline
 pub commands_follow_history : {S E : Type 0} (shelf : S → Shelf)
-    (Says : E → List (List ℕ) → E → Type 0) → CommandsFollowHistory shelf Says
+    (Says : List (List ℕ) → E → E → Type 0) → CommandsFollowHistory shelf Says
 commands_follow_history shelf Says name start before commands answered held done =
     in_turn shelf Says (shelf before).naming name start before commands refl answered held done

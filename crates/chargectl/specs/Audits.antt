@@ -1,11 +1,13 @@
 -- How an audit ends, of books or of a copy of them.
-use Rattle.std.specs.Prelude.{◌≡◌, ◌⊎◌, Bool, false, ℕ, List, OnOk, Option, None, Result, Ok, Err}
+use Rattle.std.specs.Prelude.{◌≡◌, ◌⊎◌, false, ℕ, List, OnOk, Option, None, Result, Ok, Err}
 use Rattle.std.specs.Io.KnownBytes.{Appends}
 use Rattle.book_model.specs.declared.fault.LedgerFault.TheVariants as ledger
 use Rattle.book_audit.specs.declared.audited.Audited.{Audited}
 use Rattle.book_audit.specs.declared.audited.Audited.TheVariants.{Sound, Unsound}
+use Rattle.book_audit.specs.Copies.{IsCopied}
 use Rattle.book_audit.specs.Texts.{sound_text}
 use Rattle.office.specs.declared.repository.RepositoryFault.{RepositoryFault}
+use Rattle.office.specs.Shelves.{Shelf, IsUntouched}
 use Rattle.chargectl.specs.declared.command_fault.CommandFault.{CommandFault}
 use Rattle.chargectl.specs.declared.command_fault.CommandFault.TheVariants as fault
 use Rattle.chargectl.specs.declared.ended.Ended.{Ended}
@@ -22,17 +24,30 @@ EndsAudit (Ok (Unsound finding)) held holds came =
 EndsAudit (Err fault) held holds came = (holds ≡ held) × (came ≡ Err (shelf_fault fault))
 
 -- This was done where books were audited with this answer, and whether their log is left.
-pub record Audits (IsDone : Result Audited RepositoryFault → Type 0) (HasLog : Bool → Type 0)
+pub record Audits (IsDone : Result Audited RepositoryFault → Type 0) (book : List ℕ) (new : Shelf)
     (held holds : Option (List ℕ)) (ended : Ended) : Type 0 where
   pub audited : Result Audited RepositoryFault
   pub done : IsDone audited
   pub ends : EndsAudit audited held holds ended.came
-  pub log : HasLog ended.has_log
+  pub log : new.has_log book ended.has_log
   pub change : ended.is_change ≡ false
   pub notice : ended.notice ≡ None
 
 -- or there was nothing of that name
-abbrev pub AuditsBy : (Result Audited RepositoryFault → Type 0) → (Bool → Type 0) → Type 0
+abbrev pub AuditsBy : (Result Audited RepositoryFault → Type 0) → List ℕ → Shelf → Shelf
     → Option (List ℕ) → Option (List ℕ) → Result Ended CommandFault → Type 0
-AuditsBy IsDone HasLog Untouched held holds (Ok ended) = Audits IsDone HasLog held holds ended
-AuditsBy IsDone HasLog Untouched held holds (Err why) = IsShelfFault why × Untouched × (holds ≡ held)
+AuditsBy IsDone book old new held holds (Ok ended) = Audits IsDone book new held holds ended
+AuditsBy IsDone book old new held holds (Err why) =
+    IsShelfFault why × IsUntouched book old new × (holds ≡ held)
+
+-- the books of a name were audited where they are, and stay as they are
+abbrev pub AuditsBooks : List ℕ → Shelf → Shelf → Option (List ℕ) → Option (List ℕ)
+    → Result Ended CommandFault → Type 0
+AuditsBooks book old new held holds result =
+    AuditsBy (λ audited. IsUntouched book old new) book old new held holds result
+
+-- they were copied to another name, and the copy was audited
+abbrev pub BacksUp : List ℕ → List ℕ → Shelf → Shelf → Option (List ℕ) → Option (List ℕ)
+    → Result Ended CommandFault → Type 0
+BacksUp book copy old new held holds result =
+    AuditsBy (IsCopied book copy old new) book old new held holds result

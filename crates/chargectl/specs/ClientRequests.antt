@@ -92,11 +92,11 @@ pub record IsReplied (book : List ℕ) (old new : Shelf) (taken : List ℕ) (end
   pub asks : IsAsking ended taken request
   pub answered : IsAnsweredFrom book old new request held holds what
 
--- What was served. Where the input ended before its first byte, or a read failed, nothing is
--- answered.
-abbrev pub IsServedFrom : List ℕ → Shelf → Shelf → List ℕ → Bool → Option (List ℕ)
-    → Option (List ℕ) → Served → Type 0
-IsServedFrom book old new taken ended held holds served.Closed = (taken ≡ []) × (ended ≡ true)
-IsServedFrom book old new taken ended held holds served.ReadFault = Unit {0}
-IsServedFrom book old new taken ended held holds what =
-    IsReplied book old new taken ended held holds what
+-- What was served of the bytes that were taken. Where the input ended before the first of them, or a
+-- read failed, nothing is answered.
+abbrev pub IsServedFrom : {S : Type 0} → (S → Shelf) → S → S → List ℕ → Bool → Option (List ℕ)
+    → Option (List ℕ) → Served → List ℕ → Type 0
+IsServedFrom shelf old new book ended held holds served.Closed taken = (taken ≡ []) × (ended ≡ true)
+IsServedFrom shelf old new book ended held holds served.ReadFault taken = Unit {0}
+IsServedFrom shelf old new book ended held holds what taken =
+    IsReplied book (shelf old) (shelf new) taken ended held holds what

@@ -62,12 +62,12 @@ place_after before [] = before
 place_after before (command ∷ later) = place_after command.after later
 
 -- each kept its contract where the one before it left the books
-abbrev pub AreCommanded : {S E : Type 0} → (S → Shelf) → (E → List (List ℕ) → E → Type 0) → S
+abbrev pub AreCommanded : {S E : Type 0} → (S → Shelf) → (List (List ℕ) → E → E → Type 0) → S
     → List (Commanded S E) → Type 0
 AreCommanded shelf Says before [] = Unit {0}
 AreCommanded shelf Says before (command ∷ later) =
-    CommandsBy shelf before command.after command.words command.had command.held command.holds
-    (λ lines. Says command.quiet lines command.said) command.status
+    CommandsBy shelf before command.after command.words command.had command.held command.holds Says
+    command.quiet command.said command.status
     × AreCommanded shelf Says command.after later
 
 -- After a history this was asked and told, and it made these events, the newest first. Unless a lack
@@ -279,7 +279,7 @@ pub record LeaveHistory {S E : Type 0} (shelf : S → Shelf) (naming : Naming) (
 -- The headline: after any commands, the books of a name that held a history which calls made hold it
 -- with what the commands made of it; and each told what the definitions give for the whole history
 -- before it.
-abbrev pub CommandsFollowHistory : {S E : Type 0} → (S → Shelf) → (E → List (List ℕ) → E → Type 0)
+abbrev pub CommandsFollowHistory : {S E : Type 0} → (S → Shelf) → (List (List ℕ) → E → E → Type 0)
     → Type 0
 CommandsFollowHistory {S} {E} shelf Says =
     (name : List ℕ) (start : List Event) (before : S) (commands : List (Commanded S E))

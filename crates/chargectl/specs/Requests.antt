@@ -3,7 +3,6 @@ use Rattle.std.specs.Prelude.{◌≡◌, ◌⊎◌, Bool, true, ℕ, List, [], �
 use Rattle.std.specs.Prelude.{string_bytes}
 use Rattle.std.specs.Io.KnownBytes.{Appends}
 use Rattle.tariff_rules.specs.Limits.{most_rate}
-use Rattle.book_audit.specs.Copies.{IsCopied}
 use Rattle.book_model.specs.declared.fault.LedgerFault.TheVariants as ledger
 use Rattle.office.specs.declared.repository.RepositoryFault.{RepositoryFault}
 use Rattle.office.specs.Shelves.{Shelf, IsDoneTo, IsMade, IsUntouched}
@@ -20,7 +19,7 @@ use Rattle.program_output.specs.Messages.{io_line, ledger_line, program_name}
 use Rattle.chargectl.specs.declared.command_fault.CommandFault.{CommandFault}
 use Rattle.chargectl.specs.declared.command_fault.CommandFault.TheVariants as fault
 use Rattle.chargectl.specs.declared.ended.Ended.{Ended}
-use Rattle.chargectl.specs.Audits.{AuditsBy}
+use Rattle.chargectl.specs.Audits.{AuditsBooks, BacksUp}
 use Rattle.chargectl.specs.Choices.{ChoosesListed}
 use Rattle.chargectl.specs.Commands.{AsksAndTells, IsShelfFault}
 use Rattle.chargectl.specs.DryRuns.{TriesAndTells}
@@ -74,11 +73,9 @@ Does book.Init name old new held holds ended = Makes name old new held holds end
 Does book.Upgrade name old new held holds ended =
     SettlesBy (UpgradesBy name old new held holds) ended
 Does (book.Audit quiet) name old new held holds ended =
-    SettlesBy (AuditsBy (λ audited. IsUntouched name old new) (new.has_log name)
-    (IsUntouched name old new) held holds) ended
+    SettlesBy (AuditsBooks name old new held holds) ended
 Does (book.BackUp copy quiet) name old new held holds ended =
-    SettlesBy (AuditsBy (IsCopied name copy.now old new) (new.has_log name) (IsUntouched name old new)
-    held holds) ended
+    SettlesBy (BacksUp name copy.now old new held holds) ended
 Does (book.Serve port requests) name old new held holds ended =
     SettlesBy (ServesBy requests name old new held holds) ended
 Does (book.Details csv period centre) name old new held holds ended =
@@ -139,9 +136,9 @@ DoesOrRefuses shelf old new (Err fault) had held holds Says status =
 
 -- The program: its words ask for something by the table of the commands, and that was done. These
 -- lines, and no others, were said on standard error.
-pub record CommandsBy {S : Type 0} (shelf : S → Shelf) (old new : S) (words : List (List ℕ))
-    (had held holds : Option (List ℕ)) (Says : List (List ℕ) → Type 0) (status : Status) : Type 0
-  where
-    pub asked : Result Request ArgumentFault
-    pub read : AreReadAs program_name most_rate words asked
-    pub done : DoesOrRefuses shelf old new asked had held holds Says status
+pub record CommandsBy {S E : Type 0} (shelf : S → Shelf) (old new : S) (words : List (List ℕ))
+    (had held holds : Option (List ℕ)) (Says : List (List ℕ) → E → E → Type 0) (quiet said : E)
+    (status : Status) : Type 0 where
+  pub asked : Result Request ArgumentFault
+  pub read : AreReadAs program_name most_rate words asked
+  pub done : DoesOrRefuses shelf old new asked had held holds (λ lines. Says lines quiet said) status

@@ -2,9 +2,7 @@
 
 ghost use Rattle.std.specs.Prelude.{OnOk, string_bytes};
 ghost use Rattle.std.specs.Io.KnownBytes.{Appends};
-ghost use Rattle.book_audit.specs.Copies.{IsCopied};
-ghost use Rattle.office.specs.Shelves.{IsUntouched};
-ghost use Rattle.chargectl.specs.Audits.{AuditsBy, EndsAudit};
+ghost use Rattle.chargectl.specs.Audits.{AuditsBooks, BacksUp, EndsAudit};
 
 use crate::command_fault::CommandFault;
 use crate::ended::Ended;
@@ -22,10 +20,7 @@ pub(crate) fn audit<S: AuditedRepository, O: Write + Drop>(
     quiet: bool,
     output: &mut O,
 ) -> Result<Ended, CommandFault>
-    ensures { AuditsBy
-        (λ _. IsUntouched book.now (S.shelf repository.now) (S.shelf repository.now))
-        ((S.shelf repository.now).has_log book.now)
-        (IsUntouched book.now (S.shelf repository.now) (S.shelf repository.now))
+    ensures { AuditsBooks book.now (S.shelf repository.now) (S.shelf repository.now)
         (O.contents output.old) (O.contents output.new) result }
 {
     repository.expect(book)?;
@@ -49,10 +44,7 @@ pub(crate) fn back_up<S: AuditedRepository, O: Write + Drop>(
     quiet: bool,
     output: &mut O,
 ) -> Result<Ended, CommandFault>
-    ensures { AuditsBy
-        (IsCopied book.now copy.now (S.shelf repository.old) (S.shelf repository.new))
-        ((S.shelf repository.new).has_log book.now)
-        (IsUntouched book.now (S.shelf repository.old) (S.shelf repository.new))
+    ensures { BacksUp book.now copy.now (S.shelf repository.old) (S.shelf repository.new)
         (O.contents output.old) (O.contents output.new) result }
 {
     repository.expect(book)?;

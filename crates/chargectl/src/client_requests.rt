@@ -2,10 +2,10 @@
 //! are closed, so that a slow client keeps them from nobody. Details alone are sent while they are
 //! read, where their text is longer than a body may be.
 
-ghost use Rattle.std.specs.Prelude.{◌≡◌, ◌≤◌, ◌^◌, Err, List, false, true};
+ghost use Rattle.std.specs.Prelude.{◌≡◌, ◌≤◌, ◌^◌, Err, false, true};
 ghost use Rattle.streams.specs.Sources.{has_ended, has_failed, reads_of};
 ghost use Rattle.book_core.specs.Transition.{IsTransition};
-ghost use Rattle.book_http.specs.Reads.{AreReadsBetween, IsDue, ReadCall, bytes_read};
+ghost use Rattle.book_http.specs.Reads.{IsDue, ReadsOn};
 ghost use Rattle.book_http.specs.Replies.{reply_of};
 ghost use Rattle.book_http.specs.Served.{IsSent, is_unanswered};
 ghost use Rattle.chargectl.specs.ClientRequests as spec;
@@ -195,11 +195,9 @@ pub fn serve_request<R: Reader + Drop, W: Peer + Drop, S: Repository>(
     requires failed { has_failed source.old ≡ false }
     requires ended { has_ended source.old ≡ false }
     requires log { (S.shelf repository.old).has_log book.now has_log.old }
-    ensures served { (reads : List (ReadCall R))
-        × AreReadsBetween R.remaining R.may_answer IsDue source.old source.new reads
-        × IsServedFrom book.now (S.shelf repository.old) (S.shelf repository.new)
-        (bytes_read reads) (has_ended source.new)
-        (W.contents writer) (W.contents result.1) result.0 }
+    ensures served { ReadsOn R.remaining R.may_answer IsDue source.old source.new
+        (IsServedFrom S.shelf repository.old repository.new book.now (has_ended source.new)
+        (W.contents writer) (W.contents result.1) result.0) }
 
     // The books are not opened before a request is whole.
     ensures closed { is_unanswered result.0 ≡ true → repository.new ≡ repository.old }

@@ -10,6 +10,5 @@ use streams::Writer;
 /// hold it with what the commands made of it, and each told what the definitions give for the whole
 /// history before it.
 pub fn commands_follow_history<S: Repository, E: Writer>()
-    ensures { CommandsFollowHistory S.shelf
-        (λ quiet lines said. AreSaid E.contents E.may_answer lines quiet said) }
+    ensures { CommandsFollowHistory S.shelf (AreSaid E.contents E.may_answer) }
 {}

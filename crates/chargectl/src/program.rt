@@ -1,7 +1,8 @@
 //! What the program does with its words and streams.
 
-ghost use Rattle.std.specs.Prelude.{◌≡◌, IfErr, IfOk, Ok, map, string_bytes};
+ghost use Rattle.std.specs.Prelude.{◌≡◌, IfErr, IfOk, Ok};
 ghost use Rattle.tariff_rules.specs.TariffFile.{terms_in};
+ghost use Rattle.command_line.specs.Known.{texts_of};
 ghost use Rattle.program_output.specs.Messages.{AreSaid};
 ghost use Rattle.chargectl.specs.Faults.{IsFaultIn, shelf_end, status_by};
 ghost use Rattle.chargectl.specs.Reading as spec;
@@ -50,9 +51,9 @@ pub fn command<S: AuditedRepository, I: Read + Drop, O: Write + Drop, E: Writer>
     output: O,
     errors: &mut E,
 ) -> (Status, O)
-    ensures { CommandsBy S.shelf repository.old repository.new (map string_bytes words.now)
+    ensures { CommandsBy S.shelf repository.old repository.new (texts_of words.now)
         (I.remaining input) (O.contents output) (O.contents result.1)
-        (λ lines. AreSaid E.contents E.may_answer lines errors.old errors.new) result.0 }
+        (AreSaid E.contents E.may_answer) errors.old errors.new result.0 }
 {
     match requested_by(rt.alloc(), PROGRAM, words, MAX_RATE as u32) {
         Ok(request) => {

@@ -2,7 +2,7 @@
 
 ghost use Rattle.std.specs.Prelude.{◌≡◌, ◌++◌, [], codes, decimal, IfErr, None, Ok, OnOk, true};
 ghost use Rattle.chargectl.specs.Requests.{Serves, ServesBy};
-ghost use Rattle.chargectl.specs.ServedLines.{Gains, lines_seen};
+ghost use Rattle.chargectl.specs.ServedLines.{Gains, seen_of};
 ghost use Rattle.chargectl.specs.Serving.{IsServing, NoneCame, left_by, line_of, service_end};
 ghost use Rattle.chargectl.specs.Serving.{ready};
 
@@ -158,7 +158,7 @@ pub fn serve_each<C: Connections, S: Repository, O: Write + Drop>(
     ensures served { IsServing [] (C.left connections.old)
         (left_by result (C.left connections.new)) book.now
         (S.shelf repository.old) (S.shelf repository.new)
-        (lines_seen O.contents lines.old) (lines_seen O.contents lines.new) }
+        (seen_of O.contents lines.old) (seen_of O.contents lines.new) }
     ensures all { OnOk result (C.left connections.new ≡ 0) }
     ensures log { (S.shelf repository.new).has_log book.now has_log.new }
 
@@ -174,14 +174,14 @@ pub fn serve_each<C: Connections, S: Repository, O: Write + Drop>(
 
 /// Says that connections are answered from now on.
 fn say_ready<O: Write + Drop>(lines: &mut ServedLines<O>)
-    ensures { Gains (lines_seen O.contents lines.old) (lines_seen O.contents lines.new) ready }
+    ensures { Gains (seen_of O.contents lines.old) (seen_of O.contents lines.new) ready }
 {
     lines.write("READY\n");
 }
 
 /// Says what became of a connection, at once.
 fn say_served<O: Write + Drop>(lines: &mut ServedLines<O>, served: Served)
-    ensures { Gains (lines_seen O.contents lines.old) (lines_seen O.contents lines.new)
+    ensures { Gains (seen_of O.contents lines.old) (seen_of O.contents lines.new)
         (line_of served) }
 {
     match served {

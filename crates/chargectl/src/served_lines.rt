@@ -3,7 +3,7 @@
 
 ghost use Rattle.std.specs.Prelude.{◌≡◌, ◌≤◌, false, length, take};
 ghost use Rattle.std.specs.Io.KnownBytes.{Appends};
-ghost use Rattle.chargectl.specs.ServedLines.{Gains, GainsBy, lines_seen, unfailed};
+ghost use Rattle.chargectl.specs.ServedLines.{Gains, GainsBy, seen_of, unfailed};
 
 use std::io::Write;
 
@@ -17,7 +17,7 @@ pub struct ServedLines<O: Write + Drop> {
 impl<O: Write + Drop> ServedLines<O> {
     /// Over an output to which no write has failed.
     pub fn new(output: O) -> ServedLines<O>
-        ensures { lines_seen O.contents result ≡ unfailed (O.contents output) }
+        ensures { seen_of O.contents result ≡ unfailed (O.contents output) }
     {
         ServedLines {
             output,
@@ -27,14 +27,14 @@ impl<O: Write + Drop> ServedLines<O> {
 
     /// A write failed, or took nothing.
     pub fn has_failed(&self) -> bool
-        ensures { result ≡ (lines_seen O.contents self.now).has_failed }
+        ensures { result ≡ (seen_of O.contents self.now).has_failed }
     {
         self.has_failed
     }
 
     /// The output, as the lines left it.
     pub fn into_inner(self) -> O
-        ensures { O.contents result ≡ (lines_seen O.contents self).holds }
+        ensures { O.contents result ≡ (seen_of O.contents self).holds }
     {
         self.output
     }
@@ -42,7 +42,7 @@ impl<O: Write + Drop> ServedLines<O> {
     /// Writes a line, which leaves the program at once. Where a write fails the rest of it is lost,
     /// and so are all lines after it.
     pub(crate) fn write(&mut self, line: &str)
-        ensures { Gains (lines_seen O.contents self.old) (lines_seen O.contents self.new) line.now }
+        ensures { Gains (seen_of O.contents self.old) (seen_of O.contents self.new) line.now }
     {
         if self.has_failed {
             return;

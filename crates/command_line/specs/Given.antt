@@ -1,7 +1,7 @@
 -- That each word of a command has its value, so that its request can be read. What may be left out
 -- and has no default need not have one.
 use Rattle.std.specs.Prelude.{◌≡◌, ◌≢◌, ◌<◌, ◌^◌, ℕ, ℤ, pos, Bool, true, List, [], ◌∷◌, Some, IsSome, ⊤}
-use Rattle.std.specs.Prelude.{IsSomeAnd, bytes_eq, find}
+use Rattle.std.specs.Prelude.{IsSomeAnd, bytes_eq, codes, find}
 use Rattle.std.specs.List.{list_any}
 use Rattle.std.specs.Str.Parse.{IsNumeral, digits_value, without_leading_plus}
 use Rattle.clap.specs.Lexer.{without_minus}
@@ -48,6 +48,19 @@ HasWords rows (word ∷ more) = HasWord rows word × HasWords rows more
 abbrev pub HasWordsOf : Text → List Row → Type 0
 HasWordsOf name rows = IsSomeAnd (find (λ command. bytes_eq command.0 name) known_table)
     (λ command. HasWords rows command.1)
+
+-- the commands, in the order in which they are looked for: those that ask no books, those that change
+-- books, and reports of periods with what is done to a whole file
+abbrev pub bookless : List Text
+bookless = codes "trial" ∷ codes "check" ∷ codes "explain" ∷ []
+
+abbrev pub changes : List Text
+changes = codes "init" ∷ codes "tariff" ∷ codes "import" ∷ codes "close" ∷ codes "choose"
+    ∷ codes "adopt" ∷ []
+
+abbrev pub services : List Text
+services = codes "statement" ∷ codes "adjustments" ∷ codes "disputes" ∷ codes "upgrade"
+    ∷ codes "audit" ∷ codes "backup" ∷ codes "serve" ∷ []
 
 -- the text is none of these
 abbrev pub NoneIs : List Text → Text → Type 0

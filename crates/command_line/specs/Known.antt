@@ -1,7 +1,7 @@
 -- The table of the commands, and what words are by it.
 use Rattle.std.specs.Prelude.{◌≡◌, ℕ, ℤ, pos, Bool, true, false, List, [], ◌∷◌, Option, map, codes}
 use Rattle.std.specs.List.{list_all}
-use Rattle.std.specs.Prelude.{Result, Ok, Err, IsSomeAnd}
+use Rattle.std.specs.Prelude.{Result, Ok, Err, IsSomeAnd, String, Global, string_bytes}
 use Rattle.clap.specs.Faults.{fault_of, is_simple_and_free}
 use Rattle.clap.specs.Kinds.{Kinds, IsAmong}
 use Rattle.clap.specs.Simple.{Shape, is_simple, subcommand_of}
@@ -18,6 +18,10 @@ use Rattle.command_line.specs.declared.known_commands.ValueKind.TheVariants as k
 use Rattle.command_line.specs.declared.request.Request.{Request}
 use Rattle.command_line.specs.Requests.{IsRequest}
 use Rattle.command_line.specs.Shapes.{app_for, distinct, leaf}
+
+-- the words of a command line, as texts
+abbrev pub texts_of : List (String Global) → List Text
+texts_of words = map string_bytes words
 
 -- what a value may be, a word or an option, and a command, as one reads them
 pub data ValueSeen : Type 0 where

@@ -46,6 +46,13 @@ IsNumber rows name value = IsSomeAnd (one_of name rows) (λ text. Writes text va
 abbrev pub IsFlag : List Row → Text → Bool → Type 0
 IsFlag rows name flag = one_of name rows ≡ Some (bool_text flag)
 
+-- the number of a period; and whether a table of comma-separated values is asked for
+abbrev pub IsPeriod : List Row → ℕ → Type 0
+IsPeriod rows period = IsNumber rows (codes "period") period
+
+abbrev pub IsCsv : List Row → Bool → Type 0
+IsCsv rows csv = IsFlag rows (codes "csv") csv
+
 -- a text was given for an argument that has no default
 abbrev pub IsGiven : List Row → Text → Type 0
 IsGiven rows name = IsSome (first_of name rows)
@@ -88,17 +95,15 @@ pub record IsDump (rows : List Row) (dump : DumpFile) : Type 0 where
 -- what is printed of a period: a statement, where no tariff is named, is of what was charged
 abbrev pub IsOfPeriod : Text → List Row → PeriodReport → ℕ → Type 0
 IsOfPeriod name rows of_period.Statement period =
-    (name ≡ codes "statement") × IsNumber rows (codes "period") period
-    × IsFlag rows (codes "csv") false × IsLeftOut rows (codes "tariff")
+    (name ≡ codes "statement") × IsPeriod rows period × IsCsv rows false
+    × IsLeftOut rows (codes "tariff")
 IsOfPeriod name rows of_period.StatementTable period =
-    (name ≡ codes "statement") × IsNumber rows (codes "period") period
-    × IsFlag rows (codes "csv") true × IsLeftOut rows (codes "tariff")
+    (name ≡ codes "statement") × IsPeriod rows period × IsCsv rows true
+    × IsLeftOut rows (codes "tariff")
 IsOfPeriod name rows of_period.AdjustmentList period =
-    (name ≡ codes "adjustments") × IsNumber rows (codes "period") period
-    × IsFlag rows (codes "csv") false
+    (name ≡ codes "adjustments") × IsPeriod rows period × IsCsv rows false
 IsOfPeriod name rows of_period.AdjustmentTable period =
-    (name ≡ codes "adjustments") × IsNumber rows (codes "period") period
-    × IsFlag rows (codes "csv") true
+    (name ≡ codes "adjustments") × IsPeriod rows period × IsCsv rows true
 
 -- of the centre that is named, or of the whole office where none is
 abbrev pub IsCentre : List Row → Option (Bor Text) → Type 0
@@ -111,14 +116,14 @@ is_table form.Text = false
 is_table form.Table = true
 
 abbrev pub IsForm : List Row → StatementForm → Type 0
-IsForm rows value = IsFlag rows (codes "csv") (is_table value)
+IsForm rows value = IsCsv rows (is_table value)
 
 -- a ruling
 abbrev pub IsRuling : Text → List Row → Ruling → Type 0
 IsRuling name rows (ruling.Tariff file) =
     (name ≡ codes "tariff") × IsText rows (codes "file") file
 IsRuling name rows (ruling.Close period date) =
-    (name ≡ codes "close") × IsNumber rows (codes "period") period
+    (name ≡ codes "close") × IsPeriod rows period
     × IsText rows (codes "date") date
 IsRuling name rows (ruling.Choose digest) =
     (name ≡ codes "choose") × IsText rows (codes "sha256") digest
@@ -154,18 +159,17 @@ IsOfBooks name rows (book.DryRun ruled) = IsRuling name rows ruled × IsDryRun r
 IsOfBooks name rows (book.OfPeriod asked period centre) =
     IsOfPeriod name rows asked period × IsCentre rows centre
 IsOfBooks name rows (book.WhatIf form period centre file) =
-    (name ≡ codes "statement") × IsNumber rows (codes "period") period × IsForm rows form
+    (name ≡ codes "statement") × IsPeriod rows period × IsForm rows form
     × IsCentre rows centre × IsText rows (codes "tariff") file
 IsOfBooks name rows (book.Details csv period centre) =
-    (name ≡ codes "details") × IsNumber rows (codes "period") period
-    × IsFlag rows (codes "csv") csv × IsCentre rows centre
+    (name ≡ codes "details") × IsPeriod rows period × IsCsv rows csv × IsCentre rows centre
 IsOfBooks name rows (book.Bill form period centre) =
-    (name ≡ codes "bill") × IsNumber rows (codes "period") period × IsForm rows form
+    (name ≡ codes "bill") × IsPeriod rows period × IsForm rows form
     × IsCentre rows centre
 IsOfBooks name rows (book.Page period) =
-    (name ≡ codes "page") × IsNumber rows (codes "period") period
+    (name ≡ codes "page") × IsPeriod rows period
 IsOfBooks name rows (book.Disputes csv) =
-    (name ≡ codes "disputes") × IsFlag rows (codes "csv") csv
+    (name ≡ codes "disputes") × IsCsv rows csv
 IsOfBooks name rows (book.Record digest) =
     (name ≡ codes "record") × IsText rows (codes "sha256") digest
 IsOfBooks name rows book.Periods = name ≡ codes "periods"

@@ -1,15 +1,15 @@
 //! The command that `clap` found in the words.
 
-ghost use Rattle.std.specs.Prelude.{◌≡◌, [], ◌∷◌, None, IfSome, IsSome, IsSomeAnd, codes, pos};
+ghost use Rattle.std.specs.Prelude.{◌≡◌, [], ◌∷◌, ◌++◌, None, IfSome, IsSome, IsSomeAnd, codes, pos};
 ghost use Rattle.clap.specs.Simple.{subcommand_rows_of};
 ghost use Rattle.clap.specs.Walk.{first_of};
 ghost use Rattle.command_line.specs.Given.{HasNumber, HasRate, HasWord, HasWords, HasWordsOf};
-ghost use Rattle.command_line.specs.Given.{NoneIs};
+ghost use Rattle.command_line.specs.Given.{NoneIs, bookless, changes, services};
 ghost use Rattle.command_line.specs.Known as known;
-ghost use Rattle.command_line.specs.Requests.{IsAtOnce, IsDump, IsFlag, IsForm, IsKind, IsLayout};
-ghost use Rattle.command_line.specs.Requests.{IsLeftOut, IsNumber, IsOfBooks, IsOfPeriod};
-ghost use Rattle.command_line.specs.Requests.{IsOfCommand, IsRequest, IsRuling, IsText, is_table};
-ghost use Rattle.command_line.specs.Requests.{rows_in};
+ghost use Rattle.command_line.specs.Requests.{IsAtOnce, IsCsv, IsDump, IsFlag, IsForm, IsKind};
+ghost use Rattle.command_line.specs.Requests.{IsLayout, IsLeftOut, IsNumber, IsOfBooks, IsOfCommand};
+ghost use Rattle.command_line.specs.Requests.{IsOfPeriod, IsPeriod, IsRequest, IsRuling, IsText};
+ghost use Rattle.command_line.specs.Requests.{is_table, rows_in};
 ghost use Rattle.command_line.specs.Requests as spec;
 
 use crate::request::{BookRequest, DumpFile, NumberKind, Request, Ruling, Unclear};
@@ -66,7 +66,7 @@ fn request_in<'a>(name: &str, found: &ArgMatches<'a>) -> Option<Request<'a>>
 fn change_in<'a>(name: &str, found: &ArgMatches<'a>) -> Option<Request<'a>>
     ensures request { IfSome result (IsOfCommand name.now (rows_in found.now)) }
     ensures some { HasWordsOf name.now (rows_in found.now)
-        → NoneIs (codes "trial" ∷ codes "check" ∷ codes "explain" ∷ []) name.now → IsSome result }
+        → NoneIs bookless name.now → IsSome result }
 {
     match name {
         "init" => at_once_in(found, Some(BookRequest::Init)),
@@ -83,9 +83,7 @@ fn change_in<'a>(name: &str, found: &ArgMatches<'a>) -> Option<Request<'a>>
 fn service_in<'a>(name: &str, found: &ArgMatches<'a>) -> Option<Request<'a>>
     ensures request { IfSome result (IsOfCommand name.now (rows_in found.now)) }
     ensures some { HasWordsOf name.now (rows_in found.now)
-        → NoneIs (codes "trial" ∷ codes "check" ∷ codes "explain" ∷ codes "init"
-        ∷ codes "tariff" ∷ codes "import" ∷ codes "close" ∷ codes "choose" ∷ codes "adopt" ∷ [])
-        name.now → IsSome result }
+        → NoneIs (bookless ++ changes) name.now → IsSome result }
 {
     match name {
         "statement" => of_books_in(found, statement_in(found)),
@@ -104,10 +102,7 @@ fn service_in<'a>(name: &str, found: &ArgMatches<'a>) -> Option<Request<'a>>
 fn list_in<'a>(name: &str, found: &ArgMatches<'a>) -> Option<Request<'a>>
     ensures request { IfSome result (IsOfCommand name.now (rows_in found.now)) }
     ensures some { HasWordsOf name.now (rows_in found.now)
-        → NoneIs (codes "trial" ∷ codes "check" ∷ codes "explain" ∷ codes "init"
-        ∷ codes "tariff" ∷ codes "import" ∷ codes "close" ∷ codes "choose" ∷ codes "adopt"
-        ∷ codes "statement" ∷ codes "adjustments" ∷ codes "disputes" ∷ codes "upgrade"
-        ∷ codes "audit" ∷ codes "backup" ∷ codes "serve" ∷ []) name.now → IsSome result }
+        → NoneIs (bookless ++ changes ++ services) name.now → IsSome result }
 {
     match name {
         "details" => of_books_in(found, details_in(found)),
@@ -389,8 +384,7 @@ fn what_if_in<'a>(
     period: u16,
     file: &'a str,
 ) -> BookRequest<'a>
-    ensures { IsNumber (rows_in found.now) (codes "period") period
-        → IsForm (rows_in found.now) form
+    ensures { IsPeriod (rows_in found.now) period → IsForm (rows_in found.now) form
         → IsText (rows_in found.now) (codes "tariff") file.entry
         → IsOfBooks (codes "statement") (rows_in found.now) result }
 {
@@ -404,8 +398,7 @@ fn what_if_in<'a>(
 }
 
 fn charged_in<'a>(found: &ArgMatches<'a>, csv: bool, period: u16) -> BookRequest<'a>
-    ensures { IsNumber (rows_in found.now) (codes "period") period
-        → IsFlag (rows_in found.now) (codes "csv") csv
+    ensures { IsPeriod (rows_in found.now) period → IsCsv (rows_in found.now) csv
         → IsLeftOut (rows_in found.now) (codes "tariff")
         → IsOfBooks (codes "statement") (rows_in found.now) result }
 {
@@ -428,8 +421,7 @@ fn details_in<'a>(found: &ArgMatches<'a>) -> Option<BookRequest<'a>>
 }
 
 fn details_of<'a>(found: &ArgMatches<'a>, csv: bool, period: u16) -> BookRequest<'a>
-    ensures { IsNumber (rows_in found.now) (codes "period") period
-        → IsFlag (rows_in found.now) (codes "csv") csv
+    ensures { IsPeriod (rows_in found.now) period → IsCsv (rows_in found.now) csv
         → IsOfBooks (codes "details") (rows_in found.now) result }
 {
     let centre = text_in(found, "centre");
@@ -452,8 +444,7 @@ fn bill_in<'a>(found: &ArgMatches<'a>) -> Option<BookRequest<'a>>
 }
 
 fn bill_of<'a>(found: &ArgMatches<'a>, form: StatementForm, period: u16) -> BookRequest<'a>
-    ensures { IsNumber (rows_in found.now) (codes "period") period
-        → IsForm (rows_in found.now) form
+    ensures { IsPeriod (rows_in found.now) period → IsForm (rows_in found.now) form
         → IsOfBooks (codes "bill") (rows_in found.now) result }
 {
     let centre = text_in(found, "centre");

@@ -1,17 +1,14 @@
 use Rattle.std.proofs.Common.{refl}
 use Rattle.book_audit.specs.Copies.{IsCopied}
-use Rattle.office.specs.Shelves.{IsUntouched}
-use Rattle.office.proofs.ShelfLemmas.{untouched}
 use Rattle.chargectl.proofs.AuditLemmas.{audits_none}
 use Rattle.chargectl.proofs.audits.back_up.Goals as goal
 
 pub returns-in_err-expect : goal.returns-in_err-expect
 returns-in_err-expect g c =
     let shelf = g.S.Repository.shelf c.args.repository.now in
-    audits_none (IsCopied c.args.book.now c.args.copy.now shelf shelf) (shelf.has_log c.args.book.now)
-    (IsUntouched c.args.book.now shelf shelf)
+    audits_none (IsCopied c.args.book.now c.args.copy.now shelf shelf) c.args.book.now shelf
     (g.O.Write.contents c.args.output.now) c.in_err-expect.field-0.0 c.from_residual.result
-    c.from_residual.ensures.0 c.from_residual.ensures.1 (untouched c.args.book.now shelf)
+    c.from_residual.ensures.0 c.from_residual.ensures.1
 
 pub returns : goal.returns
 returns g c = record {

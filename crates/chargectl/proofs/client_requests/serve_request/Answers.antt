@@ -1,43 +1,46 @@
-use Rattle.std.proofs.Common.{subst}
+use Rattle.std.proofs.Common.{Err, ap, subst}
 use Rattle.streams.specs.Sources.{has_ended}
 use Rattle.book_http.specs.declared.requested.Requested.TheVariants as requested
-use Rattle.book_http.specs.Reads.{bytes_read}
 use Rattle.book_http.specs.Requested.{IsAsking}
+use Rattle.book_http.proofs.ReadLemmas.{gave_as}
 use Rattle.chargectl.proofs.ClientLemmas.{served_from, settled}
 use Rattle.chargectl.proofs.client_requests.serve_request.Goals as goal
 
 pub returns-in-Ok-Settled-clause-served : goal.returns-in-Ok-Settled-clause-served
 returns-in-Ok-Settled-clause-served g c =
     let contents = g.W.Write.contents in
-    let place = g.S.Repository.shelf c.args.repository.now in
-    let read = c.in-Ok-Settled.ensures.asks in
-    let taken = bytes_read read.0 in
+    let shelf = g.S.Repository.shelf in
+    let old = c.args.repository.now in
     let ended = has_ended c.read_request.new.source in
     let held = contents c.args.writer in
     let sent = c.send_to in
-    let holds = contents sent.result.1 in (
-      read.0,
-      read.1,
-      served_from c.args.book.now place place taken ended held holds sent.result.0
-          sent.ensures.answered
-          (record {
-            request = requested.Settled c.in-Ok-Settled.answer;
-            asks = subst (λ request. IsAsking ended taken request) c.in-Ok-Settled.field-0-is read.2;
-            answered = settled c.args.book.now place c.in-Ok-Settled.answer held holds sent.result.0
-                sent.ensures.sent;
-          }),
-    )
+    let holds = contents sent.result.1 in
+    gave_as c.in-Ok-Settled.ensures.asks
+    (λ taken asking. served_from shelf old old c.args.book.now taken ended held holds sent.result.0
+    sent.ensures.answered
+    (record {
+      request = requested.Settled c.in-Ok-Settled.answer;
+      asks = subst (λ request. IsAsking ended taken request) c.in-Ok-Settled.field-0-is asking;
+      answered = settled c.args.book.now (shelf old) c.in-Ok-Settled.answer held holds sent.result.0
+          sent.ensures.sent;
+    }))
 
 pub returns-in-Ok-clause-served : goal.returns-in-Ok-clause-served
 returns-in-Ok-clause-served g c =
     let contents = g.W.Write.contents in
-    let shelf = g.S.Repository.shelf in
-    let read = c.in-Ok.ensures.asks in
-    let from = c.answer_from_books in (
-      read.0,
-      read.1,
-      served_from c.args.book.now (shelf c.args.repository.now) (shelf from.new.repository)
-          (bytes_read read.0) (has_ended c.read_request.new.source) (contents c.args.writer)
-          (contents from.result.1) from.result.0 from.ensures.answered
-          (record { request = c.in-Ok.request; asks = read.2; answered = from.ensures.from }),
-    )
+    let from = c.answer_from_books in
+    gave_as c.in-Ok.ensures.asks
+    (λ taken asking. served_from g.S.Repository.shelf c.args.repository.now from.new.repository
+    c.args.book.now taken (has_ended c.read_request.new.source) (contents c.args.writer)
+    (contents from.result.1) from.result.0 from.ensures.answered
+    (record { request = c.in-Ok.request; asks = asking; answered = from.ensures.from }))
+
+pub returns-in-Err-Closed-clause-served : goal.returns-in-Err-Closed-clause-served
+returns-in-Err-Closed-clause-served g c =
+    let closed = c.in-Err-Closed in
+    gave_as (rw closed.field-0-is at closed.ensures.asks)
+    (λ taken none. (none, closed.ensures.closed (ap Err closed.field-0-is)))
+
+pub returns-in-Err-Failed-clause-served : goal.returns-in-Err-Failed-clause-served
+returns-in-Err-Failed-clause-served g c =
+    gave_as c.in-Err-Failed.ensures.asks (λ taken failed. tt)

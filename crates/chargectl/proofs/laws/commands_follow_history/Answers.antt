@@ -5,4 +5,4 @@ use Rattle.chargectl.proofs.laws.commands_follow_history.Goals as goal
 pub returns : goal.returns
 returns g c =
     commands_follow_history g.S.Repository.shelf
-    (λ quiet lines said. AreSaid g.E.Write.contents g.E.Writer.may_answer lines quiet said)
+    (AreSaid g.E.Write.contents g.E.Writer.may_answer)

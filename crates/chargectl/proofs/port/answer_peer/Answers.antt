@@ -7,15 +7,15 @@ pub returns-in-Answered-clause-served : goal.returns-in-Answered-clause-served
 returns-in-Answered-clause-served g c =
     let told = c.serve_request-served.ensures.served in
     served_one g.S.Repository.shelf c.args.repository.now c.serve_request-served.new.repository
-    c.args.book.now (bytes_read told.0) (has_ended c.serve_request-served.new.source) _ _
-    c.serve_request-served.result.0 told.2 c.serve_request-served.ensures.closed
+    c.args.book.now (bytes_read told.reads) (has_ended c.serve_request-served.new.source) _ _
+    c.serve_request-served.result.0 told.gave c.serve_request-served.ensures.closed
 
 pub returns-in_default-clause-served : goal.returns-in_default-clause-served
 returns-in_default-clause-served g c =
     let told = c.serve_request-served.ensures.served in
     served_one g.S.Repository.shelf c.args.repository.now c.serve_request-served.new.repository
-    c.args.book.now (bytes_read told.0) (has_ended c.serve_request-served.new.source) _ _
-    c.serve_request-served.result.0 told.2 c.serve_request-served.ensures.closed
+    c.args.book.now (bytes_read told.reads) (has_ended c.serve_request-served.new.source) _ _
+    c.serve_request-served.result.0 told.gave c.serve_request-served.ensures.closed
 
 pub returns-in_default-clause-drained : goal.returns-in_default-clause-drained
 returns-in_default-clause-drained g c = λ answered.

@@ -1,11 +1,11 @@
-use Rattle.chargectl.specs.ServedLines.{lines_seen}
+use Rattle.chargectl.specs.ServedLines.{seen_of}
 use Rattle.chargectl.proofs.ServingLemmas.{serving_cut, serving_more, serving_none}
 use Rattle.chargectl.proofs.serve.serve_each.Goals as goal
 
 pub loop-connections-init : goal.loop-connections-init
 loop-connections-init g c = record {
   serving = serving_none c.args.book.now (g.S.Repository.shelf c.args.repository.now)
-      (g.C.Connections.left c.args.connections.now) (lines_seen g.O.Write.contents c.args.lines.now);
+      (g.C.Connections.left c.args.connections.now) (seen_of g.O.Write.contents c.args.lines.now);
   log = c.requires;
 }
 
@@ -15,8 +15,8 @@ returns-in_err-served-clause-served g c =
     c.loop-connections.repository c.next.new.repository
     (g.C.Connections.left c.args.connections.now)
     (g.C.Connections.left c.loop-connections.connections) (g.C.Connections.left c.next.new.self)
-    (lines_seen g.O.Write.contents c.args.lines.now)
-    (lines_seen g.O.Write.contents c.loop-connections.lines) c.from_residual.result
+    (seen_of g.O.Write.contents c.args.lines.now)
+    (seen_of g.O.Write.contents c.loop-connections.lines) c.from_residual.result
     c.from_residual.ensures.0 c.in_err-served.ensures.none c.next.ensures.left
     c.loop-connections.invariant.serving
 
@@ -24,7 +24,7 @@ pub loop-connections-preserved : goal.loop-connections-preserved
 loop-connections-preserved g c =
     let shelf = g.S.Repository.shelf in
     let left = g.C.Connections.left in
-    let seen = lines_seen g.O.Write.contents in
+    let seen = seen_of g.O.Write.contents in
     record {
       serving = serving_more c.args.book.now (shelf c.args.repository.now)
           (shelf c.loop-connections.repository) (shelf c.next.new.repository)

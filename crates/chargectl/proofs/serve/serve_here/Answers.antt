@@ -1,11 +1,11 @@
-use Rattle.chargectl.specs.ServedLines.{lines_seen}
+use Rattle.chargectl.specs.ServedLines.{seen_of}
 use Rattle.chargectl.proofs.ServingLemmas.{serves_all, serves_cut}
 use Rattle.chargectl.proofs.serve.serve_here.Goals as goal
 
 pub returns-in-Ok : goal.returns-in-Ok
 returns-in-Ok g c =
     let contents = g.O.Write.contents in
-    let seen = lines_seen contents in
+    let seen = seen_of contents in
     let shelf = g.S.Repository.shelf in
     serves_all c.args.book.now (shelf c.args.repository.now) (shelf c.serve_each.new.repository)
     c.args.requests c.over-port.result.left c.serve_each.new.connections.left
@@ -18,7 +18,7 @@ returns-in-Ok g c =
 pub returns-in-Err : goal.returns-in-Err
 returns-in-Err g c =
     let contents = g.O.Write.contents in
-    let seen = lines_seen contents in
+    let seen = seen_of contents in
     let shelf = g.S.Repository.shelf in
     serves_cut c.args.book.now (shelf c.args.repository.now) (shelf c.serve_each.new.repository)
     c.args.requests c.over-port.result.left _ (contents c.args.output)
