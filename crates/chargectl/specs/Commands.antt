@@ -28,6 +28,8 @@ use Rattle.office.specs.Shelves.{Shelf, IsOpened, IsUntouched}
 use Rattle.office.proofs.LawLemmas.{asks_answered}
 use Rattle.command_line.specs.declared.request.BookRequest.{BookRequest}
 use Rattle.command_line.specs.declared.request.BookRequest.TheVariants as book
+use Rattle.command_line.specs.declared.request.Ruling.{Ruling}
+use Rattle.command_line.specs.declared.request.Ruling.TheVariants as ruling
 use Rattle.program_output.specs.Names.{name_in}
 use Rattle.chargectl.specs.declared.command_fault.CommandFault.{CommandFault}
 use Rattle.chargectl.specs.declared.command_fault.CommandFault.TheVariants as fault
@@ -206,6 +208,13 @@ IsNoticedBy (book.Import dump) asked name old new answered = (looked : Bool)
     × IsLookedAt dump.layout None looked × (answered.notice ≡ answer_notice looked answered.answer)
 IsNoticedBy request asked name old new answered = answered.notice ≡ None
 
+-- a ruling has a day, which may be far from the records
+abbrev pub is_dated : Ruling → Bool
+is_dated (ruling.Tariff file) = true
+is_dated (ruling.Close period date) = true
+is_dated (ruling.Choose digest) = false
+is_dated ruling.Adopt = false
+
 -- a command asked what its words ask
 pub record Asking (request : BookRequest) (book : List ℕ) (old new : Shelf) (answered : Answered)
     : Type 0 where
@@ -218,6 +227,13 @@ pub record Asking (request : BookRequest) (book : List ℕ) (old new : Shelf) (a
 abbrev pub ComesOf : BookRequest → List ℕ → Shelf → Shelf → Result Answered CommandFault → Type 0
 ComesOf request book old new (Ok answered) = Asking request book old new answered
 ComesOf request book old new (Err why) = AsksNothing request why × IsUntouched book old new
+
+-- The books of a name were asked for a report, once. Or nothing was asked: a word is not what it has to
+-- be, or there is nothing of that name.
+abbrev pub ReportsBy : Option Report → List ℕ → Shelf → Shelf → Result Answered CommandFault → Type 0
+ReportsBy made book old new (Ok answered) = (report : Report) × (made ≡ Some report)
+    × IsAnswered (asks.Report report) book old new answered × (answered.notice ≡ None)
+ReportsBy made book old new (Err why) = IsWordFault made IsShelfFault why × IsUntouched book old new
 
 -- the first fault
 abbrev pub first_fault : Result (Unit {0}) CommandFault → Result (Unit {0}) CommandFault

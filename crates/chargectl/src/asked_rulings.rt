@@ -32,7 +32,7 @@ pub(crate) fn asked_ruling<S: Repository>(
 }
 
 /// What is asked for a tariff, by its file.
-pub(crate) fn asked_tariff<S: Repository>(
+fn asked_tariff<S: Repository>(
     rt: &HostRuntime,
     repository: &S,
     book: &str,
@@ -46,7 +46,7 @@ pub(crate) fn asked_tariff<S: Repository>(
 }
 
 /// What is asked for a close.
-pub(crate) fn asked_close<S: Repository>(
+fn asked_close<S: Repository>(
     repository: &S,
     book: &str,
     period: u16,
@@ -63,7 +63,7 @@ pub(crate) fn asked_close<S: Repository>(
 }
 
 /// What is asked for a choice.
-pub(crate) fn asked_choice<S: Repository>(
+fn asked_choice<S: Repository>(
     repository: &S,
     book: &str,
     name: &str,
@@ -79,7 +79,7 @@ pub(crate) fn asked_choice<S: Repository>(
 }
 
 /// What is asked for the adoption of the later rule of identity.
-pub(crate) fn asked_adoption<S: Repository>(
+fn asked_adoption<S: Repository>(
     repository: &S,
     book: &str,
 ) -> Result<Asked, CommandFault>

@@ -7,12 +7,13 @@ ghost use Rattle.book_core.specs.Transition.{IsTransition};
 ghost use Rattle.office.specs.Answers.{answer_text};
 ghost use Rattle.office.specs.Requests.{IsAskableUnread, response_by, response_of};
 ghost use Rattle.office.proofs.AskLemmas.{askable_once};
+ghost use Rattle.command_line.specs.Requests.{request_of};
 ghost use Rattle.chargectl.specs.Commands as spec;
 ghost use Rattle.chargectl.specs.Commands.{AsksOnce, once_answered, ComesOf, IsAnswered, IsPrinted};
 ghost use Rattle.chargectl.specs.Commands.{IsTextFault, IsTold, Tells, TellsAnswered, answer_of};
 ghost use Rattle.chargectl.specs.Commands.{ends_by};
 
-use crate::asked_rulings::{asked_adoption, asked_choice, asked_close, asked_tariff};
+use crate::asked_rulings::asked_ruling;
 use crate::command_fault::{CommandFault, ended};
 use crate::dated_rulings::rule_on_day;
 use crate::ended::{Answered, Ended};
@@ -20,7 +21,7 @@ use crate::first_bytes::{LookedAt, look_at};
 use crate::notice::{Notice, layout_notice};
 use crate::progress::{WatchedReader, clear_line};
 use book_core::{Ledger, LedgerFault, Sink, Source};
-use command_line::{BookRequest, DumpFile};
+use command_line::{BookRequest, DumpFile, Ruling};
 use office::{Answer, Asked, Opened, Repository, RepositoryFault, Visit, ask, write_answer};
 use std::alloc::Global;
 use std::io::{IsTerminal, Read, Write};
@@ -198,18 +199,35 @@ pub(crate) fn print<O: Write + Drop>(answer: &Answer, output: O) -> (Result<(), 
     }
 }
 
-/// Submits a tariff.
-pub(crate) fn tariff<'a, S: Repository>(
+/// It has a day, which may be far from the records.
+fn is_dated(ruling: Ruling<'_>) -> bool
+    ensures { result ≡ spec.is_dated ruling.entry }
+{
+    match ruling {
+        Ruling::Tariff { .. } => true,
+        Ruling::Close { .. } => true,
+        Ruling::Choose { .. } => false,
+        Ruling::Adopt => false,
+    }
+}
+
+/// Makes a ruling on the books of a name.
+#[tactic(auto, using(crate::proofs::FarLemmas::ruling_unread))]
+pub(crate) fn rule<S: Repository>(
     rt: &HostRuntime,
     repository: &mut S,
     book: &str,
-    file: &'a str,
+    ruling: Ruling<'_>,
 ) -> Result<Answered, CommandFault>
-    ensures { ComesOf (BookRequest.Tariff file.entry) book.now
+    ensures { ComesOf (request_of ruling.entry) book.now
         (S.shelf repository.old) (S.shelf repository.new) result }
 {
-    let asked = asked_tariff(rt, repository, book, file)?;
-    Ok(rule_on_day(rt.alloc(), repository, book, asked))
+    let asked = asked_ruling(rt, repository, book, ruling)?;
+    if is_dated(ruling) {
+        Ok(rule_on_day(rt.alloc(), repository, book, asked))
+    } else {
+        Ok(ask_books(rt, repository, book, asked, io::empty()))
+    }
 }
 
 /// The text of a tariff file.
@@ -227,50 +245,6 @@ pub(crate) fn tariff_text(rt: &HostRuntime, file: &str) -> Result<String, Comman
         Ok(text) => Ok(text),
         Err(_) => Err(CommandFault::Ledger(LedgerFault::TariffRefused(TariffFault::Syntax))),
     }
-}
-
-/// Closes a period through a day.
-pub(crate) fn close<S: Repository>(
-    rt: &HostRuntime,
-    repository: &mut S,
-    book: &str,
-    period: u16,
-    date: &str,
-) -> Result<Answered, CommandFault>
-    ensures { ComesOf (BookRequest.Close period date.entry) book.now
-        (S.shelf repository.old) (S.shelf repository.new) result }
-{
-    let asked = asked_close(repository, book, period, date)?;
-    Ok(rule_on_day(rt.alloc(), repository, book, asked))
-}
-
-/// Chooses the record of a name.
-#[tactic(auto, using(crate::proofs::FarLemmas::ruling_unread))]
-pub(crate) fn choose<S: Repository>(
-    rt: &HostRuntime,
-    repository: &mut S,
-    book: &str,
-    name: &str,
-) -> Result<Answered, CommandFault>
-    ensures { ComesOf (BookRequest.Choose name.entry) book.now
-        (S.shelf repository.old) (S.shelf repository.new) result }
-{
-    let asked = asked_choice(repository, book, name)?;
-    Ok(ask_books(rt, repository, book, asked, io::empty()))
-}
-
-/// Adopts the later rule of identity.
-#[tactic(auto, using(crate::proofs::FarLemmas::ruling_unread))]
-pub(crate) fn adopt<S: Repository>(
-    rt: &HostRuntime,
-    repository: &mut S,
-    book: &str,
-) -> Result<Answered, CommandFault>
-    ensures { ComesOf BookRequest.Adopt book.now
-        (S.shelf repository.old) (S.shelf repository.new) result }
-{
-    let asked = asked_adoption(repository, book)?;
-    Ok(ask_books(rt, repository, book, asked, io::empty()))
 }
 
 /// Reads a dump into the books, whatever stops the import.

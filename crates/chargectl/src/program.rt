@@ -11,7 +11,7 @@ ghost use Rattle.chargectl.specs.Reading.{check_end, lasting, trial_end};
 ghost use Rattle.chargectl.specs.Requests.{CommandsBy, Does, IsRefusedFor, Runs};
 
 use crate::audits::{audit, back_up};
-use crate::book_commands::{adopt, choose, close, import_dump, tariff, tariff_text, tell};
+use crate::book_commands::{import_dump, rule, tariff_text, tell};
 use crate::choices::choose_listed;
 use crate::command_fault::CommandFault;
 use crate::dry_runs::dry_run;
@@ -29,7 +29,9 @@ use book_audit::AuditedRepository;
 use book_core::{LedgerFault, Sink, Source};
 use book_import::{MAX_READS, Receipt, Stop};
 use book_reports::ReportFault;
-use command_line::{ArgumentFault, BookRequest, DumpFile, NumberKind, Request, requested_by};
+use command_line::{
+    ArgumentFault, BookRequest, DumpFile, NumberKind, Request, Ruling, requested_by,
+};
 use office::RepositoryFault;
 use program_output::{
     Explanation, FaultKind, PROGRAM, Status, WordKind, check_list, explained, io_failed,
@@ -118,14 +120,18 @@ fn run_on_books<S: AuditedRepository, O: Write + Drop>(
             let came = made(repository.make(book));
             (Ended::without_log(came), output)
         }
-        BookRequest::Tariff { file } => tell(tariff(rt, repository, book, file), output),
+        BookRequest::Tariff { file } => {
+            tell(rule(rt, repository, book, Ruling::Tariff { file }), output)
+        }
         BookRequest::Import(dump) => tell(import_dump(rt, repository, book, dump), output),
         BookRequest::Close { period, date } => {
-            tell(close(rt, repository, book, period, date), output)
+            tell(rule(rt, repository, book, Ruling::Close { period, date }), output)
         }
-        BookRequest::Choose { name } => tell(choose(rt, repository, book, name), output),
+        BookRequest::Choose { name } => {
+            tell(rule(rt, repository, book, Ruling::Choose { name }), output)
+        }
         BookRequest::ChooseListed { file } => choose_listed(rt, repository, book, file, output),
-        BookRequest::Adopt => tell(adopt(rt, repository, book), output),
+        BookRequest::Adopt => tell(rule(rt, repository, book, Ruling::Adopt), output),
         BookRequest::DryRun(ruling) => tell(dry_run(rt, repository, book, ruling), output),
         BookRequest::OfPeriod {
             report,

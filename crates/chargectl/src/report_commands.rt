@@ -1,9 +1,12 @@
 //! The commands that ask books for a report. Faults are found in the order of `book_commands`: a
 //! date or a name, the books, the file of a tariff, and what the books say.
 
-ghost use Rattle.std.specs.Prelude.{◌≡◌};
+ghost use Rattle.std.specs.Prelude.{◌≡◌, option_map};
+ghost use Rattle.smf_text.specs.Day.{day_of_text_of};
+ghost use Rattle.book_reports.specs.declared.report.Report.TheVariants.{Record, TariffText};
+ghost use Rattle.program_output.specs.Names.{name_in};
 ghost use Rattle.chargectl.specs.Commands as spec;
-ghost use Rattle.chargectl.specs.Commands.{ComesOf};
+ghost use Rattle.chargectl.specs.Commands.{ComesOf, ReportsBy};
 
 use crate::book_commands::{ask_books, tariff_text};
 use crate::command_fault::CommandFault;
@@ -16,6 +19,24 @@ use program_output::name_of_text;
 use smf_text::day_of_text;
 use std::io;
 
+/// Asks the books of a name for a report. `None`: a word is not what it has to be.
+fn ask_report<S: Repository>(
+    rt: &HostRuntime,
+    repository: &mut S,
+    book: &str,
+    report: Option<Report>,
+) -> Result<Answered, CommandFault>
+    ensures { ReportsBy report book.now (S.shelf repository.old) (S.shelf repository.new) result }
+{
+    let made = match report {
+        Some(made) => made,
+        None => return Err(CommandFault::Argument),
+    };
+    repository.expect(book)?;
+    let asked = Asked::Report(made);
+    Ok(ask_books(rt, repository, book, asked, io::empty()))
+}
+
 /// Makes the list of periods.
 pub(crate) fn report_periods<S: Repository>(
     rt: &HostRuntime,
@@ -25,9 +46,7 @@ pub(crate) fn report_periods<S: Repository>(
     ensures { ComesOf BookRequest.Periods book.now
         (S.shelf repository.old) (S.shelf repository.new) result }
 {
-    repository.expect(book)?;
-    let asked = Asked::Report(Report::PeriodList);
-    Ok(ask_books(rt, repository, book, asked, io::empty()))
+    ask_report(rt, repository, book, Some(Report::PeriodList))
 }
 
 /// Makes the page of a period.
@@ -40,9 +59,7 @@ pub(crate) fn report_page<S: Repository>(
     ensures { ComesOf (BookRequest.Page period) book.now
         (S.shelf repository.old) (S.shelf repository.new) result }
 {
-    repository.expect(book)?;
-    let asked = Asked::Report(Report::PeriodPage(period));
-    Ok(ask_books(rt, repository, book, asked, io::empty()))
+    ask_report(rt, repository, book, Some(Report::PeriodPage(period)))
 }
 
 /// Makes the report of the record of a name.
@@ -55,13 +72,17 @@ pub(crate) fn report_record<S: Repository>(
     ensures { ComesOf (BookRequest.Record name.entry) book.now
         (S.shelf repository.old) (S.shelf repository.new) result }
 {
-    let named = match name_of_text(name) {
-        Some(named) => named,
-        None => return Err(CommandFault::Argument),
-    };
-    repository.expect(book)?;
-    let asked = Asked::Report(Report::Record(named));
-    Ok(ask_books(rt, repository, book, asked, io::empty()))
+    ask_report(rt, repository, book, record_report(name))
+}
+
+/// The report. `None`: the text is no name.
+fn record_report(name: &str) -> Option<Report>
+    ensures { result ≡ option_map Record (name_in name.now) }
+{
+    match name_of_text(name) {
+        Some(named) => Some(Report::Record(named)),
+        None => None,
+    }
 }
 
 /// Gives back the tariff file that begins on a day.
@@ -74,13 +95,17 @@ pub(crate) fn report_tariff<S: Repository>(
     ensures { ComesOf (BookRequest.TariffText date.entry) book.now
         (S.shelf repository.old) (S.shelf repository.new) result }
 {
-    let day = match day_of_text(date) {
-        Some(day) => day,
-        None => return Err(CommandFault::Argument),
-    };
-    repository.expect(book)?;
-    let asked = Asked::Report(Report::TariffText(day));
-    Ok(ask_books(rt, repository, book, asked, io::empty()))
+    ask_report(rt, repository, book, tariff_report(date))
+}
+
+/// The report. `None`: the text is no day.
+fn tariff_report(date: &str) -> Option<Report>
+    ensures { result ≡ option_map TariffText (day_of_text_of date.now) }
+{
+    match day_of_text(date) {
+        Some(day) => Some(Report::TariffText(day)),
+        None => None,
+    }
 }
 
 /// Makes what a period has, of one centre or of the whole office.
@@ -95,13 +120,7 @@ pub(crate) fn report_period<S: Repository>(
     ensures { ComesOf (BookRequest.OfPeriod report period centre.entry) book.now
         (S.shelf repository.old) (S.shelf repository.new) result }
 {
-    let made = match period_report(report, period, centre) {
-        Some(made) => made,
-        None => return Err(CommandFault::Argument),
-    };
-    repository.expect(book)?;
-    let asked = Asked::Report(made);
-    Ok(ask_books(rt, repository, book, asked, io::empty()))
+    ask_report(rt, repository, book, period_report(report, period, centre))
 }
 
 /// The report, of the whole office where no centre is named. `None`: the text is no name.
@@ -133,13 +152,7 @@ pub(crate) fn report_bill<S: Repository>(
     ensures { ComesOf (BookRequest.Bill form period centre.entry) book.now
         (S.shelf repository.old) (S.shelf repository.new) result }
 {
-    let made = match bill_of(form, period, centre) {
-        Some(made) => made,
-        None => return Err(CommandFault::Argument),
-    };
-    repository.expect(book)?;
-    let asked = Asked::Report(made);
-    Ok(ask_books(rt, repository, book, asked, io::empty()))
+    ask_report(rt, repository, book, bill_of(form, period, centre))
 }
 
 /// The bill, of the whole office where no centre is named. `None`: the text is no name.

@@ -11,11 +11,10 @@ use crate::ended::Ended;
 use crate::port::{Connections, Port, listen_here};
 use crate::served_lines::ServedLines;
 use arrayvec::ArrayString;
-use book_core::Ledger;
 use book_http::Served;
 use book_reports::ReportFault;
 use itoa::Buffer;
-use office::{Opened, Repository, RepositoryFault, Visit};
+use office::{Look, Opened, Repository, RepositoryFault};
 use std::io;
 use std::io::Write;
 use std::net::TcpListener;
@@ -54,25 +53,6 @@ pub(crate) fn serve<S: Repository, O: Write + Drop>(
         }
         Err(fault) => (Ok(ended(Err(fault), has_log)), output),
     }
-}
-
-/// A visit that asks the books nothing: they can be opened.
-#[derive(Drop)]
-struct Look;
-
-impl Visit for Look {
-    ghost use Rattle.book_core.specs.Transition.{NoEvent};
-    ghost use Rattle.book_core.proofs.FollowLemmas.{none_answered};
-
-    type Answer = ();
-
-    ghost work = { λ _ _ _ _. NoEvent };
-
-    ghost comes = { λ _ _ _. Unit {0} };
-
-    ghost answered = { λ naming _ _ _. none_answered naming };
-
-    fn visit<L: Ledger>(&mut self, _books: &mut L) {}
 }
 
 /// Takes the port, where the books were opened.

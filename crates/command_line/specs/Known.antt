@@ -1,7 +1,8 @@
 -- The table of the commands, and what words are by it.
 use Rattle.std.specs.Prelude.{◌≡◌, ℕ, ℤ, pos, Bool, true, false, List, [], ◌∷◌, Option, map, codes}
 use Rattle.std.specs.List.{list_all}
-use Rattle.std.specs.Prelude.{Result, Ok, Err, IsSomeAnd, String, Global, string_bytes}
+use Rattle.std.specs.Prelude.{Result, Ok, Err, IsSomeAnd, String, string_bytes}
+use Rattle.std.specs.Global.{Global}
 use Rattle.clap.specs.Faults.{fault_of, is_simple_and_free}
 use Rattle.clap.specs.Kinds.{Kinds, IsAmong}
 use Rattle.clap.specs.Simple.{Shape, is_simple, subcommand_of}

@@ -1,8 +1,7 @@
 use Rattle.std.proofs.Common.{inl, inr, refl}
 use Rattle.command_line.specs.declared.request.BookRequest.TheVariants as book
-use Rattle.chargectl.specs.Commands.{AsksNothing}
 use Rattle.chargectl.specs.Faults.{shelf_fault}
-use Rattle.chargectl.proofs.CommandLemmas.{not_asked, of_kind}
+use Rattle.chargectl.proofs.CommandLemmas.{not_asked}
 use Rattle.office.specs.declared.request.Asked.TheVariants as asks
 use Rattle.std.specs.IoError.{error_kind}
 use Rattle.chargectl.specs.Faults.{io_fault}
@@ -10,20 +9,17 @@ use Rattle.chargectl.proofs.book_commands.import_dump.Goals as goal
 
 pub returns-in_err-expect : goal.returns-in_err-expect
 returns-in_err-expect g c =
-    let request = book.Import c.args.dump in
-    not_asked request c.args.book.now (g.S.Repository.shelf c.args.repository.now)
-    c.from_residual.result c.from_residual.ensures.0
-    (of_kind c.from_residual.result (shelf_fault c.in_err-expect.field-0.0) (AsksNothing request)
-    c.from_residual.ensures.1 (inl (c.in_err-expect.field-0.0, refl)))
+    not_asked (book.Import c.args.dump) c.args.book.now
+    (g.S.Repository.shelf c.args.repository.now) c.from_residual.result
+    (shelf_fault c.in_err-expect.field-0.0) c.from_residual.ensures.0
+    c.from_residual.ensures.1 (inl (c.in_err-expect.field-0.0, refl))
 
 pub returns-in_err-input : goal.returns-in_err-input
 returns-in_err-input g c =
-    let request = book.Import c.args.dump in
-    not_asked request c.args.book.now (g.S.Repository.shelf c.args.repository.now)
-    c.from_residual-in_err-input.result c.from_residual-in_err-input.ensures.0
-    (of_kind c.from_residual-in_err-input.result (io_fault (error_kind c.in_err-input.field-0.0))
-    (AsksNothing request) c.from_residual-in_err-input.ensures.1
-    (inr (error_kind c.in_err-input.field-0.0, refl)))
+    not_asked (book.Import c.args.dump) c.args.book.now
+    (g.S.Repository.shelf c.args.repository.now) c.from_residual-in_err-input.result
+    (io_fault (error_kind c.in_err-input.field-0.0)) c.from_residual-in_err-input.ensures.0
+    c.from_residual-in_err-input.ensures.1 (inr (error_kind c.in_err-input.field-0.0, refl))
 
 pub returns : goal.returns
 returns g c = record {

@@ -1,32 +1,14 @@
-use Rattle.std.proofs.Common.{◌∙◌, refl, sym}
+use Rattle.chargectl.specs.Commands.{period_report}
 use Rattle.command_line.specs.declared.request.BookRequest.TheVariants as book
-use Rattle.chargectl.specs.Commands.{AsksNothing, IsShelfFault}
-use Rattle.chargectl.specs.Faults.{shelf_fault}
-use Rattle.chargectl.proofs.CommandLemmas.{not_asked, of_kind, word_gone, word_there}
-use Rattle.office.specs.declared.request.Asked.TheVariants as asks
-use Rattle.office.proofs.ShelfLemmas.{untouched}
+use Rattle.chargectl.proofs.CommandLemmas.{reports}
 use Rattle.chargectl.proofs.report_commands.report_period.Goals as goal
 
-pub returns-in-None : goal.returns-in-None
-returns-in-None g c = (
-  word_gone _ IsShelfFault (sym c.period_report.ensures ∙ c.in-None.is),
-  untouched c.args.book.now (g.S.Repository.shelf c.args.repository.now),
-)
-
-pub returns-in_err-expect : goal.returns-in_err-expect
-returns-in_err-expect g c =
-    let request = book.OfPeriod c.args.report c.args.period c.args.centre in
-    not_asked request c.args.book.now (g.S.Repository.shelf c.args.repository.now)
-    c.from_residual.result c.from_residual.ensures.0
-    (of_kind c.from_residual.result (shelf_fault c.in_err-expect.field-0.0) (AsksNothing request)
-    c.from_residual.ensures.1
-    (word_there _ c.in-Some.made IsShelfFault (shelf_fault c.in_err-expect.field-0.0)
-    (sym c.period_report.ensures ∙ c.in-Some.is) (c.in_err-expect.field-0.0, refl)))
-
 pub returns : goal.returns
-returns g c = record {
-  asked = asks.Report c.in-Some.made;
-  words = sym c.period_report.ensures ∙ c.in-Some.is;
-  came = c.ask_books.ensures.answered;
-  notice = c.ask_books.ensures.notice;
-}
+returns g c =
+    let shelf = g.S.Repository.shelf in
+    let known = period_report c.args.report c.args.period c.args.centre in
+    reports (book.OfPeriod c.args.report c.args.period c.args.centre) c.period_report.result known c.args.book.now
+    (shelf c.args.repository.now) (shelf c.ask_report.new.repository) c.ask_report.result
+    c.period_report.ensures (λ report is. is) (λ report answered none. none)
+    (λ why fault. fault)
+    c.ask_report.ensures

@@ -1,34 +1,17 @@
-use Rattle.std.proofs.Common.{◌∙◌, ap, refl, sym}
 use Rattle.std.specs.Option.{option_map}
 use Rattle.book_reports.specs.declared.report.Report.TheVariants.{Record}
+use Rattle.program_output.specs.Names.{name_in}
+use Rattle.chargectl.specs.Commands.{IsShelfFault}
 use Rattle.command_line.specs.declared.request.BookRequest.TheVariants as book
-use Rattle.chargectl.specs.Commands.{AsksNothing, IsShelfFault}
-use Rattle.chargectl.specs.Faults.{shelf_fault}
-use Rattle.chargectl.proofs.CommandLemmas.{not_asked, of_kind, word_gone, word_there}
-use Rattle.office.specs.declared.request.Asked.TheVariants as asks
-use Rattle.office.proofs.ShelfLemmas.{untouched}
+use Rattle.chargectl.proofs.CommandLemmas.{reports, word_mapped}
 use Rattle.chargectl.proofs.report_commands.report_record.Goals as goal
 
-pub returns-in-None : goal.returns-in-None
-returns-in-None g c = (
-  word_gone _ IsShelfFault (sym c.name_of_text.ensures.read ∙ c.in-None.is),
-  untouched c.args.book.now (g.S.Repository.shelf c.args.repository.now),
-)
-
-pub returns-in_err-expect : goal.returns-in_err-expect
-returns-in_err-expect g c =
-    let request = book.Record c.args.name in
-    not_asked request c.args.book.now (g.S.Repository.shelf c.args.repository.now)
-    c.from_residual.result c.from_residual.ensures.0
-    (of_kind c.from_residual.result (shelf_fault c.in_err-expect.field-0.0) (AsksNothing request)
-    c.from_residual.ensures.1
-    (word_there _ c.in-Some.named IsShelfFault (shelf_fault c.in_err-expect.field-0.0)
-    (sym c.name_of_text.ensures.read ∙ c.in-Some.is) (c.in_err-expect.field-0.0, refl)))
-
 pub returns : goal.returns
-returns g c = record {
-  asked = asks.Report (Record c.in-Some.named);
-  words = ap (option_map Record) (sym c.name_of_text.ensures.read ∙ c.in-Some.is);
-  came = c.ask_books.ensures.answered;
-  notice = c.ask_books.ensures.notice;
-}
+returns g c =
+    let shelf = g.S.Repository.shelf in
+    let known = option_map Record (name_in c.args.name.now) in
+    reports (book.Record c.args.name) c.record_report.result known c.args.book.now
+    (shelf c.args.repository.now) (shelf c.ask_report.new.repository) c.ask_report.result
+    c.record_report.ensures (λ report is. is) (λ report answered none. none)
+    (λ why fault. word_mapped Record (name_in c.args.name.now) IsShelfFault why fault)
+    c.ask_report.ensures

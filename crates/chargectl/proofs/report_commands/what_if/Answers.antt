@@ -1,8 +1,8 @@
 use Rattle.std.proofs.Common.{◌∙◌, inl, inr, refl, sym}
 use Rattle.command_line.specs.declared.request.BookRequest.TheVariants as book
-use Rattle.chargectl.specs.Commands.{AsksNothing, IsTariffFault}
+use Rattle.chargectl.specs.Commands.{IsTariffFault}
 use Rattle.chargectl.specs.Faults.{shelf_fault}
-use Rattle.chargectl.proofs.CommandLemmas.{not_asked, of_kind, word_gone, word_there}
+use Rattle.chargectl.proofs.CommandLemmas.{not_asked, word_gone, word_there}
 use Rattle.office.specs.declared.request.Asked.TheVariants as asks
 use Rattle.office.proofs.ShelfLemmas.{untouched}
 use Rattle.chargectl.proofs.report_commands.what_if.Goals as goal
@@ -15,23 +15,19 @@ returns-in-None g c = (
 
 pub returns-in_err-expect : goal.returns-in_err-expect
 returns-in_err-expect g c =
-    let request = book.WhatIf c.args.form c.args.period c.args.centre c.args.file in
-    not_asked request c.args.book.now (g.S.Repository.shelf c.args.repository.now)
-    c.from_residual.result c.from_residual.ensures.0
-    (of_kind c.from_residual.result (shelf_fault c.in_err-expect.field-0.0) (AsksNothing request)
-    c.from_residual.ensures.1
-    (word_there _ c.in-Some.report IsTariffFault (shelf_fault c.in_err-expect.field-0.0)
-    (sym c.what_if_of.ensures ∙ c.in-Some.is) (inl (c.in_err-expect.field-0.0, refl))))
+    not_asked (book.WhatIf c.args.form c.args.period c.args.centre c.args.file) c.args.book.now
+    (g.S.Repository.shelf c.args.repository.now) c.from_residual.result
+    (shelf_fault c.in_err-expect.field-0.0) c.from_residual.ensures.0
+    c.from_residual.ensures.1 (word_there _ c.in-Some.report IsTariffFault (shelf_fault c.in_err-expect.field-0.0)
+    (sym c.what_if_of.ensures ∙ c.in-Some.is) (inl (c.in_err-expect.field-0.0, refl)))
 
 pub returns-in_err-tariff : goal.returns-in_err-tariff
 returns-in_err-tariff g c =
-    let request = book.WhatIf c.args.form c.args.period c.args.centre c.args.file in
-    not_asked request c.args.book.now (g.S.Repository.shelf c.args.repository.now)
-    c.from_residual-in_err-tariff.result c.from_residual-in_err-tariff.ensures.0
-    (of_kind c.from_residual-in_err-tariff.result c.in_err-tariff.field-0.0 (AsksNothing request)
-    c.from_residual-in_err-tariff.ensures.1
-    (word_there _ c.in-Some.report IsTariffFault c.in_err-tariff.field-0.0
-    (sym c.what_if_of.ensures ∙ c.in-Some.is) (inr c.in_err-tariff.ensures)))
+    not_asked (book.WhatIf c.args.form c.args.period c.args.centre c.args.file) c.args.book.now
+    (g.S.Repository.shelf c.args.repository.now) c.from_residual-in_err-tariff.result
+    c.in_err-tariff.field-0.0 c.from_residual-in_err-tariff.ensures.0
+    c.from_residual-in_err-tariff.ensures.1 (word_there _ c.in-Some.report IsTariffFault c.in_err-tariff.field-0.0
+    (sym c.what_if_of.ensures ∙ c.in-Some.is) (inr c.in_err-tariff.ensures))
 
 pub returns : goal.returns
 returns g c = record {
