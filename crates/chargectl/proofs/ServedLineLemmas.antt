@@ -1,11 +1,10 @@
 -- Lines that are written up to the first write that fails.
-use Rattle.std.proofs.Common.{◌≡◌, ◌∙◌, ◌-◌, ◌≤◌, Bool, true, false, List, ◌++◌, [], ℕ, Option, ap, sym, subst}
+use Rattle.std.proofs.Common.{◌≡◌, ◌∙◌, ◌≤◌, Bool, true, false, List, ◌++◌, [], ℕ, Option, ap, sym, subst}
 use Rattle.std.proofs.Common.{true≢false, append-nil, append_assoc, drop, length, take, take_all}
-use Rattle.std.proofs.Common.{take-append-drop, ◌+◌}
+use Rattle.std.proofs.Common.{take-append-drop}
 use Rattle.std.proofs.KnownBytes.{Appends-kept, Appends-nil, Appends-trans, Keeps-refl, Keeps-trans}
 use Rattle.std.specs.Io.KnownBytes.{Appends, Keeps}
 use Rattle.streams.specs.InputOutput.{WriterSeen}
-use Rattle.book_reports.proofs.WritingLemmas.{taken_more}
 use Rattle.chargectl.specs.ServedLines.{Gains, GainsBy}
 
 nil_by : (failed : Bool) (held : Option (List ℕ)) → GainsBy failed failed held held []
@@ -57,16 +56,14 @@ gains_then old mid new first next early late =
     then_by old.has_failed mid.has_failed new.has_failed old.holds mid.holds new.holds first next early
     late
 
--- a write in the middle of a text failed
-pub front_gained : (held before after : Option (List ℕ)) (text : List ℕ) (written count : ℕ)
-    → Appends held before (take written text)
-    → Appends before after (take count (take (length text - written) (drop written text)))
-    → GainsBy false true held after text
-front_gained held before after text written count so_far one = record {
-  front = take (written + count) text;
-  rest = drop (written + count) text;
-  parts = sym (take-append-drop (written + count) text);
-  grown = taken_more held before after text written count so_far one;
+-- a write of the rest of a text failed
+pub front_gained : (held after : Option (List ℕ)) (text : List ℕ) (written : ℕ)
+    → Appends held after (take written text) → GainsBy false true held after text
+front_gained held after text written so_far = record {
+  front = take written text;
+  rest = drop written text;
+  parts = sym (take-append-drop written text);
+  grown = so_far;
 }
 
 -- all of a text was written, and then it was to leave the program

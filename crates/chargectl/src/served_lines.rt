@@ -1,10 +1,10 @@
 //! The lines of a service on their way to the output. A client is answered whether or not somebody
 //! reads what is said of it: a closed output ends no service.
 
-ghost use Rattle.std.specs.Prelude.{◌≡◌, ◌≤◌, false, length, take};
-ghost use Rattle.std.specs.Io.KnownBytes.{Appends};
+ghost use Rattle.std.specs.Prelude.{◌≡◌, false};
 ghost use Rattle.chargectl.specs.ServedLines.{Gains, GainsBy, seen_of, unfailed};
 
+use program_output::hand_all;
 use std::io::Write;
 
 /// An output that takes lines up to the first write that fails.
@@ -51,29 +51,14 @@ impl<O: Write + Drop> ServedLines<O> {
     }
 }
 
-/// Writes once, and answers how many bytes were taken: none where the write failed.
-fn write_once<O: Write>(output: &mut O, bytes: &[u8]) -> usize
-    ensures bound { result ≤ length bytes.now }
-    ensures taken { Appends (O.contents output.old) (O.contents output.new) (take result bytes.now) }
-{
-    match output.write(bytes) {
-        Ok(count) => count,
-        Err(_) => 0,
-    }
-}
-
-/// Writes bytes, in as many writes as the output needs, and says whether one failed, or took
-/// nothing: then there are no more.
+/// Writes bytes, and says whether a write failed, or took nothing: then there are no more.
 fn fails_to_write<O: Write>(output: &mut O, bytes: &[u8]) -> bool
     ensures { GainsBy false result (O.contents output.old) (O.contents output.new) bytes.now }
 {
-    let mut written = 0;
-    'writes: while written < bytes.len() {
-        let count = write_once(output, &bytes[written..]);
-        if count == 0 {
-            return true;
-        }
-        written += count;
+    let written = hand_all(output, bytes);
+    let size = bytes.len();
+    if written < size {
+        return true;
     }
     output.flush().is_err()
 }

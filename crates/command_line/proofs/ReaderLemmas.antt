@@ -6,17 +6,21 @@ use Rattle.std.specs.List.{find, list_any}
 use Rattle.std.specs.Option.{option_map}
 use Rattle.std.specs.Prelude.{Box, IfSome, IsSome, IsSomeAnd, codes, is_some, not, pos}
 use Rattle.std.specs.Str.{bytes_eq}
-use Rattle.std.specs.Str.Parse.{IsNumeral, ParsesBool, ParsesUnsigned, digits_value, without_leading_plus}
+use Rattle.std.specs.Str.Parse.{ExplainsUnsignedError, HasUnsignedDigitsIfOk, IsNumeral, ParsesBool}
+use Rattle.std.specs.Str.Parse.{ParsesUnsigned, digits_value, without_leading_plus}
+use Rattle.std.specs.declared.str.parse.ParseIntError.{ParseIntError}
 use Rattle.std.proofs.lemmas.Option.{same_Some}
 use Rattle.std.proofs.lemmas.Slice.Eq.{bytes_eq-Decides}
 use Rattle.clap.specs.Lexer.{without_minus}
-use Rattle.clap.specs.Matches.{ReadsOne}
+use Rattle.clap.specs.Matches.{ReadsOne, one_text}
 use Rattle.clap.specs.Simple.{subcommand_rows}
 use Rattle.clap.specs.Values.{bool_text}
-use Rattle.clap.specs.Walk.{Row, Text, first_of, one_of}
+use Rattle.clap.specs.Walk.{Row, Text, first_of, one_of, rows_of}
 use Rattle.clap.specs.declared.parser.matches.ArgMatches.TheViews.{out-SubCommand}
+use Rattle.clap.specs.declared.parser.matches.Found.{Found}
 use Rattle.clap.specs.declared.parser.matches.SubCommand.{SubCommand}
 use Rattle.clap.proofs.CallerReads.{signed_reads}
+use Rattle.clap.proofs.WalkLemmas.{one_text-rows}
 use Rattle.std.specs.Box.{box_value}
 use Rattle.command_line.specs.Given.{HasNumber, HasRate, NoneIs}
 use Rattle.command_line.specs.Requests.{IsCentre, IsDryRun, IsFlag, IsLeftOut, IsNumber, IsOfBooks}
@@ -106,6 +110,24 @@ module _ {E : Type 0} (G : Text → Result ℕ E → Type 0) (k : ℕ)
       numeral_read has.0 r (reads has.0 (is ∙ has.1)) has.2
       (subst (λ (k : ℕ). digits_value 10
       (without_leading_plus has.0) < 2 ^ k) (sym bits) has.3)
+
+-- what std says of a text that is read as a number of so many bits
+abbrev pub ReadsUnsigned : ℕ → Text → Result ℕ ParseIntError → Type 0
+ReadsUnsigned k text r =
+    ParsesUnsigned k 10 text r × ExplainsUnsignedError 10 text r × HasUnsignedDigitsIfOk text r
+
+-- a number that is found, up to one that has so many bits
+pub number_found : (k most : ℕ) (found : Found) (name : Text) (r : Option ℕ)
+    → (one_text found name ≡ None → r ≡ None)
+    → ((t : Text) → one_text found name ≡ Some t → ReadsOne (ReadsUnsigned k) t r) → most < 2 ^ k
+    → IfSome r (IsNumber (rows_of found) name)
+    × (HasNumber (rows_of found) name (pos most) → IsSome r)
+number_found k most found name r none reads fits = (
+  read_number (ReadsUnsigned k) k (λ t x gives. gives.0) (rows_of found) name (one_text found name) r
+      (one_text-rows found name) none reads,
+  has_number (ReadsUnsigned k) k (λ t x gives. gives.0) (rows_of found) name (one_text found name) r
+      most (one_text-rows found name) reads fits,
+)
 
 -- ---- a flag
 

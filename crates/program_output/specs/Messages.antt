@@ -1,5 +1,5 @@
 -- What the program says on standard error: each line in its very bytes, and that it was said.
-use Rattle.std.specs.Prelude.{◌≡◌, ◌⊎◌, true, ℕ, List, [], ◌∷◌, ◌++◌, length, take, drop, codes}
+use Rattle.std.specs.Prelude.{◌≡◌, ◌<◌, ◌≤◌, true, ℕ, List, [], ◌∷◌, ◌++◌, length, take, drop, codes}
 use Rattle.std.specs.Prelude.{Option, Result}
 use Rattle.std.specs.Fmt.{decimal}
 use Rattle.std.specs.declared.io.Error.{Error}
@@ -108,20 +108,19 @@ pub record FailsToWrite {E : Type 0} (may_answer : E → List ℕ → Result ℕ
   pub made : may_answer old bytes answer new
   pub failed : is_failed_write answer (length bytes) ≡ true
 
--- a prefix of a text was written, and then the write of the rest failed
-pub record IsCutShort {E : Type 0} (contents : E → Option (List ℕ))
-    (may_answer : E → List ℕ → Result ℕ Error → E → Type 0) (text : List ℕ) (old new : E) : Type 0
-  where
-    pub count : ℕ
-    pub between : E
-    pub grown : Appends (contents old) (contents new) (take count text)
-    pub fails : FailsToWrite may_answer (drop count text) between new
+-- So many of these bytes were handed to a writer: all of them, unless a write of the rest failed.
+pub record IsHanded {E : Type 0} (contents : E → Option (List ℕ))
+    (may_answer : E → List ℕ → Result ℕ Error → E → Type 0) (bytes : List ℕ) (count : ℕ) (old new : E)
+    : Type 0 where
+  pub within : count ≤ length bytes
+  pub grown : Appends (contents old) (contents new) (take count bytes)
+  pub fails : count < length bytes
+      → (between : E) × FailsToWrite may_answer (drop count bytes) between new
 
 -- A text was said to a writer: the whole of it, unless a write failed.
 abbrev pub IsSaid : {E : Type 0} → (E → Option (List ℕ))
     → (E → List ℕ → Result ℕ Error → E → Type 0) → List ℕ → E → E → Type 0
-IsSaid contents may_answer text old new =
-    Appends (contents old) (contents new) text ⊎ IsCutShort contents may_answer text old new
+IsSaid contents may_answer text old new = (count : ℕ) × IsHanded contents may_answer text count old new
 
 -- Texts were said one after another. After one that was cut short the next is still begun.
 abbrev pub AreSaid : {E : Type 0} → (E → Option (List ℕ))

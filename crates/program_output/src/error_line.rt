@@ -3,7 +3,7 @@
 
 ghost use Rattle.std.specs.Prelude.{◌≡◌, ◌<◌, ◌≤◌, [], ◌∷◌, length, take};
 ghost use Rattle.std.specs.Io.KnownBytes.{Appends};
-ghost use Rattle.program_output.specs.Messages.{AreSaid, FailsToWrite, line_at, line_of};
+ghost use Rattle.program_output.specs.Messages.{AreSaid, FailsToWrite, IsHanded, line_at, line_of};
 
 use arrayvec::ArrayString;
 use itoa::Buffer;
@@ -19,32 +19,40 @@ type Line = ArrayString<80>;
 type NumberedLine = ArrayString<112>;
 
 /// Writes once, and answers how many bytes were taken: none where the write failed.
-fn write_once<E: Writer>(errors: &mut E, bytes: &[u8]) -> usize
+fn write_once<E: Writer>(writer: &mut E, bytes: &[u8]) -> usize
     requires { 0 < length bytes.now }
     ensures bound { result ≤ length bytes.now }
-    ensures taken { Appends (E.contents errors.old) (E.contents errors.new) (take result bytes.now) }
-    ensures failed { result ≡ 0 → FailsToWrite E.may_answer bytes.now errors.old errors.new }
+    ensures taken { Appends (E.contents writer.old) (E.contents writer.new) (take result bytes.now) }
+    ensures failed { result ≡ 0 → FailsToWrite E.may_answer bytes.now writer.old writer.new }
 {
-    match errors.hand(bytes) {
+    match writer.hand(bytes) {
         Ok(count) => count,
         Err(_) => 0,
     }
 }
 
-/// Says a text, in as many writes as the writer needs. After a write that failed, or that took
-/// nothing, there are no more.
+/// Hands bytes to a writer, in as many writes as it needs, and answers how many it took. After a
+/// write that failed, or that took nothing, there are no more.
+pub fn hand_all<E: Writer>(writer: &mut E, bytes: &[u8]) -> usize
+    ensures { IsHanded E.contents E.may_answer bytes.now result writer.old writer.new }
+{
+    let mut written = 0;
+    'writes: while written < bytes.len() {
+        let count = write_once(writer, &bytes[written..]);
+        if count == 0 {
+            return written;
+        }
+        written += count;
+    }
+    written
+}
+
+/// Says a text.
 pub fn say<E: Writer>(errors: &mut E, text: &str)
     ensures { AreSaid E.contents E.may_answer (text.now ∷ []) errors.old errors.new }
 {
     let bytes = text.as_bytes();
-    let mut written = 0;
-    'writes: while written < bytes.len() {
-        let count = write_once(errors, &bytes[written..]);
-        if count == 0 {
-            return;
-        }
-        written += count;
-    }
+    hand_all(errors, bytes);
 }
 
 /// Says a line that has this after the program's name.

@@ -24,7 +24,7 @@ mod words;
 pub use book_reports::name_of_text;
 pub use causes::{Cause, cause_text};
 pub use check::check_list;
-pub use error_line::{PROGRAM, say};
+pub use error_line::{PROGRAM, hand_all, say};
 pub use explanations::{Explanation, FaultKind, explained};
 pub use laws::{numbers_are_one_to_one, same_records_same_texts};
 pub use layouts::{is_misread, looks_like};

@@ -1,9 +1,8 @@
 use Rattle.std.proofs.Common.{refl}
-use Rattle.std.specs.Str.Parse.{ExplainsUnsignedError, HasUnsignedDigitsIfOk, ParsesUnsigned}
 use Rattle.clap.specs.Matches.{found_of, one_text}
 use Rattle.clap.proofs.WalkLemmas.{one_text-rows}
 use Rattle.command_line.specs.Requests.{rows_in}
-use Rattle.command_line.proofs.ReaderLemmas.{has_rate, read_number}
+use Rattle.command_line.proofs.ReaderLemmas.{ReadsUnsigned, has_rate, read_number}
 use Rattle.command_line.proofs.matched_request.rate_in.Goals as goal
 
 pub returns : goal.returns
@@ -12,11 +11,9 @@ returns c =
     let name = c.args.name.now in
     let is = one_text-rows (found_of found) name in
     record {
-      rate = read_number (λ bs r. ParsesUnsigned 64 10 bs r × ExplainsUnsignedError 10 bs r
-          × HasUnsignedDigitsIfOk bs r) 64 (λ t x gives. gives.0) (rows_in found) name
+      rate = read_number (ReadsUnsigned 64) 64 (λ t x gives. gives.0) (rows_in found) name
           (one_text (found_of found) name) c.get_one.result is c.get_one.ensures.none
           c.get_one.ensures.value;
-      some = has_rate (λ bs r. ParsesUnsigned 64 10 bs r × ExplainsUnsignedError 10 bs r
-          × HasUnsignedDigitsIfOk bs r) 64 (λ t x gives. gives.0) (rows_in found) name
+      some = has_rate (ReadsUnsigned 64) 64 (λ t x gives. gives.0) (rows_in found) name
           (one_text (found_of found) name) c.get_one.result refl is c.get_one.ensures.value;
     }

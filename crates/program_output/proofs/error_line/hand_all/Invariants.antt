@@ -1,13 +1,13 @@
 use Rattle.std.proofs.Common.{◌-◌, ◌≤◌, length, take}
 use Rattle.std.specs.Io.KnownBytes.{Appends}
-use Rattle.chargectl.proofs.served_lines.fails_to_write.Given as goal
+use Rattle.program_output.proofs.error_line.hand_all.Given as goal
 
 -- the bytes so far were written
 abbrev pub invariant-writes : goal.invariant-writes
 invariant-writes g l =
     record {
       within : l.written ≤ length l.bytes;
-      grown : Appends (g.O.Write.contents l.fn.output) (g.O.Write.contents l.output)
+      grown : Appends (g.E.Write.contents l.fn.writer) (g.E.Write.contents l.writer)
           (take l.written l.bytes);
     }
 
