@@ -13,7 +13,6 @@ use book_core::LedgerFault;
 use book_trees::{LookFault, OpenFault};
 use office::{Opened, Repository, RepositoryFault, Upgraded, Visit};
 use sqlite_disk::{Disk, Unknown};
-use std::cell::Cell;
 use std::hash::{BuildHasher, RandomState};
 use std::io::ErrorKind;
 use std::{fs, io};
@@ -24,16 +23,13 @@ use std::{fs, io};
 pub struct Files<'a> {
     pub(crate) rt: &'a HostRuntime,
     /// For how many seconds books that another program is using are asked for again.
-    pub(crate) wait: Cell<u16>,
+    pub(crate) wait: u16,
 }
 
 impl<'a> Files<'a> {
     /// The files that this machine has. No opening waits.
     pub fn of(rt: &'a HostRuntime) -> Files<'a> {
-        Files {
-            rt,
-            wait: Cell::new(0),
-        }
+        Files { rt, wait: 0 }
     }
 
     /// A number that nobody can foresee, for the digests of a store.
@@ -145,13 +141,16 @@ pub(crate) fn not_looked_through(fault: LookFault) -> Result<Audited, Repository
 }
 
 impl Repository for Files<'_> {
+    ghost use Rattle.std.specs.Prelude.{◌≡◌};
     ghost use Rattle.book_restarts.specs.FileBooks.{file_names};
     ghost use Rattle.office.specs.Shelves.{unknown};
 
     ghost shelf = { λ _. unknown file_names };
 
-    fn wait_up_to(&self, seconds: u16) {
-        self.wait.set(seconds);
+    ghost waits = { λ files seconds. files.wait ≡ seconds };
+
+    fn wait_up_to(&mut self, seconds: u16) {
+        self.wait = seconds;
     }
 
     /// Says whether the file is there.

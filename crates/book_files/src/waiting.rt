@@ -82,14 +82,14 @@ impl<'a> Files<'a> {
         Waiting {
             rt: self.rt,
             begun: Instant::now(self.rt).ok(),
-            most: Duration::from_secs(u64::from(self.wait.get())),
+            most: Duration::from_secs(u64::from(self.wait)),
             has_log: false,
         }
     }
 
     /// How often an opening asks again, at most.
     fn pauses(&self) -> u32 {
-        u32::from(self.wait.get()) * PAUSES_IN_A_SECOND
+        u32::from(self.wait) * PAUSES_IN_A_SECOND
     }
 
     fn visit<V: Visit>(&self, what: Visited, book: &str, visit: &mut V) -> Opened<V::Answer>

@@ -88,6 +88,18 @@ step_as follow step = record {
   named = step.named;
 }
 
+-- a step from where the same is known
+step_from : {naming : Naming} {history : List Event} {name : List ℕ} {old between new : Shelf}
+    {So : List Event → Type 0} → between.naming ≡ old.naming
+    → Step naming history name between new So → Step naming history name old new So
+step_from same step = record {
+  made = step.made;
+  so = step.so;
+  answered = step.answered;
+  held = step.held;
+  named = step.named ∙ same;
+}
+
 -- what is so where a name is that of books, and that nothing is done to others
 abbrev Where : List ℕ → List ℕ → (List Event → Type 0) → List Event → Type 0
 Where book name So made = (book ≡ name → So made) × (book ≢ name → made ≡ [])
@@ -507,52 +519,60 @@ same_place shelf history name old new answered held same = record {
   named = ap (λ place. (shelf place).naming) same;
 }
 
-runs_on : {S : Type 0} (shelf : S → Shelf) (history : List Event) (name : List ℕ) (old new : S)
-    → IsMadeByCalls (shelf old).naming history → (shelf old).holds name history
+runs_on : {S : Type 0} (shelf : S → Shelf) (waits : S → ℕ → Type 0) (history : List Event) (name : List ℕ)
+    (old new : S) → IsMadeByCalls (shelf old).naming history → (shelf old).holds name history
     → (asked : Result Request ArgumentFault) (had has holds : Option (List ℕ))
     (Says : List (List ℕ) → Type 0) (status : Status)
-    → DoesOrRefuses shelf old new asked had has holds Says status
+    → DoesOrRefuses shelf waits old new asked had has holds Says status
     → Step (shelf old).naming history name (shelf old) (shelf new)
     (RunsOn (shelf old).naming name history asked has holds status)
-runs_on shelf history name old new answered held (Ok (request.OfBooks book wait asked)) had has holds
-    Says status done =
+runs_on shelf waits history name old new answered held (Ok (request.OfBooks book wait asked)) had has
+    holds Says status done =
+    let it = done.1 in
+    let same = it.same.naming in
+    let calls = subst (λ naming. IsMadeByCalls naming history) (sym same) answered in
+    let step = does_on history name (shelf it.waiting) (shelf new) calls
+    (it.same.holds name history held) book.now asked has holds done.0 it.does in
     step_as (λ made so. record { ended = done.0; ends = done.2; here = so.0; elsewhere = so.1 })
-    (does_on history name (shelf old) (shelf new) answered held book.now asked has holds done.0 done.1)
-runs_on shelf history name old new answered held (Ok (request.Trial layout cpu excp fee)) had has holds
+    (subst (λ naming. Step naming history name (shelf old) (shelf new)
+    (Where book.now name (DoesToHistory naming history asked has holds done.0))) same
+    (step_from same step))
+runs_on shelf waits history name old new answered held (Ok (request.Trial layout cpu excp fee)) had has holds
     Says status done =
     same_place shelf history name old new answered held done.1.0
-runs_on shelf history name old new answered held (Ok (request.TrialUnder layout file)) had has holds
+runs_on shelf waits history name old new answered held (Ok (request.TrialUnder layout file)) had has holds
     Says status done =
     same_place shelf history name old new answered held done.1.0
-runs_on shelf history name old new answered held (Ok (request.Unclear why)) had has holds Says status
+runs_on shelf waits history name old new answered held (Ok (request.Unclear why)) had has holds Says status
     done =
     same_place shelf history name old new answered held done.1.0
-runs_on shelf history name old new answered held (Ok (request.Check dump)) had has holds Says status
+runs_on shelf waits history name old new answered held (Ok (request.Check dump)) had has holds Says status
     done =
     same_place shelf history name old new answered held done.1.0
-runs_on shelf history name old new answered held (Ok (request.Explain kind number)) had has holds
+runs_on shelf waits history name old new answered held (Ok (request.Explain kind number)) had has holds
     Says status done =
     same_place shelf history name old new answered held done.1.0
-runs_on shelf history name old new answered held (Err fault) had has holds Says status done =
+runs_on shelf waits history name old new answered held (Err fault) had has holds Says status done =
     same_place shelf history name old new answered held done.0
 
 -- commands in turn, at a place that names records so
-in_turn : {S E : Type 0} (shelf : S → Shelf) (Says : List (List ℕ) → E → E → Type 0)
+in_turn : {S E : Type 0} (shelf : S → Shelf) (waits : S → ℕ → Type 0)
+    (Says : List (List ℕ) → E → E → Type 0)
     (naming : Naming) (name : List ℕ) (start : List Event) (before : S) (commands : List (Commanded S E))
     → (shelf before).naming ≡ naming → IsMadeByCalls naming start → (shelf before).holds name start
-    → AreCommanded shelf Says before commands
+    → AreCommanded shelf waits Says before commands
     → LeaveHistory shelf naming name start commands (place_after before commands)
-in_turn shelf Says naming name start before [] names answered held done =
+in_turn shelf waits Says naming name start before [] names answered held done =
     record { end = start; done = refl; held = held }
-in_turn shelf Says naming name start before (command ∷ later) names answered held done =
+in_turn shelf waits Says naming name start before (command ∷ later) names answered held done =
     let one = done.0 in
     let step = subst (λ naming. Step naming start name (shelf before) (shelf command.after)
     (RunsOn naming name start one.asked command.held command.holds command.status)) names
-    (runs_on shelf start name before command.after
+    (runs_on shelf waits start name before command.after
     (subst (λ naming. IsMadeByCalls naming start) (sym names) answered) held one.asked command.had
     command.held command.holds (λ lines. Says lines command.quiet command.said) command.status
     one.done) in
-    let rest = in_turn shelf Says naming name (step.made ++ start) command.after later (step.named ∙ names)
+    let rest = in_turn shelf waits Says naming name (step.made ++ start) command.after later (step.named ∙ names)
     step.answered step.held done.1 in
     record {
       end = rest.end;
@@ -565,7 +585,7 @@ in_turn shelf Says naming name start before (command ∷ later) names answered h
     }
 
 -- the headline
-pub commands_follow_history : {S E : Type 0} (shelf : S → Shelf)
-    (Says : List (List ℕ) → E → E → Type 0) → CommandsFollowHistory shelf Says
-commands_follow_history shelf Says name start before commands answered held done =
-    in_turn shelf Says (shelf before).naming name start before commands refl answered held done
+pub commands_follow_history : {S E : Type 0} (shelf : S → Shelf) (waits : S → ℕ → Type 0)
+    (Says : List (List ℕ) → E → E → Type 0) → CommandsFollowHistory shelf waits Says
+commands_follow_history shelf waits Says name start before commands answered held done =
+    in_turn shelf waits Says (shelf before).naming name start before commands refl answered held done

@@ -1,7 +1,8 @@
 -- Commands, one after the other, on books that are kept by their names: each tells what the definitions
 -- give for the whole history before it.
 use Rattle.std.specs.Prelude.{◌≡◌, ◌≢◌, Bool, false, ℕ, List, [], ◌∷◌, ◌++◌, Option, None, Some}
-use Rattle.std.specs.Prelude.{IfOk, Result, Ok, Err}
+use Rattle.std.specs.Prelude.{IfOk, Result, Ok, Err, String}
+use Rattle.std.specs.Global.{Global}
 use Rattle.std.specs.declared.alloc.AllocError.{AllocError}
 use Rattle.streams.specs.InputOutput.{Input}
 use Rattle.tariff_rules.specs.Limits.{most_rate}
@@ -23,7 +24,7 @@ use Rattle.command_line.specs.declared.request.Request.{Request}
 use Rattle.command_line.specs.declared.request.Request.TheVariants as request
 use Rattle.command_line.specs.declared.request.Ruling.{Ruling}
 use Rattle.command_line.specs.declared.fault.ArgumentFault.{ArgumentFault}
-use Rattle.command_line.specs.Known.{AreReadAs}
+use Rattle.command_line.specs.Known.{AreReadAs, texts_of}
 use Rattle.command_line.specs.Requests.{request_of}
 use Rattle.program_output.specs.declared.status.Status.{Status}
 use Rattle.program_output.specs.Messages.{program_name}
@@ -47,7 +48,7 @@ use Rattle.chargectl.specs.Serving.{ServesSome}
 -- a command: its words, its input, its output and standard error before and after it, its status, and
 -- the place of the books after it
 pub record Commanded (S E : Type 0) : Type 0 where
-  pub words : List (List ℕ)
+  pub words : List (String Global)
   pub had : Option (List ℕ)
   pub held : Option (List ℕ)
   pub holds : Option (List ℕ)
@@ -62,13 +63,13 @@ place_after before [] = before
 place_after before (command ∷ later) = place_after command.after later
 
 -- each kept its contract where the one before it left the books
-abbrev pub AreCommanded : {S E : Type 0} → (S → Shelf) → (List (List ℕ) → E → E → Type 0) → S
-    → List (Commanded S E) → Type 0
-AreCommanded shelf Says before [] = Unit {0}
-AreCommanded shelf Says before (command ∷ later) =
-    CommandsBy shelf before command.after command.words command.had command.held command.holds Says
-    command.quiet command.said command.status
-    × AreCommanded shelf Says command.after later
+abbrev pub AreCommanded : {S E : Type 0} → (S → Shelf) → (S → ℕ → Type 0)
+    → (List (List ℕ) → E → E → Type 0) → S → List (Commanded S E) → Type 0
+AreCommanded shelf waits Says before [] = Unit {0}
+AreCommanded shelf waits Says before (command ∷ later) =
+    CommandsBy shelf waits before command.after command.words command.had command.held command.holds
+    Says command.quiet command.said command.status
+    × AreCommanded shelf waits Says command.after later
 
 -- After a history this was asked and told, and it made these events, the newest first. Unless a lack
 -- of memory or the store hindered it, that is what the definitions say of the history, looked at as
@@ -257,7 +258,7 @@ RunsOn naming name history asked held holds status made = made ≡ []
 pub record DoneAfter {S E : Type 0} (naming : Naming) (name : List ℕ) (history : List Event)
     (command : Commanded S E) (made : List Event) : Type 0 where
   pub asked : Result Request ArgumentFault
-  pub read : AreReadAs program_name most_rate command.words asked
+  pub read : AreReadAs program_name most_rate (texts_of command.words) asked
   pub runs : RunsOn naming name history asked command.held command.holds command.status made
   pub answered : IsMadeByCalls naming (made ++ history)
 
@@ -279,10 +280,10 @@ pub record LeaveHistory {S E : Type 0} (shelf : S → Shelf) (naming : Naming) (
 -- The headline: after any commands, the books of a name that held a history which calls made hold it
 -- with what the commands made of it; and each told what the definitions give for the whole history
 -- before it.
-abbrev pub CommandsFollowHistory : {S E : Type 0} → (S → Shelf) → (List (List ℕ) → E → E → Type 0)
-    → Type 0
-CommandsFollowHistory {S} {E} shelf Says =
+abbrev pub CommandsFollowHistory : {S E : Type 0} → (S → Shelf) → (S → ℕ → Type 0)
+    → (List (List ℕ) → E → E → Type 0) → Type 0
+CommandsFollowHistory {S} {E} shelf waits Says =
     (name : List ℕ) (start : List Event) (before : S) (commands : List (Commanded S E))
     → IsMadeByCalls (shelf before).naming start → (shelf before).holds name start
-    → AreCommanded shelf Says before commands
+    → AreCommanded shelf waits Says before commands
     → LeaveHistory shelf (shelf before).naming name start commands (place_after before commands)

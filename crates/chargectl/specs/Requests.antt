@@ -1,17 +1,18 @@
 -- What the program does: for each request, and for words that are none.
 use Rattle.std.specs.Prelude.{◌≡◌, ◌⊎◌, Bool, true, ℕ, List, [], ◌∷◌, Option, None, Result, Ok, Err, IfOk}
-use Rattle.std.specs.Prelude.{string_bytes}
+use Rattle.std.specs.Prelude.{String, string_bytes}
+use Rattle.std.specs.Global.{Global}
 use Rattle.std.specs.Io.KnownBytes.{Appends}
 use Rattle.tariff_rules.specs.Limits.{most_rate}
 use Rattle.book_model.specs.declared.fault.LedgerFault.TheVariants as ledger
 use Rattle.office.specs.declared.repository.RepositoryFault.{RepositoryFault}
-use Rattle.office.specs.Shelves.{Shelf, IsDoneTo, IsMade, IsUntouched}
+use Rattle.office.specs.Shelves.{Shelf, IsDoneTo, IsMade, IsSameShelf, IsUntouched}
 use Rattle.command_line.specs.declared.request.BookRequest.{BookRequest}
 use Rattle.command_line.specs.declared.request.BookRequest.TheVariants as book
 use Rattle.command_line.specs.declared.request.Request.{Request}
 use Rattle.command_line.specs.declared.request.Request.TheVariants as request
 use Rattle.command_line.specs.declared.fault.ArgumentFault.{ArgumentFault}
-use Rattle.command_line.specs.Known.{AreReadAs}
+use Rattle.command_line.specs.Known.{AreReadAs, texts_of}
 use Rattle.command_line.specs.declared.fault.ArgumentFault.TheVariants as words
 use Rattle.program_output.specs.declared.status.Status.{Status}
 use Rattle.program_output.specs.declared.status.Status.TheVariants as status
@@ -96,20 +97,39 @@ pub record EndsAt (Does : Result (Unit {0}) CommandFault → Type 0) (ended : En
   pub does : Does came
   pub ends : ended ≡ without_log came
 
+-- for how many seconds a client of a service is kept waiting for books that others have in use
+abbrev pub service_wait : ℕ
+service_wait = 2
+
+-- how long a command waits for them: so long as its words say, or a service as long as that
+abbrev pub wait_for : BookRequest → ℕ → ℕ
+wait_for (book.Serve port requests) wait = service_wait
+wait_for asked wait = wait
+
+-- From here on openings waited for so many seconds, and nothing else was new; and then a command was
+-- done on the books of a name.
+pub record WaitsAndDoes {S : Type 0} (shelf : S → Shelf) (waits : S → ℕ → Type 0) (old new : S)
+    (seconds : ℕ) (asked : BookRequest) (name : List ℕ) (held holds : Option (List ℕ)) (ended : Ended)
+    : Type 0 where
+  pub waiting : S
+  pub set : waits waiting seconds
+  pub same : IsSameShelf (shelf old) (shelf waiting)
+  pub does : Does asked name (shelf waiting) (shelf new) held holds ended
+
 -- The table of the commands.
-abbrev pub Runs : {S : Type 0} → (S → Shelf) → S → S → Request → Option (List ℕ) → Option (List ℕ)
-    → Option (List ℕ) → Ended → Type 0
-Runs shelf old new (request.Trial layout cpu excp fee) had held holds ended =
+abbrev pub Runs : {S : Type 0} → (S → Shelf) → (S → ℕ → Type 0) → S → S → Request
+    → Option (List ℕ) → Option (List ℕ) → Option (List ℕ) → Ended → Type 0
+Runs shelf waits old new (request.Trial layout cpu excp fee) had held holds ended =
     (new ≡ old) × TriesAt layout cpu excp fee had held holds ended
-Runs shelf old new (request.TrialUnder layout file) had held holds ended =
+Runs shelf waits old new (request.TrialUnder layout file) had held holds ended =
     (new ≡ old) × TriesUnder layout had held holds ended
-Runs shelf old new (request.Check dump) had held holds ended =
+Runs shelf waits old new (request.Check dump) had held holds ended =
     (new ≡ old) × Checks dump.layout held holds ended
-Runs shelf old new (request.Explain kind number) had held holds ended =
+Runs shelf waits old new (request.Explain kind number) had held holds ended =
     (new ≡ old) × EndsAt (TellsOf (kind_of kind) number held holds) ended
-Runs shelf old new (request.OfBooks name wait asked) had held holds ended =
-    Does asked name.now (shelf old) (shelf new) held holds ended
-Runs shelf old new (request.Unclear why) had held holds ended =
+Runs shelf waits old new (request.OfBooks name wait asked) had held holds ended =
+    WaitsAndDoes shelf waits old new (wait_for asked wait) asked name.now held holds ended
+Runs shelf waits old new (request.Unclear why) had held holds ended =
     (new ≡ old) × (holds ≡ held) × (ended ≡ without_log (Err (fault.Unclear why)))
 
 -- What was wrong with the words, or help, which is written to standard output; and what is said on
@@ -125,20 +145,20 @@ IsRefusedFor (words.Help text) held holds Says ended =
     ⊎ ((ended ≡ status.Io) × Says (io_line ∷ []))
 
 -- What was asked was done; or nothing was asked.
-abbrev pub DoesOrRefuses : {S : Type 0} → (S → Shelf) → S → S → Result Request ArgumentFault
-    → Option (List ℕ) → Option (List ℕ) → Option (List ℕ) → (List (List ℕ) → Type 0) → Status
-    → Type 0
-DoesOrRefuses shelf old new (Ok request) had held holds Says status =
-    (ended : Ended) × Runs shelf old new request had held holds ended × (status ≡ status_by ended)
-    × Says (error_lines ended)
-DoesOrRefuses shelf old new (Err fault) had held holds Says status =
+abbrev pub DoesOrRefuses : {S : Type 0} → (S → Shelf) → (S → ℕ → Type 0) → S → S
+    → Result Request ArgumentFault → Option (List ℕ) → Option (List ℕ) → Option (List ℕ)
+    → (List (List ℕ) → Type 0) → Status → Type 0
+DoesOrRefuses shelf waits old new (Ok request) had held holds Says status =
+    (ended : Ended) × Runs shelf waits old new request had held holds ended
+    × (status ≡ status_by ended) × Says (error_lines ended)
+DoesOrRefuses shelf waits old new (Err fault) had held holds Says status =
     (new ≡ old) × IsRefusedFor fault held holds Says status
 
 -- The program: its words ask for something by the table of the commands, and that was done. These
 -- lines, and no others, were said on standard error.
-pub record CommandsBy {S E : Type 0} (shelf : S → Shelf) (old new : S) (words : List (List ℕ))
-    (had held holds : Option (List ℕ)) (Says : List (List ℕ) → E → E → Type 0) (quiet said : E)
+pub record CommandsBy {S E : Type 0} (shelf : S → Shelf) (waits : S → ℕ → Type 0) (old new : S)
+    (words : List (String Global)) (had held holds : Option (List ℕ)) (Says : List (List ℕ) → E → E → Type 0) (quiet said : E)
     (status : Status) : Type 0 where
   pub asked : Result Request ArgumentFault
-  pub read : AreReadAs program_name most_rate words asked
-  pub done : DoesOrRefuses shelf old new asked had held holds (λ lines. Says lines quiet said) status
+  pub read : AreReadAs program_name most_rate (texts_of words) asked
+  pub done : DoesOrRefuses shelf waits old new asked had held holds (λ lines. Says lines quiet said) status

@@ -10,5 +10,5 @@ use streams::Writer;
 /// hold it with what the commands made of it, and each told what the definitions give for the whole
 /// history before it.
 pub fn commands_follow_history<S: Repository, E: Writer>()
-    ensures { CommandsFollowHistory S.shelf (AreSaid E.contents E.may_answer) }
+    ensures { CommandsFollowHistory S.shelf S.waits (AreSaid E.contents E.may_answer) }
 {}

@@ -2,12 +2,12 @@
 
 ghost use Rattle.std.specs.Prelude.{◌≡◌, IfErr, IfOk, Ok};
 ghost use Rattle.tariff_rules.specs.TariffFile.{terms_in};
-ghost use Rattle.command_line.specs.Known.{texts_of};
 ghost use Rattle.program_output.specs.Messages.{AreSaid};
 ghost use Rattle.chargectl.specs.Faults.{IsFaultIn, shelf_end, status_by};
 ghost use Rattle.chargectl.specs.Reading as spec;
 ghost use Rattle.chargectl.specs.Reading.{Checks, IsTariffRead, Lists, TellsOf, TriesBy, TriesUnder};
 ghost use Rattle.chargectl.specs.Reading.{check_end, lasting, trial_end};
+ghost use Rattle.chargectl.specs.Requests as requests;
 ghost use Rattle.chargectl.specs.Requests.{CommandsBy, Does, IsRefusedFor, Runs};
 
 use crate::audits::{audit, back_up};
@@ -43,6 +43,9 @@ use std::io::{IsTerminal, Read, Write};
 use streams::Writer;
 use tariff_rules::{MAX_RATE, Tariff, TariffFault};
 
+/// For how many seconds a client of a service is kept waiting for books that others have in use.
+const SERVICE_WAIT: u16 = 2;
+
 /// Does what the words ask for, the first of which is the program's name. Books are kept on a
 /// shelf. Why it was not done is said on standard error; where that is a terminal, a person is told more.
 pub fn command<S: AuditedRepository, I: Read + Drop, O: Write + Drop, E: Writer>(
@@ -53,7 +56,7 @@ pub fn command<S: AuditedRepository, I: Read + Drop, O: Write + Drop, E: Writer>
     output: O,
     errors: &mut E,
 ) -> (Status, O)
-    ensures { CommandsBy S.shelf repository.old repository.new (texts_of words.now)
+    ensures { CommandsBy S.shelf S.waits repository.old repository.new words.now
         (I.remaining input) (O.contents output) (O.contents result.1)
         (AreSaid E.contents E.may_answer) errors.old errors.new result.0 }
 {
@@ -77,7 +80,7 @@ fn run<S: AuditedRepository, I: Read + Drop, O: Write + Drop>(
     input: I,
     mut output: O,
 ) -> (Ended, O)
-    ensures { Runs S.shelf repository.old repository.new request.entry (I.remaining input)
+    ensures { Runs S.shelf S.waits repository.old repository.new request.entry (I.remaining input)
         (O.contents output) (O.contents result.1) result.0 }
 {
     match request {
@@ -97,10 +100,21 @@ fn run<S: AuditedRepository, I: Read + Drop, O: Write + Drop>(
             (Ended::without_log(came), output)
         }
         Request::OfBooks { book, wait, asked } => {
-            repository.wait_up_to(wait);
+            repository.wait_up_to(wait_for(&asked, wait));
             run_on_books(rt, repository, book, asked, output)
         }
         Request::Unclear(why) => (Ended::without_log(Err(CommandFault::Unclear(why))), output),
+    }
+}
+
+/// For how many seconds an opening waits for books that others have in use: the words of a service
+/// do not say it.
+fn wait_for(asked: &BookRequest<'_>, wait: u16) -> u16
+    ensures { result ≡ requests.wait_for asked.now wait }
+{
+    match asked {
+        BookRequest::Serve { .. } => SERVICE_WAIT,
+        _ => wait,
     }
 }
 

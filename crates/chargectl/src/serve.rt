@@ -19,9 +19,6 @@ use std::io;
 use std::io::Write;
 use std::net::TcpListener;
 
-/// For how many seconds a client is kept waiting for books that others have in use.
-const WAIT_SECONDS: u16 = 2;
-
 /// Room for the line of an answer.
 type Line = ArrayString<16>;
 
@@ -42,7 +39,6 @@ pub(crate) fn serve<S: Repository, O: Write + Drop>(
     if let Err(fault) = repository.expect(book) {
         return (Err(CommandFault::from(fault)), output);
     }
-    repository.wait_up_to(WAIT_SECONDS);
     let Opened { answer, has_log } = repository.open(book, &mut Look);
     match listen(rt, port, answer) {
         Ok(listener) => {

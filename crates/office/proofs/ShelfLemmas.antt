@@ -7,7 +7,7 @@ use Rattle.book_core.proofs.TransitionLemmas.{after_all-append}
 use Rattle.office.specs.declared.repository.RepositoryFault.{RepositoryFault}
 use Rattle.office.specs.declared.repository.RepositoryFault.TheVariants.{Unseen}
 use Rattle.office.specs.Shelves.{Shelf, unknown, OpenedAnew, GoOn, IsDoneTo, IsOpened, IsMade}
-use Rattle.office.specs.Shelves.{ComesBy, IsTried, IsUntouched, WhereUnopened}
+use Rattle.office.specs.Shelves.{ComesBy, IsSameShelf, IsTried, IsUntouched, WhereUnopened}
 
 -- books that nothing was done to
 pub stays : (Held : List Event → Type 0) → GoOn NoEvent Held Held
@@ -24,6 +24,10 @@ untouched book shelf = record {
   here = stays (shelf.holds book);
   elsewhere = λ other _. stays (shelf.holds other);
 }
+
+pub same_shelf : (shelf : Shelf) → IsSameShelf shelf shelf
+same_shelf shelf =
+    record { naming = refl; holds = λ book history held. held; free = λ book free. free }
 
 -- work, seen as other work
 pub done_as : (book : List ℕ) (Made Other : Transition) (old new : Shelf)

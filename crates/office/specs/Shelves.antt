@@ -23,6 +23,12 @@ unknown naming = record {
   has_log = λ book is. Unit {0};
 }
 
+-- The same is known of books: they are where they were, and a name that was free is free.
+pub record IsSameShelf (old new : Shelf) : Type 0 where
+  pub naming : new.naming ≡ old.naming
+  pub holds : (book : List ℕ) (history : List Event) → old.holds book history → new.holds book history
+  pub free : (book : List ℕ) → old.is_free book → new.is_free book
+
 -- Work on books that were opened anew, whatever was before, and whatever is left to be opened again.
 pub record OpenedAnew (Made : Transition) (was : Bool) (before : Book) (events : List Event) (is : Bool)
     : Type 0 where

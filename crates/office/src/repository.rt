@@ -71,15 +71,21 @@ pub enum Upgraded {
 
 /// Where books are kept by their names.
 pub trait Repository {
-    ghost use Rattle.std.specs.Prelude.{◌≡◌};
-    ghost use Rattle.office.specs.Shelves.{Shelf, ComesBy, IsMade, IsOpened, IsTried, IsUntouched};
+    ghost use Rattle.std.specs.Prelude.{◌≡◌, ℕ};
+    ghost use Rattle.office.specs.Shelves.{Shelf, ComesBy, IsMade, IsOpened, IsSameShelf, IsTried};
+    ghost use Rattle.office.specs.Shelves.{IsUntouched};
 
     /// What is known of them.
     ghost shelf: { Self → Shelf };
 
-    /// From now on an opening of books that another program is using asks for them again, for up to
-    /// this many seconds, before it says so.
-    fn wait_up_to(&self, seconds: u16);
+    /// An opening of books that another program is using asks for them again, for up to this many
+    /// seconds, before it says so.
+    ghost waits: { Self → ℕ → Type 0 };
+
+    /// From now on an opening waits for up to this many seconds.
+    fn wait_up_to(&mut self, seconds: u16)
+        ensures set { waits self.new seconds }
+        ensures same { IsSameShelf (shelf self.old) (shelf self.new) };
 
     /// Says whether there is something with that name.
     fn expect(&self, book: &str) -> Result<(), RepositoryFault>;

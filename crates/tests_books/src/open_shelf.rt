@@ -9,14 +9,16 @@ pub(crate) struct OpenShelf<'a, L: Ledger> {
     pub(crate) ledger: &'a mut L,
 }
 
-#[tactic(auto, using(office::proofs::ShelfLemmas::unknown_made, office::proofs::ShelfLemmas::unknown_opened, office::proofs::ShelfLemmas::unknown_tried, office::proofs::ShelfLemmas::unknown_untouched, office::proofs::ShelfLemmas::came_by, office::proofs::ShelfLemmas::same_by))]
+#[tactic(auto, using(office::proofs::ShelfLemmas::unknown_made, office::proofs::ShelfLemmas::unknown_opened, office::proofs::ShelfLemmas::unknown_tried, office::proofs::ShelfLemmas::unknown_untouched, office::proofs::ShelfLemmas::same_shelf, office::proofs::ShelfLemmas::came_by, office::proofs::ShelfLemmas::same_by))]
 impl<L: Ledger> Repository for OpenShelf<'_, L> {
     ghost use Rattle.std.specs.Prelude.{replicate};
     ghost use Rattle.office.specs.Shelves.{unknown};
 
     ghost shelf = { λ _. unknown (λ _. replicate 32 0) };
 
-    fn wait_up_to(&self, _seconds: u16) {}
+    ghost waits = { λ _ _. Unit {0} };
+
+    fn wait_up_to(&mut self, _seconds: u16) {}
 
     fn expect(&self, _book: &str) -> Result<(), RepositoryFault> {
         Ok(())
