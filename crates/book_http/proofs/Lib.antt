@@ -15,8 +15,8 @@ pub mod UniqueAnswerLemmas
 pub mod PeriodLemmas
 pub mod PieceLemmas
 pub mod ReadLemmas
-pub mod RecordPathLemmas
 pub mod RequestedLemmas
+pub mod RestPathLemmas
 pub mod RouteLemmas
 pub mod RouterLemmas
 pub mod ServeLemmas

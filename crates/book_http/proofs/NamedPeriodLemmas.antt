@@ -1,14 +1,12 @@
--- A path names a period, and a centre if there is one, where it ends with their text, and nowhere else.
+-- A text names a period, and a centre if there is one, where it is their text, and nowhere else.
 use Rattle.std.proofs.Common.{◌≡◌, ◌∙◌, ℕ, Bool, true, false, cond, List, [], ◌∷◌, ◌++◌, codes, refl}
 use Rattle.std.proofs.Common.{Option, Some, None, IfSome, sym, ap, ap₂, append_assoc, append-nil}
-use Rattle.std.specs.Option.{option_and_then}
 use Rattle.std.specs.Prelude.{decimal}
 use Rattle.smf_text.specs.Names.{IsName, is_name}
 use Rattle.book_http.specs.Paths.{IsPathPeriod, period_text}
-use Rattle.book_http.specs.Routes.{after_slash, before_slash, path_rest, period, period_after}
-use Rattle.book_http.specs.Routes.{period_by, period_in, period_of_all, period_of_centre}
+use Rattle.book_http.specs.Routes.{after_slash, before_slash, period, period_by, period_in}
+use Rattle.book_http.specs.Routes.{period_of_all, period_of_centre}
 use Rattle.book_http.proofs.PeriodLemmas.{decimal_has_no_slash, period_found, period_named}
-use Rattle.book_http.proofs.PeriodLemmas.{rest_found, rest_named}
 use Rattle.book_http.proofs.SlashLemmas.{IsJoined, cut, joined, uncut}
 
 -- what follows the number
@@ -23,52 +21,39 @@ text_begins n (Some centre) = append_assoc (decimal n) (codes "/") centre
 
 -- ---- what is named has its text there
 
--- a path is a prefix and the text of what is named
-abbrev pub IsNamedAfter : List ℕ → List ℕ → ℕ × Option (List ℕ) → Type 0
-IsNamedAfter prefix path named =
-    (path ≡ prefix ++ period_text named.0 named.1) × IsPathPeriod named.0 × IfSome named.1 IsName
+-- a text is that of a period, and of a centre if there is one
+abbrev pub IsNamedBy : List ℕ → ℕ × Option (List ℕ) → Type 0
+IsNamedBy text named =
+    (text ≡ period_text named.0 named.1) × IsPathPeriod named.0 × IfSome named.1 IsName
 
-module _ (prefix path rest : List ℕ) (is : path ≡ prefix ++ rest) where
-  -- a period of the whole office
-  all_named : (front : List ℕ) (found : Option ℕ) → front ≡ rest
-      → IfSome found (λ n. (front ≡ decimal n) × IsPathPeriod n)
-      → IfSome (period_of_all found) (IsNamedAfter prefix path)
-  all_named front None whole named = tt
-  all_named front (Some n) whole named =
-      (is ∙ ap (λ text. prefix ++ text) (sym whole ∙ named.0), named.1, tt)
+-- a period of the whole office
+all_named : (text front : List ℕ) (found : Option ℕ) → front ≡ text
+    → IfSome found (λ n. (front ≡ decimal n) × IsPathPeriod n)
+    → IfSome (period_of_all found) (IsNamedBy text)
+all_named text front None whole named = tt
+all_named text front (Some n) whole named = (sym whole ∙ named.0, named.1, tt)
 
-  -- of a centre
-  own_named : (front name : List ℕ) (found : Option ℕ) (passes : Bool) → is_name name ≡ passes
-      → rest ≡ front ++ 47 ∷ name → IfSome found (λ n. (front ≡ decimal n) × IsPathPeriod n)
-      → IfSome (period_of_centre found (cond passes (Some name) None)) (IsNamedAfter prefix path)
-  own_named front name None passes is_one parts named = tt
-  own_named front name (Some n) false is_one parts named = tt
-  own_named front name (Some n) true is_one parts named = (
-    is
-        ∙ ap (λ text. prefix ++ text)
-        (parts ∙ ap (λ number. number ++ 47 ∷ name) named.0 ∙ sym (text_begins n (Some name))),
-    named.1,
-    is_one,
-  )
+-- of a centre
+own_named : (text front name : List ℕ) (found : Option ℕ) (passes : Bool) → is_name name ≡ passes
+    → text ≡ front ++ 47 ∷ name → IfSome found (λ n. (front ≡ decimal n) × IsPathPeriod n)
+    → IfSome (period_of_centre found (cond passes (Some name) None)) (IsNamedBy text)
+own_named text front name None passes is_one parts named = tt
+own_named text front name (Some n) false is_one parts named = tt
+own_named text front name (Some n) true is_one parts named = (
+  parts ∙ ap (λ number. number ++ 47 ∷ name) named.0 ∙ sym (text_begins n (Some name)),
+  named.1,
+  is_one,
+)
 
-  by_named : (front : List ℕ) (name : Option (List ℕ)) → IsJoined rest front name
-      → IfSome (period_by (period front) name) (IsNamedAfter prefix path)
-  by_named front None whole = all_named front (period front) whole (period_named front)
-  by_named front (Some name) parts =
-      own_named front name (period front) (is_name name) refl parts (period_named front)
+by_named : (text front : List ℕ) (name : Option (List ℕ)) → IsJoined text front name
+    → IfSome (period_by (period front) name) (IsNamedBy text)
+by_named text front None whole = all_named text front (period front) whole (period_named front)
+by_named text front (Some name) parts =
+    own_named text front name (period front) (is_name name) refl parts (period_named front)
 
-  rest_names : IfSome (period_in rest) (IsNamedAfter prefix path)
-  unfolding period_in
-  rest_names = by_named (before_slash rest) (after_slash rest) (joined rest)
-
-pub after_named : (prefix path : List ℕ)
-    → IfSome (period_after prefix path) (IsNamedAfter prefix path)
-after_named prefix path = by (path_rest prefix path) (rest_named prefix path)
-  where
-    by : (rest : Option (List ℕ)) → IfSome rest (λ rest. path ≡ prefix ++ rest)
-        → IfSome (option_and_then period_in rest) (IsNamedAfter prefix path)
-    by None is = tt
-    by (Some rest) is = rest_names prefix path rest is
+pub text_names : (text : List ℕ) → IfSome (period_in text) (IsNamedBy text)
+unfolding period_in
+text_names text = by_named text (before_slash text) (after_slash text) (joined text)
 
 -- ---- what has its text there is named
 
@@ -90,14 +75,8 @@ own_found n centre named is_one =
     ∙ ap₂ period_of_centre (period_found n named)
     (ap (λ passes. cond passes (Some centre) None) is_one)
 
-text_named : (n : ℕ) (centre : Option (List ℕ)) → IsPathPeriod n → IfSome centre IsName
+pub text_named : (n : ℕ) (centre : Option (List ℕ)) → IsPathPeriod n → IfSome centre IsName
     → period_in (period_text n centre) ≡ Some (n, centre)
 text_named n None named is_one = all_found n named
 text_named n (Some centre) named is_one =
     ap period_in (text_begins n (Some centre)) ∙ own_found n centre named is_one
-
-pub after_found : (prefix : List ℕ) (n : ℕ) (centre : Option (List ℕ)) → IsPathPeriod n
-    → IfSome centre IsName → period_after prefix (prefix ++ period_text n centre) ≡ Some (n, centre)
-after_found prefix n centre named is_one =
-    ap (option_and_then period_in) (rest_found prefix (period_text n centre))
-    ∙ text_named n centre named is_one

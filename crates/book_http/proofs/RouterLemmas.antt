@@ -185,23 +185,13 @@ seek_at walked rows (b ∷ path) h =
 -- the path of a page that names no period, no record and no day
 abbrev pub plain_path : Page → Option (List ℕ)
 plain_path page.Office = Some (codes "/")
-plain_path page.Period = None
 plain_path page.Periods = Some (codes "/periods")
-plain_path page.Statement = None
-plain_path page.StatementCsv = None
-plain_path page.Adjustments = None
-plain_path page.AdjustmentsCsv = None
-plain_path page.Details = None
-plain_path page.DetailsCsv = None
 plain_path page.Disputes = Some (codes "/disputes")
 plain_path page.DisputesCsv = Some (codes "/disputes-csv")
-plain_path page.Record = None
 plain_path page.Rulings = Some (codes "/rulings")
-plain_path page.Tariff = None
-plain_path page.WhatIf = None
-plain_path page.WhatIfCsv = None
 plain_path page.Import = Some (codes "/import")
 plain_path page.ImportBdw = Some (codes "/import-bdw")
+plain_path found = None
 
 -- a key's text is the path of its page, where that names no period
 abbrev IsPlain : Key → Type 0
