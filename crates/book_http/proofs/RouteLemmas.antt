@@ -9,12 +9,7 @@ use Rattle.book_http.specs.declared.route.Page.TheVariants as page
 use Rattle.book_reports.specs.BookTexts.{report_of_all}
 use Rattle.book_reports.specs.declared.report.PeriodReport.{PeriodReport}
 use Rattle.book_reports.specs.declared.report.PeriodReport.TheVariants as of_period
-use Rattle.book_reports.specs.declared.report.Report.TheVariants.{Statement, StatementTable}
-use Rattle.book_reports.specs.declared.report.Report.TheVariants.{AdjustmentList, AdjustmentTable}
-use Rattle.book_reports.specs.declared.report.Report.TheVariants.{DisputeList, DisputeTable}
-use Rattle.book_reports.specs.declared.report.Report.TheVariants.{Bill, OfCentre, OfficePage}
-use Rattle.book_reports.specs.declared.report.Report.TheVariants.{PeriodList, PeriodPage}
-use Rattle.book_reports.specs.declared.report.Report.TheVariants.{Record, RulingList, TariffText}
+use Rattle.book_reports.specs.declared.report.Report.TheVariants as report_of
 use Rattle.book_reports.specs.declared.what_if.StatementForm.TheVariants as shown_as
 use Rattle.book_http.specs.declared.route.Route.{Route}
 use Rattle.book_http.specs.declared.route.Route.TheVariants as route_to
@@ -141,31 +136,31 @@ report_found asked n centre named is_one =
 -- what is served is found at its path
 pub path_found : (path : List ℕ) (asked : Route) → IsPathOf path asked → route path ≡ Some asked
 unfolding route_at
-path_found path (route_to.Report OfficePage) it =
+path_found path (route_to.Report report_of.OfficePage) it =
     ap route it.1 ∙ on_page page.Office _ _ (plain_found page.Office) refl
-path_found path (route_to.Report (PeriodPage n)) it = ap route it.1 ∙ period_page_found n it.0
-path_found path (route_to.Report PeriodList) it =
+path_found path (route_to.Report (report_of.PeriodPage n)) it = ap route it.1 ∙ period_page_found n it.0
+path_found path (route_to.Report report_of.PeriodList) it =
     ap route it.1 ∙ on_page page.Periods _ _ (plain_found page.Periods) refl
-path_found path (route_to.Report (Statement n)) it =
+path_found path (route_to.Report (report_of.Statement n)) it =
     ap route it.1 ∙ report_found of_period.Statement n None it.0 tt
-path_found path (route_to.Report (StatementTable n)) it =
+path_found path (route_to.Report (report_of.StatementTable n)) it =
     ap route it.1 ∙ report_found of_period.StatementTable n None it.0 tt
-path_found path (route_to.Report (AdjustmentList n)) it =
+path_found path (route_to.Report (report_of.AdjustmentList n)) it =
     ap route it.1 ∙ report_found of_period.AdjustmentList n None it.0 tt
-path_found path (route_to.Report (AdjustmentTable n)) it =
+path_found path (route_to.Report (report_of.AdjustmentTable n)) it =
     ap route it.1 ∙ report_found of_period.AdjustmentTable n None it.0 tt
-path_found path (route_to.Report (OfCentre asked n centre)) it =
+path_found path (route_to.Report (report_of.OfCentre asked n centre)) it =
     ap route it.1 ∙ report_found asked n (Some centre) it.0.0 it.0.1
-path_found path (route_to.Report DisputeList) it =
+path_found path (route_to.Report report_of.DisputeList) it =
     ap route it.1 ∙ on_page page.Disputes _ _ (plain_found page.Disputes) refl
-path_found path (route_to.Report DisputeTable) it =
+path_found path (route_to.Report report_of.DisputeTable) it =
     ap route it.1 ∙ on_page page.DisputesCsv _ _ (plain_found page.DisputesCsv) refl
-path_found path (route_to.Report (Record name)) it =
+path_found path (route_to.Report (report_of.Record name)) it =
     ap route it.1.1 ∙ record_found it.1.0 name it.1.2
-path_found path (route_to.Report RulingList) it =
+path_found path (route_to.Report report_of.RulingList) it =
     ap route it.1 ∙ on_page page.Rulings _ _ (plain_found page.Rulings) refl
-path_found path (route_to.Report (TariffText day)) it = ap route it.1 ∙ tariff_found day it.0
-path_found path (route_to.Report (Bill form n centre)) it = absurd it.0
+path_found path (route_to.Report (report_of.TariffText day)) it = ap route it.1 ∙ tariff_found day it.0
+path_found path (route_to.Report (report_of.Bill form n centre)) it = absurd it.0
 path_found path (route_to.Details details) it =
     ap route it.1 ∙ details_found details.form details.period details.centre it.0.0 it.0.1
 path_found path (route_to.WhatIf what_if) it =

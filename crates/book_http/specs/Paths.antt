@@ -6,12 +6,7 @@ use Rattle.book_model.specs.Words.{IsDay, IsName, day_text_of}
 use Rattle.book_reports.specs.RecordNames.{name_in}
 use Rattle.book_reports.specs.declared.report.PeriodReport.{PeriodReport}
 use Rattle.book_reports.specs.declared.report.PeriodReport.TheVariants as of_period
-use Rattle.book_reports.specs.declared.report.Report.TheVariants.{Statement, StatementTable}
-use Rattle.book_reports.specs.declared.report.Report.TheVariants.{AdjustmentList, AdjustmentTable}
-use Rattle.book_reports.specs.declared.report.Report.TheVariants.{DisputeList, DisputeTable}
-use Rattle.book_reports.specs.declared.report.Report.TheVariants.{Bill, OfCentre, OfficePage}
-use Rattle.book_reports.specs.declared.report.Report.TheVariants.{PeriodList, PeriodPage}
-use Rattle.book_reports.specs.declared.report.Report.TheVariants.{Record, RulingList, TariffText}
+use Rattle.book_reports.specs.declared.report.Report.TheVariants as report_of
 use Rattle.book_reports.specs.declared.what_if.StatementForm.{StatementForm}
 use Rattle.book_reports.specs.declared.what_if.StatementForm.TheVariants as shown_as
 use Rattle.book_http.specs.declared.route.Route.{Route}
@@ -25,20 +20,20 @@ IsPathPeriod n = (1 ≤ n) × (n ≤ 9999)
 -- each record, the tariff of each day, and the other reports of such a period but for bills, of the whole
 -- office and of each centre, and its details; what such a period would have cost; imports
 abbrev pub IsServedRoute : Route → Type 0
-IsServedRoute (route_to.Report OfficePage) = ⊤
-IsServedRoute (route_to.Report (PeriodPage n)) = IsPathPeriod n
-IsServedRoute (route_to.Report PeriodList) = ⊤
-IsServedRoute (route_to.Report (Statement n)) = IsPathPeriod n
-IsServedRoute (route_to.Report (StatementTable n)) = IsPathPeriod n
-IsServedRoute (route_to.Report (AdjustmentList n)) = IsPathPeriod n
-IsServedRoute (route_to.Report (AdjustmentTable n)) = IsPathPeriod n
-IsServedRoute (route_to.Report (OfCentre asked n centre)) = IsPathPeriod n × IsName centre
-IsServedRoute (route_to.Report DisputeList) = ⊤
-IsServedRoute (route_to.Report DisputeTable) = ⊤
-IsServedRoute (route_to.Report (Record name)) = ⊤
-IsServedRoute (route_to.Report RulingList) = ⊤
-IsServedRoute (route_to.Report (TariffText day)) = IsDay day
-IsServedRoute (route_to.Report (Bill form n centre)) = ⊥
+IsServedRoute (route_to.Report report_of.OfficePage) = ⊤
+IsServedRoute (route_to.Report (report_of.PeriodPage n)) = IsPathPeriod n
+IsServedRoute (route_to.Report report_of.PeriodList) = ⊤
+IsServedRoute (route_to.Report (report_of.Statement n)) = IsPathPeriod n
+IsServedRoute (route_to.Report (report_of.StatementTable n)) = IsPathPeriod n
+IsServedRoute (route_to.Report (report_of.AdjustmentList n)) = IsPathPeriod n
+IsServedRoute (route_to.Report (report_of.AdjustmentTable n)) = IsPathPeriod n
+IsServedRoute (route_to.Report (report_of.OfCentre asked n centre)) = IsPathPeriod n × IsName centre
+IsServedRoute (route_to.Report report_of.DisputeList) = ⊤
+IsServedRoute (route_to.Report report_of.DisputeTable) = ⊤
+IsServedRoute (route_to.Report (report_of.Record name)) = ⊤
+IsServedRoute (route_to.Report report_of.RulingList) = ⊤
+IsServedRoute (route_to.Report (report_of.TariffText day)) = IsDay day
+IsServedRoute (route_to.Report (report_of.Bill form n centre)) = ⊥
 IsServedRoute (route_to.Details details) = IsPathPeriod details.period × IfSome details.centre IsName
 IsServedRoute (route_to.WhatIf what_if) = IsPathPeriod what_if.period × IfSome what_if.centre IsName
 IsServedRoute (route_to.Import layout) = ⊤
@@ -72,25 +67,25 @@ IsPathOfRecord name path =
 
 -- the path of what is served
 abbrev pub HasPath : Route → List ℕ → Type 0
-HasPath (route_to.Report OfficePage) path = path ≡ codes "/"
-HasPath (route_to.Report (PeriodPage n)) path = path ≡ codes "/period/" ++ decimal n
-HasPath (route_to.Report PeriodList) path = path ≡ codes "/periods"
-HasPath (route_to.Report (Statement n)) path =
+HasPath (route_to.Report report_of.OfficePage) path = path ≡ codes "/"
+HasPath (route_to.Report (report_of.PeriodPage n)) path = path ≡ codes "/period/" ++ decimal n
+HasPath (route_to.Report report_of.PeriodList) path = path ≡ codes "/periods"
+HasPath (route_to.Report (report_of.Statement n)) path =
     path ≡ period_path of_period.Statement ++ decimal n
-HasPath (route_to.Report (StatementTable n)) path =
+HasPath (route_to.Report (report_of.StatementTable n)) path =
     path ≡ period_path of_period.StatementTable ++ decimal n
-HasPath (route_to.Report (AdjustmentList n)) path =
+HasPath (route_to.Report (report_of.AdjustmentList n)) path =
     path ≡ period_path of_period.AdjustmentList ++ decimal n
-HasPath (route_to.Report (AdjustmentTable n)) path =
+HasPath (route_to.Report (report_of.AdjustmentTable n)) path =
     path ≡ period_path of_period.AdjustmentTable ++ decimal n
-HasPath (route_to.Report (OfCentre asked n centre)) path =
+HasPath (route_to.Report (report_of.OfCentre asked n centre)) path =
     path ≡ period_path asked ++ period_text n (Some centre)
-HasPath (route_to.Report DisputeList) path = path ≡ codes "/disputes"
-HasPath (route_to.Report DisputeTable) path = path ≡ codes "/disputes-csv"
-HasPath (route_to.Report (Record name)) path = IsPathOfRecord name path
-HasPath (route_to.Report RulingList) path = path ≡ codes "/rulings"
-HasPath (route_to.Report (TariffText day)) path = path ≡ codes "/tariff/" ++ day_text_of day
-HasPath (route_to.Report (Bill form n centre)) path = ⊥
+HasPath (route_to.Report report_of.DisputeList) path = path ≡ codes "/disputes"
+HasPath (route_to.Report report_of.DisputeTable) path = path ≡ codes "/disputes-csv"
+HasPath (route_to.Report (report_of.Record name)) path = IsPathOfRecord name path
+HasPath (route_to.Report report_of.RulingList) path = path ≡ codes "/rulings"
+HasPath (route_to.Report (report_of.TariffText day)) path = path ≡ codes "/tariff/" ++ day_text_of day
+HasPath (route_to.Report (report_of.Bill form n centre)) path = ⊥
 HasPath (route_to.Details details) path =
     path ≡ details_path details.form ++ period_text details.period details.centre
 HasPath (route_to.WhatIf what_if) path =
