@@ -11,13 +11,11 @@ use Rattle.book_core.proofs.TransitionLemmas.{Implies, no_work, work_as}
 use Rattle.book_reports.specs.declared.streamed_details.DetailReport.{DetailReport}
 use Rattle.book_http.specs.declared.asked.Asked.{Asked}
 use Rattle.book_http.specs.declared.asked.Asked.TheVariants as asks
-use Rattle.book_http.specs.declared.requested.OfficeRequest.{OfficeRequest}
-use Rattle.book_http.specs.declared.requested.OfficeRequest.TheVariants as office
 use Rattle.book_http.specs.declared.requested.Requested.{Requested}
 use Rattle.book_http.specs.declared.requested.Requested.TheVariants as requested
 use Rattle.book_http.specs.declared.served.Served.{Served}
 use Rattle.book_http.specs.declared.served.Served.TheVariants as served
-use Rattle.book_http.specs.declared.status.Status.TheVariants.{BadRequest, Unavailable}
+use Rattle.book_http.specs.declared.status.Status.TheVariants.{BadRequest}
 use Rattle.book_http.specs.Answer.{Answers, AnswersAsked, AnswersDetails, AnswersImport}
 use Rattle.book_http.specs.Answer.{AnswersWhatIf, RefusesRequest, UnlessBad, a_head, done, no_head}
 use Rattle.book_http.specs.Answer.{no_memory}
@@ -25,7 +23,7 @@ use Rattle.book_http.specs.Asked.{asked}
 use Rattle.book_http.specs.Replies.{Reply, refusal}
 use Rattle.book_http.specs.Requested.{AnswersRequest, AreAsking, IsAsking, RequestSeen, Settles}
 use Rattle.book_http.specs.Requested.{WantsDetails, WantsImport, WantsWhatIf}
-use Rattle.book_http.specs.Requested.{headed, headless, office_seen, request_seen, wanted_by}
+use Rattle.book_http.specs.Requested.{headed, headless, request_seen, wanted_by}
 use Rattle.book_http.specs.Served.{AsksDetails, IsReplied, IsSent, IsServed, IsStreamed}
 use Rattle.book_http.specs.Served.{SendsAsRead, SendsReplyAsRead, ServesDetails, is_unanswered}
 use Rattle.book_http.proofs.LawLemmas.{request_done, sent_done}
@@ -78,26 +76,6 @@ bytes_answered naming bytes request reply (headed head behind stands (inr same))
     λ was before events is made. a_head head behind stands
     (no_memory
     (subst (λ request. AnswersRequest naming request reply was before events is) same made))
-
--- nothing is asked of the books
-abbrev pub is_settled : RequestSeen → Bool
-is_settled (Settles reply) = true
-is_settled request = false
-
-pub office_asks : (request : OfficeRequest) → is_settled (office_seen request) ≡ false
-office_asks (office.Report report) = refl
-office_asks (office.WhatIf what_if body) = refl
-office_asks (office.Import layout body) = refl
-
--- books that can't be opened answer that they can't, whatever is asked of them
-pub unopened_answered : (naming : Naming) (bytes : List ℕ) (request : RequestSeen)
-    → is_settled request ≡ false → AreAsking bytes request
-    → Implies NoEvent (Answers naming bytes (refusal Unavailable))
-unopened_answered naming bytes request asks_books (headless some never same) =
-    absurd (true≢false (sym (ap is_settled same) ∙ asks_books))
-unopened_answered naming bytes request asks_books (headed head behind stands due) =
-    λ was before events is nothing. a_head head behind stands
-    (no_memory (record { none = nothing; replied = refl }))
 
 -- ---- what was served
 

@@ -24,7 +24,7 @@ use Rattle.command_line.specs.declared.request.Request.{Request}
 use Rattle.command_line.specs.declared.request.Request.TheVariants as request
 use Rattle.command_line.specs.declared.request.Ruling.{Ruling}
 use Rattle.command_line.specs.declared.fault.ArgumentFault.{ArgumentFault}
-use Rattle.command_line.specs.Known.{AreReadAs, texts_of}
+use Rattle.command_line.specs.Known.{AreReadAs, as_texts}
 use Rattle.command_line.specs.Requests.{request_of}
 use Rattle.program_output.specs.declared.status.Status.{Status}
 use Rattle.program_output.specs.Messages.{program_name}
@@ -258,7 +258,7 @@ RunsOn naming name history asked held holds status made = made ≡ []
 pub record DoneAfter {S E : Type 0} (naming : Naming) (name : List ℕ) (history : List Event)
     (command : Commanded S E) (made : List Event) : Type 0 where
   pub asked : Result Request ArgumentFault
-  pub read : AreReadAs program_name most_rate (texts_of command.words) asked
+  pub read : AreReadAs program_name most_rate (as_texts command.words) asked
   pub runs : RunsOn naming name history asked command.held command.holds command.status made
   pub answered : IsMadeByCalls naming (made ++ history)
 

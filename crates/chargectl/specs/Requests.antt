@@ -12,7 +12,7 @@ use Rattle.command_line.specs.declared.request.BookRequest.TheVariants as book
 use Rattle.command_line.specs.declared.request.Request.{Request}
 use Rattle.command_line.specs.declared.request.Request.TheVariants as request
 use Rattle.command_line.specs.declared.fault.ArgumentFault.{ArgumentFault}
-use Rattle.command_line.specs.Known.{AreReadAs, texts_of}
+use Rattle.command_line.specs.Known.{AreReadAs, as_texts}
 use Rattle.command_line.specs.declared.fault.ArgumentFault.TheVariants as words
 use Rattle.program_output.specs.declared.status.Status.{Status}
 use Rattle.program_output.specs.declared.status.Status.TheVariants as status
@@ -160,5 +160,5 @@ pub record CommandsBy {S E : Type 0} (shelf : S → Shelf) (waits : S → ℕ �
     (words : List (String Global)) (had held holds : Option (List ℕ)) (Says : List (List ℕ) → E → E → Type 0) (quiet said : E)
     (status : Status) : Type 0 where
   pub asked : Result Request ArgumentFault
-  pub read : AreReadAs program_name most_rate (texts_of words) asked
+  pub read : AreReadAs program_name most_rate (as_texts words) asked
   pub done : DoesOrRefuses shelf waits old new asked had held holds (λ lines. Says lines quiet said) status

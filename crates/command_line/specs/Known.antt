@@ -21,8 +21,8 @@ use Rattle.command_line.specs.Requests.{IsRequest}
 use Rattle.command_line.specs.Shapes.{app_for, distinct, leaf}
 
 -- the words of a command line, as texts
-abbrev pub texts_of : List (String Global) → List Text
-texts_of words = map string_bytes words
+abbrev pub as_texts : List (String Global) → List Text
+as_texts words = map string_bytes words
 
 -- what a value may be, a word or an option, and a command, as one reads them
 pub data ValueSeen : Type 0 where

@@ -4,7 +4,7 @@ ghost use Rattle.std.specs.Prelude.{◌≡◌, IfOk};
 ghost use Rattle.clap.specs.Values.{kind_of};
 ghost use Rattle.clap.specs.Walk.{rule_of};
 ghost use Rattle.clap.specs.Simple.{app_of, shape_of};
-ghost use Rattle.command_line.specs.Known.{AreReadAs, IsFaultOf, IsTable, texts_of};
+ghost use Rattle.command_line.specs.Known.{AreReadAs, IsFaultOf, IsTable, as_texts};
 ghost use Rattle.command_line.specs.Shapes as spec;
 ghost use Rattle.command_line.specs.Shapes.{AreFor, AreCommandsOf, HasNoGlobals, IsOwn};
 
@@ -155,7 +155,7 @@ pub fn requested_by<'a>(
     words: &'a [String],
     highest: u32,
 ) -> Result<Request<'a>, ArgumentFault>
-    ensures { AreReadAs program.entry.now highest (texts_of words.entry.now) result }
+    ensures { AreReadAs program.entry.now highest (as_texts words.entry.now) result }
 {
     let Ok(line) = command_line(alloc, program, all_commands(), highest) else {
         return Err(ArgumentFault::Memory);

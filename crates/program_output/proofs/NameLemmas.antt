@@ -6,7 +6,7 @@ use Rattle.std.proofs.Common.{lt-ltb, ne_eqb}
 use Rattle.std.specs.List.{All, onto_first, slice_split}
 use Rattle.std.specs.Prelude.{IfErr, IsErrAnd, nat_lt}
 use Rattle.std.specs.Str.Lines.{lines, lines_of_parts, strip_carriage_return}
-use Rattle.std.proofs.lemmas.List.Elements.{All-nil, All-push}
+use Rattle.std.proofs.lemmas.List.Elements.{All-nil}
 use Rattle.std.proofs.lemmas.List.Splits.{slice_split_at, slice_split_none}
 use Rattle.book_model.specs.Limits.{most_choices}
 use Rattle.program_output.specs.declared.names.NameList.{NameList}
@@ -112,19 +112,6 @@ none_read list names line = record {
     joined_none : (found : Names) → found ≡ joined [] found
     joined_none (Ok more) = refl
     joined_none (Err why) = refl
-
--- a byte of a line
-pub byte_read : (text : List ℕ) (old new : NameList) (byte : ℕ) → HasRead text old
-    → is_feed byte ≡ false → new.names.items ≡ old.names.items
-    → new.line.items ≡ old.line.items ++ byte ∷ [] → HasRead (text ++ byte ∷ []) new
-byte_read text old new byte had inside names line = record {
-  names = λ more. ap names_in (append_assoc text (byte ∷ []) more) ∙ had.names (byte ∷ more)
-      ∙ ap (λ left. names_after old.names.items (lines left))
-      (sym (append_assoc old.line.items (byte ∷ []) more))
-      ∙ (λ i. names_after (sym names i) (lines (sym line i ++ more)));
-  unended = subst (All (λ byte. is_feed byte ≡ false)) (sym line)
-      (All-push (λ byte. is_feed byte ≡ false) old.line.items byte had.unended inside);
-}
 
 -- the line feed after a line
 pub line_read : (text : List ℕ) (old new : NameList) (byte : ℕ) (line : List ℕ) → byte ≡ 10
