@@ -111,97 +111,77 @@ import_counted naming dump (Ok (Ruling ruled)) was before events is never = absu
 import_counted naming dump (Ok (Text text)) was before events is never = absurd never
 import_counted naming dump (Err fault) was before events is never = absurd never
 
--- where the second did nothing, the first alone did
-nothing_more : (before : Book) (first second : List Event) → second ≡ []
-    → after_all (second ++ first) before ≡ after_all first before
-nothing_more before first second none =
-    ap (λ (events : List Event). after_all (events ++ first) before) none
+-- a request, and then the same once more
+module _ (naming : Naming) (once twice : Reply) (before : Book) (first second : List Event)
+    (between is : Bool) where
+  -- where the second did nothing, the first alone did
+  nothing_more : second ≡ [] → after_all (second ++ first) before ≡ after_all first before
+  nothing_more none = ap (λ (events : List Event). after_all (events ++ first) before) none
 
--- the same import twice
-import_twice : (short : Bool) (naming : Naming) (layout : Layout) (body : List ℕ)
-    (once twice : Reply) (before : Book) (first second : List Event) (between is : Bool)
-    → UnlessBad short (AnswersImport naming layout body once) once false before first between
-    → IsUnhindered once
-    → UnlessBad short (AnswersImport naming layout body twice) twice between (after_all first before)
-    second is → after_all (second ++ first) before ≡ after_all first before
-import_twice true naming layout body once twice before first second between is one unhindered two =
-    nothing_more before first second two.none.none
-import_twice false naming layout body once twice before first second between is one unhindered two =
-    let dump = whole_dump layout body in
-    let found = front layout body in
-    let stop = stop_after None found in
-    let a = import_counted naming dump one.told false before first between one.made in
-    let b = import_counted naming dump two.told between (after_all first before) second is two.made
-    in
-    twice_is_once naming before stop stop found.records a.receipt b.receipt first second between is
-    a.imported
-    (unhindered.whole a.receipt (one.replied ∙ ap (office_reply kinds.Text) a.counted)) b.imported
+  import_twice : (short : Bool) (layout : Layout) (body : List ℕ)
+      → UnlessBad short (AnswersImport naming layout body once) once false before first between
+      → IsUnhindered once
+      → UnlessBad short (AnswersImport naming layout body twice) twice between (after_all first before)
+      second is → after_all (second ++ first) before ≡ after_all first before
+  import_twice true layout body one unhindered two = nothing_more two.none.none
+  import_twice false layout body one unhindered two =
+      let dump = whole_dump layout body in
+      let found = front layout body in
+      let stop = stop_after None found in
+      let a = import_counted naming dump one.told false before first between one.made in
+      let b = import_counted naming dump two.told between (after_all first before) second is two.made
+      in
+      twice_is_once naming before stop stop found.records a.receipt b.receipt first second between is
+      a.imported
+      (unhindered.whole a.receipt (one.replied ∙ ap (office_reply kinds.Text) a.counted)) b.imported
 
--- what a head asks, twice
-asked_twice : (wanted : Asked) (naming : Naming) (behind : List ℕ) (once twice : Reply)
-    (before : Book) (first second : List Event) (between is : Bool)
-    → AnswersAsked naming wanted behind once false before first between → IsUnhindered once
-    → AnswersAsked naming wanted behind twice between (after_all first before) second is
-    → after_all (second ++ first) before ≡ after_all first before
-asked_twice (asks.Refusal status) naming behind once twice before first second between is one
-    unhindered two =
-    nothing_more before first second two.none.none
-asked_twice (asks.OtherMethod method) naming behind once twice before first second between is one
-    unhindered two =
-    nothing_more before first second two.none.none
-asked_twice (asks.Report report) naming behind once twice before first second between is one
-    unhindered two =
-    nothing_more before first second
-    (report_none naming report twice between (after_all first before) second is two)
-asked_twice (asks.Details wanted) naming behind once twice before first second between is one
-    unhindered two =
-    nothing_more before first second
-    (details_none naming wanted twice between (after_all first before) second is two)
-asked_twice (asks.WhatIf what_if size) naming behind once twice before first second between is one
-    unhindered two =
-    nothing_more before first second
-    (what_if_body_none what_if size behind twice between (after_all first before) second is two)
-asked_twice (asks.Import layout size) naming behind once twice before first second between is one
-    unhindered two =
-    import_twice (ltb (length behind) size) naming layout (take size behind) once twice before
-    first second between is one unhindered two
+  -- what a head asks
+  asked_twice : (wanted : Asked) (behind : List ℕ)
+      → AnswersAsked naming wanted behind once false before first between → IsUnhindered once
+      → AnswersAsked naming wanted behind twice between (after_all first before) second is
+      → after_all (second ++ first) before ≡ after_all first before
+  asked_twice (asks.Refusal status) behind one unhindered two = nothing_more two.none.none
+  asked_twice (asks.OtherMethod method) behind one unhindered two = nothing_more two.none.none
+  asked_twice (asks.Report report) behind one unhindered two =
+      nothing_more (report_none naming report twice between (after_all first before) second is two)
+  asked_twice (asks.Details wanted) behind one unhindered two =
+      nothing_more (details_none naming wanted twice between (after_all first before) second is two)
+  asked_twice (asks.WhatIf what_if size) behind one unhindered two =
+      nothing_more
+      (what_if_body_none what_if size behind twice between (after_all first before) second is two)
+  asked_twice (asks.Import layout size) behind one unhindered two =
+      import_twice (ltb (length behind) size) layout (take size behind) one unhindered two
 
--- a head's request, after another request of the same bytes
-head_twice : (naming : Naming) (bytes : List ℕ) (once twice : Reply) (before : Book)
-    (first second : List Event) (between is : Bool) (head : RequestHead) (behind : List ℕ)
-    → HasHead bytes head behind
-    → Answers naming bytes once false before first between → IsUnhindered once
-    → AnswersAsked naming (asked head) behind twice between (after_all first before) second is
-    → after_all (second ++ first) before ≡ after_all first before
-head_twice naming bytes once twice before first second between is head behind stands
-    (no_head some never refused) unhindered two =
-    absurd (never head behind stands)
-head_twice naming bytes once twice before first second between is head behind stands
-    (a_head other rest there (no_memory refused)) unhindered two =
-    absurd (unhindered.done refused.replied)
-head_twice naming bytes once twice before first second between is head behind stands
-    (a_head other rest there (done made)) unhindered two =
-    let same = head_unique bytes other head rest behind there stands in
-    let one = subst
-    (λ (h : RequestHead). AnswersAsked naming (asked h) behind once false before first between)
-    same.0
-    (subst (λ (b : List ℕ). AnswersAsked naming (asked other) b once false before first between)
-    same.1 made) in
-    asked_twice (asked head) naming behind once twice before first second between is one unhindered
-    two
+  -- a head's request, after another request of the same bytes
+  head_twice : (bytes : List ℕ) (head : RequestHead) (behind : List ℕ) → HasHead bytes head behind
+      → Answers naming bytes once false before first between → IsUnhindered once
+      → AnswersAsked naming (asked head) behind twice between (after_all first before) second is
+      → after_all (second ++ first) before ≡ after_all first before
+  head_twice bytes head behind stands (no_head some never refused) unhindered two =
+      absurd (never head behind stands)
+  head_twice bytes head behind stands (a_head other rest there (no_memory refused)) unhindered two =
+      absurd (unhindered.done refused.replied)
+  head_twice bytes head behind stands (a_head other rest there (done made)) unhindered two =
+      let same = head_unique bytes other head rest behind there stands in
+      let one = subst
+      (λ (h : RequestHead). AnswersAsked naming (asked h) behind once false before first between)
+      same.0
+      (subst (λ (b : List ℕ). AnswersAsked naming (asked other) b once false before first between)
+      same.1 made) in
+      asked_twice (asked head) behind one unhindered two
 
 -- the law of it
 pub request_twice_is_once : RequestTwiceIsOnce
 request_twice_is_once naming before bytes once twice first second between is one unhindered
     (no_head some never refused) =
-    nothing_more before first second refused.none.none
+    nothing_more naming once twice before first second between is refused.none.none
 request_twice_is_once naming before bytes once twice first second between is one unhindered
     (a_head head behind stands (no_memory refused)) =
-    nothing_more before first second refused.none.none
+    nothing_more naming once twice before first second between is refused.none.none
 request_twice_is_once naming before bytes once twice first second between is one unhindered
     (a_head head behind stands (done two)) =
-    head_twice naming bytes once twice before first second between is head behind stands one
-    unhindered two
+    head_twice naming once twice before first second between is bytes head behind stands one unhindered
+    two
 
 -- events that are none are answered
 none_answered : (naming : Naming) (past events : List Event) → events ≡ []

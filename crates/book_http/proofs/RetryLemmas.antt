@@ -25,13 +25,6 @@ use Rattle.book_http.specs.Replies.{Reply}
 use Rattle.book_http.proofs.HeadLemmas.{head_unique}
 use Rattle.book_http.proofs.LawLemmas.{details_none, import_counted, report_none, what_if_body_none}
 
--- three requests that did nothing
-none_at_all : (before : Book) (first second all : List Event) → first ≡ [] → second ≡ [] → all ≡ []
-    → after_all (second ++ first) before ≡ after_all all before
-none_at_all before first second all none nothing nil =
-    ap (λ events. after_all (events ++ first) before) nothing
-    ∙ ap (λ events. after_all events before) (none ∙ sym nil)
-
 -- an import that nothing hindered leaves the books of a whole one
 import_left : (naming : Naming) (stop : Stop) (records : List (List ℕ)) (before : Book)
     (told : Receipt) (events : List Event) (is : Bool)
@@ -41,92 +34,84 @@ import_left naming stop records before told events is handled unhindered =
     ap (λ events. after_all events before)
     (sym (is_whole naming stop records before told events is handled unhindered).told.events)
 
--- the same import after one that was hindered, or that did nothing
-import_mended : (short : Bool) (naming : Naming) (layout : Layout) (body : List ℕ)
-    (once twice alone : Reply) (before : Book) (first second all : List Event)
-    (between is end : Bool)
-    → (first ≡ [])
-    ⊎ UnlessBad short (AnswersImport naming layout body once) once false before first between
-    → UnlessBad short (AnswersImport naming layout body twice) twice false (after_all first before)
-    second is → IsWhole twice
-    → UnlessBad short (AnswersImport naming layout body alone) alone false before all end
-    → IsUnhindered alone → after_all (second ++ first) before ≡ after_all all before
-import_mended true naming layout body once twice alone before first second all between is end one two
-    whole single unhindered =
-    none_at_all before first second all (elim one [ inl none ↦ none | inr made ↦ made.none.none ])
-    two.none.none single.none.none
-import_mended false naming layout body once twice alone before first second all between is end one
-    two whole single unhindered =
-    let dump = whole_dump layout body in
-    let found = front layout body in
-    let stop = stop_after None found in
-    let b = import_counted naming dump two.told false (after_all first before) second is two.made in
-    let c = import_counted naming dump single.told false before all end single.made in
-    let counted = two.replied ∙ ap (office_reply kinds.Text) b.counted in
-    let left : after_all all before ≡ book_after_import naming before stop found.records =
-    import_left naming stop found.records before c.receipt all end c.imported
-    (unhindered.whole c.receipt (single.replied ∙ ap (office_reply kinds.Text) c.counted)) in
-    elim one [
-      | inl none ↦
-          ap (λ events. after_all (second ++ events) before) none
-          ∙ ap (λ events. after_all events before) (append-nil second)
-          ∙ import_left naming stop found.records before b.receipt second is
-          (subst (λ events. Handles naming stop found.records b.receipt false
-          (after_all events before) second is) none b.imported)
-          (whole.unhindered.whole b.receipt counted) ∙ sym left
-      | inr made ↦
-          let a = import_counted naming dump made.told false before first between made.made in
-          stops_are_mended naming before stop stop found.records a.receipt b.receipt first second
-          between is a.imported b.imported (whole.unhindered.whole b.receipt counted)
-          (whole.apart b.receipt counted) ∙ sym left
-    ]
+-- a request, the same after one that was hindered, or that did nothing, and the same alone
+module _ (once twice alone : Reply) (before : Book) (first second all : List Event)
+    (between is end : Bool) where
+  -- three that did nothing
+  none_at_all : first ≡ [] → second ≡ [] → all ≡ []
+      → after_all (second ++ first) before ≡ after_all all before
+  none_at_all none nothing nil =
+      ap (λ events. after_all (events ++ first) before) nothing
+      ∙ ap (λ events. after_all events before) (none ∙ sym nil)
 
--- what a head asks, after a request that was hindered, or that did nothing
-asked_mended : (wanted : Asked) (naming : Naming) (behind : List ℕ) (once twice alone : Reply)
-    (before : Book) (first second all : List Event) (between is end : Bool)
-    → (first ≡ []) ⊎ AnswersAsked naming wanted behind once false before first between
-    → AnswersAsked naming wanted behind twice false (after_all first before) second is
-    → IsWhole twice → AnswersAsked naming wanted behind alone false before all end
-    → IsUnhindered alone → after_all (second ++ first) before ≡ after_all all before
-asked_mended (asks.Refusal status) naming behind once twice alone before first second all between is
-    end one two whole single unhindered =
-    none_at_all before first second all (elim one [ inl none ↦ none | inr made ↦ made.none.none ])
-    two.none.none single.none.none
-asked_mended (asks.OtherMethod method) naming behind once twice alone before first second all between
-    is end one two whole single unhindered =
-    none_at_all before first second all (elim one [ inl none ↦ none | inr made ↦ made.none.none ])
-    two.none.none single.none.none
-asked_mended (asks.Report report) naming behind once twice alone before first second all between is
-    end one two whole single unhindered =
-    none_at_all before first second all
-    (elim one [
-      | inl none ↦ none
-      | inr made ↦ report_none naming report once false before first between made
-    ])
-    (report_none naming report twice false (after_all first before) second is two)
-    (report_none naming report alone false before all end single)
-asked_mended (asks.Details wanted) naming behind once twice alone before first second all between is
-    end one two whole single unhindered =
-    none_at_all before first second all
-    (elim one [
-      | inl none ↦ none
-      | inr made ↦ details_none naming wanted once false before first between made
-    ])
-    (details_none naming wanted twice false (after_all first before) second is two)
-    (details_none naming wanted alone false before all end single)
-asked_mended (asks.WhatIf what_if size) naming behind once twice alone before first second all
-    between is end one two whole single unhindered =
-    none_at_all before first second all
-    (elim one [
-      | inl none ↦ none
-      | inr made ↦ what_if_body_none what_if size behind once false before first between made
-    ])
-    (what_if_body_none what_if size behind twice false (after_all first before) second is two)
-    (what_if_body_none what_if size behind alone false before all end single)
-asked_mended (asks.Import layout size) naming behind once twice alone before first second all between
-    is end one two whole single unhindered =
-    import_mended (ltb (length behind) size) naming layout (take size behind) once twice alone before
-    first second all between is end one two whole single unhindered
+  -- whatever the first was
+  none_once : {Made : Type 0} → (first ≡ []) ⊎ Made → (Made → first ≡ []) → first ≡ []
+  none_once (inl none) so = none
+  none_once (inr made) so = so made
+
+  import_mended : (short : Bool) (naming : Naming) (layout : Layout) (body : List ℕ)
+      → (first ≡ [])
+      ⊎ UnlessBad short (AnswersImport naming layout body once) once false before first between
+      → UnlessBad short (AnswersImport naming layout body twice) twice false (after_all first before)
+      second is → IsWhole twice
+      → UnlessBad short (AnswersImport naming layout body alone) alone false before all end
+      → IsUnhindered alone → after_all (second ++ first) before ≡ after_all all before
+  import_mended true naming layout body one two whole single unhindered =
+      none_at_all (none_once one (λ made. made.none.none)) two.none.none single.none.none
+  import_mended false naming layout body one two whole single unhindered =
+      let dump = whole_dump layout body in
+      let found = front layout body in
+      let stop = stop_after None found in
+      let b = import_counted naming dump two.told false (after_all first before) second is two.made in
+      let c = import_counted naming dump single.told false before all end single.made in
+      let counted = two.replied ∙ ap (office_reply kinds.Text) b.counted in
+      let left : after_all all before ≡ book_after_import naming before stop found.records =
+      import_left naming stop found.records before c.receipt all end c.imported
+      (unhindered.whole c.receipt (single.replied ∙ ap (office_reply kinds.Text) c.counted)) in
+      elim one [
+        | inl none ↦
+            ap (λ events. after_all (second ++ events) before) none
+            ∙ ap (λ events. after_all events before) (append-nil second)
+            ∙ import_left naming stop found.records before b.receipt second is
+            (subst (λ events. Handles naming stop found.records b.receipt false
+            (after_all events before) second is) none b.imported)
+            (whole.unhindered.whole b.receipt counted) ∙ sym left
+        | inr made ↦
+            let a = import_counted naming dump made.told false before first between made.made in
+            stops_are_mended naming before stop stop found.records a.receipt b.receipt first second
+            between is a.imported b.imported (whole.unhindered.whole b.receipt counted)
+            (whole.apart b.receipt counted) ∙ sym left
+      ]
+
+  -- what a head asks
+  asked_mended : (wanted : Asked) (naming : Naming) (behind : List ℕ)
+      → (first ≡ []) ⊎ AnswersAsked naming wanted behind once false before first between
+      → AnswersAsked naming wanted behind twice false (after_all first before) second is
+      → IsWhole twice → AnswersAsked naming wanted behind alone false before all end
+      → IsUnhindered alone → after_all (second ++ first) before ≡ after_all all before
+  asked_mended (asks.Refusal status) naming behind one two whole single unhindered =
+      none_at_all (none_once one (λ made. made.none.none)) two.none.none single.none.none
+  asked_mended (asks.OtherMethod method) naming behind one two whole single unhindered =
+      none_at_all (none_once one (λ made. made.none.none)) two.none.none single.none.none
+  asked_mended (asks.Report report) naming behind one two whole single unhindered =
+      none_at_all
+      (none_once one (λ made. report_none naming report once false before first between made))
+      (report_none naming report twice false (after_all first before) second is two)
+      (report_none naming report alone false before all end single)
+  asked_mended (asks.Details wanted) naming behind one two whole single unhindered =
+      none_at_all
+      (none_once one (λ made. details_none naming wanted once false before first between made))
+      (details_none naming wanted twice false (after_all first before) second is two)
+      (details_none naming wanted alone false before all end single)
+  asked_mended (asks.WhatIf what_if size) naming behind one two whole single unhindered =
+      none_at_all
+      (none_once one
+      (λ made. what_if_body_none what_if size behind once false before first between made))
+      (what_if_body_none what_if size behind twice false (after_all first before) second is two)
+      (what_if_body_none what_if size behind alone false before all end single)
+  asked_mended (asks.Import layout size) naming behind one two whole single unhindered =
+      import_mended (ltb (length behind) size) naming layout (take size behind) one two whole single
+      unhindered
 
 -- what is answered to a head is the answer to any other at the beginning of the same bytes
 asked_same : (naming : Naming) (bytes : List ℕ) (head other : RequestHead) (behind rest : List ℕ)
@@ -180,7 +165,7 @@ unhindered_head naming bytes head behind reply before events is stands
 pub requests_are_mended : RequestsAreMended
 requests_are_mended naming before bytes once twice alone first second all between is end one
     (no_head some never refused) whole single unhindered =
-    none_at_all before first second all
+    none_at_all once twice alone before first second all between is end
     (headless naming bytes once before first between never one) refused.none.none
     (headless naming bytes alone before all end never single)
 requests_are_mended naming before bytes once twice alone first second all between is end one
@@ -188,7 +173,7 @@ requests_are_mended naming before bytes once twice alone first second all betwee
     absurd (whole.unhindered.done refused.replied)
 requests_are_mended naming before bytes once twice alone first second all between is end one
     (a_head head behind stands (done two)) whole single unhindered =
-    asked_mended (asked head) naming behind once twice alone before first second all between is end
+    asked_mended once twice alone before first second all between is end (asked head) naming behind
     (with_head naming bytes head behind once before first between stands one) two whole
     (unhindered_head naming bytes head behind alone before all end stands single unhindered)
     unhindered

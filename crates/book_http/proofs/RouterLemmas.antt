@@ -1,7 +1,7 @@
 -- What a lookup in the rows of the router finds: a path without a parameter is found by its text.
 use Rattle.std.proofs.Common.{◌≡◌, ℕ, suc, zero, ◌-◌, ◌≤◌, ◌⊎◌, inl, inr, Bool, true, false, cond}
 use Rattle.std.proofs.Common.{List, [], ◌∷◌, ◌++◌, length, Option, Some, None, IfSome, refl, sym}
-use Rattle.std.proofs.Common.{◌∙◌, append_assoc, arith}
+use Rattle.std.proofs.Common.{◌∙◌, ap, append_assoc, arith, map, rules}
 use Rattle.std.proofs.Math.Bool.{or-true}
 use Rattle.std.proofs.lemmas.Bool.{le-leb, true≢false}
 use Rattle.std.proofs.lemmas.Bool.Decides.{nat_tests}
@@ -200,77 +200,27 @@ IsPlain key =
 
 rows_are_plain : OfKeys IsPlain route_rows
 unfolding matchit_on_literals route_rows
-rows_are_plain = (
-  tt,
-  (
-    tt,
-    (
-      tt,
-      (
-        tt,
-        (
-          (refl, refl),
-          (
-            (refl, refl),
-            (
-              (refl, refl),
-              (
-                (refl, refl),
-                (tt, ((refl, refl), (tt, ((refl, refl), (tt, (tt, (tt, (tt, (tt, ((refl, refl), tt)))))))))),
-              ),
-            ),
-          ),
-        ),
-      ),
-    ),
-  ),
-)
+rows_are_plain = search rules
+
+-- the first of some texts, and the others
+abbrev first_text : List (List ℕ) → List ℕ
+first_text [] = []
+first_text (text ∷ texts) = text
+
+abbrev other_texts : List (List ℕ) → List (List ℕ)
+other_texts [] = []
+other_texts (text ∷ texts) = texts
+
+-- the texts of keys, where each is what was walked and then the tokens of its row
+stand_by : (walked : List ℕ) (rows : RowsOf Key)
+    → map (λ row. row.1.pattern) rows ≡ map (λ row. walked ++ row.0) rows → StandAt walked rows
+stand_by walked [] same = tt
+stand_by walked ((tokens, key) ∷ rest) same =
+    (ap first_text same, stand_by walked rest (ap other_texts same))
 
 rows_stand : StandAt [] route_rows
 unfolding matchit_on_literals route_rows
-rows_stand = (
-  refl,
-  (
-    refl,
-    (
-      refl,
-      (
-        refl,
-        (
-          refl,
-          (
-            refl,
-            (
-              refl,
-              (
-                refl,
-                (
-                  refl,
-                  (
-                    refl,
-                    (
-                      refl,
-                      (
-                        refl,
-                        (
-                          refl,
-                          (
-                            refl,
-                            (refl, (refl, (refl, (refl, tt)))),
-                          ),
-                        ),
-                      ),
-                    ),
-                  ),
-                ),
-              ),
-            ),
-          ),
-        ),
-      ),
-    ),
-  ),
-)
+rows_stand = stand_by [] route_rows refl
 
 -- where both hold of a key, the path is the one of its page
 path_of_key : (path pattern : List ℕ) (text : Option (List ℕ))

@@ -84,9 +84,7 @@ reply_served : (books : Books) (taken : List ℕ) (ended : Bool) (output : Outpu
     → IsReplied books taken ended output what → IsServed books taken ended output what
 reply_served books taken ended output (served.Answered status) it = inl it
 reply_served books taken ended output served.WriteFault it = inl it
-reply_served books taken ended output served.Cut it = absurd it.sent
-reply_served books taken ended output served.Closed it = absurd it.sent
-reply_served books taken ended output served.ReadFault it = absurd it.sent
+reply_served books taken ended output what it = absurd it.sent
 
 -- so was a reply to what was asked
 pub request_served : (books : Books) (taken : List ℕ) (ended : Bool) (output : Output)
@@ -189,11 +187,9 @@ details_streamed books taken ended output details what asking sends =
 stream_served : (books : Books) (taken : List ℕ) (ended : Bool) (output : Output) (what : Served)
     → is_unanswered what ≡ false → IsStreamed books taken ended output what
     → IsServed books taken ended output what
-stream_served books taken ended output (served.Answered status) begun it = inr it
-stream_served books taken ended output served.WriteFault begun it = inr it
-stream_served books taken ended output served.Cut begun it = inr it
 stream_served books taken ended output served.Closed begun it = absurd (true≢false begun)
 stream_served books taken ended output served.ReadFault begun it = absurd (true≢false begun)
+stream_served books taken ended output what begun it = inr it
 
 pub details_served : (books : Books) (taken : List ℕ) (ended : Bool) (output : Output)
     (details : DetailReport) (what : Served) → IsAsking ended taken (requested.Details details)

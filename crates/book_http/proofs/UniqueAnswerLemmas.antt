@@ -38,15 +38,6 @@ use Rattle.book_http.specs.Replies.{Reply, receipt_reply, import_status}
 use Rattle.book_http.proofs.HeadLemmas.{head_unique}
 use Rattle.book_http.proofs.LawLemmas.{text_none, import_counted}
 
--- two refusals of one kind
-refusals_same : (refused one other : Reply) (was : Bool) (before : Book) (first second : List Event)
-    (is_one is_other : Bool) → RefusesRequest refused one was before first is_one
-    → RefusesRequest refused other was before second is_other → IsSame one other first second
-refusals_same refused one other was before first second is_one is_other a b = record {
-  reply = a.replied ∙ sym b.replied;
-  events = a.none.none ∙ sym b.none.none;
-}
-
 -- a text that is not unavailable is the definitions' one, or their refusal of it
 reply_tells : (kind : BodyKind) (outcome : Book → Outcome Response) (told : Result Response LedgerFault)
     (was : Bool) (before : Book) (events : List Event) (is : Bool)
@@ -60,53 +51,6 @@ reply_tells kind outcome (Err (TariffRefused why)) was before events is called s
     called.makes.0
 reply_tells kind outcome (Err Full) was before events is called served = called.makes.0
 reply_tells kind outcome (Err fault) was before events is called served = absurd (served refl)
-
-texts_same : (kind : BodyKind) (text : Book → Outcome (List ℕ)) (one other : Reply) (was : Bool)
-    (before : Book) (first second : List Event) (is_one is_other : Bool) → (text before).event ≡ None
-    → AnswersOffice kind (Calls (λ (told : Response). told) (response_outcome Text text)) one was
-    before first is_one → one.status ≢ Unavailable
-    → AnswersOffice kind (Calls (λ (told : Response). told) (response_outcome Text text)) other was
-    before second is_other → other.status ≢ Unavailable → IsSame one other first second
-texts_same kind text one other was before first second is_one is_other no_event a served b served_too =
-    let outcome = response_outcome Text text in
-    let left : (outcome before).answer ≡ a.told =
-    reply_tells kind outcome a.told was before first is_one a.made
-    (subst (λ (r : Reply). r.status ≢ Unavailable) a.replied served) in
-    let right : (outcome before).answer ≡ b.told =
-    reply_tells kind outcome b.told was before second is_other b.made
-    (subst (λ (r : Reply). r.status ≢ Unavailable) b.replied served_too) in
-    record {
-      reply = a.replied ∙ ap (office_reply kind) (sym left ∙ right) ∙ sym b.replied;
-      events =
-          text_none kind text one was before first is_one no_event a
-          ∙ sym (text_none kind text other was before second is_other no_event b);
-    }
-
--- where a bad request is refused, and with any other one thing is done, one thing is done
-unless_same : (bad : Bool) (Made : Reply → Transition) (one other : Reply) (was : Bool)
-    (before : Book) (first second : List Event) (is_one is_other : Bool)
-    → (Made one was before first is_one → one.status ≢ Unavailable
-    → Made other was before second is_other → other.status ≢ Unavailable
-    → IsSame one other first second)
-    → UnlessBad bad (Made one) one was before first is_one → one.status ≢ Unavailable
-    → UnlessBad bad (Made other) other was before second is_other → other.status ≢ Unavailable
-    → IsSame one other first second
-unless_same true Made one other was before first second is_one is_other same a served b served_too =
-    refusals_same _ one other was before first second is_one is_other a b
-unless_same false Made one other was before first second is_one is_other same a served b served_too =
-    same a served b served_too
-
-what_ifs_same : (what_if : WhatIf) (body : List ℕ) (one other : Reply) (was : Bool) (before : Book)
-    (first second : List Event) (is_one is_other : Bool)
-    → AnswersWhatIf what_if body one was before first is_one → one.status ≢ Unavailable
-    → AnswersWhatIf what_if body other was before second is_other → other.status ≢ Unavailable
-    → IsSame one other first second
-what_ifs_same what_if body one other was before first second is_one is_other =
-    let kind = form_kind what_if.form in
-    unless_same (not (is_utf8 body)) (AnswersOffice kind (Prices what_if body)) one other was before
-    first second is_one is_other
-    (texts_same kind (what_if_report what_if body) one other was before first second is_one is_other
-    refl)
 
 -- where a fault of the books follows the last record, the import stops with one
 stops_by_books : (answers : Answering) (fault : LedgerFault) (records : List (List ℕ))
@@ -143,64 +87,6 @@ import_tells naming stop records told was before events is
     (store_failed count kept open_before reopen within either stopped so made) served =
     absurd (served (ap import_status stopped))
 
-imports_same : (naming : Naming) (layout : Layout) (body : List ℕ) (one other : Reply) (was : Bool)
-    (before : Book) (first second : List Event) (is_one is_other : Bool)
-    → AnswersImport naming layout body one was before first is_one → one.status ≢ Unavailable
-    → AnswersImport naming layout body other was before second is_other
-    → other.status ≢ Unavailable → IsSame one other first second
-imports_same naming layout body one other was before first second is_one is_other a served b
-    served_too =
-    let found = front layout body in
-    let stop = stop_after None found in
-    let dump = whole_dump layout body in
-    let first_one = import_counted naming dump a.told was before first is_one a.made in
-    let second_one = import_counted naming dump b.told was before second is_other b.made in
-    let reply_one = a.replied ∙ ap (office_reply kinds.Text) first_one.counted in
-    let reply_two = b.replied ∙ ap (office_reply kinds.Text) second_one.counted in
-    let left = import_tells naming stop found.records first_one.receipt was before first is_one
-    first_one.imported (subst (λ (r : Reply). r.status ≢ Unavailable) reply_one served) in
-    let right =
-    import_tells naming stop found.records second_one.receipt was before second is_other
-    second_one.imported (subst (λ (r : Reply). r.status ≢ Unavailable) reply_two served_too) in
-    record {
-      reply = reply_one ∙ ap receipt_reply (sym left.receipt ∙ right.receipt) ∙ sym reply_two;
-      events = sym left.events ∙ right.events;
-    }
-
-asked_same : (wanted : Asked) (naming : Naming) (behind : List ℕ) (one other : Reply) (was : Bool)
-    (before : Book) (first second : List Event) (is_one is_other : Bool)
-    → AnswersAsked naming wanted behind one was before first is_one → one.status ≢ Unavailable
-    → AnswersAsked naming wanted behind other was before second is_other
-    → other.status ≢ Unavailable → IsSame one other first second
-asked_same (asks.Refusal status) naming behind one other was before first second is_one is_other a
-    served b served_too =
-    refusals_same _ one other was before first second is_one is_other a b
-asked_same (asks.OtherMethod method) naming behind one other was before first second is_one is_other
-    a served b served_too =
-    refusals_same _ one other was before first second is_one is_other a b
-asked_same (asks.Report report) naming behind one other was before first second is_one is_other a
-    served b served_too =
-    texts_same (body_kind report) (report_outcome naming report) one other was before first second
-    is_one is_other refl a served b served_too
-asked_same (asks.Details wanted) naming behind one other was before first second is_one is_other a
-    served b served_too =
-    texts_same (form_kind wanted.form) (detail_text_outcome wanted naming) one other was before first
-    second is_one is_other refl a served b served_too
-asked_same (asks.WhatIf what_if size) naming behind one other was before first second is_one is_other
-    a served b served_too =
-    let body = take size behind in
-    unless_same (ltb (length behind) size) (AnswersWhatIf what_if body) one other was before first
-    second is_one is_other
-    (what_ifs_same what_if body one other was before first second is_one is_other) a served b
-    served_too
-asked_same (asks.Import layout size) naming behind one other was before first second is_one is_other
-    a served b served_too =
-    let body = take size behind in
-    unless_same (ltb (length behind) size) (AnswersImport naming layout body) one other was before
-    first second is_one is_other
-    (imports_same naming layout body one other was before first second is_one is_other) a served b
-    served_too
-
 -- what a head asks was done, where the reply is not unavailable
 was_done : (wanted : Asked) (naming : Naming) (behind : List ℕ) (reply : Reply) (was : Bool)
     (before : Book) (events : List Event) (is : Bool)
@@ -210,11 +96,102 @@ was_done wanted naming behind reply was before events is (done made) served = ma
 was_done wanted naming behind reply was before events is (no_memory refused) served =
     absurd (served (ap (λ (r : Reply). r.status) refused.replied))
 
+-- two answers to what one book was asked
+module _ (one other : Reply) (was : Bool) (before : Book) (first second : List Event)
+    (is_one is_other : Bool) where
+  refusals_same : (refused : Reply) → RefusesRequest refused one was before first is_one
+      → RefusesRequest refused other was before second is_other → IsSame one other first second
+  refusals_same refused a b = record {
+    reply = a.replied ∙ sym b.replied;
+    events = a.none.none ∙ sym b.none.none;
+  }
+
+  texts_same : (kind : BodyKind) (text : Book → Outcome (List ℕ)) → (text before).event ≡ None
+      → AnswersOffice kind (Calls (λ (told : Response). told) (response_outcome Text text)) one was
+      before first is_one → one.status ≢ Unavailable
+      → AnswersOffice kind (Calls (λ (told : Response). told) (response_outcome Text text)) other was
+      before second is_other → other.status ≢ Unavailable → IsSame one other first second
+  texts_same kind text no_event a served b served_too =
+      let outcome = response_outcome Text text in
+      let left : (outcome before).answer ≡ a.told =
+      reply_tells kind outcome a.told was before first is_one a.made
+      (subst (λ (r : Reply). r.status ≢ Unavailable) a.replied served) in
+      let right : (outcome before).answer ≡ b.told =
+      reply_tells kind outcome b.told was before second is_other b.made
+      (subst (λ (r : Reply). r.status ≢ Unavailable) b.replied served_too) in
+      record {
+        reply = a.replied ∙ ap (office_reply kind) (sym left ∙ right) ∙ sym b.replied;
+        events =
+            text_none kind text one was before first is_one no_event a
+            ∙ sym (text_none kind text other was before second is_other no_event b);
+      }
+
+  -- where a bad request is refused, and with any other one thing is done, one thing is done
+  unless_same : (bad : Bool) (Made : Reply → Transition)
+      → (Made one was before first is_one → one.status ≢ Unavailable
+      → Made other was before second is_other → other.status ≢ Unavailable
+      → IsSame one other first second)
+      → UnlessBad bad (Made one) one was before first is_one → one.status ≢ Unavailable
+      → UnlessBad bad (Made other) other was before second is_other → other.status ≢ Unavailable
+      → IsSame one other first second
+  unless_same true Made same a served b served_too = refusals_same _ a b
+  unless_same false Made same a served b served_too = same a served b served_too
+
+  what_ifs_same : (what_if : WhatIf) (body : List ℕ)
+      → AnswersWhatIf what_if body one was before first is_one → one.status ≢ Unavailable
+      → AnswersWhatIf what_if body other was before second is_other → other.status ≢ Unavailable
+      → IsSame one other first second
+  what_ifs_same what_if body =
+      let kind = form_kind what_if.form in
+      unless_same (not (is_utf8 body)) (AnswersOffice kind (Prices what_if body))
+      (texts_same kind (what_if_report what_if body) refl)
+
+  imports_same : (naming : Naming) (layout : Layout) (body : List ℕ)
+      → AnswersImport naming layout body one was before first is_one → one.status ≢ Unavailable
+      → AnswersImport naming layout body other was before second is_other
+      → other.status ≢ Unavailable → IsSame one other first second
+  imports_same naming layout body a served b served_too =
+      let found = front layout body in
+      let stop = stop_after None found in
+      let dump = whole_dump layout body in
+      let first_one = import_counted naming dump a.told was before first is_one a.made in
+      let second_one = import_counted naming dump b.told was before second is_other b.made in
+      let reply_one = a.replied ∙ ap (office_reply kinds.Text) first_one.counted in
+      let reply_two = b.replied ∙ ap (office_reply kinds.Text) second_one.counted in
+      let left = import_tells naming stop found.records first_one.receipt was before first is_one
+      first_one.imported (subst (λ (r : Reply). r.status ≢ Unavailable) reply_one served) in
+      let right =
+      import_tells naming stop found.records second_one.receipt was before second is_other
+      second_one.imported (subst (λ (r : Reply). r.status ≢ Unavailable) reply_two served_too) in
+      record {
+        reply = reply_one ∙ ap receipt_reply (sym left.receipt ∙ right.receipt) ∙ sym reply_two;
+        events = sym left.events ∙ right.events;
+      }
+
+  asked_same : (wanted : Asked) (naming : Naming) (behind : List ℕ)
+      → AnswersAsked naming wanted behind one was before first is_one → one.status ≢ Unavailable
+      → AnswersAsked naming wanted behind other was before second is_other
+      → other.status ≢ Unavailable → IsSame one other first second
+  asked_same (asks.Refusal status) naming behind a served b served_too = refusals_same _ a b
+  asked_same (asks.OtherMethod method) naming behind a served b served_too = refusals_same _ a b
+  asked_same (asks.Report report) naming behind a served b served_too =
+      texts_same (body_kind report) (report_outcome naming report) refl a served b served_too
+  asked_same (asks.Details wanted) naming behind a served b served_too =
+      texts_same (form_kind wanted.form) (detail_text_outcome wanted naming) refl a served b served_too
+  asked_same (asks.WhatIf what_if size) naming behind a served b served_too =
+      let body = take size behind in
+      unless_same (ltb (length behind) size) (AnswersWhatIf what_if body) (what_ifs_same what_if body) a
+      served b served_too
+  asked_same (asks.Import layout size) naming behind a served b served_too =
+      let body = take size behind in
+      unless_same (ltb (length behind) size) (AnswersImport naming layout body)
+      (imports_same naming layout body) a served b served_too
+
 -- the law of it
 pub answers_are_one : AnswersAreOne
 answers_are_one naming before bytes one other was first second is_one is_other
     (no_head some never a) served (no_head some_too never_too b) served_too =
-    refusals_same _ one other was before first second is_one is_other a b
+    refusals_same one other was before first second is_one is_other _ a b
 answers_are_one naming before bytes one other was first second is_one is_other
     (no_head some never a) served (a_head head behind stands b) served_too =
     absurd (never head behind stands)
@@ -226,8 +203,7 @@ answers_are_one naming before bytes one other was first second is_one is_other
     let same = head_unique bytes head_too head rest behind stands_too stands in
     let made = was_done (asked head) naming behind one was before first is_one a served in
     let too = was_done (asked head_too) naming rest other was before second is_other b served_too in
-    asked_same (asked head) naming behind one other was before first second is_one is_other made
-    served
+    asked_same one other was before first second is_one is_other (asked head) naming behind made served
     (subst
     (λ (h : RequestHead). AnswersAsked naming (asked h) behind other was before second is_other)
     same.0

@@ -36,9 +36,7 @@ as_read : (reply : Reply) (held holds : Option (List ℕ)) (what : Served)
     → IsSent reply held holds what → IsSentAsRead reply held holds what
 as_read reply held holds (served.Answered status) sent = sent
 as_read reply held holds served.WriteFault sent = sent
-as_read reply held holds served.Cut sent = absurd sent
-as_read reply held holds served.Closed sent = absurd sent
-as_read reply held holds served.ReadFault sent = absurd sent
+as_read reply held holds what sent = absurd sent
 
 -- long details were answered, and sent while they were read
 pub details_open : (old new : Seen) (details : DetailReport) (size : ℕ)
@@ -63,8 +61,7 @@ sent_answered : (reply : Reply) (held holds : Option (List ℕ)) (what : Served)
 sent_answered reply held holds (served.Answered status) sent = refl
 sent_answered reply held holds served.WriteFault sent = refl
 sent_answered reply held holds served.Cut sent = refl
-sent_answered reply held holds served.Closed sent = absurd sent
-sent_answered reply held holds served.ReadFault sent = absurd sent
+sent_answered reply held holds what sent = absurd sent
 
 unseen_answered : (streamed : Bool) (shown holds : Option (List ℕ)) (what : Served)
     → EndsUnseen streamed shown holds what → is_unanswered what ≡ false
@@ -123,13 +120,11 @@ pub served_from : {S : Type 0} (seen : S → Shelf) (old new : S) (book taken : 
     (held holds : Option (List ℕ)) (what : Served) → is_unanswered what ≡ false
     → IsReplied book (seen old) (seen new) taken ended held holds what
     → IsServedFrom seen old new book ended held holds what taken
-served_from seen old new book taken ended held holds (served.Answered status) begun it = it
-served_from seen old new book taken ended held holds served.WriteFault begun it = it
-served_from seen old new book taken ended held holds served.Cut begun it = it
 served_from seen old new book taken ended held holds served.Closed begun it =
     absurd (true≢false begun)
 served_from seen old new book taken ended held holds served.ReadFault begun it =
     absurd (true≢false begun)
+served_from seen old new book taken ended held holds what begun it = it
 
 -- ---- what that did to the books
 
@@ -137,10 +132,7 @@ served_from seen old new book taken ended held holds served.ReadFault begun it =
 sent_fits : (reply : Reply) (held holds : Option (List ℕ)) (what : Served)
     → IsSentAsRead reply held holds what → Fits what reply
 sent_fits reply held holds (served.Answered status) sent = sent.0
-sent_fits reply held holds served.WriteFault sent = tt
-sent_fits reply held holds served.Cut sent = tt
-sent_fits reply held holds served.Closed sent = tt
-sent_fits reply held holds served.ReadFault sent = tt
+sent_fits reply held holds what sent = tt
 
 -- where nothing was done to the books, they were in the way of what the bytes ask
 away_is : (naming : Naming) (bytes : List ℕ) (request : RequestSeen) (was : Bool) (before : Book)
@@ -284,17 +276,10 @@ served_one seen old new book taken ended held holds served.Closed it none =
 served_one seen old new book taken ended held holds served.ReadFault it none =
     subst (λ place. IsUntouched book (seen old) (seen place)) (sym (none refl))
     (untouched book (seen old))
-served_one seen old new book taken ended held holds served.WriteFault it none =
-    replied_done seen old new book taken ended held holds served.WriteFault it
-served_one seen old new book taken ended held holds served.Cut it none =
-    replied_done seen old new book taken ended held holds served.Cut it
-served_one seen old new book taken ended held holds (served.Answered status) it none =
-    replied_done seen old new book taken ended held holds (served.Answered status) it
+served_one seen old new book taken ended held holds what it none =
+    replied_done seen old new book taken ended held holds what it
 
 -- what was not answered has no status
 pub status_of : (what : Served) → is_answered what ≡ true → (status : ℕ) × (what ≡ served.Answered status)
 status_of (served.Answered status) is = (status, refl)
-status_of served.Closed is = absurd (true≢false (sym is))
-status_of served.ReadFault is = absurd (true≢false (sym is))
-status_of served.WriteFault is = absurd (true≢false (sym is))
-status_of served.Cut is = absurd (true≢false (sym is))
+status_of what is = absurd (true≢false (sym is))

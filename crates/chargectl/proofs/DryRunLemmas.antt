@@ -137,13 +137,7 @@ module _ (naming : Naming) where
         notice = sym (ap (λ said. notice_by (is_far_asked (asks.Tariff text) book)
             (shown_by office.Ruling (tariff_answer book bytes said))) why.1);
       }
-  unnamed_shows (asks.Close period through) book fault why = absurd why
-  unnamed_shows (asks.Choose name) book fault why = absurd why
-  unnamed_shows (asks.Adopt rule) book fault why = absurd why
-  unnamed_shows (asks.Import layout) book fault why = absurd why
-  unnamed_shows (asks.ImportBytes layout bytes) book fault why = absurd why
-  unnamed_shows (asks.Report report) book fault why = absurd why
-  unnamed_shows (asks.WhatIf report tariff) book fault why = absurd why
+  unnamed_shows asked book fault why = absurd why
 
   -- what a ruling was answered by open books is what the definitions say
   told_by : (asked : Asked) (answer : Result Answer LedgerFault) (was : Bool) (book : Book)
@@ -189,15 +183,7 @@ module _ (naming : Naming) where
   refused_tells (asks.Adopt rule) ruling fault was book events is named called fresh free =
       ap (shown_by Text) (refused_by (adopt_outcome rule) fault tried.Adopt was book events is called
       fresh free)
-  refused_tells (asks.Import layout) ruling fault was book events is named called fresh free =
-      absurd named
-  refused_tells (asks.ImportBytes layout bytes) ruling fault was book events is named called fresh
-      free =
-      absurd named
-  refused_tells (asks.Report report) ruling fault was book events is named called fresh free =
-      absurd named
-  refused_tells (asks.WhatIf report tariff) ruling fault was book events is named called fresh free =
-      absurd named
+  refused_tells asked ruling fault was book events is named called fresh free = absurd named
 
   -- the book after the event of a ruling
   after_listed : (event : Option Event) (book : Book) → after_all (listed event) book ≡ after_any event book
@@ -245,11 +231,7 @@ module _ (naming : Naming) where
   ruled_tells (asks.Adopt rule) ruling ruled was book events is named called =
       ap (λ ruling. Ok (Text (dry_run_of naming ruling ruled book (after_all events book)))) named
       ∙ ap (shown_by Text) (ruled_by (adopt_outcome rule) ruled tried.Adopt was book events is called)
-  ruled_tells (asks.Import layout) ruling ruled was book events is named called = absurd named
-  ruled_tells (asks.ImportBytes layout bytes) ruling ruled was book events is named called =
-      absurd named
-  ruled_tells (asks.Report report) ruling ruled was book events is named called = absurd named
-  ruled_tells (asks.WhatIf report tariff) ruling ruled was book events is named called = absurd named
+  ruled_tells asked ruling ruled was book events is named called = absurd named
 
   -- nothing else is answered to one
   not_told : (answer : Result Ruled LedgerFault) (other : Answer)
@@ -290,10 +272,7 @@ module _ (naming : Naming) where
       answers_by (choose_outcome naming name) answer was book events is called
   answers_ruling (asks.Adopt rule) answer was book events is may called =
       answers_by (adopt_outcome rule) answer was book events is called
-  answers_ruling (asks.Import layout) answer was book events is may called = absurd may
-  answers_ruling (asks.ImportBytes layout bytes) answer was book events is may called = absurd may
-  answers_ruling (asks.Report report) answer was book events is may called = absurd may
-  answers_ruling (asks.WhatIf report tariff) answer was book events is may called = absurd may
+  answers_ruling asked answer was book events is may called = absurd may
 
 -- the ruling, and then a reading: the ruling alone made events
 ruled_then : {naming : Naming} {asked : Asked} (answer : Answer) {V A : Type 0} {view : V → A}

@@ -35,10 +35,7 @@ ruling_unread (Tariff text) may = tt
 ruling_unread (Close period through) may = may
 ruling_unread (Choose name) may = tt
 ruling_unread (Adopt rule) may = tt
-ruling_unread (Import layout) may = absurd may
-ruling_unread (ImportBytes layout bytes) may = absurd may
-ruling_unread (Report report) may = absurd may
-ruling_unread (WhatIf report tariff) may = absurd may
+ruling_unread asked may = absurd may
 
 -- ---- what is read
 
@@ -180,10 +177,7 @@ failed_of naming (Adopt rule) fault may was before events is called = record {
   };
   notice = refl;
 }
-failed_of naming (Import layout) fault may was before events is called = absurd may
-failed_of naming (ImportBytes layout bytes) fault may was before events is called = absurd may
-failed_of naming (Report report) fault may was before events is called = absurd may
-failed_of naming (WhatIf report tariff) fault may was before events is called = absurd may
+failed_of naming asked fault may was before events is called = absurd may
 
 pub failed_dated : (old new : Seen) (asked : Asked) (fault : LedgerFault) → IsAskableRuling asked
     → IsCall (λ (far : Bool). far) old new (Err fault) (far_outcome asked)

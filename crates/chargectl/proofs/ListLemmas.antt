@@ -1,11 +1,9 @@
 -- Lists of names that a reader gives, choices by them, and the tariff of a text.
-use Rattle.std.proofs.Common.{◌≡◌, List, ℕ, Option, Result, Ok, Err, inl, inr, refl}
-use Rattle.std.proofs.Common.{subst, sym, take, true≢false}
+use Rattle.std.proofs.Common.{◌≡◌, List, ℕ, Result, Ok, Err, inl, inr, refl}
+use Rattle.std.proofs.Common.{subst, sym, true≢false}
 use Rattle.std.specs.Prelude.{IfErr, IfOk, IsErr, IsErrAnd, OnErr}
 use Rattle.std.specs.declared.alloc.AllocError.{AllocError}
 use Rattle.std.specs.declared.io.ErrorKind.TheVariants.{OutOfMemory}
-use Rattle.std.specs.Io.KnownBytes.{Appends}
-use Rattle.std.proofs.KnownBytes.{Appends-nil}
 use Rattle.tariff_rules.specs.declared.fault.TariffFault.{TariffFault}
 use Rattle.tariff_rules.specs.TariffFile.{terms_in}
 use Rattle.book_model.specs.Words.{Terms}
@@ -59,11 +57,6 @@ pub not_listed : (book : List ℕ) (shelf : Shelf) (result : Result ListAnswered
 not_listed book shelf (Ok answered) found bad is why = absurd (true≢false (sym bad))
 not_listed book shelf (Err fault) found bad is why =
     (subst ChoosesNothing (sym is) why, untouched book shelf)
-
--- nothing was written
-pub none_printed : (text : List ℕ) (held : Option (List ℕ))
-    → (count : ℕ) × Appends held held (take count text)
-none_printed text held = (0, Appends-nil held)
 
 -- the tariff of a text, or why it is none
 refused_text : (said : Result Terms TariffFault) (why : CommandFault) → lasting said ≡ Err why

@@ -79,10 +79,7 @@ fn asked_choice<S: Repository>(
 }
 
 /// What is asked for the adoption of the later rule of identity.
-fn asked_adoption<S: Repository>(
-    repository: &S,
-    book: &str,
-) -> Result<Asked, CommandFault>
+fn asked_adoption<S: Repository>(repository: &S, book: &str) -> Result<Asked, CommandFault>
     ensures { IsAskedFor BookRequest.Adopt result }
 {
     repository.expect(book)?;

@@ -139,7 +139,10 @@ fn run_on_books<S: AuditedRepository, O: Write + Drop>(
         }
         BookRequest::Import(dump) => tell(import_dump(rt, repository, book, dump), output),
         BookRequest::Close { period, date } => {
-            tell(rule(rt, repository, book, Ruling::Close { period, date }), output)
+            tell(
+                rule(rt, repository, book, Ruling::Close { period, date }),
+                output,
+            )
         }
         BookRequest::Choose { name } => {
             tell(rule(rt, repository, book, Ruling::Choose { name }), output)
