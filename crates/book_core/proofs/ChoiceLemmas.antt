@@ -34,7 +34,7 @@ next_choices choices i choice within is =
     take_more choices i choice within ∙ ap (λ one. take i choices ++ one ∷ []) (sym is)
 
 -- nothing else than nothing
-or-none : {X : Type 0} (found : Option X) → option_or found None ≡ found
+pub or-none : {X : Type 0} (found : Option X) → option_or found None ≡ found
 or-none None = refl
 or-none (Some x) = refl
 

@@ -17,9 +17,8 @@ use Rattle.book_model.specs.declared.answer.Ruled.TheVariants.{Done, Already}
 use Rattle.book_model.specs.declared.fault.LedgerFault.{LedgerFault}
 use Rattle.book_model.specs.declared.fault.LedgerFault.TheVariants.{Full, NoSuchRecord, NotDisputed}
 use Rattle.book_model.specs.Words.{Book, Choice, IsBookCall, Naming, Rulings, after_any, by_bytes}
-use Rattle.book_model.specs.Words.{choose_event, choose_outcome, with_choice}
-use Rattle.book_model.specs.Words.{chosen_answer, is_chosen, is_unrivalled}
-use Rattle.book_model.specs.Words.{most_choices, open_by, record_named}
+use Rattle.book_model.specs.Words.{choose_event, choose_outcome, with_choice, chosen_answer}
+use Rattle.book_model.specs.Words.{is_chosen, is_unrivalled, most_choices, open_by, record_named}
 use Rattle.book_model.proofs.AnswerLemmas.{answers_itself, calls}
 use Rattle.book_model.proofs.SoundLemmas.{named_held}
 use Rattle.book_core.specs.declared.chosen.ChosenRecord.{ChosenRecord}

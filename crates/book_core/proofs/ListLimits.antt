@@ -17,9 +17,8 @@ use Rattle.std.proofs.lemmas.Map.Lookups.{exact_bytes}
 use Rattle.std.proofs.lemmas.Map.Views.{All-from_any, Contains-from_any, tells_apart}
 use Rattle.book_model.specs.Words.{IsDay, IsPriced, most_held, IsDispute, AreDisputes, Naming}
 use Rattle.book_model.specs.Words.{by_bytes, Rulings, key_of, identity_by, identity_length}
-use Rattle.book_model.specs.Words.{identity2_length}
-use Rattle.book_model.specs.Words.{charged_at, row_at, keys_of, rows_of, FitSums, AreRows, set_of}
-use Rattle.book_model.specs.Words.{members, most_cost}
+use Rattle.book_model.specs.Words.{identity2_length, charged_at, row_at, keys_of, rows_of, FitSums}
+use Rattle.book_model.specs.Words.{AreRows, set_of, members, most_cost}
 use Rattle.tariff_rules.specs.declared.priced.Priced.{Priced}
 use Rattle.book_model.specs.declared.row.ChargeRow.{ChargeRow}
 use Rattle.book_model.specs.declared.row.RowKey.{RowKey}
@@ -34,7 +33,7 @@ use Rattle.book_model.proofs.SumLemmas.{sum_by-exchange}
 use Rattle.book_model.proofs.SumsAlike.{sum_by-filter, length-sum_by}
 
 -- what holds of each element of a list holds of each member of its set
-All-members : {K : Type 0} {R : K → K → Ordering} → IsTotalOrder R → finite.IsAntisymmetric R
+pub All-members : {K : Type 0} {R : K → K → Ordering} → IsTotalOrder R → finite.IsAntisymmetric R
     → (P : K → Type 0) (ks : List K) → All P ks → All P (members (set_of R ks))
 All-members {R} o exact P ks all =
     All-from_any (eq_by_cmp_equiv o) P (members (set_of R ks)) (λ q among.

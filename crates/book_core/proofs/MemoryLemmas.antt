@@ -7,9 +7,8 @@ use Rattle.book_model.specs.Words.{Terms, is_full, clashes, accept_priced, accep
 use Rattle.book_model.specs.Words.{event_of, Book, open_number, Event, after_any, after_all}
 use Rattle.book_model.specs.Words.{last_period, Outcome, Naming, price_in, has_text, is_effective}
 use Rattle.book_model.specs.Words.{is_later, is_too_dear, with_tariff, tariff_answer, is_closed}
-use Rattle.book_model.specs.Words.{is_early}
-use Rattle.book_model.specs.Words.{close_answer, has, chosen_answer, is_unrivalled, is_chosen}
-use Rattle.book_model.specs.Words.{most_choices, adopt_answer, second_rule, rule_by}
+use Rattle.book_model.specs.Words.{is_early, close_answer, has, chosen_answer, is_unrivalled}
+use Rattle.book_model.specs.Words.{is_chosen, most_choices, adopt_answer, second_rule, rule_by}
 use Rattle.tariff_rules.specs.declared.priced.Priced.{Priced}
 use Rattle.tariff_rules.specs.declared.fault.TariffFault.{TariffFault}
 use Rattle.book_model.specs.declared.answer.Accepted.{Accepted}

@@ -1,7 +1,6 @@
 -- The records that are held, each at the price that it has under one more tariff: nothing else of
 -- them changes.
-use Rattle.std.proofs.Common.{◌≡◌, ◌∙◌, ℕ, List, [], ◌∷◌, refl, sym, ap, subst, map, Bool}
-use Rattle.std.proofs.Common.{true}
+use Rattle.std.proofs.Common.{◌≡◌, ◌∙◌, ℕ, List, [], ◌∷◌, refl, sym, ap, subst, map, Bool, true}
 use Rattle.std.proofs.Common.{false, cond, Option, Some, None, is_some, true≢false}
 use Rattle.std.specs.Prelude.{filter, nat_lt}
 use Rattle.std.specs.BTreeMap.{get, is_at}

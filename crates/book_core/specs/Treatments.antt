@@ -1,7 +1,7 @@
 -- How a plain ledger keeps closed periods, and reads the open one: what a period does with each
 -- record that is held.
 use Rattle.std.specs.Prelude.{◌≡◌, Bool, true, false, not, ◌&&◌, ◌||◌, List, [], ℕ, ℤ, int_lt}
-use Rattle.std.specs.Prelude.{filter, All, Option, Some, None, nat_le, count_by}
+use Rattle.std.specs.Prelude.{filter, All, Option, Some, None}
 use Rattle.std.specs.BTreeMap as map
 use Rattle.std.specs.BTreeSet as set
 use Rattle.std.specs.Map.{lookup}
@@ -17,7 +17,7 @@ use Rattle.book_core.specs.declared.period.Period.TheVariants.{Closed, Open}
 use Rattle.book_core.specs.declared.treatment.Treatment.{Treatment}
 use Rattle.book_core.specs.declared.treatment.Treatment.TheVariants.{Counted, Added, Taken}
 use Rattle.book_core.specs.Choices.{AreLast, record_at}
-use Rattle.book_core.specs.Plain.{Entry, entry_records, entry_has_identity, record_of, rulings_of}
+use Rattle.book_core.specs.Plain.{Entry, HasShared, entry_records, record_of, rulings_of}
 
 -- the names of some records
 abbrev pub Names : Type 0
@@ -140,8 +140,7 @@ pub record AreNamed (entries : List Entry) (names : Names) (closed : List Closed
 pub record IsPeriodEnd (entries : List Entry) (rulings : Rulings) (day : Option ℤ) (period_end : PeriodEnd)
     : Type 0 where
   pub adopted : period_end.adopted ≡ rulings.adopted
-  pub shared : (identity : List ℕ) → set.contains by_bytes period_end.shared identity
-      ≡ nat_le 2 (count_by (entry_has_identity rulings identity) entries)
+  pub shared : HasShared rulings entries period_end.shared
   pub chosen : AreLast rulings period_end.chosen
   pub last : period_end.last ≡ last_close rulings
   pub through : period_end.through ≡ day

@@ -34,7 +34,7 @@ pub use book_model::{
 // What a ledger of another crate needs to keep the same books.
 pub use acceptance::{is_full, name_of};
 pub use accepted_tariff::{AcceptedTariff, are_before};
-pub use charge_rows::empty_row;
+pub use charge_rows::{empty_row, key_of, row_with};
 pub use details::{comes_after, detail_with, is_asked};
 pub use effects::{
     ChoiceEffects, DayChange, Effects, LineChange, Member, View, plan, plan_charge, plan_choice,

@@ -1,4 +1,4 @@
-use Rattle.std.proofs.Common.{Vec, Global, ◌∙◌, sym, ap, subst, Bool, Ok, Err, refl}
+use Rattle.std.proofs.Common.{◌≡◌, Vec, Global, ◌∙◌, sym, ap, subst, Bool, Ok, Err, refl}
 use Rattle.std.proofs.lemmas.Result.{err_from_is_err_and}
 use Rattle.book_model.specs.Words.{Answers, AreRows, FitSums, period_of, rows_if_room, rows_of}
 use Rattle.book_model.specs.Words.{what_if_answer}
@@ -8,7 +8,9 @@ use Rattle.book_core.specs.PlainBook.{book_in, period_in}
 use Rattle.book_core.specs.Treatments.{is_counted, treatment_in}
 use Rattle.book_core.proofs.OtherPriceLemmas.{answer_under, fit_under, refused_under, room_of}
 use Rattle.book_core.proofs.OtherPriceLemmas.{shown_under, when_dear, when_room}
+use Rattle.book_core.proofs.plain.PlainLedger.charge_rows_under.Given.{Over}
 use Rattle.book_core.proofs.plain.PlainLedger.charge_rows_under.Goals as goal
+use Rattle.book_core.proofs.plain.PlainLedger.charge_rows_under.Goals.{After-are_too_dear}
 
 pub returns-in_err-period-clause-rows : goal.returns-in_err-period-clause-rows
 returns-in_err-period-clause-rows g c =
@@ -31,28 +33,26 @@ charge_rows-requires g c =
     c.in_ok-prices.ensures.prices c.in_ok-prices.ensures.bounds
     (room_of c.deref.ensures.value (sym c.are_too_dear.ensures ∙ c.if-are_too_dear.false)))
 
-pub returns-then-are_too_dear-clause-rows : goal.returns-then-are_too_dear-clause-rows
-returns-then-are_too_dear-clause-rows g c =
+-- by the prices that were read the books answer so
+by_prices : (g : Over) (c : After-are_too_dear g)
+    → what_if_answer c.args.tariff.now (period_of (book_in c.args.self.now) c.args.number)
+    ≡ rows_if_room c.deref.result.now
+by_prices g c =
     let ledger = c.args.self.now in
     let counted : Entry → Bool = λ entry.
     is_counted (treatment_in c.in_ok-period.period ledger.posted entry) in
-    let found = period_of (book_in ledger) c.args.number in
-    let same = c.deref.ensures.value ∙ c.in_ok-prices.ensures.prices in
-    answer_under ledger.kept ledger.rising c.args.tariff.now counted found _
-    c.in_ok-period.ensures refl
-    ∙ ap rows_if_room (sym same)
+    answer_under ledger.kept ledger.rising c.args.tariff.now counted
+    (period_of (book_in ledger) c.args.number) _ c.in_ok-period.ensures refl
+    ∙ ap rows_if_room (sym (c.deref.ensures.value ∙ c.in_ok-prices.ensures.prices))
+
+pub returns-then-are_too_dear-clause-rows : goal.returns-then-are_too_dear-clause-rows
+returns-then-are_too_dear-clause-rows g c =
+    by_prices g (goal.at.returns-then-are_too_dear-clause-rows g c).After-are_too_dear
     ∙ when_dear c.deref.result.now (sym c.are_too_dear.ensures ∙ c.if-are_too_dear.true)
 
 pub returns-clause-rows : goal.returns-clause-rows
 returns-clause-rows g c =
-    let ledger = c.args.self.now in
-    let counted : Entry → Bool = λ entry.
-    is_counted (treatment_in c.in_ok-period.period ledger.posted entry) in
-    let found = period_of (book_in ledger) c.args.number in
-    let same = c.deref.ensures.value ∙ c.in_ok-prices.ensures.prices in
-    answer_under ledger.kept ledger.rising c.args.tariff.now counted found _
-    c.in_ok-period.ensures refl
-    ∙ ap rows_if_room (sym same)
+    by_prices g (goal.at.returns-clause-rows g c).After-are_too_dear
     ∙ when_room c.deref.result.now (sym c.are_too_dear.ensures ∙ c.if-are_too_dear.false)
     ∙ ap Ok (ap rows_of (c.deref.ensures.value ∙ sym c.deref-2.ensures.value)
     ∙ sym c.in_ok-charge_rows.ensures)

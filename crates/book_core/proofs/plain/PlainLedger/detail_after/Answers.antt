@@ -2,8 +2,7 @@ use Rattle.std.proofs.Common.{◌≡◌, ◌∙◌, List, length, sym, ap, subst
 use Rattle.std.specs.List.{IsDistinct}
 use Rattle.book_model.specs.declared.detail.Detail.{Detail}
 use Rattle.book_model.specs.Words.{Period, ShowsDetail, by_detail, details_asked, details_of}
-use Rattle.book_model.specs.Words.{members, next_after, period_of, same_bytes}
-use Rattle.book_model.specs.Words.{set_of}
+use Rattle.book_model.specs.Words.{members, next_after, period_of, same_bytes, set_of}
 use Rattle.book_model.proofs.DetailOrder.{next_asked}
 use Rattle.book_core.specs.Plain.{Entry}
 use Rattle.book_core.specs.PlainBook.{book_in, naming_in}

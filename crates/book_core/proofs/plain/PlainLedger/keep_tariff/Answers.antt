@@ -4,8 +4,7 @@ use Rattle.book_model.specs.Words.{Rulings, by_bytes, has, is_later, with_tariff
 use Rattle.book_core.specs.Plain.{AreBooked, ruled_by, with_choices}
 use Rattle.book_core.specs.CachedRecords.{AllPass}
 use Rattle.book_core.specs.PlainBook.{book_in, book_with}
-use Rattle.book_core.proofs.RepricingLemmas.{book_stays, held_stay, names_stay}
-use Rattle.book_core.proofs.RepricingLemmas.{still_named-anew}
+use Rattle.book_core.proofs.RepricingLemmas.{book_stays, held_stay, names_stay, still_named-anew}
 use Rattle.book_model.proofs.LatestLemmas.{later-before}
 use Rattle.book_core.proofs.TariffLemmas.{fits_anew, kept_anew, terms_taken}
 use Rattle.book_core.proofs.plain.PlainLedger.keep_tariff.Given.{Over}

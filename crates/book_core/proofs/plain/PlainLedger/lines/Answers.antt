@@ -1,5 +1,4 @@
-use Rattle.std.proofs.Common.{◌≡◌, ◌∙◌, ◌++◌, length, take, drop, sym, ap, subst}
-use Rattle.std.proofs.Common.{map, Option, Ok}
+use Rattle.std.proofs.Common.{◌≡◌, ◌∙◌, ◌++◌, length, take, drop, sym, ap, subst, map, Option, Ok}
 use Rattle.std.specs.List.{IsDistinct}
 use Rattle.book_model.specs.declared.line.Line.{Line}
 use Rattle.book_model.specs.Words.{period_of, AreLines, by_line, lines_of, same_bytes, members}

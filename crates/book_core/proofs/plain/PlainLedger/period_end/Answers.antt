@@ -1,7 +1,6 @@
-use Rattle.std.proofs.Common.{◌∙◌, [], ap, refl, nat_le}
-use Rattle.std.specs.Prelude.{count_by}
+use Rattle.std.proofs.Common.{◌∙◌, [], ap, refl}
 use Rattle.book_core.specs.Choices.{last_of}
-use Rattle.book_core.specs.Plain.{entry_has_identity, rulings_of}
+use Rattle.book_core.specs.Plain.{is_shared, rulings_of}
 use Rattle.book_core.proofs.plain.PlainLedger.period_end.Goals as goal
 
 pub returns : goal.returns
@@ -10,8 +9,8 @@ returns g c =
     record {
       adopted = adopted;
       shared = λ identity. c.in_ok-shared_identities.ensures identity
-          ∙ ap (λ adopted. nat_le 2 (count_by (entry_has_identity (rulings_of [] adopted) identity)
-          c.args.self.now.held.entries)) adopted;
+          ∙ ap (λ adopted. is_shared (rulings_of [] adopted) c.args.self.now.held.entries identity)
+          adopted;
       chosen = λ identity. c.in_ok-last_chosen.ensures identity
           ∙ (λ i. last_of (rulings_of (c.deref.ensures.value i) (adopted i)) identity);
       last = c.last_close.ensures;
