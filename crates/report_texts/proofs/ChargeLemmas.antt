@@ -1,23 +1,24 @@
 -- What a bill charges: its plain lines, what one centre has, and the centres, each in its place.
 use Rattle.std.proofs.Common.{◌≡◌, ◌∙◌, ℕ, List, [], ◌∷◌, ◌++◌, map, ap, arith, subst}
-use Rattle.std.proofs.Common.{append-nil, append_assoc, sym}
+use Rattle.std.proofs.Common.{append-nil, append_assoc, get_or, sym}
 use Rattle.std.specs.Prelude.{All}
 use Rattle.std.specs.BTreeSet.{insert_key}
 use Rattle.std.specs.List.{fold}
 use Rattle.std.proofs.lemmas.Cmp.{nat_list_cmp_total}
 use Rattle.std.proofs.lemmas.List.{get_or-map, length-map}
+use Rattle.std.proofs.lemmas.List.Elements.{All-map}
 use Rattle.std.proofs.lemmas.List.Sums.{sum_by-cons, sum_by_push}
 use Rattle.std.proofs.lemmas.Map.Lookups.{exact_bytes}
 use Rattle.book_model.specs.declared.bill.BilledLine.{BilledLine}
 use Rattle.book_model.specs.declared.line.Line.{Line}
 use Rattle.book_model.specs.declared.row.ChargeRow.{ChargeRow}
-use Rattle.book_model.specs.Words.{AreLines, BillSeen, IsDay, by_bytes, members, same_bytes}
-use Rattle.book_model.specs.Words.{set_of}
+use Rattle.book_model.specs.Words.{AreLines, BillSeen, IsDay, by_bytes, members, same_bytes, set_of}
 use Rattle.book_model.proofs.SetLemmas.{members-empty, members-with, set_of-alike}
 use Rattle.book_model.proofs.SumsAlike.{SumsAlike}
 use Rattle.report_texts.specs.AdjustmentLists.{charged_amount}
-use Rattle.report_texts.specs.Charges.{FitCharges, IsBill, centres_of, charges_of}
-use Rattle.report_texts.specs.Charges.{charges_of_centre, plain_lines}
+use Rattle.report_texts.specs.Charges.{FitCharges, IsBill, centre_charges, centres_of, charges_of}
+use Rattle.report_texts.specs.Charges.{charges_of_centre, each_charges, plain_lines}
+use Rattle.report_texts.specs.declared.charges.CentreCharges.{CentreCharges}
 use Rattle.report_texts.proofs.AmountLemmas.{charged_within}
 use Rattle.report_texts.proofs.CentreLemmas.{filter_most}
 
@@ -38,7 +39,7 @@ bill_fits bill is =
     omega (arith, is.amount, is.lines.amount)
 
 -- what one centre is charged fits, where all does
-pub centre_fits : (centre : List ℕ) (steps jobs : List ChargeRow) (lines : List Line)
+centre_fits : (centre : List ℕ) (steps jobs : List ChargeRow) (lines : List Line)
     → FitCharges (charges_of steps jobs lines)
     → FitCharges (charges_of_centre centre steps jobs lines)
 centre_fits centre steps jobs lines fits =
@@ -48,6 +49,16 @@ centre_fits centre steps jobs lines fits =
     let own_lines = filter_most (λ (line : Line). same_bytes line.priced.centre centre)
     charged_amount lines in
     omega arith
+
+-- so what each centre of such a bill is charged fits
+pub each_fits : (bill : BillSeen) → IsBill bill
+    → All (λ (one : CentreCharges). FitCharges one.charges) (each_charges bill)
+each_fits bill is =
+    let lines = plain_lines bill.lines in
+    let centres = centres_of bill.steps bill.jobs lines in
+    All-map (λ (one : CentreCharges). FitCharges one.charges)
+    (centre_charges bill.steps bill.jobs lines) centres
+    (λ k d within. centre_fits (get_or centres k d) bill.steps bill.jobs lines (bill_fits bill is))
 
 -- one more name joins the others in its place
 one_more : (names : List (List ℕ)) (name : List ℕ)

@@ -1,7 +1,6 @@
 -- Rows of fields that need no quotes are these fields with commas between them; and such fields.
-use Rattle.std.proofs.Common.{◌≡◌, ℕ, ◌+◌, ◌-◌, ◌/◌, ◌%◌, ◌<◌, ◌^◌, false, true}
-use Rattle.std.proofs.Common.{List, [], ◌∷◌, ◌++◌, ◌∙◌, ap, append-nil, refl, arith}
-use Rattle.std.proofs.Common.{decimal, ℤ, suc, zero, length}
+use Rattle.std.proofs.Common.{◌≡◌, ℕ, ◌+◌, ◌-◌, ◌/◌, ◌%◌, ◌<◌, ◌^◌, false, true, List, [], ◌∷◌}
+use Rattle.std.proofs.Common.{◌++◌, ◌∙◌, ap, append-nil, refl, arith, decimal, ℤ, suc, zero, length}
 use Rattle.std.specs.Prelude.{codes, replicate}
 use Rattle.std.specs.List.{flat_map, list_all}
 use Rattle.std.proofs.lemmas.Bool.{and_parts, ne_eqb}

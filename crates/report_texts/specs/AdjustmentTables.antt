@@ -2,11 +2,11 @@
 use Rattle.std.specs.Prelude.{ℕ, List, [], ◌∷◌, ◌++◌, codes, flat_map}
 use Rattle.std.specs.Fmt.{decimal}
 use Rattle.hex.specs.Hex.{encode_lower}
-use Rattle.book_model.specs.Words.{show_text, day_text_of}
+use Rattle.book_model.specs.Words.{show_text}
 use Rattle.book_model.specs.declared.line.Line.{Line}
 use Rattle.report_texts.specs.Columns.{newline}
 use Rattle.report_texts.specs.AdjustmentLists.{charged_amount, reversed_amount, signed_text, word_of}
-use Rattle.report_texts.specs.Tables.{fields_line}
+use Rattle.report_texts.specs.Tables.{fields_line, key_fields}
 
 -- the names of the columns
 unfoldable pub line_heading : List ℕ
@@ -14,8 +14,7 @@ line_heading = codes "period,action,day,centre,shift,amount,name,job" ++ newline
 
 -- what a line does, and where its record is charged
 unfoldable pub place_fields : Line → List (List ℕ)
-place_fields line =
-    word_of line.plus ∷ day_text_of line.priced.day ∷ line.priced.centre ∷ line.priced.shift ∷ []
+place_fields line = word_of line.plus ∷ key_fields line.priced
 
 -- its amount, with a minus sign where it is reversed, and which record it is of
 unfoldable pub record_fields : Line → List (List ℕ)

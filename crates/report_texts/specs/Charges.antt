@@ -7,6 +7,7 @@ use Rattle.book_model.specs.declared.row.ChargeRow.{ChargeRow}
 use Rattle.book_model.specs.Words.{AreLines, AreRows, BillSeen, IsDay, by_bytes, members, set_of}
 use Rattle.report_texts.specs.AdjustmentLists.{charged_amount, reversed_amount, signed_text}
 use Rattle.report_texts.specs.Centres.{lines_of_centre, rows_of_centre}
+use Rattle.report_texts.specs.declared.charges.CentreCharges.{CentreCharges}
 use Rattle.report_texts.specs.declared.charges.Charges.{Charges}
 
 -- a bill's lines, as a list of adjustments has them
@@ -34,6 +35,19 @@ centres_of steps jobs lines =
     members (set_of by_bytes
     (map (λ row. row.centre) steps ++ map (λ row. row.centre) jobs
     ++ map (λ line. line.priced.centre) lines))
+
+-- what each centre of a bill is charged, in the order of the centres, and what all of them are
+abbrev pub centre_charges : List ChargeRow → List ChargeRow → List Line → List ℕ → CentreCharges
+centre_charges steps jobs lines centre =
+    record { centre = centre; charges = charges_of_centre centre steps jobs lines }
+
+abbrev pub each_charges : BillSeen → List CentreCharges
+each_charges bill =
+    let lines = plain_lines bill.lines in
+    map (centre_charges bill.steps bill.jobs lines) (centres_of bill.steps bill.jobs lines)
+
+abbrev pub all_charges : BillSeen → Charges
+all_charges bill = charges_of bill.steps bill.jobs (plain_lines bill.lines)
 
 -- the sum owed: all that is charged, less what is reversed
 unfoldable pub owed_text : Charges → List ℕ

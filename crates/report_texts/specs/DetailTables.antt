@@ -2,21 +2,16 @@
 use Rattle.std.specs.Prelude.{ℕ, List, [], ◌∷◌, ◌++◌, codes, flat_map}
 use Rattle.std.specs.Fmt.{decimal}
 use Rattle.hex.specs.Hex.{encode_lower}
-use Rattle.book_model.specs.Words.{day_text_of, show_text}
+use Rattle.book_model.specs.Words.{show_text}
 use Rattle.book_model.specs.declared.detail.Detail.{Detail}
 use Rattle.report_texts.specs.Columns.{amount_text, newline, number_text, seconds_text}
 use Rattle.report_texts.specs.Moments.{time_text}
-use Rattle.report_texts.specs.Tables.{fields_line}
+use Rattle.report_texts.specs.Tables.{fields_line, key_fields}
 
 -- the names of the columns
 unfoldable pub details_heading : List ℕ
 details_heading =
     codes "period,day,centre,shift,time,job,program,jobid,step,cpu,blocks,amount,name" ++ newline
-
--- where a record is charged
-unfoldable pub where_fields : Detail → List (List ℕ)
-where_fields detail =
-    day_text_of detail.priced.day ∷ detail.priced.centre ∷ detail.priced.shift ∷ []
 
 -- which work it is of
 unfoldable pub job_fields : Detail → List (List ℕ)
@@ -33,7 +28,7 @@ cost_fields detail =
 -- the fields of a record of a period
 unfoldable pub detail_fields : ℕ → Detail → List (List ℕ)
 detail_fields period detail =
-    decimal period ∷ where_fields detail ++ job_fields detail ++ cost_fields detail
+    decimal period ∷ key_fields detail.priced ++ job_fields detail ++ cost_fields detail
 
 -- the line of a record
 abbrev pub detail_row : ℕ → Detail → List ℕ

@@ -3,8 +3,7 @@ use Rattle.std.specs.Prelude.{ℕ, ◌==◌, if◌then◌else◌, List, [], ◌+
 use Rattle.std.specs.Prelude.{Option, Some, None}
 use Rattle.std.specs.Fmt.{decimal}
 use Rattle.hex.specs.Hex.{encode_lower, encode_upper}
-use Rattle.book_model.specs.Words.{show_text, day_text_of, number, part, identity2_length}
-use Rattle.book_model.specs.Words.{Disputed}
+use Rattle.book_model.specs.Words.{show_text, day_text_of, number, part, identity2_length, Disputed}
 use Rattle.book_model.specs.declared.dispute.Variant.{Variant}
 use Rattle.report_texts.specs.Columns.{newline, right_aligned, amount_text}
 

@@ -47,11 +47,13 @@ unfoldable pub member_fields : ℕ → List ℕ → Variant → List (List ℕ)
 member_fields dispute identity member =
     work_fields dispute identity member.initiation ++ price_fields member ++ run_fields member
 
+-- its line
+abbrev pub member_row : ℕ → List ℕ → Variant → List ℕ
+member_row dispute identity member = fields_line (member_fields dispute identity member)
+
 -- the lines of a dispute, of that number
 abbrev pub dispute_rows : ℕ → Disputed → List ℕ
-dispute_rows dispute disputed =
-    flat_map (λ member. fields_line (member_fields dispute disputed.identity member))
-    disputed.members
+dispute_rows dispute disputed = flat_map (member_row dispute disputed.identity) disputed.members
 
 -- the lines of disputes; the first has that number
 abbrev pub rows_from : ℕ → List Disputed → List ℕ

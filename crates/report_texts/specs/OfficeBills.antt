@@ -1,13 +1,11 @@
 -- The bill of the whole office for a period: a line for each centre, and one for their sums.
 use Rattle.std.specs.Prelude.{ℕ, List, ◌++◌, codes, flat_map, Option, ℤ}
-use Rattle.book_model.specs.declared.line.Line.{Line}
-use Rattle.book_model.specs.declared.row.ChargeRow.{ChargeRow}
 use Rattle.book_model.specs.Words.{BillSeen}
 use Rattle.report_texts.specs.Columns.{amount_text, left_aligned, newline, right_aligned}
 use Rattle.report_texts.specs.Periods.{title_line}
 use Rattle.report_texts.specs.BillTexts.{bill_head, held_back_line}
-use Rattle.report_texts.specs.Charges.{centres_of, charges_of, charges_of_centre, owed_text}
-use Rattle.report_texts.specs.Charges.{plain_lines}
+use Rattle.report_texts.specs.Charges.{all_charges, each_charges, owed_text}
+use Rattle.report_texts.specs.declared.charges.CentreCharges.{CentreCharges}
 use Rattle.report_texts.specs.declared.charges.Charges.{Charges}
 
 -- the line above the others
@@ -27,17 +25,14 @@ office_line word charges =
     ++ right_aligned 22 (amount_text charges.reversed)
     ++ right_aligned 22 (owed_text charges) ++ newline
 
--- the line of a centre, where these are all rows and lines
-unfoldable pub centre_line : List ChargeRow → List ChargeRow → List Line → List ℕ → List ℕ
-centre_line steps jobs lines centre =
-    office_line centre (charges_of_centre centre steps jobs lines)
+-- the line of a centre
+abbrev pub centre_line : CentreCharges → List ℕ
+centre_line own = office_line own.centre own.charges
 
 -- a line for each centre that has a row or a line, and one for all
-unfoldable pub office_lines : List ChargeRow → List ChargeRow → List Line → List ℕ
-office_lines steps jobs lines =
-    office_heading
-    ++ flat_map (centre_line steps jobs lines) (centres_of steps jobs lines)
-    ++ office_line (codes "TOTAL") (charges_of steps jobs lines)
+unfoldable pub office_lines : List CentreCharges → Charges → List ℕ
+office_lines each all =
+    office_heading ++ flat_map centre_line each ++ office_line (codes "TOTAL") all
 
 -- the bill of the office for a period, by its number, the day that it was closed through, if it was,
 -- and what all centres have in it
@@ -45,5 +40,5 @@ abbrev pub office_bill_text : ℕ → Option ℤ → BillSeen → List ℕ
 office_bill_text period through bill =
     title_line (codes "BILL") period through
     ++ bill_head bill.letterhead bill.tariffs
-    ++ office_lines bill.steps bill.jobs (plain_lines bill.lines)
+    ++ office_lines (each_charges bill) (all_charges bill)
     ++ held_back_line bill.held_back

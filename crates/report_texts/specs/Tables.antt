@@ -1,7 +1,9 @@
 -- Tables of comma-separated values: a line of fields, and a table while it is written.
-use Rattle.std.specs.Prelude.{◌≡◌, ℕ, false, List, ◌++◌, Some, Vec}
+use Rattle.std.specs.Prelude.{◌≡◌, ℕ, false, List, [], ◌∷◌, ◌++◌, Some, Vec}
 use Rattle.std.specs.Global.{Global}
 use Rattle.std.specs.List.{list_any}
+use Rattle.tariff_rules.specs.declared.priced.Priced.{Priced}
+use Rattle.book_model.specs.Words.{day_text_of}
 use Rattle.csv.specs.Writing.{default_writer, text_written, writer_setup, fields_written}
 use Rattle.csv.specs.Writing.{has_written, needs_byte, row_text}
 use Rattle.csv.specs.declared.writer.Writer.{Writer}
@@ -11,6 +13,10 @@ use Rattle.csv.specs.declared.writer.Writer.{Writer}
 -- each of its own quotes is written twice
 unfoldable pub fields_line : List (List ℕ) → List ℕ
 fields_line fields = row_text default_writer fields
+
+-- the fields that say where a record is charged: on which day, to which centre, and in which shift
+unfoldable pub key_fields : Priced → List (List ℕ)
+key_fields priced = day_text_of priced.day ∷ priced.centre ∷ priced.shift ∷ []
 
 -- a field of bytes that call for no quotes
 abbrev pub IsPlain : List ℕ → Type 0

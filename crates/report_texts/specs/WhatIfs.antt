@@ -14,20 +14,16 @@ use Rattle.report_texts.specs.Centres.{centre_title, rows_of_centre}
 unfoldable pub tariff_line : List ℕ → List ℕ
 tariff_line digest = codes "TARIFF " ++ encode_lower digest ++ newline
 
--- a what-if under a title: of a period, by its number, the day that it was closed through, if it
--- was, the tariff, the rows by it, and the rows that the period is charged
-abbrev pub titled_what_if :
-    List ℕ → ℕ → Option ℤ → List ℕ → List ChargeRow → List ChargeRow → List ℕ
-titled_what_if title period through digest rows charged =
-    title_line title period through
-    ++ tariff_line digest
-    ++ row_lines rows
-    ++ sums_line (codes "CHARGED") charged
+-- what stands below the title: the tariff, the rows by it, and the rows that the period is charged
+unfoldable pub what_if_lines : List ℕ → List ChargeRow → List ChargeRow → List ℕ
+what_if_lines digest rows charged =
+    tariff_line digest ++ row_lines rows ++ sums_line (codes "CHARGED") charged
 
--- the what-if of a period, with all its rows
+-- the what-if of a period: by its number, the day that it was closed through, if it was, the
+-- tariff, all rows by it, and all rows that the period is charged
 abbrev pub what_if_text : ℕ → Option ℤ → List ℕ → List ChargeRow → List ChargeRow → List ℕ
 what_if_text period through digest rows charged =
-    titled_what_if (codes "WHAT-IF") period through digest rows charged
+    title_line (codes "WHAT-IF") period through ++ what_if_lines digest rows charged
 
 -- the same as a table, which has no sums
 abbrev pub what_if_table : ℕ → List ChargeRow → List ℕ
@@ -37,8 +33,8 @@ what_if_table period rows = row_table (codes "what_if") period rows
 abbrev pub centre_what_if_text :
     List ℕ → ℕ → Option ℤ → List ℕ → List ChargeRow → List ChargeRow → List ℕ
 centre_what_if_text centre period through digest rows charged =
-    titled_what_if (centre_title (codes "WHAT-IF") centre) period through digest
-    (rows_of_centre centre rows) (rows_of_centre centre charged)
+    title_line (centre_title (codes "WHAT-IF") centre) period through
+    ++ what_if_lines digest (rows_of_centre centre rows) (rows_of_centre centre charged)
 
 -- the same as a table
 abbrev pub centre_what_if_table : List ℕ → ℕ → List ChargeRow → List ℕ

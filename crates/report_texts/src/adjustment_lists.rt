@@ -85,7 +85,7 @@ pub(crate) fn push_record(alloc: Global, out: &mut String, line: &Line) -> Resul
 }
 
 /// The word for whether a line charges its record, or takes the charge back.
-pub(crate) fn word_of(line: &Line) -> &'static str
+pub fn word_of(line: &Line) -> &'static str
     ensures { result.now ≡ spec.word_of line.now.plus }
 {
     if line.plus { "PLUS" } else { "MINUS" }

@@ -6,8 +6,8 @@ ghost use Rattle.csv.specs.Records.{fields_of};
 ghost use Rattle.report_texts.specs.AdjustmentTables as spec;
 ghost use Rattle.report_texts.specs.Tables.{AddsRows, IsBetweenRows, fields_line};
 
-use crate::adjustment_lists::{charged_amount, reversed_amount, signed_text, word_of};
-use crate::fields::{add_day, add_name, add_number, add_shown};
+use crate::adjustment_lists::word_of;
+use crate::fields::{add_key, add_name, add_number, add_shown, add_signed};
 use crate::tables::{into_bytes, new_table, write_fields, write_row};
 use book_model::Line;
 use csv::{StringRecord, Writer};
@@ -32,9 +32,7 @@ fn add_place(alloc: Global, row: &mut StringRecord, line: &Line) -> Result<(), A
     ensures { OnOk result (fields_of row.new ≡ fields_of row.old ++ spec.place_fields line.now) }
 {
     row.push_field(word_of(line))?;
-    add_day(alloc, row, line.priced.day)?;
-    row.push_field(line.priced.centre.text())?;
-    row.push_field(line.priced.shift.text())
+    add_key(alloc, row, &line.priced)
 }
 
 /// Adds what a line charges or reverses, and which record it is of.
@@ -42,8 +40,7 @@ fn add_place(alloc: Global, row: &mut StringRecord, line: &Line) -> Result<(), A
 fn add_record(alloc: Global, row: &mut StringRecord, line: &Line) -> Result<(), AllocError>
     ensures { OnOk result (fields_of row.new ≡ fields_of row.old ++ spec.record_fields line.now) }
 {
-    let amount = signed_text(alloc, charged_amount(line), reversed_amount(line))?;
-    row.push_field(amount.as_str())?;
+    add_signed(alloc, row, line)?;
     add_name(alloc, row, &line.name)?;
     add_shown(alloc, row, &line.job)
 }

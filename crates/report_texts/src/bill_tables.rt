@@ -1,18 +1,19 @@
 //! Bills as tables of comma-separated values.
 
-ghost use Rattle.std.specs.Prelude.{◌≡◌, All, IfOk, OnOk, flat_map};
-ghost use Rattle.book_model.specs.Words.{AreLines, AreRows, IsDay, bill_shown};
+ghost use Rattle.std.specs.Prelude.{◌≡◌, ◌++◌, All, IfOk, OnOk, flat_map};
+ghost use Rattle.book_model.specs.Words.{AreRows, IsDay, bill_shown};
+ghost use Rattle.csv.specs.Records.{fields_of};
 ghost use Rattle.report_texts.specs.BillTables as spec;
-ghost use Rattle.report_texts.specs.Charges.{FitCharges, IsBill, centres_of, charges_of};
+ghost use Rattle.report_texts.specs.Charges.{FitCharges, IsBill};
 ghost use Rattle.report_texts.specs.Tables.{AddsRows, fields_line};
 
-use crate::adjustment_lists::{charged_amount, reversed_amount, signed_text, word_of};
-use crate::charges::{centre_charges, centres_of, owed_text, plain_lines};
-use crate::columns::{amount_text, number_text, seconds_text};
-use crate::tables::{into_bytes, new_table, write_fields};
-use book_model::{Bill, BilledLine, ChargeRow, Line};
-use csv::Writer;
-use smf_text::{Name, day_text, show};
+use crate::adjustment_lists::word_of;
+use crate::charges::{CentreCharges, Charges, office_charges, owed_text};
+use crate::columns::{number_text, seconds_text};
+use crate::fields::{add_amount, add_day, add_key, add_name, add_number, add_shown, add_signed};
+use crate::tables::{into_bytes, new_table, write_fields, write_row};
+use book_model::{Bill, BilledLine, ChargeRow};
+use csv::{StringRecord, Writer};
 use std::alloc::{AllocError, Global};
 
 /// Writes the names of the columns of a centre's bill.
@@ -37,38 +38,60 @@ fn write_heading(table: &mut Writer<Vec<u8>>) -> Result<(), AllocError>
     Ok(())
 }
 
-/// Writes the row of a charge row of steps.
-fn write_step(
+/// Adds where a row of work is charged.
+#[tactic(auto, unfolding(crate::specs::BillTables::place_fields))]
+fn add_place(alloc: Global, fields: &mut StringRecord, row: &ChargeRow) -> Result<(), AllocError>
+    requires { IsDay row.now.day }
+    ensures { OnOk result (fields_of fields.new
+        ≡ fields_of fields.old ++ spec.place_fields row.now) }
+{
+    add_day(alloc, fields, row.day)?;
+    fields.push_field(row.centre.text())?;
+    fields.push_field(row.shift.text())
+}
+
+/// Adds what a row of work is and how much, and what it costs. It has no record of its own.
+#[tactic(auto, unfolding(crate::specs::BillTables::work_fields))]
+fn add_work(
+    alloc: Global,
+    fields: &mut StringRecord,
+    kind: &str,
+    cpu: &str,
+    blocks: &str,
+    row: &ChargeRow,
+) -> Result<(), AllocError>
+    ensures { OnOk result (fields_of fields.new
+        ≡ fields_of fields.old ++ spec.work_fields kind.now cpu.now blocks.now row.now) }
+{
+    fields.push_field(kind)?;
+    add_number(alloc, fields, row.count)?;
+    fields.push_field(cpu)?;
+    fields.push_field(blocks)?;
+    add_amount(alloc, fields, row.amount)?;
+    fields.push_field("")?;
+    fields.push_field("")?;
+    fields.push_field("")
+}
+
+/// Writes the row of a row of work.
+fn write_work(
     alloc: Global,
     table: &mut Writer<Vec<u8>>,
     period: u16,
-    row: ChargeRow,
+    kind: &str,
+    cpu: &str,
+    blocks: &str,
+    row: &ChargeRow,
 ) -> Result<(), AllocError>
-    requires { IsDay row.day }
-    ensures { OnOk result (AddsRows table.old table.new (spec.step_row period row)) }
+    requires { IsDay row.now.day }
+    ensures { OnOk result (AddsRows table.old table.new
+        (spec.work_row period kind.now cpu.now blocks.now row.now)) }
 {
-    let period = period.to_string(alloc)?;
-    let day = day_text(alloc, row.day)?;
-    let count = row.count.to_string(alloc)?;
-    let cpu = seconds_text(alloc, row.cpu)?;
-    let blocks = row.blocks.to_string(alloc)?;
-    let amount = amount_text(alloc, row.amount)?;
-    let fields: [&[u8]; 12] = [
-        period.as_str().as_bytes(),
-        day.as_str().as_bytes(),
-        row.centre.text().as_bytes(),
-        row.shift.text().as_bytes(),
-        b"STEPS",
-        count.as_str().as_bytes(),
-        cpu.as_str().as_bytes(),
-        blocks.as_str().as_bytes(),
-        amount.as_str().as_bytes(),
-        b"",
-        b"",
-        b"",
-    ];
-    write_fields(table, &fields)?;
-    Ok(())
+    let mut fields = StringRecord::new(alloc);
+    add_number(alloc, &mut fields, u64::from(period))?;
+    add_place(alloc, &mut fields, row)?;
+    add_work(alloc, &mut fields, kind, cpu, blocks, row)?;
+    write_row(table, &fields)
 }
 
 /// Writes the rows of steps.
@@ -83,44 +106,22 @@ fn write_steps(
         (flat_map (spec.step_row period) rows.now)) }
 {
     for row in rows {
-        write_step(alloc, table, period, *row)?;
+        let cpu = seconds_text(alloc, row.cpu)?;
+        let blocks = row.blocks.to_string(alloc)?;
+        write_work(
+            alloc,
+            table,
+            period,
+            "STEPS",
+            cpu.as_str(),
+            blocks.as_str(),
+            row,
+        )?;
     }
     Ok(())
 }
 
-/// Writes the row of a charge row of jobs, whose CPU time and blocks are those of their steps.
-fn write_job(
-    alloc: Global,
-    table: &mut Writer<Vec<u8>>,
-    period: u16,
-    row: ChargeRow,
-) -> Result<(), AllocError>
-    requires { IsDay row.day }
-    ensures { OnOk result (AddsRows table.old table.new (spec.job_row period row)) }
-{
-    let period = period.to_string(alloc)?;
-    let day = day_text(alloc, row.day)?;
-    let count = row.count.to_string(alloc)?;
-    let amount = amount_text(alloc, row.amount)?;
-    let fields: [&[u8]; 12] = [
-        period.as_str().as_bytes(),
-        day.as_str().as_bytes(),
-        row.centre.text().as_bytes(),
-        row.shift.text().as_bytes(),
-        b"JOBS",
-        count.as_str().as_bytes(),
-        b"",
-        b"",
-        amount.as_str().as_bytes(),
-        b"",
-        b"",
-        b"",
-    ];
-    write_fields(table, &fields)?;
-    Ok(())
-}
-
-/// Writes the rows of jobs.
+/// Writes the rows of jobs, whose CPU time and blocks are those of their steps.
 fn write_jobs(
     alloc: Global,
     table: &mut Writer<Vec<u8>>,
@@ -132,9 +133,26 @@ fn write_jobs(
         (flat_map (spec.job_row period) rows.now)) }
 {
     for row in rows {
-        write_job(alloc, table, period, *row)?;
+        write_work(alloc, table, period, "JOBS", "", "", row)?;
     }
     Ok(())
+}
+
+/// Adds the amount of a line, the period that it speaks of, and which record it is of.
+#[tactic(auto, unfolding(crate::specs::BillTables::line_fields))]
+fn add_line(alloc: Global, fields: &mut StringRecord, billed: &BilledLine) -> Result<(), AllocError>
+    ensures { OnOk result (fields_of fields.new
+        ≡ fields_of fields.old ++ spec.line_fields billed.now) }
+{
+    let line = &billed.line;
+    fields.push_field(word_of(line))?;
+    fields.push_field("")?;
+    fields.push_field("")?;
+    fields.push_field("")?;
+    add_signed(alloc, fields, line)?;
+    fields.push_field(number_text(alloc, billed.period)?.as_str())?;
+    add_name(alloc, fields, &line.name)?;
+    add_shown(alloc, fields, &line.job)
 }
 
 /// Writes the row of a line.
@@ -142,35 +160,16 @@ fn write_billed(
     alloc: Global,
     table: &mut Writer<Vec<u8>>,
     period: u16,
-    billed: BilledLine,
+    billed: &BilledLine,
 ) -> Result<(), AllocError>
-    requires { IsDay billed.line.priced.day }
-    ensures { OnOk result (AddsRows table.old table.new (spec.billed_row period billed)) }
+    requires { IsDay billed.now.line.priced.day }
+    ensures { OnOk result (AddsRows table.old table.new (spec.billed_row period billed.now)) }
 {
-    let line = billed.line;
-    let period = period.to_string(alloc)?;
-    let day = day_text(alloc, line.priced.day)?;
-    let amount = signed_text(alloc, charged_amount(&line), reversed_amount(&line))?;
-    let of_period = number_text(alloc, billed.period)?;
-    let name: &[u8] = &line.name;
-    let name = hex::encode(alloc, name)?;
-    let job = show(alloc, &line.job)?;
-    let fields: [&[u8]; 12] = [
-        period.as_str().as_bytes(),
-        day.as_str().as_bytes(),
-        line.priced.centre.text().as_bytes(),
-        line.priced.shift.text().as_bytes(),
-        word_of(&line).as_bytes(),
-        b"",
-        b"",
-        b"",
-        amount.as_str().as_bytes(),
-        of_period.as_str().as_bytes(),
-        name.as_str().as_bytes(),
-        job.as_str().as_bytes(),
-    ];
-    write_fields(table, &fields)?;
-    Ok(())
+    let mut fields = StringRecord::new(alloc);
+    add_number(alloc, &mut fields, u64::from(period))?;
+    add_key(alloc, &mut fields, &billed.line.priced)?;
+    add_line(alloc, &mut fields, billed)?;
+    write_row(table, &fields)
 }
 
 /// Writes the rows of lines.
@@ -185,7 +184,7 @@ fn write_lines(
         (flat_map (spec.billed_row period) billed.now)) }
 {
     for one in billed {
-        write_billed(alloc, table, period, *one)?;
+        write_billed(alloc, table, period, one)?;
     }
     Ok(())
 }
@@ -221,63 +220,54 @@ fn write_office_heading(table: &mut Writer<Vec<u8>>) -> Result<(), AllocError>
     Ok(())
 }
 
-/// Writes the row of a centre, by all rows and lines.
+/// Adds what a centre is charged, and the sum that it owes.
+#[tactic(auto, unfolding(crate::specs::BillTables::charge_fields))]
+fn add_charges(
+    alloc: Global,
+    fields: &mut StringRecord,
+    charges: &Charges,
+) -> Result<(), AllocError>
+    requires { FitCharges charges.now }
+    ensures { OnOk result (fields_of fields.new
+        ≡ fields_of fields.old ++ spec.charge_fields charges.now) }
+{
+    add_amount(alloc, fields, charges.steps)?;
+    add_amount(alloc, fields, charges.jobs)?;
+    add_amount(alloc, fields, charges.late)?;
+    add_amount(alloc, fields, charges.reversed)?;
+    fields.push_field(owed_text(alloc, charges)?.as_str())
+}
+
+/// Writes the row of a centre.
 fn write_centre(
     alloc: Global,
     table: &mut Writer<Vec<u8>>,
     period: u16,
-    centre: Name,
-    steps: &[ChargeRow],
-    jobs: &[ChargeRow],
-    lines: &[Line],
+    own: &CentreCharges,
 ) -> Result<(), AllocError>
-    requires steps { AreRows steps.now }
-    requires jobs { AreRows jobs.now }
-    requires lines { AreLines lines.now }
-    requires fits { FitCharges (charges_of steps.now jobs.now lines.now) }
-    ensures { OnOk result (AddsRows table.old table.new
-        (spec.centre_row period steps.now jobs.now lines.now centre)) }
+    requires { FitCharges own.now.charges }
+    ensures { OnOk result (AddsRows table.old table.new (spec.centre_row period own.now)) }
 {
-    let own = centre_charges(alloc, centre, steps, jobs, lines)?;
-    let period = period.to_string(alloc)?;
-    let of_steps = amount_text(alloc, own.steps)?;
-    let of_jobs = amount_text(alloc, own.jobs)?;
-    let late = amount_text(alloc, own.late)?;
-    let reversed = amount_text(alloc, own.reversed)?;
-    let owed = owed_text(alloc, &own)?;
-    let fields: [&[u8]; 7] = [
-        period.as_str().as_bytes(),
-        centre.text().as_bytes(),
-        of_steps.as_str().as_bytes(),
-        of_jobs.as_str().as_bytes(),
-        late.as_str().as_bytes(),
-        reversed.as_str().as_bytes(),
-        owed.as_str().as_bytes(),
-    ];
-    write_fields(table, &fields)?;
-    Ok(())
+    let mut fields = StringRecord::new(alloc);
+    add_number(alloc, &mut fields, u64::from(period))?;
+    fields.push_field(own.centre.text())?;
+    add_charges(alloc, &mut fields, &own.charges)?;
+    write_row(table, &fields)
 }
 
-/// Writes a row for each centre that has a row or a line.
+/// Writes the rows of centres.
 fn write_centres(
     alloc: Global,
     table: &mut Writer<Vec<u8>>,
     period: u16,
-    steps: &[ChargeRow],
-    jobs: &[ChargeRow],
-    lines: &[Line],
+    each: &[CentreCharges],
 ) -> Result<(), AllocError>
-    requires steps { AreRows steps.now }
-    requires jobs { AreRows jobs.now }
-    requires lines { AreLines lines.now }
-    requires fits { FitCharges (charges_of steps.now jobs.now lines.now) }
+    requires { All (λ one. FitCharges one.charges) each.now }
     ensures { OnOk result (AddsRows table.old table.new
-        (flat_map (spec.centre_row period steps.now jobs.now lines.now)
-        (centres_of steps.now jobs.now lines.now))) }
+        (flat_map (spec.centre_row period) each.now)) }
 {
-    let centres = centres_of(alloc, steps, jobs, lines)?;
-    for centre in &centres {
-        write_centre(alloc, table, period, *centre, steps, jobs, lines)?;
+    for own in each {
+        write_centre(alloc, table, period, own)?;
     }
     Ok(())
 }
@@ -289,16 +279,9 @@ pub fn office_bill_table(alloc: Global, period: u16, bill: &Bill) -> Result<Vec<
     ensures { IfOk result (λ table.
         table.items ≡ spec.office_bill_table period (bill_shown bill.now)) }
 {
-    let lines = plain_lines(alloc, &bill.lines)?;
+    let own = office_charges(alloc, bill)?;
     let mut table = new_table(alloc);
     write_office_heading(&mut table)?;
-    write_centres(
-        alloc,
-        &mut table,
-        period,
-        &bill.work.steps,
-        &bill.work.jobs,
-        &lines,
-    )?;
+    write_centres(alloc, &mut table, period, &own.each)?;
     into_bytes(table)
 }

@@ -14,7 +14,7 @@ use crate::charges::{Charges, charges_of, owed_text, plain_lines};
 use crate::columns::{amount_text, number_text, push_number};
 use crate::parts::push_day;
 use crate::periods::title_text;
-use crate::statements::{push_amount, push_key, push_row_lines, push_work, sums};
+use crate::statements::{push_amount, push_key, push_row_lines, push_work, row_sums};
 use book_model::{Bill, BilledLine, BilledTariff, ChargeRow, HeldBack, Line};
 use smf_text::{Name, day_text};
 use std::alloc::{AllocError, Global};
@@ -141,7 +141,7 @@ fn push_job_lines(alloc: Global, out: &mut String, rows: &[ChargeRow]) -> Result
     for row in rows {
         push_job_line(alloc, out, row)?;
     }
-    let (count, _, _, amount) = sums(rows);
+    let (count, _, _, amount) = row_sums(rows);
     push_key(out, "TOTAL", "", "")?;
     push_job_numbers(alloc, out, count, amount)
 }

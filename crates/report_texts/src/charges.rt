@@ -1,14 +1,14 @@
 //! What a bill charges, and what one centre has of that.
 
-ghost use Rattle.std.specs.Prelude.{◌≡◌, IfOk, string_bytes};
-ghost use Rattle.book_model.specs.Words.{AreLines, AreRows};
+ghost use Rattle.std.specs.Prelude.{◌≡◌, All, IfOk, map, string_bytes};
+ghost use Rattle.book_model.specs.Words.{AreLines, AreRows, bill_shown};
 ghost use Rattle.report_texts.specs.Charges as spec;
-ghost use Rattle.report_texts.specs.Charges.{FitCharges};
+ghost use Rattle.report_texts.specs.Charges.{FitCharges, IsBill};
 
 use crate::adjustment_lists::signed_text;
 use crate::centres::{keep_lines, keep_rows};
 use crate::{adjustment_lists, statements};
-use book_model::{BilledLine, ChargeRow, Line};
+use book_model::{Bill, BilledLine, ChargeRow, Line};
 use smf_text::Name;
 use std::alloc::{AllocError, Global};
 use std::collections::BTreeSet;
@@ -25,6 +25,20 @@ pub struct Charges {
     pub late: u64,
     /// What was reversed.
     pub reversed: u64,
+}
+
+/// What one centre is charged.
+#[derive(Clone, Copy, Debug)]
+pub(crate) struct CentreCharges {
+    pub(crate) centre: Name,
+    pub(crate) charges: Charges,
+}
+
+/// What each centre of a bill is charged, in the order of the centres, and what all of them are.
+#[derive(Debug, Drop)]
+pub(crate) struct OfficeCharges {
+    pub(crate) each: Vec<CentreCharges>,
+    pub(crate) all: Charges,
 }
 
 /// A bill's lines, as a list of adjustments has them.
@@ -45,8 +59,8 @@ pub(crate) fn charges_of(steps: &[ChargeRow], jobs: &[ChargeRow], lines: &[Line]
     requires lines { AreLines lines.now }
     ensures { result ≡ spec.charges_of steps.now jobs.now lines.now }
 {
-    let (_, _, _, of_steps) = statements::sums(steps);
-    let (_, _, _, of_jobs) = statements::sums(jobs);
+    let (_, _, _, of_steps) = statements::row_sums(steps);
+    let (_, _, _, of_jobs) = statements::row_sums(jobs);
     let (late, reversed) = adjustment_lists::sums(lines);
     Charges {
         steps: of_steps,
@@ -57,7 +71,7 @@ pub(crate) fn charges_of(steps: &[ChargeRow], jobs: &[ChargeRow], lines: &[Line]
 }
 
 /// What the centre is charged of that.
-pub(crate) fn centre_charges(
+fn charges_of_centre(
     alloc: Global,
     centre: Name,
     steps: &[ChargeRow],
@@ -80,7 +94,7 @@ pub(crate) fn centre_charges(
 }
 
 /// The centres of rows and lines, each once and in order.
-pub(crate) fn centres_of(
+fn centres_of(
     alloc: Global,
     steps: &[ChargeRow],
     jobs: &[ChargeRow],
@@ -100,6 +114,46 @@ pub(crate) fn centres_of(
         centres.insert(line.priced.centre)?;
     }
     centres.into_iter().collect(alloc)
+}
+
+/// What each centre of rows and lines is charged.
+fn each_charges(
+    alloc: Global,
+    steps: &[ChargeRow],
+    jobs: &[ChargeRow],
+    lines: &[Line],
+) -> Result<Vec<CentreCharges>, AllocError>
+    requires steps { AreRows steps.now }
+    requires jobs { AreRows jobs.now }
+    requires lines { AreLines lines.now }
+    ensures { IfOk result (λ each. each.items ≡ map
+        (spec.centre_charges steps.now jobs.now lines.now)
+        (spec.centres_of steps.now jobs.now lines.now)) }
+{
+    let centres = centres_of(alloc, steps, jobs, lines)?;
+    let mut each = Vec::new(alloc);
+    for centre in &centres {
+        let charges = charges_of_centre(alloc, *centre, steps, jobs, lines)?;
+        each.push(CentreCharges {
+            centre: *centre,
+            charges,
+        })?;
+    }
+    Ok(each)
+}
+
+/// What a bill charges its centres.
+pub(crate) fn office_charges(alloc: Global, bill: &Bill) -> Result<OfficeCharges, AllocError>
+    requires { IsBill (bill_shown bill.now) }
+    ensures each { IfOk result (λ own. own.each.items ≡ spec.each_charges (bill_shown bill.now)) }
+    ensures all { IfOk result (λ own. own.all ≡ spec.all_charges (bill_shown bill.now)) }
+    ensures each_fits { IfOk result (λ own. All (λ one. FitCharges one.charges) own.each.items) }
+    ensures all_fits { IfOk result (λ own. FitCharges own.all) }
+{
+    let lines = plain_lines(alloc, &bill.lines)?;
+    let each = each_charges(alloc, &bill.work.steps, &bill.work.jobs, &lines)?;
+    let all = charges_of(&bill.work.steps, &bill.work.jobs, &lines);
+    Ok(OfficeCharges { each, all })
 }
 
 /// The sum owed: all that is charged, less what is reversed.

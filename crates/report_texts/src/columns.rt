@@ -64,7 +64,7 @@ pub(crate) fn number_text(alloc: Global, number: Option<u16>) -> Result<String, 
 
 /// Hundredths of a second, in seconds.
 #[tactic(auto, using(crate::proofs::ColumnLemmas::places_written), unfolding(crate::specs::Columns::seconds_text))]
-pub(crate) fn seconds_text(alloc: Global, hundredths: u64) -> Result<String, AllocError>
+pub fn seconds_text(alloc: Global, hundredths: u64) -> Result<String, AllocError>
     ensures { IfOk result (λ text. string_bytes text ≡ spec.seconds_text hundredths) }
 {
     let seconds = hundredths / 100;

@@ -7,8 +7,8 @@ ghost use Rattle.csv.specs.Records.{fields_of};
 ghost use Rattle.report_texts.specs.DetailTables as spec;
 ghost use Rattle.report_texts.specs.Tables.{AddsRows, IsBetweenRows};
 
-use crate::columns::{amount_text, number_text, seconds_text};
-use crate::fields::{add_day, add_name, add_number, add_shown};
+use crate::columns::{number_text, seconds_text};
+use crate::fields::{add_amount, add_key, add_name, add_number, add_shown};
 use crate::moments::time_text;
 use crate::tables::{into_bytes, new_table, write_fields, write_row};
 use book_model::Detail;
@@ -26,17 +26,6 @@ fn write_heading(table: &mut Writer<Vec<u8>>) -> Result<(), AllocError>
     ];
     write_fields(table, &names)?;
     Ok(())
-}
-
-/// Adds where a record is charged.
-#[tactic(auto, unfolding(crate::specs::DetailTables::where_fields))]
-fn add_where(alloc: Global, row: &mut StringRecord, detail: &Detail) -> Result<(), AllocError>
-    requires { IsDay detail.now.priced.day }
-    ensures { OnOk result (fields_of row.new ≡ fields_of row.old ++ spec.where_fields detail.now) }
-{
-    add_day(alloc, row, detail.priced.day)?;
-    row.push_field(detail.priced.centre.text())?;
-    row.push_field(detail.priced.shift.text())
 }
 
 /// Adds which work a record is of.
@@ -58,7 +47,7 @@ fn add_cost(alloc: Global, row: &mut StringRecord, detail: &Detail) -> Result<()
 {
     row.push_field(seconds_text(alloc, detail.priced.cpu)?.as_str())?;
     add_number(alloc, row, detail.priced.excp)?;
-    row.push_field(amount_text(alloc, detail.priced.amount)?.as_str())?;
+    add_amount(alloc, row, detail.priced.amount)?;
     add_name(alloc, row, &detail.name)
 }
 
@@ -74,7 +63,7 @@ fn write_detail(
 {
     let mut row = StringRecord::new(alloc);
     add_number(alloc, &mut row, u64::from(period))?;
-    add_where(alloc, &mut row, detail)?;
+    add_key(alloc, &mut row, &detail.priced)?;
     add_job(alloc, &mut row, detail)?;
     add_cost(alloc, &mut row, detail)?;
     write_row(table, &row)

@@ -8,11 +8,11 @@ ghost use Rattle.csv.specs.Records.{fields_of};
 ghost use Rattle.report_texts.specs.DisputeLists.{completion_text};
 ghost use Rattle.report_texts.specs.DisputeTables as spec;
 ghost use Rattle.report_texts.specs.Moments.{moment_of};
-ghost use Rattle.report_texts.specs.Tables.{AddsRows, IsBetweenRows, fields_line};
+ghost use Rattle.report_texts.specs.Tables.{AddsRows, IsBetweenRows};
 
-use crate::columns::{amount_text, seconds_text};
+use crate::columns::seconds_text;
 use crate::dispute_lists::{part, push_completion};
-use crate::fields::{add_day, add_name, add_number, add_shown};
+use crate::fields::{add_amount, add_day, add_name, add_number, add_shown};
 use crate::moments::moment_text;
 use crate::tables::{into_bytes, new_table, write_fields, write_row};
 use book_model::{Dispute, Variant};
@@ -104,7 +104,7 @@ fn add_price(alloc: Global, row: &mut StringRecord, member: &Variant) -> Result<
     add_day(alloc, row, member.priced.day)?;
     row.push_field(seconds_text(alloc, member.priced.cpu)?.as_str())?;
     add_number(alloc, row, member.priced.excp)?;
-    row.push_field(amount_text(alloc, member.priced.amount)?.as_str())
+    add_amount(alloc, row, member.priced.amount)
 }
 
 /// Adds a completion code and a termination indicator.
@@ -142,7 +142,7 @@ fn write_member(
     requires identity { identity_length ≤ length identity.now }
     requires day { IsDay member.now.priced.day }
     ensures { OnOk result (AddsRows table.old table.new
-        (fields_line (spec.member_fields dispute identity.now member.now))) }
+        (spec.member_row dispute identity.now member.now)) }
 {
     let mut row = StringRecord::new(alloc);
     add_work(alloc, &mut row, dispute, identity, &member.initiation)?;
@@ -162,8 +162,7 @@ fn write_members(
     requires identity { identity_length ≤ length identity.now }
     requires days { All (λ member. IsDay member.priced.day) members.now }
     ensures { OnOk result (AddsRows table.old table.new
-        (flat_map (λ member. fields_line (spec.member_fields dispute identity.now member))
-        members.now)) }
+        (flat_map (spec.member_row dispute identity.now) members.now)) }
 {
     for member in members {
         write_member(alloc, table, dispute, identity, member)?;

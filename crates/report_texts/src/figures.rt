@@ -31,7 +31,7 @@ pub fn figures_of(rows: &[ChargeRow], lines: &[Line], own: u64) -> Figures
     requires lines { AreLines lines.now }
     ensures { result ≡ spec.figures_by rows.now lines.now own }
 {
-    let (records, _, _, statement) = statements::sums(rows);
+    let (records, _, _, statement) = statements::row_sums(rows);
     let (charged, reversed) = adjustment_lists::sums(lines);
     Figures {
         statement,
@@ -47,7 +47,7 @@ pub fn record_count(rows: &[ChargeRow]) -> u64
     requires { AreRows rows.now }
     ensures { result ≡ spec.record_count rows.now }
 {
-    let (records, _, _, _) = statements::sums(rows);
+    let (records, _, _, _) = statements::row_sums(rows);
     records
 }
 

@@ -30,7 +30,7 @@ mod tables;
 mod usage_lines;
 mod what_ifs;
 
-pub use adjustment_lists::adjustment_list_text;
+pub use adjustment_lists::{adjustment_list_text, word_of};
 pub use adjustment_tables::adjustment_table;
 pub use bill_tables::{bill_table, office_bill_table};
 pub use bill_texts::bill_text;
@@ -39,7 +39,7 @@ pub use centres::{
     centre_statement_text, keep_lines,
 };
 pub use charges::Charges;
-pub use columns::push_number;
+pub use columns::{push_number, seconds_text};
 pub use detail_lists::{detail_head, detail_total, push_detail_line};
 pub use detail_tables::{detail_row, detail_table_head};
 pub use dispute_lists::{dispute_list_head, dispute_list_text, push_dispute};
@@ -51,5 +51,5 @@ pub use period_lists::period_list_text;
 pub use record_texts::record_text;
 pub use ruling_lists::{push_ruling_line, ruling_list_head};
 pub use statement_tables::statement_table;
-pub use statements::statement_text;
+pub use statements::{row_sums, statement_text};
 pub use what_ifs::{centre_what_if_table, centre_what_if_text, what_if_table, what_if_text};

@@ -1,18 +1,17 @@
 //! The bill of the whole office for a period.
 
-ghost use Rattle.std.specs.Prelude.{◌≡◌, ◌++◌, IfOk, OnOk, string_bytes};
+ghost use Rattle.std.specs.Prelude.{◌≡◌, ◌++◌, All, IfOk, OnOk, string_bytes};
 ghost use Rattle.std.specs.Option.{ForSome};
-ghost use Rattle.book_model.specs.Words.{AreLines, AreRows, IsDay, bill_shown};
-ghost use Rattle.report_texts.specs.Charges.{FitCharges, IsBill, charges_of};
+ghost use Rattle.book_model.specs.Words.{IsDay, bill_shown};
+ghost use Rattle.report_texts.specs.Charges.{FitCharges, IsBill};
 ghost use Rattle.report_texts.specs.OfficeBills as spec;
 
 use crate::bill_texts::{push_bill_head, push_held_back};
-use crate::charges::{Charges, centre_charges, centres_of, charges_of, owed_text, plain_lines};
+use crate::charges::{CentreCharges, Charges, office_charges, owed_text};
 use crate::columns::{push_left_aligned, push_right_aligned};
 use crate::parts::push_money;
 use crate::periods::title_text;
-use book_model::{Bill, ChargeRow, Line};
-use smf_text::Name;
+use book_model::Bill;
 use std::alloc::{AllocError, Global};
 
 /// Appends the line above the others.
@@ -45,49 +44,24 @@ fn push_office_line(
     out.push('\n')
 }
 
-/// Appends the line of a centre, by all rows and lines.
-#[tactic(auto, unfolding(crate::specs::OfficeBills::centre_line))]
-fn push_centre_line(
-    alloc: Global,
-    out: &mut String,
-    centre: Name,
-    steps: &[ChargeRow],
-    jobs: &[ChargeRow],
-    lines: &[Line],
-) -> Result<(), AllocError>
-    requires steps { AreRows steps.now }
-    requires jobs { AreRows jobs.now }
-    requires lines { AreLines lines.now }
-    requires fits { FitCharges (charges_of steps.now jobs.now lines.now) }
-    ensures { OnOk result (string_bytes out.new
-        ≡ string_bytes out.old ++ spec.centre_line steps.now jobs.now lines.now centre) }
-{
-    let own = centre_charges(alloc, centre, steps, jobs, lines)?;
-    push_office_line(alloc, out, centre.text(), &own)
-}
-
-/// Appends a line for each centre that has a row or a line, and one for all.
+/// Appends a line for each centre, and one for all.
 #[tactic(auto, using(std::proofs::lemmas::List::flat_map_more), unfolding(crate::specs::OfficeBills::office_lines))]
 fn push_office_lines(
     alloc: Global,
     out: &mut String,
-    steps: &[ChargeRow],
-    jobs: &[ChargeRow],
-    lines: &[Line],
+    each: &[CentreCharges],
+    all: &Charges,
 ) -> Result<(), AllocError>
-    requires steps { AreRows steps.now }
-    requires jobs { AreRows jobs.now }
-    requires lines { AreLines lines.now }
-    requires fits { FitCharges (charges_of steps.now jobs.now lines.now) }
+    requires each { All (λ one. FitCharges one.charges) each.now }
+    requires all { FitCharges all.now }
     ensures { OnOk result (string_bytes out.new
-        ≡ string_bytes out.old ++ spec.office_lines steps.now jobs.now lines.now) }
+        ≡ string_bytes out.old ++ spec.office_lines each.now all.now) }
 {
-    let centres = centres_of(alloc, steps, jobs, lines)?;
     push_office_heading(out)?;
-    for centre in &centres {
-        push_centre_line(alloc, out, *centre, steps, jobs, lines)?;
+    for one in each {
+        push_office_line(alloc, out, one.centre.text(), &one.charges)?;
     }
-    push_office_line(alloc, out, "TOTAL", &charges_of(steps, jobs, lines))
+    push_office_line(alloc, out, "TOTAL", all)
 }
 
 /// The bill of the office for a period: by the period's number, the day that it was closed through,
@@ -103,10 +77,10 @@ pub fn office_bill_text(
     ensures { IfOk result (λ text.
         string_bytes text ≡ spec.office_bill_text period through (bill_shown bill.now)) }
 {
-    let lines = plain_lines(alloc, &bill.lines)?;
+    let own = office_charges(alloc, bill)?;
     let mut out = title_text(alloc, "BILL", period, through)?;
     push_bill_head(alloc, &mut out, &bill.letterhead, &bill.tariffs)?;
-    push_office_lines(alloc, &mut out, &bill.work.steps, &bill.work.jobs, &lines)?;
+    push_office_lines(alloc, &mut out, &own.each, &own.all)?;
     push_held_back(alloc, &mut out, bill.held_back)?;
     Ok(out)
 }

@@ -110,7 +110,7 @@ fn push_rows(alloc: Global, out: &mut String, rows: &[ChargeRow]) -> Result<(), 
 
 /// The sums of rows: how many records there are, their CPU time, their blocks, and what they cost.
 #[tactic(auto, using(std::proofs::lemmas::List::Sums::sum_by_more_le))]
-pub(crate) fn sums(rows: &[ChargeRow]) -> (u64, u64, u64, u64)
+pub fn row_sums(rows: &[ChargeRow]) -> (u64, u64, u64, u64)
     requires { AreRows rows.now }
     ensures { result ≡ (
       sum_by (λ row. row.count) rows.now,
@@ -138,7 +138,7 @@ fn push_sums(alloc: Global, out: &mut String, rows: &[ChargeRow]) -> Result<(), 
     ensures { OnOk result (string_bytes out.new
         ≡ string_bytes out.old ++ spec.sum_columns rows.now) }
 {
-    let (count, cpu, blocks, amount) = sums(rows);
+    let (count, cpu, blocks, amount) = row_sums(rows);
     push_numbers(alloc, out, count, cpu, blocks, amount)
 }
 

@@ -25,27 +25,23 @@ fn push_tariff(alloc: Global, out: &mut String, digest: &[u8; 32]) -> Result<(),
     out.push('\n')
 }
 
-/// A what-if under a title.
-fn titled_what_if(
+/// Appends what stands below the title: the tariff, the rows by it, and the sums of what is charged.
+#[tactic(auto, unfolding(crate::specs::WhatIfs::what_if_lines))]
+fn push_what_if_lines(
     alloc: Global,
-    title: &str,
-    period: u16,
-    through: Option<i32>,
+    out: &mut String,
     digest: &[u8; 32],
     rows: &[ChargeRow],
     charged: &[ChargeRow],
-) -> Result<String, AllocError>
-    requires through { ForSome through IsDay }
+) -> Result<(), AllocError>
     requires rows { AreRows rows.now }
     requires charged { AreRows charged.now }
-    ensures { IfOk result (λ text. string_bytes text
-        ≡ spec.titled_what_if title.now period through digest.now rows.now charged.now) }
+    ensures { OnOk result (string_bytes out.new
+        ≡ string_bytes out.old ++ spec.what_if_lines digest.now rows.now charged.now) }
 {
-    let mut out = title_text(alloc, title, period, through)?;
-    push_tariff(alloc, &mut out, digest)?;
-    push_row_lines(alloc, &mut out, rows)?;
-    push_sums_line(alloc, &mut out, "CHARGED", charged)?;
-    Ok(out)
+    push_tariff(alloc, out, digest)?;
+    push_row_lines(alloc, out, rows)?;
+    push_sums_line(alloc, out, "CHARGED", charged)
 }
 
 /// What a period would have cost by another tariff: the period by its number and the day that it
@@ -65,7 +61,9 @@ pub fn what_if_text(
     ensures { IfOk result (λ text. string_bytes text
         ≡ spec.what_if_text period through digest.now rows.now charged.now) }
 {
-    titled_what_if(alloc, "WHAT-IF", period, through, digest, rows, charged)
+    let mut out = title_text(alloc, "WHAT-IF", period, through)?;
+    push_what_if_lines(alloc, &mut out, digest, rows, charged)?;
+    Ok(out)
 }
 
 /// The same as a table: a heading, and a row for each charge row by the other tariff.
@@ -96,15 +94,9 @@ pub fn centre_what_if_text(
     let title = centre_title(alloc, "WHAT-IF", centre)?;
     keep_rows(&mut rows, centre);
     keep_rows(&mut charged, centre);
-    titled_what_if(
-        alloc,
-        title.as_str(),
-        period,
-        through,
-        digest,
-        &rows,
-        &charged,
-    )
+    let mut out = title_text(alloc, title.as_str(), period, through)?;
+    push_what_if_lines(alloc, &mut out, digest, &rows, &charged)?;
+    Ok(out)
 }
 
 /// The same as a table: a heading, and a row for each charge row of the centre by the other tariff.

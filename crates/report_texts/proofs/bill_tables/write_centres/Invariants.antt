@@ -5,7 +5,6 @@ use Rattle.report_texts.specs.Tables.{AddsRows}
 use Rattle.report_texts.proofs.bill_tables.write_centres.Given as goal
 
 -- the rows so far are written
-abbrev pub invariant-loop-centre : goal.invariant-loop-centre
-invariant-loop-centre l =
-    AddsRows l.initial.table l.table
-    (flat_map (centre_row l.period l.steps l.jobs l.lines) (take l.centre-index l.centre-items))
+abbrev pub invariant-loop-own : goal.invariant-loop-own
+invariant-loop-own l =
+    AddsRows l.initial.table l.table (flat_map (centre_row l.period) (take l.own-index l.each))

@@ -5,8 +5,6 @@ use Rattle.report_texts.specs.OfficeBills.{centre_line}
 use Rattle.report_texts.proofs.office_bills.push_office_lines.Given as goal
 
 -- the lines of the centres so far are appended
-abbrev pub invariant-loop-centre : goal.invariant-loop-centre
-invariant-loop-centre l =
-    string_bytes l.out
-    ≡ string_bytes l.initial.out
-    ++ flat_map (centre_line l.steps l.jobs l.lines) (take l.centre-index l.centre-items)
+abbrev pub invariant-loop-one : goal.invariant-loop-one
+invariant-loop-one l =
+    string_bytes l.out ≡ string_bytes l.initial.out ++ flat_map centre_line (take l.one-index l.each)

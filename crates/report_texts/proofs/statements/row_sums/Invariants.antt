@@ -1,6 +1,6 @@
 use Rattle.std.proofs.Common.{◌≡◌, take}
 use Rattle.std.specs.List.{sum_by}
-use Rattle.report_texts.proofs.statements.sums.Given as goal
+use Rattle.report_texts.proofs.statements.row_sums.Given as goal
 
 -- the sums of the rows so far
 abbrev pub invariant-loop-row : goal.invariant-loop-row
