@@ -16,11 +16,11 @@ use Rattle.sqlite_value.specs.declared.value.Value.TheVariants.{Blob, Int}
 use Rattle.book_model.proofs.SetLemmas.{same_bytes-by_cmp}
 use Rattle.table_model.specs.Tables.{ChoiceRow, ChoiceTable, Tables}
 use Rattle.tree_rows.specs.Indexes.{indexed_by}
-use Rattle.tree_rows.specs.Runs.{run_of}
+use Rattle.tree_rows.specs.Runs.{RowsFit, run_of}
 use Rattle.tree_rows.proofs.Taking.{some_is}
 use Rattle.tree_tables.specs.Answers.{FindsChoice, FindsNumbered, ListsChosen, names_it}
 use Rattle.tree_tables.specs.Columns.{choice_name_columns}
-use Rattle.tree_tables.specs.Fits.{AllNumbered, ChosenFit, HasNumber, IsNumbered, RowsFit}
+use Rattle.tree_tables.specs.Fits.{AllNumbered, ChosenFit, HasNumber, IsNumbered}
 use Rattle.tree_tables.specs.Holds.{choice_name_key}
 use Rattle.tree_tables.specs.Stored.{choice_entry}
 use Rattle.tree_tables.specs.declared.choice_rows.StoredChoice.{StoredChoice}

@@ -26,7 +26,7 @@ use Rattle.table_model.specs.Views.{rows_with}
 use Rattle.tree_rows.specs.Indexes.{IsKeyOf, by_both, by_bytes, by_mark, indexed_by}
 use Rattle.tree_rows.specs.Layouts.{row_of, rows_of}
 use Rattle.tree_rows.specs.Rows.{IsFirst}
-use Rattle.tree_rows.specs.Runs.{run_of}
+use Rattle.tree_rows.specs.Runs.{RowsFit, run_of}
 use Rattle.tree_rows.proofs.FromPart.{FindsFrom, finds_from}
 use Rattle.tree_rows.proofs.IndexOrders.{by_bytes_exact}
 use Rattle.tree_rows.proofs.Indexes.{index_has, index_names}
@@ -36,7 +36,7 @@ use Rattle.tree_rows.proofs.Runs.{run_named}
 use Rattle.tree_tables.specs.Answers.{FindsNamed, FindsUncharged, IsNextUncharged, IsUnchargedFrom}
 use Rattle.tree_tables.specs.Answers.{FindsSharing, ListsSharing}
 use Rattle.tree_tables.specs.Columns.{flag, identity_columns, uncharged_part}
-use Rattle.tree_tables.specs.Fits.{AllNamed, EndsInName, MarkFits, RecordsFit, RowsFit}
+use Rattle.tree_tables.specs.Fits.{AllNamed, EndsInName, MarkFits, RecordsFit}
 use Rattle.tree_tables.specs.Holds.{identity_index, identity_key, mark_key, marks}
 use Rattle.tree_tables.specs.Stored.{SaysUncharged}
 use Rattle.tree_tables.specs.declared.found_names.FoundName.{FoundName}

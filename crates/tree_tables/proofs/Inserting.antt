@@ -7,17 +7,13 @@ use Rattle.std.specs.Cmp.Lexicographic.{lists_total, slice_cmp}
 use Rattle.std.specs.FinMap.{nat_cmp-IsAntisymmetric, slice_cmp-IsAntisymmetric}
 use Rattle.std.specs.Map.{lookup}
 use Rattle.std.specs.Ordering.{is_eq, match_ordering, nat_cmp}
+use Rattle.table_model.proofs.HeldNames.{twice_found}
 
 -- texts that compare equal are equal
 exact : (a b : List ℕ) → is_eq (slice_cmp nat_cmp a b) ≡ true → a ≡ b
 exact a b same =
     slice_cmp-IsAntisymmetric nat_cmp-IsAntisymmetric a b
     ((Equal-is (slice_cmp nat_cmp a b)).0 same)
-
--- a choice that is made twice is made once
-twice : {X : Type 0} (b : Bool) (x y z : X) → cond b x z ≡ cond b x (cond b y z)
-twice true x y z = refl
-twice false x y z = refl
 
 -- of two tests that do not both hold, either may come first
 swapped : {X : Type 0} (b a : Bool) → (b ≡ true → a ≡ true → ⊥) → (x y z : X)
@@ -56,7 +52,7 @@ module _ {K : Type 0} (items : K → List ℕ) where
       ≡ cond (is_of text k) (Some v) (cond (is_of text e.0) (Some e.1) rest)) [
         | Less ↦ λ o. refl
         | Equal ↦ λ o.
-            twice (is_of text e.0) (Some v) (Some e.1) rest
+            twice_found (is_of text e.0) (Some v) (Some e.1) rest
             ∙ ap (λ bytes. cond (is_eq (slice_cmp nat_cmp text bytes)) (Some v)
             (cond (is_of text e.0) (Some e.1) rest)) (sym (exact (items k) (items e.0) (ap is_eq o)))
         | Greater ↦ λ o.

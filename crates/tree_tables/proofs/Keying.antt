@@ -9,9 +9,8 @@ use Rattle.std.specs.FinMap.{entries, get, get-entries, get-insert, insert}
 use Rattle.std.specs.Option.{option_map}
 use Rattle.std.specs.Ordering.{eq_by_cmp}
 use Rattle.std.proofs.lemmas.Cmp.{eq_by_cmp_equiv}
-use Rattle.sqlite_trees.specs.Tree.{Trees, insert_entry, remove_entry}
+use Rattle.sqlite_trees.specs.Tree.{Trees}
 use Rattle.sqlite_trees.specs.View.{View}
-use Rattle.sqlite_value.specs.Keys.{plain}
 use Rattle.sqlite_value.specs.Order.{Row, column}
 use Rattle.sqlite_value.specs.declared.value.Value.{Value}
 use Rattle.sqlite_value.specs.declared.value.Value.TheVariants.{Blob}
@@ -21,7 +20,7 @@ use Rattle.table_model.specs.RowChanges.{by_second_rule}
 use Rattle.table_model.specs.Tables.{RecordRow, RecordTable, Tables}
 use Rattle.tree_rows.specs.Changes.{above, is_above, FindsAbove}
 use Rattle.tree_rows.specs.Indexes.{by_both}
-use Rattle.tree_rows.specs.Rows.{Finds, IsFirst, IsUnchanged, Rewrites}
+use Rattle.tree_rows.specs.Rows.{ChangesRow, Finds, IsFirst, IsUnchanged, rows_changed}
 use Rattle.tree_rows.proofs.Indexes.{index_has, index_names}
 use Rattle.tree_rows.proofs.Passing.{all_passed, first_there, passed_with, walk_start, walk_step}
 use Rattle.tree_rows.proofs.Taking.{some_is}
@@ -178,10 +177,10 @@ module _ (tables : Tables) {old : Trees} {key : Row} (so_far : IsKeying tables o
       -- else it makes way for one with that identity, and so does the record's mark
       keying_goes_on : {mid new : Trees} (next : Row) → next ≡ column entry 0 ∷ column entry 1 ∷ []
           → SameBut old mid 6
-          → mid 6 ≡ insert_entry plain (column row 1 ∷ column next 1 ∷ [])
-          (remove_entry plain next (old 6)) → SameBut mid new 7
-          → new 7 ≡ insert_entry plain (column row 9 ∷ column row 1 ∷ column next 1 ∷ [])
-          (remove_entry plain (column row 9 ∷ column next 0 ∷ column next 1 ∷ []) (mid 7))
+          → mid 6 ≡ rows_changed next (column row 1 ∷ column next 1 ∷ []) (old 6)
+          → SameBut mid new 7
+          → new 7 ≡ rows_changed (column row 9 ∷ column next 0 ∷ column next 1 ∷ [])
+          (column row 9 ∷ column row 1 ∷ column next 1 ∷ []) (mid 7)
           → IsKeying tables new next
       keying_goes_on {mid} {new} next is one identities_now two marks_now =
           let keyed = insert so_far.keyed at.1 (by_second_rule was) in
@@ -244,19 +243,16 @@ module _ (tables : Tables) {old : Trees} {key : Row} (so_far : IsKeying tables o
 
 -- the rows that are rewritten in the two trees are those of the entry and of its mark
 pub moves_keys : {old mid new : View} {row entry identity from to : Row}
-    → Rewrites old mid 6 (insert_entry plain identity (remove_entry plain entry (old.trees 6)))
-    → Rewrites mid new 7 (insert_entry plain to (remove_entry plain from (mid.trees 7)))
+    → ChangesRow old mid 6 entry identity → ChangesRow mid new 7 from to
     → identity ≡ column row 1 ∷ column entry 1 ∷ []
     → from ≡ column row 9 ∷ column entry 0 ∷ column entry 1 ∷ []
     → to ≡ column row 9 ∷ column row 1 ∷ column entry 1 ∷ []
     → MovesKeys old new row entry
 moves_keys {old} {mid} {new} {entry = entry} first second identity_is from_is to_is = record {
   mid = mid;
-  identity = subst (λ (one : Row). Rewrites old mid 6
-      (insert_entry plain one (remove_entry plain entry (old.trees 6)))) identity_is first;
-  mark = subst (λ (one : Row × Row). Rewrites mid new 7
-      (insert_entry plain one.0 (remove_entry plain one.1 (mid.trees 7))))
-      (λ i. (to_is i, from_is i)) second;
+  identity = subst (ChangesRow old mid 6 entry) identity_is first;
+  mark = subst (λ (one : Row × Row). ChangesRow mid new 7 one.0 one.1)
+      (λ i. (from_is i, to_is i)) second;
 }
 
 -- A step of the walk: what was read after its key, and what was found of the record.
@@ -299,8 +295,7 @@ module _ (old mid : View) (key entry : Row) (looked : IsUnchanged old mid) where
             only = only_both old one.only two.only;
             keys = λ tables so_far.
                 keying_goes_on tables so_far entry begins named_is finds there next next_is
-                one.others (one.rows_now
-                ∙ ap (λ trees. insert_entry plain (column row 1 ∷ column next 1 ∷ [])
-                (remove_entry plain next (trees 6))) same_trees)
+                one.others (one.rows_now ∙ ap (λ trees. rows_changed next
+                (column row 1 ∷ column next 1 ∷ []) (trees 6)) same_trees)
                 two.others two.rows_now;
           }

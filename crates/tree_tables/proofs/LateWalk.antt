@@ -19,6 +19,7 @@ use Rattle.table_model.specs.DetailsRead.{detail_shown}
 use Rattle.table_model.specs.Tables.{RecordRow, Tables}
 use Rattle.tree_rows.proofs.IndexOrders.{second_equal}
 use Rattle.tree_rows.proofs.Maps.{not_none}
+use Rattle.tree_rows.proofs.Remaining.{is_less}
 use Rattle.tree_rows.proofs.Taking.{some_is}
 use Rattle.tree_tables.specs.Answers.{FindsRecord, by_identity, is_uncharged}
 use Rattle.tree_tables.specs.Details.{FindsDetail, is_reached}
@@ -34,12 +35,6 @@ use Rattle.tree_tables.specs.declared.stored_record.StoredRecord.{StoredRecord}
 use Rattle.tree_tables.proofs.FoundNames.{Entry}
 
 -- ---- orders
-
--- what says Less is so
-is_less : (order : Ordering) → is_lt order ≡ true → order ≡ Less
-is_less Less is = refl
-is_less Equal is = absurd (true≢false (sym is))
-is_less Greater is = absurd (true≢false (sym is))
 
 -- what passes no second test passes no two
 none_of : (b c : Bool) → c ≡ false → (b && c) ≡ false

@@ -48,7 +48,7 @@ line_dropped period name drops key_is = record {
 }
 
 -- marks are kept apart by their numbers
-same_flag : (one other : Bool) → Int (pos (flag one)) ≡ Int (pos (flag other)) → one ≡ other
+pub same_flag : (one other : Bool) → Int (pos (flag one)) ≡ Int (pos (flag other)) → one ≡ other
 same_flag true true same = refl
 same_flag true false same = absurd (let e = same in cc)
 same_flag false true same = absurd (let e = same in cc)

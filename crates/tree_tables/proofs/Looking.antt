@@ -16,7 +16,7 @@ use Rattle.tree_rows.proofs.Calls.{quiet_both, unchanged_both}
 use Rattle.tree_rows.proofs.Failing.{caused_after, caused_by_memory}
 use Rattle.tree_tables.specs.Holds.{Holds}
 use Rattle.tree_tables.specs.States.{HasCleanDisk, State, Survives, state}
-use Rattle.tree_tables.specs.Steps.{Always, Changes, Does, IsCaused, Looks}
+use Rattle.tree_tables.specs.Steps.{Always, Changes, Does, IsCaused, KeepsLastCommit, Looks}
 pub use Rattle.tree_rows.proofs.Calls.{only_looks}
 pub use Rattle.tree_rows.proofs.Failing.{kept_after}
 
@@ -71,6 +71,10 @@ pub failed_so : {A One Other : Type 0} (result : Result A StoreError) → OnErr 
     → (One → Other) → OnErr result Other
 failed_so (Ok answer) one so = tt
 failed_so (Err error) one so = so one
+
+-- the last commit stays if a call says so
+pub kept_last : {old new : View} → KeepsCommitted old new → KeepsLastCommit old new
+kept_last kept = record { was_open = kept.was_open; committed = kept.committed }
 
 -- a call that fails leaves what was committed
 pub kept_failed : {A : Type 0} (old new : View) (result : Result A StoreError)

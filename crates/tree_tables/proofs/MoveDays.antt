@@ -27,7 +27,7 @@ use Rattle.table_model.specs.Tables.{DayTable, Tables}
 use Rattle.table_model.specs.TablesOf.{row_key}
 use Rattle.tree_rows.specs.Changes.{MovesApart}
 use Rattle.tree_rows.specs.Layouts.{row_of, rows_of}
-use Rattle.tree_rows.specs.Rows.{IsFirst, IsUnchanged, Rewrites}
+use Rattle.tree_rows.specs.Rows.{ChangesRow, IsFirst, IsUnchanged, rows_changed}
 use Rattle.tree_rows.proofs.FromPart.{FindsFrom, finds_from}
 use Rattle.tree_rows.proofs.Maps.{prefix_of}
 use Rattle.tree_rows.proofs.Moving.{moved_done, moved_step, step_apart}
@@ -46,7 +46,7 @@ tied_number : (m n : ℕ) → (m == n) ≡ true → nat_cmp m n ≡ Equal
 tied_number m n is = grind (arith, nat_tests, is)
 
 -- a day after another is not before the next one
-later_next : (a day : ℤ) → int_lt day a ≡ true → is_lt (int_cmp a (day +ℤ pos 1)) ≡ false
+pub later_next : (a day : ℤ) → int_lt day a ≡ true → is_lt (int_cmp a (day +ℤ pos 1)) ≡ false
 later_next a day later = grind (arith, ints, later)
 
 -- and one that is not before the next one is after
@@ -224,8 +224,7 @@ module _ (n : ℕ) (day : ℤ) where
     -- its row is taken, and put under the next period
     rows_after : (rows : List Row) (row columns : Row) → rows ≡ map day_columns (entries days)
         → row ≡ day_columns (k, v) → columns ≡ day_columns ((suc n, k.1), v)
-        → insert_entry plain columns (remove_entry plain row rows)
-        ≡ map day_columns (entries after)
+        → rows_changed row columns rows ≡ map day_columns (entries after)
     rows_after rows row columns held row_is columns_is =
         ap₂ (insert_entry plain) columns_is (ap₂ (remove_entry plain) row_is held)
         ∙ row_moved day_layout days k (suc n, k.1) v there free
@@ -291,7 +290,7 @@ module _ (n : ℕ) (day : ℤ) where
     pub one_moved : {new : View} (charge : ChargeRow) (columns : Row) → there ≡ true
         → ((m : ℕ) → column row 0 ≡ Int (pos m) → (m == n) ≡ true) → SaysDay row charge
         → columns ≡ day_columns ((suc n, row_key charge), charge)
-        → Rewrites mid new 4 (insert_entry plain columns (remove_entry plain row (mid.trees 4)))
+        → ChangesRow mid new 4 row columns
         → MovesSome mid new n day
     one_moved charge columns found one says columns_is rewrites = record {
       only = rewrites.only;

@@ -188,7 +188,7 @@ in_tree tables detail is =
     ∙ detail_there tables.counted tables.records detail.name is.row is.held is.counted
 
 -- what is not before another by all that details show is not before it as details stand
-not_before : (place work : Ordering) → is_lt (ordering_then place work) ≡ false
+pub not_before : (place work : Ordering) → is_lt (ordering_then place work) ≡ false
     → is_lt place ≡ false
 not_before Less work is = is
 not_before Equal work is = refl

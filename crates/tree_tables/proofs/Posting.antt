@@ -5,16 +5,14 @@ use Rattle.std.specs.Prelude.{ℤ}
 use Rattle.std.specs.FinMap.{entries, get, insert}
 use Rattle.std.proofs.lemmas.Cmp.{nat_list_cmp_total}
 use Rattle.std.proofs.lemmas.Map.Lookups.{exact_bytes}
-use Rattle.sqlite_trees.specs.Tree.{insert_entry, remove_entry}
 use Rattle.sqlite_trees.specs.View.{View}
-use Rattle.sqlite_value.specs.Keys.{plain}
 use Rattle.sqlite_value.specs.Order.{Row}
 use Rattle.book_model.proofs.MapLemmas.{insert-same}
 use Rattle.table_model.specs.DetailsRead.{detail_shown}
 use Rattle.table_model.specs.RowChanges.{post_at, post_by}
 use Rattle.table_model.specs.Steps.{post_row}
 use Rattle.table_model.specs.Tables.{RecordRow, Tables}
-use Rattle.tree_rows.specs.Rows.{IsUnchanged, Rewrites}
+use Rattle.tree_rows.specs.Rows.{ChangesRow, IsUnchanged, Rewrites, rows_changed}
 use Rattle.tree_rows.proofs.Indexes.{index_same}
 use Rattle.tree_tables.proofs.CountedRows.{details_same}
 use Rattle.tree_tables.proofs.Holding.{apart, has_rows, have_but, holds_rows}
@@ -48,13 +46,13 @@ module _ (tables : Tables) (name : List ℕ) (day : ℤ) (row : RecordRow)
 
     -- After a look its row makes room for the one that is posted.
     pub record_posted : (old : View) {look new : View} {before made : Row} → IsUnchanged old look
-        → Rewrites look new 3 (insert_entry plain made (remove_entry plain before (look.trees 3)))
+        → ChangesRow look new 3 before made
         → before ≡ record_columns (name, row) → made ≡ record_columns (name, now)
         → Holds old.trees tables → Holds new.trees (post_row day name tables)
     record_posted old {look} {new} {before} {made} same written before_is made_is holds =
         let records = tables.records in
-        let behind : Rewrites old new 3 (insert_entry plain made (remove_entry plain before
-        (look.trees 3))) = rewrites_after_look {old = old} same written in
+        let behind : Rewrites old new 3 (rows_changed before made (look.trees 3)) =
+        rewrites_after_look {old = old} same written in
         subst (λ found. Holds new.trees (record tables { records = post_at day name found records }))
         (sym some)
         (holds_rows holds.placed (have_but {old = new.trees} 10 (λ other apart. refl)

@@ -3,9 +3,7 @@ use Rattle.std.proofs.Common.{◌≡◌, ◌∙◌, ℕ, List, true, false, cond
 use Rattle.std.proofs.Common.{refl, sym, ap, subst}
 use Rattle.std.specs.Prelude.{slice_get}
 use Rattle.std.specs.FinMap.{entries, get, insert}
-use Rattle.sqlite_trees.specs.Tree.{insert_entry, remove_entry}
 use Rattle.sqlite_trees.specs.View.{View}
-use Rattle.sqlite_value.specs.Keys.{plain}
 use Rattle.sqlite_value.specs.Order.{Row}
 use Rattle.tariff_rules.specs.declared.priced.Priced.{Priced}
 use Rattle.table_model.specs.RowChanges.{price_at}
@@ -13,7 +11,7 @@ use Rattle.table_model.specs.Steps.{put_price_row}
 use Rattle.table_model.specs.Tables.{CountedTable, RecordRow, RecordTable, Tables}
 use Rattle.tree_rows.specs.Indexes.{index_of}
 use Rattle.tree_rows.specs.Layouts.{rows_of}
-use Rattle.tree_rows.specs.Rows.{IsFirst, Replaces, Rewrites}
+use Rattle.tree_rows.specs.Rows.{ChangesRow, IsFirst, rows_changed}
 use Rattle.tree_rows.proofs.Indexes.{index_same}
 use Rattle.tree_rows.proofs.Keyed.{rows_replaced}
 use Rattle.tree_rows.proofs.Passing.{first_there}
@@ -25,8 +23,8 @@ use Rattle.tree_tables.proofs.Renewing.{finds_next}
 use Rattle.tree_tables.proofs.RecordIndexes.{identity_named, index_row_changed, mark_named}
 use Rattle.tree_tables.proofs.RecordIndexes.{row_changed}
 use Rattle.tree_tables.specs.Answers.{FindsNext}
-use Rattle.tree_tables.specs.Columns.{detail_columns, identity_columns, mark_columns}
-use Rattle.tree_tables.specs.Columns.{record_columns}
+use Rattle.tree_tables.specs.Columns.{identity_columns, mark_columns, record_columns}
+use Rattle.tree_tables.specs.Details.{PricesDetail, shown_columns}
 use Rattle.tree_tables.specs.Fits.{EachFits, RecordFits}
 use Rattle.table_model.specs.DetailsRead.{detail_shown}
 use Rattle.tree_tables.specs.Holds.{Holds, by_shown, counted_among, detail_index}
@@ -70,9 +68,8 @@ module _ (counted : CountedTable) (records : RecordTable) (name : List ℕ) (row
 
     -- where it is counted, the row of its detail makes room for the other
     shown_changed : get (detail_index counted records) (detail_shown (name, row)) ≡ Some tt
-        → insert_entry plain (detail_columns (detail_shown (name, now), tt))
-        (remove_entry plain (detail_columns (detail_shown (name, row), tt))
-        (rows_of detail_layout (detail_index counted records)))
+        → rows_changed (shown_columns (name, row)) (shown_columns (name, now))
+        (rows_of detail_layout (detail_index counted records))
         ≡ rows_of detail_layout (detail_index counted (insert records name now))
     shown_changed there =
         let is = counted_by_there counted records name row some there in
@@ -93,9 +90,7 @@ module _ (counted : CountedTable) (records : RecordTable) (name : List ℕ) (row
 -- of its detail; its identity and its mark stay.
 pub record_priced : {old mid new : View} (tables : Tables) (stored : StoredRecord) (priced : Priced)
     {before made : Row}
-    → Rewrites old mid 3 (insert_entry plain made (remove_entry plain before (old.trees 3)))
-    → Replaces mid new 10 (detail_columns (detail_shown (stored_entry stored), tt))
-    (detail_columns (detail_shown (priced_entry stored priced), tt))
+    → ChangesRow old mid 3 before made → PricesDetail mid new stored priced
     → before ≡ record_columns (stored_entry stored)
     → made ≡ record_columns (priced_entry stored priced)
     → IsAsRead stored tables → Holds old.trees tables

@@ -12,7 +12,7 @@ use Rattle.table_model.specs.Tables.{RecordRow}
 use Rattle.tree_rows.specs.Indexes.{IsIndexKey, index_of, index_answer, by_bytes, by_both, by_mark}
 use Rattle.tree_rows.specs.Layouts.{Layout, row_of, rows_of}
 use Rattle.tree_rows.proofs.IndexOrders.{by_bytes_exact, by_mark_total, by_mark_exact}
-use Rattle.tree_rows.proofs.Indexes.{indexed, index_new, index_has, index_changed}
+use Rattle.tree_rows.proofs.Indexes.{indexed, index_new, index_has, index_changed, none_left}
 use Rattle.tree_rows.proofs.Maps.{inserted}
 use Rattle.tree_rows.proofs.PartIndexes.{part_named}
 use Rattle.tree_rows.proofs.Taking.{changed, removed}
@@ -42,11 +42,6 @@ pub row_changed : {K V : Type 0} {R : K → K → Ordering} (layout : Layout K V
 row_changed layout m k v w to from rows some =
     (λ i. insert_entry plain (to i) (remove_entry plain (from i) (rows i)))
     ∙ changed layout m k v w some
-
--- what is there only where a test is passed is not there where that is taken
-none_left : {A : Type 0} (b : Bool) (x : A) → cond b None (cond b (Some x) None) ≡ None
-none_left true x = refl
-none_left false x = refl
 
 module _ {K V Q : Type 0} {R : K → K → Ordering} {P : Q → Q → Ordering} {key : K × V → Q}
     {name : Q → K} (index : IsIndexKey R P key name) (layout : Layout Q (Unit {0}) P)

@@ -21,7 +21,7 @@ use Rattle.sqlite_value.specs.Order.{Row, column}
 use Rattle.sqlite_value.specs.declared.value.Value.TheVariants.{Blob, Int}
 use Rattle.table_model.specs.Tables.{RecordTable, Tables}
 use Rattle.tree_rows.specs.Indexes.{IsKeyOf, by_both, by_mark}
-use Rattle.tree_rows.specs.Runs.{run_of}
+use Rattle.tree_rows.specs.Runs.{RowsFit, run_of}
 use Rattle.tree_rows.proofs.IndexLists.{index_names_all, index_permutes}
 use Rattle.tree_rows.proofs.Maps.{first, second, less}
 use Rattle.tree_rows.proofs.Runs.{run_numbered}
@@ -32,7 +32,7 @@ use Rattle.tree_tables.proofs.RecordIndexes.{mark_named}
 use Rattle.tree_tables.specs.Answers.{FindsNamed, ListsUncharged, by_identity}
 use Rattle.tree_tables.specs.Answers.{is_uncharged}
 use Rattle.tree_tables.specs.Columns.{flag, identity_columns, mark_columns}
-use Rattle.tree_tables.specs.Fits.{AllNamed, EndsInName, RecordsFit, RowsFit}
+use Rattle.tree_tables.specs.Fits.{AllNamed, EndsInName, RecordsFit}
 use Rattle.tree_tables.specs.Holds.{identity_index, mark_key, marks}
 use Rattle.tree_tables.specs.Stored.{stored_entry}
 use Rattle.tree_tables.specs.declared.found_names.FoundName.{FoundName}

@@ -3,7 +3,7 @@ use Rattle.std.proofs.Common.{◌≡◌, ◌∙◌, ℕ, List, [], ◌∷◌, Bo
 use Rattle.std.proofs.Common.{is_some, map, refl, sym, ap, ap₂, subst, slice_set}
 use Rattle.std.specs.FinMap.{entries, get}
 use Rattle.std.specs.Option.{option_map}
-use Rattle.sqlite_trees.specs.Tree.{insert_entry, remove_entry}
+use Rattle.sqlite_trees.specs.Tree.{insert_entry}
 use Rattle.sqlite_trees.specs.View.{View}
 use Rattle.sqlite_value.specs.Keys.{plain}
 use Rattle.sqlite_value.specs.Order.{Row, column}
@@ -13,7 +13,7 @@ use Rattle.table_model.specs.Steps.{put_record_row, set_mark_row}
 use Rattle.table_model.specs.Tables.{RecordRow, Tables}
 use Rattle.tree_rows.specs.Indexes.{index_of}
 use Rattle.tree_rows.specs.Layouts.{Answers}
-use Rattle.tree_rows.specs.Rows.{Finds, IsUnchanged, Rewrites}
+use Rattle.tree_rows.specs.Rows.{ChangesRow, Finds, IsUnchanged, Rewrites, rows_changed}
 use Rattle.tree_rows.proofs.Indexes.{index_same}
 use Rattle.tree_rows.proofs.Keyed.{row_found}
 use Rattle.tree_rows.proofs.Maps.{inserted}
@@ -104,8 +104,7 @@ marked mark row = record row { charged = mark }
 -- other; its identity stays, and what details show of it.
 pub record_marked : (old : View) {look mid new : View} (tables : Tables) (name : List ℕ)
     (mark : Bool) (row : RecordRow) {before made from to : Row} → IsUnchanged old look
-    → Rewrites look mid 3 (insert_entry plain made (remove_entry plain before (look.trees 3)))
-    → Rewrites mid new 7 (insert_entry plain to (remove_entry plain from (mid.trees 7)))
+    → ChangesRow look mid 3 before made → ChangesRow mid new 7 from to
     → before ≡ record_columns (name, row)
     → made ≡ slice_set before 9 (Int (pos (flag mark)))
     → from ≡ column before 9 ∷ column before 1 ∷ column before 0 ∷ []
@@ -117,8 +116,8 @@ record_marked old {look} {mid} {new} tables name mark row {before} {made} {from}
     let records = tables.records in
     let value = Int (pos (flag mark)) in
     let now = marked mark row in
-    let behind : Rewrites old mid 3 (insert_entry plain made (remove_entry plain before
-    (look.trees 3))) = rewrites_after_look {old = old} same first in
+    let behind : Rewrites old mid 3 (rows_changed before made (look.trees 3)) =
+    rewrites_after_look {old = old} same first in
     subst (λ found. Holds new.trees (record tables { records = mark_at mark name found records }))
     (sym some)
     (holds_rows holds.placed (have_but {old = new.trees} 10 (λ other apart. refl)

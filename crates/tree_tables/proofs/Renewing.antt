@@ -6,7 +6,7 @@ use Rattle.std.specs.Prelude.{◌==◌, int_lt}
 use Rattle.std.specs.FinMap.{FinMap, entries, get, insert}
 use Rattle.std.specs.Option.{option_map}
 use Rattle.std.specs.declared.cmp.Ordering.{Ordering}
-use Rattle.sqlite_trees.specs.Tree.{Trees, from_key, insert_entry, remove_entry}
+use Rattle.sqlite_trees.specs.Tree.{Trees, from_key}
 use Rattle.sqlite_trees.specs.View.{View}
 use Rattle.sqlite_value.specs.Keys.{plain}
 use Rattle.sqlite_value.specs.Order.{Row, column}
@@ -16,9 +16,10 @@ use Rattle.table_model.specs.Tables.{RecordRow, RecordTable, Tables}
 use Rattle.tree_rows.specs.Changes.{above, updated, FindsAbove}
 use Rattle.tree_rows.specs.Indexes.{IsIndexKey, index_of}
 use Rattle.tree_rows.specs.Layouts.{rows_of}
-use Rattle.tree_rows.specs.Rows.{IsFirst, IsUnchanged, Rewrites}
+use Rattle.tree_rows.specs.Rows.{ChangesRow, IsFirst, IsUnchanged, rows_changed}
 use Rattle.tree_rows.proofs.Indexes.{index_alike}
 use Rattle.tree_rows.proofs.Passing.{first_there, walk_start, walk_step}
+use Rattle.tree_rows.proofs.Runs.{from_no_part}
 use Rattle.tree_rows.proofs.Updating.{updated_step, done_step, done_start, done_kept, done_all}
 use Rattle.tree_rows.proofs.Updating.{get_updated}
 use Rattle.tree_tables.proofs.CountedRows.{details_stay}
@@ -84,16 +85,11 @@ finds_next (Some name) m key rows row there place held begins =
     walk_step record_layout m name row there
     (subst (λ some. IsFirst some row there) (ap₂ rows_past place held) begins)
 
--- a look-up of the key with no columns begins with the first row of all
-pub from_none : (rows : List Row) → from_key plain [] rows ≡ rows
-from_none [] = refl
-from_none (row ∷ rows) = refl
-
--- and so does a walk
+-- a look-up of the key with no columns begins where a walk does
 pub from_no_key : (key : Row) (rows : List Row) → key ≡ []
     → from_key plain key rows ≡ rows_past key rows
 from_no_key key rows empty =
-    ap (λ one. from_key plain one rows) empty ∙ from_none rows
+    ap (λ one. from_key plain one rows) empty ∙ from_no_part rows
     ∙ ap (λ one. rows_past one rows) (sym empty)
 
 -- before its first step a walk has changed nothing
@@ -150,7 +146,7 @@ module _ (change : RecordRow → RecordRow)
         renewing_goes_on : {new : Trees} (next made : Row)
             → IsFirst (rows_past key (old 3)) row true
             → next ≡ column row 0 ∷ [] → RenewsRow change row made true → SameBut old new 3
-            → new 3 ≡ insert_entry plain made (remove_entry plain row (old 3))
+            → new 3 ≡ rows_changed row made (old 3)
             → IsRenewing change tables new next
         renewing_goes_on {new} next made begins named made_is same now =
             let it = finds_next so_far.last so_far.records key (old 3) row true so_far.place
@@ -203,7 +199,7 @@ module _ (change : RecordRow → RecordRow)
       pub renews_one : (new : View) (next made : Row)
           → IsFirst (rows_past key (old.trees 3)) row true
           → next ≡ column row 0 ∷ [] → RenewsRow change row made true
-          → Rewrites mid new 3 (insert_entry plain made (remove_entry plain row (mid.trees 3)))
+          → ChangesRow mid new 3 row made
           → RenewsNext change old new key next true
       renews_one new next made begins named made_is written =
           let rewritten = rewrites_after_look {old = old} looked written in
@@ -211,9 +207,7 @@ module _ (change : RecordRow → RecordRow)
             only = rewritten.only;
             renews = λ tables so_far.
                 renewing_goes_on tables row so_far next made begins named made_is rewritten.others
-                (rewritten.rows_now
-                ∙ ap (λ trees. insert_entry plain made (remove_entry plain row (trees 3)))
-                same_trees);
+                (rewritten.rows_now ∙ ap (λ trees. rows_changed row made (trees 3)) same_trees);
           }
 
 -- ---- records that are posted

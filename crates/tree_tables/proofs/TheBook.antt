@@ -5,7 +5,7 @@ use Rattle.std.specs.Prelude.{OnErr, OnOk}
 use Rattle.std.specs.Cmp.{tied_itself}
 use Rattle.std.specs.Ordering.{is_eq, is_lt}
 use Rattle.std.specs.declared.cmp.Ordering.TheVariants.{Equal}
-use Rattle.sqlite_trees.specs.Tree.{Trees, from_key, insert_entry, remove_entry}
+use Rattle.sqlite_trees.specs.Tree.{Trees, from_key, insert_entry}
 use Rattle.sqlite_trees.specs.View.{View, IsClean, KeepsCommitted}
 use Rattle.sqlite_trees.specs.declared.error.StoreError.{StoreError}
 use Rattle.sqlite_trees.specs.declared.store.Store.{Ghosts}
@@ -15,7 +15,7 @@ use Rattle.sqlite_value.specs.Keys.{plain, prefix_cmp}
 use Rattle.sqlite_value.specs.Order.{Row, column}
 use Rattle.sqlite_value.specs.declared.value.Value.TheVariants.{Int}
 use Rattle.table_model.specs.Tables.{BookRow, Tables}
-use Rattle.tree_rows.specs.Rows.{Finds, IsFirst, IsUnchanged, Rewrites}
+use Rattle.tree_rows.specs.Rows.{ChangesRow, Finds, IsFirst, IsUnchanged, rows_changed}
 use Rattle.tree_rows.proofs.Calls.{Quiet, clean_before}
 use Rattle.tree_rows.proofs.Maps.{begins_with, prefix_of}
 use Rattle.tree_tables.proofs.Holding.{has_rows, have_but, holds_rows}
@@ -96,9 +96,9 @@ book_fits book = record {
 
 -- it is the only one, so another in its place is the only one
 pub book_changed : (rows : List Row) (book : BookRow) (row : Row) → rows ≡ book_columns book ∷ []
-    → insert_entry plain row (remove_entry plain (book_columns book) rows) ≡ row ∷ []
+    → rows_changed (book_columns book) row rows ≡ row ∷ []
 book_changed rows book row is =
-    ap (λ some. insert_entry plain row (remove_entry plain (book_columns book) some)) is
+    ap (rows_changed (book_columns book) row) is
     ∙ ap (λ b. insert_entry plain row (cond b (book_columns book ∷ []) []))
     (ap (λ o. not (is_eq o)) (tied_itself (entry_cmp_total plain) (book_columns book)))
 
@@ -123,8 +123,8 @@ pub book_changes : {S T : Type 0} (ghosts : Ghosts S) (change : BookRow → Book
     → key ≡ Int (pos 1) ∷ [] → Quiet ghosts mid new
     → OnErr result (IsClean (ghosts.view new)
     → KeepsCommitted (ghosts.view mid) (ghosts.view new))
-    → OnOk result (IsClean (ghosts.view new) → Rewrites (ghosts.view mid) (ghosts.view new) 0
-    (insert_entry plain made (remove_entry plain found ((ghosts.view mid).trees 0))))
+    → OnOk result (IsClean (ghosts.view new)
+    → ChangesRow (ghosts.view mid) (ghosts.view new) 0 found made)
     → column found 1 ≡ Int (pos stored.rule) → column found 2 ≡ Int (pos stored.adopted)
     → column found 3 ≡ Int (pos stored.held) → column found 4 ≡ Int (pos stored.amount)
     → made ≡ book_columns (book_entry written)
@@ -142,7 +142,7 @@ book_changes ghosts change stored written {old = old} {key = key} {found = found
     holds_rows holds.placed
     (have_but 0 (rewrites_after_look {old = ghosts.view old} (same before) rewritten).others
     (rewritten.rows_now
-    ∙ ap₂ (λ one rows. insert_entry plain made (remove_entry plain one rows)) there.1
+    ∙ ap₂ (λ one rows. rows_changed one made rows) there.1
     (ap (λ (v : View). v.trees 0) (same before))
     ∙ book_changed ((ghosts.view old).trees 0) tables.book made holds.book
     ∙ ap (λ row. row ∷ []) (made_is ∙ ap book_columns (changed tables.book said)))

@@ -10,6 +10,7 @@ use Rattle.sqlite_value.specs.declared.value.Value.TheVariants.{Blob, Int, Text}
 use Rattle.book_model.specs.Words.{IsDay, IsName}
 use Rattle.table_model.specs.PeriodRows.{rows_under}
 use Rattle.table_model.specs.Tables.{ChoiceRow, RecordRow, Tables}
+use Rattle.tree_rows.specs.Runs.{RowsFit}
 use Rattle.tree_tables.specs.Columns.{choice_columns, day_columns, flag, line_columns}
 use Rattle.tree_tables.specs.Columns.{record_columns, step_value}
 use Rattle.tree_tables.specs.declared.chosen_numbers.ChosenNumber.{ChosenNumber}
@@ -143,11 +144,6 @@ pub record MarkFits (row : Row) : Type 0 where
 -- a row ends in the name of a record
 abbrev pub EndsInName : Row → Type 0
 EndsInName row = HasHash (column row (length row - 1))
-
--- all of some rows fit, and they are no more than are listed at once
-pub record RowsFit (Fits : Row → Type 0) (rows : List Row) : Type 0 where
-  pub fit : AllByRecursion Fits rows
-  pub few : length rows ≤ 2 ^ 32
 
 -- the choices fit
 abbrev pub ChoicesFit : Tables → Type 0

@@ -1,5 +1,8 @@
 -- What a look at the tables answers, and what a step inside the transaction does to them.
 use Rattle.std.specs.Prelude.{◌≡◌, ◌<◌, [], ℕ, List, false, IfErr, IfOk, IsTrue, OnErr, OnOk, Result}
+use Rattle.std.specs.Prelude.{Vec}
+use Rattle.std.specs.Global.{Global}
+use Rattle.std.specs.List.{AllZip}
 use Rattle.sqlite_disk.specs.Disk.{MoreFaults}
 use Rattle.sqlite_trees.specs.Tree.{Trees}
 use Rattle.sqlite_trees.specs.View.{View, HasCause, KeepsCommitted, OnlyWrites}
@@ -8,7 +11,8 @@ use Rattle.sqlite_value.specs.Order.{Row}
 use Rattle.table_model.specs.TablesAfter.{new_tables}
 use Rattle.table_model.specs.Tables.{Tables}
 use Rattle.tree_rows.specs.Rows.{IsUnchanged}
-use Rattle.tree_tables.specs.Holds.{Holds, tree_count}
+use Rattle.tree_rows.specs.Runs.{RowsFit}
+use Rattle.tree_tables.specs.Holds.{Holds, has_book, tree_count}
 use Rattle.tree_tables.specs.States.{State, HasCleanDisk, Survives}
 
 -- this is said of the tables, which are left alone
@@ -37,10 +41,30 @@ FailsByStore result old new When =
     IfErr result (λ error. HasCleanDisk new → (tables : Tables) → Holds old.view.trees tables
     → When tables → IsCaused old new error)
 
+-- where the row of the book is not there, it does too
+abbrev pub FailsWithoutBook : {A : Type 0} → Result A StoreError → State → State → Type 0
+FailsWithoutBook result old new =
+    IfErr result (λ error. HasCleanDisk new → has_book old.view.trees ≡ false
+    → IsCaused old new error)
+
 -- the tree has these rows of the tables that are held
 abbrev pub HasRowsOf : View → ℕ → (Tables → List Row) → Type 0
 HasRowsOf view tree rows =
     (tables : Tables) → Holds view.trees tables → view.trees tree ≡ rows tables
+
+-- a look at a tree, of which each row says one of the values
+abbrev pub ReadsTree : {A : Type 0} → Result (Vec A Global) StoreError → State → State → ℕ
+    → (Row → A → Type 0) → Type 0
+ReadsTree result old new tree Says =
+    (rows : Tables → List Row) → HasRowsOf old.view tree rows
+    → Looks result old new (λ tables all. AllZip Says (rows tables) all.items)
+
+-- where all rows of the tree fit, it fails for a cause of the store alone
+abbrev pub FailsToRead : {A : Type 0} → Result A StoreError → State → State → ℕ
+    → (Row → Type 0) → Type 0
+FailsToRead result old new tree Fits =
+    (rows : Tables → List Row) → HasRowsOf old.view tree rows
+    → FailsByStore result old new (λ tables. RowsFit Fits (rows tables))
 
 -- tables that the premise holds of are changed so, and nothing else is
 pub record Changes (old new : View) (When : Tables → Type 0) (change : Tables → Tables) : Type 0

@@ -3,7 +3,7 @@
 use Rattle.std.specs.Prelude.{◌≡◌, ◌==◌, ℕ, List, [], ◌∷◌, Bool, true, false, Option, Some, None}
 use Rattle.std.specs.Prelude.{if◌then◌else◌, map}
 use Rattle.std.specs.FinMap.{entries, get}
-use Rattle.sqlite_trees.specs.Tree.{Trees, from_key, insert_entry, remove_entry}
+use Rattle.sqlite_trees.specs.Tree.{Trees, from_key}
 use Rattle.sqlite_trees.specs.View.{View, OnlyWrites}
 use Rattle.sqlite_value.specs.Keys.{plain}
 use Rattle.sqlite_value.specs.Order.{Row, column}
@@ -13,7 +13,7 @@ use Rattle.table_model.specs.RowChanges.{by_second_rule}
 use Rattle.table_model.specs.Tables.{RecordRow, RecordTable, Tables}
 use Rattle.tree_rows.specs.Changes.{is_above, updated, DoneTo}
 use Rattle.tree_rows.specs.Indexes.{by_both}
-use Rattle.tree_rows.specs.Rows.{past_key, Rewrites}
+use Rattle.tree_rows.specs.Rows.{past_key, ChangesRow}
 use Rattle.tree_tables.specs.Columns.{record_columns}
 use Rattle.tree_tables.specs.Holds.{Holds}
 
@@ -105,11 +105,9 @@ pub record KeysNext (old new : View) (key next : Row) (more : Bool) : Type 0 whe
 -- to the one that its row says.
 pub record MovesKeys (old new : View) (row entry : Row) : Type 0 where
   pub mid : View
-  pub identity : Rewrites old mid 6
-      (insert_entry plain (column row 1 ∷ column entry 1 ∷ []) (remove_entry plain entry (old.trees 6)))
-  pub mark : Rewrites mid new 7
-      (insert_entry plain (column row 9 ∷ column row 1 ∷ column entry 1 ∷ [])
-      (remove_entry plain (column row 9 ∷ column entry 0 ∷ column entry 1 ∷ []) (mid.trees 7)))
+  pub identity : ChangesRow old mid 6 entry (column row 1 ∷ column entry 1 ∷ [])
+  pub mark : ChangesRow mid new 7 (column row 9 ∷ column entry 0 ∷ column entry 1 ∷ [])
+      (column row 9 ∷ column row 1 ∷ column entry 1 ∷ [])
 
 -- The rows of all records have their identities by the second rule, and their keys have not yet.
 pub record RenamesRows (old new : View) : Type 0 where

@@ -8,6 +8,7 @@ ghost use Rattle.tree_tables.specs.Fits.{BookFits};
 ghost use Rattle.tree_tables.specs.Stored.{book_entry};
 
 use crate::column_values::{count_at, make_row};
+use crate::columns::{BOOK_ADOPTED, BOOK_AMOUNT, BOOK_HELD, BOOK_RULE};
 use crate::keys::number_key;
 use crate::tables::TreeTables;
 use sqlite_trees::error::StoreError;
@@ -70,10 +71,10 @@ fn read_book(row: &Row) -> Result<StoredBook, StoreError>
     ensures taken { IfErr result (λ error. ¬ BookFits row.now) }
 {
     Ok(StoredBook {
-        rule: count_at(row, 1)?,
-        adopted: count_at(row, 2)?,
-        held: count_at(row, 3)?,
-        amount: count_at(row, 4)?,
+        rule: count_at(row, BOOK_RULE)?,
+        adopted: count_at(row, BOOK_ADOPTED)?,
+        held: count_at(row, BOOK_HELD)?,
+        amount: count_at(row, BOOK_AMOUNT)?,
     })
 }
 
@@ -108,27 +109,24 @@ fn with_rule(book: &StoredBook, rule: u64, period: u16) -> StoredBook
 }
 
 impl<S: Store> TreeTables<S> {
-    ghost use Rattle.std.specs.Prelude.{◌≡◌, ◌<◌, ◌^◌, false, is_some, IfErr, IfOk};
+    ghost use Rattle.std.specs.Prelude.{◌≡◌, ◌<◌, ◌^◌, is_some, IfOk};
     ghost use Rattle.table_model.specs.Steps as step;
     ghost use Rattle.tree_tables.specs.Answers.{FindsBook};
     ghost use Rattle.tree_tables.specs.Holds.{has_book};
-    ghost use Rattle.tree_tables.specs.States.{HasCleanDisk, state};
-    ghost use Rattle.tree_tables.specs.Steps.{Always, Does, FailsByStore, IsCaused, Looks, Makes};
+    ghost use Rattle.tree_tables.specs.States.{HasCleanDisk, state_of};
+    ghost use Rattle.tree_tables.specs.Steps.{Always, Does, FailsByStore, FailsWithoutBook, Looks};
+    ghost use Rattle.tree_tables.specs.Steps.{Makes};
 
     /// The row of the book, if it is there.
     #[tactic(auto, using(crate::proofs::Looking::caused_memory))]
     pub fn find_book(&mut self) -> Result<Option<StoredBook>, StoreError>
-        ensures looks { Looks result (state S.Store self.old.store) (state S.Store self.new.store)
-            FindsBook }
-        ensures cause { FailsByStore result (state S.Store self.old.store)
-            (state S.Store self.new.store) Always }
+        ensures looks { Looks result (state_of self.old) (state_of self.new) FindsBook }
+        ensures cause { FailsByStore result (state_of self.old) (state_of self.new) Always }
 
         // Whatever the trees hold, it says whether the row is there.
-        ensures row { IfOk result (λ found. HasCleanDisk (state S.Store self.new.store)
-            → is_some found ≡ has_book (S.Store.view self.old.store).trees) }
-        ensures absent { IfErr result (λ error. HasCleanDisk (state S.Store self.new.store)
-            → has_book (S.Store.view self.old.store).trees ≡ false
-            → IsCaused (state S.Store self.old.store) (state S.Store self.new.store) error) }
+        ensures row { IfOk result (λ found. HasCleanDisk (state_of self.new)
+            → is_some found ≡ has_book (state_of self.old).view.trees) }
+        ensures absent { FailsWithoutBook result (state_of self.old) (state_of self.new) }
     {
         number_key(&mut self.key, FIRST)?;
         if !find_row(&mut self.store, BOOK, &self.key, &mut self.row)? {
@@ -139,7 +137,7 @@ impl<S: Store> TreeTables<S> {
 
     /// The row of new books joins trees that have no rows.
     pub fn make_book(&mut self) -> Result<(), StoreError>
-        ensures makes { Makes result (state S.Store self.old.store) (state S.Store self.new.store) }
+        ensures makes { Makes result (state_of self.old) (state_of self.new) }
     {
         let book = StoredBook {
             rule: 1,
@@ -155,8 +153,8 @@ impl<S: Store> TreeTables<S> {
     pub fn set_sums(&mut self, sums: &Sums) -> Result<(), StoreError>
         requires held { sums.now.held < 2 ^ 63 }
         requires amount { sums.now.amount < 2 ^ 63 }
-        ensures does { Does result (state S.Store self.old.store) (state S.Store self.new.store)
-            Always (step.set_sums sums.now.held sums.now.amount) }
+        ensures does { Does result (state_of self.old) (state_of self.new) Always
+            (step.set_sums sums.now.held sums.now.amount) }
     {
         number_key(&mut self.key, FIRST)?;
         if !find_row(&mut self.store, BOOK, &self.key, &mut self.before)? {
@@ -170,8 +168,8 @@ impl<S: Store> TreeTables<S> {
     /// The book is under this rule of identity, since a period.
     pub fn set_rule(&mut self, rule: u64, period: u16) -> Result<(), StoreError>
         requires { rule < 2 ^ 63 }
-        ensures does { Does result (state S.Store self.old.store) (state S.Store self.new.store)
-            Always (step.set_rule rule period) }
+        ensures does { Does result (state_of self.old) (state_of self.new) Always
+            (step.set_rule rule period) }
     {
         number_key(&mut self.key, FIRST)?;
         if !find_row(&mut self.store, BOOK, &self.key, &mut self.before)? {

@@ -4,7 +4,9 @@ ghost use Rattle.std.specs.Prelude.{◌≡◌, IfErr, OnOk};
 ghost use Rattle.tree_tables.specs.Columns.{charged_part};
 
 use crate::column_values::hash_at;
+use crate::columns::MARK_NAME;
 use crate::keys::number_key;
+use crate::record_rows::MARKS;
 use crate::stored_record::StoredRecord;
 use crate::tables::TreeTables;
 use sqlite_trees::error::StoreError;
@@ -14,14 +16,8 @@ use sqlite_value::value::ValueRef;
 use std::alloc::Global;
 use tree_rows::find_row;
 
-/// The tree of the marks.
-const MARKS: u32 = 7;
-
 /// The mark of a charged record.
 const IS_CHARGED: i64 = 1;
-
-/// The column of a mark's row that has the name of the record.
-const NAME: usize = 2;
 
 /// The first columns of the marks of charged records that have an identity.
 fn charged_key(key: &mut Row, identity: &[u8]) -> Result<(), StoreError>
@@ -42,7 +38,7 @@ impl<S: Store> TreeTables<S> {
     ghost use Rattle.tree_rows.specs.Runs.{run_of};
     ghost use Rattle.tree_tables.specs.Answers.{FindsCharged, HasCharged};
     ghost use Rattle.tree_tables.specs.Fits.{EachFits};
-    ghost use Rattle.tree_tables.specs.States.{state};
+    ghost use Rattle.tree_tables.specs.States.{state_of};
     ghost use Rattle.tree_tables.specs.Steps.{Always, FailsByStore, Looks};
 
     /// Writes the first mark of a charged record that has the identity over `row`, or answers that
@@ -62,10 +58,9 @@ impl<S: Store> TreeTables<S> {
 
     /// Whether a record of the identity is charged: one look, and no record is read.
     pub fn has_charged(&mut self, identity: &[u8]) -> Result<bool, StoreError>
-        ensures looks { Looks result (state S.Store self.old.store) (state S.Store self.new.store)
+        ensures looks { Looks result (state_of self.old) (state_of self.new)
             (HasCharged identity.now) }
-        ensures cause { FailsByStore result (state S.Store self.old.store)
-            (state S.Store self.new.store) Always }
+        ensures cause { FailsByStore result (state_of self.old) (state_of self.new) Always }
     {
         self.find_mark(identity)
     }
@@ -77,15 +72,14 @@ impl<S: Store> TreeTables<S> {
         alloc: Global,
         identity: &[u8],
     ) -> Result<Option<StoredRecord>, StoreError>
-        ensures looks { Looks result (state S.Store self.old.store) (state S.Store self.new.store)
+        ensures looks { Looks result (state_of self.old) (state_of self.new)
             (FindsCharged identity.now) }
-        ensures cause { FailsByStore result (state S.Store self.old.store)
-            (state S.Store self.new.store) EachFits }
+        ensures cause { FailsByStore result (state_of self.old) (state_of self.new) EachFits }
     {
         if !self.find_mark(identity)? {
             return Ok(None);
         }
-        let name = hash_at(&self.row, NAME)?;
+        let name = hash_at(&self.row, MARK_NAME)?;
         // A mark has its record, unless the disk lies.
         Ok(Some(self.record_named(alloc, &name)?))
     }

@@ -7,6 +7,7 @@ ghost use Rattle.tree_tables.specs.Stored.{SaysChoice};
 
 use crate::chosen_numbers::ChosenNumber;
 use crate::column_values::{hash_at, number_at, period_at};
+use crate::columns::{CHOICE_NAME, CHOICE_NUMBER, CHOICE_PERIOD};
 use crate::keys::{bytes_key, choice_key};
 use crate::tables::TreeTables;
 use sqlite_trees::error::StoreError;
@@ -56,9 +57,9 @@ fn read_choice(row: &Row) -> Result<StoredChoice, StoreError>
     ensures taken { IfErr result (λ error. ¬ ChoiceFits row.now) }
 {
     Ok(StoredChoice {
-        number: number_at(row, 0)?,
-        name: hash_at(row, 1)?,
-        period: period_at(row, 2)?,
+        number: number_at(row, CHOICE_NUMBER)?,
+        name: hash_at(row, CHOICE_NAME)?,
+        period: period_at(row, CHOICE_PERIOD)?,
     })
 }
 
@@ -81,14 +82,14 @@ impl<S: Store> TreeTables<S> {
     ghost use Rattle.tree_tables.specs.Answers.{FindsNumbered, last_number};
     ghost use Rattle.tree_tables.specs.Fits.{AllNumbered, ChoicesFit, ChosenFit, IsNumbered};
     ghost use Rattle.tree_tables.specs.Fits.{NumberedFits};
-    ghost use Rattle.tree_tables.specs.States.{state};
+    ghost use Rattle.tree_tables.specs.States.{state_of};
     ghost use Rattle.tree_tables.specs.Steps.{Always, Does, FailsByStore, Looks};
 
     /// A record that was chosen, by its name, and the period that was open then are kept under the
     /// number of the choice, which is new, and the choice is found by the name. What is under the
     /// number, if anything is, is not looked at.
     pub fn put_choice(&mut self, number: u32, name: &[u8], period: u16) -> Result<(), StoreError>
-        ensures does { Does result (state S.Store self.old.store) (state S.Store self.new.store)
+        ensures does { Does result (state_of self.old) (state_of self.new)
             (λ tables. get tables.choices number ≡ None)
             (step.put_choice_row number name.now period) }
     {
@@ -101,10 +102,8 @@ impl<S: Store> TreeTables<S> {
     /// Whether some choice names the record of a name: one look, and no choice is read, however
     /// many there are.
     pub fn has_choice(&mut self, name: &[u8]) -> Result<bool, StoreError>
-        ensures looks { Looks result (state S.Store self.old.store) (state S.Store self.new.store)
-            (HasChoice name.now) }
-        ensures cause { FailsByStore result (state S.Store self.old.store)
-            (state S.Store self.new.store) Always }
+        ensures looks { Looks result (state_of self.old) (state_of self.new) (HasChoice name.now) }
+        ensures cause { FailsByStore result (state_of self.old) (state_of self.new) Always }
     {
         bytes_key(&mut self.key, name)?;
         find_row(&mut self.store, CHOICE_NAMES, &self.key, &mut self.row)
@@ -113,10 +112,9 @@ impl<S: Store> TreeTables<S> {
     /// The choice of a number, if there is one: one look, however many there are.
     #[tactic(auto, using(crate::proofs::Looking::caused_memory))]
     pub fn find_choice(&mut self, number: u32) -> Result<Option<StoredChoice>, StoreError>
-        ensures looks { Looks result (state S.Store self.old.store) (state S.Store self.new.store)
-            (FindsChoice number) }
-        ensures cause { FailsByStore result (state S.Store self.old.store)
-            (state S.Store self.new.store) (NumberedFits number) }
+        ensures looks { Looks result (state_of self.old) (state_of self.new) (FindsChoice number) }
+        ensures cause { FailsByStore result (state_of self.old) (state_of self.new)
+            (NumberedFits number) }
     {
         choice_key(&mut self.key, number)?;
         if !find_row(&mut self.store, CHOICES, &self.key, &mut self.row)? {
@@ -127,10 +125,10 @@ impl<S: Store> TreeTables<S> {
 
     /// The choice of a number that a row says. Where there is none, the file is damaged.
     fn choice_numbered(&mut self, number: u32) -> Result<StoredChoice, StoreError>
-        ensures looks { Looks result (state S.Store self.old.store) (state S.Store self.new.store)
+        ensures looks { Looks result (state_of self.old) (state_of self.new)
             (λ tables stored. FindsChoice number tables (Some stored)) }
-        ensures cause { FailsByStore result (state S.Store self.old.store)
-            (state S.Store self.new.store) (IsNumbered number) }
+        ensures cause { FailsByStore result (state_of self.old) (state_of self.new)
+            (IsNumbered number) }
     {
         let Some(choice) = self.find_choice(number)? else {
             return Err(StoreError::Corrupt);
@@ -144,10 +142,10 @@ impl<S: Store> TreeTables<S> {
         alloc: Global,
         numbers: &[ChosenNumber],
     ) -> Result<Vec<StoredChoice>, StoreError>
-        ensures looks { Looks result (state S.Store self.old.store) (state S.Store self.new.store)
+        ensures looks { Looks result (state_of self.old) (state_of self.new)
             (λ tables found. FindsNumbered numbers.now tables found.items) }
-        ensures cause { FailsByStore result (state S.Store self.old.store)
-            (state S.Store self.new.store) (AllNumbered numbers.now) }
+        ensures cause { FailsByStore result (state_of self.old) (state_of self.new)
+            (AllNumbered numbers.now) }
     {
         let mut all = Vec::new(alloc);
         for one in numbers {
@@ -165,10 +163,9 @@ impl<S: Store> TreeTables<S> {
         alloc: Global,
         name: &[u8],
     ) -> Result<Vec<StoredChoice>, StoreError>
-        ensures looks { Looks result (state S.Store self.old.store) (state S.Store self.new.store)
+        ensures looks { Looks result (state_of self.old) (state_of self.new)
             (λ tables list. ListsChosen name.now tables list.items) }
-        ensures cause { FailsByStore result (state S.Store self.old.store)
-            (state S.Store self.new.store) ChosenFit }
+        ensures cause { FailsByStore result (state_of self.old) (state_of self.new) ChosenFit }
     {
         bytes_key(&mut self.key, name)?;
         let numbers = list_run(
@@ -183,10 +180,9 @@ impl<S: Store> TreeTables<S> {
 
     /// All choices, by their numbers.
     pub fn list_choices(&mut self, alloc: Global) -> Result<Vec<StoredChoice>, StoreError>
-        ensures looks { Looks result (state S.Store self.old.store) (state S.Store self.new.store)
+        ensures looks { Looks result (state_of self.old) (state_of self.new)
             (λ tables list. ListsChoices tables list.items) }
-        ensures cause { FailsByStore result (state S.Store self.old.store)
-            (state S.Store self.new.store) ChoicesFit }
+        ensures cause { FailsByStore result (state_of self.old) (state_of self.new) ChoicesFit }
     {
         self.list_all(CHOICES, alloc)
     }
@@ -194,14 +190,14 @@ impl<S: Store> TreeTables<S> {
     /// The number of the last choice, or 0 where there is none: one look at the end of the tree,
     /// however many choices there are.
     pub fn last_choice(&mut self) -> Result<u32, StoreError>
-        ensures looks { Looks result (state S.Store self.old.store) (state S.Store self.new.store)
+        ensures looks { Looks result (state_of self.old) (state_of self.new)
             (λ tables number. number ≡ last_number tables.choices) }
-        ensures cause { FailsByStore result (state S.Store self.old.store)
-            (state S.Store self.new.store) (λ tables. last_number tables.choices < 2 ^ 32) }
+        ensures cause { FailsByStore result (state_of self.old) (state_of self.new)
+            (λ tables. last_number tables.choices < 2 ^ 32) }
     {
         if !last_row(&mut self.store, CHOICES, &mut self.row)? {
             return Ok(0);
         }
-        number_at(&self.row, 0)
+        number_at(&self.row, CHOICE_NUMBER)
     }
 }

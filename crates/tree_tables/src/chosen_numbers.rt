@@ -6,13 +6,11 @@ ghost use Rattle.sqlite_value.specs.declared.value.Value.TheVariants.{Int};
 ghost use Rattle.tree_tables.specs.Fits.{HasNumber};
 
 use crate::column_values::number_at;
+use crate::columns::CHOSEN_NUMBER;
 use sqlite_trees::error::StoreError;
 use sqlite_value::row::Row;
 use std::alloc::Global;
 use tree_rows::ReadRow;
-
-/// The column of the number, after the name.
-const NUMBER: usize = 1;
 
 /// The number of a choice, which ends the row that finds it.
 #[derive(Clone, Copy, Drop)]
@@ -27,7 +25,7 @@ impl ReadRow for ChosenNumber {
 
     fn read(row: &Row, _alloc: Global) -> Result<ChosenNumber, StoreError> {
         Ok(ChosenNumber {
-            number: number_at(row, NUMBER)?,
+            number: number_at(row, CHOSEN_NUMBER)?,
         })
     }
 }

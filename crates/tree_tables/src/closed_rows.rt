@@ -5,6 +5,7 @@ ghost use Rattle.tree_tables.specs.Columns.{closed_columns};
 ghost use Rattle.tree_tables.specs.Stored.{close_entry};
 
 use crate::column_values::{day_at, make_row, period_at};
+use crate::columns::{CLOSE_PERIOD, CLOSE_THROUGH};
 use crate::keys::period_key;
 use crate::tables::TreeTables;
 use sqlite_trees::error::StoreError;
@@ -50,26 +51,27 @@ impl ReadRow for Close {
 
     fn read(row: &Row, _alloc: Global) -> Result<Close, StoreError> {
         Ok(Close {
-            period: period_at(row, 0)?,
-            through: day_at(row, 1)?,
+            period: period_at(row, CLOSE_PERIOD)?,
+            through: day_at(row, CLOSE_THROUGH)?,
         })
     }
 }
 
 impl<S: Store> TreeTables<S> {
     ghost use Rattle.table_model.specs.Steps as step;
+    ghost use Rattle.tree_rows.specs.Runs.{RowsFit};
     ghost use Rattle.tree_tables.specs.Answers.{ListsCloses};
-    ghost use Rattle.tree_tables.specs.States.{state};
+    ghost use Rattle.tree_tables.specs.States.{state_of};
     ghost use Rattle.tree_tables.specs.Steps.{Always, Does, FailsByStore, Looks};
     ghost use Rattle.std.specs.FinMap.{entries};
     ghost use Rattle.std.specs.Prelude.{map};
     ghost use Rattle.tree_tables.specs.Columns.{closed_columns};
-    ghost use Rattle.tree_tables.specs.Fits.{CloseFits, RowsFit};
+    ghost use Rattle.tree_tables.specs.Fits.{CloseFits};
 
     /// The day of a close is kept under its period.
     pub fn put_close(&mut self, close: &Close) -> Result<(), StoreError>
-        ensures does { Does result (state S.Store self.old.store) (state S.Store self.new.store)
-            Always (step.put_close_row close.now.period close.now.through) }
+        ensures does { Does result (state_of self.old) (state_of self.new) Always
+            (step.put_close_row close.now.period close.now.through) }
     {
         period_key(&mut self.key, close.period)?;
         close_row(&mut self.row, close)?;
@@ -84,10 +86,9 @@ impl<S: Store> TreeTables<S> {
 
     /// All closes, by their periods.
     pub fn list_closes(&mut self, alloc: Global) -> Result<Vec<Close>, StoreError>
-        ensures looks { Looks result (state S.Store self.old.store) (state S.Store self.new.store)
+        ensures looks { Looks result (state_of self.old) (state_of self.new)
             (λ tables list. ListsCloses tables list.items) }
-        ensures cause { FailsByStore result (state S.Store self.old.store)
-            (state S.Store self.new.store)
+        ensures cause { FailsByStore result (state_of self.old) (state_of self.new)
             (λ tables. RowsFit CloseFits (map closed_columns (entries tables.closes))) }
     {
         self.list_all(CLOSES, alloc)

@@ -10,7 +10,11 @@ ghost use Rattle.tree_tables.specs.Fits.{ChargeFits};
 
 use crate::closed_rows::Close;
 use crate::column_values::{count_at, counts_at, day_at, make_row, name_at, push_all};
+use crate::columns::{
+    CHARGE_CENTRE, CHARGE_COUNT, CHARGE_CPU, CHARGE_DAY, CHARGE_PERIOD, CHARGE_SHIFT,
+};
 use crate::keys::period_key;
+use crate::record_walks::MOST_STEPS;
 use crate::tables::TreeTables;
 use book_model::{ChargeRow, RowKey};
 use sqlite_trees::error::StoreError;
@@ -22,9 +26,6 @@ use tree_rows::{ReadRow, change_row, drop_row, find_row, first_from, list_run, p
 
 /// The tree of charge rows.
 const DAYS: u32 = 4;
-
-/// The most rows that go from one period to the next: more than any tree of a sound store has.
-const MOST_STEPS: u64 = 1 << 32;
 
 /// A charge row of a period.
 #[derive(Clone, Copy)]
@@ -101,7 +102,7 @@ fn later_key(key: &mut Row, close: &Close) -> Result<(), StoreError>
 fn is_of(row: &Row, period: u16) -> bool
     ensures { (n : ℕ) → column row.now 0 ≡ Int (pos n) → result ≡ (n == period) }
 {
-    match row.get(0) {
+    match row.get(CHARGE_PERIOD) {
         ValueRef::Int(n) => n == i64::from(period),
         _ => false,
     }
@@ -113,12 +114,12 @@ fn read_day(row: &Row) -> Result<ChargeRow, StoreError>
     ensures fits { IfOk result RowFits }
     ensures taken { IfErr result (λ error. ¬ ChargeFits row.now) }
 {
-    let counts = counts_at(row, 5)?;
+    let counts = counts_at(row, CHARGE_CPU)?;
     Ok(ChargeRow {
-        day: day_at(row, 1)?,
-        centre: name_at(row, 2)?,
-        shift: name_at(row, 3)?,
-        count: count_at(row, 4)?,
+        day: day_at(row, CHARGE_DAY)?,
+        centre: name_at(row, CHARGE_CENTRE)?,
+        shift: name_at(row, CHARGE_SHIFT)?,
+        count: count_at(row, CHARGE_COUNT)?,
         cpu: counts.cpu,
         blocks: counts.blocks,
         amount: counts.amount,
@@ -163,12 +164,12 @@ impl<S: Store> TreeTables<S> {
     ghost use Rattle.tree_tables.specs.Answers.{FindsDay, ListsDays};
     ghost use Rattle.tree_tables.specs.Days.{MovesSome, NoneLater, NoneNext};
     ghost use Rattle.tree_tables.specs.Fits.{DaysFit};
-    ghost use Rattle.tree_tables.specs.States.{state};
+    ghost use Rattle.tree_tables.specs.States.{state_of};
     ghost use Rattle.tree_tables.specs.Steps.{Always, Does, FailsByStore, Looks};
 
     /// A period's charge row at a place, if there is one.
     pub fn find_day(&mut self, spot: &DayKey) -> Result<Option<ChargeRow>, StoreError>
-        ensures looks { Looks result (state S.Store self.old.store) (state S.Store self.new.store)
+        ensures looks { Looks result (state_of self.old) (state_of self.new)
             (FindsDay spot.now.period spot.now.place) }
     {
         place_key(&mut self.key, u32::from(spot.period), &spot.place)?;
@@ -181,10 +182,10 @@ impl<S: Store> TreeTables<S> {
     /// The charge rows of a period, by day, then centre, then shift.
     #[tactic(auto, using(crate::proofs::Looking::caused_memory))]
     pub fn list_days(&mut self, alloc: Global, period: u16) -> Result<Vec<ChargeRow>, StoreError>
-        ensures looks { Looks result (state S.Store self.old.store) (state S.Store self.new.store)
+        ensures looks { Looks result (state_of self.old) (state_of self.new)
             (λ tables list. ListsDays period tables list.items) }
-        ensures cause { FailsByStore result (state S.Store self.old.store)
-            (state S.Store self.new.store) (DaysFit period) }
+        ensures cause { FailsByStore result (state_of self.old) (state_of self.new)
+            (DaysFit period) }
     {
         period_key(&mut self.key, period)?;
         let days = list_run(&mut self.store, DAYS, &self.key, &mut self.row, alloc)?;
@@ -194,8 +195,8 @@ impl<S: Store> TreeTables<S> {
     /// A charge row is put at its place in the period, in the place of the one that was there.
     pub fn put_day(&mut self, day: &DayRow) -> Result<(), StoreError>
         requires fits { RowFits day.now.row }
-        ensures does { Does result (state S.Store self.old.store) (state S.Store self.new.store)
-            Always (step.put_day_row day.now.period day.now.row) }
+        ensures does { Does result (state_of self.old) (state_of self.new) Always
+            (step.put_day_row day.now.period day.now.row) }
     {
         let period = u32::from(day.period);
         place_key(&mut self.key, period, &place_in(&day.row))?;
@@ -211,8 +212,8 @@ impl<S: Store> TreeTables<S> {
 
     /// A period's charge row at a place, if there is one, goes.
     pub fn drop_day(&mut self, spot: &DayKey) -> Result<(), StoreError>
-        ensures does { Does result (state S.Store self.old.store) (state S.Store self.new.store)
-            Always (step.drop_day_row spot.now.period spot.now.place) }
+        ensures does { Does result (state_of self.old) (state_of self.new) Always
+            (step.drop_day_row spot.now.period spot.now.place) }
     {
         place_key(&mut self.key, u32::from(spot.period), &spot.place)?;
         drop_row(&mut self.store, DAYS, &self.key, &mut self.before)
@@ -246,9 +247,8 @@ impl<S: Store> TreeTables<S> {
 
     /// The charge rows of a period that are dated after a day go to the next period.
     pub fn move_days(&mut self, close: &Close) -> Result<(), StoreError>
-        ensures does { Does result (state S.Store self.old.store) (state S.Store self.new.store)
-            (NoneNext close.now.period)
-            (step.move_day_rows close.now.period close.now.through) }
+        ensures does { Does result (state_of self.old) (state_of self.new)
+            (NoneNext close.now.period) (step.move_day_rows close.now.period close.now.through) }
     {
         // A disk that lies could find a row again and again, so the steps are counted.
         'rows: for _ in 0..MOST_STEPS {

@@ -3,15 +3,12 @@
 ghost use Rattle.std.specs.Prelude.{◌≡◌, OnErr, OnOk};
 ghost use Rattle.smf_frames.specs.Framed as framed;
 ghost use Rattle.sqlite_trees.specs.View.{IsClean, KeepsSchema};
-ghost use Rattle.table_model.specs.DetailsRead.{detail_shown};
 ghost use Rattle.table_model.specs.Steps as step;
 ghost use Rattle.tree_rows.specs.Calls.{CommitsNothing, IsSorted, LeavesCommitted};
-ghost use Rattle.tree_rows.specs.Rows.{Replaces};
-ghost use Rattle.tree_tables.specs.Columns.{detail_columns};
-ghost use Rattle.tree_tables.specs.Details.{MakesDetail};
-ghost use Rattle.tree_tables.specs.States.{state};
+ghost use Rattle.tree_tables.specs.Details.{MakesDetail, PricesDetail};
+ghost use Rattle.tree_tables.specs.States.{state, state_of};
 ghost use Rattle.tree_tables.specs.Steps.{Always, Does, Looks};
-ghost use Rattle.tree_tables.specs.Stored.{IsUncounted, new_entry, priced_entry, stored_entry};
+ghost use Rattle.tree_tables.specs.Stored.{IsUncounted, new_entry};
 
 use crate::detail_rows::{DETAILS, detail_row};
 use crate::keys::bytes_key;
@@ -104,7 +101,7 @@ impl<S: Store> TreeTables<S> {
     /// not looked for. The fields that are given are those of its data.
     pub fn count_new(&mut self, kept: &NewRecord<'_>, usage: &Type30<'_>) -> Result<(), StoreError>
         requires same { usage.now ≡ framed.record_with kept.now.data_bytes.now }
-        ensures does { Does result (state S.Store self.old.store) (state S.Store self.new.store)
+        ensures does { Does result (state_of self.old) (state_of self.new)
             (IsUncounted (new_entry kept.now)) (step.count_row (new_entry kept.now).0) }
     {
         detail_row(&mut self.row, kept.name, &kept.priced, usage)?;
@@ -113,16 +110,16 @@ impl<S: Store> TreeTables<S> {
 
     /// The record of a name, if there is one, is counted from now on.
     pub fn count_record(&mut self, name: &[u8]) -> Result<(), StoreError>
-        ensures does { Does result (state S.Store self.old.store) (state S.Store self.new.store)
-            Always (step.count_row name.now) }
+        ensures does { Does result (state_of self.old) (state_of self.new) Always
+            (step.count_row name.now) }
     {
         count_in(&mut self.store, &mut self.scratch, name)
     }
 
     /// The record of a name, if there is one, is counted no more.
     pub fn uncount_record(&mut self, name: &[u8]) -> Result<(), StoreError>
-        ensures does { Does result (state S.Store self.old.store) (state S.Store self.new.store)
-            Always (step.uncount_row name.now) }
+        ensures does { Does result (state_of self.old) (state_of self.new) Always
+            (step.uncount_row name.now) }
     {
         if !make_detail(&mut self.store, &mut self.scratch, name)? {
             return Ok(());
@@ -142,9 +139,8 @@ impl<S: Store> TreeTables<S> {
         priced: &Priced,
     ) -> Result<(), StoreError>
         ensures replaces { OnOk result (IsClean (S.Store.view self.new.store)
-            → Replaces (S.Store.view self.old.store) (S.Store.view self.new.store) DETAILS
-            (detail_columns (detail_shown (stored_entry stored.now), tt))
-            (detail_columns (detail_shown (priced_entry stored.now priced.now), tt))) }
+            → PricesDetail (S.Store.view self.old.store) (S.Store.view self.new.store)
+            stored.now priced.now) }
         ensures kept { OnErr result (LeavesCommitted S.Store self.old.store self.new.store) }
         ensures quiet { CommitsNothing S.Store self.old.store self.new.store }
     {

@@ -10,6 +10,10 @@ ghost use Rattle.tree_tables.specs.Fits.{DetailFits};
 use crate::column_values::{
     counts_at, day_at, eight_at, hash_at, make_row, name_at, number_at, step_at,
 };
+use crate::columns::{
+    DETAIL_CENTRE, DETAIL_CPU, DETAIL_DAY, DETAIL_JOB, DETAIL_JOB_ID, DETAIL_NAME, DETAIL_PROGRAM,
+    DETAIL_SHIFT, DETAIL_STEP, DETAIL_TIME,
+};
 use crate::keys::number_key;
 use crate::record_rows::push_price;
 use crate::tables::TreeTables;
@@ -82,11 +86,11 @@ fn read_cost(row: &Row) -> Result<Priced, StoreError>
         → row.now ≡ detail_columns (shown, tt) → priced ≡ shown.priced) }
     ensures taken { IfErr result (λ error. ¬ DetailFits row.now) }
 {
-    let counts = counts_at(row, 9)?;
+    let counts = counts_at(row, DETAIL_CPU)?;
     Ok(Priced {
-        day: day_at(row, 0)?,
-        centre: name_at(row, 1)?,
-        shift: name_at(row, 2)?,
+        day: day_at(row, DETAIL_DAY)?,
+        centre: name_at(row, DETAIL_CENTRE)?,
+        shift: name_at(row, DETAIL_SHIFT)?,
         cpu: counts.cpu,
         excp: counts.blocks,
         amount: counts.amount,
@@ -101,12 +105,12 @@ pub fn read_detail(row: &Row) -> Result<Detail, StoreError>
 {
     Ok(Detail {
         priced: read_cost(row)?,
-        time: number_at(row, 3)?,
-        name: hash_at(row, 4)?,
-        job: eight_at(row, 5)?,
-        program: eight_at(row, 6)?,
-        job_id: eight_at(row, 7)?,
-        step: step_at(row, 8)?,
+        time: number_at(row, DETAIL_TIME)?,
+        name: hash_at(row, DETAIL_NAME)?,
+        job: eight_at(row, DETAIL_JOB)?,
+        program: eight_at(row, DETAIL_PROGRAM)?,
+        job_id: eight_at(row, DETAIL_JOB_ID)?,
+        step: step_at(row, DETAIL_STEP)?,
     })
 }
 
@@ -154,16 +158,15 @@ fn start_key(key: &mut Row, start: &DetailStart) -> Result<(), StoreError>
 
 impl<S: Store> TreeTables<S> {
     ghost use Rattle.tree_tables.specs.Details.{DetailsFit, FindsDetail};
-    ghost use Rattle.tree_tables.specs.States.{state};
+    ghost use Rattle.tree_tables.specs.States.{state_of};
     ghost use Rattle.tree_tables.specs.Steps.{FailsByStore, Looks};
 
     /// The first detail from a start on, if there is one: one look.
     #[tactic(auto, using(crate::proofs::Looking::caused_memory))]
     pub fn next_detail(&mut self, start: &DetailStart) -> Result<Option<Detail>, StoreError>
-        ensures looks { Looks result (state S.Store self.old.store) (state S.Store self.new.store)
+        ensures looks { Looks result (state_of self.old) (state_of self.new)
             (FindsDetail start.now) }
-        ensures cause { FailsByStore result (state S.Store self.old.store)
-            (state S.Store self.new.store) DetailsFit }
+        ensures cause { FailsByStore result (state_of self.old) (state_of self.new) DetailsFit }
     {
         start_key(&mut self.key, start)?;
         if !first_from(&mut self.store, DETAILS, &self.key, &mut self.row)? {

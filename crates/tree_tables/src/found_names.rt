@@ -35,7 +35,7 @@ impl ReadRow for FoundName {
 impl<S: Store> TreeTables<S> {
     ghost use Rattle.std.specs.Prelude.{Some};
     ghost use Rattle.tree_tables.specs.Answers.{FindsNamed, FindsRecord};
-    ghost use Rattle.tree_tables.specs.States.{state};
+    ghost use Rattle.tree_tables.specs.States.{state_of};
     ghost use Rattle.tree_tables.specs.Fits.{AllNamed, IsNamed};
     ghost use Rattle.tree_tables.specs.Steps.{FailsByStore, Looks};
 
@@ -45,10 +45,10 @@ impl<S: Store> TreeTables<S> {
         alloc: Global,
         name: &[u8],
     ) -> Result<StoredRecord, StoreError>
-        ensures looks { Looks result (state S.Store self.old.store) (state S.Store self.new.store)
+        ensures looks { Looks result (state_of self.old) (state_of self.new)
             (λ tables stored. FindsRecord name.now tables (Some stored)) }
-        ensures cause { FailsByStore result (state S.Store self.old.store)
-            (state S.Store self.new.store) (IsNamed name.now) }
+        ensures cause { FailsByStore result (state_of self.old) (state_of self.new)
+            (IsNamed name.now) }
     {
         let Some(record) = self.find_record(alloc, name)? else {
             return Err(StoreError::Corrupt);
@@ -62,10 +62,10 @@ impl<S: Store> TreeTables<S> {
         alloc: Global,
         names: &[FoundName],
     ) -> Result<Vec<StoredRecord>, StoreError>
-        ensures looks { Looks result (state S.Store self.old.store) (state S.Store self.new.store)
+        ensures looks { Looks result (state_of self.old) (state_of self.new)
             (λ tables found. FindsNamed names.now tables found.items) }
-        ensures cause { FailsByStore result (state S.Store self.old.store)
-            (state S.Store self.new.store) (AllNamed names.now) }
+        ensures cause { FailsByStore result (state_of self.old) (state_of self.new)
+            (AllNamed names.now) }
     {
         let mut all = Vec::new(alloc);
         for named in names {

@@ -6,6 +6,7 @@ ghost use Rattle.tree_tables.specs.Fits.{MarkFits};
 ghost use Rattle.tree_tables.specs.Stored.{SaysUncharged};
 
 use crate::column_values::{bytes_at, mark_at};
+use crate::columns::{MARK_CHARGED, MARK_IDENTITY};
 use crate::keys::{bytes_key, number_key};
 use crate::record_rows::{IDENTITIES, MARKS};
 use crate::stored_record::StoredRecord;
@@ -19,11 +20,6 @@ use tree_rows::{first_from, list_run};
 
 /// The mark of a record that is not charged.
 const NOT_CHARGED: i64 = 0;
-
-/// The columns of a mark's row: whether the record is charged, and its identity.
-const MARK: usize = 0;
-
-const IDENTITY: usize = 1;
 
 /// The first columns of the marks of records that are not charged and have an identity.
 fn uncharged_key(key: &mut Row, identity: &[u8]) -> Result<(), StoreError>
@@ -40,18 +36,18 @@ fn read_uncharged(row: &Row, alloc: Global) -> Result<Option<Vec<u8>>, StoreErro
     ensures says { IfOk result (SaysUncharged row.now) }
     ensures taken { IfErr result (λ error. MarkFits row.now → error ≡ StoreError.OutOfMemory) }
 {
-    let charged = mark_at(row, MARK)?;
+    let charged = mark_at(row, MARK_CHARGED)?;
     if charged {
         return Ok(None);
     }
-    let identity = bytes_at(row, IDENTITY, alloc)?;
+    let identity = bytes_at(row, MARK_IDENTITY, alloc)?;
     Ok(Some(identity))
 }
 
 impl<S: Store> TreeTables<S> {
     ghost use Rattle.tree_tables.specs.Answers.{FindsUncharged, ListsSharing};
     ghost use Rattle.tree_tables.specs.Fits.{RecordsFit};
-    ghost use Rattle.tree_tables.specs.States.{state};
+    ghost use Rattle.tree_tables.specs.States.{state_of};
     ghost use Rattle.tree_tables.specs.Steps.{Always, FailsByStore, Looks};
 
     /// The least identity that is these bytes or comes after them, of the identities of records
@@ -62,10 +58,9 @@ impl<S: Store> TreeTables<S> {
         alloc: Global,
         from: &[u8],
     ) -> Result<Option<Vec<u8>>, StoreError>
-        ensures looks { Looks result (state S.Store self.old.store) (state S.Store self.new.store)
+        ensures looks { Looks result (state_of self.old) (state_of self.new)
             (FindsUncharged from.now) }
-        ensures cause { FailsByStore result (state S.Store self.old.store)
-            (state S.Store self.new.store) Always }
+        ensures cause { FailsByStore result (state_of self.old) (state_of self.new) Always }
     {
         uncharged_key(&mut self.key, from)?;
         if !first_from(&mut self.store, MARKS, &self.key, &mut self.row)? {
@@ -81,10 +76,9 @@ impl<S: Store> TreeTables<S> {
         alloc: Global,
         identity: &[u8],
     ) -> Result<Vec<StoredRecord>, StoreError>
-        ensures looks { Looks result (state S.Store self.old.store) (state S.Store self.new.store)
+        ensures looks { Looks result (state_of self.old) (state_of self.new)
             (λ tables list. ListsSharing identity.now tables list.items) }
-        ensures cause { FailsByStore result (state S.Store self.old.store)
-            (state S.Store self.new.store) RecordsFit }
+        ensures cause { FailsByStore result (state_of self.old) (state_of self.new) RecordsFit }
     {
         bytes_key(&mut self.key, identity)?;
         let names = list_run(&mut self.store, IDENTITIES, &self.key, &mut self.row, alloc)?;

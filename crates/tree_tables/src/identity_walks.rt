@@ -8,8 +8,11 @@ ghost use Rattle.table_model.specs.RowChanges.{by_second_rule};
 ghost use Rattle.tree_tables.specs.Walks.{RenewsRow};
 
 use crate::column_values::{blob_at, make_row, with_column};
-use crate::record_rows::{CHARGED, IDENTITIES, RECORDS, change_mark};
-use crate::record_walks::{MOST_STEPS, NAME, column_key, first_past};
+use crate::columns::{
+    IDENTITY_IDENTITY, IDENTITY_NAME, RECORD_CHARGED, RECORD_DATA, RECORD_IDENTITY, RECORD_NAME,
+};
+use crate::record_rows::{IDENTITIES, RECORDS, change_mark};
+use crate::record_walks::{MOST_STEPS, column_key, first_past};
 use crate::stored_usage::usage_bytes;
 use crate::tables::TreeTables;
 use smf_type30::Type30;
@@ -20,28 +23,22 @@ use sqlite_value::value::ValueRef;
 use std::alloc::Global;
 use tree_rows::{change_row, find_row};
 
-/// The column of a record's identity.
-const IDENTITY: usize = 1;
-
-/// The column of a record's data.
-const DATA: usize = 2;
-
 /// Makes the row of a record anew, with its identity by the second rule.
 fn renamed_row(row: &mut Row, before: &Row, alloc: Global) -> Result<(), StoreError>
     ensures { OnOk result (RenewsRow by_second_rule before.now row.new true) }
 {
-    let data = blob_at(before, DATA)?;
+    let data = blob_at(before, RECORD_DATA)?;
     let bytes = usage_bytes(alloc, data)?;
     let identity = Type30::of_usage(&bytes).identity2();
-    with_column(row, before, IDENTITY, ValueRef::Blob(&identity))
+    with_column(row, before, RECORD_IDENTITY, ValueRef::Blob(&identity))
 }
 
 /// Whether a record is found by the identity that its row says.
 fn is_keyed(before: &Row, last: &Row) -> Result<bool, StoreError>
     ensures { IfOk result (λ keyed. keyed ≡ true
-        → column before.now IDENTITY ≡ column last.now 0) }
+        → column before.now RECORD_IDENTITY ≡ column last.now IDENTITY_IDENTITY) }
 {
-    Ok(blob_at(before, IDENTITY)? == blob_at(last, 0)?)
+    Ok(blob_at(before, RECORD_IDENTITY)? == blob_at(last, IDENTITY_IDENTITY)?)
 }
 
 impl<S: Store> TreeTables<S> {
@@ -50,7 +47,7 @@ impl<S: Store> TreeTables<S> {
     ghost use Rattle.tree_rows.specs.Calls.{CommitsNothing, LeavesCommitted};
     ghost use Rattle.table_model.specs.RowChanges.{by_second_rule};
     ghost use Rattle.table_model.specs.Steps as step;
-    ghost use Rattle.tree_tables.specs.States.{state};
+    ghost use Rattle.tree_tables.specs.States.{state_of};
     ghost use Rattle.tree_tables.specs.Steps.{Always, Does};
     ghost use Rattle.tree_tables.specs.Walks.{KeysNext, KeysRecords, MovesKeys, RenamesRows};
     ghost use Rattle.tree_tables.specs.Walks.{RenewsNext};
@@ -67,7 +64,7 @@ impl<S: Store> TreeTables<S> {
         if !first_past(&mut self.store, RECORDS, &self.key, &mut self.before)? {
             return Ok(false);
         }
-        column_key(&mut self.key, &self.before, NAME)?;
+        column_key(&mut self.key, &self.before, RECORD_NAME)?;
         renamed_row(&mut self.row, &self.before, alloc)?;
         change_row(&mut self.store, RECORDS, &self.before, &self.row)?;
         Ok(true)
@@ -105,8 +102,11 @@ impl<S: Store> TreeTables<S> {
         if !first_past(&mut self.store, IDENTITIES, last, &mut self.row)? {
             return Ok(false);
         }
-        make_row(last, &[self.row.get(0), self.row.get(1)])?;
-        column_key(&mut self.key, &self.row, 1)?;
+        make_row(
+            last,
+            &[self.row.get(IDENTITY_IDENTITY), self.row.get(IDENTITY_NAME)],
+        )?;
+        column_key(&mut self.key, &self.row, IDENTITY_NAME)?;
         if !find_row(&mut self.store, RECORDS, &self.key, &mut self.before)? {
             // Only a disk that lies has an entry of no record.
             return Err(StoreError::Corrupt);
@@ -127,16 +127,16 @@ impl<S: Store> TreeTables<S> {
         ensures kept { OnErr result (LeavesCommitted S.Store self.old.store self.new.store) }
         ensures quiet { CommitsNothing S.Store self.old.store self.new.store }
     {
-        let name = entry.get(1);
-        let mark = self.before.get(CHARGED);
-        let identity = self.before.get(IDENTITY);
+        let name = entry.get(IDENTITY_NAME);
+        let mark = self.before.get(RECORD_CHARGED);
+        let identity = self.before.get(RECORD_IDENTITY);
         make_row(&mut self.row, &[identity, name])?;
         change_row(&mut self.store, IDENTITIES, entry, &self.row)?;
         change_mark(
             &mut self.store,
             &mut self.key,
             &mut self.row,
-            &[mark, entry.get(0), name],
+            &[mark, entry.get(IDENTITY_IDENTITY), name],
             &[mark, identity, name],
         )
     }
@@ -162,8 +162,7 @@ impl<S: Store> TreeTables<S> {
     /// Each record has its identity by the second rule, and is found by it. A walk that does not
     /// end, and data that are those of no usage record, are answered as a damaged file.
     pub fn rename_records(&mut self, alloc: Global) -> Result<(), StoreError>
-        ensures does { Does result (state S.Store self.old.store) (state S.Store self.new.store)
-            Always step.rename_rows }
+        ensures does { Does result (state_of self.old) (state_of self.new) Always step.rename_rows }
     {
         self.rename_rows(alloc)?;
         self.key_records(alloc)

@@ -7,6 +7,7 @@ ghost use Rattle.tree_tables.specs.Fits.{HasHash, HasMark};
 ghost use Rattle.tree_tables.specs.LateRecords.{SaysUnchargedName, mark_start, start_after};
 
 use crate::column_values::{hash_at, mark_at};
+use crate::columns::{MARK_CHARGED, MARK_NAME};
 use crate::detail_rows::{DetailStart, bytes_after};
 use crate::keys::number_key;
 use crate::record_rows::MARKS;
@@ -22,11 +23,6 @@ use tree_rows::first_from;
 
 /// The mark of a record that is not charged.
 const NOT_CHARGED: i64 = 0;
-
-/// The columns of a mark's row that say whether its record is charged, and the record's name.
-const MARK: usize = 0;
-
-const NAME: usize = 2;
 
 /// A record that the walk has come to.
 #[derive(Drop)]
@@ -66,20 +62,20 @@ fn mark_key(key: &mut Row, last: &Option<LateRecord>) -> Result<(), StoreError>
 /// The name that a mark's row says, where the record is not charged.
 fn read_uncharged_name(row: &Row) -> Result<Option<[u8; 32]>, StoreError>
     ensures says { IfOk result (SaysUnchargedName row.now) }
-    ensures taken { IfErr result (λ error. HasMark (column row.now MARK)
-        → HasHash (column row.now NAME) → ⊥) }
+    ensures taken { IfErr result (λ error. HasMark (column row.now MARK_CHARGED)
+        → HasHash (column row.now MARK_NAME) → ⊥) }
 {
-    if mark_at(row, MARK)? {
+    if mark_at(row, MARK_CHARGED)? {
         return Ok(None);
     }
-    Ok(Some(hash_at(row, NAME)?))
+    Ok(Some(hash_at(row, MARK_NAME)?))
 }
 
 impl<S: Store> TreeTables<S> {
     ghost use Rattle.tree_tables.specs.Fits.{EachFits};
     ghost use Rattle.tree_tables.specs.LateRecords.{FindsCounted, FindsLate, FindsUnchargedLeft};
     ghost use Rattle.tree_tables.specs.LateRecords.{LateFit};
-    ghost use Rattle.tree_tables.specs.States.{state};
+    ghost use Rattle.tree_tables.specs.States.{state_of};
     ghost use Rattle.tree_tables.specs.Steps.{FailsByStore, Looks};
 
     /// The next of the records that are not charged, by identity and name: one look for its name,
@@ -90,10 +86,9 @@ impl<S: Store> TreeTables<S> {
         alloc: Global,
         last: &Option<LateRecord>,
     ) -> Result<Option<StoredRecord>, StoreError>
-        ensures looks { Looks result (state S.Store self.old.store) (state S.Store self.new.store)
+        ensures looks { Looks result (state_of self.old) (state_of self.new)
             (FindsUnchargedLeft last.now) }
-        ensures cause { FailsByStore result (state S.Store self.old.store)
-            (state S.Store self.new.store) EachFits }
+        ensures cause { FailsByStore result (state_of self.old) (state_of self.new) EachFits }
     {
         mark_key(&mut self.key, last)?;
         if !first_from(&mut self.store, MARKS, &self.key, &mut self.row)? {
@@ -111,10 +106,9 @@ impl<S: Store> TreeTables<S> {
         alloc: Global,
         start: &DetailStart,
     ) -> Result<Option<LateRecord>, StoreError>
-        ensures looks { Looks result (state S.Store self.old.store) (state S.Store self.new.store)
+        ensures looks { Looks result (state_of self.old) (state_of self.new)
             (FindsCounted start.now) }
-        ensures cause { FailsByStore result (state S.Store self.old.store)
-            (state S.Store self.new.store) LateFit }
+        ensures cause { FailsByStore result (state_of self.old) (state_of self.new) LateFit }
     {
         let Some(detail) = self.next_detail(start)? else {
             return Ok(None);
@@ -134,10 +128,9 @@ impl<S: Store> TreeTables<S> {
         first: i32,
         last: &Option<LateRecord>,
     ) -> Result<Option<LateRecord>, StoreError>
-        ensures looks { Looks result (state S.Store self.old.store) (state S.Store self.new.store)
+        ensures looks { Looks result (state_of self.old) (state_of self.new)
             (FindsLate first last.now) }
-        ensures cause { FailsByStore result (state S.Store self.old.store)
-            (state S.Store self.new.store) LateFit }
+        ensures cause { FailsByStore result (state_of self.old) (state_of self.new) LateFit }
     {
         if let Some(start) = next_start(last) {
             return self.next_counted(alloc, &start);

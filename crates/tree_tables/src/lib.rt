@@ -8,6 +8,7 @@ mod choice_rows;
 mod chosen_numbers;
 mod closed_rows;
 mod column_values;
+pub mod columns;
 mod day_rows;
 mod detail_changes;
 mod detail_fill;

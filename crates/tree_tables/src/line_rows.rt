@@ -7,6 +7,7 @@ ghost use Rattle.tree_tables.specs.Fits.{LineFits};
 ghost use Rattle.tree_tables.specs.Stored.{SaysLine};
 
 use crate::column_values::{hash_at, mark_at};
+use crate::columns::{LINE_NAME, LINE_PLUS};
 use crate::keys::{number_key, period_key};
 use crate::tables::TreeTables;
 use sqlite_trees::error::StoreError;
@@ -35,9 +36,6 @@ pub struct StoredLine {
     pub plus: bool,
 }
 
-/// The column of a line's sign.
-const PLUS: usize = 2;
-
 /// The key of a line.
 fn line_key(key: &mut Row, spot: &LineKey<'_>) -> Result<(), StoreError>
     ensures made { OnOk result (key.new ≡ Int (pos spot.now.period) ∷ Blob spot.now.name.now ∷ []) }
@@ -64,8 +62,8 @@ impl ReadRow for StoredLine {
 
     fn read(row: &Row, _alloc: Global) -> Result<StoredLine, StoreError> {
         Ok(StoredLine {
-            name: hash_at(row, 1)?,
-            plus: mark_at(row, PLUS)?,
+            name: hash_at(row, LINE_NAME)?,
+            plus: mark_at(row, LINE_PLUS)?,
         })
     }
 }
@@ -73,15 +71,15 @@ impl ReadRow for StoredLine {
 impl<S: Store> TreeTables<S> {
     ghost use Rattle.table_model.specs.Steps as step;
     ghost use Rattle.tree_tables.specs.Answers.{FindsLine, ListsLines};
-    ghost use Rattle.tree_tables.specs.States.{state};
+    ghost use Rattle.tree_tables.specs.States.{state_of};
     ghost use Rattle.tree_tables.specs.Fits.{LinesFit};
     ghost use Rattle.tree_tables.specs.Steps.{Always, Does, FailsByStore, Looks};
 
     /// A line is kept under its period and the name of its record: it adds the record, or reverses
     /// it.
     pub fn put_line(&mut self, spot: &LineKey<'_>, plus: bool) -> Result<(), StoreError>
-        ensures does { Does result (state S.Store self.old.store) (state S.Store self.new.store)
-            Always (step.put_line_row spot.now.period spot.now.name.now plus) }
+        ensures does { Does result (state_of self.old) (state_of self.new) Always
+            (step.put_line_row spot.now.period spot.now.name.now plus) }
     {
         line_key(&mut self.key, spot)?;
         line_row(&mut self.row, spot, plus)?;
@@ -96,8 +94,8 @@ impl<S: Store> TreeTables<S> {
 
     /// A period's line for a record, if there is one, goes.
     pub fn drop_line(&mut self, spot: &LineKey<'_>) -> Result<(), StoreError>
-        ensures does { Does result (state S.Store self.old.store) (state S.Store self.new.store)
-            Always (step.drop_line_row spot.now.period spot.now.name.now) }
+        ensures does { Does result (state_of self.old) (state_of self.new) Always
+            (step.drop_line_row spot.now.period spot.now.name.now) }
     {
         line_key(&mut self.key, spot)?;
         drop_row(&mut self.store, LINES, &self.key, &mut self.before)
@@ -107,26 +105,25 @@ impl<S: Store> TreeTables<S> {
     /// many lines there are.
     #[tactic(auto, using(crate::proofs::Looking::caused_memory))]
     pub fn find_line(&mut self, spot: &LineKey<'_>) -> Result<Option<bool>, StoreError>
-        ensures looks { Looks result (state S.Store self.old.store) (state S.Store self.new.store)
+        ensures looks { Looks result (state_of self.old) (state_of self.new)
             (FindsLine spot.now.period spot.now.name.now) }
-        ensures cause { FailsByStore result (state S.Store self.old.store)
-            (state S.Store self.new.store) Always }
+        ensures cause { FailsByStore result (state_of self.old) (state_of self.new) Always }
     {
         line_key(&mut self.key, spot)?;
         if !find_row(&mut self.store, LINES, &self.key, &mut self.row)? {
             return Ok(None);
         }
-        let plus = mark_at(&self.row, PLUS)?;
+        let plus = mark_at(&self.row, LINE_PLUS)?;
         Ok(Some(plus))
     }
 
     /// The lines of a period, by name.
     #[tactic(auto, using(crate::proofs::Looking::caused_memory))]
     pub fn list_lines(&mut self, alloc: Global, period: u16) -> Result<Vec<StoredLine>, StoreError>
-        ensures looks { Looks result (state S.Store self.old.store) (state S.Store self.new.store)
+        ensures looks { Looks result (state_of self.old) (state_of self.new)
             (λ tables list. ListsLines period tables list.items) }
-        ensures cause { FailsByStore result (state S.Store self.old.store)
-            (state S.Store self.new.store) (LinesFit period) }
+        ensures cause { FailsByStore result (state_of self.old) (state_of self.new)
+            (LinesFit period) }
     {
         period_key(&mut self.key, period)?;
         list_run(&mut self.store, LINES, &self.key, &mut self.row, alloc)

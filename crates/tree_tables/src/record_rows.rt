@@ -1,17 +1,16 @@
 //! Records by name, and the two trees that find them by identity and by mark.
 
 ghost use Rattle.std.specs.Prelude.{◌≡◌, ◌∷◌, ◌++◌, [], OnErr, OnOk, map, pos, slice_set};
-ghost use Rattle.sqlite_trees.specs.Tree.{insert_entry, remove_entry};
 ghost use Rattle.sqlite_trees.specs.View.{IsClean, KeepsSchema};
-ghost use Rattle.sqlite_value.specs.Keys.{plain};
 ghost use Rattle.sqlite_value.specs.Value.{owned};
 ghost use Rattle.sqlite_value.specs.declared.value.Value.TheVariants.{Blob, Int, Text};
 ghost use Rattle.tree_rows.specs.Calls.{CommitsNothing, IsSorted, LeavesCommitted};
-ghost use Rattle.tree_rows.specs.Rows.{Rewrites};
+ghost use Rattle.tree_rows.specs.Rows.{ChangesRow};
 ghost use Rattle.tree_tables.specs.Columns.{flag, record_columns};
 ghost use Rattle.tree_tables.specs.Stored.{new_entry, priced_entry};
 
 use crate::column_values::{make_row, with_column};
+use crate::columns::{RECORD_CHARGED, RECORD_IDENTITY, RECORD_NAME};
 use crate::keys::{bytes_key, number_key};
 use crate::stored_record::{StoredRecord, read_record};
 use crate::tables::TreeTables;
@@ -31,9 +30,6 @@ pub(crate) const IDENTITIES: u32 = 6;
 
 /// The tree of their marks.
 pub(crate) const MARKS: u32 = 7;
-
-/// The column of a record's row that says whether it is charged now.
-pub(crate) const CHARGED: usize = 9;
 
 /// The most records of one identity that are looked at: whether there are two is all that counts.
 const MOST_SHARING: usize = 2;
@@ -127,9 +123,8 @@ pub(crate) fn change_mark<S: Store>(
 ) -> Result<(), StoreError>
     requires { IsSorted S.Store store.old MARKS }
     ensures done { OnOk result (IsClean (S.Store.view store.new)
-        → Rewrites (S.Store.view store.old) (S.Store.view store.new) MARKS
-        (insert_entry plain (map owned new.now) (remove_entry plain (map owned old.now)
-        ((S.Store.view store.old).trees MARKS)))) }
+        → ChangesRow (S.Store.view store.old) (S.Store.view store.new) MARKS
+        (map owned old.now) (map owned new.now)) }
     ensures kept { OnErr result (LeavesCommitted S.Store store.old store.new) }
     ensures schema { KeepsSchema (S.Store.view store.old) (S.Store.view store.new) }
     ensures quiet { CommitsNothing S.Store store.old store.new }
@@ -141,16 +136,16 @@ pub(crate) fn change_mark<S: Store>(
 
 /// Makes the row of a record anew, charged or not.
 fn marked_row(row: &mut Row, before: &Row, mark: bool) -> Result<(), StoreError>
-    ensures { OnOk result (row.new ≡ slice_set before.now CHARGED (Int (pos (flag mark)))) }
+    ensures { OnOk result (row.new ≡ slice_set before.now RECORD_CHARGED (Int (pos (flag mark)))) }
 {
-    with_column(row, before, CHARGED, mark_value(mark))
+    with_column(row, before, RECORD_CHARGED, mark_value(mark))
 }
 
 impl<S: Store> TreeTables<S> {
     ghost use Rattle.std.specs.Prelude.{false, true};
     ghost use Rattle.table_model.specs.Steps as step;
     ghost use Rattle.tree_tables.specs.Answers.{FindsRecord, FindsSharing, ListsUncharged};
-    ghost use Rattle.tree_tables.specs.States.{state};
+    ghost use Rattle.tree_tables.specs.States.{state_of};
     ghost use Rattle.tree_tables.specs.Fits.{NamedFits, RecordsFit};
     ghost use Rattle.tree_tables.specs.Steps.{Always, Does, FailsByStore, Looks};
     ghost use Rattle.tree_tables.specs.Stored.{IsAsRead, IsFree, new_entry};
@@ -162,10 +157,10 @@ impl<S: Store> TreeTables<S> {
         alloc: Global,
         name: &[u8],
     ) -> Result<Option<StoredRecord>, StoreError>
-        ensures looks { Looks result (state S.Store self.old.store) (state S.Store self.new.store)
+        ensures looks { Looks result (state_of self.old) (state_of self.new)
             (FindsRecord name.now) }
-        ensures cause { FailsByStore result (state S.Store self.old.store)
-            (state S.Store self.new.store) (NamedFits name.now) }
+        ensures cause { FailsByStore result (state_of self.old) (state_of self.new)
+            (NamedFits name.now) }
     {
         bytes_key(&mut self.key, name)?;
         if !find_row(&mut self.store, RECORDS, &self.key, &mut self.row)? {
@@ -181,7 +176,7 @@ impl<S: Store> TreeTables<S> {
         alloc: Global,
         identity: &[u8],
     ) -> Result<Vec<StoredRecord>, StoreError>
-        ensures looks { Looks result (state S.Store self.old.store) (state S.Store self.new.store)
+        ensures looks { Looks result (state_of self.old) (state_of self.new)
             (λ tables found. FindsSharing identity.now tables found.items) }
     {
         bytes_key(&mut self.key, identity)?;
@@ -199,10 +194,9 @@ impl<S: Store> TreeTables<S> {
     /// The records that are not charged, by identity, then name.
     #[tactic(auto, using(crate::proofs::Looking::caused_memory))]
     pub fn list_uncharged(&mut self, alloc: Global) -> Result<Vec<StoredRecord>, StoreError>
-        ensures looks { Looks result (state S.Store self.old.store) (state S.Store self.new.store)
+        ensures looks { Looks result (state_of self.old) (state_of self.new)
             (λ tables list. ListsUncharged tables list.items) }
-        ensures cause { FailsByStore result (state S.Store self.old.store)
-            (state S.Store self.new.store) RecordsFit }
+        ensures cause { FailsByStore result (state_of self.old) (state_of self.new) RecordsFit }
     {
         number_key(&mut self.key, 0)?;
         let names = list_run(&mut self.store, MARKS, &self.key, &mut self.row, alloc)?;
@@ -212,7 +206,7 @@ impl<S: Store> TreeTables<S> {
     /// A new record's row joins the table, and is found by its identity and by its mark. What is
     /// under its name, if anything is, is not looked at. It is not counted yet.
     pub fn insert_record(&mut self, kept: &NewRecord<'_>) -> Result<(), StoreError>
-        ensures does { Does result (state S.Store self.old.store) (state S.Store self.new.store)
+        ensures does { Does result (state_of self.old) (state_of self.new)
             (IsFree kept.now.name.now)
             (step.put_record_row (new_entry kept.now).0 (new_entry kept.now).1) }
     {
@@ -230,8 +224,8 @@ impl<S: Store> TreeTables<S> {
     /// identity and its marks stay, and with them the rows that find it. The row is not looked for:
     /// it is what was read.
     pub fn set_price(&mut self, stored: &StoredRecord, priced: &Priced) -> Result<(), StoreError>
-        ensures does { Does result (state S.Store self.old.store) (state S.Store self.new.store)
-            (IsAsRead stored.now) (step.put_price_row stored.now.name priced.now) }
+        ensures does { Does result (state_of self.old) (state_of self.new) (IsAsRead stored.now)
+            (step.put_price_row stored.now.name priced.now) }
     {
         record_row(&mut self.before, &with_price(stored, &stored.priced))?;
         record_row(&mut self.row, &with_price(stored, priced))?;
@@ -241,24 +235,24 @@ impl<S: Store> TreeTables<S> {
 
     /// The record of a name, if there is one, is charged from now on.
     pub fn mark_record(&mut self, name: &[u8]) -> Result<(), StoreError>
-        ensures does { Does result (state S.Store self.old.store) (state S.Store self.new.store)
-            Always (step.set_mark_row true name.now) }
+        ensures does { Does result (state_of self.old) (state_of self.new) Always
+            (step.set_mark_row true name.now) }
     {
         self.set_mark(name, true)
     }
 
     /// The record of a name, if there is one, is charged no more.
     pub fn unmark_record(&mut self, name: &[u8]) -> Result<(), StoreError>
-        ensures does { Does result (state S.Store self.old.store) (state S.Store self.new.store)
-            Always (step.set_mark_row false name.now) }
+        ensures does { Does result (state_of self.old) (state_of self.new) Always
+            (step.set_mark_row false name.now) }
     {
         self.set_mark(name, false)
     }
 
     /// The record of a name, if there is one, has this mark, and is found by it.
     fn set_mark(&mut self, name: &[u8], mark: bool) -> Result<(), StoreError>
-        ensures does { Does result (state S.Store self.old.store) (state S.Store self.new.store)
-            Always (step.set_mark_row mark name.now) }
+        ensures does { Does result (state_of self.old) (state_of self.new) Always
+            (step.set_mark_row mark name.now) }
     {
         bytes_key(&mut self.key, name)?;
         if !find_row(&mut self.store, RECORDS, &self.key, &mut self.before)? {
@@ -266,13 +260,13 @@ impl<S: Store> TreeTables<S> {
         }
         marked_row(&mut self.row, &self.before, mark)?;
         change_row(&mut self.store, RECORDS, &self.before, &self.row)?;
-        let identity = self.before.get(1);
-        let name = self.before.get(0);
+        let identity = self.before.get(RECORD_IDENTITY);
+        let name = self.before.get(RECORD_NAME);
         change_mark(
             &mut self.store,
             &mut self.key,
             &mut self.row,
-            &[self.before.get(CHARGED), identity, name],
+            &[self.before.get(RECORD_CHARGED), identity, name],
             &[mark_value(mark), identity, name],
         )
     }

@@ -12,8 +12,9 @@ ghost use Rattle.tree_rows.specs.Rows.{IsFirst};
 ghost use Rattle.tree_tables.specs.Walks.{RenewsRow, last_name_key, rows_past};
 
 use crate::column_values::{day_at, mark_at, with_column};
+use crate::columns::{RECORD_CHARGED, RECORD_DAY, RECORD_NAME, RECORD_POSTED};
 use crate::keys::bytes_key;
-use crate::record_rows::{CHARGED, RECORDS};
+use crate::record_rows::RECORDS;
 use crate::stored_record::{StoredRecord, read_record};
 use crate::tables::TreeTables;
 use sqlite_trees::error::StoreError;
@@ -21,15 +22,6 @@ use sqlite_trees::store::Store;
 use sqlite_value::row::Row;
 use std::alloc::Global;
 use tree_rows::{change_row, find_row, first_after, first_from, next_row, start_pass};
-
-/// The column of a record's name.
-pub(crate) const NAME: usize = 0;
-
-/// The column of a record's day.
-const DAY: usize = 3;
-
-/// The column that says whether the last close charged it.
-const POSTED: usize = 10;
 
 /// The most rows that are walked over: more than any tree of a sound store has.
 pub(crate) const MOST_STEPS: u64 = 1 << 32;
@@ -82,9 +74,10 @@ fn walk_key(key: &mut Row, last: Option<[u8; 32]>) -> Result<(), StoreError>
 
 /// Makes the row of a record anew, posted as it is charged.
 fn posted_row(row: &mut Row, before: &Row) -> Result<(), StoreError>
-    ensures { OnOk result (row.new ≡ slice_set before.now POSTED (column before.now CHARGED)) }
+    ensures { OnOk result (row.new
+        ≡ slice_set before.now RECORD_POSTED (column before.now RECORD_CHARGED)) }
 {
-    with_column(row, before, POSTED, before.get(CHARGED))
+    with_column(row, before, RECORD_POSTED, before.get(RECORD_CHARGED))
 }
 
 /// Makes the row of a record as a close through the day posts it, or answers that it is so
@@ -92,9 +85,9 @@ fn posted_row(row: &mut Row, before: &Row) -> Result<(), StoreError>
 fn post_row(row: &mut Row, before: &Row, through: i32) -> Result<bool, StoreError>
     ensures { IfOk result (RenewsRow (post_by through) before.now row.new) }
 {
-    let day = day_at(before, DAY)?;
-    let charged = mark_at(before, CHARGED)?;
-    let posted = mark_at(before, POSTED)?;
+    let day = day_at(before, RECORD_DAY)?;
+    let charged = mark_at(before, RECORD_CHARGED)?;
+    let posted = mark_at(before, RECORD_POSTED)?;
     if through < day || charged == posted {
         return Ok(false);
     }
@@ -113,7 +106,7 @@ impl<S: Store> TreeTables<S> {
     ghost use Rattle.tree_tables.specs.Answers.{FindsNext};
     ghost use Rattle.tree_tables.specs.Fits.{EachFits};
     ghost use Rattle.tree_tables.specs.Passes.{HasRecordsLeft, TakesNext};
-    ghost use Rattle.tree_tables.specs.States.{state};
+    ghost use Rattle.tree_tables.specs.States.{state_of};
     ghost use Rattle.tree_tables.specs.Steps.{Always, Does, FailsByStore, Looks};
     ghost use Rattle.tree_tables.specs.Walks.{RenewsNext};
 
@@ -125,10 +118,8 @@ impl<S: Store> TreeTables<S> {
         alloc: Global,
         last: Option<[u8; 32]>,
     ) -> Result<Option<StoredRecord>, StoreError>
-        ensures looks { Looks result (state S.Store self.old.store) (state S.Store self.new.store)
-            (FindsNext last) }
-        ensures cause { FailsByStore result (state S.Store self.old.store)
-            (state S.Store self.new.store) EachFits }
+        ensures looks { Looks result (state_of self.old) (state_of self.new) (FindsNext last) }
+        ensures cause { FailsByStore result (state_of self.old) (state_of self.new) EachFits }
     {
         walk_key(&mut self.key, last)?;
         if !first_past(&mut self.store, RECORDS, &self.key, &mut self.before)? {
@@ -140,11 +131,10 @@ impl<S: Store> TreeTables<S> {
     /// Starts a pass over all records, by name. It goes on as long as nothing is written.
     pub fn start_pass(&mut self) -> Result<(), StoreError>
         ensures passing { OnOk result (IsPassing (S.Store.view self.new.store)) }
-        ensures looks { Looks result (state S.Store self.old.store) (state S.Store self.new.store)
+        ensures looks { Looks result (state_of self.old) (state_of self.new)
             (λ tables started.
-            HasRecordsLeft (S.Store.view self.new.store) (entries tables.records)) }
-        ensures cause { FailsByStore result (state S.Store self.old.store)
-            (state S.Store self.new.store) Always }
+            HasRecordsLeft (state_of self.new).view (entries tables.records)) }
+        ensures cause { FailsByStore result (state_of self.old) (state_of self.new) Always }
     {
         start_pass(&mut self.store, RECORDS, &mut self.before)
     }
@@ -153,11 +143,10 @@ impl<S: Store> TreeTables<S> {
     pub fn next_record(&mut self, row: &mut Row) -> Result<bool, StoreError>
         requires { IsPassing (S.Store.view self.old.store) }
         ensures passing { OnOk result (IsPassing (S.Store.view self.new.store)) }
-        ensures looks { Looks result (state S.Store self.old.store) (state S.Store self.new.store)
+        ensures looks { Looks result (state_of self.old) (state_of self.new)
             (λ tables there.
-            TakesNext (S.Store.view self.old.store) (S.Store.view self.new.store) row.new there) }
-        ensures cause { FailsByStore result (state S.Store self.old.store)
-            (state S.Store self.new.store) Always }
+            TakesNext (state_of self.old).view (state_of self.new).view row.new there) }
+        ensures cause { FailsByStore result (state_of self.old) (state_of self.new) Always }
     {
         next_row(&mut self.store, row)
     }
@@ -174,7 +163,7 @@ impl<S: Store> TreeTables<S> {
         if !first_past(&mut self.store, RECORDS, &self.key, &mut self.before)? {
             return Ok(false);
         }
-        column_key(&mut self.key, &self.before, NAME)?;
+        column_key(&mut self.key, &self.before, RECORD_NAME)?;
         if post_row(&mut self.row, &self.before, through)? {
             change_row(&mut self.store, RECORDS, &self.before, &self.row)?;
         }
@@ -185,8 +174,8 @@ impl<S: Store> TreeTables<S> {
     /// does not end is answered as a damaged file.
     #[tactic(auto, using(crate::proofs::Renewing::renewing_starts))]
     pub fn post_records(&mut self, through: i32) -> Result<(), StoreError>
-        ensures does { Does result (state S.Store self.old.store) (state S.Store self.new.store)
-            Always (step.post_rows through) }
+        ensures does { Does result (state_of self.old) (state_of self.new) Always
+            (step.post_rows through) }
     {
         self.key.clear();
         'steps: for _ in 0..MOST_STEPS {
@@ -201,8 +190,8 @@ impl<S: Store> TreeTables<S> {
     /// The record of a name, if there is one that is dated on or before the day, is posted as it is
     /// charged. Neither the trees that find it nor its detail say whether it is.
     pub fn post_record(&mut self, name: &[u8], through: i32) -> Result<(), StoreError>
-        ensures does { Does result (state S.Store self.old.store) (state S.Store self.new.store)
-            Always (step.post_row through name.now) }
+        ensures does { Does result (state_of self.old) (state_of self.new) Always
+            (step.post_row through name.now) }
     {
         bytes_key(&mut self.key, name)?;
         if !find_row(&mut self.store, RECORDS, &self.key, &mut self.before)? {

@@ -9,6 +9,10 @@ ghost use Rattle.tree_tables.specs.Fits.{PriceFits, RecordFits};
 ghost use Rattle.tree_tables.specs.Stored.{mark_of, stored_entry};
 
 use crate::column_values::{blob_at, bytes_at, counts_at, day_at, hash_at, mark_at, name_at};
+use crate::columns::{
+    RECORD_CENTRE, RECORD_CHARGED, RECORD_CPU, RECORD_DATA, RECORD_DAY, RECORD_IDENTITY,
+    RECORD_NAME, RECORD_POSTED, RECORD_SHIFT,
+};
 use sqlite_trees::error::StoreError;
 use sqlite_value::row::Row;
 use std::alloc::Global;
@@ -51,11 +55,11 @@ pub(crate) fn read_price(row: &Row) -> Result<Priced, StoreError>
     ensures amount { IfOk result (λ priced. column row.now 8 ≡ Int (pos priced.amount)) }
     ensures taken { IfErr result (λ error. ¬ PriceFits row.now) }
 {
-    let counts = counts_at(row, 6)?;
+    let counts = counts_at(row, RECORD_CPU)?;
     Ok(Priced {
-        day: day_at(row, 3)?,
-        shift: name_at(row, 4)?,
-        centre: name_at(row, 5)?,
+        day: day_at(row, RECORD_DAY)?,
+        shift: name_at(row, RECORD_SHIFT)?,
+        centre: name_at(row, RECORD_CENTRE)?,
         cpu: counts.cpu,
         excp: counts.blocks,
         amount: counts.amount,
@@ -70,13 +74,13 @@ pub fn read_record(row: &Row, alloc: Global) -> Result<StoredRecord, StoreError>
         → error ≡ StoreError.OutOfMemory) }
 {
     Ok(StoredRecord {
-        name: hash_at(row, 0)?,
+        name: hash_at(row, RECORD_NAME)?,
         priced: read_price(row)?,
-        charged: mark_at(row, 9)?,
-        posted: mark_at(row, 10)?,
+        charged: mark_at(row, RECORD_CHARGED)?,
+        posted: mark_at(row, RECORD_POSTED)?,
         // What owns memory comes last, so that a row that does not fit has taken none.
-        identity: bytes_at(row, 1, alloc)?,
-        data_bytes: bytes_at(row, 2, alloc)?,
+        identity: bytes_at(row, RECORD_IDENTITY, alloc)?,
+        data_bytes: bytes_at(row, RECORD_DATA, alloc)?,
     })
 }
 
@@ -87,9 +91,9 @@ pub fn read_mark(row: &Row) -> Result<RecordMark, StoreError>
     ensures taken { IfErr result (λ error. ¬ RecordFits row.now) }
 {
     Ok(RecordMark {
-        name: hash_at(row, 0)?,
-        day: day_at(row, 3)?,
-        charged: mark_at(row, 9)?,
+        name: hash_at(row, RECORD_NAME)?,
+        day: day_at(row, RECORD_DAY)?,
+        charged: mark_at(row, RECORD_CHARGED)?,
     })
 }
 
@@ -99,5 +103,5 @@ pub fn data_of<'a>(row: &'a Row) -> Result<&'a [u8], StoreError>
         → row.now ≡ record_columns entry → data_bytes.now ≡ entry.1.data_bytes) }
     ensures taken { IfErr result (λ error. ¬ RecordFits row.now) }
 {
-    Ok(blob_at(row, 2)?)
+    Ok(blob_at(row, RECORD_DATA)?)
 }

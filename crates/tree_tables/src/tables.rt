@@ -29,16 +29,12 @@ pub struct TreeTables<S: Store> {
 }
 
 impl<S: Store> TreeTables<S> {
-    ghost use Rattle.std.specs.Prelude.{◌≡◌, List, OnErr, OnOk};
-    ghost use Rattle.std.specs.List.{AllZip};
+    ghost use Rattle.std.specs.Prelude.{◌≡◌, OnErr, OnOk};
     ghost use Rattle.sqlite_trees.specs.View.{Commits, IsClean};
-    ghost use Rattle.sqlite_value.specs.Order.{Row as Columns};
-    ghost use Rattle.table_model.specs.Tables.{Tables};
     ghost use Rattle.tree_rows.specs.Calls.{IsSorted};
-    ghost use Rattle.tree_tables.specs.Fits.{RowsFit};
     ghost use Rattle.tree_tables.specs.Holds.{HasShapes};
-    ghost use Rattle.tree_tables.specs.States.{Survives, state};
-    ghost use Rattle.tree_tables.specs.Steps.{FailsByStore, HasRowsOf, IsUndone, Looks, MayCommit};
+    ghost use Rattle.tree_tables.specs.States.{Survives, state_of};
+    ghost use Rattle.tree_tables.specs.Steps.{FailsToRead, IsUndone, MayCommit, ReadsTree};
 
     /// The tables in a store that has their trees.
     pub fn over(alloc: Global, store: S) -> TreeTables<S>
@@ -69,14 +65,10 @@ impl<S: Store> TreeTables<S> {
         alloc: Global,
     ) -> Result<Vec<T>, StoreError>
         requires { IsSorted S.Store self.old.store tree }
-        ensures looks { (rows : Tables → List Columns)
-            → HasRowsOf (S.Store.view self.old.store) tree rows
-            → Looks result (state S.Store self.old.store) (state S.Store self.new.store)
-            (λ tables all. AllZip T.ReadRow.says (rows tables) all.items) }
-        ensures cause { (rows : Tables → List Columns)
-            → HasRowsOf (S.Store.view self.old.store) tree rows
-            → FailsByStore result (state S.Store self.old.store) (state S.Store self.new.store)
-            (λ tables. RowsFit T.ReadRow.fits (rows tables)) }
+        ensures looks { ReadsTree result (state_of self.old) (state_of self.new) tree
+            T.ReadRow.says }
+        ensures cause { FailsToRead result (state_of self.old) (state_of self.new) tree
+            T.ReadRow.fits }
     {
         self.key.clear();
         list_run(&mut self.store, tree, &self.key, &mut self.row, alloc)
@@ -88,7 +80,7 @@ impl<S: Store> TreeTables<S> {
             → Commits (S.Store.view self.old.store) (S.Store.view self.new.store)) }
         ensures refused { OnErr result (IsClean (S.Store.view self.new.store)
             → IsUndone (S.Store.view self.old.store) (S.Store.view self.new.store)) }
-        ensures survives { Survives (state S.Store self.old.store) (state S.Store self.new.store)
+        ensures survives { Survives (state_of self.old) (state_of self.new)
             (MayCommit (S.Store.view self.old.store)) }
     {
         self.store.commit()
@@ -98,8 +90,7 @@ impl<S: Store> TreeTables<S> {
     pub fn roll_back(&mut self)
         ensures undone { IsClean (S.Store.view self.new.store)
             → IsUndone (S.Store.view self.old.store) (S.Store.view self.new.store) }
-        ensures survives { Survives (state S.Store self.old.store) (state S.Store self.new.store)
-            (λ trees. ⊥) }
+        ensures survives { Survives (state_of self.old) (state_of self.new) (λ trees. ⊥) }
     {
         self.store.rollback();
     }

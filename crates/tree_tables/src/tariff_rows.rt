@@ -4,6 +4,7 @@ ghost use Rattle.std.specs.Prelude.{◌≡◌, OnOk, Some};
 ghost use Rattle.tree_tables.specs.Columns.{tariff_columns};
 
 use crate::column_values::{day_at, make_row, text_at};
+use crate::columns::{TARIFF_DAY, TARIFF_TEXT};
 use crate::keys::day_key;
 use crate::tables::TreeTables;
 use sqlite_trees::error::StoreError;
@@ -56,26 +57,27 @@ impl ReadRow for StoredTariff {
 
     fn read(row: &Row, alloc: Global) -> Result<StoredTariff, StoreError> {
         Ok(StoredTariff {
-            day: day_at(row, 0)?,
-            body: text_at(row, 1, alloc)?,
+            day: day_at(row, TARIFF_DAY)?,
+            body: text_at(row, TARIFF_TEXT, alloc)?,
         })
     }
 }
 
 impl<S: Store> TreeTables<S> {
     ghost use Rattle.table_model.specs.Steps as step;
+    ghost use Rattle.tree_rows.specs.Runs.{RowsFit};
     ghost use Rattle.tree_tables.specs.Answers.{ListsTariffs};
-    ghost use Rattle.tree_tables.specs.States.{state};
+    ghost use Rattle.tree_tables.specs.States.{state_of};
     ghost use Rattle.tree_tables.specs.Steps.{Always, Does, FailsByStore, Looks};
     ghost use Rattle.std.specs.FinMap.{entries};
     ghost use Rattle.std.specs.Prelude.{map, Some};
     ghost use Rattle.tree_tables.specs.Columns.{tariff_columns};
-    ghost use Rattle.tree_tables.specs.Fits.{RowsFit, TariffFits};
+    ghost use Rattle.tree_tables.specs.Fits.{TariffFits};
 
     /// The text of a tariff is kept under its first day.
     pub fn put_tariff(&mut self, tariff: &TariffText<'_>) -> Result<(), StoreError>
-        ensures does { Does result (state S.Store self.old.store) (state S.Store self.new.store)
-            Always (step.put_tariff_row tariff.now.day (Some tariff.now.body.now)) }
+        ensures does { Does result (state_of self.old) (state_of self.new) Always
+            (step.put_tariff_row tariff.now.day (Some tariff.now.body.now)) }
     {
         day_key(&mut self.key, tariff.day)?;
         tariff_row(&mut self.row, tariff)?;
@@ -90,10 +92,9 @@ impl<S: Store> TreeTables<S> {
 
     /// All tariffs, by their first days.
     pub fn list_tariffs(&mut self, alloc: Global) -> Result<Vec<StoredTariff>, StoreError>
-        ensures looks { Looks result (state S.Store self.old.store) (state S.Store self.new.store)
+        ensures looks { Looks result (state_of self.old) (state_of self.new)
             (λ tables list. ListsTariffs tables list.items) }
-        ensures cause { FailsByStore result (state S.Store self.old.store)
-            (state S.Store self.new.store)
+        ensures cause { FailsByStore result (state_of self.old) (state_of self.new)
             (λ tables. RowsFit TariffFits (map tariff_columns (entries tables.tariffs))) }
     {
         self.list_all(TARIFFS, alloc)

@@ -1,8 +1,7 @@
 use Rattle.std.proofs.Common.{◌∙◌, ap, subst, sym}
 use Rattle.std.specs.List.{AllZip}
-use Rattle.tree_rows.specs.Runs.{run_of}
+use Rattle.tree_rows.specs.Runs.{RowsFit, run_of}
 use Rattle.tree_rows.proofs.Runs.{run_whole}
-use Rattle.tree_tables.specs.Fits.{RowsFit}
 use Rattle.tree_tables.proofs.Looking.{err_so, looks_alone}
 use Rattle.tree_tables.proofs.tables.TreeTables.list_all.Goals as goal
 
@@ -20,7 +19,6 @@ pub returns-clause-cause : goal.returns-clause-cause
 returns-clause-cause g c rows held =
     err_so c.list_run.result c.list_run.ensures.cause (λ error cause clean tables holds fit.
     let trees = (g.S.Store.view c.args.self.now.store).trees in
-    let all = subst (RowsFit g.T.ReadRow.fits)
+    cause clean (subst (RowsFit g.T.ReadRow.fits)
     (sym (ap (λ part. run_of part (trees c.args.tree)) c.clear.ensures
-    ∙ run_whole (trees c.args.tree) ∙ held tables holds)) fit in
-    cause clean all.fit all.few)
+    ∙ run_whole (trees c.args.tree) ∙ held tables holds)) fit))

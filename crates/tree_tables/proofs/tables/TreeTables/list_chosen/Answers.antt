@@ -1,7 +1,7 @@
 use Rattle.std.proofs.Common.{Ok, subst, sym}
-use Rattle.tree_rows.specs.Runs.{run_of}
+use Rattle.tree_rows.specs.Runs.{RowsFit, run_of}
 use Rattle.tree_tables.specs.Answers.{FindsNumbered}
-use Rattle.tree_tables.specs.Fits.{AllNumbered, ChosenFit, HasNumber, RowsFit}
+use Rattle.tree_tables.specs.Fits.{AllNumbered, ChosenFit, HasNumber}
 use Rattle.tree_tables.specs.States.{state}
 use Rattle.tree_tables.specs.Steps.{Looks}
 use Rattle.tree_tables.proofs.ChosenLists.{SayNumbers, chosen_fit, chosen_listed, chosen_numbered}
@@ -40,6 +40,6 @@ returns-in_err-numbers-clause-cause g c =
     err_on _ c.from_residual-in_err-numbers.result c.from_residual-in_err-numbers.ensures.1
     (λ clean tables holds fit.
     let key = c.bytes_key.new.key in
-    let rows = subst (λ rows. RowsFit HasNumber (run_of key rows)) (sym holds.choice_name_index)
-    (chosen_fit tables c.args.name.now key c.in_ok-bytes_key.ensures.made fit) in
-    c.in_err-numbers.ensures.cause clean rows.fit rows.few)
+    c.in_err-numbers.ensures.cause clean
+    (subst (λ rows. RowsFit HasNumber (run_of key rows)) (sym holds.choice_name_index)
+    (chosen_fit tables c.args.name.now key c.in_ok-bytes_key.ensures.made fit)))

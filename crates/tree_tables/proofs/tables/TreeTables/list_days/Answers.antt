@@ -1,5 +1,6 @@
 use Rattle.std.proofs.Common.{◌∙◌, ap, map, subst, sym}
-use Rattle.tree_tables.specs.Fits.{ChargeFits, RowsFit}
+use Rattle.tree_rows.specs.Runs.{RowsFit}
+use Rattle.tree_tables.specs.Fits.{ChargeFits}
 use Rattle.tree_tables.specs.States.{state}
 use Rattle.tree_tables.specs.declared.day_rows.StoredDay.{StoredDay}
 use Rattle.tree_tables.proofs.DayRows.{days_read, days_run}
@@ -26,7 +27,6 @@ pub returns-in_err-days-clause-cause : goal.returns-in_err-days-clause-cause
 returns-in_err-days-clause-cause g c =
     err_on _ c.from_residual-in_err-days.result c.from_residual-in_err-days.ensures.1
     (λ clean tables holds rows.
-    let fit = subst (RowsFit ChargeFits) (sym (days_run c.args.period tables
-    ((g.S.Store.view c.args.self.now.store).trees 4) c.period_key.new.key holds.days
-    c.in_ok-period_key.ensures.made)) rows in
-    c.in_err-days.ensures.cause clean fit.fit fit.few)
+    c.in_err-days.ensures.cause clean (subst (RowsFit ChargeFits) (sym (days_run c.args.period
+    tables ((g.S.Store.view c.args.self.now.store).trees 4) c.period_key.new.key holds.days
+    c.in_ok-period_key.ensures.made)) rows))

@@ -1,7 +1,7 @@
 use Rattle.std.proofs.Common.{Ok, subst, sym}
-use Rattle.tree_rows.specs.Runs.{run_of}
+use Rattle.tree_rows.specs.Runs.{RowsFit, run_of}
 use Rattle.tree_tables.specs.Answers.{FindsNamed}
-use Rattle.tree_tables.specs.Fits.{AllNamed, EndsInName, RecordsFit, RowsFit}
+use Rattle.tree_tables.specs.Fits.{AllNamed, EndsInName, RecordsFit}
 use Rattle.tree_tables.specs.States.{state}
 use Rattle.tree_tables.specs.Steps.{Looks}
 use Rattle.tree_tables.proofs.IdentityLooks.{sharing_fit, sharing_listed, sharing_named}
@@ -41,6 +41,6 @@ returns-in_err-names-clause-cause g c =
     err_on _ c.from_residual-in_err-names.result c.from_residual-in_err-names.ensures.1
     (λ clean tables holds fit.
     let key = c.bytes_key.new.key in
-    let rows = subst (λ rows. RowsFit EndsInName (run_of key rows)) (sym holds.identity_index)
-    (sharing_fit tables c.args.identity.now key c.in_ok-bytes_key.ensures.made fit) in
-    c.in_err-names.ensures.cause clean rows.fit rows.few)
+    c.in_err-names.ensures.cause clean
+    (subst (λ rows. RowsFit EndsInName (run_of key rows)) (sym holds.identity_index)
+    (sharing_fit tables c.args.identity.now key c.in_ok-bytes_key.ensures.made fit)))

@@ -1,7 +1,7 @@
 use Rattle.std.proofs.Common.{Ok, subst, sym}
-use Rattle.tree_rows.specs.Runs.{run_of}
+use Rattle.tree_rows.specs.Runs.{RowsFit, run_of}
 use Rattle.tree_tables.specs.Answers.{FindsNamed}
-use Rattle.tree_tables.specs.Fits.{AllNamed, EndsInName, RecordsFit, RowsFit}
+use Rattle.tree_tables.specs.Fits.{AllNamed, EndsInName, RecordsFit}
 use Rattle.tree_tables.specs.States.{state}
 use Rattle.tree_tables.specs.Steps.{Looks}
 use Rattle.tree_tables.proofs.Looking.{err_on, err_so, fails_after_look, looks_after_look, looks_found}
@@ -38,6 +38,6 @@ returns-in_err-names-clause-cause g c =
     err_on _ c.from_residual-in_err-names.result c.from_residual-in_err-names.ensures.1
     (λ clean tables holds fit.
     let key = c.number_key.new.key in
-    let rows = subst (λ rows. RowsFit EndsInName (run_of key rows)) (sym holds.marks)
-    (marks_fit tables fit key c.in_ok-number_key.ensures.made) in
-    c.in_err-names.ensures.cause clean rows.fit rows.few)
+    c.in_err-names.ensures.cause clean
+    (subst (λ rows. RowsFit EndsInName (run_of key rows)) (sym holds.marks)
+    (marks_fit tables fit key c.in_ok-number_key.ensures.made)))
