@@ -46,9 +46,10 @@ use Rattle.table_model.proofs.ListLemmas.{period_held}
 use Rattle.table_model.proofs.ListOrder.{all_joined}
 use Rattle.table_model.proofs.PriceSums.{costs, given_few, some_within}
 use Rattle.table_model.proofs.RecordReading.{entry_at, every_row}
+use Rattle.tree_rows.specs.Runs.{RowsFit}
 use Rattle.tree_tables.specs.Answers.{ListsSharing, ListsUncharged, is_uncharged}
 use Rattle.tree_tables.specs.Columns.{day_columns, line_columns, record_columns}
-use Rattle.tree_tables.specs.Fits.{ChargeFits, DaysFit, LineFits, LinesFit, RecordFits, RowsFit}
+use Rattle.tree_tables.specs.Fits.{ChargeFits, DaysFit, LineFits, LinesFit, RecordFits}
 use Rattle.tree_tables.specs.Stored.{stored_entry}
 use Rattle.tree_tables.specs.declared.stored_record.StoredRecord.{StoredRecord}
 use Rattle.tree_tables.proofs.Layouts.{day_layout, record_layout}

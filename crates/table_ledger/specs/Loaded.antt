@@ -18,9 +18,10 @@ use Rattle.table_model.specs.Tables.{Tables, first_rule, never_adopted}
 use Rattle.table_model.specs.TablesOf.{close_entries, tables_of}
 use Rattle.table_model.specs.BookIn.{rulings_of_tables, tariff_read}
 use Rattle.table_model.specs.Readable.{HasTexts, IsReadable}
+use Rattle.tree_rows.specs.Runs.{RowsFit}
 use Rattle.tree_tables.specs.Answers.{last_number}
 use Rattle.tree_tables.specs.Columns.{closed_columns, tariff_columns}
-use Rattle.tree_tables.specs.Fits.{CloseFits, RowsFit, TariffFits}
+use Rattle.tree_tables.specs.Fits.{CloseFits, TariffFits}
 use Rattle.tree_tables.specs.Holds.{Holds}
 use Rattle.tree_tables.specs.Steps.{Sees}
 use Rattle.tree_tables.specs.Stored.{close_entry, tariff_of}
