@@ -15,7 +15,7 @@ use Rattle.book_import.specs.declared.receipt.Stop.TheVariants.{End}
 use Rattle.book_import.specs.Dumps.{stop_after, frame_stop}
 use Rattle.book_import.specs.Receipts.{receipt_stopped}
 use Rattle.book_import.specs.Imports.{Imports}
-use Rattle.book_import.specs.Pieces.{LeadsTo, FollowsRecords, StopsAt, HandlesPiece, TakesAll}
+use Rattle.book_import.specs.Pieces.{LeadsTo, FollowsRecords, StopsAt, BooksPiece, TakesAll}
 use Rattle.book_import.proofs.ImportLemmas.{all_handled, none_yet}
 use Rattle.book_import.proofs.FeedLemmas.{HasPassed, holds_here, passed_more, stop_is}
 use Rattle.book_import.proofs.PieceLemmas.{behind_done}
@@ -68,8 +68,7 @@ module _ (begins now : Seen) (receipt : Receipt) {layout : Layout} {bytes : List
   -- one more piece
   pub joins_more : {new : Joining} {piece : List ℕ} (next : Seen) (later : Receipt)
       → TakesAll joiner piece new
-      → ((text : List ℕ) → HasTaken text joiner → IsTransition now next
-      (HandlesPiece now.naming joiner.layout text piece receipt later None))
+      → BooksPiece now next joiner piece receipt later None
       → HasPassed layout (bytes ++ piece) new (LeadsFrom begins next later)
   joins_more {piece = piece} next later taken handled =
       passed_more joins taken
@@ -78,8 +77,7 @@ module _ (begins now : Seen) (receipt : Receipt) {layout : Layout} {bytes : List
 
   -- the import was stopped in a piece, whatever bytes follow it
   pub joins_stopped_before : (next : Seen) (piece : List ℕ) (later told : Receipt) (stop : Stop)
-      → ((text : List ℕ) → HasTaken text joiner → IsTransition now next
-      (HandlesPiece now.naming joiner.layout text piece receipt later (Some stop)))
+      → BooksPiece now next joiner piece receipt later (Some stop)
       → told ≡ record later { stop = stop } → (more : List ℕ) (cut : Option Stop)
       → IsTransition begins next (Imports begins.naming layout cut ((bytes ++ piece) ++ more) told)
   joins_stopped_before next piece later told stop handled so more cut =
@@ -92,8 +90,7 @@ module _ (begins now : Seen) (receipt : Receipt) {layout : Layout} {bytes : List
 
   -- the import was stopped in the last piece
   pub joins_stopped : (next : Seen) (piece : List ℕ) (later told : Receipt) (stop : Stop)
-      → ((text : List ℕ) → HasTaken text joiner → IsTransition now next
-      (HandlesPiece now.naming joiner.layout text piece receipt later (Some stop)))
+      → BooksPiece now next joiner piece receipt later (Some stop)
       → told ≡ record later { stop = stop } → (cut : Option Stop)
       → IsTransition begins next (Imports begins.naming layout cut (bytes ++ piece) told)
   joins_stopped next piece later told stop handled so cut =

@@ -4,7 +4,8 @@ use Rattle.std.specs.Prelude.{◌≡◌, ℕ, ◌+◌, ◌≤◌, Bool, true, fa
 use Rattle.std.specs.Prelude.{Some, None}
 use Rattle.smf_frames.specs.declared.dump.Layout.{Layout}
 use Rattle.book_model.specs.Words.{front, Joining, HasTaken, Naming, Book, Event, after_all}
-use Rattle.book_core.specs.Transition.{Transition}
+use Rattle.book_core.specs.Ledgers.{Seen}
+use Rattle.book_core.specs.Transition.{IsTransition, Transition}
 use Rattle.book_import.specs.declared.receipt.Receipt.{Receipt}
 use Rattle.book_import.specs.declared.receipt.Stop.{Stop}
 use Rattle.book_import.specs.Receipts.{counted}
@@ -45,6 +46,12 @@ HandlesPiece naming layout text piece old new None = FollowsRecords naming (fron
 HandlesPiece naming layout text piece old new (Some stop) =
     FollowsRecords naming (front layout text).records old
     (StopsAt naming layout (text ++ piece) (record new { stop = stop }))
+
+-- the records that a piece completes in a joiner were submitted to a ledger: whatever text the
+-- joiner took before it, the piece was handled so
+abbrev pub BooksPiece : Seen → Seen → Joining → List ℕ → Receipt → Receipt → Option Stop → Type 0
+BooksPiece old new joiner piece was told result = (text : List ℕ) → HasTaken text joiner
+    → IsTransition old new (HandlesPiece old.naming joiner.layout text piece was told result)
 
 -- each record that a piece completes after a text was counted; or the import was stopped early
 abbrev pub CountsPiece : Layout → List ℕ → List ℕ → Receipt → Receipt → Option Stop → Type 0

@@ -1,10 +1,9 @@
-ghost use Rattle.std.specs.Prelude.{◌≡◌, ◌+◌, ◌≤◌, ◌^◌, ℕ, List, None, drop, false, take};
+ghost use Rattle.std.specs.Prelude.{◌≡◌, ◌+◌, ◌≤◌, ◌^◌, None, drop, false, take};
 ghost use Rattle.streams.specs.Sources.{reader_of, reads_of, has_failed, has_ended};
 ghost use Rattle.streams.specs.AnswerFlags.{NothingUnread};
 ghost use Rattle.streams.specs.InputOutput.{input};
 ghost use Rattle.book_core.specs.Transition.{IsTransition};
-ghost use Rattle.book_import.specs.Imports.{Imports};
-ghost use Rattle.book_import.specs.Reach.{IsReadFor};
+ghost use Rattle.book_import.specs.Imports.{BooksInput, Imports};
 ghost use Rattle.book_import.specs.ReadLimits.{cut_of, most_reads, piece_length};
 
 use crate::pieces::import_piece;
@@ -31,12 +30,9 @@ pub fn import<R: Read + Drop, L: Ledger>(
     requires ended { has_ended source.old ≡ false }
     requires reads { reads ≤ most_reads }
 
-    // These bytes were taken from the reader, up to the stop and no further, and booked. If the
-    // source has ended, they are all the bytes of a reader that shows its bytes.
-    ensures booked { (bytes : List ℕ)
-        × IsReadFor layout reads bytes result (input R.remaining source.old source.new)
-        × IsTransition (L.seen ledger.old) (L.seen ledger.new)
-        (Imports (L.seen ledger.old).naming layout (cut_of source.new) bytes result) }
+    // The bytes that came were booked, up to the stop and no further.
+    ensures booked { BooksInput layout reads (L.seen ledger.old) (L.seen ledger.new)
+        (cut_of source.new) (input R.remaining source.old source.new) result }
     ensures left { NothingUnread
         (has_ended source.new) (R.remaining (reader_of source.new)) }
     ensures asked { reads_of source.new ≤ reads_of source.old + reads }

@@ -4,7 +4,7 @@ ghost use Rattle.std.specs.Prelude.{◌≡◌, ◌+◌, ◌<◌, ◌≤◌, ◌^
 ghost use Rattle.book_model.specs.Words.{IsUsageRecord};
 ghost use Rattle.book_core.specs.Submissions.{records_in};
 ghost use Rattle.book_core.specs.Transition.{IsTransition};
-ghost use Rattle.book_import.specs.Groups.{Asks, HandlesGroup, IsGroup, left_in};
+ghost use Rattle.book_import.specs.Groups.{Asks, BooksGroup, IsGroup, left_in};
 ghost use Rattle.book_import.specs.Receipts.{counted};
 
 use crate::group::Group;
@@ -45,9 +45,8 @@ pub(crate) fn handle_group<L: Ledger>(
 ) -> Result<(), LedgerFault>
     requires stands { (records : List (List ℕ)) × IsGroup records group.now }
     requires few { counted receipt.old + length group.now.classes.items < 2 ^ 63 }
-    ensures handled { (records first : List (List ℕ)) → IsGroup records group.now
-        → IsTransition (L.seen ledger.old) (L.seen ledger.new)
-        (HandlesGroup (L.seen ledger.old).naming first records receipt.old receipt.new result) }
+    ensures handled { BooksGroup (L.seen ledger.old) (L.seen ledger.new) group.now receipt.old
+        receipt.new result }
     ensures counted { counted receipt.new ≤ counted receipt.old + length group.now.classes.items }
     ensures more { counted receipt.old ≤ counted receipt.new }
     ensures all { OnOk result (counted receipt.new
