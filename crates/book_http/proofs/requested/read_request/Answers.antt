@@ -35,7 +35,7 @@ returns-in-Ok-clause-asks g c =
     let request = c.request_in-request in
     head_then head.1.is_head c.in-Whole.ensures.reads
     (rw request.ensures.behind at
-    c.in-Ok.ensures.asks head.0 (request.ensures.says head.0 head.1.parts))
+    (c.in-Ok.ensures.asks head.0 (request.ensures.says head.0 head.1.parts)))
     (λ came asking.
     head_asking ended front behind came head.0 c.in-Ok.requested head.1.is_head asking)
 
@@ -45,5 +45,5 @@ returns-in_default-clause-asks g c =
     let request = c.request_in-request in
     head_then head.1.is_head c.in-Whole.ensures.reads
     (rw request.ensures.behind at
-    c.in_default.ensures.asks head.0 (request.ensures.says head.0 head.1.parts))
+    (c.in_default.ensures.asks head.0 (request.ensures.says head.0 head.1.parts)))
     (λ came failed. tt)
