@@ -15,7 +15,7 @@ use Rattle.tree_rows.proofs.Calls.{only_looks, kept_after_look}
 use Rattle.tree_tables.specs.Holds.{Holds}
 use Rattle.tree_tables.specs.States.{State, HasCleanDisk, Survives}
 use Rattle.tree_tables.specs.Steps.{Does, KeepsLastCommit, Looks}
-use Rattle.tree_tables.proofs.Looking.{does_err, only_both}
+use Rattle.tree_tables.proofs.Looking.{does_err, kept_last, only_both}
 use Rattle.table_ledger.specs.Attempts.{LeavesOpen}
 use Rattle.table_ledger.specs.Commits.{Saw}
 use Rattle.table_ledger.specs.Ready.{Remembers}
@@ -24,7 +24,7 @@ use Rattle.table_ledger.specs.declared.summary.Summary.{Summary}
 use Rattle.table_model.proofs.ReadableStays.{readable_stays}
 use Rattle.table_ledger.proofs.Remembered.{remembers_as}
 use Rattle.table_ledger.proofs.SurvivalLemmas.{clean_before, survives_then}
-use Rattle.table_ledger.proofs.UnchangedStores.{holds_on, stands_kept, trees_same}
+use Rattle.table_ledger.proofs.UnchangedStores.{holds_on, trees_same}
 
 -- looks, and then steps, which may rest on what was seen
 pub does_seen : {T : Type 0} {old middle new : State} {Known When : Tables → Type 0}
@@ -93,7 +93,7 @@ module _ {V T : Type 0} {answered : T → Result V LedgerFault}
       → StagesBy written answered Made Leaves naming was Is old new staged
   stage_refused staged failed saw looks =
       unstaged staged failed (survives_then saw.survives looks.survives) (λ clean book at.
-      stands_kept (kept_after_look (saw.seen (clean_before looks.survives clean)).same
+      kept_last (kept_after_look (saw.seen (clean_before looks.survives clean)).same
       (looks.refused clean)))
 
   -- or the steps after looks.
@@ -103,7 +103,7 @@ module _ {V T : Type 0} {answered : T → Result V LedgerFault}
       → StagesBy written answered Made Leaves naming was Is old new staged
   stage_undone staged failed saw does =
       unstaged staged failed (survives_then saw.survives does.survives) (λ clean book at.
-      stands_kept (kept_after_look (saw.seen (clean_before does.survives clean)).same
+      kept_last (kept_after_look (saw.seen (clean_before does.survives clean)).same
       (does.refused clean)))
 
   -- What was staged is answered, and this summary remembers the book.

@@ -11,7 +11,7 @@ use Rattle.table_model.specs.TablesOf.{tables_of}
 use Rattle.tree_tables.specs.Holds.{Holds}
 use Rattle.tree_tables.specs.States.{State}
 use Rattle.tree_tables.specs.Steps.{Changes, Does}
-use Rattle.tree_tables.proofs.Looking.{only_both}
+use Rattle.tree_tables.proofs.Looking.{kept_last, only_both}
 use Rattle.table_ledger.specs.Premises.{HaveSums}
 use Rattle.table_ledger.specs.Stages.{IsAt, IsAtAs, StagesBy}
 use Rattle.table_ledger.specs.declared.summary.Summary.{Summary}
@@ -19,7 +19,7 @@ use Rattle.table_ledger.proofs.Remembered.{remembers_as}
 use Rattle.table_ledger.proofs.StageLemmas.{unstaged}
 use Rattle.table_ledger.proofs.StepLemmas.{stands_only}
 use Rattle.table_ledger.proofs.SurvivalLemmas.{clean_before, survives_then}
-use Rattle.table_ledger.proofs.UnchangedStores.{stands_kept, stands_then}
+use Rattle.table_ledger.proofs.UnchangedStores.{stands_then}
 
 -- sums that are these already are not written again
 pub sums_there : (held amount : ℕ) (tables : Tables) → HaveSums held amount tables
@@ -90,7 +90,7 @@ module _ {V : Type 0} {Made : Result V LedgerFault → Book → List Event → T
   sums_refused staged failed stages does =
       unstaged staged failed (survives_then stages.survives does.survives) (λ clean book at.
       let staged = stages.found (clean_before does.survives clean) book (sums_remembered at) in
-      stands_then (stands_only old.view middle.view staged.only) (stands_kept (does.refused clean)))
+      stands_then (stands_only old.view middle.view staged.only) (kept_last (does.refused clean)))
 
   -- they are written
   pub sums_staged : {T : Type 0} {done : T} {new : State} {answer : Result V LedgerFault}

@@ -13,12 +13,13 @@ use Rattle.tree_rows.specs.Rows.{IsUnchanged}
 use Rattle.tree_tables.specs.States.{HasCleanDisk, State, Survives}
 use Rattle.tree_tables.specs.Steps.{KeepsLastCommit, Looks}
 use Rattle.tree_rows.proofs.Calls.{kept_after_look, unchanged_both}
+use Rattle.tree_tables.proofs.Looking.{kept_last}
 use Rattle.table_ledger.specs.Commits.{Saw}
 use Rattle.table_ledger.specs.Ready.{IsReadyAt, IsStoredIn, Remembers}
 use Rattle.table_ledger.specs.Attempts.{LeavesOpen}
 use Rattle.table_ledger.specs.Stages.{AttemptsBy, AttemptsOne, IsAt, IsStoredAs, MayKeepBy}
 use Rattle.table_ledger.specs.declared.summary.Summary.{Summary}
-use Rattle.table_ledger.proofs.UnchangedStores.{holds_on, rest_on, stands_kept, stands_same}
+use Rattle.table_ledger.proofs.UnchangedStores.{holds_on, rest_on, stands_same}
 use Rattle.table_ledger.proofs.UnchangedStores.{trees_same}
 use Rattle.table_ledger.proofs.SurvivalLemmas.{clean_before, survives_both, survives_none}
 use Rattle.table_ledger.proofs.SurvivalLemmas.{survives_so, survives_then}
@@ -154,6 +155,6 @@ module _ {V : Type 0} {Made : Result V LedgerFault → Book → List Event → T
       untried tried failed
       (survives_both saw.survives looks.survives (λ clean trees none. absurd none)
       (λ clean trees none. absurd none))
-      (λ clean book ready. stands_kept (kept_after_look
+      (λ clean book ready. kept_last (kept_after_look
       (saw.seen (clean_before looks.survives clean)).same (looks.refused clean)))
       (λ book same. same)

@@ -6,6 +6,7 @@ use Rattle.tree_rows.specs.Rows.{IsUnchanged}
 use Rattle.tree_rows.proofs.Calls.{kept_same}
 use Rattle.tree_tables.specs.Holds.{Holds}
 use Rattle.tree_tables.specs.Steps.{KeepsLastCommit}
+use Rattle.tree_tables.proofs.Looking.{kept_last}
 use Rattle.table_ledger.specs.Commits.{IsAtRest}
 
 -- the trees are those from before
@@ -26,13 +27,9 @@ rest_on old new same rest = record {
   settled = trees_same old new same ∙ rest.settled ∙ sym (ap (λ (v : View). v.committed) same);
 }
 
--- the last commit stays if a call says so,
-pub stands_kept : {old new : View} → KeepsCommitted old new → KeepsLastCommit old new
-stands_kept kept = record { was_open = kept.was_open; committed = kept.committed }
-
--- if nothing is changed,
+-- the last commit stays if nothing is changed,
 pub stands_same : (old new : View) → IsUnchanged old new → KeepsLastCommit old new
-stands_same old new same = stands_kept (kept_same same)
+stands_same old new same = kept_last (kept_same same)
 
 -- also if nothing is done,
 pub stands_still : (view : View) → KeepsLastCommit view view
