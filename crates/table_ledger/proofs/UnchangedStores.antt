@@ -1,6 +1,6 @@
 -- What stays of a store after calls that change nothing.
 use Rattle.std.proofs.Common.{◌≡◌, ◌∙◌, refl, sym, ap, subst}
-use Rattle.sqlite_trees.specs.View.{View, KeepsCommitted}
+use Rattle.sqlite_trees.specs.View.{View}
 use Rattle.table_model.specs.Tables.{Tables}
 use Rattle.tree_rows.specs.Rows.{IsUnchanged}
 use Rattle.tree_rows.proofs.Calls.{kept_same}
