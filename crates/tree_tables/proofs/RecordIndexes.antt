@@ -1,5 +1,5 @@
 -- The rows of records, and of the two trees that find them, where a record is new or changed.
-use Rattle.std.proofs.Common.{◌≡◌, ℕ, List, Bool, true, false, cond, None, Some, refl, sym, ap, ap₂}
+use Rattle.std.proofs.Common.{◌≡◌, ℕ, List, cond, None, Some, refl, sym, ap, ap₂}
 use Rattle.std.proofs.Common.{◌∙◌}
 use Rattle.std.specs.FinMap.{FinMap, get, insert, remove, get-remove}
 use Rattle.std.specs.Cmp.Lexicographic.{nat_list_cmp_total}
