@@ -1,7 +1,6 @@
 //! Records that are submitted.
 
-ghost use Rattle.std.specs.Prelude.{◌≡◌, ◌<◌, Ok, Err, [], if◌then◌else◌, All, IfOk, OnErr, OnOk};
-ghost use Rattle.std.specs.Prelude.{length};
+ghost use Rattle.std.specs.Prelude.{◌≡◌, ◌<◌, Ok, Err, [], if◌then◌else◌, All, IfOk, length};
 ghost use Rattle.tree_tables.specs.States.{state_of};
 ghost use Rattle.book_model.specs.Words.{data_of, accept_outcome, IsUsageRecord, record_with};
 ghost use Rattle.book_model.specs.Words.{same_bytes};
@@ -11,7 +10,6 @@ ghost use Rattle.book_core.specs.Submissions.{records_in};
 ghost use Rattle.table_model.specs.Steps.{count_where_row, set_sums};
 ghost use Rattle.tree_tables.specs.Steps.{Does};
 ghost use Rattle.tree_tables.specs.Stored.{IsFree, IsUncounted, new_entry};
-ghost use Rattle.table_ledger.specs.Commits.{CommitsWritten};
 ghost use Rattle.table_ledger.specs.Premises.{AreRemembered};
 ghost use Rattle.table_ledger.specs.Stages.{AttemptsMany, AttemptsOne, KeepsRulings, Stages};
 ghost use Rattle.table_ledger.specs.Stages.{StagesFirst, StagesMany, StagesRecord, staged_at};
@@ -214,29 +212,6 @@ fn stage_many<S: Store, N: Naming>(
     Ok(Ok(answers))
 }
 
-/// Commits what was staged. Where that fails it is rolled back, and the sums are again those that
-/// were before it.
-fn commit_staged<S: Store, T: Drop>(
-    tables: &mut TreeTables<S>,
-    summary: &mut Summary,
-    held: usize,
-    total: u64,
-    staged: Result<T, StoreError>,
-) -> Result<T, StoreError>
-    ensures commits { CommitsWritten S.Store staged result tables.old.store tables.new.store }
-    ensures kept { OnOk result (summary.new ≡ summary.old) }
-    ensures back { OnErr result (summary.new ≡ record summary.old { held = held; total = total }) }
-{
-    match commit_written(tables, staged) {
-        Ok(answer) => Ok(answer),
-        Err(error) => {
-            summary.held = held;
-            summary.total = total;
-            Err(error)
-        }
-    }
-}
-
 /// Submits records, in order, as one commit, up to the first that is refused.
 pub(crate) fn try_accept_many<S: Store, N: Naming>(
     tables: &mut TreeTables<S>,
@@ -251,9 +226,18 @@ pub(crate) fn try_accept_many<S: Store, N: Naming>(
         summary.new (state_of tables.old) (state_of tables.new) result }
     ensures some { IfOk result (λ answer. IfOk answer (λ answers. 0 < length answers.items)) }
 {
-    let (held, total) = (summary.held, summary.total);
+    let held = summary.held;
+    let total = summary.total;
     let staged = stage_many(tables, alloc, naming, summary, records);
-    commit_staged(tables, summary, held, total, staged)
+    match commit_written(tables, staged) {
+        Ok(answer) => Ok(answer),
+        Err(error) => {
+            // What was written is rolled back.
+            summary.held = held;
+            summary.total = total;
+            Err(error)
+        }
+    }
 }
 
 /// Submits a record as one commit.
@@ -269,7 +253,16 @@ pub(crate) fn try_accept<S: Store, N: Naming>(
         summary.new (state_of tables.old) (state_of tables.new)
         (accept_outcome (N.name_of naming.now) bytes.now) result }
 {
-    let (held, total) = (summary.held, summary.total);
+    let held = summary.held;
+    let total = summary.total;
     let staged = stage_record(tables, alloc, naming, summary, bytes);
-    commit_staged(tables, summary, held, total, staged)
+    match commit_written(tables, staged) {
+        Ok(answer) => Ok(answer),
+        Err(error) => {
+            // What was written is rolled back.
+            summary.held = held;
+            summary.total = total;
+            Err(error)
+        }
+    }
 }
