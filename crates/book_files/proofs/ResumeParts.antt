@@ -2,7 +2,7 @@
 use Rattle.std.proofs.Common.{◌≡◌, ◌∙◌, Bool, true, false, IsTrue, List, Option, None, Some, Result, Ok}
 use Rattle.std.proofs.Common.{Err, length, ap, inl, inr, is_some, subst, sym, true≢false}
 use Rattle.std.proofs.lemmas.List.{length-map}
-use Rattle.std.specs.Prelude.{IfOk, IsErr}
+use Rattle.std.specs.Prelude.{IfOk}
 use Rattle.std.specs.Option.{option_map}
 use Rattle.sqlite_trees.specs.Tree.{Trees}
 use Rattle.sqlite_trees.specs.View.{View, IsClean}
@@ -29,14 +29,6 @@ use Rattle.book_files.specs.Causes.{IsResumed}
 use Rattle.book_files.specs.NewBooks.{IsEmpty, LeavesNew}
 use Rattle.book_files.specs.Stores.{StopKeepsBook, StopLeaves}
 use Rattle.book_files.specs.Unused.{SaysUnused, are_unused, unused_by}
-
--- a look that is refused
-pub looks_failed : {A B : Type 0} {old new : State} {Answers : Tables → A → Type 0}
-    {Others : Tables → B → Type 0} {error : StoreError} (result : Result A StoreError)
-    → IsErr result → Looks {A = B} (Err error) old new Others → Looks result old new Answers
-looks_failed (Err other) failed looks =
-    record { survives = looks.survives; found = λ clean. tt; refused = looks.refused }
-looks_failed (Ok value) failed looks = absurd (true≢false (sym failed))
 
 -- no tables are without the row of their book
 pub never_absent : (tables : Tables) (found : Option StoredBook) → found ≡ None

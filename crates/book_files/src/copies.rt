@@ -11,31 +11,11 @@ ghost use Rattle.book_restarts.specs.FileBooks.{file_names};
 use crate::books::visit_and_close;
 use crate::repository::refused;
 use crate::session::Ended;
-use book_core::{Ledger, LedgerFault};
+use book_core::LedgerFault;
 use book_trees::{LookFault, copy_to, lock_at};
-use office::{RepositoryFault, Visit};
+use office::{Look, RepositoryFault, Visit};
 use sqlite_disk::{Disk, Files, Start};
 use sqlite_std_file::FileFrom;
-
-/// A visit that asks the books nothing.
-#[derive(Drop)]
-struct Look;
-
-impl Visit for Look {
-    ghost use Rattle.book_core.specs.Transition.{NoEvent};
-    ghost use Rattle.book_core.proofs.FollowLemmas.{none_answered};
-
-    /// They were opened.
-    type Answer = ();
-
-    ghost work = { λ _ _ _ _. NoEvent };
-
-    ghost comes = { λ _ _ _. Unit {0} };
-
-    ghost answered = { λ naming _ _ _. none_answered naming };
-
-    fn visit<L: Ledger>(&mut self, _books: &mut L) {}
-}
 
 /// Why there is no copy of books.
 #[derive(Clone, Copy)]

@@ -4,7 +4,8 @@ use Rattle.table_ledger.specs.Loaded.{CanBeListed}
 use Rattle.tree_tables.proofs.Looking.{err_on, fails_after_look, looks_after_look, looks_so}
 use Rattle.tree_tables.proofs.Looking.{survives_both, was_clean}
 use Rattle.book_files.specs.Unused.{unused_by}
-use Rattle.book_files.proofs.ResumeParts.{looks_failed, looks_unused, never_absent, says_unused}
+use Rattle.table_ledger.proofs.Refusals.{looks_failed}
+use Rattle.book_files.proofs.ResumeParts.{looks_unused, never_absent, says_unused}
 use Rattle.book_files.proofs.books.are_new.Goals as goal
 
 pub returns-in_err-book-clause-looks : goal.returns-in_err-book-clause-looks
