@@ -1,14 +1,22 @@
 -- The rows of closes, one after the other.
-use Rattle.std.proofs.Common.{◌≡◌, ◌∙◌, ◌++◌, ◌∷◌, [], List, Option, Some, None, map, length}
-use Rattle.std.proofs.Common.{ap, arith, sym, true}
-use Rattle.std.specs.Prelude.{ℤ, ◌+◌, ◌<ℤ◌, MatchOption, int_lt}
+use Rattle.std.proofs.Common.{◌≡◌, ◌∙◌, ◌++◌, ◌∷◌, [], ℕ, suc, List, Option, Some, None, map, length}
+use Rattle.std.proofs.Common.{ap, arith, cond, false, not, refl, sym, true}
+use Rattle.std.specs.Prelude.{ℤ, ◌+◌, ◌<ℤ◌, MatchOption, int_lt, nat_lt}
+use Rattle.std.specs.List.{AllByRecursion, last_or}
+use Rattle.std.specs.List.Sorted.{IsStrictlySortedBy}
 use Rattle.std.specs.Option.{option_map_or}
+use Rattle.std.specs.Ordering.{int_cmp}
+use Rattle.std.specs.declared.cmp.Ordering.TheVariants.{Less}
+use Rattle.std.proofs.lemmas.Bool.Decides.{nat_tests}
 use Rattle.std.proofs.lemmas.Int.{ints}
 use Rattle.std.proofs.lemmas.List.{map-append}
 use Rattle.sqlite_value.specs.Order.{Row}
+use Rattle.consistent_tables.specs.DueRows.{period_from}
 use Rattle.table_model.specs.TablesOf.{close_entries}
+use Rattle.table_model.proofs.CloseOrder.{earlier}
 use Rattle.table_model.proofs.UnderNumbers.{one_more}
 use Rattle.tree_tables.specs.Columns.{closed_columns}
+use Rattle.book_audit.specs.Days.{is_closed}
 
 -- one row more
 pub closes_pushed : (days : List ℤ) (period : _) (day : ℤ) (row : Row)
@@ -25,3 +33,41 @@ pub is_later : (last : Option ℤ) (day : ℤ) → option_map_or (λ one. int_lt
     → MatchOption last (Unit {0}) (λ one. one <ℤ day)
 is_later None day later = tt
 is_later (Some one) day later = grind (arith, ints)
+
+-- where a day is not after one close, it is not after the last of later ones
+last_late : (through day : ℤ) (closes : List ℤ)
+    → AllByRecursion (λ (later : ℤ). int_cmp through later ≡ Less) closes
+    → IsStrictlySortedBy int_cmp closes → int_lt through day ≡ false
+    → option_map_or (λ last. int_lt last day) (last_or (Some through) closes) true ≡ false
+unfolding IsStrictlySortedBy
+last_late through day [] above rising early = early
+last_late through day (next ∷ closes) above rising early =
+    let less = earlier through next above.0 in
+    let its : int_lt next day ≡ false = grind (arith, ints) in
+    last_late next day closes rising.0 rising.1 its
+
+-- a day is closed where its period is before the open one
+pub closed_before : (n : ℕ) (closes : List ℤ) (day : ℤ) → IsStrictlySortedBy int_cmp closes
+    → is_closed closes day ≡ nat_lt (period_from n closes day) (n + length closes)
+unfolding IsStrictlySortedBy
+closed_before n [] day rising = grind (arith, nat_tests)
+closed_before n (through ∷ closes) day rising =
+    elim (int_lt through day) as (λ b. int_lt through day ≡ b
+    → is_closed (through ∷ closes) day
+    ≡ nat_lt (cond b (period_from (n + 1) closes day) n) (n + suc (length closes))) [
+      | true ↦ λ late. by closes rising late ∙ closed_before (n + 1) closes day rising.1
+          ∙ ap (nat_lt (period_from (n + 1) closes day)) (one_later n (length closes))
+      | false ↦ λ early. ap not (last_late through day closes rising.0 rising.1 early)
+          ∙ sym (below n (length closes))
+    ] refl
+  where
+    by : (closes : List ℤ) → IsStrictlySortedBy int_cmp (through ∷ closes) → int_lt through day ≡ true
+        → is_closed (through ∷ closes) day ≡ is_closed closes day
+    by [] rising late = ap not late
+    by (next ∷ closes) rising late = refl
+
+    one_later : (n m : ℕ) → (n + 1) + m ≡ n + suc m
+    one_later n m = omega arith
+
+    below : (n m : ℕ) → nat_lt n (n + suc m) ≡ true
+    below n m = grind (arith, nat_tests)

@@ -2,11 +2,12 @@
 use Rattle.std.proofs.Common.{◌≡◌, ◌<◌, ◌-◌, ◌∙◌, ◌&&◌, ◌∷◌, [], ℕ, zero, suc, Bool, true, false, not, cond, List, Option, Some, None}
 use Rattle.std.proofs.Common.{is_some, length, map, pos, ap, ap₂, arith, refl, subst, sym, ◌==◌}
 use Rattle.std.specs.Prelude.{IfSome, filter, take_while}
-use Rattle.std.specs.FinMap.{FinMap, entries, get}
+use Rattle.std.specs.FinMap.{FinMap, entries, get, get-entries}
 use Rattle.std.specs.Option.{option_map_or}
 use Rattle.std.specs.Ordering.{eq_by_cmp, is_eq}
 use Rattle.std.proofs.lemmas.Map.Views.{tells_apart}
 use Rattle.std.proofs.lemmas.Bool.Decides.{nat_tests}
+use Rattle.std.proofs.lemmas.Cmp.{nat_list_eq_equiv}
 use Rattle.std.proofs.lemmas.List.{length-map}
 use Rattle.std.proofs.lemmas.List.Sums.{take_while-cons}
 use Rattle.std.specs.declared.cmp.Ordering.{Ordering}
@@ -17,7 +18,7 @@ use Rattle.sqlite_value.specs.declared.value.Value.TheVariants.{Blob, Int}
 use Rattle.table_model.specs.Tables.{RecordRow, Tables}
 use Rattle.table_model.specs.Views.{rows_with}
 use Rattle.consistent_tables.specs.Consistent.{AreInTurn, charged_back, line_at, ruled}
-use Rattle.book_model.specs.Words.{open_by}
+use Rattle.book_model.specs.Words.{open_by, same_bytes}
 use Rattle.tree_rows.specs.Indexes.{IsIndexKey, by_bytes, index_of, indexed_by}
 use Rattle.tree_rows.specs.Layouts.{Answers, Layout, rows_of}
 use Rattle.tree_rows.specs.Rows.{Finds, IsFirst, past_key}
@@ -31,12 +32,14 @@ use Rattle.book_model.proofs.SetLemmas.{same_bytes-by_cmp}
 use Rattle.tree_tables.specs.Columns.{flag, identity_columns}
 use Rattle.tree_tables.specs.Holds.{Holds, identity_index, identity_key}
 use Rattle.tree_tables.proofs.FoundNames.{Entry}
-use Rattle.tree_tables.proofs.Layouts.{identity_layout, line_layout, mark_layout, record_layout}
+use Rattle.tree_tables.proofs.Layouts.{identity_layout, mark_layout, record_layout}
+use Rattle.tree_tables.proofs.LineRows.{line_found, line_missing}
 use Rattle.tree_tables.proofs.RecordIndexes.{identity_named, mark_named}
 use Rattle.tree_tables.proofs.RowsRead.{same_count}
 use Rattle.book_audit.specs.Records.{GoesBack, IsLine, Turns}
 use Rattle.book_audit.specs.Records.Turns.{Stays, Turned}
 use Rattle.book_audit.specs.Trees.{FindsTwo}
+use Rattle.book_audit.proofs.CountedRecords.{some_kept}
 
 -- a look-up of a key in the rows of a map
 pub found_in : {K V : Type 0} {R : K → K → Ordering} (layout : Layout K V R) (m : FinMap R V) (k : K)
@@ -58,7 +61,7 @@ indexed_found {P = P} {key = key} index layout m k v row held there finds =
     ∙ found_in layout (index_of {P = P} key m) (key (k, v)) row false held finds)
 
 -- what a line turns
-turned : {line : Option Bool} {mid before : Bool} {more : ℕ} → Turns line mid before more
+turned : {line : Option Bool} {mid before : Bool} → Turns line mid before
     → (before ≡ option_map_or not line mid) × IfSome line (λ plus. plus ≡ mid)
 turned (Stays charged) = (refl, tt)
 turned (Turned plus) = (refl, refl)
@@ -153,18 +156,10 @@ module _ (trees : Trees) (tables : Tables) (holds : Holds trees tables) where
   -- a line by its period and its record's name
   pub line_looked : (period : ℕ) (name : List ℕ) (line : Option Bool)
       → IsLine (trees 5) period name line → line ≡ get tables.lines (period, name)
-  line_looked period name line is =
-      by line is.says
-      (found_in line_layout tables.lines (period, name) is.row (is_some line) holds.lines is.finds)
-    where
-      by : (line : Option Bool) → IfSome line (λ plus. column is.row 2 ≡ Int (pos (flag plus)))
-          → Answers line_layout tables.lines (period, name) is.row (is_some line)
-          → line ≡ get tables.lines (period, name)
-      by None says answers = sym answers
-      by (Some plus) says answers =
-          let same : plus ≡ answers.0 = same_flag plus answers.0
-          (sym says ∙ ap (λ (r : Row). column r 2) answers.2) in
-          ap Some same ∙ sym answers.1
+  line_looked period name None is =
+      line_missing period name tables holds.lines refl is.finds refl
+  line_looked period name (Some plus) is =
+      line_found period name tables holds.lines refl is.finds plus refl is.says
 
   -- a record is found by its identity, and by its mark
   pub identity_found : (name : List ℕ) (row : RecordRow) (found : Row)
@@ -205,18 +200,28 @@ module _ (trees : Trees) (tables : Tables) (holds : Holds trees tables) where
       (subst (λ n. 0 < n) (sym long) some)
       ∙ ap (λ n. n == 1) long
 
+  -- whether a record is alone in its identity
+  pub alone_looked : (name : List ℕ) (row : RecordRow) (next : Row) (two : Bool)
+      → get tables.records name ≡ Some row → FindsTwo (Blob row.identity ∷ []) (trees 6) next two
+      → not two ≡ (length (rows_with row.identity tables.records) == 1)
+  alone_looked name row next two there looked =
+      shared_looked row.identity next two looked
+      (some_kept (λ (one : RecordRow). same_bytes one.identity row.identity) name row
+      (entries tables.records) (sym (get-entries tables.records name) ∙ there)
+      (nat_list_eq_equiv.refl row.identity))
+
   -- what its lines say of a record's past is what they say in the tables
-  pub went_back : (name : List ℕ) (last k : ℕ) (now before : Bool) (count : ℕ)
-      → last ≡ open_by (ruled tables) → GoesBack (trees 5) name last k now before count
+  pub went_back : (name : List ℕ) (last k : ℕ) (now before : Bool)
+      → last ≡ open_by (ruled tables) → GoesBack (trees 5) name last k now before
       → (before ≡ charged_back tables name k now) × AreInTurn tables name k now
-  went_back name last zero now before count same back = (sym back.0, tt)
-  went_back name last (suc k) now before count same back =
-      let line : Option Bool = back.3 in
-      let so_far = went_back name last k now back.0 back.1 same back.4 in
+  went_back name last zero now before same back = (sym back, tt)
+  went_back name last (suc k) now before same back =
+      let line : Option Bool = back.1 in
+      let so_far = went_back name last k now back.0 same back.2 in
       let is : line ≡ line_at tables name (open_by (ruled tables) - k) =
-      line_looked (last - k) name line back.5
+      line_looked (last - k) name line back.3
       ∙ ap (λ n. get tables.lines (n - k, name)) same in
-      let step = turned back.6 in (
+      let step = turned back.4 in (
         step.0 ∙ ap₂ (λ (l : Option Bool) (b : Bool). option_map_or not l b) is so_far.0,
         (
           subst (λ (l : Option Bool). IfSome l (λ plus. plus ≡ charged_back tables name k now)) is

@@ -8,9 +8,9 @@ pub mod ClosedLemmas
 pub mod TariffLemmas
 pub mod LineLemmas
 pub mod LastPassing
-pub mod GoesBackOnce
 pub mod ChoiceLemmas
 pub mod RecordLemmas
+pub mod CountedRecords
 pub mod DayLemmas
 pub mod CopyLemmas
 pub mod Pigeonhole
@@ -18,7 +18,6 @@ pub mod KeptRows
 pub mod IndexRows
 pub mod TreesHold
 pub mod SoundRulings
-pub mod FoundTwice
 pub mod SoundRecords
 pub mod SoundRows
 pub mod SoundBook

@@ -1,5 +1,6 @@
 -- The lines of a record, from the last back.
-use Rattle.std.proofs.Common.{◌≡◌, ◌+◌, ◌-◌, ℕ, suc, List, Bool, true, false, Option, Some, None, not, refl, subst, sym, arith}
+use Rattle.std.proofs.Common.{◌≡◌, ◌+◌, ◌-◌, ℕ, suc, List, Bool, true, false, Option, Some, None, not}
+use Rattle.std.proofs.Common.{arith, refl, subst, sym}
 use Rattle.std.specs.Bool.{beq}
 use Rattle.sqlite_value.specs.Order.{Row}
 use Rattle.book_audit.specs.Records.{GoesBack, IsLine, Turns}
@@ -14,25 +15,23 @@ says_same false true same = absurd (cc)
 
 -- a line that says what is charged turns it
 pub turns_some : (line : Option Bool) (plus now before : Bool) → line ≡ Some plus → plus ≡ now
-    → before ≡ not plus → Turns line now before 1
+    → before ≡ not plus → Turns line now before
 turns_some line plus now before is same turned =
-    subst (λ l. Turns l now before 1) (sym is)
-    (subst (λ n. Turns (Some plus) n before 1) same
-    (subst (λ b. Turns (Some plus) plus b 1) (sym turned) (Turned plus)))
+    subst (λ l. Turns l now before) (sym is)
+    (subst (λ n. Turns (Some plus) n before) same
+    (subst (Turns (Some plus) plus) (sym turned) (Turned plus)))
 
 -- no line leaves it
 pub turns_none : (line : Option Bool) (now before : Bool) → line ≡ None → before ≡ now
-    → Turns line now before 0
+    → Turns line now before
 turns_none line now before is same =
-    subst (λ l. Turns l now before 0) (sym is)
-    (subst (λ b. Turns None now b 0) (sym same) (Stays now))
+    subst (λ l. Turns l now before) (sym is) (subst (Turns None now) (sym same) (Stays now))
 
 -- one period further back
 pub goes_on : (lines : List Row) (name : List ℕ) (last k : ℕ) (charged now before : Bool)
-    (count more next : ℕ) (line : Option Bool) → GoesBack lines name last k charged now count
-    → IsLine lines (last - k) name line → Turns line now before more → next ≡ count + more
-    → GoesBack lines name last (k + 1) charged before next
-goes_on lines name last k charged now before count more next line so_far is turns sum =
+    (line : Option Bool) → GoesBack lines name last k charged now
+    → IsLine lines (last - k) name line → Turns line now before
+    → GoesBack lines name last (k + 1) charged before
+goes_on lines name last k charged now before line so_far is turns =
     let step : suc k ≡ k + 1 = omega arith in
-    subst (λ n. GoesBack lines name last n charged before next) step
-    (now, count, more, line, so_far, is, turns, sum)
+    subst (λ n. GoesBack lines name last n charged before) step (now, line, so_far, is, turns)

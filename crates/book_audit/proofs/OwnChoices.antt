@@ -43,9 +43,9 @@ use Rattle.book_audit.specs.declared.identity_rule.IdentityRule.{IdentityRule}
 use Rattle.book_audit.specs.declared.identity_rule.IdentityRule.TheVariants.{First, SecondSince}
 use Rattle.book_audit.proofs.OwnHistory.{choices_among, choices_rise, parted}
 use Rattle.book_audit.proofs.HeldLooks.{indexed_found, record_looked, shared_looked}
-use Rattle.book_audit.proofs.OwnRecords.{some_kept}
+use Rattle.book_audit.proofs.CountedRecords.{some_kept}
 use Rattle.book_audit.proofs.OwnRulings.{own_readable}
-use Rattle.book_audit.proofs.OwnWalks.{one_of_all}
+use Rattle.book_audit.proofs.WalkLemmas.{one_of_all}
 use Rattle.book_audit.proofs.TreesHold.{long_numbers}
 
 -- a choice's row says its number, its record's name and its period

@@ -24,14 +24,16 @@ use Rattle.table_model.specs.Tables.{RecordRow, Tables}
 use Rattle.table_model.specs.TablesOf.{row_key}
 use Rattle.consistent_tables.specs.Consistent.{counted_entries, is_counted_row, ruled}
 use Rattle.consistent_tables.specs.DueRows.{due_entry, period_from}
+use Rattle.consistent_tables.proofs.ClosePeriods.{least_period}
 use Rattle.tree_tables.specs.Columns.{day_columns, record_columns}
 use Rattle.tree_tables.specs.Fits.{ChargeFits, HasPeriod}
 use Rattle.tree_tables.proofs.Layouts.{day_layout}
 use Rattle.tree_tables.proofs.RowsRead.{all_entries, same_count, same_int, same_text}
 use Rattle.book_audit.specs.Own.{AreOwn}
-use Rattle.book_audit.specs.Records.{Told, counted_price, counted_prices}
+use Rattle.book_audit.specs.Records.{Told, counted_prices}
 use Rattle.book_audit.specs.SoundTrees.{AreRuled}
 use Rattle.book_audit.specs.declared.rulings.Rulings.{Rulings}
+use Rattle.book_audit.proofs.CountedRecords.{prices_are}
 use Rattle.book_audit.proofs.IndexRows.{entries_rise}
 use Rattle.book_audit.proofs.KeptRows.{sorted}
 use Rattle.book_audit.proofs.OwnLines.{one_record}
@@ -51,18 +53,9 @@ no_later n (through ∷ closes) one other less =
           let rest = no_later (n + 1) closes one other less in
           subst (λ b. period_from (n + 1) closes one ≤ cond b (period_from (n + 1) closes other) n)
           (sym too) rest
-      | false ↦ λ early. at_least (int_lt through other) (from_least (n + 1) closes other)
+      | false ↦ λ early. at_least (int_lt through other) (least_period (n + 1) closes other)
     ] refl
   where
-    from_least : (n : ℕ) (closes : List ℤ) (day : ℤ) → n ≤ period_from n closes day
-    from_least n [] day = omega arith
-    from_least n (through ∷ closes) day =
-        let rest = from_least (n + 1) closes day in
-        elim (int_lt through day) as (λ b. n ≤ cond b (period_from (n + 1) closes day) n) [
-          | true ↦ omega (arith, rest)
-          | false ↦ omega arith
-        ]
-
     at_least : {m : ℕ} (b : Bool) → n + 1 ≤ m → n ≤ cond b m n
     at_least true least = omega (arith, least)
     at_least false least = omega arith
@@ -131,30 +124,10 @@ same_records (e ∷ one) (f ∷ other) same =
     let rest : map record_columns one ≡ map record_columns other = (let e = same in cc) in
     λ i. one_record e f first i ∷ same_records one other rest i
 
--- what is counted of records by what is told of them
-prices_told : (tables : Tables) (told : List Told)
-    → AllByRecursion (λ (one : Told). one.1.counted ≡ is_counted_row tables one.0) told
-    → counted_prices told ≡ map (λ (e : List ℕ × RecordRow). e.1.priced)
-    (filter (is_counted_row tables) (map (λ (one : Told). one.0) told))
-prices_told tables [] each = refl
-prices_told tables (one ∷ told) each =
-    let kept : List (List ℕ × RecordRow) =
-    filter (is_counted_row tables) (map (λ (one : Told). one.0) told) in
-    ap (λ more. counted_price one ++ more) (prices_told tables told each.1)
-    ∙ by (is_counted_row tables one.0) kept each.0
-  where
-    by : (b : Bool) (kept : List (List ℕ × RecordRow)) → one.1.counted ≡ b
-        → counted_price one ++ map (λ (e : List ℕ × RecordRow). e.1.priced) kept
-        ≡ map (λ (e : List ℕ × RecordRow). e.1.priced) (cond b (one.0 ∷ kept) kept)
-    by true kept is =
-        ap (λ b. cond b (one.0.1.priced ∷ []) [] ++ map (λ (e : List ℕ × RecordRow). e.1.priced) kept) is
-    by false kept is =
-        ap (λ b. cond b (one.0.1.priced ∷ []) [] ++ map (λ (e : List ℕ × RecordRow). e.1.priced) kept) is
-
 module _ (trees : Trees) (own : AreOwn trees) (rulings : Rulings) (are : AreRuled trees rulings) where
   -- the tree of charge rows is the rows that are due
   pub own_days : (told : List Told) → trees 3 ≡ map (λ (one : Told). record_columns one.0) told
-      → AllByRecursion (λ (one : Told). one.1.counted ≡ is_counted_row (own_tables trees own) one.0) told
+      → AllByRecursion (λ (one : Told). one.1 ≡ is_counted_row (own_tables trees own) one.0) told
       → trees 4 ≡ map day_columns (map (due_entry rulings.closes.items) (rows_of (counted_prices told)))
   own_days told read each =
       let tables : Tables = own_tables trees own in
@@ -163,7 +136,7 @@ module _ (trees : Trees) (own : AreOwn trees) (rulings : Rulings) (are : AreRule
       (map-map record_columns (λ (one : Told). one.0) told ∙ sym read ∙ own.holds.records) in
       let prices : counted_prices told ≡ map (λ (e : List ℕ × RecordRow). e.1.priced)
       (counted_entries tables) =
-      prices_told tables told each
+      prices_are (is_counted_row tables) told each
       ∙ ap (λ (es : List (List ℕ × RecordRow)). map (λ (e : List ℕ × RecordRow). e.1.priced)
       (filter (is_counted_row tables) es)) entries_are in
       own.holds.days

@@ -1,5 +1,6 @@
 -- The details of books that calls made: a row for each record that is counted.
-use Rattle.std.proofs.Common.{◌≡◌, ◌<◌, ◌^◌, ◌∙◌, ◌∷◌, [], arith, ℕ, Bool, true, false, List, Option, Some, None, ap, cond, is_some, map, refl, subst, sym, true≢false, ◌&&◌}
+use Rattle.std.proofs.Common.{◌≡◌, ◌∙◌, ◌∷◌, [], ℕ, Bool, true, false, List, Option, Some, None, ap, cond}
+use Rattle.std.proofs.Common.{is_some, map, refl, subst, sym, true≢false, ◌&&◌}
 use Rattle.std.specs.Prelude.{filter}
 use Rattle.std.specs.Cmp.{tied_itself}
 use Rattle.std.specs.FinMap.{FinMap, contains_key, entries, find, get, get-entries, get-from_entries}
@@ -16,10 +17,7 @@ use Rattle.sqlite_value.specs.Keys.{plain, prefix_cmp}
 use Rattle.sqlite_value.specs.Order.{Row, row_cmp}
 use Rattle.sqlite_value.specs.declared.value.Value.TheVariants.{Blob}
 use Rattle.sqlite_value.proofs.OrderLemmas.{row_cmp_total}
-use Rattle.smf_type30.specs.Usage.{ended_step_of, job_id_of, job_of, program_of, time_of}
-use Rattle.smf_type30.proofs.NameLengths.{job_id_long, job_long, program_long, step_small}
-use Rattle.smf_type30.proofs.UsageFacts.{usage_time}
-use Rattle.book_model.specs.Words.{IsUsage, by_bytes, detail_with}
+use Rattle.book_model.specs.Words.{by_bytes, detail_with}
 use Rattle.book_model.specs.declared.detail.Detail.{Detail}
 use Rattle.table_model.specs.BookIn.{row_record}
 use Rattle.table_model.specs.DetailsRead.{detail_shown}
@@ -38,54 +36,17 @@ use Rattle.tree_tables.specs.UsageData.{IsUsageData}
 use Rattle.tree_tables.proofs.CountedRows.{detail_named, get_counted}
 use Rattle.tree_tables.proofs.Layouts.{detail_layout, detail_order, record_layout, work_columns}
 use Rattle.tree_tables.proofs.RowsRead.{all_entries}
+use Rattle.tree_tables.proofs.ShownDetails.{shown_fits}
 use Rattle.book_audit.specs.Own.{AreOwn}
 use Rattle.book_audit.specs.OwnRecords.{IsCountedIn, IsHeldIn}
 use Rattle.book_audit.specs.Records.{detail_key, spot_of}
+use Rattle.book_audit.proofs.CountedRecords.{name_counted}
 use Rattle.book_audit.proofs.HeldLooks.{record_looked}
 use Rattle.book_audit.proofs.OwnLines.{one_record}
 use Rattle.book_audit.proofs.OwnTables.{own_consistent, own_record_fits, own_tables}
 use Rattle.book_audit.proofs.TreesHold.{both_there, first_less, some_unit}
 
 -- ---- the names that are counted
-
--- a record that passes a test is among the names of those that do
-kept_found : (p : List ℕ × RecordRow → Bool) (name : List ℕ) (row : RecordRow)
-    (es : List (List ℕ × RecordRow)) → find by_bytes name es ≡ Some row → p (name, row) ≡ true
-    → find by_bytes name (map {B = List ℕ × Unit {0}} (λ (e : List ℕ × RecordRow). (e.0, tt)) (filter p es))
-    ≡ Some tt
-kept_found p name row [] there passes = absurd (let e = there in cc)
-kept_found p name row (e ∷ es) there passes =
-    let kept : List (List ℕ × RecordRow) = filter p es in
-    let named : List (List ℕ × RecordRow) → List (List ℕ × Unit {0}) =
-    map {B = List ℕ × Unit {0}} (λ (e : List ℕ × RecordRow). (e.0, tt)) in
-    let later : (o : Ordering) → by_bytes name e.0 ≡ o → is_eq o ≡ false
-    → find by_bytes name es ≡ Some row
-    → find by_bytes name (named (cond (p e) (e ∷ kept) kept)) ≡ Some tt = λ o at other behind.
-    either (p e) o at other (kept_found p name row es behind passes) in
-    elim (by_bytes name e.0) as (λ o. by_bytes name e.0 ≡ o
-    → cond (is_eq o) (Some e.1) (find by_bytes name es) ≡ Some row
-    → find by_bytes name (named (cond (p e) (e ∷ kept) kept)) ≡ Some tt) [
-      | Less ↦ λ at behind. later Less at refl behind
-      | Equal ↦ λ at it.
-          let same_name : name ≡ e.0 = by_bytes_exact name e.0 at in
-          let same : row ≡ e.1 = sym (same_Some e.1 row it) in
-          let its : p e ≡ true = subst (λ (x : List ℕ × RecordRow). p x ≡ true)
-          (λ i. (same_name i, same i)) passes in
-          ap (λ b. find by_bytes name (named (cond b (e ∷ kept) kept))) its
-          ∙ ap (λ o. cond (is_eq o) (Some tt) (find by_bytes name (named kept))) at
-      | Greater ↦ λ at behind. later Greater at refl behind
-    ] refl there
-  where
-    either : (b : Bool) (o : Ordering) → by_bytes name e.0 ≡ o → is_eq o ≡ false
-        → find by_bytes name (map {B = List ℕ × Unit {0}} (λ (e : List ℕ × RecordRow). (e.0, tt)) (filter p es))
-        ≡ Some tt
-        → find by_bytes name (map {B = List ℕ × Unit {0}} (λ (e : List ℕ × RecordRow). (e.0, tt))
-        (cond b (e ∷ filter p es) (filter p es))) ≡ Some tt
-    either true o at other rest =
-        ap (λ b. cond b (Some tt) (find by_bytes name (map {B = List ℕ × Unit {0}}
-        (λ (e : List ℕ × RecordRow). (e.0, tt)) (filter p es)))) (ap is_eq at ∙ other)
-        ∙ rest
-    either false o at other rest = rest
 
 -- what holds of all elements holds of those that pass a test
 all_kept : {X : Type 0} (G : X → Type 0) (p : X → Bool) (xs : List X) → AllByRecursion G xs
@@ -127,7 +88,7 @@ module _ (trees : Trees) (entry : List ℕ × RecordRow) (is : IsCountedIn trees
       let counted : get tables.counted entry.0 ≡ Some tt =
       ap (λ m. get m entry.0) (own_consistent trees is.own).counted
       ∙ get-from_entries nat_list_cmp_total es entry.0
-      ∙ kept_found (is_counted_row tables) entry.0 entry.1 (entries tables.records)
+      ∙ name_counted (is_counted_row tables) (entries tables.records) entry.0 entry.1
       (sym (get-entries tables.records entry.0) ∙ is.held) is.counted in
       get_counted tables.counted tables.records entry.0
       ∙ ap (λ (found : Option (Unit {0})). cond (is_some found) (get tables.records entry.0) None) counted
@@ -255,13 +216,6 @@ shown_had tables shown is =
     subst (λ (one : Detail). get (detail_index tables.counted tables.records) one ≡ Some tt) (sym same)
     is.held
 
--- the time of a record that measures work is one of 32 bits
-time_small : (bytes : List ℕ) → IsUsage bytes → time_of bytes < 2 ^ 32
-unfolding time_of
-time_small bytes usage =
-    let within = usage_time bytes usage in
-    omega (arith, within)
-
 -- the rows fit
 pub shown_row_fits : (trees : Trees) (own : AreOwn trees) (row : Row)
     → IsShownOf (own_tables trees own) row → DetailFits row
@@ -269,24 +223,9 @@ shown_row_fits trees own row is =
     let shown : Detail = is.shown in
     let its = own_shown_at trees own shown is.held in
     let entry : List ℕ × RecordRow = (shown.name, its.0) in
-    let fits = own_record_fits trees own shown.name its.0 its.1 in
-    let bytes = row_record its.0 in
     let usage = ((own_consistent trees own).records shown.name its.0 its.1).usage.usage in
     subst DetailFits (sym is.is) (subst (λ (one : Detail). DetailFits (detail_columns (one, tt))) its.2
-    (record {
-      day = fits.price.day;
-      centre = fits.price.centre;
-      shift = fits.price.shift;
-      time = (time_of bytes, time_small bytes usage, refl);
-      name = fits.name;
-      job = (job_of bytes, job_long bytes usage, refl);
-      program = (program_of bytes, program_long bytes usage, refl);
-      job_id = (job_id_of bytes, job_id_long bytes usage, refl);
-      step = (ended_step_of bytes, step_small bytes, refl);
-      cpu = fits.price.cpu;
-      excp = fits.price.excp;
-      amount = fits.price.amount;
-    }))
+    (shown_fits entry (own_record_fits trees own shown.name its.0 its.1) usage))
 
 -- ---- what is shown, and the record that is read for it
 

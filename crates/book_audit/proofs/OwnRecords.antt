@@ -1,24 +1,19 @@
 -- Records of books that calls made pass each test.
-use Rattle.std.proofs.Common.{◌≡◌, ◌∙◌, ◌<◌, ◌+◌, ◌-◌, ◌∷◌, [], ◌||◌, ℕ, suc, ℤ, Bool, true, false, List, Option, Some, None}
+use Rattle.std.proofs.Common.{◌≡◌, ◌∙◌, ◌<◌, ◌+◌, ◌-◌, ◌∷◌, [], ◌||◌, ℕ, ℤ, Bool, true, false, List, Option}
+use Rattle.std.proofs.Common.{Some, None}
 use Rattle.std.proofs.Common.{ap, ap₂, arith, cond, length, map, not, refl, subst, sym, IfSome, IsSome, true≢false}
-use Rattle.std.specs.Prelude.{filter, int_lt, nat_lt}
-use Rattle.std.specs.FinMap.{entries, find, get, get-entries}
-use Rattle.std.specs.List.{AllByRecursion, last_or}
-use Rattle.std.specs.List.Sorted.{IsStrictlySortedBy}
+use Rattle.std.specs.Prelude.{nat_lt}
+use Rattle.std.specs.FinMap.{get}
 use Rattle.std.specs.Option.{option_map_or}
-use Rattle.std.specs.Ordering.{int_cmp, is_eq}
-use Rattle.std.specs.declared.cmp.Ordering.TheVariants.{Less, Equal, Greater}
 use Rattle.std.proofs.lemmas.Bool.Decides.{nat_tests}
-use Rattle.std.proofs.lemmas.Cmp.{nat_list_eq_equiv}
-use Rattle.std.proofs.lemmas.Int.{ints}
 use Rattle.std.proofs.lemmas.Option.{same_Some}
 use Rattle.sqlite_trees.specs.Tree.{Trees}
 use Rattle.sqlite_value.specs.Order.{Row}
 use Rattle.sqlite_value.specs.declared.value.Value.TheVariants.{Blob}
-use Rattle.book_model.specs.Words.{AcceptedTerms, Rulings as Ruled, by_bytes, identity_by, open_by, price_in, same_bytes}
+use Rattle.book_model.specs.Words.{AcceptedTerms, Rulings as Ruled, identity_by, open_by, price_in}
+use Rattle.book_model.specs.Words.{same_bytes}
 use Rattle.table_model.specs.Tables.{RecordRow, Tables}
-use Rattle.table_model.specs.Views.{is_due_at, rows_with}
-use Rattle.table_model.proofs.CloseOrder.{earlier}
+use Rattle.table_model.specs.Views.{is_due_at}
 use Rattle.table_model.proofs.RulingsReading.{tariffs_kept}
 use Rattle.consistent_tables.specs.Consistent.{AreInTurn, charged_back, is_counted_row, line_at, periods_after, ruled}
 use Rattle.consistent_tables.specs.DueRows.{period_from}
@@ -36,7 +31,8 @@ use Rattle.book_audit.specs.Rules.{identity_under}
 use Rattle.book_audit.specs.SoundTrees.{AreRuled}
 use Rattle.book_audit.specs.Trees.{FindsTwo}
 use Rattle.book_audit.specs.declared.rulings.Rulings.{Rulings}
-use Rattle.book_audit.proofs.HeldLooks.{line_looked, shared_looked, turn_at, went_back}
+use Rattle.book_audit.proofs.ClosedLemmas.{closed_before}
+use Rattle.book_audit.proofs.HeldLooks.{alone_looked, line_looked, turn_at, went_back}
 use Rattle.book_audit.proofs.HeldRulings.{identity_said, last_said, price_said, same_terms}
 use Rattle.book_audit.proofs.OwnRulings.{own_closes, own_readable, own_rule}
 use Rattle.book_audit.proofs.OwnTables.{own_consistent, own_ruled, own_tables}
@@ -92,35 +88,6 @@ own_data trees rulings stored are =
 
 -- ---- whether it is charged
 
--- an entry that passes a test is kept by it
-pub some_kept : (test : RecordRow → Bool) (name : List ℕ) (row : RecordRow) (es : List (List ℕ × RecordRow))
-    → find by_bytes name es ≡ Some row → test row ≡ true
-    → 0 < length (filter (λ (e : List ℕ × RecordRow). test e.1) es)
-some_kept test name row [] there passes = absurd (let e = there in cc)
-some_kept test name row (e ∷ es) there passes =
-    let kept : List (List ℕ × RecordRow) = filter (λ (e : List ℕ × RecordRow). test e.1) es in
-    let later : find by_bytes name es ≡ Some row → 0 < length (cond (test e.1) (e ∷ kept) kept) =
-    λ behind. more (test e.1) e kept (some_kept test name row es behind passes) in
-    elim (by_bytes name e.0) as (λ o. cond (is_eq o) (Some e.1) (find by_bytes name es) ≡ Some row
-    → 0 < length (cond (test e.1) (e ∷ kept) kept)) [
-      | Less ↦ later
-      | Equal ↦ λ it.
-          let same : e.1 ≡ row = same_Some e.1 row it in
-          subst (λ b. 0 < length (cond b (e ∷ kept) kept)) (sym (ap test same ∙ passes)) (first e kept)
-      | Greater ↦ later
-    ] there
-  where
-    more : (b : Bool) (e : List ℕ × RecordRow) (kept : List (List ℕ × RecordRow)) → 0 < length kept
-        → 0 < length (cond b (e ∷ kept) kept)
-    more true e kept some = omega arith
-    more false e kept some = some
-
-    first : (e : List ℕ × RecordRow) (kept : List (List ℕ × RecordRow)) → 0 < length (e ∷ kept)
-    first e kept = omega arith
-
-same_itself : (one : List ℕ) → same_bytes one one ≡ true
-same_itself one = nat_list_eq_equiv.refl one
-
 -- as the trees and the choices say
 pub own_due : (trees : Trees) (rulings : Rulings) (entry : List ℕ × RecordRow) (next : Row)
     (shared : Bool) → AreOwnOf trees rulings entry
@@ -131,57 +98,15 @@ own_due trees rulings entry next shared are looked =
     let tables : Tables = own_tables trees own in
     let consistent = own_consistent trees own in
     let there = are.held tables own.holds in
-    let identity : List ℕ = entry.1.identity in
-    let some : 0 < length (rows_with identity tables.records) =
-    some_kept (λ (row : RecordRow). same_bytes row.identity identity) entry.0 entry.1
-    (entries tables.records) (sym (get-entries tables.records entry.0) ∙ there) (same_itself identity) in
-    let alone = shared_looked trees tables own.holds identity next shared looked some in
+    let alone = alone_looked trees tables own.holds entry.0 entry.1 next shared there looked in
     let last = last_said trees tables own.holds consistent.numbers rulings.rule
-    (length rulings.closes.items + 1) rulings.chosen are.ruled.choices identity in
+    (length rulings.closes.items + 1) rulings.chosen are.ruled.choices entry.1.identity in
     (consistent.records entry.0 entry.1 there).charged
     ∙ ap (is_due_at tables entry.0) there
     ∙ sym (ap₂ (λ (b : Bool) (found : Option (List ℕ)).
     b || option_map_or (same_bytes entry.0) found false) alone last)
 
 -- ---- whether it is posted
-
--- where a day is not after one close, it is not after the last of later ones
-last_late : (through day : ℤ) (closes : List ℤ)
-    → AllByRecursion (λ (later : ℤ). int_cmp through later ≡ Less) closes
-    → IsStrictlySortedBy int_cmp closes → int_lt through day ≡ false
-    → option_map_or (λ last. int_lt last day) (last_or (Some through) closes) true ≡ false
-unfolding IsStrictlySortedBy
-last_late through day [] above rising early = early
-last_late through day (next ∷ closes) above rising early =
-    let less = earlier through next above.0 in
-    let its : int_lt next day ≡ false = grind (arith, ints) in
-    last_late next day closes rising.0 rising.1 its
-
--- a day is closed where its period is before the open one
-closed_before : (n : ℕ) (closes : List ℤ) (day : ℤ) → IsStrictlySortedBy int_cmp closes
-    → is_closed closes day ≡ nat_lt (period_from n closes day) (n + length closes)
-unfolding IsStrictlySortedBy
-closed_before n [] day rising = grind (arith, nat_tests)
-closed_before n (through ∷ closes) day rising =
-    elim (int_lt through day) as (λ b. int_lt through day ≡ b
-    → is_closed (through ∷ closes) day
-    ≡ nat_lt (cond b (period_from (n + 1) closes day) n) (n + suc (length closes))) [
-      | true ↦ λ late. by closes rising late ∙ closed_before (n + 1) closes day rising.1
-          ∙ ap (nat_lt (period_from (n + 1) closes day)) (one_more n (length closes))
-      | false ↦ λ early. ap not (last_late through day closes rising.0 rising.1 early)
-          ∙ sym (below n (length closes))
-    ] refl
-  where
-    by : (closes : List ℤ) → IsStrictlySortedBy int_cmp (through ∷ closes) → int_lt through day ≡ true
-        → is_closed (through ∷ closes) day ≡ is_closed closes day
-    by [] rising late = ap not late
-    by (next ∷ closes) rising late = refl
-
-    one_more : (n m : ℕ) → (n + 1) + m ≡ n + suc m
-    one_more n m = omega arith
-
-    below : (n m : ℕ) → nat_lt n (n + suc m) ≡ true
-    below n m = grind (arith, nat_tests)
 
 -- as the last close charged it
 posted_so : (charged posted closed : Bool) (line : Option Bool)
@@ -220,14 +145,13 @@ module _ (trees : Trees) (rulings : Rulings) (entry : List ℕ × RecordRow)
       (sym same_closes) ((own_consistent trees are.own).records entry.0 entry.1 there).turns
 
   -- so they tell whether its row counts it
-  pub own_counts : (counted : Bool) (count : ℕ)
-      → HasPast (trees 5) rulings.closes.items entry counted count
+  pub own_counts : (counted : Bool) → HasPast (trees 5) rulings.closes.items entry counted
       → counted ≡ is_counted_row tables entry
-  own_counts counted count past =
+  own_counts counted past =
       let back : ℕ = (length rulings.closes.items + 1)
       - period_from 1 rulings.closes.items entry.1.priced.day in
       (went_back trees tables are.own.holds entry.0 (length rulings.closes.items + 1) back
-      entry.1.charged counted count (ap (λ (closes : List ℤ). length closes + 1) same_closes) past).0
+      entry.1.charged counted (ap (λ (closes : List ℤ). length closes + 1) same_closes) past).0
       ∙ ap (λ (closes : List ℤ). charged_back tables entry.0
       ((length closes + 1) - period_from 1 closes entry.1.priced.day) entry.1.charged) same_closes
 

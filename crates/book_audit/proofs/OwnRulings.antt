@@ -1,23 +1,21 @@
 -- The row of the book, the tariffs and the closes of books that calls made, as they are read.
 use Rattle.std.proofs.Common.{◌≡◌, ◌∙◌, ◌+◌, ◌<◌, ◌≤◌, ◌++◌, ◌∷◌, [], ℕ, suc, ℤ, List, All, true}
 use Rattle.std.proofs.Common.{Option, Some, None, Ok, ap, ap₂, arith, length, map, refl, subst, sym}
-use Rattle.std.specs.Prelude.{int_lt, is_some, if◌then◌else◌, ◌<ℤ◌, ◌&&◌, nat_le, nat_lt, unwrap_or}
-use Rattle.std.specs.Cmp.{int_ranked}
+use Rattle.std.specs.Prelude.{int_lt, is_some, if◌then◌else◌, ◌&&◌, nat_le, nat_lt, unwrap_or}
 use Rattle.std.specs.List.{AllByRecursion, last_or}
 use Rattle.std.specs.List.Sorted.{IsStrictlySortedBy}
 use Rattle.std.specs.Option.{option_map_or}
 use Rattle.std.specs.Ordering.{int_cmp}
-use Rattle.std.specs.declared.cmp.Ordering.TheVariants.{Less}
 use Rattle.std.proofs.lemmas.Bool.Decides.{nat_tests}
-use Rattle.std.proofs.lemmas.Int.{ints}
 use Rattle.std.proofs.lemmas.List.Elements.{All-head, All-tail}
 use Rattle.sqlite_trees.specs.Tree.{Trees}
 use Rattle.sqlite_value.specs.Order.{Row, column}
 use Rattle.book_model.specs.Words.{AcceptedTerms, Book, IsDay, Terms, first_rule, last_period}
 use Rattle.book_model.specs.Words.{open_number, rule_by, second_rule, terms_in}
-use Rattle.table_model.specs.Readable.{IsBegun, IsReadable, IsTexted}
+use Rattle.table_model.specs.Readable.{IsBegun, IsOfCharacters, IsReadable, IsTexted}
 use Rattle.table_model.specs.Tables.{BookRow, never_adopted}
 use Rattle.table_model.specs.TablesOf.{close_entries, tables_of, tariff_entries}
+use Rattle.table_model.proofs.CloseOrder.{Behind, late_first}
 use Rattle.table_model.proofs.ReadableLemmas.{calls_read}
 use Rattle.table_model.proofs.RulingsReading.{tariffs_kept}
 use Rattle.table_model.proofs.UnderNumbers.{entries-numbers}
@@ -25,12 +23,13 @@ use Rattle.tree_tables.specs.Columns.{book_columns, closed_columns, tariff_colum
 use Rattle.tree_tables.specs.Fits.{BookFits, CloseFits, HasCount, TariffFits}
 use Rattle.tree_tables.specs.declared.closed_rows.Close.{Close}
 use Rattle.tree_tables.proofs.RowsRead.{same_count, same_int, same_text}
+use Rattle.tree_tables.proofs.RulingRows.{closes_fit, tariff_fits as row_fits}
 use Rattle.tree_tables.specs.Stored.{close_entry}
 use Rattle.book_audit.specs.OfBook.{sha_names}
 use Rattle.book_audit.specs.Own.{AreOwn}
 use Rattle.book_audit.specs.OwnChoices.{AreItsRulings}
 use Rattle.book_audit.specs.Rules.{is_by, rule_of}
-use Rattle.book_audit.specs.Rulings.{AreClosed, HasOneRow, IsNextClose, IsOfCharacters}
+use Rattle.book_audit.specs.Rulings.{AreClosed, HasOneRow, IsNextClose}
 use Rattle.book_audit.specs.declared.identity_rule.IdentityRule.{IdentityRule}
 use Rattle.book_audit.specs.declared.identity_rule.IdentityRule.TheVariants.{First, SecondSince}
 use Rattle.book_audit.specs.declared.rulings.BookRow.{BookRow as Read}
@@ -130,11 +129,7 @@ own_tariffs trees own =
 -- such a row can be read,
 pub tariff_fits : (row : Row) → IsTariffRow row → TariffFits row
 tariff_fits row its =
-    let texted = its.texted in
-    subst TariffFits (sym its.is) (record {
-      day = (its.tariff.terms.effective, texted.day, refl);
-      text = (texted.text, its.characters texted.text texted.is, ap tariff_value texted.is);
-    })
+    subst TariffFits (sym its.is) (row_fits its.tariff its.texted its.characters)
 
 -- and its text says the terms of a tariff with the row's day
 pub tariff_said : (row : Row) (day : ℤ) (text : List ℕ) → IsTariffRow row
@@ -177,19 +172,6 @@ pub own_closes : (trees : Trees) (own : AreOwn trees) (days : List ℤ) → AreC
     → days ≡ own.book.rulings.closes
 own_closes trees own days closed =
     same_closes 1 days own.book.rulings.closes (sym closed.are ∙ own_close_rows trees own)
-
--- days that are later than one, if there is one
-abbrev Behind : Option ℤ → List ℤ → Type 0
-Behind None days = Unit {0}
-Behind (Some last) days = AllByRecursion (λ day. int_cmp last day ≡ Less) days
-
--- the first of them is
-late_first : (last : Option ℤ) (day : ℤ) (days : List ℤ) → Behind last (day ∷ days)
-    → option_map_or (λ last. int_lt last day) last true ≡ true
-late_first None day days behind = refl
-late_first (Some last) day days behind =
-    let less : last <ℤ day = int_ranked last day Less (sym behind.0) in
-    grind (arith, ints)
 
 -- a row behind those of some days is that of the next close
 next_from : (n : ℕ) (last : Option ℤ) (days closes : List ℤ) (close : Close) (more : List Row)
@@ -237,23 +219,12 @@ own_next_close trees own days close more read =
     record { period = next.0; later = next.1; day = next.2 }
 
 -- and each row of the tree can be read
-close_rows : (n : ℕ) (closes : List ℤ) → n + length closes ≤ last_period → All IsDay closes
-    → AllByRecursion CloseFits (map closed_columns (close_entries n closes))
-close_rows n [] few dated = tt
-close_rows n (day ∷ closes) few dated = (
-  record {
-    period = (n, omega (arith, few), refl);
-    through = (day, All-head IsDay day closes dated, refl);
-  },
-  close_rows (suc n) closes (omega (arith, few)) (All-tail IsDay day closes dated),
-)
-
 pub own_closes_fit : (trees : Trees) → AreOwn trees → AllByRecursion CloseFits (trees 2)
 own_closes_fit trees own =
     let whole = own_readable trees own in
     let few = whole.limits.closes in
     subst (AllByRecursion CloseFits) (sym (own_close_rows trees own))
-    (close_rows 1 own.book.rulings.closes (omega (arith, few)) whole.days)
+    (closes_fit 1 own.book.rulings.closes (omega (arith, few)) whole.days)
 
 -- ---- the rule and the open period
 

@@ -1,8 +1,7 @@
 -- What stops an audit of books that calls made, over a store that is only looked at meanwhile.
-use Rattle.std.proofs.Common.{◌≡◌, ◌∙◌, ◌++◌, ◌∷◌, [], List, true, false, true≢false, Bool, append_assoc}
-use Rattle.std.proofs.Common.{Result, Ok, Err, IfErr, is_ok, subst, sym}
+use Rattle.std.proofs.Common.{◌≡◌, ◌∙◌, List, false, true≢false, Result, Ok, Err, IfErr, is_ok}
+use Rattle.std.proofs.Common.{subst, sym}
 use Rattle.std.specs.Prelude.{IsErrAnd, MatchResult}
-use Rattle.std.specs.List.{AllByRecursion}
 use Rattle.sqlite_trees.specs.Tree.{Trees}
 use Rattle.sqlite_trees.specs.View.{IsClean}
 use Rattle.sqlite_trees.specs.declared.error.StoreError.{StoreError}
@@ -13,17 +12,17 @@ use Rattle.table_model.specs.TablesOf.{tables_of}
 use Rattle.tree_rows.specs.Calls.{CommitsNothing, OnlyLooks}
 use Rattle.tree_rows.proofs.Calls.{clean_before}
 use Rattle.tree_rows.proofs.Failing.{more_since}
-use Rattle.tree_tables.specs.Walks.{rows_past}
 use Rattle.book_audit.specs.OfBook.{sha_names}
 use Rattle.book_audit.specs.Own.{AreOwn, FindsNothing, IsOwnStop}
 use Rattle.book_audit.specs.Trees.{tree_number}
-use Rattle.book_audit.specs.Walks.{HasWalked, WalksOn}
+use Rattle.book_audit.specs.Walks.{HasWalked, IsWalkOf}
 use Rattle.book_audit.specs.declared.finding.Finding.{Finding}
 use Rattle.book_audit.specs.declared.finding.Tree.{Tree}
 use Rattle.book_audit.specs.declared.stop.Stop.{Stop}
 use Rattle.book_audit.specs.declared.stop.Stop.TheVariants.{Unsound}
-use Rattle.book_audit.proofs.OwnWalks.{CanBeWalked, held_walk, one_of_all}
-use Rattle.book_audit.proofs.WalkSteps.{look_back, trees_stay, walked_on}
+use Rattle.book_audit.specs.declared.walk.Walk.{Walk}
+use Rattle.book_audit.proofs.OwnWalks.{CanBeWalked, held_walk}
+use Rattle.book_audit.proofs.WalkSteps.{trees_stay}
 
 -- the trees of books that calls made can be walked over
 pub own_walk : (trees : Trees) → AreOwn trees → (tree : Tree)
@@ -91,50 +90,20 @@ module _ {S : Type 0} (ghosts : Ghosts S) where
       (after finding is clean (own_still start mid same back own))
 
   -- a walk that goes on after looks stops so
-  pub stop_walked : (start mid new : S) (tree its : Tree) (key : Row) (stop : Stop) → its ≡ tree
+  pub stop_walked : (start mid new : S) (tree : Tree) (walk : Walk) (stop : Stop) → walk.tree ≡ tree
       → OnlyLooks ghosts start mid → CommitsNothing ghosts start mid
       → CommitsNothing ghosts mid new
-      → ((done : List Row)
-      → (IsClean (ghosts.view mid)
-      → HasWalked its key ((ghosts.view mid).trees (tree_number its)) done)
+      → ((IsClean (ghosts.view mid) → IsWalkOf walk (ghosts.view mid).trees)
       → IsOwnStop ghosts mid new stop)
       → (IsClean (ghosts.view mid) → (done : List Row)
-      × HasWalked tree key ((ghosts.view start).trees (tree_number tree)) done)
+      × HasWalked tree walk.key ((ghosts.view start).trees (tree_number tree)) done)
       → IsOwnStop ghosts start new stop
-  stop_walked start mid new tree its key stop is_tree same before call next walked finding is clean
-      own =
-      let back = clean_before ghosts call clean in
-      let read = walked back in
-      let here : HasWalked its key ((ghosts.view mid).trees (tree_number its)) read.0 =
-      subst (λ (t : Tree). HasWalked t key ((ghosts.view mid).trees (tree_number t)) read.0)
-      (sym is_tree)
-      (subst (λ (all : Trees). HasWalked tree key (all (tree_number tree)) read.0)
-      (sym (trees_stay ghosts start mid same back)) read.1) in
-      stop_on start mid new stop same before call (next read.0 (λ again. here)) finding is clean own
-
-  module _ (start mid new : S) (tree its : Tree) (key next row : Row) (there : Bool) (is : its ≡ tree)
-      (same : OnlyLooks ghosts start mid) (call : OnlyLooks ghosts mid new)
-      (step : IsClean (ghosts.view new) → (done : List Row)
-      → HasWalked its key ((ghosts.view mid).trees (tree_number its)) done
-      → WalksOn its next row ((ghosts.view mid).trees (tree_number its)) done there)
-      (some : there ≡ true) (walked : IsClean (ghosts.view mid) → (done : List Row)
-      × HasWalked tree key ((ghosts.view start).trees (tree_number tree)) done)
-      (clean : IsClean (ghosts.view new)) where
-    abbrev rows : List Row
-    rows = (ghosts.view start).trees (tree_number tree)
-
-    -- the row that a walk has read stands behind those that it had read
-    pub its_place : (more : List Row)
-        × (rows ≡ (walked (look_back ghosts mid new call clean)).0 ++ row ∷ more)
-    its_place =
-        let read = walked (look_back ghosts mid new call clean) in
-        let on = subst (WalksOn tree next row rows read.0) some
-        (walked_on ghosts start mid new tree its key next row read.0 there is same call step
-        (λ back. read.1) clean) in
-        (rows_past next rows, on.left ∙ append_assoc read.0 (row ∷ []) (rows_past next rows))
-
-    -- so what holds of all rows of the tree holds of it
-    pub its_row : (P : Row → Type 0) → AllByRecursion P rows → P row
-    its_row P all =
-        one_of_all P (walked (look_back ghosts mid new call clean)).0 row its_place.0
-        (subst (AllByRecursion P) its_place.1 all)
+  stop_walked start mid new tree walk stop is_tree same before call next walked =
+      stop_on start mid new stop same before call (next (λ back.
+      let read = walked back in (
+        read.0,
+        subst (λ (t : Tree). HasWalked t walk.key ((ghosts.view mid).trees (tree_number t)) read.0)
+            (sym is_tree)
+            (subst (λ (all : Trees). HasWalked tree walk.key (all (tree_number tree)) read.0)
+            (sym (trees_stay ghosts start mid same back)) read.1),
+      )))

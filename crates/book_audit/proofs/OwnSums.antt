@@ -1,6 +1,6 @@
 -- The sums of records of books that calls made are within the limits.
 use Rattle.std.proofs.Common.{◌≡◌, ◌∙◌, ◌<◌, ◌≤◌, ◌+◌, ◌*◌, ◌^◌, ◌++◌, ◌∷◌, [], ℕ, Bool, true, false, List, ap, arith, cond, length, length-append, map, refl, sym}
-use Rattle.std.specs.Prelude.{filter, sum_by}
+use Rattle.std.specs.Prelude.{sum_by}
 use Rattle.std.specs.FinMap.{entries}
 use Rattle.std.specs.List.{AllByRecursion}
 use Rattle.std.proofs.lemmas.List.{length-map}
@@ -10,10 +10,10 @@ use Rattle.sqlite_trees.specs.Tree.{Trees}
 use Rattle.sqlite_trees.proofs.ListLemmas.{all_weaker}
 use Rattle.sqlite_value.specs.Order.{Row, column}
 use Rattle.tariff_rules.specs.declared.priced.Priced.{Priced}
-use Rattle.book_model.specs.Rows.{key_of, same_key}
 use Rattle.book_model.specs.Words.{IsPriced, most_cost, most_held, row_at}
 use Rattle.book_model.specs.declared.row.ChargeRow.{ChargeRow}
 use Rattle.book_model.specs.declared.row.RowKey.{RowKey}
+use Rattle.book_core.proofs.KeyedRowLemmas.{length-charged_at-le, sum_by-charged_at-le}
 use Rattle.table_model.specs.Tables.{RecordRow, Tables}
 use Rattle.tree_tables.specs.Columns.{record_columns}
 use Rattle.tree_tables.proofs.RowsRead.{same_count}
@@ -33,7 +33,7 @@ few_counted [] = omega arith
 few_counted (one ∷ told) =
     let rest = few_counted told in
     let both = length-append (counted_price one) (counted_prices told) in
-    let its = by one.1.counted in
+    let its = by one.1 in
     omega (arith, rest, both, its)
   where
     by : (b : Bool) → length (cond b (one.0.1.priced ∷ []) []) ≤ 1
@@ -53,7 +53,7 @@ module _ (f : Priced → ℕ) where
   few_sums (one ∷ told) each =
       let rest = few_sums told each.1 in
       let both = sum_by-append f (counted_price one) (counted_prices told) in
-      let its = one_sum one.1.counted one.0.1.priced in
+      let its = one_sum one.1 one.0.1.priced in
       let most = each.0 in
       omega (arith, rest, both, its, most)
 
@@ -65,7 +65,7 @@ module _ (f : Priced → ℕ) where
       let rest = less_sums told in
       let both = sum_by-append f (counted_price one) (counted_prices told) in
       let all = sum_by-cons (λ (one : Told). f one.0.1.priced) one told in
-      let its = one_sum one.1.counted one.0.1.priced in
+      let its = one_sum one.1 one.0.1.priced in
       omega (arith, rest, both, all, its)
 
 -- the first of some records cost no more than all
@@ -201,18 +201,18 @@ sum_told (one ∷ told) =
     omega (arith, its, other, rest)
 
 -- the records that were read are as many as the rows
-pub count_is : (trees : Trees) (rulings : Rulings) (count amount lines : ℕ)
-    (old new : List (RowKey × ChargeRow)) → AreRecords trees rulings count amount lines old new
+pub count_is : (trees : Trees) (rulings : Rulings) (count amount : ℕ)
+    (old new : List (RowKey × ChargeRow)) → AreRecords trees rulings count amount old new
     → count ≡ length (trees 3)
-count_is trees rulings count amount lines old new are =
+count_is trees rulings count amount old new are =
     are.are.counted
     ∙ sym (ap length are.all ∙ length-map are.entries (λ (one : Told). record_columns one.0))
 
 -- and cost what the row of the book says
-pub amount_is : (trees : Trees) (own : AreOwn trees) (rulings : Rulings) (count amount lines : ℕ)
-    (old new : List (RowKey × ChargeRow)) → AreRecords trees rulings count amount lines old new
+pub amount_is : (trees : Trees) (own : AreOwn trees) (rulings : Rulings) (count amount : ℕ)
+    (old new : List (RowKey × ChargeRow)) → AreRecords trees rulings count amount old new
     → amount ≡ (own_tables trees own).book.amount
-amount_is trees own rulings count amount lines old new are =
+amount_is trees own rulings count amount old new are =
     let tables : Tables = own_tables trees own in
     let told : List Told = are.entries in
     let same : map (λ (one : Told). one.0) told ≡ entries tables.records =
@@ -235,29 +235,6 @@ own_sums trees own rulings ruled =
 
 -- ---- sums at a place
 
--- what passes a test is no more than all
-filter_few : (test : Priced → Bool) (prices : List Priced) → length (filter test prices) ≤ length prices
-filter_few test [] = omega arith
-filter_few test (one ∷ prices) =
-    let rest = filter_few test prices in
-    elim (test one) as (λ b. length (cond b (one ∷ filter test prices) (filter test prices))
-    ≤ length (one ∷ prices)) [
-      | true ↦ omega (arith, rest)
-      | false ↦ omega (arith, rest)
-    ]
-
-filter_less : (f : Priced → ℕ) (test : Priced → Bool) (prices : List Priced)
-    → sum_by f (filter test prices) ≤ sum_by f prices
-filter_less f test [] = omega arith
-filter_less f test (one ∷ prices) =
-    let rest = filter_less f test prices in
-    let all = sum_by-cons f one prices in
-    elim (test one) as (λ b. sum_by f (cond b (one ∷ filter test prices) (filter test prices))
-    ≤ sum_by f (one ∷ prices)) [
-      | true ↦ (let own = sum_by-cons f one (filter test prices) in omega (arith, rest, all, own))
-      | false ↦ omega (arith, rest, all)
-    ]
-
 -- where all sums fit, so do those of a place
 pub place_fits : (prices : List Priced) (one : Priced) (key : RowKey)
     → CanBeCounted (prices ++ one ∷ [])
@@ -265,25 +242,24 @@ pub place_fits : (prices : List Priced) (one : Priced) (key : RowKey)
     × ((row_at prices key).blocks + one.excp < 2 ^ 64)
     × ((row_at prices key).amount + one.amount < 2 ^ 64)
 place_fits prices one key can =
-    let test : Priced → Bool = λ (p : Priced). same_key (key_of p) key in
     let cpu : Priced → ℕ = λ (p : Priced). p.cpu in
     let excp : Priced → ℕ = λ (p : Priced). p.excp in
     let amount : Priced → ℕ = λ (p : Priced). p.amount in
     let count = can.count in
     let long = length-append prices (one ∷ []) in
-    let few = filter_few test prices in
+    let few = length-charged_at-le prices key in
     let cpu_fits = can.sums.cpu in
     let cpu_all = sum_by-append cpu prices (one ∷ []) in
     let cpu_one = sum_by-cons cpu one [] in
-    let cpu_few = filter_less cpu test prices in
+    let cpu_few = sum_by-charged_at-le cpu prices key in
     let excp_fits = can.sums.blocks in
     let excp_all = sum_by-append excp prices (one ∷ []) in
     let excp_one = sum_by-cons excp one [] in
-    let excp_few = filter_less excp test prices in
+    let excp_few = sum_by-charged_at-le excp prices key in
     let amount_fits = can.sums.amount in
     let amount_all = sum_by-append amount prices (one ∷ []) in
     let amount_one = sum_by-cons amount one [] in
-    let amount_few = filter_less amount test prices in (
+    let amount_few = sum_by-charged_at-le amount prices key in (
       omega (arith, count, long, few),
       omega (arith, cpu_fits, cpu_all, cpu_one, cpu_few),
       omega (arith, excp_fits, excp_all, excp_one, excp_few),

@@ -49,14 +49,14 @@ module _ (trees : Trees) (own : AreOwn trees) (rulings : Rulings) (are : AreRule
 
   -- and told as its row counts it
   each_told : AllByRecursion
-      (λ (one : Told). one.1.counted ≡ is_counted_row (own_tables trees own) one.0) told
+      (λ (one : Told). one.1 ≡ is_counted_row (own_tables trees own) one.0) told
   each_told =
       all_both (λ (one : Told). (held : Held trees) → get held.0.records one.0.0 ≡ Some one.0.1)
       (λ (one : Told). IsTold trees rulings.closes.items one)
-      (λ (one : Told). one.1.counted ≡ is_counted_row (own_tables trees own) one.0)
+      (λ (one : Told). one.1 ≡ is_counted_row (own_tables trees own) one.0)
       (λ one there is. own_counts trees rulings one.0
       (record { own = own; ruled = are; held = λ tables holds. there (tables, holds) })
-      one.1.counted one.1.lines is.past) told
+      one.1 is.past) told
       (by_each (λ (held : Held trees) (one : Told). get held.0.records one.0.0 ≡ Some one.0.1) told
       each_held) past
 

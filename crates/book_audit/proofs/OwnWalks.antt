@@ -44,13 +44,7 @@ use Rattle.book_audit.specs.declared.finding.Tree.TheVariants.{Days, Lines, Iden
 use Rattle.book_audit.specs.declared.finding.Tree.TheVariants.{Choices, ChoiceNames, Details}
 use Rattle.book_audit.proofs.IndexRows.{entries_rise}
 use Rattle.book_audit.proofs.KeptRows.{own_key}
-use Rattle.book_audit.proofs.WalkLemmas.{last_long, prefix_is, within}
-
--- what holds of all elements holds of one behind others
-pub one_of_all : {X : Type 0} (P : X → Type 0) (done : List X) (x : X) (more : List X)
-    → AllByRecursion P (done ++ x ∷ more) → P x
-one_of_all P [] x more all = all.0
-one_of_all P (y ∷ done) x more all = one_of_all P done x more all.1
+use Rattle.book_audit.proofs.WalkLemmas.{last_long, one_of_all, prefix_is, within}
 
 -- rows that a walk can read
 pub record CanBeWalked (tree : Tree) (rows : List Row) : Type 0 where

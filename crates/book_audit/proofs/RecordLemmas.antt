@@ -10,28 +10,25 @@ use Rattle.book_model.specs.Words.{most_cost}
 use Rattle.book_model.specs.declared.row.ChargeRow.{ChargeRow}
 use Rattle.book_model.specs.declared.row.RowKey.{RowKey}
 use Rattle.tree_tables.specs.Columns.{record_columns}
-use Rattle.book_audit.specs.Days.{keyed_rows}
+use Rattle.book_core.specs.KeyedRows.{keyed_rows}
 use Rattle.book_audit.specs.Records.{AreEntries, Counts, IsRight, IsTold, Told, counted_price, counted_prices}
 use Rattle.book_audit.specs.declared.rulings.Rulings.{Rulings}
 
-pub none_yet : (trees : Trees) (rulings : Rulings) → AreEntries trees rulings 0 0 0 []
+pub none_yet : (trees : Trees) (rulings : Rulings) → AreEntries trees rulings 0 0 []
 none_yet trees rulings =
-    record { right = tt; past = tt; counted = refl; summed = refl; lined = refl; within = omega arith }
+    record { right = tt; past = tt; counted = refl; summed = refl; within = omega arith }
 
 -- one more row
-pub entries_pushed : (trees : Trees) (rulings : Rulings) (count amount next lines more : ℕ)
-    (entries : List Told) (told : Told)
-    → AreEntries trees rulings count amount lines entries → IsRight trees rulings told.0
-    → IsTold trees rulings.closes.items told
-    → next ≡ amount + told.0.1.priced.amount → next ≤ most_cost → more ≡ lines + told.1.lines
-    → AreEntries trees rulings (count + 1) next more (entries ++ told ∷ [])
-entries_pushed trees rulings count amount next lines more entries told so_far right past is within lined =
+pub entries_pushed : (trees : Trees) (rulings : Rulings) (count amount next : ℕ)
+    (entries : List Told) (told : Told) → AreEntries trees rulings count amount entries
+    → IsRight trees rulings told.0 → IsTold trees rulings.closes.items told
+    → next ≡ amount + told.0.1.priced.amount → next ≤ most_cost
+    → AreEntries trees rulings (count + 1) next (entries ++ told ∷ [])
+entries_pushed trees rulings count amount next entries told so_far right past is within =
     let counted = so_far.counted in
     let summed = so_far.summed in
-    let were = so_far.lined in
     let long = length-append entries (told ∷ []) in
     let cost = sum_by-append (λ (one : Told). one.0.1.priced.amount) entries (told ∷ []) in
-    let all = sum_by-append (λ (one : Told). one.1.lines) entries (told ∷ []) in
     record {
       right = all-append (λ (one : Told). IsRight trees rulings one.0) entries (told ∷ [])
           so_far.right (right, tt);
@@ -39,7 +36,6 @@ entries_pushed trees rulings count amount next lines more entries told so_far ri
           (past, tt);
       counted = omega (arith, counted, long);
       summed = omega (arith, is, summed, cost);
-      lined = omega (arith, lined, were, all);
       within = within;
     }
 

@@ -6,6 +6,7 @@ use Rattle.std.proofs.lemmas.List.Elements.{All-from_recursion}
 use Rattle.sqlite_trees.specs.Tree.{Trees}
 use Rattle.book_model.specs.Words.{AcceptedTerms, rows_of as charge_rows}
 use Rattle.table_model.specs.BookIn.{book_in}
+use Rattle.table_model.specs.Readable.{HasTexts, IsOfCharacters}
 use Rattle.table_model.specs.Tables.{Tables}
 use Rattle.table_model.specs.TablesOf.{tables_of}
 use Rattle.tree_tables.specs.Holds.{Holds}
@@ -14,9 +15,8 @@ use Rattle.consistent_tables.specs.Consistent.{AreConsistent, ruled}
 use Rattle.consistent_tables.specs.DueRows.{due_entry}
 use Rattle.consistent_tables.proofs.ReadableBook.{consistent_are_readable}
 use Rattle.consistent_tables.proofs.Tables.{consistent_are_tables}
-use Rattle.book_audit.specs.OfBook.{AreOfBook, HasTexts, sha_names}
+use Rattle.book_audit.specs.OfBook.{AreOfBook, sha_names}
 use Rattle.book_audit.specs.Records.{counted_prices}
-use Rattle.book_audit.specs.Rulings.{IsOfCharacters}
 use Rattle.book_audit.specs.SoundTrees.{AreSound}
 use Rattle.book_audit.specs.Walks.{AreRising}
 use Rattle.book_audit.specs.declared.audited.Counts.{Counts as Numbers}

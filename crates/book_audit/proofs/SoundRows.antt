@@ -29,9 +29,8 @@ use Rattle.tree_rows.specs.Rows.{IsFirst}
 use Rattle.tree_rows.proofs.IndexOrders.{by_bytes_exact}
 use Rattle.tree_rows.proofs.Keyed.{row_found}
 use Rattle.tree_rows.proofs.Maps.{head_is, prefix_of}
-use Rattle.tree_tables.specs.Columns.{flag}
 use Rattle.tree_tables.proofs.Layouts.{line_layout, record_layout}
-use Rattle.tree_tables.proofs.RowsRead.{same_blob, same_count, same_int}
+use Rattle.tree_tables.proofs.RowsRead.{same_blob, same_int}
 use Rattle.consistent_tables.specs.Consistent.{IsOwnLine, counted_entries, is_counted_row, ruled}
 use Rattle.consistent_tables.specs.DueRows.{due_entry, period_from}
 use Rattle.book_audit.specs.Lines.{IsLateLine}
@@ -41,34 +40,14 @@ use Rattle.book_audit.specs.SoundTrees.{AreSound}
 use Rattle.book_audit.specs.Trees.{HasKey}
 use Rattle.book_audit.specs.declared.audited.Counts.{Counts as Numbers}
 use Rattle.book_audit.specs.declared.finding.DetailKey.{DetailKey}
+use Rattle.book_audit.proofs.CountedRecords.{name_counted, named, prices_are}
+use Rattle.book_audit.proofs.HeldLooks.{same_flag}
 use Rattle.book_audit.proofs.KeptRows.{of_found}
 use Rattle.book_audit.proofs.Pigeonhole.{IsOneOf}
 use Rattle.book_audit.proofs.SoundRecords.{past_is}
 use Rattle.book_audit.proofs.SoundRulings.{closes_said, days, open_is}
 use Rattle.book_audit.proofs.TreesHold.{name_shown, names_shown, of_one, records_in_order, shown, shown_name}
 use Rattle.book_audit.proofs.TreesHold.{shown_row, so_many, tables_held, told_all, trees_hold}
-
--- ---- charge rows
-
--- the prices of the records that are counted, as a list
-prices_are : (counts : List ℕ × RecordRow → Bool) (told : List Told)
-    → AllByRecursion (λ (one : Told). one.1.counted ≡ counts one.0) told
-    → counted_prices told ≡ map (λ (entry : List ℕ × RecordRow). entry.1.priced)
-    (filter counts (map (λ (one : Told). one.0) told))
-prices_are counts [] each = refl
-prices_are counts (one ∷ told) each =
-    let its : List Priced = one.0.1.priced ∷ [] in
-    let others = filter counts (map (λ (told : Told). told.0) told) in
-    ap₂ (λ (b : Bool) (more : List Priced). (if b then its else []) ++ more) each.0
-    (prices_are counts told each.1)
-    ∙ by (counts one.0) others
-  where
-    by : (b : Bool) (others : List (List ℕ × RecordRow))
-        → (if b then one.0.1.priced ∷ [] else [])
-        ++ map (λ (entry : List ℕ × RecordRow). entry.1.priced) others
-        ≡ map (λ (entry : List ℕ × RecordRow). entry.1.priced) (cond b (one.0 ∷ others) others)
-    by true others = refl
-    by false others = refl
 
 -- ---- details
 
@@ -131,45 +110,7 @@ same_name d spot tie =
     ∙ ends_tie a b (Blob d.name) (Blob spot.name) refl
     (sym (ap is_eq (prefix_of (detail_key own) (drop 5 (shown_row d)) (detail_key spot) refl)) ∙ tie))
 
-same_mark : (one other : Bool) → flag one ≡ flag other → one ≡ other
-same_mark true true same = refl
-same_mark true false same = absurd (omega (arith, same))
-same_mark false true same = absurd (omega (arith, same))
-same_mark false false same = refl
-
 -- ---- the names of what is counted
-
--- a name with nothing else
-abbrev named : List ℕ × RecordRow → List ℕ × Unit {0}
-named entry = (entry.0, tt)
-
--- the name of an entry that is found and counted is found among those that are counted
-name_counted : (counts : List ℕ × RecordRow → Bool) (es : List (List ℕ × RecordRow)) (name : List ℕ)
-    (row : RecordRow) → find by_bytes name es ≡ Some row → counts (name, row) ≡ true
-    → find by_bytes name (map named (filter counts es)) ≡ Some tt
-name_counted counts [] name row there is = absurd (let e = there in cc)
-name_counted counts (e ∷ es) name row there is =
-    elim (by_bytes name e.0) as (λ o. by_bytes name e.0 ≡ o
-    → cond (is_eq o) (Some e.1) (find by_bytes name es) ≡ Some row
-    → find by_bytes name (map named (filter counts (e ∷ es))) ≡ Some tt) [
-      | Less ↦ λ at later. passed (counts e) (ap is_eq at) (name_counted counts es name row later is)
-      | Equal ↦ λ at it.
-          let same : (name, row) ≡ e = λ i. (by_bytes_exact name e.0 at i, same_Some row e.1 (sym it) i) in
-          own (counts e) (ap is_eq at) (sym (ap counts same) ∙ is)
-      | Greater ↦ λ at later. passed (counts e) (ap is_eq at) (name_counted counts es name row later is)
-    ] refl there
-  where
-    passed : (b : Bool) → is_eq (by_bytes name e.0) ≡ false
-        → find by_bytes name (map named (filter counts es)) ≡ Some tt
-        → find by_bytes name (map named (cond b (e ∷ filter counts es) (filter counts es))) ≡ Some tt
-    passed true other rest =
-        ap (λ b. cond b (Some tt) (find by_bytes name (map named (filter counts es)))) other ∙ rest
-    passed false other rest = rest
-
-    own : (b : Bool) → is_eq (by_bytes name e.0) ≡ true → b ≡ true
-        → find by_bytes name (map named (cond b (e ∷ filter counts es) (filter counts es))) ≡ Some tt
-    own true tie is = ap (λ b. cond b (Some tt) (find by_bytes name (map named (filter counts es)))) tie
-    own false tie is = absurd (true≢false (sym is))
 
 -- the entries of records, and the one of a name among them that is counted
 abbrev entries_told : List Told → List (List ℕ × RecordRow)
@@ -231,8 +172,8 @@ module _ (trees : Trees) (numbers : Numbers) (sound : AreSound trees numbers) wh
   counts = is_counted_row tables
 
   -- what is told of a record is what the tables say
-  is_told : (one : Told) → IsTold trees closes one → one.1.counted ≡ counts one.0
-  is_told one is = (past_is trees numbers sound one.0.0 one.0.1 one.1.counted one.1.lines is.past).0
+  is_told : (one : Told) → IsTold trees closes one → one.1 ≡ counts one.0
+  is_told one is = (past_is trees numbers sound one.0.0 one.0.1 one.1 is.past).0
 
   counted_are : counted_entries tables ≡ filter counts (entries_told told_here)
   counted_are = ap (filter counts) (records_in_order trees numbers sound)
@@ -244,7 +185,7 @@ module _ (trees : Trees) (numbers : Numbers) (sound : AreSound trees numbers) wh
       from_entries {R = by_period by_key} (map (due_entry all) (charge_rows prices)))
       (sym (closes_said trees numbers sound))
       (prices_are counts told_here
-      (all_weaker (IsTold trees closes) (λ (one : Told). one.1.counted ≡ counts one.0) is_told told_here
+      (all_weaker (IsTold trees closes) (λ (one : Told). one.1 ≡ counts one.0) is_told told_here
       sound.records.are.past)
       ∙ ap (map (λ (entry : List ℕ × RecordRow). entry.1.priced)) (sym counted_are))
 
@@ -262,17 +203,12 @@ module _ (trees : Trees) (numbers : Numbers) (sound : AreSound trees numbers) wh
       let day : entry.1.priced.day ≡ at.0.priced.day =
       same_int entry.1.priced.day at.0.priced.day (ap (λ (r : Row). column r 3) at.2) in
       let charged : entry.1.charged ≡ at.0.charged =
-      same_mark entry.1.charged at.0.charged
-      (same_count (flag entry.1.charged) (flag at.0.charged) (ap (λ (r : Row). column r 9) at.2)) in
+      same_flag entry.1.charged at.0.charged (ap (λ (r : Row). column r 9) at.2) in
       let past : GoesBack (trees 5) d.name (length closes + 1) (later_periods closes at.0.priced.day)
-      at.0.charged true shows.counted.count =
+      at.0.charged true =
       subst (λ (it : List ℕ × ℤ × Bool). GoesBack (trees 5) it.0 (length closes + 1)
-      (later_periods closes it.1) it.2 true shows.counted.count)
-      (λ i. (name i, day i, charged i)) shows.counted.past in (
-        at.0,
-        at.1,
-        sym (past_is trees numbers sound d.name at.0 true shows.counted.count past).0,
-      )
+      (later_periods closes it.1) it.2 true) (λ i. (name i, day i, charged i)) shows.counted in
+      (at.0, at.1, sym (past_is trees numbers sound d.name at.0 true past).0)
 
   -- and what is counted is shown
   counted_shown : (one : Told) → IsOneOf one told_here → counts one.0 ≡ true

@@ -1,32 +1,25 @@
 -- The rulings of sound trees are those that their tables say.
-use Rattle.std.proofs.Common.{◌≡◌, ◌∙◌, ◌<◌, ◌≤◌, ◌+◌, ◌∷◌, [], ◌⊎◌, inl, inr, ℕ, suc, ℤ, List, Bool, true, false}
-use Rattle.std.proofs.Common.{◌&&◌, ◌==◌, All, Option, Some, None, ap, arith, length, map, refl, subst, sym}
+use Rattle.std.proofs.Common.{◌≡◌, ◌∙◌, ◌<◌, ◌≤◌, ◌+◌, ◌∷◌, [], inl, inr, ℕ, suc, ℤ, List, true, ◌&&◌, All}
+use Rattle.std.proofs.Common.{Option, Some, None, ap, arith, length, map, refl, subst, sym}
 use Rattle.std.specs.FinMap.{entries, get, values}
 use Rattle.std.specs.List.{AllByRecursion, cons_option, filter_map, list_all}
 use Rattle.std.specs.List.Sorted.{IsStrictlySortedBy}
-use Rattle.std.specs.Option.{option_map, option_map_or}
+use Rattle.std.specs.Option.{option_map}
 use Rattle.std.specs.Ordering.{int_cmp}
-use Rattle.std.specs.Prelude.{◌<ℤ◌, if◌then◌else◌, int_lt, nat_le, nat_lt}
+use Rattle.std.specs.Prelude.{◌<ℤ◌, int_lt, nat_le}
 use Rattle.std.specs.declared.cmp.Ordering.TheVariants.{Less}
 use Rattle.std.proofs.lemmas.Bool.Decides.{nat_tests}
 use Rattle.std.proofs.lemmas.Int.{ints}
 use Rattle.std.proofs.lemmas.List.{length-map}
 use Rattle.std.proofs.lemmas.List.Elements.{All-cons, All-from_recursion, All-nil}
-use Rattle.std.proofs.lemmas.Option.{same_Some}
-use Rattle.smf_type30.specs.Usage.{day_of, identity2_of, identity_of}
-use Rattle.tariff_rules.specs.Price.{price_by}
 use Rattle.tariff_rules.specs.Terms.{Terms}
-use Rattle.tariff_rules.specs.declared.priced.Priced.{Priced}
 use Rattle.sqlite_trees.specs.Tree.{IsAscending, Trees}
 use Rattle.sqlite_value.specs.Order.{Row, column}
 use Rattle.book_model.specs.Words.{AcceptedTerms, Choice, IsDay, Rulings as Ruled, are_rising}
-use Rattle.book_model.specs.Words.{first_rule, identity_by, last_period, most_choices, open_by}
-use Rattle.book_model.specs.Words.{price_in, price_under, second_rule}
-use Rattle.book_model.proofs.LatestLemmas.{begun-last}
-use Rattle.book_model.proofs.RecordSets.{first_of, second_of}
-use Rattle.table_model.specs.BookIn.{adopted_read, choice_read, row_record}
+use Rattle.book_model.specs.Words.{identity_by, last_period, most_choices, open_by, price_in}
+use Rattle.table_model.specs.BookIn.{choice_read, row_record}
 use Rattle.table_model.specs.Readable.{IsTexted}
-use Rattle.table_model.specs.Tables.{BookRow, ChoiceRow, RecordRow, RecordTable, Tables, never_adopted}
+use Rattle.table_model.specs.Tables.{BookRow, ChoiceRow, RecordRow, RecordTable, Tables}
 use Rattle.table_model.specs.TablesOf.{close_entries, tariff_entries, under_numbers}
 use Rattle.table_model.proofs.CloseOrder.{earlier}
 use Rattle.table_model.proofs.RulingsReading.{tariffs_back}
@@ -37,16 +30,15 @@ use Rattle.tree_tables.proofs.Layouts.{record_layout, tariff_layout}
 use Rattle.tree_tables.proofs.RowsRead.{same_blob}
 use Rattle.consistent_tables.specs.Consistent.{IsOwnRule, choice_numbers, ruled}
 use Rattle.book_audit.specs.ChoiceRows.{IsMade, Made, said}
-use Rattle.book_audit.specs.Data.{has_begun, price_of}
-use Rattle.book_audit.specs.Rules.{identity_under, is_by, may_be_open, rule_of}
+use Rattle.book_audit.specs.Data.{price_of}
+use Rattle.book_audit.specs.Rules.{identity_under, is_by, rule_of}
 use Rattle.book_audit.specs.SoundTrees.{AreSound}
 use Rattle.book_audit.specs.Walks.{AreRising}
 use Rattle.book_audit.specs.declared.audited.Counts.{Counts as Numbers}
 use Rattle.book_audit.specs.declared.finding.Tree.TheVariants.{Tariffs}
 use Rattle.book_audit.specs.declared.identity_rule.IdentityRule.{IdentityRule}
-use Rattle.book_audit.specs.declared.identity_rule.IdentityRule.TheVariants.{First, SecondSince}
+use Rattle.book_audit.proofs.HeldRulings.{identity_said, price_said, which_rule}
 use Rattle.book_audit.proofs.KeptRows.{entries_kept, keys_rise}
-use Rattle.book_audit.proofs.LastPassing.{found_made}
 use Rattle.book_audit.proofs.TreesHold.{made, tables_held, trees_hold}
 
 -- ---- tariffs
@@ -72,64 +64,13 @@ tariffs_rise (tariff ∷ tariffs) up =
     let rest = tariffs_rise tariffs up.1 in
     λ i. first i && rest i
 
--- what usage costs by rising tariffs is what it costs by their terms
-price_said : (rulings : Ruled) (accepted : List AcceptedTerms) (bytes : List ℕ)
-    → rulings.tariffs ≡ accepted → are_rising accepted ≡ true
-    → price_in rulings bytes ≡ price_of (map (λ (tariff : AcceptedTerms). tariff.terms) accepted) bytes
-price_said rulings accepted bytes is rising =
-    let terms : AcceptedTerms → Terms = λ (tariff : AcceptedTerms). tariff.terms in
-    let price : Terms → Priced = λ (one : Terms). price_by one bytes in
-    ap (λ (all : List AcceptedTerms). price_under all bytes) is
-    ∙ ap (λ (found : Option AcceptedTerms). option_map price (option_map terms found))
-    (begun-last accepted (day_of bytes) rising)
-    ∙ sym (ap (option_map price) (found_made terms (has_begun (day_of bytes)) accepted))
-
 -- ---- the rule of identity
 
--- numbers that a test finds equal, and one that is above none or no later
-same_number : (a b : ℕ) → (a == b) ≡ true → a ≡ b
-same_number a b same = grind (arith, nat_tests)
-
-above_none : (n : ℕ) → nat_lt 0 n ≡ true → 0 < n
-above_none n above = grind (arith, nat_tests)
-
+-- a number that a test finds no later
 no_later : (a b : ℕ) → nat_le a b ≡ true → a ≤ b
 no_later a b early = grind (arith, nat_tests)
 
--- the rule that two numbers say
-which_rule : (rule adopted : ℕ) (found : IdentityRule) → rule_of rule adopted ≡ Some found
-    → ((found ≡ First) × (rule ≡ first_rule) × (adopted ≡ never_adopted))
-    ⊎ ((found ≡ SecondSince adopted) × (rule ≡ second_rule) × (0 < adopted))
-which_rule rule adopted found is =
-    let second : Option IdentityRule =
-    if (rule == second_rule) && may_be_open adopted then Some (SecondSince adopted) else None in
-    elim ((rule == first_rule) && (adopted == never_adopted)) as (λ b.
-    ((rule == first_rule) && (adopted == never_adopted)) ≡ b
-    → (if b then Some First else second) ≡ Some found
-    → ((found ≡ First) × (rule ≡ first_rule) × (adopted ≡ never_adopted))
-    ⊎ ((found ≡ SecondSince adopted) × (rule ≡ second_rule) × (0 < adopted))) [
-      | true ↦ λ both at. inl (
-        sym (same_Some First found at),
-        same_number rule first_rule
-            (first_of (rule == first_rule) (adopted == never_adopted) both),
-        same_number adopted never_adopted
-            (second_of (rule == first_rule) (adopted == never_adopted) both),
-      )
-      | false ↦ λ neither at. inr (by_second ((rule == second_rule) && may_be_open adopted) refl at)
-    ] refl is
-  where
-    by_second : (b : Bool) → ((rule == second_rule) && may_be_open adopted) ≡ b
-        → (if b then Some (SecondSince adopted) else None) ≡ Some found
-        → (found ≡ SecondSince adopted) × (rule ≡ second_rule) × (0 < adopted)
-    by_second true both at = (
-      sym (same_Some (SecondSince adopted) found at),
-      same_number rule second_rule (first_of (rule == second_rule) (may_be_open adopted) both),
-      above_none adopted (first_of (nat_lt 0 adopted) (nat_le adopted last_period)
-          (second_of (rule == second_rule) (may_be_open adopted) both)),
-    )
-    by_second false neither at = absurd (let e = at in cc)
-
--- so the row of the book says the rule
+-- the row of the book says the rule
 own_rule : (tables : Tables) (row : BookRow) (found : IdentityRule)
     → rule_of row.rule row.adopted ≡ Some found → is_by (open_by (ruled tables)) found ≡ true
     → IsOwnRule tables row
@@ -142,22 +83,6 @@ own_rule tables row found is begun = elim (which_rule row.rule row.adopted found
         (subst (λ (one : IdentityRule). is_by (open_by (ruled tables)) one ≡ true) it.0 begun),
   )
 ]
-
--- and whose work a record measures
-identity_said : (row : BookRow) (found : IdentityRule) (bytes : List ℕ)
-    → rule_of row.rule row.adopted ≡ Some found
-    → identity_under found bytes
-    ≡ option_map_or (λ (period : ℕ). identity2_of bytes) (adopted_read row) (identity_of bytes)
-identity_said row found bytes is =
-    let by_number : ℕ → List ℕ = λ (rule : ℕ).
-    option_map_or (λ (period : ℕ). identity2_of bytes)
-    (if rule == second_rule then Some row.adopted else None) (identity_of bytes) in
-    elim (which_rule row.rule row.adopted found is) [
-      | inl it ↦ ap (λ (one : IdentityRule). identity_under one bytes) it.0
-          ∙ sym (ap by_number it.1)
-      | inr it ↦ ap (λ (one : IdentityRule). identity_under one bytes) it.0
-          ∙ sym (ap by_number it.1)
-    ]
 
 -- ---- choices
 

@@ -5,10 +5,9 @@ use Rattle.std.proofs.lemmas.List.{map-append}
 use Rattle.std.proofs.lemmas.Option.{same_Some}
 use Rattle.sqlite_value.specs.Order.{Row}
 use Rattle.book_model.specs.Words.{AcceptedTerms, IsDay, Terms, terms_in}
-use Rattle.table_model.specs.Readable.{IsTexted}
+use Rattle.table_model.specs.Readable.{IsOfCharacters, IsTexted}
 use Rattle.table_model.specs.TablesOf.{tariff_entries}
 use Rattle.tree_tables.specs.Columns.{tariff_columns}
-use Rattle.book_audit.specs.Rulings.{IsOfCharacters}
 
 -- a tariff with its text
 abbrev pub texted : List ℕ → Terms → AcceptedTerms

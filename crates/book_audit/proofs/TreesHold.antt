@@ -269,7 +269,7 @@ module _ (trees : Trees) (numbers : Numbers) (sound : AreSound trees numbers) wh
       sound.records.are.counted ∙ sym (length-map told_all (λ (told : Told). told.0))
       ∙ ap length (sym records_in_order)
 
-  pub identity_rows : trees 6 ≡ rows_of identity_layout (identity_index records)
+  identity_rows : trees 6 ≡ rows_of identity_layout (identity_index records)
   identity_rows =
       let keys = identities_in (trees 6) sound.identities.each sound.identities.wide in
       keys.1

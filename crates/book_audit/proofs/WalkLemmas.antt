@@ -23,6 +23,12 @@ use Rattle.book_audit.specs.declared.finding.Tree.TheVariants.{Days, Lines, Iden
 use Rattle.book_audit.specs.declared.finding.Tree.TheVariants.{Choices, ChoiceNames, Details}
 use Rattle.book_audit.specs.Walks.{AreRising, AreWide, HasWalked, key_in, key_width, last_key, width}
 
+-- what holds of all elements holds of one behind others
+pub one_of_all : {X : Type 0} (P : X → Type 0) (done : List X) (x : X) (more : List X)
+    → AllByRecursion P (done ++ x ∷ more) → P x
+one_of_all P [] x more all = all.0
+one_of_all P (y ∷ done) x more all = one_of_all P done x more all.1
+
 -- a key is the first columns of a row, and at least one
 pub within : (tree : Tree) → key_width tree ≤ width tree
 within Book = omega arith
@@ -180,9 +186,3 @@ module _ (tree : Tree) (key row : Row) (rows done : List Row) (so_far : HasWalke
     rising = ascending-append (λ a b. row_cmp (key_in tree a) (key_in tree b) ≡ Less) done (row ∷ [])
         so_far.rising (tt, tt) (each_below tree done row below);
   }
-
--- a walk that finds no further row has read all
-pub walk_ends : (tree : Tree) (key : Row) (rows done : List Row) → HasWalked tree key rows done
-    → rows_past key rows ≡ [] → rows ≡ done
-walk_ends tree key rows done so_far none =
-    so_far.left ∙ ap (λ rest. done ++ rest) none ∙ append-nil done

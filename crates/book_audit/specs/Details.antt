@@ -25,9 +25,8 @@ pub record HasCost (row : Row) (priced : Priced) : Type 0 where
   pub amount : column row 11 ≡ Int (pos priced.amount)
 
 -- by its lines the row of its period counts a record
-pub record IsCounted (lines : List Row) (closes : List ℤ) (entry : List ℕ × RecordRow) : Type 0 where
-  pub count : ℕ
-  pub past : HasPast lines closes entry true count
+abbrev pub IsCounted : List Row → List ℤ → List ℕ × RecordRow → Type 0
+IsCounted lines closes entry = HasPast lines closes entry true
 
 -- What is shown is a record that is held, as its row and its bytes say, and that is counted.
 pub record ShowsCounted (trees : Trees) (closes : List ℤ) (shown : Detail) : Type 0 where

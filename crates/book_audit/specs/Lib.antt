@@ -18,6 +18,7 @@ pub mod ChoiceRows
 pub mod SoundTrees
 pub mod OfBook
 pub mod Own
+pub mod Looks
 pub mod OwnChoices
 pub mod OwnRecords
 pub mod Copies

@@ -1,22 +1,17 @@
 -- Trees that hold a book.
-use Rattle.std.specs.Prelude.{◌≡◌, All, length}
+use Rattle.std.specs.Prelude.{◌≡◌, length}
 use Rattle.std.specs.FinMap.{entries}
 use Rattle.sha2.specs.Sha256.{sha256}
 use Rattle.sqlite_trees.specs.Tree.{Trees}
 use Rattle.book_model.specs.Words.{Book, Naming, members}
-use Rattle.table_model.specs.Readable.{IsReadable}
+use Rattle.table_model.specs.Readable.{HasTexts, IsReadable}
 use Rattle.table_model.specs.TablesOf.{tables_of}
 use Rattle.tree_tables.specs.Holds.{Holds}
-use Rattle.book_audit.specs.Rulings.{IsOfCharacters}
 use Rattle.book_audit.specs.declared.audited.Counts.{Counts}
 
 -- records are named by the SHA-256 of their data
 abbrev pub sha_names : Naming
 sha_names = sha256
-
--- the texts of the tariffs consist of characters, like any text that is given to a call
-abbrev pub HasTexts : Book → Type 0
-HasTexts book = All IsOfCharacters book.rulings.tariffs
 
 -- The trees hold the tables of a book that can be read back, and these are its counts.
 pub record AreOfBook (naming : Naming) (trees : Trees) (counts : Counts) : Type 0 where

@@ -1,5 +1,5 @@
 -- Books that calls made are not called unsound.
-use Rattle.std.specs.Prelude.{◌≡◌, ◌≢◌, Bool, false, true}
+use Rattle.std.specs.Prelude.{◌≡◌, ◌≢◌, Bool, false, true, Result, IfOk}
 use Rattle.sqlite_disk.specs.Disk.{MoreFaults}
 use Rattle.sqlite_trees.specs.Tree.{Trees}
 use Rattle.sqlite_trees.specs.View.{IsClean}
@@ -7,10 +7,13 @@ use Rattle.sqlite_trees.specs.declared.error.StoreError.{StoreError}
 use Rattle.sqlite_trees.specs.declared.store.Store.{Ghosts}
 use Rattle.book_model.specs.Words.{Book}
 use Rattle.table_model.specs.FromCalls.{IsFromCalls}
+use Rattle.table_model.specs.Readable.{HasTexts}
 use Rattle.table_model.specs.TablesOf.{tables_of}
 use Rattle.tree_rows.specs.Calls.{IsCausedByStore}
 use Rattle.tree_tables.specs.Holds.{Holds}
-use Rattle.book_audit.specs.OfBook.{HasTexts, sha_names}
+use Rattle.book_audit.specs.OfBook.{sha_names}
+use Rattle.book_audit.specs.declared.audited.Audited.{Audited}
+use Rattle.book_audit.specs.declared.audited.Audited.TheVariants.{Unsound as CalledUnsound}
 use Rattle.book_audit.specs.declared.finding.Finding.{Finding}
 use Rattle.book_audit.specs.declared.finding.Tree.{Tree}
 use Rattle.book_audit.specs.declared.finding.Tree.TheVariants.{ChoiceNames, Identities, Marks}
@@ -33,6 +36,13 @@ abbrev pub IsOwnStop : {S : Type 0} → Ghosts S → S → S → Stop → Type 0
 IsOwnStop ghosts old new stop =
     (finding : Finding) → stop ≡ Unsound finding → IsClean (ghosts.view new)
     → AreOwn (ghosts.view old).trees → MoreFaults (ghosts.faults old) (ghosts.faults new)
+
+-- Books that calls made are not called unsound, unless the disk failed or refused meanwhile.
+abbrev pub IsFairToOwn : {S E : Type 0} → Ghosts S → Result Audited E → S → S → Type 0
+IsFairToOwn ghosts result old new =
+    IfOk result (λ audited. (finding : Finding) → audited ≡ CalledUnsound finding
+    → IsClean (ghosts.view new) → AreOwn (ghosts.view old).trees
+    → MoreFaults (ghosts.faults old) (ghosts.faults new))
 
 -- a tree that finds the rows of a table
 abbrev pub is_index : Tree → Bool

@@ -1,5 +1,5 @@
 -- Records of books that calls made, and what their data say.
-use Rattle.std.specs.Prelude.{◌≡◌, ◌<◌, ◌≤◌, ◌^◌, ℕ, Bool, List, Some, length, true}
+use Rattle.std.specs.Prelude.{◌≡◌, ◌<◌, ◌≤◌, ◌^◌, ◌++◌, ◌∷◌, [], ℕ, Bool, List, Some, length, true}
 use Rattle.std.specs.FinMap.{get}
 use Rattle.sha2.specs.Sha256.{sha256}
 use Rattle.smf_frames.specs.Framed.{most_data}
@@ -8,6 +8,9 @@ use Rattle.sqlite_trees.specs.Tree.{Trees}
 use Rattle.tariff_rules.specs.declared.priced.Priced.{Priced}
 use Rattle.book_model.specs.Rows.{FitSums}
 use Rattle.book_model.specs.declared.detail.Detail.{Detail}
+use Rattle.book_model.specs.declared.row.ChargeRow.{ChargeRow}
+use Rattle.book_model.specs.declared.row.RowKey.{RowKey}
+use Rattle.book_core.specs.KeyedRows.{keyed_rows}
 use Rattle.table_model.specs.Tables.{RecordRow, Tables}
 use Rattle.table_model.specs.TablesOf.{tables_of}
 use Rattle.consistent_tables.specs.Consistent.{is_counted_row}
@@ -60,3 +63,8 @@ IsShownIn trees shown =
 pub record CanBeCounted (prices : List Priced) : Type 0 where
   pub count : length prices < 2 ^ 64
   pub sums : FitSums prices
+
+-- the rows of places count some records, with which one more can be counted
+abbrev pub HasRoomFor : List (RowKey × ChargeRow) → Priced → Type 0
+HasRoomFor rows one =
+    (prices : List Priced) × (rows ≡ keyed_rows prices) × CanBeCounted (prices ++ one ∷ [])

@@ -3,11 +3,10 @@ use Rattle.std.specs.Prelude.{◌≡◌, ◌+◌, ◌∷◌, [], ℕ, ℤ, All, 
 use Rattle.std.specs.List.{AllByRecursion, last_or}
 use Rattle.std.specs.List.Sorted.{IsStrictlySortedBy}
 use Rattle.std.specs.Option.{option_map_or}
-use Rattle.std.specs.Str.{IsUtf8}
 use Rattle.std.specs.Ordering.{int_cmp}
 use Rattle.sqlite_value.specs.Order.{Row}
 use Rattle.book_model.specs.Words.{AcceptedTerms, IsDay, Terms}
-use Rattle.table_model.specs.Readable.{IsTexted}
+use Rattle.table_model.specs.Readable.{IsOfCharacters, IsTexted}
 use Rattle.table_model.specs.TablesOf.{close_entries, tariff_entries}
 use Rattle.tree_tables.specs.Columns.{book_columns, closed_columns, tariff_columns}
 use Rattle.tree_tables.specs.declared.closed_rows.Close.{Close}
@@ -45,10 +44,6 @@ pub record HasOneRow (rows : List Row) (book : BookRow) : Type 0 where
   pub row : Row
   pub one : rows ≡ row ∷ []
   pub is : IsBookRow row book
-
--- the text of a tariff, if it came with one, is one of characters
-abbrev pub IsOfCharacters : AcceptedTerms → Type 0
-IsOfCharacters tariff = (text : List ℕ) → tariff.text ≡ Some text → IsUtf8 text
 
 -- The rows are those of tariffs, each with a text of characters that says its terms, under its first
 -- day, in the order of the days.

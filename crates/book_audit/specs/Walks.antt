@@ -2,13 +2,15 @@
 use Rattle.std.specs.Prelude.{◌≡◌, ◌++◌, ◌∷◌, [], ℕ, Bool, true, false, List, length, take}
 use Rattle.std.specs.List.{AllByRecursion}
 use Rattle.std.specs.declared.cmp.Ordering.TheVariants.{Less}
-use Rattle.sqlite_trees.specs.Tree.{IsAscending}
+use Rattle.sqlite_trees.specs.Tree.{IsAscending, Trees}
 use Rattle.sqlite_value.specs.Order.{Row, row_cmp}
 use Rattle.tree_tables.specs.Walks.{rows_past}
 use Rattle.book_audit.specs.declared.finding.Tree.{Tree}
 use Rattle.book_audit.specs.declared.finding.Tree.TheVariants.{Book, Tariffs, Closes, Records}
 use Rattle.book_audit.specs.declared.finding.Tree.TheVariants.{Days, Lines, Identities, Marks}
 use Rattle.book_audit.specs.declared.finding.Tree.TheVariants.{Choices, ChoiceNames, Details}
+use Rattle.book_audit.specs.declared.walk.Walk.{Walk}
+use Rattle.book_audit.specs.Trees.{tree_number}
 
 -- how many columns a row of the tree has,
 abbrev pub width : Tree → ℕ
@@ -64,7 +66,18 @@ pub record HasWalked (tree : Tree) (key : Row) (rows done : List Row) : Type 0 w
   pub wide : AreWide tree done
   pub rising : AreRising tree done
 
+-- it has read some rows of its tree
+abbrev pub IsWalkOf : Walk → Trees → Type 0
+IsWalkOf walk trees =
+    (done : List Row) × HasWalked walk.tree walk.key (trees (tree_number walk.tree)) done
+
 -- it has read one more row; or it had read all
 abbrev pub WalksOn : Tree → Row → Row → List Row → List Row → Bool → Type 0
 WalksOn tree key row rows done true = HasWalked tree key rows (done ++ row ∷ [])
 WalksOn tree key row rows done false = rows ≡ done
+
+-- One step of a walk: whatever rows it had read, it has read the next one; or it had read all.
+abbrev pub GoesOn : Walk → Walk → Trees → Bool → Type 0
+GoesOn old new trees there =
+    (done : List Row) → HasWalked old.tree old.key (trees (tree_number old.tree)) done
+    → WalksOn old.tree new.key new.row (trees (tree_number old.tree)) done there

@@ -1,14 +1,13 @@
 //! All trees of books.
 
 ghost use Rattle.std.specs.Prelude.{◌≡◌, IfErr, IfOk, OnOk};
-ghost use Rattle.sqlite_disk.specs.Disk.{MoreFaults};
 ghost use Rattle.sqlite_trees.specs.View.{IsClean};
 ghost use Rattle.tree_rows.specs.Calls.{CommitsNothing, OnlyLooks};
 ghost use Rattle.tree_rows.specs.Rows.{IsUnchanged};
 ghost use Rattle.tree_tables.specs.Holds.{HasShapes};
+ghost use Rattle.book_audit.specs.Looks.{Tells};
 ghost use Rattle.book_audit.specs.OfBook.{AreOfBook, sha_names};
-ghost use Rattle.book_audit.specs.Own.{AreOwn, IsOwnStop};
-ghost use Rattle.book_audit.specs.declared.finding.Finding.{Finding};
+ghost use Rattle.book_audit.specs.Own.{IsFairToOwn, IsOwnStop};
 ghost use Rattle.book_audit.specs.SoundTrees.{AreSound};
 
 use crate::audited::{Audited, Counts};
@@ -30,10 +29,8 @@ fn read_trees<S: Store, W: Watch>(
     trees: &mut Trees<S>,
     watch: &mut W,
 ) -> Result<Counts, Stop>
-    ensures sound { IfOk result (λ counts. IsClean (S.Store.view trees.new.store)
-        → AreSound (S.Store.view trees.old.store).trees counts) }
-    ensures book { IfOk result (λ counts. IsClean (S.Store.view trees.new.store)
-        → AreOfBook sha_names (S.Store.view trees.old.store).trees counts) }
+    ensures sound { Tells result trees.old trees.new AreSound }
+    ensures book { Tells result trees.old trees.new (AreOfBook sha_names) }
     ensures own { IfErr result (IsOwnStop S.Store trees.old.store trees.new.store) }
     ensures same { OnOk result (OnlyLooks S.Store trees.old.store trees.new.store) }
     ensures quiet { CommitsNothing S.Store trees.old.store trees.new.store }
@@ -65,10 +62,8 @@ pub fn audit_trees<S: Store, W: Watch>(
     ensures book { IfOk result.0 (λ audited. (counts : Counts) → audited ≡ Audited.Sound counts
         → IsClean (S.Store.view result.1)
         → AreOfBook sha_names (S.Store.view store).trees counts) }
-    ensures own { IfOk result.0 (λ audited. (finding : Finding)
-        → audited ≡ Audited.Unsound finding → IsClean (S.Store.view result.1)
-        → AreOwn (S.Store.view store).trees
-        → MoreFaults (S.Store.faults store) (S.Store.faults result.1)) }
+    // Books that calls made are not called unsound, unless the disk failed or refused meanwhile.
+    ensures own { IsFairToOwn S.Store result.0 store result.1 }
     ensures same { IfOk result.0 (λ audited. (counts : Counts) → audited ≡ Audited.Sound counts
         → IsClean (S.Store.view result.1)
         → IsUnchanged (S.Store.view store) (S.Store.view result.1)) }

@@ -1,13 +1,13 @@
 //! The choices: which record was chosen last of each identity.
 
 ghost use Rattle.std.specs.Prelude.{◌≡◌, ◌≤◌, ◌+◌, ◌||◌, IfErr, IfOk, None, OnOk, length};
-ghost use Rattle.sqlite_trees.specs.View.{IsClean};
 ghost use Rattle.tree_rows.specs.Calls.{CommitsNothing, OnlyLooks};
 ghost use Rattle.tree_tables.specs.Columns.{choice_columns};
 ghost use Rattle.tree_tables.specs.Fits.{ChoiceFits};
 ghost use Rattle.book_audit.specs.ChoiceRows.{AreChoices, Chooses, IsChosenAmong, entry_of, row_of};
 ghost use Rattle.book_audit.specs.Entries.{AreCounted};
-ghost use Rattle.book_audit.specs.Own.{AreOwn, IsOwnStop};
+ghost use Rattle.book_audit.specs.Looks.{IsFair, Tells};
+ghost use Rattle.book_audit.specs.Own.{AreOwn};
 ghost use Rattle.book_audit.specs.OwnChoices.{AreItsRulings, IsChoiceIn, IsNextIn};
 
 use crate::entry_counts::check_entries;
@@ -137,13 +137,10 @@ fn chosen_identity<S: Store>(
     rule: IdentityRule,
     choice: &Choice,
 ) -> Result<Vec<u8>, Stop>
-    ensures among { IfOk result (λ identity. IsClean (S.Store.view trees.new.store)
-        → IsChosenAmong (S.Store.view trees.old.store).trees rule (row_of choice.now)
-        identity.items) }
-    ensures own { IfErr result (λ stop. (IsClean (S.Store.view trees.old.store)
-        → (own : AreOwn (S.Store.view trees.old.store).trees)
-        → IsChoiceIn own.book rule choice.now)
-        → IsOwnStop S.Store trees.old.store trees.new.store stop) }
+    ensures among { Tells result trees.old trees.new (λ all identity.
+        IsChosenAmong all rule (row_of choice.now) identity.items) }
+    ensures own { IsFair result trees.old trees.new (λ all.
+        (own : AreOwn all) → IsChoiceIn own.book rule choice.now) }
     ensures same { OnOk result (OnlyLooks S.Store trees.old.store trees.new.store) }
     ensures quiet { CommitsNothing S.Store trees.old.store trees.new.store }
 {
@@ -174,13 +171,10 @@ fn check_choice<S: Store>(
 ) -> Result<(), Stop>
     ensures number { OnOk result (choice.now.number ≡ chosen.old.count + 1) }
     ensures count { OnOk result (chosen.new.count ≡ choice.now.number) }
-    ensures chooses { OnOk result (IsClean (S.Store.view trees.new.store)
-        → Chooses (S.Store.view trees.old.store).trees rule open_period chosen.old chosen.new
-        choice.now) }
-    ensures own { IfErr result (λ stop. (IsClean (S.Store.view trees.old.store)
-        → (own : AreOwn (S.Store.view trees.old.store).trees)
-        → IsNextIn own.book rule open_period chosen.old choice.now)
-        → IsOwnStop S.Store trees.old.store trees.new.store stop) }
+    ensures chooses { Tells result trees.old trees.new (λ all _.
+        Chooses all rule open_period chosen.old chosen.new choice.now) }
+    ensures own { IsFair result trees.old trees.new (λ all.
+        (own : AreOwn all) → IsNextIn own.book rule open_period chosen.old choice.now) }
     ensures same { OnOk result (OnlyLooks S.Store trees.old.store trees.new.store) }
     ensures quiet { CommitsNothing S.Store trees.old.store trees.new.store }
 {
@@ -209,14 +203,12 @@ pub(crate) fn read_choices<S: Store, W: Watch>(
     open_period: u16,
     watch: &mut W,
 ) -> Result<Chosen, Stop>
-    ensures choices { IfOk result (λ chosen. IsClean (S.Store.view trees.new.store)
-        → AreChoices (S.Store.view trees.old.store).trees rule open_period chosen) }
-    ensures names { IfOk result (λ chosen. IsClean (S.Store.view trees.new.store)
-        → AreCounted Tree.ChoiceNames ((S.Store.view trees.old.store).trees 9) chosen.count) }
-    ensures own { IfErr result (λ stop. (IsClean (S.Store.view trees.old.store)
-        → (own : AreOwn (S.Store.view trees.old.store).trees)
-        → AreItsRulings rule open_period own.book)
-        → IsOwnStop S.Store trees.old.store trees.new.store stop) }
+    ensures choices { Tells result trees.old trees.new (λ all chosen.
+        AreChoices all rule open_period chosen) }
+    ensures names { Tells result trees.old trees.new (λ all chosen.
+        AreCounted Tree.ChoiceNames (all 9) chosen.count) }
+    ensures own { IsFair result trees.old trees.new (λ all.
+        (own : AreOwn all) → AreItsRulings rule open_period own.book) }
     ensures same { OnOk result (OnlyLooks S.Store trees.old.store trees.new.store) }
     ensures quiet { CommitsNothing S.Store trees.old.store trees.new.store }
 {

@@ -1,18 +1,14 @@
 //! The sums of records by their places, against the charge rows.
 
-ghost use Rattle.std.specs.Prelude.{◌≡◌, ◌≢◌, ◌<◌, ◌+◌, ◌^◌, [], IfErr, IfOk, IfSome, List, None};
-ghost use Rattle.std.specs.Prelude.{OnOk, false, length, map, true};
-ghost use Rattle.sqlite_trees.specs.View.{IsClean};
+ghost use Rattle.std.specs.BTreeMap.{values};
+ghost use Rattle.std.specs.Prelude.{◌≡◌, ◌≢◌, IfErr, IfOk, OnOk, false, length, true};
 ghost use Rattle.sqlite_value.specs.Order.{column};
-ghost use Rattle.tariff_rules.specs.declared.priced.Priced.{Priced as Price};
-ghost use Rattle.book_model.specs.Rows.{key_of};
-ghost use Rattle.book_model.specs.Words.{row_at, rows_of};
 ghost use Rattle.tree_rows.specs.Calls.{CommitsNothing, OnlyLooks};
 ghost use Rattle.tree_tables.specs.Columns.{day_columns};
 ghost use Rattle.tree_tables.specs.Fits.{ChargeFits, HasPeriod};
 ghost use Rattle.consistent_tables.specs.DueRows.{due_entry};
-ghost use Rattle.book_audit.specs.Days.{entry_of, keyed_rows, with_price};
-ghost use Rattle.book_audit.specs.Own.{IsOwnStop};
+ghost use Rattle.book_audit.specs.Days.{AreDueRows, entry_of};
+ghost use Rattle.book_audit.specs.Looks.{IsFair, Tells};
 ghost use Rattle.book_audit.specs.Walks.{AreRising};
 
 use crate::finding::{Place, Tree, Wrong};
@@ -21,6 +17,7 @@ use crate::stop::{Stop, met, unsound};
 use crate::trees::Trees;
 use crate::walk::Walk;
 use crate::watch::Watch;
+use book_core::{empty_row, key_of, row_with};
 use book_model::{ChargeRow, RowKey};
 use sqlite_trees::error::StoreError;
 use sqlite_trees::store::Store;
@@ -37,50 +34,6 @@ pub(crate) struct DayRow {
     sums: ChargeRow,
 }
 
-/// Where a record is charged.
-pub(crate) fn place_of(priced: &Priced) -> RowKey
-    ensures { result ≡ key_of priced.now }
-{
-    RowKey {
-        day: priced.day,
-        centre: priced.centre,
-        shift: priced.shift,
-    }
-}
-
-/// The row of a place before any record is counted there.
-fn empty_row(place: RowKey) -> ChargeRow
-    ensures { result ≡ row_at [] place }
-{
-    ChargeRow {
-        day: place.day,
-        centre: place.centre,
-        shift: place.shift,
-        count: 0,
-        cpu: 0,
-        blocks: 0,
-        amount: 0,
-    }
-}
-
-/// A row with one more record, where its sums fit 64 bits.
-fn row_with(row: &ChargeRow, priced: &Priced) -> Option<ChargeRow>
-    ensures value { IfSome result (λ more. more ≡ with_price row.now priced.now) }
-    ensures large { result ≡ None → row.now.count + 1 < 2 ^ 64
-        → row.now.cpu + priced.now.cpu < 2 ^ 64 → row.now.blocks + priced.now.excp < 2 ^ 64
-        → ¬ (row.now.amount + priced.now.amount < 2 ^ 64) }
-{
-    Some(ChargeRow {
-        day: row.day,
-        centre: row.centre,
-        shift: row.shift,
-        count: row.count.checked_add(1)?,
-        cpu: row.cpu.checked_add(priced.cpu)?,
-        blocks: row.blocks.checked_add(priced.excp)?,
-        amount: row.amount.checked_add(priced.amount)?,
-    })
-}
-
 /// The charge rows of records, by their places.
 #[derive(Drop)]
 pub(crate) struct Places {
@@ -89,9 +42,8 @@ pub(crate) struct Places {
 
 impl Places {
     ghost use Rattle.std.specs.Prelude.{◌≡◌, ◌++◌, ◌∷◌, [], IfOk, List, false, true};
-    ghost use Rattle.book_model.specs.Words.{rows_of};
     ghost use Rattle.tariff_rules.specs.declared.priced.Priced.{Priced as Price};
-    ghost use Rattle.book_audit.specs.Days.{keyed_rows};
+    ghost use Rattle.book_core.specs.KeyedRows.{keyed_rows};
     ghost use Rattle.book_audit.specs.OwnRecords.{CanBeCounted};
 
     /// For no records.
@@ -112,7 +64,7 @@ impl Places {
             → self.old.rows.entries ≡ keyed_rows prices
             → ¬ CanBeCounted (prices ++ priced.now ∷ [])) }
     {
-        let place = place_of(priced);
+        let place = key_of(priced);
         let row = self.rows.entry(place)?.or_insert(empty_row(place));
         let Some(more) = row_with(row, priced) else {
             return Ok(false);
@@ -123,8 +75,7 @@ impl Places {
 
     /// The rows, in the order of their places.
     fn into_rows(self, alloc: Global) -> Result<Vec<ChargeRow>, AllocError>
-        ensures { IfOk result (λ rows. (prices : List Price) → self.rows.entries ≡ keyed_rows prices
-            → rows.items ≡ rows_of prices) }
+        ensures { IfOk result (λ rows. rows.items ≡ values self.rows) }
     {
         self.rows.into_values().collect(alloc)
     }
@@ -151,7 +102,7 @@ fn row_in(row: &Row) -> Result<DayRow, StoreError>
 }
 
 /// The place of a charge row.
-fn key_of(row: &DayRow) -> DayKey {
+fn place_of(row: &DayRow) -> DayKey {
     DayKey {
         period: row.period,
         place: place_in(&row.sums),
@@ -170,7 +121,7 @@ fn place_in(sums: &ChargeRow) -> RowKey {
 /// What is wrong with a charge row, where another is due, or none: it is not in the period of its
 /// day, counts no record, or is not the sum of its records; or there is no row for others.
 fn wrong_with(rulings: &Rulings, row: &DayRow, due: Option<&ChargeRow>) -> Stop {
-    let spot = key_of(row);
+    let spot = place_of(row);
     if row.period != rulings.period_of(row.sums.day) {
         return unsound(Place::Day(spot), Wrong::Period);
     }
@@ -205,15 +156,11 @@ fn read_rows<S: Store, W: Watch>(
     due: &[ChargeRow],
     watch: &mut W,
 ) -> Result<(), Stop>
-    ensures rows { OnOk result (IsClean (S.Store.view trees.new.store)
-        → (S.Store.view trees.old.store).trees 4
-        ≡ map day_columns (map (due_entry rulings.now.closes.items) due.now)) }
-    ensures rising { OnOk result (IsClean (S.Store.view trees.new.store)
-        → AreRising Tree.Days ((S.Store.view trees.old.store).trees 4)) }
-    ensures own { IfErr result (λ stop. (IsClean (S.Store.view trees.old.store)
-        → (S.Store.view trees.old.store).trees 4
-        ≡ map day_columns (map (due_entry rulings.now.closes.items) due.now))
-        → IsOwnStop S.Store trees.old.store trees.new.store stop) }
+    ensures rows { Tells result trees.old trees.new (λ all _.
+        AreDueRows rulings.now.closes.items due.now (all 4)) }
+    ensures rising { Tells result trees.old trees.new (λ all _. AreRising Tree.Days (all 4)) }
+    ensures own { IsFair result trees.old trees.new (λ all.
+        AreDueRows rulings.now.closes.items due.now (all 4)) }
     ensures same { OnOk result (OnlyLooks S.Store trees.old.store trees.new.store) }
     ensures quiet { CommitsNothing S.Store trees.old.store trees.new.store }
 {
@@ -247,19 +194,12 @@ pub(crate) fn check_rows<S: Store, W: Watch>(
     places: Places,
     watch: &mut W,
 ) -> Result<u64, Stop>
-    ensures rows { OnOk result (IsClean (S.Store.view trees.new.store) → (prices : List Price)
-        → places.rows.entries ≡ keyed_rows prices
-        → (S.Store.view trees.old.store).trees 4
-        ≡ map day_columns (map (due_entry rulings.now.closes.items) (rows_of prices))) }
-    ensures rising { OnOk result (IsClean (S.Store.view trees.new.store)
-        → AreRising Tree.Days ((S.Store.view trees.old.store).trees 4)) }
-    ensures own { IfErr result (λ stop. (prices : List Price)
-        → places.rows.entries ≡ keyed_rows prices → (IsClean (S.Store.view trees.old.store)
-        → (S.Store.view trees.old.store).trees 4
-        ≡ map day_columns (map (due_entry rulings.now.closes.items) (rows_of prices)))
-        → IsOwnStop S.Store trees.old.store trees.new.store stop) }
-    ensures count { IfOk result (λ count. (prices : List Price)
-        → places.rows.entries ≡ keyed_rows prices → count ≡ length (rows_of prices)) }
+    ensures rows { Tells result trees.old trees.new (λ all _.
+        AreDueRows rulings.now.closes.items (values places.rows) (all 4)) }
+    ensures rising { Tells result trees.old trees.new (λ all _. AreRising Tree.Days (all 4)) }
+    ensures own { IsFair result trees.old trees.new (λ all.
+        AreDueRows rulings.now.closes.items (values places.rows) (all 4)) }
+    ensures count { IfOk result (λ count. count ≡ length (values places.rows)) }
     ensures same { OnOk result (OnlyLooks S.Store trees.old.store trees.new.store) }
     ensures quiet { CommitsNothing S.Store trees.old.store trees.new.store }
 {

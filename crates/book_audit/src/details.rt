@@ -1,8 +1,6 @@
 //! The details: a row for each record that some period counts.
 
-ghost use Rattle.std.specs.Prelude.{◌≡◌, ◌≢◌, IfErr, IfOk, IfSome, IsTrue, None, OnOk, false, length};
-ghost use Rattle.std.specs.Prelude.{true};
-ghost use Rattle.sqlite_trees.specs.View.{IsClean};
+ghost use Rattle.std.specs.Prelude.{◌≡◌, ◌≢◌, IfErr, IfOk, IsTrue, None, OnOk, false, length, true};
 ghost use Rattle.book_model.specs.Words as model;
 ghost use Rattle.table_model.specs.DetailsRead.{detail_shown};
 ghost use Rattle.tree_rows.specs.Calls.{CommitsNothing, OnlyLooks};
@@ -10,13 +8,13 @@ ghost use Rattle.tree_tables.specs.Columns.{detail_columns};
 ghost use Rattle.tree_tables.specs.Fits.{DetailFits};
 ghost use Rattle.tree_tables.specs.Stored.{stored_entry};
 ghost use Rattle.book_audit.specs.Details.{AreDetails, HasCost, IsCounted, ShowsCounted};
+ghost use Rattle.book_audit.specs.Looks.{IsFair, Tells, TellsIfSome};
 ghost use Rattle.book_audit.specs.Own.{AreOwn, IsOwnStop};
 ghost use Rattle.book_audit.specs.OwnRecords.{AreOwnOf, IsCountedIn, IsShownIn};
 ghost use Rattle.book_audit.specs.Records.{detail_key, spot_of};
 ghost use Rattle.book_audit.specs.SoundTrees.{AreRuled};
 ghost use Rattle.book_audit.specs.Trees.{HasKey};
 
-use crate::day_sums::place_of;
 use crate::finding::{DetailKey, Place, Tree, Wrong};
 use crate::marks::past_in;
 use crate::rulings::Rulings;
@@ -24,7 +22,7 @@ use crate::stop::{Stop, met, unsound};
 use crate::trees::Trees;
 use crate::walk::{MOST_ROWS, Walk, endless};
 use crate::watch::Watch;
-use book_core::detail_with;
+use book_core::{detail_with, key_of};
 use book_model::Detail;
 use smf_type30::Type30;
 use sqlite_trees::error::StoreError;
@@ -38,11 +36,11 @@ use tree_tables::{
 };
 
 /// Where a row of details is.
-fn key_of(shown: &Detail) -> DetailKey
+fn place_of(shown: &Detail) -> DetailKey
     ensures { result ≡ spot_of shown.now }
 {
     DetailKey {
-        place: place_of(&shown.priced),
+        place: key_of(&shown.priced),
         time: shown.time,
         name: shown.name,
     }
@@ -54,12 +52,10 @@ pub(crate) fn check_has_detail<S: Store>(
     bytes: &mut Vec<u8>,
     record: &StoredRecord,
 ) -> Result<(), Stop>
-    ensures shown { OnOk result (IsClean (S.Store.view trees.new.store)
-        → HasKey (detail_key (spot_of (detail_shown (stored_entry record.now))))
-        ((S.Store.view trees.old.store).trees 10)) }
-    ensures own { IfErr result (λ stop. (IsClean (S.Store.view trees.old.store)
-        → IsCountedIn (S.Store.view trees.old.store).trees (stored_entry record.now))
-        → IsOwnStop S.Store trees.old.store trees.new.store stop) }
+    ensures shown { Tells result trees.old trees.new (λ all _.
+        HasKey (detail_key (spot_of (detail_shown (stored_entry record.now)))) (all 10)) }
+    ensures own { IsFair result trees.old trees.new (λ all.
+        IsCountedIn all (stored_entry record.now)) }
     ensures same { OnOk result (OnlyLooks S.Store trees.old.store trees.new.store) }
     ensures quiet { CommitsNothing S.Store trees.old.store trees.new.store }
 {
@@ -67,7 +63,7 @@ pub(crate) fn check_has_detail<S: Store>(
     let usage = usage_in(bytes).map_err(|error| met(Tree::Records, error))?;
     let shown = detail_with(&record.name, &usage, record.priced);
     let found = trees
-        .has_detail(&key_of(&shown))
+        .has_detail(&place_of(&shown))
         .map_err(|error| met(Tree::Details, error))?;
     if found {
         Ok(())
@@ -107,20 +103,17 @@ fn is_counted<S: Store>(
     rulings: &Rulings,
     record: &StoredRecord,
 ) -> Result<bool, Stop>
-    ensures counted { IfOk result (λ counted. counted ≡ true
-        → IsClean (S.Store.view trees.new.store)
-        → IsCounted ((S.Store.view trees.old.store).trees 5) rulings.now.closes.items
-        (stored_entry record.now)) }
+    ensures counted { Tells result trees.old trees.new (λ all counted.
+        counted ≡ true → IsCounted (all 5) rulings.now.closes.items (stored_entry record.now)) }
     ensures own { IfErr result (IsOwnStop S.Store trees.old.store trees.new.store) }
-    ensures other { IfOk result (λ counted. counted ≡ false
-        → IsClean (S.Store.view trees.new.store)
-        → AreOwnOf (S.Store.view trees.old.store).trees rulings.now (stored_entry record.now)
-        → ¬ IsCountedIn (S.Store.view trees.old.store).trees (stored_entry record.now)) }
+    ensures other { Tells result trees.old trees.new (λ all counted.
+        counted ≡ false → AreOwnOf all rulings.now (stored_entry record.now)
+        → ¬ IsCountedIn all (stored_entry record.now)) }
     ensures same { OnOk result (OnlyLooks S.Store trees.old.store trees.new.store) }
     ensures quiet { CommitsNothing S.Store trees.old.store trees.new.store }
 {
     match past_in(trees, rulings, record)? {
-        Some(past) => Ok(past.counted),
+        Some(counted) => Ok(counted),
         None => Ok(false),
     }
 }
@@ -133,13 +126,11 @@ fn wrong_with<S: Store>(
     bytes: &mut Vec<u8>,
     shown: &Detail,
 ) -> Result<Option<Wrong>, Stop>
-    ensures counted { IfOk result (λ wrong. wrong ≡ None → IsClean (S.Store.view trees.new.store)
-        → ShowsCounted (S.Store.view trees.old.store).trees rulings.now.closes.items shown.now) }
+    ensures counted { Tells result trees.old trees.new (λ all wrong.
+        wrong ≡ None → ShowsCounted all rulings.now.closes.items shown.now) }
     ensures own { IfErr result (IsOwnStop S.Store trees.old.store trees.new.store) }
-    ensures other { IfOk result (λ wrong. IfSome wrong (λ it. IsClean (S.Store.view trees.new.store)
-        → AreOwn (S.Store.view trees.old.store).trees
-        → AreRuled (S.Store.view trees.old.store).trees rulings.now
-        → ¬ IsShownIn (S.Store.view trees.old.store).trees shown.now)) }
+    ensures other { TellsIfSome result trees.old trees.new (λ all wrong.
+        AreOwn all → AreRuled all rulings.now → ¬ IsShownIn all shown.now) }
     ensures same { OnOk result (OnlyLooks S.Store trees.old.store trees.new.store) }
     ensures quiet { CommitsNothing S.Store trees.old.store trees.new.store }
 {
@@ -168,17 +159,15 @@ fn check_shown<S: Store>(
     bytes: &mut Vec<u8>,
     shown: &Detail,
 ) -> Result<(), Stop>
-    ensures counted { OnOk result (IsClean (S.Store.view trees.new.store)
-        → ShowsCounted (S.Store.view trees.old.store).trees rulings.now.closes.items shown.now) }
-    ensures own { IfErr result (λ stop. (IsClean (S.Store.view trees.old.store)
-        → AreRuled (S.Store.view trees.old.store).trees rulings.now
-        × IsShownIn (S.Store.view trees.old.store).trees shown.now)
-        → IsOwnStop S.Store trees.old.store trees.new.store stop) }
+    ensures counted { Tells result trees.old trees.new (λ all _.
+        ShowsCounted all rulings.now.closes.items shown.now) }
+    ensures own { IsFair result trees.old trees.new (λ all.
+        AreRuled all rulings.now × IsShownIn all shown.now) }
     ensures same { OnOk result (OnlyLooks S.Store trees.old.store trees.new.store) }
     ensures quiet { CommitsNothing S.Store trees.old.store trees.new.store }
 {
     match wrong_with(alloc, trees, rulings, bytes, shown)? {
-        Some(wrong) => Err(unsound(Place::Detail(key_of(shown)), wrong)),
+        Some(wrong) => Err(unsound(Place::Detail(place_of(shown)), wrong)),
         None => Ok(()),
     }
 }
@@ -222,11 +211,9 @@ pub(crate) fn check_details<S: Store, W: Watch>(
     rulings: &Rulings,
     watch: &mut W,
 ) -> Result<(), Stop>
-    ensures details { OnOk result (IsClean (S.Store.view trees.new.store)
-        → AreDetails (S.Store.view trees.old.store).trees rulings.now.closes.items) }
-    ensures own { IfErr result (λ stop. (IsClean (S.Store.view trees.old.store)
-        → AreRuled (S.Store.view trees.old.store).trees rulings.now)
-        → IsOwnStop S.Store trees.old.store trees.new.store stop) }
+    ensures details { Tells result trees.old trees.new (λ all _.
+        AreDetails all rulings.now.closes.items) }
+    ensures own { IsFair result trees.old trees.new (λ all. AreRuled all rulings.now) }
     ensures same { OnOk result (OnlyLooks S.Store trees.old.store trees.new.store) }
     ensures quiet { CommitsNothing S.Store trees.old.store trees.new.store }
 {

@@ -1,11 +1,11 @@
 //! How many entries a tree has.
 
-ghost use Rattle.std.specs.Prelude.{◌≡◌, IfErr, IfOk, OnOk, false, length, true};
-ghost use Rattle.sqlite_trees.specs.View.{IsClean};
+ghost use Rattle.std.specs.Prelude.{◌≡◌, IfErr, OnOk, false, length, true};
 ghost use Rattle.sqlite_value.specs.Order.{column};
 ghost use Rattle.tree_rows.specs.Calls.{CommitsNothing, OnlyLooks};
 ghost use Rattle.tree_tables.specs.Fits.{HasBytes, HasCount};
 ghost use Rattle.book_audit.specs.Entries.{AreCounted, IsEntry};
+ghost use Rattle.book_audit.specs.Looks.{IsFair, Tells};
 ghost use Rattle.book_audit.specs.Own.{AreOwn, IsOwnStop, is_index};
 ghost use Rattle.book_audit.specs.Trees.{tree_number};
 ghost use Rattle.book_audit.specs.Walks.{width};
@@ -62,10 +62,10 @@ fn count_rows<S: Store, W: Watch>(
     tree: Tree,
     watch: &mut W,
 ) -> Result<u64, Stop>
-    ensures counted { IfOk result (λ count. IsClean (S.Store.view trees.new.store)
-        → AreCounted tree ((S.Store.view trees.old.store).trees (tree_number tree)) count) }
-    ensures own { IfErr result (λ stop. is_index tree ≡ true
-        → IsOwnStop S.Store trees.old.store trees.new.store stop) }
+    requires { is_index tree ≡ true }
+    ensures counted { Tells result trees.old trees.new (λ all count.
+        AreCounted tree (all (tree_number tree)) count) }
+    ensures own { IfErr result (IsOwnStop S.Store trees.old.store trees.new.store) }
     ensures same { OnOk result (OnlyLooks S.Store trees.old.store trees.new.store) }
     ensures quiet { CommitsNothing S.Store trees.old.store trees.new.store }
 {
@@ -90,12 +90,11 @@ pub(crate) fn check_entries<S: Store, W: Watch>(
     rows: u64,
     watch: &mut W,
 ) -> Result<(), Stop>
-    ensures counted { OnOk result (IsClean (S.Store.view trees.new.store)
-        → AreCounted tree ((S.Store.view trees.old.store).trees (tree_number tree)) rows) }
-    ensures own { IfErr result (λ stop. is_index tree ≡ true
-        → (IsClean (S.Store.view trees.old.store) → AreOwn (S.Store.view trees.old.store).trees
-        → rows ≡ length ((S.Store.view trees.old.store).trees (tree_number tree)))
-        → IsOwnStop S.Store trees.old.store trees.new.store stop) }
+    requires { is_index tree ≡ true }
+    ensures counted { Tells result trees.old trees.new (λ all _.
+        AreCounted tree (all (tree_number tree)) rows) }
+    ensures own { IsFair result trees.old trees.new (λ all.
+        AreOwn all → rows ≡ length (all (tree_number tree))) }
     ensures same { OnOk result (OnlyLooks S.Store trees.old.store trees.new.store) }
     ensures quiet { CommitsNothing S.Store trees.old.store trees.new.store }
 {

@@ -1,8 +1,9 @@
 //! Keys as they are looked for: the first columns of rows.
 
 ghost use Rattle.std.specs.Prelude.{◌≡◌, ◌∷◌, [], OnOk, pos};
-ghost use Rattle.sqlite_value.specs.declared.value.Value.TheVariants.{Blob, Int, Text};
+ghost use Rattle.sqlite_value.specs.declared.value.Value.TheVariants.{Blob, Int};
 ghost use Rattle.tree_tables.specs.Columns.{flag};
+ghost use Rattle.book_audit.specs.Records as spec;
 
 use crate::finding::DetailKey;
 use sqlite_value::row::Row;
@@ -59,8 +60,7 @@ pub(crate) fn line_key(key: &mut Row, period: u16, name: &[u8; 32]) -> Result<()
 
 /// The key of a row of details.
 pub(crate) fn detail_key(key: &mut Row, spot: &DetailKey) -> Result<(), AllocError>
-    ensures { OnOk result (key.new ≡ Int spot.now.place.day ∷ Text spot.now.place.centre
-        ∷ Text spot.now.place.shift ∷ Int (pos spot.now.time) ∷ Blob spot.now.name ∷ []) }
+    ensures { OnOk result (key.new ≡ spec.detail_key spot.now) }
 {
     key.clear();
     key.push(ValueRef::Int(i64::from(spot.place.day)))?;

@@ -1,13 +1,12 @@
 //! The adjustment lines.
 
 ghost use Rattle.std.specs.Prelude.{◌≡◌, IfErr, IfOk, OnOk, length};
-ghost use Rattle.sqlite_trees.specs.View.{IsClean};
 ghost use Rattle.sqlite_value.specs.Order.{column};
 ghost use Rattle.tree_rows.specs.Calls.{CommitsNothing, OnlyLooks};
 ghost use Rattle.tree_tables.specs.Columns.{line_columns};
 ghost use Rattle.tree_tables.specs.Fits.{HasPeriod, LineFits};
 ghost use Rattle.book_audit.specs.Lines.{AreLines, IsLateLine, line_entry};
-ghost use Rattle.book_audit.specs.Own.{IsOwnStop};
+ghost use Rattle.book_audit.specs.Looks.{IsFair, Tells};
 ghost use Rattle.book_audit.specs.OwnRecords.{IsLineIn};
 ghost use Rattle.book_audit.specs.SoundTrees.{AreRuled};
 
@@ -54,13 +53,10 @@ fn check_line<S: Store>(
     rulings: &Rulings,
     line: &Line,
 ) -> Result<(), Stop>
-    ensures late { OnOk result (IsClean (S.Store.view trees.new.store)
-        → IsLateLine ((S.Store.view trees.old.store).trees 3) rulings.now.closes.items
-        (line_entry line.now)) }
-    ensures own { IfErr result (λ stop. (IsClean (S.Store.view trees.old.store)
-        → AreRuled (S.Store.view trees.old.store).trees rulings.now
-        × IsLineIn (S.Store.view trees.old.store).trees (line_entry line.now))
-        → IsOwnStop S.Store trees.old.store trees.new.store stop) }
+    ensures late { Tells result trees.old trees.new (λ all _.
+        IsLateLine (all 3) rulings.now.closes.items (line_entry line.now)) }
+    ensures own { IsFair result trees.old trees.new (λ all.
+        AreRuled all rulings.now × IsLineIn all (line_entry line.now)) }
     ensures same { OnOk result (OnlyLooks S.Store trees.old.store trees.new.store) }
     ensures quiet { CommitsNothing S.Store trees.old.store trees.new.store }
 {
@@ -85,11 +81,9 @@ pub(crate) fn check_lines<S: Store, W: Watch>(
     rulings: &Rulings,
     watch: &mut W,
 ) -> Result<u64, Stop>
-    ensures lines { IfOk result (λ count. IsClean (S.Store.view trees.new.store)
-        → AreLines (S.Store.view trees.old.store).trees rulings.now.closes.items count) }
-    ensures own { IfErr result (λ stop. (IsClean (S.Store.view trees.old.store)
-        → AreRuled (S.Store.view trees.old.store).trees rulings.now)
-        → IsOwnStop S.Store trees.old.store trees.new.store stop) }
+    ensures lines { Tells result trees.old trees.new (λ all count.
+        AreLines all rulings.now.closes.items count) }
+    ensures own { IsFair result trees.old trees.new (λ all. AreRuled all rulings.now) }
     ensures same { OnOk result (OnlyLooks S.Store trees.old.store trees.new.store) }
     ensures quiet { CommitsNothing S.Store trees.old.store trees.new.store }
 {

@@ -1,13 +1,13 @@
 //! The marks of a record, and the trees that find it.
 
-ghost use Rattle.std.specs.Prelude.{◌≡◌, ◌≤◌, ◌-◌, IfErr, IfOk, IfSome, None, OnOk, false, true};
+ghost use Rattle.std.specs.Prelude.{◌≡◌, ◌≤◌, ◌-◌, IfErr, None, OnOk, false, true};
 ghost use Rattle.book_model.specs.Words.{open_by};
 ghost use Rattle.consistent_tables.specs.Consistent.{AreInTurn, ruled};
-ghost use Rattle.sqlite_trees.specs.View.{IsClean};
 ghost use Rattle.table_model.specs.Tables.{Tables};
 ghost use Rattle.tree_rows.specs.Calls.{CommitsNothing, OnlyLooks};
 ghost use Rattle.tree_tables.specs.Holds.{Holds};
 ghost use Rattle.tree_tables.specs.Stored.{stored_entry};
+ghost use Rattle.book_audit.specs.Looks.{IsFair, Tells, TellsIfSome};
 ghost use Rattle.book_audit.specs.Marks as spec;
 ghost use Rattle.book_audit.specs.Own.{IsOwnStop};
 ghost use Rattle.book_audit.specs.OwnRecords.{AreOwnOf};
@@ -52,15 +52,13 @@ fn wrong_by_trees<S: Store>(
     chosen: &Chosen,
     stored: &StoredRecord,
 ) -> Result<Option<Wrong>, Stop>
-    ensures found { IfOk result (λ wrong. wrong ≡ None → IsClean (S.Store.view trees.new.store)
-        → IsFound (S.Store.view trees.old.store).trees (stored_entry stored.now)) }
-    ensures charged { IfOk result (λ wrong. wrong ≡ None → IsClean (S.Store.view trees.new.store)
-        → IsChargedRight ((S.Store.view trees.old.store).trees 6) chosen.now
-        (stored_entry stored.now)) }
+    ensures found { Tells result trees.old trees.new (λ all wrong.
+        wrong ≡ None → IsFound all (stored_entry stored.now)) }
+    ensures charged { Tells result trees.old trees.new (λ all wrong.
+        wrong ≡ None → IsChargedRight (all 6) chosen.now (stored_entry stored.now)) }
     ensures own { IfErr result (IsOwnStop S.Store trees.old.store trees.new.store) }
-    ensures other { IfOk result (λ wrong. IfSome wrong (λ it. IsClean (S.Store.view trees.new.store)
-        → (rulings : Ruled) → rulings.chosen ≡ chosen.now
-        → ¬ AreOwnOf (S.Store.view trees.old.store).trees rulings (stored_entry stored.now))) }
+    ensures other { TellsIfSome result trees.old trees.new (λ all wrong. (rulings : Ruled)
+        → rulings.chosen ≡ chosen.now → ¬ AreOwnOf all rulings (stored_entry stored.now)) }
     ensures same { OnOk result (OnlyLooks S.Store trees.old.store trees.new.store) }
     ensures quiet { CommitsNothing S.Store trees.old.store trees.new.store }
 {
@@ -92,12 +90,11 @@ fn is_posted_right<S: Store>(
     rulings: &Rulings,
     stored: &StoredRecord,
 ) -> Result<bool, Stop>
-    ensures posted { IfOk result (λ right. right ≡ true → IsClean (S.Store.view trees.new.store)
-        → IsPostedRight ((S.Store.view trees.old.store).trees 5) rulings.now.closes.items
-        (stored_entry stored.now)) }
+    ensures posted { Tells result trees.old trees.new (λ all right.
+        right ≡ true → IsPostedRight (all 5) rulings.now.closes.items (stored_entry stored.now)) }
     ensures own { IfErr result (IsOwnStop S.Store trees.old.store trees.new.store) }
-    ensures other { IfOk result (λ right. right ≡ false → IsClean (S.Store.view trees.new.store)
-        → ¬ AreOwnOf (S.Store.view trees.old.store).trees rulings.now (stored_entry stored.now)) }
+    ensures other { Tells result trees.old trees.new (λ all right.
+        right ≡ false → ¬ AreOwnOf all rulings.now (stored_entry stored.now)) }
     ensures same { OnOk result (OnlyLooks S.Store trees.old.store trees.new.store) }
     ensures quiet { CommitsNothing S.Store trees.old.store trees.new.store }
 {
@@ -108,38 +105,27 @@ fn is_posted_right<S: Store>(
     Ok(is_posted_so(stored, is_closed, line))
 }
 
-/// What the lines say of a record's past.
-#[derive(Clone, Copy)]
-pub(crate) struct Past {
-    /// The row of the period of its day counts it.
-    pub(crate) counted: bool,
-    /// How many lines name it.
-    pub(crate) lines: u16,
-}
-
-/// Whether a record was charged at the end of its own period, and how many lines name it: from the
-/// open period back, each line turns what was charged. None if a line adds a record that is not
-/// charged at the end of the line's period, or reverses one that is.
+/// Whether a record was charged at the end of its own period: from the open period back, each line
+/// turns what was charged. None if a line adds a record that is not charged at the end of the line's
+/// period, or reverses one that is.
 fn past_of<S: Store>(
     trees: &mut Trees<S>,
     name: &[u8; 32],
     charged: bool,
     own: u16,
     last: u16,
-) -> Result<Option<Past>, Stop>
+) -> Result<Option<bool>, Stop>
     requires { own ≤ last }
-    ensures past { IfOk result (λ past. IfSome past (λ it. IsClean (S.Store.view trees.new.store)
-        → GoesBack ((S.Store.view trees.old.store).trees 5) name.now last (last - own)
-        charged it.counted it.lines)) }
+    ensures past { TellsIfSome result trees.old trees.new (λ all before.
+        GoesBack (all 5) name.now last (last - own) charged before) }
     ensures own { IfErr result (IsOwnStop S.Store trees.old.store trees.new.store) }
-    ensures other { IfOk result (λ past. past ≡ None → IsClean (S.Store.view trees.new.store)
-        → (tables : Tables) → Holds (S.Store.view trees.old.store).trees tables
-        → last ≡ open_by (ruled tables) → ¬ AreInTurn tables name.now (last - own) charged) }
+    ensures other { Tells result trees.old trees.new (λ all past.
+        past ≡ None → (tables : Tables) → Holds all tables → last ≡ open_by (ruled tables)
+        → ¬ AreInTurn tables name.now (last - own) charged) }
     ensures same { OnOk result (OnlyLooks S.Store trees.old.store trees.new.store) }
     ensures quiet { CommitsNothing S.Store trees.old.store trees.new.store }
 {
     let mut now = charged;
-    let mut lines = 0;
     for back in 0..last - own {
         let line = trees
             .line_of(last - back, name)
@@ -149,27 +135,23 @@ fn past_of<S: Store>(
                 return Ok(None);
             }
             now = !plus;
-            lines += 1;
         }
     }
-    Ok(Some(Past {
-        counted: now,
-        lines,
-    }))
+    Ok(Some(now))
 }
 
-/// What the lines say of the past of a record; None if they do not turn what was charged.
+/// Whether the row of its own period counts a record, by its lines; None if they do not turn what
+/// was charged.
 pub(crate) fn past_in<S: Store>(
     trees: &mut Trees<S>,
     rulings: &Rulings,
     stored: &StoredRecord,
-) -> Result<Option<Past>, Stop>
-    ensures past { IfOk result (λ past. IfSome past (λ it. IsClean (S.Store.view trees.new.store)
-        → HasPast ((S.Store.view trees.old.store).trees 5) rulings.now.closes.items
-        (stored_entry stored.now) it.counted it.lines)) }
+) -> Result<Option<bool>, Stop>
+    ensures past { TellsIfSome result trees.old trees.new (λ all counted.
+        HasPast (all 5) rulings.now.closes.items (stored_entry stored.now) counted) }
     ensures own { IfErr result (IsOwnStop S.Store trees.old.store trees.new.store) }
-    ensures other { IfOk result (λ past. past ≡ None → IsClean (S.Store.view trees.new.store)
-        → ¬ AreOwnOf (S.Store.view trees.old.store).trees rulings.now (stored_entry stored.now)) }
+    ensures other { Tells result trees.old trees.new (λ all past.
+        past ≡ None → ¬ AreOwnOf all rulings.now (stored_entry stored.now)) }
     ensures same { OnOk result (OnlyLooks S.Store trees.old.store trees.new.store) }
     ensures quiet { CommitsNothing S.Store trees.old.store trees.new.store }
 {
@@ -180,20 +162,18 @@ pub(crate) fn past_in<S: Store>(
 
 /// A record is found by its identity and its mark, is charged if it is alone in its identity or
 /// was chosen last of it, and is posted as the last close charged it. Its lines turn what was
-/// charged, one after the other.
+/// charged, one after the other. Returns whether the row of its own period counts it.
 pub(crate) fn check_marks<S: Store>(
     trees: &mut Trees<S>,
     rulings: &Rulings,
     stored: &StoredRecord,
-) -> Result<Past, Stop>
-    ensures marked { OnOk result (IsClean (S.Store.view trees.new.store)
-        → IsMarked (S.Store.view trees.old.store).trees rulings.now (stored_entry stored.now)) }
-    ensures past { IfOk result (λ past. IsClean (S.Store.view trees.new.store)
-        → HasPast ((S.Store.view trees.old.store).trees 5) rulings.now.closes.items
-        (stored_entry stored.now) past.counted past.lines) }
-    ensures own { IfErr result (λ stop. (IsClean (S.Store.view trees.old.store)
-        → AreOwnOf (S.Store.view trees.old.store).trees rulings.now (stored_entry stored.now))
-        → IsOwnStop S.Store trees.old.store trees.new.store stop) }
+) -> Result<bool, Stop>
+    ensures marked { Tells result trees.old trees.new (λ all _.
+        IsMarked all rulings.now (stored_entry stored.now)) }
+    ensures past { Tells result trees.old trees.new (λ all counted.
+        HasPast (all 5) rulings.now.closes.items (stored_entry stored.now) counted) }
+    ensures own { IsFair result trees.old trees.new (λ all.
+        AreOwnOf all rulings.now (stored_entry stored.now)) }
     ensures same { OnOk result (OnlyLooks S.Store trees.old.store trees.new.store) }
     ensures quiet { CommitsNothing S.Store trees.old.store trees.new.store }
 {
@@ -204,7 +184,7 @@ pub(crate) fn check_marks<S: Store>(
         return Err(unsound(Place::Record(stored.name), Wrong::Posted));
     }
     match past_in(trees, rulings, stored)? {
-        Some(past) => Ok(past),
+        Some(counted) => Ok(counted),
         None => Err(unsound(Place::Record(stored.name), Wrong::Lines)),
     }
 }

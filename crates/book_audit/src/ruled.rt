@@ -1,8 +1,8 @@
 //! All rulings, read one tree after the other.
 
-ghost use Rattle.std.specs.Prelude.{◌≡◌, IfErr, IfOk, OnOk};
-ghost use Rattle.sqlite_trees.specs.View.{IsClean};
+ghost use Rattle.std.specs.Prelude.{IfErr, OnOk};
 ghost use Rattle.tree_rows.specs.Calls.{CommitsNothing, OnlyLooks};
+ghost use Rattle.book_audit.specs.Looks.{Tells};
 ghost use Rattle.book_audit.specs.Own.{IsOwnStop};
 ghost use Rattle.book_audit.specs.SoundTrees.{AreRuled};
 
@@ -21,8 +21,7 @@ pub(crate) fn read_rulings<S: Store, W: Watch>(
     trees: &mut Trees<S>,
     watch: &mut W,
 ) -> Result<Rulings, Stop>
-    ensures ruled { IfOk result (λ rulings. IsClean (S.Store.view trees.new.store)
-        → AreRuled (S.Store.view trees.old.store).trees rulings) }
+    ensures ruled { Tells result trees.old trees.new AreRuled }
     ensures own { IfErr result (IsOwnStop S.Store trees.old.store trees.new.store) }
     ensures same { OnOk result (OnlyLooks S.Store trees.old.store trees.new.store) }
     ensures quiet { CommitsNothing S.Store trees.old.store trees.new.store }

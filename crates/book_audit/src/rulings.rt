@@ -3,7 +3,6 @@
 ghost use Rattle.std.specs.List.{last_or};
 ghost use Rattle.std.specs.Prelude.{◌<◌, ◌≡◌, IfErr, IfOk, IfSome, None, Ok, OnOk, false, length};
 ghost use Rattle.std.specs.Prelude.{string_bytes, true};
-ghost use Rattle.sqlite_trees.specs.View.{IsClean};
 ghost use Rattle.sqlite_value.specs.Order.{column};
 ghost use Rattle.tree_rows.specs.Calls.{CommitsNothing, OnlyLooks};
 ghost use Rattle.book_model.specs.Words.{IsDay, Terms, terms_in};
@@ -11,6 +10,7 @@ ghost use Rattle.table_model.specs.Tables.{BookRow as Held};
 ghost use Rattle.tree_tables.specs.Columns.{book_columns, closed_columns, tariff_columns};
 ghost use Rattle.tree_tables.specs.Fits.{BookFits, CloseFits, HasCount, TariffFits};
 ghost use Rattle.tree_tables.specs.Stored.{close_entry, tariff_of};
+ghost use Rattle.book_audit.specs.Looks.{Tells};
 ghost use Rattle.book_audit.specs.Own.{FindsNothing, IsOwnStop};
 ghost use Rattle.book_audit.specs.Rules.{rule_of};
 ghost use Rattle.book_audit.specs.Rulings.{AreClosed, AreTariffs, HasOneRow, IsBookRow, IsNextClose};
@@ -84,8 +84,7 @@ fn book_in(row: &Row) -> Result<Option<BookRow>, StoreError>
 
 /// Reads the one row of the book. Trees without it hold no books.
 pub(crate) fn read_book<S: Store>(alloc: Global, trees: &mut Trees<S>) -> Result<BookRow, Stop>
-    ensures book { IfOk result (λ book. IsClean (S.Store.view trees.new.store)
-        → HasOneRow ((S.Store.view trees.old.store).trees 0) book) }
+    ensures book { Tells result trees.old trees.new (λ all book. HasOneRow (all 0) book) }
     ensures own { IfErr result (IsOwnStop S.Store trees.old.store trees.new.store) }
     ensures same { OnOk result (OnlyLooks S.Store trees.old.store trees.new.store) }
     ensures quiet { CommitsNothing S.Store trees.old.store trees.new.store }
@@ -141,8 +140,8 @@ pub(crate) fn read_tariffs<S: Store>(
     alloc: Global,
     trees: &mut Trees<S>,
 ) -> Result<Vec<Tariff>, Stop>
-    ensures tariffs { IfOk result (λ tariffs. IsClean (S.Store.view trees.new.store)
-        → AreTariffs ((S.Store.view trees.old.store).trees 1) tariffs.items) }
+    ensures tariffs { Tells result trees.old trees.new (λ all tariffs.
+        AreTariffs (all 1) tariffs.items) }
     ensures own { IfErr result (IsOwnStop S.Store trees.old.store trees.new.store) }
     ensures same { OnOk result (OnlyLooks S.Store trees.old.store trees.new.store) }
     ensures quiet { CommitsNothing S.Store trees.old.store trees.new.store }
@@ -195,8 +194,7 @@ fn is_next(days: &[i32], close: &Close) -> bool
 
 /// Reads the days of the closes.
 pub(crate) fn read_closes<S: Store>(alloc: Global, trees: &mut Trees<S>) -> Result<Vec<i32>, Stop>
-    ensures closed { IfOk result (λ days. IsClean (S.Store.view trees.new.store)
-        → AreClosed ((S.Store.view trees.old.store).trees 2) days.items) }
+    ensures closed { Tells result trees.old trees.new (λ all days. AreClosed (all 2) days.items) }
     ensures own { IfErr result (IsOwnStop S.Store trees.old.store trees.new.store) }
     ensures same { OnOk result (OnlyLooks S.Store trees.old.store trees.new.store) }
     ensures quiet { CommitsNothing S.Store trees.old.store trees.new.store }

@@ -32,14 +32,16 @@ impl<S: Store> Trees<S> {
     ghost use Rattle.std.specs.Prelude.{false, is_some, pos, true};
     ghost use Rattle.sqlite_trees.specs.View.{IsClean};
     ghost use Rattle.sqlite_value.specs.Order.{column};
-    ghost use Rattle.sqlite_value.specs.declared.value.Value.TheVariants.{Blob, Int, Text};
+    ghost use Rattle.sqlite_value.specs.declared.value.Value.TheVariants.{Blob, Int};
     ghost use Rattle.tree_rows.specs.Calls.{CommitsNothing, IsCausedByStore, OnlyLooks};
     ghost use Rattle.tree_rows.specs.Rows.{Finds, IsFirst};
     ghost use Rattle.tree_tables.specs.Columns.{flag, record_columns};
     ghost use Rattle.tree_tables.specs.Holds.{HasShapes};
     ghost use Rattle.tree_tables.specs.Stored.{stored_entry};
     ghost use Rattle.tree_tables.specs.Walks.{rows_past};
+    ghost use Rattle.book_audit.specs.Looks.{Tells, TellsIfSome};
     ghost use Rattle.book_audit.specs.Own.{IsOwnCause};
+    ghost use Rattle.book_audit.specs.Records as spec;
     ghost use Rattle.book_audit.specs.Trees.{FindsTwo, tree_number};
 
     /// The trees in a store that has them.
@@ -69,9 +71,8 @@ impl<S: Store> Trees<S> {
         key: &Row,
         row: &mut Row,
     ) -> Result<bool, StoreError>
-        ensures found { IfOk result (λ there. IsClean (S.Store.view self.new.store)
-            → IsFirst (rows_past key.now ((S.Store.view self.old.store).trees (tree_number tree)))
-            row.new there) }
+        ensures found { Tells result self.old self.new (λ all there.
+            IsFirst (rows_past key.now (all (tree_number tree))) row.new there) }
         ensures same { OnOk result (OnlyLooks S.Store self.old.store self.new.store) }
         ensures cause { IfErr result (IsCausedByStore S.Store self.old.store self.new.store) }
         ensures quiet { CommitsNothing S.Store self.old.store self.new.store }
@@ -85,9 +86,8 @@ impl<S: Store> Trees<S> {
 
     /// Whether a row of a tree has the key; it is then found.
     fn finds(&mut self, tree: Tree) -> Result<bool, StoreError>
-        ensures found { IfOk result (λ hit. IsClean (S.Store.view self.new.store)
-            → Finds self.old.key ((S.Store.view self.old.store).trees (tree_number tree))
-            self.new.found hit) }
+        ensures found { Tells result self.old self.new (λ all hit.
+            Finds self.old.key (all (tree_number tree)) self.new.found hit) }
         ensures same { OnOk result (OnlyLooks S.Store self.old.store self.new.store) }
         ensures cause { IfErr result (IsCausedByStore S.Store self.old.store self.new.store) }
         ensures quiet { CommitsNothing S.Store self.old.store self.new.store }
@@ -97,9 +97,9 @@ impl<S: Store> Trees<S> {
 
     /// Whether a record is found by its identity.
     pub(crate) fn has_identity(&mut self, stored: &StoredRecord) -> Result<bool, StoreError>
-        ensures found { IfOk result (λ hit. IsClean (S.Store.view self.new.store)
-            → Finds (Blob stored.now.identity.items ∷ Blob stored.now.name ∷ [])
-            ((S.Store.view self.old.store).trees 6) self.new.found hit) }
+        ensures found { Tells result self.old self.new (λ all hit.
+            Finds (Blob stored.now.identity.items ∷ Blob stored.now.name ∷ []) (all 6)
+            self.new.found hit) }
         ensures same { OnOk result (OnlyLooks S.Store self.old.store self.new.store) }
         ensures cause { IfErr result (IsCausedByStore S.Store self.old.store self.new.store) }
         ensures quiet { CommitsNothing S.Store self.old.store self.new.store }
@@ -110,10 +110,9 @@ impl<S: Store> Trees<S> {
 
     /// Whether a record is found by its mark and its identity.
     pub(crate) fn has_mark(&mut self, stored: &StoredRecord) -> Result<bool, StoreError>
-        ensures found { IfOk result (λ hit. IsClean (S.Store.view self.new.store)
-            → Finds (Int (pos (flag stored.now.charged)) ∷ Blob stored.now.identity.items
-            ∷ Blob stored.now.name ∷ []) ((S.Store.view self.old.store).trees 7)
-            self.new.found hit) }
+        ensures found { Tells result self.old self.new (λ all hit.
+            Finds (Int (pos (flag stored.now.charged)) ∷ Blob stored.now.identity.items
+            ∷ Blob stored.now.name ∷ []) (all 7) self.new.found hit) }
         ensures same { OnOk result (OnlyLooks S.Store self.old.store self.new.store) }
         ensures cause { IfErr result (IsCausedByStore S.Store self.old.store self.new.store) }
         ensures quiet { CommitsNothing S.Store self.old.store self.new.store }
@@ -128,9 +127,8 @@ impl<S: Store> Trees<S> {
         name: &[u8; 32],
         number: u32,
     ) -> Result<bool, StoreError>
-        ensures found { IfOk result (λ hit. IsClean (S.Store.view self.new.store)
-            → Finds (Blob name.now ∷ Int (pos number) ∷ [])
-            ((S.Store.view self.old.store).trees 9) self.new.found hit) }
+        ensures found { Tells result self.old self.new (λ all hit.
+            Finds (Blob name.now ∷ Int (pos number) ∷ []) (all 9) self.new.found hit) }
         ensures same { OnOk result (OnlyLooks S.Store self.old.store self.new.store) }
         ensures cause { IfErr result (IsCausedByStore S.Store self.old.store self.new.store) }
         ensures quiet { CommitsNothing S.Store self.old.store self.new.store }
@@ -141,10 +139,8 @@ impl<S: Store> Trees<S> {
 
     /// Whether a row of details is at a place.
     pub(crate) fn has_detail(&mut self, spot: &DetailKey) -> Result<bool, StoreError>
-        ensures found { IfOk result (λ hit. IsClean (S.Store.view self.new.store)
-            → Finds (Int spot.now.place.day ∷ Text spot.now.place.centre
-            ∷ Text spot.now.place.shift ∷ Int (pos spot.now.time) ∷ Blob spot.now.name ∷ [])
-            ((S.Store.view self.old.store).trees 10) self.new.found hit) }
+        ensures found { Tells result self.old self.new (λ all hit.
+            Finds (spec.detail_key spot.now) (all 10) self.new.found hit) }
         ensures same { OnOk result (OnlyLooks S.Store self.old.store self.new.store) }
         ensures cause { IfErr result (IsCausedByStore S.Store self.old.store self.new.store) }
         ensures quiet { CommitsNothing S.Store self.old.store self.new.store }
@@ -156,9 +152,8 @@ impl<S: Store> Trees<S> {
     /// Whether two or more entries have an identity: whether the row after the first that has it
     /// has it too.
     pub(crate) fn is_shared(&mut self, identity: &[u8]) -> Result<bool, StoreError>
-        ensures found { IfOk result (λ shared. IsClean (S.Store.view self.new.store)
-            → FindsTwo (Blob identity.now ∷ []) ((S.Store.view self.old.store).trees 6)
-            self.new.found shared) }
+        ensures found { Tells result self.old self.new (λ all shared.
+            FindsTwo (Blob identity.now ∷ []) (all 6) self.new.found shared) }
         ensures same { OnOk result (OnlyLooks S.Store self.old.store self.new.store) }
         ensures cause { IfErr result (IsCausedByStore S.Store self.old.store self.new.store) }
         ensures quiet { CommitsNothing S.Store self.old.store self.new.store }
@@ -174,9 +169,8 @@ impl<S: Store> Trees<S> {
         period: u16,
         name: &[u8; 32],
     ) -> Result<Option<bool>, StoreError>
-        ensures found { IfOk result (λ line. IsClean (S.Store.view self.new.store)
-            → Finds (Int (pos period) ∷ Blob name.now ∷ [])
-            ((S.Store.view self.old.store).trees 5) self.new.found (is_some line)) }
+        ensures found { Tells result self.old self.new (λ all line.
+            Finds (Int (pos period) ∷ Blob name.now ∷ []) (all 5) self.new.found (is_some line)) }
         ensures read { IfOk result (λ line. IfSome line (λ plus.
             column self.new.found 2 ≡ Int (pos (flag plus)))) }
         ensures same { OnOk result (OnlyLooks S.Store self.old.store self.new.store) }
@@ -196,9 +190,8 @@ impl<S: Store> Trees<S> {
         alloc: Global,
         name: &[u8; 32],
     ) -> Result<Option<Vec<u8>>, StoreError>
-        ensures found { IfOk result (λ identity. IsClean (S.Store.view self.new.store)
-            → Finds (Blob name.now ∷ []) ((S.Store.view self.old.store).trees 3)
-            self.new.found (is_some identity)) }
+        ensures found { Tells result self.old self.new (λ all identity.
+            Finds (Blob name.now ∷ []) (all 3) self.new.found (is_some identity)) }
         ensures read { IfOk result (λ identity. IfSome identity (λ bytes.
             column self.new.found 1 ≡ Blob bytes.items)) }
         ensures same { OnOk result (OnlyLooks S.Store self.old.store self.new.store) }
@@ -218,12 +211,10 @@ impl<S: Store> Trees<S> {
         alloc: Global,
         name: &[u8; 32],
     ) -> Result<Option<StoredRecord>, StoreError>
-        ensures read { IfOk result (λ held. IfSome held (λ stored.
-            IsClean (S.Store.view self.new.store) → Finds (Blob name.now ∷ [])
-            ((S.Store.view self.old.store).trees 3) (record_columns (stored_entry stored)) true)) }
-        ensures missing { IfOk result (λ held. held ≡ None → IsClean (S.Store.view self.new.store)
-            → Finds (Blob name.now ∷ []) ((S.Store.view self.old.store).trees 3) self.new.found
-            false) }
+        ensures read { TellsIfSome result self.old self.new (λ all stored.
+            Finds (Blob name.now ∷ []) (all 3) (record_columns (stored_entry stored)) true) }
+        ensures missing { Tells result self.old self.new (λ all held.
+            held ≡ None → Finds (Blob name.now ∷ []) (all 3) self.new.found false) }
         ensures same { OnOk result (OnlyLooks S.Store self.old.store self.new.store) }
         ensures own { IfErr result (IsOwnCause S.Store self.old.store self.new.store) }
         ensures quiet { CommitsNothing S.Store self.old.store self.new.store }

@@ -35,13 +35,11 @@ pub(crate) struct Walk {
 }
 
 impl Walk {
-    ghost use Rattle.std.specs.Prelude.{◌≡◌, [], IfErr, IfOk, List, OnOk, length, true};
-    ghost use Rattle.sqlite_trees.specs.View.{IsClean};
+    ghost use Rattle.std.specs.Prelude.{◌≡◌, [], IfOk, List, OnOk, length, true};
     ghost use Rattle.sqlite_value.specs.Order.{Row as Columns};
     ghost use Rattle.tree_rows.specs.Calls.{CommitsNothing, OnlyLooks};
-    ghost use Rattle.book_audit.specs.Own.{IsOwnStop};
-    ghost use Rattle.book_audit.specs.Trees.{tree_number};
-    ghost use Rattle.book_audit.specs.Walks.{HasWalked, WalksOn, width};
+    ghost use Rattle.book_audit.specs.Looks.{IsFair, Tells};
+    ghost use Rattle.book_audit.specs.Walks.{GoesOn, HasWalked, IsWalkOf, width};
 
     /// Before the first row.
     pub(crate) fn over(alloc: Global, tree: Tree) -> Walk
@@ -65,17 +63,10 @@ impl Walk {
     /// Reads the next row, or answers that there is none. A row whose key is not after that of the
     /// row before is unsound, so a walk ends whatever the tree holds.
     pub(crate) fn next<S: Store>(&mut self, trees: &mut Trees<S>) -> Result<bool, Stop>
-        ensures next { IfOk result (λ there. IsClean (S.Store.view trees.new.store)
-            → (done : List Columns) → HasWalked self.old.tree self.old.key
-            ((S.Store.view trees.old.store).trees (tree_number self.old.tree)) done
-            → WalksOn self.old.tree self.new.key self.new.row
-            ((S.Store.view trees.old.store).trees (tree_number self.old.tree)) done there) }
+        ensures next { Tells result trees.old trees.new (GoesOn self.old self.new) }
         ensures wide { IfOk result (λ there. there ≡ true
             → length self.new.row ≡ width self.old.tree) }
-        ensures own { IfErr result (λ stop. (done : List Columns)
-            → (IsClean (S.Store.view trees.old.store) → HasWalked self.old.tree self.old.key
-            ((S.Store.view trees.old.store).trees (tree_number self.old.tree)) done)
-            → IsOwnStop S.Store trees.old.store trees.new.store stop) }
+        ensures own { IsFair result trees.old trees.new (IsWalkOf self.old) }
         ensures tree { self.new.tree ≡ self.old.tree }
         ensures same { OnOk result (OnlyLooks S.Store trees.old.store trees.new.store) }
         ensures quiet { CommitsNothing S.Store trees.old.store trees.new.store }

@@ -1,15 +1,15 @@
-use Rattle.std.proofs.Common.{◌≡◌, ◌∙◌, [], ℕ, List, map, rules, subst, sym}
+use Rattle.std.proofs.Common.{◌≡◌, ◌∙◌, [], ℕ, List, ap, length, rules, subst, sym}
+use Rattle.std.specs.BTreeMap.{values}
 use Rattle.tree_rows.proofs.Calls.{clean_before, quiet_both}
 use Rattle.sqlite_trees.specs.Tree.{Trees}
 use Rattle.sqlite_trees.specs.View.{IsClean}
+use Rattle.sqlite_trees.specs.declared.store.Store.{Ghosts}
 use Rattle.book_core.proofs.KeyedRowLemmas.{keyed_rows-none}
 use Rattle.book_model.specs.Words.{rows_of}
 use Rattle.book_model.specs.declared.row.ChargeRow.{ChargeRow}
 use Rattle.book_model.specs.declared.row.RowKey.{RowKey}
 use Rattle.tree_rows.specs.Calls.{OnlyLooks}
-use Rattle.tree_tables.specs.Columns.{day_columns}
-use Rattle.consistent_tables.specs.DueRows.{due_entry}
-use Rattle.book_audit.specs.Days.{keyed_rows}
+use Rattle.book_audit.specs.Days.{AreDueRows}
 use Rattle.book_audit.specs.Details.{AreDetails}
 use Rattle.book_audit.specs.Entries.{AreCounted}
 use Rattle.book_audit.specs.Lines.{AreLines}
@@ -18,10 +18,11 @@ use Rattle.book_audit.specs.SoundTrees.{AreRuled}
 use Rattle.book_audit.specs.Walks.{AreRising}
 use Rattle.book_audit.specs.declared.finding.Tree.TheVariants.{Days, Identities, Marks}
 use Rattle.book_audit.specs.declared.rulings.Rulings.{Rulings}
+use Rattle.book_audit.proofs.DayLemmas.{rows_counted}
 use Rattle.book_audit.proofs.OwnStops.{stop_on, stop_passed}
 use Rattle.book_audit.proofs.OwnTrees.{rows_due}
 use Rattle.book_audit.proofs.SoundBook.{of_book}
-use Rattle.book_audit.proofs.WalkSteps.{look_back, looks_on, trees_stay}
+use Rattle.book_audit.proofs.WalkSteps.{look_back, looks_on, no_look, trees_stay}
 use Rattle.book_audit.proofs.all_trees.read_trees.Goals as goal
 
 pub returns-clause-sound : goal.returns-clause-sound
@@ -53,21 +54,19 @@ returns-clause-sound g c clean =
     let held = c.in_ok-held.held in
     let rows : List (RowKey × ChargeRow) = c.check_records.new.places.rows.entries in
     let none : c.new-places.result.rows.entries ≡ [] = c.new-places.ensures ∙ keyed_rows-none in
-    let records : AreRecords trees rulings held.records rulings.amount held.lines [] rows =
-    subst (λ (all : Trees). AreRecords all rulings held.records rulings.amount held.lines [] rows)
-    stay_one
+    let records : AreRecords trees rulings held.records rulings.amount [] rows =
+    subst (λ (all : Trees). AreRecords all rulings held.records rulings.amount [] rows) stay_one
     (subst (λ (old : List (RowKey × ChargeRow)). AreRecords (g.S.Store.view one).trees rulings
-    held.records rulings.amount held.lines old rows) none
+    held.records rulings.amount old rows) none
     (subst (λ (amount : ℕ). AreRecords (g.S.Store.view one).trees rulings held.records amount
-    held.lines c.new-places.result.rows.entries rows) c.in_ok-held.ensures.amount
+    c.new-places.result.rows.entries rows) c.in_ok-held.ensures.amount
     (c.in_ok-held.ensures.records at_two))) in
-    let kept : rows ≡ keyed_rows (counted_prices records.entries) =
-    records.placed [] (sym keyed_rows-none) in
+    let counted : values c.check_records.new.places.rows ≡ rows_of (counted_prices records.entries) =
+    rows_counted (counted_prices records.entries) rows (records.placed [] (sym keyed_rows-none)) in
     record {
       rulings = rulings;
       rows = rows;
       ruled = c.in_ok-rulings.ensures.ruled at_one;
-      named = held.lines;
       records = records;
       held = c.in_ok-held.ensures.held;
       identities = subst (λ (all : Trees). AreCounted Identities (all 6) held.records) stay_one
@@ -76,9 +75,10 @@ returns-clause-sound g c clean =
           (c.in_ok-held.ensures.marks at_two);
       lines = subst (λ (all : Trees). AreLines all rulings.closes.items c.in_ok-lines.lines) stay_two
           (c.in_ok-lines.ensures.lines at_three);
-      days = subst (λ (all : Trees). all 4 ≡ map day_columns (map (due_entry rulings.closes.items)
-          (rows_of (counted_prices records.entries)))) stay_three
-          (c.in_ok-rows.ensures.rows at_four (counted_prices records.entries) kept);
+      days = subst (λ (sums : List ChargeRow). AreDueRows rulings.closes.items sums (trees 4)) counted
+          (subst (λ (all : Trees). AreDueRows rulings.closes.items
+          (values c.check_records.new.places.rows) (all 4)) stay_three
+          (c.in_ok-rows.ensures.rows at_four));
       rising = subst (λ (all : Trees). AreRising Days (all 4)) stay_three
           (c.in_ok-rows.ensures.rising at_four);
       details = subst (λ (all : Trees). AreDetails all rulings.closes.items) stay_four
@@ -86,13 +86,23 @@ returns-clause-sound g c clean =
       tariffs = search rules;
       closes = search rules;
       choices = search rules;
-      charged = c.in_ok-rows.ensures.count (counted_prices records.entries) kept;
+      charged = c.in_ok-rows.ensures.count ∙ ap length counted;
     }
 
 pub returns-clause-book : goal.returns-clause-book
 returns-clause-book g c clean = of_book _ _ (returns-clause-sound g c clean)
 
 -- ---- books that calls made
+
+module _ {S : Type 0} (ghosts : Ghosts S) (rulings : Rulings) where
+  -- rulings that were read are those of the trees after more looks
+  ruled_on : (start mid new : S) → OnlyLooks ghosts start mid → OnlyLooks ghosts mid new
+      → (IsClean (ghosts.view mid) → AreRuled (ghosts.view start).trees rulings)
+      → IsClean (ghosts.view new) → AreRuled (ghosts.view new).trees rulings
+  ruled_on start mid new before after ruled clean =
+      subst (λ (all : Trees). AreRuled all rulings)
+      (sym (trees_stay ghosts start new (looks_on ghosts start mid new before after) clean))
+      (ruled (look_back ghosts mid new after clean))
 
 pub returns-in_err-held-clause-own : goal.returns-in_err-held-clause-own
 returns-in_err-held-clause-own g c =
@@ -104,11 +114,11 @@ returns-in_err-held-clause-own g c =
     c.from_residual-in_err-held.ensures.1
     (stop_on g.S.Store zero one two c.in_err-held.field-0.0 first c.read_rulings.ensures.quiet
     c.check_records.ensures.quiet
-    (c.in_err-held.ensures.own (
-      λ at. subst (λ (all : Trees). AreRuled all c.in_ok-rulings.rulings)
-          (sym (trees_stay g.S.Store zero one first at)) (c.in_ok-rulings.ensures.ruled at),
+    (c.in_err-held.ensures.own (λ at. (
+      ruled_on g.S.Store c.in_ok-rulings.rulings zero one one first (no_look g.S.Store one)
+          c.in_ok-rulings.ensures.ruled at,
       c.new-places.ensures,
-    )))
+    ))))
 
 pub returns-in_err-lines-clause-own : goal.returns-in_err-lines-clause-own
 returns-in_err-lines-clause-own g c =
@@ -118,16 +128,14 @@ returns-in_err-lines-clause-own g c =
     let three = c.check_lines.new.trees.store in
     let first : OnlyLooks g.S.Store zero one = c.in_ok-rulings.ensures.same in
     let second : OnlyLooks g.S.Store one two = c.in_ok-held.ensures.same in
-    let to_two : OnlyLooks g.S.Store zero two = looks_on g.S.Store zero one two first second in
     stop_passed g.S.Store zero three c.in_err-lines.field-0.0 c.from_residual-in_err-lines.result
     c.from_residual-in_err-lines.ensures.1
-    (stop_on g.S.Store zero two three c.in_err-lines.field-0.0 to_two
+    (stop_on g.S.Store zero two three c.in_err-lines.field-0.0
+    (looks_on g.S.Store zero one two first second)
     (quiet_both g.S.Store c.read_rulings.ensures.quiet c.check_records.ensures.quiet)
     c.check_lines.ensures.quiet
-    (c.in_err-lines.ensures.own (λ at.
-    subst (λ (all : Trees). AreRuled all c.in_ok-rulings.rulings)
-    (sym (trees_stay g.S.Store zero two to_two at))
-    (c.in_ok-rulings.ensures.ruled (look_back g.S.Store one two second at)))))
+    (c.in_err-lines.ensures.own (ruled_on g.S.Store c.in_ok-rulings.rulings zero one two first second
+    c.in_ok-rulings.ensures.ruled)))
 
 pub returns-in_err-rows-clause-own : goal.returns-in_err-rows-clause-own
 returns-in_err-rows-clause-own g c =
@@ -152,47 +160,44 @@ returns-in_err-rows-clause-own g c =
     clean_before g.S.Store c.check_rows.ensures.quiet clean in
     let at_two : IsClean (g.S.Store.view two) = look_back g.S.Store two three third at_three in
     let at_one : IsClean (g.S.Store.view one) = look_back g.S.Store one two second at_two in
-    let records : AreRecords (g.S.Store.view zero).trees rulings held.records held.amount held.lines []
-    rows =
-    subst (λ (all : Trees). AreRecords all rulings held.records held.amount held.lines [] rows)
+    let records : AreRecords (g.S.Store.view zero).trees rulings held.records held.amount [] rows =
+    subst (λ (all : Trees). AreRecords all rulings held.records held.amount [] rows)
     (trees_stay g.S.Store zero one first at_one)
     (subst (λ (old : List (RowKey × ChargeRow)). AreRecords (g.S.Store.view one).trees rulings
-    held.records held.amount held.lines old rows) none (c.in_ok-held.ensures.records at_two)) in
+    held.records held.amount old rows) none (c.in_ok-held.ensures.records at_two)) in
+    let counted : values c.check_records.new.places.rows ≡ rows_of (counted_prices records.entries) =
+    rows_counted (counted_prices records.entries) rows (records.placed [] (sym keyed_rows-none)) in
     let due = rows_due (g.S.Store.view zero).trees own rulings (c.in_ok-rulings.ensures.ruled at_one)
     records.entries records.all records.are.past in
     stop_on g.S.Store zero three four c.in_err-rows.field-0.0 to_three
     (quiet_both g.S.Store (quiet_both g.S.Store c.read_rulings.ensures.quiet c.check_records.ensures.quiet)
     c.check_lines.ensures.quiet) c.check_rows.ensures.quiet
-    (c.in_err-rows.ensures.own (counted_prices records.entries)
-    (records.placed [] (sym keyed_rows-none)) (λ at.
-    subst (λ (all : Trees). all 4 ≡ map day_columns (map (due_entry rulings.closes.items)
-    (rows_of (counted_prices records.entries)))) (sym (trees_stay g.S.Store zero three to_three at)) due))
+    (c.in_err-rows.ensures.own (λ at.
+    subst (λ (all : Trees). AreDueRows rulings.closes.items
+    (values c.check_records.new.places.rows) (all 4))
+    (sym (trees_stay g.S.Store zero three to_three at))
+    (subst (λ (sums : List ChargeRow). AreDueRows rulings.closes.items sums
+    ((g.S.Store.view zero).trees 4)) (sym counted) due)))
     finding is clean own)
 
 pub returns-in_err-check_details-clause-own : goal.returns-in_err-check_details-clause-own
 returns-in_err-check_details-clause-own g c =
     let zero = c.args.trees.now.store in
     let one = c.read_rulings.new.trees.store in
-    let two = c.check_records.new.trees.store in
     let three = c.check_lines.new.trees.store in
     let four = c.check_rows.new.trees.store in
     let five = c.check_details.new.trees.store in
     let first : OnlyLooks g.S.Store zero one = c.in_ok-rulings.ensures.same in
-    let second : OnlyLooks g.S.Store one two = c.in_ok-held.ensures.same in
-    let third : OnlyLooks g.S.Store two three = c.in_ok-lines.ensures.same in
-    let fourth : OnlyLooks g.S.Store three four = c.in_ok-rows.ensures.same in
-    let to_two : OnlyLooks g.S.Store zero two = looks_on g.S.Store zero one two first second in
-    let to_three : OnlyLooks g.S.Store zero three = looks_on g.S.Store zero two three to_two third in
-    let to_four : OnlyLooks g.S.Store zero four = looks_on g.S.Store zero three four to_three fourth in
+    let later : OnlyLooks g.S.Store one four =
+    looks_on g.S.Store one three four
+    (looks_on g.S.Store one c.check_records.new.trees.store three c.in_ok-held.ensures.same
+    c.in_ok-lines.ensures.same) c.in_ok-rows.ensures.same in
     stop_passed g.S.Store zero five c.in_err-check_details.field-0.0
     c.from_residual-in_err-check_details.result c.from_residual-in_err-check_details.ensures.1
-    (stop_on g.S.Store zero four five c.in_err-check_details.field-0.0 to_four
+    (stop_on g.S.Store zero four five c.in_err-check_details.field-0.0
+    (looks_on g.S.Store zero one four first later)
     (quiet_both g.S.Store (quiet_both g.S.Store (quiet_both g.S.Store c.read_rulings.ensures.quiet
     c.check_records.ensures.quiet) c.check_lines.ensures.quiet) c.check_rows.ensures.quiet)
     c.check_details.ensures.quiet
-    (c.in_err-check_details.ensures.own (λ at.
-    let at_three : IsClean (g.S.Store.view three) = look_back g.S.Store three four fourth at in
-    let at_two : IsClean (g.S.Store.view two) = look_back g.S.Store two three third at_three in
-    subst (λ (all : Trees). AreRuled all c.in_ok-rulings.rulings)
-    (sym (trees_stay g.S.Store zero four to_four at))
-    (c.in_ok-rulings.ensures.ruled (look_back g.S.Store one two second at_two)))))
+    (c.in_err-check_details.ensures.own (ruled_on g.S.Store c.in_ok-rulings.rulings zero one four first
+    later c.in_ok-rulings.ensures.ruled)))

@@ -1,4 +1,4 @@
-use Rattle.std.proofs.Common.{◌≡◌, ◌+◌, ◌∙◌, ◌++◌, ◌∷◌, [], ℕ, List, is_ok, length, ap, arith, refl, rules}
+use Rattle.std.proofs.Common.{◌≡◌, ◌+◌, ◌∙◌, ◌++◌, ◌∷◌, [], ℕ, List, is_ok, length, ap, arith, rules}
 use Rattle.std.proofs.Common.{length-append, subst, sym}
 use Rattle.std.proofs.lemmas.List.{length-map, map-append}
 use Rattle.sqlite_trees.specs.Tree.{Trees}
@@ -15,16 +15,16 @@ use Rattle.book_audit.specs.ChoiceRows.{Chooses, Made, entry_of, made_rows, row_
 use Rattle.book_audit.specs.OfBook.{sha_names}
 use Rattle.book_audit.specs.Own.{AreOwn}
 use Rattle.book_audit.specs.OwnChoices.{IsNextIn}
-use Rattle.book_audit.specs.Walks.{HasWalked, WalksOn, width}
+use Rattle.book_audit.specs.Walks.{HasWalked, width}
 use Rattle.book_audit.specs.declared.finding.Tree.TheVariants.{Choices}
 use Rattle.book_audit.proofs.ChoiceLemmas.{made_pushed, none_made, rows_pushed}
 use Rattle.book_audit.proofs.OwnChoices.{own_choices_few, own_choices_fit, own_next_choice, since_from}
 use Rattle.book_audit.proofs.OwnChoices.{since_pushed}
 use Rattle.book_audit.proofs.OwnEntries.{choice_names_many}
-use Rattle.book_audit.proofs.OwnStops.{each_err, err_passed, err_said, its_place, its_row, stop_on}
-use Rattle.book_audit.proofs.OwnStops.{stop_walked}
+use Rattle.book_audit.proofs.OwnStops.{each_err, err_passed, err_said, stop_on, stop_walked}
 use Rattle.book_audit.proofs.TreesHold.{long_numbers}
-use Rattle.book_audit.proofs.WalkSteps.{look_back, looks_on, no_look, trees_stay, walked_on}
+use Rattle.book_audit.proofs.WalkSteps.{its_place, its_row, look_back, looks_on, no_look, read_all}
+use Rattle.book_audit.proofs.WalkSteps.{read_on, trees_stay}
 use Rattle.book_audit.proofs.choices.read_choices.Goals as goal
 
 pub choices-init : goal.choices-init
@@ -83,11 +83,10 @@ choices-preserved g c =
             read.0 ++ one ∷ [],
             subst (HasWalked Choices c.next.new.self.key ((g.S.Store.view start).trees 8))
                 (rows_pushed read.0 one choice.number row is (omega (arith, follows, so_many)))
-                (subst (WalksOn Choices c.next.new.self.key row ((g.S.Store.view start).trees 8)
-                (made_rows read.0)) c.if-not-branch.false
-                (walked_on g.S.Store start mid next Choices c.choices.walk.tree c.choices.walk.key
-                c.next.new.self.key row (made_rows read.0) c.in_ok-next.field-0 so_far.tree
-                so_far.same looks c.in_ok-next.ensures.next (λ back. read.1) after)),
+                (read_on g.S.Store start mid next Choices c.choices.walk c.next.new.self
+                c.in_ok-next.field-0 so_far.tree so_far.same looks c.in_ok-next.ensures.next
+                (λ back. (made_rows (so_far.read back).0, (so_far.read back).1)) after
+                c.if-not-branch.false),
             made_pushed (g.S.Store.view start).trees c.args.rule c.args.open_period c.choices.chosen
                 c.check_choice.new.chosen read.0 choice read.2 step follows count,
             step.since ∙ sym (ap (since_from 1) (map-append (λ (x : Made). x.1) read.0 (one ∷ []))
@@ -109,11 +108,10 @@ returns-then-not-branch-clause-choices g c clean =
     let count : c.choices.chosen.count ≡ c.choices.count = so_far.counted in
     record {
       made = read.0;
-      rows = subst (WalksOn Choices c.next.new.self.key c.next.new.self.row
-          ((g.S.Store.view start).trees 8) (made_rows read.0)) c.if-not-branch.true
-          (walked_on g.S.Store start mid next Choices c.choices.walk.tree c.choices.walk.key
-          c.next.new.self.key c.next.new.self.row (made_rows read.0) c.in_ok-next.field-0 so_far.tree
-          so_far.same looks c.in_ok-next.ensures.next (λ back. read.1) after);
+      rows = read_all g.S.Store start mid next Choices c.choices.walk c.next.new.self
+          c.in_ok-next.field-0 so_far.tree so_far.same looks c.in_ok-next.ensures.next
+          (λ back. (made_rows (so_far.read back).0, (so_far.read back).1)) after
+          c.if-not-branch.true;
       are = read.2;
       few = omega (arith, count, c.choices-test.true);
     }
@@ -127,9 +125,8 @@ returns-in_err-next-clause-own g c =
     let next = c.next.new.trees.store in
     let so_far = c.choices.invariant in
     err_passed _ c.in_err-next.field-0.0 c.from_residual.result c.from_residual.ensures.1
-    (λ given. stop_walked g.S.Store start mid next Choices c.choices.walk.tree c.choices.walk.key
-    c.in_err-next.field-0.0 so_far.tree so_far.same so_far.quiet c.next.ensures.quiet
-    c.in_err-next.ensures.own
+    (λ given. stop_walked g.S.Store start mid next Choices c.choices.walk c.in_err-next.field-0.0
+    so_far.tree so_far.same so_far.quiet c.next.ensures.quiet c.in_err-next.ensures.own
     (λ back. (made_rows (so_far.read back).0, (so_far.read back).1)))
 
 pub returns-in_err-check_entries-clause-own : goal.returns-in_err-check_entries-clause-own
@@ -145,14 +142,12 @@ returns-in_err-check_entries-clause-own g c =
     c.from_residual-in_err-check_entries.ensures.1
     (λ given. stop_on g.S.Store start next last c.in_err-check_entries.field-0.0 both
     (quiet_both g.S.Store so_far.quiet c.next.ensures.quiet) c.check_entries.ensures.quiet
-    (c.in_err-check_entries.ensures.own refl (λ at own.
+    (c.in_err-check_entries.ensures.own (λ at own.
     let read = so_far.read (look_back g.S.Store mid next looks at) in
     let all : (g.S.Store.view start).trees 8 ≡ made_rows read.0 =
-    subst (WalksOn Choices c.next.new.self.key c.next.new.self.row
-    ((g.S.Store.view start).trees 8) (made_rows read.0)) c.if-not-branch.true
-    (walked_on g.S.Store start mid next Choices c.choices.walk.tree c.choices.walk.key
-    c.next.new.self.key c.next.new.self.row (made_rows read.0) c.in_ok-next.field-0 so_far.tree
-    so_far.same looks c.in_ok-next.ensures.next (λ back. read.1) at) in
+    read_all g.S.Store start mid next Choices c.choices.walk c.next.new.self c.in_ok-next.field-0
+    so_far.tree so_far.same looks c.in_ok-next.ensures.next
+    (λ back. (made_rows (so_far.read back).0, (so_far.read back).1)) at c.if-not-branch.true in
     let stay : (g.S.Store.view next).trees 8 ≡ (g.S.Store.view start).trees 8 =
     ap (λ (trees : Trees). trees 8) (trees_stay g.S.Store start next both at) in
     let eight = ap length (stay ∙ all) in
@@ -173,11 +168,10 @@ returns-in_err-choice-clause-own g c =
     let row : Row = c.next.new.self.row in
     each_err _ c.from_residual-in_err-choice.result (λ stop given finding is clean own.
     let fits : ChoiceFits row =
-    its_row g.S.Store start mid next Choices c.choices.walk.tree c.choices.walk.key
-    c.next.new.self.key row c.in_ok-next.field-0 so_far.tree so_far.same c.in_ok-next.ensures.same
-    c.in_ok-next.ensures.next c.if-not-branch.false
+    its_row g.S.Store start mid next Choices c.choices.walk c.next.new.self c.in_ok-next.field-0
+    so_far.tree so_far.same c.in_ok-next.ensures.same c.in_ok-next.ensures.next
     (λ back. (made_rows (so_far.read back).0, (so_far.read back).1)) clean
-    ChoiceFits (own_choices_fit (g.S.Store.view start).trees own) in
+    c.if-not-branch.false ChoiceFits (own_choices_fit (g.S.Store.view start).trees own) in
     let refused = err_said c.choice_in.result
     (sym c.map_err.ensures.variant ∙ ap is_ok c.in_err-choice.was) c.choice_in.ensures.taken in
     absurd (refused.1 (subst ChoiceFits (sym c.row.ensures) fits)))
@@ -201,10 +195,9 @@ returns-in_err-check_choice-clause-own g c =
     (c.in_err-check_choice.ensures.own (λ at.
     let back = look_back g.S.Store mid next looks at in
     let read = so_far.read back in
-    let place = its_place g.S.Store start mid next Choices c.choices.walk.tree c.choices.walk.key
-    c.next.new.self.key row c.in_ok-next.field-0 so_far.tree so_far.same looks
-    c.in_ok-next.ensures.next c.if-not-branch.false
-    (λ back. (made_rows (so_far.read back).0, (so_far.read back).1)) at in
+    let place = its_place g.S.Store start mid next Choices c.choices.walk c.next.new.self
+    c.in_ok-next.field-0 so_far.tree so_far.same looks c.in_ok-next.ensures.next
+    (λ back. (made_rows (so_far.read back).0, (so_far.read back).1)) at c.if-not-branch.false in
     subst (λ (trees : Trees). (own : AreOwn trees)
     → IsNextIn own.book c.args.rule c.args.open_period c.choices.chosen choice)
     (sym (trees_stay g.S.Store start next both at))

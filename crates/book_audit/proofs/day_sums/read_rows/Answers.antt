@@ -1,21 +1,27 @@
-use Rattle.std.proofs.Common.{◌≡◌, ◌∙◌, ℤ, List, map, take, ap, rules, subst, sym}
+use Rattle.std.proofs.Common.{◌≡◌, ◌∙◌, ℕ, ℤ, List, map, take, ap, rules, subst, sym}
 use Rattle.std.specs.Prelude.{is_ok}
 use Rattle.sqlite_value.specs.Order.{column}
 use Rattle.tree_tables.specs.Fits.{ChargeFits, HasPeriod}
 use Rattle.book_audit.proofs.OwnDays.{no_fewer, no_further, one_day, own_days_fit, row_next}
 use Rattle.book_audit.proofs.OwnSteps.{never_with, passed_with}
-use Rattle.book_audit.proofs.OwnStops.{err_said, its_place, its_row, stop_walked}
+use Rattle.book_audit.proofs.OwnStops.{err_said, stop_walked}
 use Rattle.sqlite_value.specs.Order.{Row}
 use Rattle.tree_rows.specs.Calls.{OnlyLooks}
 use Rattle.tree_rows.proofs.Calls.{quiet_both}
 use Rattle.tree_tables.specs.Columns.{day_columns}
 use Rattle.consistent_tables.specs.DueRows.{due_entry}
+use Rattle.book_model.specs.declared.row.ChargeRow.{ChargeRow}
 use Rattle.book_audit.specs.Days.{entry_of}
-use Rattle.book_audit.specs.Walks.{HasWalked, WalksOn}
+use Rattle.book_audit.specs.Walks.{HasWalked}
 use Rattle.book_audit.specs.declared.finding.Tree.TheVariants.{Days}
 use Rattle.book_audit.proofs.DayLemmas.{due_pushed}
-use Rattle.book_audit.proofs.WalkSteps.{look_back, looks_on, no_look, walked_on}
+use Rattle.book_audit.proofs.WalkSteps.{its_place, its_row, look_back, looks_on, no_look, read_all}
+use Rattle.book_audit.proofs.WalkSteps.{read_on}
 use Rattle.book_audit.proofs.day_sums.read_rows.Goals as goal
+
+-- the rows of the first sums that are due
+abbrev first_due : List ℤ → List ChargeRow → ℕ → List Row
+first_due closes due n = map day_columns (map (due_entry closes) (take n due))
 
 pub rows-init : goal.rows-init
 rows-init g c = record {
@@ -36,7 +42,7 @@ rows-preserved g c =
     let reads : row ≡ day_columns (entry_of c.in_ok-row.row) = search rules in
     let is : entry_of c.in_ok-row.row ≡ due_entry closes c.next-item.result = search rules in
     let looks : OnlyLooks g.S.Store mid next = c.in_ok-next.ensures.same in
-    let done : List Row = map day_columns (map (due_entry closes) (take c.rows.next-index c.args.due.now)) in
+    let done : List Row = first_due closes c.args.due.now c.rows.next-index in
     record {
       tree = c.next.ensures.tree ∙ so_far.tree;
       same = looks_on g.S.Store start mid next so_far.same looks;
@@ -45,11 +51,9 @@ rows-preserved g c =
           subst (HasWalked Days c.next.new.self.key ((g.S.Store.view start).trees 4))
           (due_pushed closes c.args.due.now c.rows.next-index c.next-item.result row c.rows-test.true
           c.next-item.is (reads ∙ ap day_columns is))
-          (subst (WalksOn Days c.next.new.self.key row ((g.S.Store.view start).trees 4) done)
-          c.if-not-branch.false
-          (walked_on g.S.Store start mid next Days c.rows.walk.tree c.rows.walk.key
-          c.next.new.self.key row done c.in_ok-next.field-0 so_far.tree so_far.same looks
-          c.in_ok-next.ensures.next so_far.walked clean));
+          (read_on g.S.Store start mid next Days c.rows.walk c.next.new.self c.in_ok-next.field-0
+          so_far.tree so_far.same looks c.in_ok-next.ensures.next
+          (λ back. (done, so_far.walked back)) clean c.if-not-branch.false);
     }
 
 -- the rows of own books are all read,
@@ -61,10 +65,10 @@ returns-in_err-next-clause-own g c =
     let so_far = c.rows.invariant in
     let stop = c.in_err-next.field-0.0 in
     let closes : List ℤ = c.args.rulings.now.closes.items in
-    let done : List Row = map day_columns (map (due_entry closes) (take c.rows.next-index c.args.due.now)) in
+    let done : List Row = first_due closes c.args.due.now c.rows.next-index in
     passed_with g.S.Store start next stop _ c.from_residual.ensures.1 (λ known.
-    stop_walked g.S.Store start mid next Days c.rows.walk.tree c.rows.walk.key stop so_far.tree
-    so_far.same so_far.quiet c.next.ensures.quiet c.in_err-next.ensures.own
+    stop_walked g.S.Store start mid next Days c.rows.walk stop so_far.tree so_far.same so_far.quiet
+    c.next.ensures.quiet c.in_err-next.ensures.own
     (λ back. (done, so_far.walked back)))
 
 pub returns-in_err-next-2-clause-own : goal.returns-in_err-next-2-clause-own
@@ -75,10 +79,10 @@ returns-in_err-next-2-clause-own g c =
     let so_far = c.rows.invariant in
     let stop = c.in_err-next-2.field-0.0 in
     let closes : List ℤ = c.args.rulings.now.closes.items in
-    let done : List Row = map day_columns (map (due_entry closes) (take c.rows.next-index c.args.due.now)) in
+    let done : List Row = first_due closes c.args.due.now c.rows.next-index in
     passed_with g.S.Store start _ stop _ c.from_residual-in_err-next-2.ensures.1 (λ known.
-    stop_walked g.S.Store start mid next Days c.rows.walk.tree c.rows.walk.key stop so_far.tree
-    so_far.same so_far.quiet c.next-2.ensures.quiet c.in_err-next-2.ensures.own
+    stop_walked g.S.Store start mid next Days c.rows.walk stop so_far.tree so_far.same so_far.quiet
+    c.next-2.ensures.quiet c.in_err-next-2.ensures.own
     (λ back. (done, so_far.walked back)))
 
 -- are no fewer than are due,
@@ -88,16 +92,13 @@ returns-then-not-branch-clause-own g c known finding said clean own =
     let mid = c.rows.trees.store in
     let next = c.next.new.trees.store in
     let so_far = c.rows.invariant in
-    let row : Row = c.next.new.self.row in
     let closes : List ℤ = c.args.rulings.now.closes.items in
     let looks : OnlyLooks g.S.Store mid next = c.in_ok-next.ensures.same in
-    let done : List Row = map day_columns (map (due_entry closes) (take c.rows.next-index c.args.due.now)) in
+    let done : List Row = first_due closes c.args.due.now c.rows.next-index in
     let all : (g.S.Store.view start).trees 4 ≡ done =
-    subst (WalksOn Days c.next.new.self.key row ((g.S.Store.view start).trees 4) done)
-    c.if-not-branch.true
-    (walked_on g.S.Store start mid next Days c.rows.walk.tree c.rows.walk.key
-    c.next.new.self.key row done c.in_ok-next.field-0 so_far.tree so_far.same looks
-    c.in_ok-next.ensures.next so_far.walked clean) in
+    read_all g.S.Store start mid next Days c.rows.walk c.next.new.self c.in_ok-next.field-0
+    so_far.tree so_far.same looks c.in_ok-next.ensures.next (λ back. (done, so_far.walked back))
+    clean c.if-not-branch.true in
     let due = known (look_back g.S.Store start next
     (looks_on g.S.Store start mid next so_far.same looks) clean) in
     absurd (no_fewer (due_entry closes) day_columns c.args.due.now c.rows.next-index c.rows-test.true
@@ -110,15 +111,14 @@ returns-in_err-row-clause-own g c =
     let mid = c.rows.trees.store in
     let next = c.next.new.trees.store in
     let so_far = c.rows.invariant in
-    let row : Row = c.next.new.self.row in
-    let closes : List ℤ = c.args.rulings.now.closes.items in
-    let done : List Row = map day_columns (map (due_entry closes) (take c.rows.next-index c.args.due.now)) in
+    let done : List Row =
+    first_due c.args.rulings.now.closes.items c.args.due.now c.rows.next-index in
     let Good : Row → Type 0 = λ (r : Row). HasPeriod (column r 0) × ChargeFits r in
     never_with g.S.Store start _ _ (λ known clean own.
-    let fits = its_row g.S.Store start mid next Days c.rows.walk.tree c.rows.walk.key
-    c.next.new.self.key row c.in_ok-next.field-0 so_far.tree so_far.same c.in_ok-next.ensures.same
-    c.in_ok-next.ensures.next c.if-not-branch.false (λ back. (done, so_far.walked back)) clean
-    Good (own_days_fit (g.S.Store.view start).trees own) in
+    let fits = its_row g.S.Store start mid next Days c.rows.walk c.next.new.self
+    c.in_ok-next.field-0 so_far.tree so_far.same c.in_ok-next.ensures.same c.in_ok-next.ensures.next
+    (λ back. (done, so_far.walked back)) clean c.if-not-branch.false Good
+    (own_days_fit (g.S.Store.view start).trees own) in
     let refused = err_said c.row_in.result
     (sym c.map_err.ensures.variant ∙ ap is_ok c.in_err-row.was) c.row_in.ensures.taken in
     let shown = sym c.row.ensures in
@@ -135,12 +135,12 @@ returns-then-not-is_due-clause-own g c known finding said clean own =
     let closes : List ℤ = c.args.rulings.now.closes.items in
     let one = c.in_ok-row.row in
     let due = c.next-item.result in
-    let done : List Row = map day_columns (map (due_entry closes) (take c.rows.next-index c.args.due.now)) in
+    let done : List Row = first_due closes c.args.due.now c.rows.next-index in
     let looks : OnlyLooks g.S.Store mid next = c.in_ok-next.ensures.same in
     let reads : row ≡ day_columns (entry_of one) = search rules in
-    let place = its_place g.S.Store start mid next Days c.rows.walk.tree c.rows.walk.key
-    c.next.new.self.key row c.in_ok-next.field-0 so_far.tree so_far.same looks
-    c.in_ok-next.ensures.next c.if-not-branch.false (λ back. (done, so_far.walked back)) clean in
+    let place = its_place g.S.Store start mid next Days c.rows.walk c.next.new.self
+    c.in_ok-next.field-0 so_far.tree so_far.same looks c.in_ok-next.ensures.next
+    (λ back. (done, so_far.walked back)) clean c.if-not-branch.false in
     let all = known (look_back g.S.Store start next
     (looks_on g.S.Store start mid next so_far.same looks) clean) in
     let is : row ≡ day_columns (due_entry closes due) =
@@ -161,11 +161,11 @@ returns-in_err-row-2-clause-own g c =
     let row : Row = c.next-2.new.self.row in
     let closes : List ℤ = c.args.rulings.now.closes.items in
     let looks : OnlyLooks g.S.Store mid next = c.in_ok-next-2.ensures.same in
-    let done : List Row = map day_columns (map (due_entry closes) (take c.rows.next-index c.args.due.now)) in
+    let done : List Row = first_due closes c.args.due.now c.rows.next-index in
     never_with g.S.Store start _ _ (λ known clean own.
-    let place = its_place g.S.Store start mid next Days c.rows.walk.tree c.rows.walk.key
-    c.next-2.new.self.key row c.in_ok-next-2.field-0 so_far.tree so_far.same looks
-    c.in_ok-next-2.ensures.next c.if-branch.true (λ back. (done, so_far.walked back)) clean in
+    let place = its_place g.S.Store start mid next Days c.rows.walk c.next-2.new.self
+    c.in_ok-next-2.field-0 so_far.tree so_far.same looks c.in_ok-next-2.ensures.next
+    (λ back. (done, so_far.walked back)) clean c.if-branch.true in
     let all = known (look_back g.S.Store start next
     (looks_on g.S.Store start mid next so_far.same looks) clean) in
     no_further (due_entry closes) day_columns c.args.due.now c.rows.next-index row place.0
@@ -180,10 +180,10 @@ returns-then-branch-clause-own g c known finding said clean own =
     let row : Row = c.next-2.new.self.row in
     let closes : List ℤ = c.args.rulings.now.closes.items in
     let looks : OnlyLooks g.S.Store mid next = c.in_ok-next-2.ensures.same in
-    let done : List Row = map day_columns (map (due_entry closes) (take c.rows.next-index c.args.due.now)) in
-    let place = its_place g.S.Store start mid next Days c.rows.walk.tree c.rows.walk.key
-    c.next-2.new.self.key row c.in_ok-next-2.field-0 so_far.tree so_far.same looks
-    c.in_ok-next-2.ensures.next c.if-branch.true (λ back. (done, so_far.walked back)) clean in
+    let done : List Row = first_due closes c.args.due.now c.rows.next-index in
+    let place = its_place g.S.Store start mid next Days c.rows.walk c.next-2.new.self
+    c.in_ok-next-2.field-0 so_far.tree so_far.same looks c.in_ok-next-2.ensures.next
+    (λ back. (done, so_far.walked back)) clean c.if-branch.true in
     let all = known (look_back g.S.Store start next
     (looks_on g.S.Store start mid next so_far.same looks) clean) in
     absurd (no_further (due_entry closes) day_columns c.args.due.now c.rows.next-index row place.0

@@ -9,9 +9,10 @@ use Rattle.tree_rows.specs.Calls.{OnlyLooks}
 use Rattle.tree_rows.proofs.Calls.{quiet_both}
 use Rattle.tree_tables.specs.Columns.{detail_columns}
 use Rattle.book_audit.specs.Details.{ShowsCounted}
-use Rattle.book_audit.specs.Walks.{AreRising, HasWalked, WalksOn, width}
+use Rattle.book_audit.specs.Walks.{AreRising, HasWalked, width}
 use Rattle.book_audit.specs.declared.finding.Tree.TheVariants.{Details}
-use Rattle.book_audit.proofs.WalkSteps.{look_back, looks_on, no_look, trees_stay, walked_on}
+use Rattle.book_audit.proofs.WalkSteps.{its_row, look_back, looks_on, no_look, read_all, read_on}
+use Rattle.book_audit.proofs.WalkSteps.{trees_stay}
 use Rattle.std.specs.Prelude.{is_ok}
 use Rattle.table_model.specs.Tables.{Tables}
 use Rattle.tree_tables.specs.Fits.{DetailFits}
@@ -19,7 +20,7 @@ use Rattle.tree_tables.specs.Holds.{Holds}
 use Rattle.book_audit.specs.SoundTrees.{AreRuled}
 use Rattle.book_audit.proofs.OwnDetails.{IsShownOf, shown_had, shown_of, shown_row_fits}
 use Rattle.book_audit.proofs.OwnSteps.{never_with, passed_with}
-use Rattle.book_audit.proofs.OwnStops.{err_said, its_row, stop_on, stop_walked}
+use Rattle.book_audit.proofs.OwnStops.{err_said, stop_on, stop_walked}
 use Rattle.book_audit.proofs.OwnTables.{own_tables}
 use Rattle.book_audit.proofs.details.check_details.Goals as goal
 
@@ -73,11 +74,10 @@ rows-preserved g c =
             subst (HasWalked Details c.next.new.self.key ((g.S.Store.view start).trees 10))
                 (ap (λ (r : Row). map shown_row read.0 ++ r ∷ []) is
                 ∙ sym (map-append shown_row read.0 (shown ∷ [])))
-                (subst (WalksOn Details c.next.new.self.key row ((g.S.Store.view start).trees 10)
-                (map shown_row read.0)) c.if-not-branch.false
-                (walked_on g.S.Store start mid next Details c.rows.walk.tree c.rows.walk.key
-                c.next.new.self.key row (map shown_row read.0) c.in_ok-next.field-0 so_far.tree
-                so_far.same looks c.in_ok-next.ensures.next (λ back. read.1) after)),
+                (read_on g.S.Store start mid next Details c.rows.walk c.next.new.self
+                c.in_ok-next.field-0 so_far.tree so_far.same looks c.in_ok-next.ensures.next
+                (λ back. let read = so_far.read back in (map shown_row read.0, read.1)) after
+                c.if-not-branch.false),
             all-append (ShowsCounted (g.S.Store.view start).trees closes) read.0 (shown ∷ []) read.2
                 (counted, tt),
           );
@@ -92,11 +92,10 @@ returns-then-not-branch-clause-details g c clean =
     let looks : OnlyLooks g.S.Store mid next = c.in_ok-next.ensures.same in
     let read = so_far.read (look_back g.S.Store mid next looks clean) in
     let all : (g.S.Store.view start).trees 10 ≡ map shown_row read.0 =
-    subst (WalksOn Details c.next.new.self.key c.next.new.self.row
-    ((g.S.Store.view start).trees 10) (map shown_row read.0)) c.if-not-branch.true
-    (walked_on g.S.Store start mid next Details c.rows.walk.tree c.rows.walk.key
-    c.next.new.self.key c.next.new.self.row (map shown_row read.0) c.in_ok-next.field-0
-    so_far.tree so_far.same looks c.in_ok-next.ensures.next (λ back. read.1) clean) in
+    read_all g.S.Store start mid next Details c.rows.walk c.next.new.self c.in_ok-next.field-0
+    so_far.tree so_far.same looks c.in_ok-next.ensures.next
+    (λ back. let read = so_far.read back in (map shown_row read.0, read.1)) clean
+    c.if-not-branch.true in
     record {
       shown = read.0;
       are = all;
@@ -118,8 +117,8 @@ returns-in_err-next-clause-own g c =
     let so_far = c.rows.invariant in
     let stop = c.in_err-next.field-0.0 in
     passed_with g.S.Store start next stop _ c.from_residual.ensures.1 (λ known.
-    stop_walked g.S.Store start mid next Details c.rows.walk.tree c.rows.walk.key stop so_far.tree
-    so_far.same so_far.quiet c.next.ensures.quiet c.in_err-next.ensures.own
+    stop_walked g.S.Store start mid next Details c.rows.walk stop so_far.tree so_far.same
+    so_far.quiet c.next.ensures.quiet c.in_err-next.ensures.own
     (λ back. let read = so_far.read back in (map shown_row read.0, read.1)))
 
 -- are those of details,
@@ -133,11 +132,10 @@ returns-in_err-shown-clause-own g c =
     never_with g.S.Store start next _ (λ known clean own.
     let trees : Trees = (g.S.Store.view start).trees in
     let tables : Tables = own_tables trees own in
-    let is = its_row g.S.Store start mid next Details c.rows.walk.tree c.rows.walk.key
-    c.next.new.self.key row c.in_ok-next.field-0 so_far.tree so_far.same c.in_ok-next.ensures.same
-    c.in_ok-next.ensures.next c.if-not-branch.false
+    let is = its_row g.S.Store start mid next Details c.rows.walk c.next.new.self
+    c.in_ok-next.field-0 so_far.tree so_far.same c.in_ok-next.ensures.same c.in_ok-next.ensures.next
     (λ back. let read = so_far.read back in (map shown_row read.0, read.1)) clean
-    (IsShownOf tables) (shown_of trees tables own.holds) in
+    c.if-not-branch.false (IsShownOf tables) (shown_of trees tables own.holds) in
     let refused = err_said c.detail_in.result
     (sym c.map_err.ensures.variant ∙ ap is_ok c.in_err-shown.was) c.detail_in.ensures.taken in
     refused.1 (subst DetailFits (sym c.row.ensures) (shown_row_fits trees own row is)))
@@ -148,26 +146,23 @@ returns-in_err-check_shown-clause-own g c =
     let start = c.args.trees.now.store in
     let mid = c.rows.trees.store in
     let next = c.next.new.trees.store in
-    let new = c.check_shown.new.trees.store in
     let so_far = c.rows.invariant in
-    let row : Row = c.next.new.self.row in
     let shown : Detail = c.in_ok-shown.shown in
-    let is : row ≡ detail_columns (shown, tt) = search rules in
+    let is : c.next.new.self.row ≡ detail_columns (shown, tt) = search rules in
     let looks : OnlyLooks g.S.Store mid next = c.in_ok-next.ensures.same in
     let both : OnlyLooks g.S.Store start next = looks_on g.S.Store start mid next so_far.same looks in
     let stop = c.in_err-check_shown.field-0.0 in
-    passed_with g.S.Store start new stop _ c.from_residual-in_err-check_shown.ensures.1 (λ known.
-    stop_on g.S.Store start next new stop both
+    passed_with g.S.Store start _ stop _ c.from_residual-in_err-check_shown.ensures.1 (λ known.
+    stop_on g.S.Store start next c.check_shown.new.trees.store stop both
     (quiet_both g.S.Store so_far.quiet c.next.ensures.quiet) c.check_shown.ensures.quiet
     (c.in_err-check_shown.ensures.own (λ back.
     let stay = trees_stay g.S.Store start next both back in (
       subst (λ (all : Trees). AreRuled all c.args.rulings.now) (sym stay)
           (known (look_back g.S.Store start next both back)),
       λ tables holds. shown_had tables shown (subst (IsShownOf tables) is
-          (its_row g.S.Store start mid next Details c.rows.walk.tree c.rows.walk.key
-          c.next.new.self.key row c.in_ok-next.field-0 so_far.tree so_far.same looks
-          c.in_ok-next.ensures.next c.if-not-branch.false
+          (its_row g.S.Store start mid next Details c.rows.walk c.next.new.self
+          c.in_ok-next.field-0 so_far.tree so_far.same looks c.in_ok-next.ensures.next
           (λ back. let read = so_far.read back in (map shown_row read.0, read.1)) back
-          (IsShownOf tables) (shown_of (g.S.Store.view start).trees tables
+          c.if-not-branch.false (IsShownOf tables) (shown_of (g.S.Store.view start).trees tables
           (subst (λ (all : Trees). Holds all tables) stay holds)))),
     ))))

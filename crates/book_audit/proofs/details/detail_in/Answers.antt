@@ -3,35 +3,4 @@ use Rattle.book_audit.proofs.RowLemmas.{row_is}
 use Rattle.book_audit.proofs.details.detail_in.Goals as goal
 
 pub returns-clause-read : goal.returns-clause-read
-returns-clause-read c =
-    row_is c.args.row.now _ c.requires (
-      search rules,
-      (
-        search rules,
-        (
-          search rules,
-          (
-            search rules,
-            (
-              search rules,
-              (
-                search rules,
-                (
-                  search rules,
-                  (
-                    search rules,
-                    (
-                      search rules,
-                      (
-                        search rules,
-                        (search rules, (search rules, tt)),
-                      ),
-                    ),
-                  ),
-                ),
-              ),
-            ),
-          ),
-        ),
-      ),
-    )
+returns-clause-read c = row_is c.args.row.now _ c.requires (search rules parts 13)

@@ -8,14 +8,13 @@ use Rattle.book_audit.proofs.details.is_counted.Goals as goal
 
 -- a record of own books that is counted is counted by its lines
 pub returns-in-Some-clause-other : goal.returns-in-Some-clause-other
-returns-in-Some-clause-other g c none clean are is =
+returns-in-Some-clause-other g c clean none are is =
     let new = c.past_in.new.trees.store in
     let trees : Trees = (g.S.Store.view c.args.trees.now.store).trees in
     let rulings = c.args.rulings.now in
     let entry = stored_entry c.args.record.now in
-    let past = c.in-Some.past in
-    let told : IsClean (g.S.Store.view new) → HasPast (trees 5) rulings.closes.items entry past.counted
-    past.lines = search rules in
+    let counted = c.in-Some.counted in
+    let told : IsClean (g.S.Store.view new) → HasPast (trees 5) rulings.closes.items entry counted =
+    search rules in
     true≢false (sym is.counted ∙ sym (own_counts trees rulings entry
-    (record { own = is.own; ruled = are.ruled; held = are.held }) past.counted past.lines (told clean))
-    ∙ none)
+    (record { own = is.own; ruled = are.ruled; held = are.held }) counted (told clean)) ∙ none)

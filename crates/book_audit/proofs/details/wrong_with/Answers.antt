@@ -131,7 +131,7 @@ returns-then-not-branch-clause-other g c =
     let back : IsClean (g.S.Store.view mid) = look_back g.S.Store mid new second clean in
     let stay = trees_stay g.S.Store start mid first back in
     let its = own_row trees own shown entry (is (own_tables trees own) own.holds) (held back) in
-    c.in_ok-is_counted.ensures.other none clean
+    c.in_ok-is_counted.ensures.other clean none
     (subst (λ (all : Trees). AreOwnOf all c.args.rulings.now entry) (sym stay)
     (record { own = own; ruled = ruled; held = its.held }))
     (subst (λ (all : Trees). IsCountedIn all entry) (sym stay) its.counted)

@@ -1,17 +1,15 @@
-use Rattle.std.proofs.Common.{◌≡◌, ◌∙◌, ◌++◌, ◌∷◌, [], List, length, ap, arith, length-append, refl, rules, subst, sym, true}
+use Rattle.std.proofs.Common.{◌≡◌, ◌∙◌, ◌++◌, ◌∷◌, [], List, length, ap, arith, length-append, refl, rules, subst, sym}
 use Rattle.std.specs.List.{AllByRecursion}
 use Rattle.sqlite_trees.proofs.ListLemmas.{all-append}
 use Rattle.sqlite_value.specs.Order.{Row}
 use Rattle.tree_rows.specs.Calls.{OnlyLooks}
 use Rattle.tree_rows.proofs.Calls.{quiet_both}
 use Rattle.book_audit.specs.Entries.{IsEntry}
-use Rattle.book_audit.specs.Own.{IsOwnStop, is_index}
 use Rattle.book_audit.specs.Trees.{tree_number}
-use Rattle.book_audit.specs.Walks.{AreRising, AreWide, WalksOn, width}
-use Rattle.book_audit.specs.declared.stop.Stop.{Stop}
+use Rattle.book_audit.specs.Walks.{AreRising, AreWide, width}
 use Rattle.book_audit.proofs.OwnEntries.{own_entries}
-use Rattle.book_audit.proofs.OwnStops.{err_passed, its_row, stop_walked}
-use Rattle.book_audit.proofs.WalkSteps.{look_back, looks_on, no_look, walked_on}
+use Rattle.book_audit.proofs.OwnStops.{stop_passed, stop_walked}
+use Rattle.book_audit.proofs.WalkSteps.{its_row, look_back, looks_on, no_look, read_all, read_on}
 use Rattle.book_audit.proofs.entry_counts.count_rows.Goals as goal
 
 pub entries-init : goal.entries-init
@@ -53,10 +51,9 @@ entries-preserved g c =
           let long = length-append read.0 (row ∷ []) in
           let so_many : c.entries.count ≡ length read.0 = read.3 in (
             read.0 ++ row ∷ [],
-            subst (WalksOn tree c.next.new.self.key row rows read.0) c.if-not-branch.false
-                (walked_on g.S.Store start mid next tree c.entries.walk.tree c.entries.walk.key
-                c.next.new.self.key row read.0 c.in_ok-next.field-0 so_far.tree so_far.same looks
-                c.in_ok-next.ensures.next (λ back. read.1) clean),
+            read_on g.S.Store start mid next tree c.entries.walk c.next.new.self c.in_ok-next.field-0
+                so_far.tree so_far.same looks c.in_ok-next.ensures.next
+                (λ back. ((so_far.read back).0, (so_far.read back).1)) clean c.if-not-branch.false,
             all-append (IsEntry tree) read.0 (row ∷ []) read.2 (is, tt),
             omega (arith, so_many, long),
           );
@@ -72,11 +69,9 @@ returns-then-not-branch-clause-counted g c clean =
     let looks : OnlyLooks g.S.Store mid next = c.in_ok-next.ensures.same in
     let read = so_far.read (look_back g.S.Store mid next looks clean) in
     let all : (g.S.Store.view start).trees (tree_number tree) ≡ read.0 =
-    subst (WalksOn tree c.next.new.self.key c.next.new.self.row
-    ((g.S.Store.view start).trees (tree_number tree)) read.0) c.if-not-branch.true
-    (walked_on g.S.Store start mid next tree c.entries.walk.tree c.entries.walk.key
-    c.next.new.self.key c.next.new.self.row read.0 c.in_ok-next.field-0 so_far.tree so_far.same looks
-    c.in_ok-next.ensures.next (λ back. read.1) clean) in
+    read_all g.S.Store start mid next tree c.entries.walk c.next.new.self c.in_ok-next.field-0
+    so_far.tree so_far.same looks c.in_ok-next.ensures.next
+    (λ back. ((so_far.read back).0, (so_far.read back).1)) clean c.if-not-branch.true in
     record {
       each = subst (AllByRecursion (IsEntry tree)) (sym all) read.2;
       wide = subst (AreWide tree) (sym all) read.1.wide;
@@ -90,15 +85,14 @@ returns-in_err-next-clause-own g c =
     let mid = c.entries.trees.store in
     let next = c.next.new.trees.store in
     let so_far = c.entries.invariant in
-    err_passed (λ (stop : Stop). is_index c.args.tree ≡ true → IsOwnStop g.S.Store start next stop)
-    c.in_err-next.field-0.0 c.from_residual.result c.from_residual.ensures.1
-    (λ indexed. stop_walked g.S.Store start mid next c.args.tree c.entries.walk.tree
-    c.entries.walk.key c.in_err-next.field-0.0 so_far.tree so_far.same so_far.quiet
-    c.next.ensures.quiet c.in_err-next.ensures.own
+    stop_passed g.S.Store start next c.in_err-next.field-0.0 c.from_residual.result
+    c.from_residual.ensures.1
+    (stop_walked g.S.Store start mid next c.args.tree c.entries.walk c.in_err-next.field-0.0
+    so_far.tree so_far.same so_far.quiet c.next.ensures.quiet c.in_err-next.ensures.own
     (λ back. ((so_far.read back).0, (so_far.read back).1)))
 
 pub returns-then-not-is_entry-clause-own : goal.returns-then-not-is_entry-clause-own
-returns-then-not-is_entry-clause-own g c indexed finding is clean own =
+returns-then-not-is_entry-clause-own g c finding is clean own =
     let start = c.args.trees.now.store in
     let mid = c.entries.trees.store in
     let next = c.next.new.trees.store in
@@ -106,11 +100,10 @@ returns-then-not-is_entry-clause-own g c indexed finding is clean own =
     let tree = c.args.tree in
     let row : Row = c.next.new.self.row in
     let its : IsEntry tree row =
-    its_row g.S.Store start mid next tree c.entries.walk.tree c.entries.walk.key
-    c.next.new.self.key row c.in_ok-next.field-0 so_far.tree so_far.same c.in_ok-next.ensures.same
-    c.in_ok-next.ensures.next c.if-not-branch.false
-    (λ back. ((so_far.read back).0, (so_far.read back).1)) clean (IsEntry tree)
-    (own_entries (g.S.Store.view start).trees own tree indexed) in
+    its_row g.S.Store start mid next tree c.entries.walk c.next.new.self c.in_ok-next.field-0
+    so_far.tree so_far.same c.in_ok-next.ensures.same c.in_ok-next.ensures.next
+    (λ back. ((so_far.read back).0, (so_far.read back).1)) clean c.if-not-branch.false (IsEntry tree)
+    (own_entries (g.S.Store.view start).trees own tree c.requires) in
     let not_its : ¬ IsEntry tree row = search rules in
     absurd (not_its its)
 

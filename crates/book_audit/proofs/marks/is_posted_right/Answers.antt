@@ -14,7 +14,7 @@ use Rattle.book_audit.proofs.marks.is_posted_right.Goals as goal
 
 -- a record of own books is posted as it is to be
 pub returns-clause-other : goal.returns-clause-other
-returns-clause-other g c wrong clean are =
+returns-clause-other g c clean wrong are =
     let start = c.args.trees.now.store in
     let new = c.line_of.new.self.store in
     let stored = c.args.stored.now in

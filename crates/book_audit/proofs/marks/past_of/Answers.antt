@@ -1,4 +1,5 @@
-use Rattle.std.proofs.Common.{◌≡◌, ◌≤◌, ◌<◌, ◌∙◌, ap, sym, ◌∷◌, ◌-◌, ◌+◌, [], ℕ, List, IfSome, is_some, pos, arith, rules, subst, Bool, Option}
+use Rattle.std.proofs.Common.{◌≡◌, ◌<◌, ◌∙◌, ap, sym, ◌∷◌, ◌-◌, [], ℕ, List, IfSome, is_some, pos, rules}
+use Rattle.std.proofs.Common.{subst, Bool, Option}
 use Rattle.sqlite_trees.specs.Tree.{Trees}
 use Rattle.sqlite_trees.specs.View.{IsClean}
 use Rattle.sqlite_value.specs.Order.{Row, column}
@@ -7,7 +8,7 @@ use Rattle.tree_rows.specs.Calls.{OnlyLooks}
 use Rattle.tree_rows.proofs.Calls.{quiet_both}
 use Rattle.tree_rows.specs.Rows.{Finds}
 use Rattle.tree_tables.specs.Columns.{flag}
-use Rattle.book_audit.specs.Records.{IsLine}
+use Rattle.book_audit.specs.Records.{IsLine, Turns}
 use Rattle.std.specs.FinMap.{get}
 use Rattle.consistent_tables.specs.Consistent.{charged_back, line_at, ruled}
 use Rattle.book_model.specs.Words.{open_by}
@@ -39,38 +40,24 @@ loop-back-preserved g c =
       says = read;
     } in
     let so_far = c.loop-back.invariant in
-    let few : c.loop-back.lines ≤ c.loop-back.back = so_far.few in
-    let lines : List Row = (g.S.Store.view start).trees 5 in
-    elim c.match-line.branch [
-      | in-Some+else-plus-now w ↦ (
-          let turned : c.match-line.lines ≡ c.loop-back.lines + 1 = w.lines-is in
-          record {
-            same = looks_on g.S.Store start mid new so_far.same looks;
-            quiet = quiet_both g.S.Store so_far.quiet c.line_of.ensures.quiet;
-            back = λ clean. goes_on lines name c.args.last c.loop-back.back c.args.charged
-                c.loop-back.now c.match-line.now c.loop-back.lines 1 c.match-line.lines line
-                (so_far.back (look_back g.S.Store mid new looks clean)) (is clean)
-                (turns_some line w.in-Some.plus c.loop-back.now c.match-line.now w.in-Some.is
-                (says_same w.in-Some.plus c.loop-back.now w.if-plus-now.false) w.now-is) turned;
-            few = omega (arith, few, turned);
-          })
-      | in_default w ↦ (
-          let stays : c.match-line.lines ≡ c.loop-back.lines = w.lines-is in
-          record {
-            same = looks_on g.S.Store start mid new so_far.same looks;
-            quiet = quiet_both g.S.Store so_far.quiet c.line_of.ensures.quiet;
-            back = λ clean. goes_on lines name c.args.last c.loop-back.back c.args.charged
-                c.loop-back.now c.match-line.now c.loop-back.lines 0 c.match-line.lines line
-                (so_far.back (look_back g.S.Store mid new looks clean)) (is clean)
-                (turns_none line c.loop-back.now c.match-line.now w.in_default.is w.now-is)
-                (omega (arith, stays));
-            few = omega (arith, few, stays);
-          })
-    ]
+    let turns : Turns line c.loop-back.now c.match-line.now = elim c.match-line.branch [
+      | in-Some+else-plus-now w ↦
+          turns_some line w.in-Some.plus c.loop-back.now c.match-line.now w.in-Some.is
+          (says_same w.in-Some.plus c.loop-back.now w.if-plus-now.false) w.now-is
+      | in_default w ↦
+          turns_none line c.loop-back.now c.match-line.now w.in_default.is w.now-is
+    ] in
+    record {
+      same = looks_on g.S.Store start mid new so_far.same looks;
+      quiet = quiet_both g.S.Store so_far.quiet c.line_of.ensures.quiet;
+      back = λ clean. goes_on ((g.S.Store.view start).trees 5) name c.args.last c.loop-back.back
+          c.args.charged c.loop-back.now c.match-line.now line
+          (so_far.back (look_back g.S.Store mid new looks clean)) (is clean) turns;
+    }
 
 -- a line that is in turn says what is charged
 pub returns-then-plus-now-clause-other : goal.returns-then-plus-now-clause-other
-returns-then-plus-now-clause-other g c none clean tables holds last turns =
+returns-then-plus-now-clause-other g c clean none tables holds last turns =
     let start = c.args.trees.now.store in
     let mid = c.loop-back.trees.store in
     let new = c.line_of.new.self.store in
@@ -100,8 +87,8 @@ returns-then-plus-now-clause-other g c none clean tables holds last turns =
     subst (λ (l : Option Bool). IfSome l (λ plus. plus ≡ charged_back tables name back c.args.charged))
     (sym its) (turn_at tables name (c.args.last - c.args.own) c.args.charged turns back inside) in
     let same : c.loop-back.now ≡ charged_back tables name back c.args.charged =
-    (went_back trees tables holds name c.args.last back c.args.charged c.loop-back.now c.loop-back.lines
-    last (so_far.back before)).0 in
+    (went_back trees tables holds name c.args.last back c.args.charged c.loop-back.now last
+    (so_far.back before)).0 in
     let plus : c.in-Some.plus ≡ c.loop-back.now =
     subst (λ (l : Option Bool). IfSome l (λ plus. plus ≡ charged_back tables name back c.args.charged))
     c.in-Some.is turn ∙ sym same in

@@ -1,4 +1,3 @@
-use Rattle.std.proofs.Common.{◌≤◌}
 use Rattle.sqlite_trees.specs.View.{IsClean}
 use Rattle.tree_rows.specs.Calls.{CommitsNothing, OnlyLooks}
 use Rattle.book_audit.specs.Records.{GoesBack}
@@ -10,6 +9,5 @@ invariant-loop-back g l = record {
   same : OnlyLooks g.S.Store l.fn.trees.store l.trees.store;
   quiet : CommitsNothing g.S.Store l.fn.trees.store l.trees.store;
   back : IsClean (g.S.Store.view l.trees.store)
-      → GoesBack ((g.S.Store.view l.fn.trees.store).trees 5) l.name l.last l.back l.charged l.now l.lines;
-  few : l.lines ≤ l.back;
+      → GoesBack ((g.S.Store.view l.fn.trees.store).trees 5) l.name l.last l.back l.charged l.now;
 }

@@ -18,7 +18,7 @@ use Rattle.book_audit.proofs.WalkSteps.{look_back, looks_on, trees_stay}
 use Rattle.book_audit.proofs.marks.wrong_by_trees.Goals as goal
 
 pub returns-clause-found : goal.returns-clause-found
-returns-clause-found g c none clean =
+returns-clause-found g c clean none =
     let zero = c.args.trees.now.store in
     let one = c.has_identity.new.self.store in
     let two = c.has_mark.new.self.store in
@@ -46,7 +46,7 @@ returns-clause-found g c none clean =
     }
 
 pub returns-clause-charged : goal.returns-clause-charged
-returns-clause-charged g c none clean =
+returns-clause-charged g c clean none =
     let zero = c.args.trees.now.store in
     let one = c.has_identity.new.self.store in
     let two = c.has_mark.new.self.store in

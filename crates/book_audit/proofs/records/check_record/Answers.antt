@@ -20,12 +20,13 @@ returns-in_err-check_data-clause-own g c =
     (own_data (g.S.Store.view start).trees c.args.rulings.now c.args.stored.now (known clean).0)))
 
 -- and so are its marks,
-pub returns-in_err-past-clause-own : goal.returns-in_err-past-clause-own
-returns-in_err-past-clause-own g c =
+pub returns-in_err-counted-clause-own : goal.returns-in_err-counted-clause-own
+returns-in_err-counted-clause-own g c =
     let start = c.args.trees.now.store in
     let new = c.check_marks.new.trees.store in
-    passed_with g.S.Store start new c.in_err-past.field-0.0 _ c.from_residual-in_err-past.ensures.1
-    (λ known. c.in_err-past.ensures.own (λ back. (known back).0))
+    passed_with g.S.Store start new c.in_err-counted.field-0.0 _
+    c.from_residual-in_err-counted.ensures.1
+    (λ known. c.in_err-counted.ensures.own (λ back. (known back).0))
 
 -- and its details
 pub returns-in_err-check_has_detail-clause-own : goal.returns-in_err-check_has_detail-clause-own
@@ -35,9 +36,9 @@ returns-in_err-check_has_detail-clause-own g c =
     let new = c.check_has_detail.new.trees.store in
     let stop = c.in_err-check_has_detail.field-0.0 in
     let entry : List ℕ × RecordRow = stored_entry c.args.stored.now in
-    let past = c.in_ok-past.past in
-    let first : OnlyLooks g.S.Store start mid = c.in_ok-past.ensures.same in
-    let yes : past.counted ≡ true = search rules in
+    let counted = c.in_ok-counted.counted in
+    let first : OnlyLooks g.S.Store start mid = c.in_ok-counted.ensures.same in
+    let yes : counted ≡ true = search rules in
     passed_with g.S.Store start new stop _ c.from_residual-in_err-check_has_detail.ensures.1
     (λ known. stop_on g.S.Store start mid new stop first c.check_marks.ensures.quiet
     c.check_has_detail.ensures.quiet (c.in_err-check_has_detail.ensures.own (λ back.
@@ -47,6 +48,6 @@ returns-in_err-check_has_detail-clause-own g c =
     subst (λ (all : Trees). IsCountedIn all entry) (sym stay) (record {
       own = are.own;
       held = are.held (own_tables trees are.own) are.own.holds;
-      counted = sym (own_counts trees c.args.rulings.now entry are past.counted past.lines
-          (c.in_ok-past.ensures.past back)) ∙ yes;
+      counted = sym (own_counts trees c.args.rulings.now entry are counted
+          (c.in_ok-counted.ensures.past back)) ∙ yes;
     }))))

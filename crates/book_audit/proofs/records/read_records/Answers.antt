@@ -1,4 +1,5 @@
-use Rattle.std.proofs.Common.{◌≡◌, ◌≤◌, ◌+◌, ◌*◌, ◌∙◌, ◌++◌, ◌∷◌, [], ℕ, List, Some, false, map, length, ap, arith, rules, subst, sym}
+use Rattle.std.proofs.Common.{◌≡◌, ◌≤◌, ◌+◌, ◌∙◌, ◌++◌, ◌∷◌, [], ℕ, List, Some, false, map, length, ap}
+use Rattle.std.proofs.Common.{arith, rules, subst, sym}
 use Rattle.sqlite_trees.specs.Tree.{Trees}
 use Rattle.sqlite_trees.specs.View.{IsClean}
 use Rattle.sqlite_value.specs.Order.{Row}
@@ -6,17 +7,17 @@ use Rattle.tree_rows.specs.Calls.{OnlyLooks}
 use Rattle.tree_rows.proofs.Calls.{quiet_both}
 use Rattle.tree_tables.specs.Columns.{record_columns}
 use Rattle.tree_tables.specs.Stored.{stored_entry}
-use Rattle.book_audit.specs.Records.{IsRight, IsTold, Told}
-use Rattle.book_audit.specs.Walks.{AreRising, HasWalked, WalksOn, width}
+use Rattle.book_audit.specs.Records.{IsRight, IsTold, Told, counted_prices}
+use Rattle.book_audit.specs.Walks.{AreRising, HasWalked, width}
 use Rattle.book_audit.specs.declared.finding.Tree.TheVariants.{Records}
 use Rattle.book_audit.proofs.RecordLemmas.{counts_none, counts_on, entries_pushed, none_yet, row_pushed}
-use Rattle.book_audit.proofs.WalkSteps.{look_back, looks_on, no_look, trees_stay, walked_on}
+use Rattle.book_audit.proofs.WalkSteps.{its_place, its_row, look_back, looks_on, no_look, read_all}
+use Rattle.book_audit.proofs.WalkSteps.{read_on, trees_stay}
 use Rattle.std.specs.FinMap.{get}
 use Rattle.sqlite_trees.proofs.ListLemmas.{all_weaker}
 use Rattle.book_model.specs.Words.{IsPriced}
 use Rattle.table_model.specs.Tables.{RecordRow, Tables}
 use Rattle.tree_tables.specs.Holds.{Holds}
-use Rattle.book_audit.specs.Records.{counted_prices}
 use Rattle.book_audit.specs.SoundTrees.{AreRuled}
 use Rattle.book_audit.proofs.OwnLines.{IsRecordOf, record_had, record_row_fits, records_of}
 use Rattle.book_audit.proofs.OwnSteps.{passed_with}
@@ -24,7 +25,7 @@ use Rattle.std.specs.Prelude.{is_ok}
 use Rattle.sqlite_trees.specs.declared.error.StoreError.{StoreError}
 use Rattle.sqlite_trees.specs.declared.error.StoreError.TheVariants.{OutOfMemory}
 use Rattle.tree_tables.specs.Fits.{RecordFits}
-use Rattle.book_audit.proofs.OwnStops.{err_fits, its_place, its_row, met_memory, own_still, stop_on, stop_walked}
+use Rattle.book_audit.proofs.OwnStops.{err_fits, met_memory, own_still, stop_on, stop_walked}
 use Rattle.book_audit.proofs.OwnSums.{own_cost, own_counted, own_few, so_many}
 use Rattle.book_audit.proofs.OwnTables.{own_fit, own_tables}
 use Rattle.book_audit.proofs.records.read_records.Goals as goal
@@ -34,7 +35,6 @@ records-init g c = record {
   tree = c.over-walk.ensures.tree;
   same = no_look g.S.Store c.args.trees.now.store;
   quiet = search rules;
-  few = omega arith;
   read = λ clean. (
     [],
     c.over-walk.ensures.start ((g.S.Store.view c.args.trees.now.store).trees 3),
@@ -56,43 +56,40 @@ records-preserved g c =
     let new = c.check_record.new.trees.store in
     let so_far = c.records.invariant in
     let row : Row = c.next.new.self.row in
-    let told : Told = (stored_entry c.in_ok-record.record, c.in_ok-past.past) in
+    let told : Told = (stored_entry c.in_ok-record.record, c.in_ok-check_record.field-0) in
     let is : row ≡ record_columns told.0 = search rules in
     let looks : OnlyLooks g.S.Store mid next = c.in_ok-next.ensures.same in
-    let checks : OnlyLooks g.S.Store next new = c.in_ok-past.ensures.same in
+    let checks : OnlyLooks g.S.Store next new = c.in_ok-check_record.ensures.same in
     let both : OnlyLooks g.S.Store start next = looks_on g.S.Store start mid next so_far.same looks in
-    let few : c.records.lines ≤ 65535 * c.records.records = so_far.few in
     record {
       tree = c.next.ensures.tree ∙ so_far.tree;
       same = looks_on g.S.Store start next new both checks;
       quiet = quiet_both g.S.Store (quiet_both g.S.Store so_far.quiet c.next.ensures.quiet)
           c.check_record.ensures.quiet;
-      few = search rules;
       read = λ clean.
           let after : IsClean (g.S.Store.view next) = look_back g.S.Store next new checks clean in
           let read = so_far.read (look_back g.S.Store mid next looks after) in
           let stay = trees_stay g.S.Store start next both after in
           let right : IsRight (g.S.Store.view start).trees c.args.rulings.now told.0 =
           subst (λ (all : Trees). IsRight all c.args.rulings.now told.0) stay
-          (c.in_ok-past.ensures.right clean) in
+          (c.in_ok-check_record.ensures.right clean) in
           let past : IsTold (g.S.Store.view start).trees c.args.rulings.now.closes.items told =
           subst (λ (all : Trees). IsTold all c.args.rulings.now.closes.items told) stay
-          (c.in_ok-past.ensures.past clean) in (
+          (c.in_ok-check_record.ensures.past clean) in (
             read.0 ++ told ∷ [],
             subst (HasWalked Records c.next.new.self.key ((g.S.Store.view start).trees 3))
                 (row_pushed read.0 told row is)
-                (subst (WalksOn Records c.next.new.self.key row ((g.S.Store.view start).trees 3)
-                (map (λ (one : Told). record_columns one.0) read.0)) c.if-not-branch.false
-                (walked_on g.S.Store start mid next Records c.records.walk.tree c.records.walk.key
-                c.next.new.self.key row (map (λ (one : Told). record_columns one.0) read.0)
+                (read_on g.S.Store start mid next Records c.records.walk c.next.new.self
                 c.in_ok-next.field-0 so_far.tree so_far.same looks c.in_ok-next.ensures.next
-                (λ back. read.1) after)),
+                (λ back. let read = so_far.read back in
+                (map (λ (one : Told). record_columns one.0) read.0, read.1)) after
+                c.if-not-branch.false),
             entries_pushed (g.S.Store.view start).trees c.args.rulings.now c.records.records
-                c.records.amount (c.records.amount + told.0.1.priced.amount) c.records.lines
-                (c.records.lines + c.from.result) read.0 told read.2 right past
-                (search rules) (search rules) (search rules),
+                c.records.amount (c.records.amount + told.0.1.priced.amount) read.0 told read.2 right
+                past (search rules) (search rules),
             counts_on c.args.places.now.rows.entries c.records.places.rows.entries
-                c.check_record.new.places.rows.entries read.0 told read.3 c.in_ok-past.ensures.placed,
+                c.check_record.new.places.rows.entries read.0 told read.3
+                c.in_ok-check_record.ensures.placed,
           );
     }
 
@@ -105,13 +102,9 @@ returns-then-not-branch-clause-records g c clean =
     let looks : OnlyLooks g.S.Store mid next = c.in_ok-next.ensures.same in
     let read = so_far.read (look_back g.S.Store mid next looks clean) in
     let all : (g.S.Store.view start).trees 3 ≡ map (λ (one : Told). record_columns one.0) read.0 =
-    subst (WalksOn Records c.next.new.self.key c.next.new.self.row
-    ((g.S.Store.view start).trees 3) (map (λ (one : Told). record_columns one.0) read.0))
-    c.if-not-branch.true
-    (walked_on g.S.Store start mid next Records c.records.walk.tree c.records.walk.key
-    c.next.new.self.key c.next.new.self.row (map (λ (one : Told). record_columns one.0) read.0)
-    c.in_ok-next.field-0 so_far.tree so_far.same looks c.in_ok-next.ensures.next (λ back. read.1)
-    clean) in
+    read_all g.S.Store start mid next Records c.records.walk c.next.new.self c.in_ok-next.field-0
+    so_far.tree so_far.same looks c.in_ok-next.ensures.next (λ back. let read = so_far.read back in
+    (map (λ (one : Told). record_columns one.0) read.0, read.1)) clean c.if-not-branch.true in
     record {
       entries = read.0;
       all = all;
@@ -137,13 +130,13 @@ returns-in_err-next-clause-own g c =
     let so_far = c.records.invariant in
     let stop = c.in_err-next.field-0.0 in
     passed_with g.S.Store start next stop _ c.from_residual.ensures.1 (λ known.
-    stop_walked g.S.Store start mid next Records c.records.walk.tree c.records.walk.key stop so_far.tree
-    so_far.same so_far.quiet c.next.ensures.quiet c.in_err-next.ensures.own
+    stop_walked g.S.Store start mid next Records c.records.walk stop so_far.tree so_far.same
+    so_far.quiet c.next.ensures.quiet c.in_err-next.ensures.own
     (λ back. let read = so_far.read back in (map (λ (one : Told). record_columns one.0) read.0, read.1)))
 
 -- and each of these is right
-pub returns-in_err-past-clause-own : goal.returns-in_err-past-clause-own
-returns-in_err-past-clause-own g c =
+pub returns-in_err-check_record-clause-own : goal.returns-in_err-check_record-clause-own
+returns-in_err-check_record-clause-own g c =
     let start = c.args.trees.now.store in
     let mid = c.records.trees.store in
     let next = c.next.new.trees.store in
@@ -154,37 +147,36 @@ returns-in_err-past-clause-own g c =
     let is : row ≡ record_columns entry = search rules in
     let looks : OnlyLooks g.S.Store mid next = c.in_ok-next.ensures.same in
     let both : OnlyLooks g.S.Store start next = looks_on g.S.Store start mid next so_far.same looks in
-    let stop = c.in_err-past.field-0.0 in
+    let stop = c.in_err-check_record.field-0.0 in
     let rows : Told → Row = λ (one : Told). record_columns one.0 in
     let trees : Trees = (g.S.Store.view start).trees in
-    passed_with g.S.Store start new stop _ c.from_residual-in_err-past.ensures.1
+    passed_with g.S.Store start new stop _ c.from_residual-in_err-check_record.ensures.1
     (λ known finding said clean own.
     stop_on g.S.Store start next new stop both
     (quiet_both g.S.Store so_far.quiet c.next.ensures.quiet) c.check_record.ensures.quiet
-    (c.in_err-past.ensures.own (λ back.
+    (c.in_err-check_record.ensures.own (λ back.
     let stay = trees_stay g.S.Store start next both back in
     let read = so_far.read (look_back g.S.Store mid next looks back) in
+    let given = known (look_back g.S.Store start next both back) in
     let its : (tables : Tables) → Holds trees tables → get tables.records entry.0 ≡ Some entry.1 =
     λ tables holds. record_had tables entry (subst (IsRecordOf tables) is
-    (its_row g.S.Store start mid next Records c.records.walk.tree c.records.walk.key
-    c.next.new.self.key row c.in_ok-next.field-0 so_far.tree so_far.same looks
-    c.in_ok-next.ensures.next c.if-not-branch.false
+    (its_row g.S.Store start mid next Records c.records.walk c.next.new.self c.in_ok-next.field-0
+    so_far.tree so_far.same looks c.in_ok-next.ensures.next
     (λ back. let read = so_far.read back in (map rows read.0, read.1)) back
-    (IsRecordOf tables) (records_of trees tables holds))) in
-    let place = its_place g.S.Store start mid next Records c.records.walk.tree c.records.walk.key
-    c.next.new.self.key row c.in_ok-next.field-0 so_far.tree so_far.same looks
-    c.in_ok-next.ensures.next c.if-not-branch.false
-    (λ back. let read = so_far.read back in (map rows read.0, read.1)) back in
+    c.if-not-branch.false (IsRecordOf tables) (records_of trees tables holds))) in
+    let place = its_place g.S.Store start mid next Records c.records.walk c.next.new.self
+    c.in_ok-next.field-0 so_far.tree so_far.same looks c.in_ok-next.ensures.next
+    (λ back. let read = so_far.read back in (map rows read.0, read.1)) back
+    c.if-not-branch.false in
     let priced = (own_fit trees own).records entry.0 entry.1 (its (own_tables trees own) own.holds) in (
       record {
         own = own_still g.S.Store start next both back own;
-        ruled = subst (λ (all : Trees). AreRuled all c.args.rulings.now) (sym stay)
-            (known.0 (look_back g.S.Store start next both back));
+        ruled = subst (λ (all : Trees). AreRuled all c.args.rulings.now) (sym stay) given.0;
         held = λ tables holds. its tables (subst (λ (all : Trees). Holds all tables) stay holds);
       },
       (
         counted_prices read.0,
-        read.3 [] known.1,
+        read.3 [] given.1,
         own_counted trees own read.0 entry place.0
             (place.1 ∙ ap (λ (r : Row). map rows read.0 ++ r ∷ place.0) is)
             (all_weaker (λ (one : Told). IsRight trees c.args.rulings.now one.0)
@@ -209,11 +201,10 @@ returns-in_err-record-clause-own g c =
     (λ known finding said clean own.
     let trees : Trees = (g.S.Store.view start).trees in
     let tables : Tables = own_tables trees own in
-    let is = its_row g.S.Store start mid next Records c.records.walk.tree c.records.walk.key
-    c.next.new.self.key row c.in_ok-next.field-0 so_far.tree so_far.same c.in_ok-next.ensures.same
-    c.in_ok-next.ensures.next c.if-not-branch.false
+    let is = its_row g.S.Store start mid next Records c.records.walk c.next.new.self
+    c.in_ok-next.field-0 so_far.tree so_far.same c.in_ok-next.ensures.same c.in_ok-next.ensures.next
     (λ back. let read = so_far.read back in (map rows read.0, read.1)) clean
-    (IsRecordOf tables) (records_of trees tables own.holds) in
+    c.if-not-branch.false (IsRecordOf tables) (records_of trees tables own.holds) in
     let memory = err_fits (λ (error : StoreError). error ≡ OutOfMemory) c.record_in.result
     c.record_in.ensures.taken (subst RecordFits (sym c.row.ensures) (record_row_fits trees own row is)) in
     absurd (met_memory c.record_in.result c.map_err.result stop (λ error stop stands. search rules)
@@ -232,14 +223,14 @@ returns-then-record-gt-MAX_COST-clause-own g c known finding said clean own =
     let entry : List ℕ × RecordRow = stored_entry c.in_ok-record.record in
     let is : row ≡ record_columns entry = search rules in
     let looks : OnlyLooks g.S.Store mid next = c.in_ok-next.ensures.same in
-    let checks : OnlyLooks g.S.Store next new = c.in_ok-past.ensures.same in
+    let checks : OnlyLooks g.S.Store next new = c.in_ok-check_record.ensures.same in
     let trees : Trees = (g.S.Store.view start).trees in
     let after : IsClean (g.S.Store.view next) = look_back g.S.Store next new checks clean in
     let read = so_far.read (look_back g.S.Store mid next looks after) in
-    let place = its_place g.S.Store start mid next Records c.records.walk.tree c.records.walk.key
-    c.next.new.self.key row c.in_ok-next.field-0 so_far.tree so_far.same looks
-    c.in_ok-next.ensures.next c.if-not-branch.false
-    (λ back. let read = so_far.read back in (map rows read.0, read.1)) after in
+    let place = its_place g.S.Store start mid next Records c.records.walk c.next.new.self
+    c.in_ok-next.field-0 so_far.tree so_far.same looks c.in_ok-next.ensures.next
+    (λ back. let read = so_far.read back in (map rows read.0, read.1)) after
+    c.if-not-branch.false in
     let cost = own_cost trees own read.0 entry place.0
     (place.1 ∙ ap (λ (r : Row). map rows read.0 ++ r ∷ place.0) is) in
     let summed = read.2.summed in

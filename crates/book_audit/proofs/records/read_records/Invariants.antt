@@ -1,4 +1,4 @@
-use Rattle.std.proofs.Common.{◌≡◌, ◌≤◌, ◌*◌, List, map}
+use Rattle.std.proofs.Common.{◌≡◌, List, map}
 use Rattle.sqlite_trees.specs.View.{IsClean}
 use Rattle.tree_rows.specs.Calls.{CommitsNothing, OnlyLooks}
 use Rattle.tree_tables.specs.Columns.{record_columns}
@@ -13,10 +13,9 @@ invariant-records g l = record {
   tree : l.walk.tree ≡ Records;
   same : OnlyLooks g.S.Store l.fn.trees.store l.trees.store;
   quiet : CommitsNothing g.S.Store l.fn.trees.store l.trees.store;
-  few : l.lines ≤ 65535 * l.records;
   read : IsClean (g.S.Store.view l.trees.store) → (entries : List Told)
       × HasWalked Records l.walk.key ((g.S.Store.view l.fn.trees.store).trees 3)
       (map (λ told. record_columns told.0) entries)
-      × AreEntries (g.S.Store.view l.fn.trees.store).trees l.rulings l.records l.amount l.lines entries
+      × AreEntries (g.S.Store.view l.fn.trees.store).trees l.rulings l.records l.amount entries
       × Counts l.fn.places.rows.entries l.places.rows.entries (counted_prices entries);
 }

@@ -2,6 +2,7 @@ use Rattle.std.proofs.Common.{◌≡◌, ◌<◌, ◌+◌, ◌∙◌, ℤ, List,
 use Rattle.std.proofs.Common.{sym, true, true≢false, Some}
 use Rattle.sqlite_trees.specs.Tree.{Trees}
 use Rattle.sqlite_trees.specs.View.{IsClean}
+use Rattle.sqlite_trees.specs.declared.store.Store.{Ghosts}
 use Rattle.book_model.specs.Words.{last_period}
 use Rattle.tree_rows.specs.Calls.{OnlyLooks}
 use Rattle.tree_rows.proofs.Calls.{quiet_both}
@@ -55,21 +56,26 @@ returns-clause-ruled g c clean =
       begun = subst (λ n. is_by (n + 1) rule ≡ true) many begun;
     }
 
+-- closes that were read after other looks are those of the book
+closes_read : {S : Type 0} (ghosts : Ghosts S) (start mid new : S) → OnlyLooks ghosts start mid
+    → OnlyLooks ghosts mid new → (days : List ℤ)
+    → (IsClean (ghosts.view new) → AreClosed ((ghosts.view mid).trees 2) days)
+    → IsClean (ghosts.view new) → (own : AreOwn (ghosts.view start).trees)
+    → days ≡ own.book.rulings.closes
+closes_read ghosts start mid new before call days read clean own =
+    own_closes (ghosts.view start).trees own days
+    (subst (λ (all : Trees). AreClosed (all 2) days)
+    (trees_stay ghosts start mid before (look_back ghosts mid new call clean)) (read clean))
+
 -- the closes of books that calls made are no more than can be
 pub returns-then-len-gt-MAX_CLOSES-clause-own : goal.returns-then-len-gt-MAX_CLOSES-clause-own
 returns-then-len-gt-MAX_CLOSES-clause-own g c finding is clean own =
     let start = c.args.trees.now.store in
-    let one = c.read_book.new.trees.store in
     let two = c.read_tariffs.new.trees.store in
-    let three = c.read_closes.new.trees.store in
     let days : List ℤ = c.in_ok-closes.closes.items in
-    let to_two : OnlyLooks g.S.Store start two =
-    looks_on g.S.Store start one two c.in_ok-book.ensures.same c.in_ok-tariffs.ensures.same in
-    let at_two : IsClean (g.S.Store.view two) =
-    look_back g.S.Store two three c.in_ok-closes.ensures.same clean in
-    let same = own_closes (g.S.Store.view start).trees own days
-    (subst (λ (all : Trees). AreClosed (all 2) days) (trees_stay g.S.Store start two to_two at_two)
-    (c.in_ok-closes.ensures.closed clean)) in
+    let same = closes_read g.S.Store start two c.read_closes.new.trees.store
+    (looks_on g.S.Store start c.read_book.new.trees.store two c.in_ok-book.ensures.same
+    c.in_ok-tariffs.ensures.same) c.in_ok-closes.ensures.same days c.in_ok-closes.ensures.closed clean own in
     let few : length own.book.rulings.closes < last_period =
     (own_readable (g.S.Store.view start).trees own).limits.closes in
     let long = ap length same in
@@ -85,17 +91,14 @@ returns-then-not-is_by-clause-own g c finding is clean own =
     let two = c.read_tariffs.new.trees.store in
     let three = c.read_closes.new.trees.store in
     let days : List ℤ = c.in_ok-closes.closes.items in
-    let to_two : OnlyLooks g.S.Store start two =
-    looks_on g.S.Store start one two c.in_ok-book.ensures.same c.in_ok-tariffs.ensures.same in
-    let at_two : IsClean (g.S.Store.view two) =
-    look_back g.S.Store two three c.in_ok-closes.ensures.same clean in
     let at_one : IsClean (g.S.Store.view one) =
-    look_back g.S.Store one two c.in_ok-tariffs.ensures.same at_two in
+    look_back g.S.Store one two c.in_ok-tariffs.ensures.same
+    (look_back g.S.Store two three c.in_ok-closes.ensures.same clean) in
     let trees : Trees = (g.S.Store.view start).trees in
     let read : BookRow = c.in_ok-book.book in
-    let same = own_closes trees own days
-    (subst (λ (all : Trees). AreClosed (all 2) days) (trees_stay g.S.Store start two to_two at_two)
-    (c.in_ok-closes.ensures.closed clean)) in
+    let same = closes_read g.S.Store start two three
+    (looks_on g.S.Store start one two c.in_ok-book.ensures.same c.in_ok-tariffs.ensures.same)
+    c.in_ok-closes.ensures.same days c.in_ok-closes.ensures.closed clean own in
     let known = known_rule own.book (own_readable trees own) in
     let its : Some known.0 ≡ Some read.rule =
     sym known.1 ∙ own_rule trees own read (c.in_ok-book.ensures.book at_one) in

@@ -1,4 +1,4 @@
-use Rattle.std.proofs.Common.{◌≡◌, ◌∙◌, ◌∷◌, [], List, None, is_ok, length, ap, rules, subst, sym}
+use Rattle.std.proofs.Common.{◌≡◌, ◌∙◌, ◌∷◌, [], List, None, is_ok, length, ap, rules, sym}
 use Rattle.sqlite_trees.specs.View.{IsClean}
 use Rattle.sqlite_value.specs.Order.{Row}
 use Rattle.table_model.specs.Tables.{BookRow}
@@ -8,11 +8,11 @@ use Rattle.tree_tables.specs.Columns.{book_columns}
 use Rattle.book_audit.specs.OfBook.{sha_names}
 use Rattle.book_audit.specs.Own.{IsOwnStop}
 use Rattle.book_audit.specs.Rules.{rule_of}
-use Rattle.book_audit.specs.Walks.{HasWalked, WalksOn, width}
+use Rattle.book_audit.specs.Walks.{HasWalked, width}
 use Rattle.book_audit.specs.declared.finding.Tree.TheVariants.{Book}
 use Rattle.book_audit.proofs.OwnRulings.{book_fits, known_rule, own_book_row, own_readable}
-use Rattle.book_audit.proofs.OwnStops.{each_err, err_said, its_place, stop_passed, stop_walked}
-use Rattle.book_audit.proofs.WalkSteps.{look_back, no_look, walked_on}
+use Rattle.book_audit.proofs.OwnStops.{each_err, err_said, stop_passed, stop_walked}
+use Rattle.book_audit.proofs.WalkSteps.{its_place, look_back, no_look, read_all, read_on}
 use Rattle.book_audit.proofs.rulings.read_book.Goals as goal
 
 pub book_in-requires : goal.book_in-requires
@@ -31,19 +31,14 @@ returns-clause-book g c clean =
     let second : OnlyLooks g.S.Store next last = c.in_ok-next-2.ensures.same in
     let after : IsClean (g.S.Store.view next) = look_back g.S.Store next last second clean in
     let one : HasWalked Book c.next.new.self.key rows (row ∷ []) =
-    subst (WalksOn Book c.next.new.self.key row rows []) c.if-not-branch.false
-    (walked_on g.S.Store start start next Book c.over-walk.result.tree c.over-walk.result.key
-    c.next.new.self.key row [] c.in_ok-next.field-0 c.over-walk.ensures.tree
-    (no_look g.S.Store start) first c.in_ok-next.ensures.next
-    (λ back. c.over-walk.ensures.start rows) after) in
+    read_on g.S.Store start start next Book c.over-walk.result c.next.new.self c.in_ok-next.field-0
+    c.over-walk.ensures.tree (no_look g.S.Store start) first c.in_ok-next.ensures.next
+    (λ back. ([], c.over-walk.ensures.start rows)) after c.if-not-branch.false in
     record {
       row = row;
-      one = subst (WalksOn Book c.next-2.new.self.key c.next-2.new.self.row rows (row ∷ []))
-          c.if-branch.false
-          (walked_on g.S.Store start next last Book c.next.new.self.tree c.next.new.self.key
-          c.next-2.new.self.key c.next-2.new.self.row (row ∷ []) c.in_ok-next-2.field-0
-          (c.next.ensures.tree ∙ c.over-walk.ensures.tree) first second
-          c.in_ok-next-2.ensures.next (λ back. one) clean);
+      one = read_all g.S.Store start next last Book c.next.new.self c.next-2.new.self
+          c.in_ok-next-2.field-0 (c.next.ensures.tree ∙ c.over-walk.ensures.tree) first second
+          c.in_ok-next-2.ensures.next (λ back. (row ∷ [], one)) clean c.if-branch.false;
       is = search rules;
     }
 
@@ -56,9 +51,9 @@ returns-in_err-next-clause-own g c =
     let still : CommitsNothing g.S.Store start start = search rules in
     stop_passed g.S.Store start next c.in_err-next.field-0.0 c.from_residual.result
     c.from_residual.ensures.1
-    (stop_walked g.S.Store start start next Book c.over-walk.result.tree c.over-walk.result.key
-    c.in_err-next.field-0.0 c.over-walk.ensures.tree (no_look g.S.Store start) still
-    c.next.ensures.quiet c.in_err-next.ensures.own (λ back. ([], c.over-walk.ensures.start rows)))
+    (stop_walked g.S.Store start start next Book c.over-walk.result c.in_err-next.field-0.0
+    c.over-walk.ensures.tree (no_look g.S.Store start) still c.next.ensures.quiet
+    c.in_err-next.ensures.own (λ back. ([], c.over-walk.ensures.start rows)))
 
 pub returns-in_err-book-clause-own : goal.returns-in_err-book-clause-own
 returns-in_err-book-clause-own g c =
@@ -68,10 +63,10 @@ returns-in_err-book-clause-own g c =
     let rows : List Row = (g.S.Store.view start).trees 0 in
     each_err (IsOwnStop g.S.Store start next) c.from_residual-in_err-book.result
     (λ stop finding said clean own.
-    let place = its_place g.S.Store start start next Book c.over-walk.result.tree
-    c.over-walk.result.key c.next.new.self.key row c.in_ok-next.field-0 c.over-walk.ensures.tree
-    (no_look g.S.Store start) c.in_ok-next.ensures.same c.in_ok-next.ensures.next
-    c.if-not-branch.false (λ back. ([], c.over-walk.ensures.start rows)) clean in
+    let place = its_place g.S.Store start start next Book c.over-walk.result c.next.new.self
+    c.in_ok-next.field-0 c.over-walk.ensures.tree (no_look g.S.Store start)
+    c.in_ok-next.ensures.same c.in_ok-next.ensures.next
+    (λ back. ([], c.over-walk.ensures.start rows)) clean c.if-not-branch.false in
     let is = c.row.ensures ∙ (own_book_row (g.S.Store.view start).trees own row place.0 place.1).0 in
     let fits = book_fits c.row.result.now (tables_of sha_names own.book).book is in
     let refused = err_said c.book_in.result
@@ -84,10 +79,10 @@ returns-in_default-clause-own g c finding said clean own =
     let next = c.next.new.trees.store in
     let row : Row = c.next.new.self.row in
     let rows : List Row = (g.S.Store.view start).trees 0 in
-    let place = its_place g.S.Store start start next Book c.over-walk.result.tree
-    c.over-walk.result.key c.next.new.self.key row c.in_ok-next.field-0 c.over-walk.ensures.tree
-    (no_look g.S.Store start) c.in_ok-next.ensures.same c.in_ok-next.ensures.next
-    c.if-not-branch.false (λ back. ([], c.over-walk.ensures.start rows)) clean in
+    let place = its_place g.S.Store start start next Book c.over-walk.result c.next.new.self
+    c.in_ok-next.field-0 c.over-walk.ensures.tree (no_look g.S.Store start)
+    c.in_ok-next.ensures.same c.in_ok-next.ensures.next
+    (λ back. ([], c.over-walk.ensures.start rows)) clean c.if-not-branch.false in
     let its : BookRow = (tables_of sha_names own.book).book in
     let is : c.row.result.now ≡ book_columns its =
     c.row.ensures ∙ (own_book_row (g.S.Store.view start).trees own row place.0 place.1).0 in
@@ -105,16 +100,14 @@ returns-in_err-next-2-clause-own g c =
     let rows : List Row = (g.S.Store.view start).trees 0 in
     stop_passed g.S.Store start last c.in_err-next-2.field-0.0 c.from_residual-in_err-next-2.result
     c.from_residual-in_err-next-2.ensures.1
-    (stop_walked g.S.Store start next last Book c.next.new.self.tree c.next.new.self.key
-    c.in_err-next-2.field-0.0 (c.next.ensures.tree ∙ c.over-walk.ensures.tree)
-    c.in_ok-next.ensures.same c.next.ensures.quiet c.next-2.ensures.quiet c.in_err-next-2.ensures.own
-    (λ back. (
+    (stop_walked g.S.Store start next last Book c.next.new.self c.in_err-next-2.field-0.0
+    (c.next.ensures.tree ∙ c.over-walk.ensures.tree) c.in_ok-next.ensures.same c.next.ensures.quiet
+    c.next-2.ensures.quiet c.in_err-next-2.ensures.own (λ back. (
       row ∷ [],
-      subst (WalksOn Book c.next.new.self.key row rows []) c.if-not-branch.false
-          (walked_on g.S.Store start start next Book c.over-walk.result.tree c.over-walk.result.key
-          c.next.new.self.key row [] c.in_ok-next.field-0 c.over-walk.ensures.tree
-          (no_look g.S.Store start) c.in_ok-next.ensures.same c.in_ok-next.ensures.next
-          (λ before. c.over-walk.ensures.start rows) back),
+      read_on g.S.Store start start next Book c.over-walk.result c.next.new.self
+          c.in_ok-next.field-0 c.over-walk.ensures.tree (no_look g.S.Store start)
+          c.in_ok-next.ensures.same c.in_ok-next.ensures.next
+          (λ before. ([], c.over-walk.ensures.start rows)) back c.if-not-branch.false,
     )))
 
 pub returns-then-branch-clause-own : goal.returns-then-branch-clause-own
@@ -124,18 +117,15 @@ returns-then-branch-clause-own g c finding said clean own =
     let last = c.next-2.new.trees.store in
     let row : Row = c.next.new.self.row in
     let rows : List Row = (g.S.Store.view start).trees 0 in
-    let place = its_place g.S.Store start next last Book c.next.new.self.tree c.next.new.self.key
-    c.next-2.new.self.key c.next-2.new.self.row c.in_ok-next-2.field-0
-    (c.next.ensures.tree ∙ c.over-walk.ensures.tree) c.in_ok-next.ensures.same
-    c.in_ok-next-2.ensures.same c.in_ok-next-2.ensures.next c.if-branch.true
-    (λ back. (
+    let place = its_place g.S.Store start next last Book c.next.new.self c.next-2.new.self
+    c.in_ok-next-2.field-0 (c.next.ensures.tree ∙ c.over-walk.ensures.tree)
+    c.in_ok-next.ensures.same c.in_ok-next-2.ensures.same c.in_ok-next-2.ensures.next (λ back. (
       row ∷ [],
-      subst (WalksOn Book c.next.new.self.key row rows []) c.if-not-branch.false
-          (walked_on g.S.Store start start next Book c.over-walk.result.tree c.over-walk.result.key
-          c.next.new.self.key row [] c.in_ok-next.field-0 c.over-walk.ensures.tree
-          (no_look g.S.Store start) c.in_ok-next.ensures.same c.in_ok-next.ensures.next
-          (λ before. c.over-walk.ensures.start rows) back),
-    )) clean in
+      read_on g.S.Store start start next Book c.over-walk.result c.next.new.self
+          c.in_ok-next.field-0 c.over-walk.ensures.tree (no_look g.S.Store start)
+          c.in_ok-next.ensures.same c.in_ok-next.ensures.next
+          (λ before. ([], c.over-walk.ensures.start rows)) back c.if-not-branch.false,
+    )) clean c.if-branch.true in
     let none = (own_book_row (g.S.Store.view start).trees own row (c.next-2.new.self.row ∷ place.0)
     place.1).1 in
     absurd (let e = none in cc)

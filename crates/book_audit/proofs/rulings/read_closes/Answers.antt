@@ -16,12 +16,12 @@ use Rattle.tree_tables.specs.Stored.{close_entry}
 use Rattle.tree_rows.proofs.Calls.{quiet_both}
 use Rattle.book_audit.specs.Own.{IsOwnStop}
 use Rattle.book_audit.specs.Rulings.{IsNextClose}
-use Rattle.book_audit.specs.Walks.{HasWalked, WalksOn, width}
+use Rattle.book_audit.specs.Walks.{HasWalked, width}
 use Rattle.book_audit.specs.declared.finding.Tree.TheVariants.{Closes}
 use Rattle.book_audit.proofs.ClosedLemmas.{closes_pushed, is_later}
 use Rattle.book_audit.proofs.OwnRulings.{own_closes_fit, own_next_close}
-use Rattle.book_audit.proofs.OwnStops.{each_err, err_said, its_place, its_row, stop_passed, stop_walked}
-use Rattle.book_audit.proofs.WalkSteps.{looks_on, no_look, walked_on}
+use Rattle.book_audit.proofs.OwnStops.{each_err, err_said, stop_passed, stop_walked}
+use Rattle.book_audit.proofs.WalkSteps.{its_place, its_row, looks_on, no_look, read_all, read_on}
 use Rattle.book_audit.proofs.rulings.read_closes.Goals as goal
 
 pub closes-init : goal.closes-init
@@ -65,12 +65,11 @@ closes-preserved g c =
           subst (HasWalked Closes c.next.new.self.key ((g.S.Store.view start).trees 2))
           (closes_pushed days c.in_ok-close.close.period day row is next.period
           ∙ ap (λ all. map closed_columns (close_entries 1 all)) (sym pushed))
-          (subst (WalksOn Closes c.next.new.self.key row ((g.S.Store.view start).trees 2)
-          (map closed_columns (close_entries 1 days))) c.if-not-branch.false
-          (walked_on g.S.Store start c.closes.trees.store c.next.new.trees.store Closes
-          c.closes.walk.tree c.closes.walk.key c.next.new.self.key row
-          (map closed_columns (close_entries 1 days)) c.in_ok-next.field-0 so_far.tree so_far.same
-          c.in_ok-next.ensures.same c.in_ok-next.ensures.next so_far.walked clean));
+          (read_on g.S.Store start c.closes.trees.store c.next.new.trees.store Closes
+          c.closes.walk c.next.new.self c.in_ok-next.field-0 so_far.tree so_far.same
+          c.in_ok-next.ensures.same c.in_ok-next.ensures.next
+          (λ back. (map closed_columns (close_entries 1 days), so_far.walked back)) clean
+          c.if-not-branch.false);
       days = subst (All IsDay) (sym pushed) (All-push IsDay days day so_far.days next.day);
       in_order = subst (IsStrictlySortedBy int_cmp) (sym pushed) (rise_behind days day
           so_far.in_order (is_later (last_or None days) day next.later));
@@ -82,12 +81,10 @@ returns-then-not-branch-clause-closed g c clean =
     let so_far = c.closes.invariant in
     let done : List Row = map closed_columns (close_entries 1 c.closes.days.items) in
     record {
-      are = subst (WalksOn Closes c.next.new.self.key c.next.new.self.row
-          ((g.S.Store.view start).trees 2) done) c.if-not-branch.true
-          (walked_on g.S.Store start c.closes.trees.store c.next.new.trees.store Closes
-          c.closes.walk.tree c.closes.walk.key c.next.new.self.key c.next.new.self.row done
-          c.in_ok-next.field-0 so_far.tree so_far.same c.in_ok-next.ensures.same
-          c.in_ok-next.ensures.next so_far.walked clean);
+      are = read_all g.S.Store start c.closes.trees.store c.next.new.trees.store Closes
+          c.closes.walk c.next.new.self c.in_ok-next.field-0 so_far.tree so_far.same
+          c.in_ok-next.ensures.same c.in_ok-next.ensures.next
+          (λ back. (done, so_far.walked back)) clean c.if-not-branch.true;
       valid = so_far.days;
       in_order = so_far.in_order;
     }
@@ -108,9 +105,8 @@ returns-in_err-next-clause-own g c =
     let so_far = c.closes.invariant in
     stop_passed g.S.Store start next c.in_err-next.field-0.0 c.from_residual.result
     c.from_residual.ensures.1
-    (stop_walked g.S.Store start mid next Closes c.closes.walk.tree c.closes.walk.key
-    c.in_err-next.field-0.0 so_far.tree so_far.same so_far.quiet c.next.ensures.quiet
-    c.in_err-next.ensures.own
+    (stop_walked g.S.Store start mid next Closes c.closes.walk c.in_err-next.field-0.0
+    so_far.tree so_far.same so_far.quiet c.next.ensures.quiet c.in_err-next.ensures.own
     (λ back. (map closed_columns (close_entries 1 c.closes.days.items), so_far.walked back)))
 
 pub returns-in_err-close-clause-own : goal.returns-in_err-close-clause-own
@@ -123,11 +119,10 @@ returns-in_err-close-clause-own g c =
     each_err (IsOwnStop g.S.Store start next) c.from_residual-in_err-close.result
     (λ stop finding said clean own.
     let fits : CloseFits row =
-    its_row g.S.Store start mid next Closes c.closes.walk.tree c.closes.walk.key
-    c.next.new.self.key row c.in_ok-next.field-0 so_far.tree so_far.same c.in_ok-next.ensures.same
-    c.in_ok-next.ensures.next c.if-not-branch.false
+    its_row g.S.Store start mid next Closes c.closes.walk c.next.new.self c.in_ok-next.field-0
+    so_far.tree so_far.same c.in_ok-next.ensures.same c.in_ok-next.ensures.next
     (λ back. (map closed_columns (close_entries 1 c.closes.days.items), so_far.walked back)) clean
-    CloseFits (own_closes_fit (g.S.Store.view start).trees own) in
+    c.if-not-branch.false CloseFits (own_closes_fit (g.S.Store.view start).trees own) in
     let refused = err_said c.close_in.result
     (sym c.map_err.ensures.variant ∙ ap is_ok c.in_err-close.was) c.close_in.ensures.taken in
     absurd (refused.1 (subst CloseFits (sym c.row.ensures) fits)))
@@ -142,10 +137,10 @@ returns-then-not-is_next-clause-own g c finding is clean own =
     let row : Row = c.next.new.self.row in
     let close = c.in_ok-close.close in
     let is_row : row ≡ closed_columns (close_entry close) = search rules in
-    let place = its_place g.S.Store start mid next Closes c.closes.walk.tree c.closes.walk.key
-    c.next.new.self.key row c.in_ok-next.field-0 so_far.tree so_far.same c.in_ok-next.ensures.same
-    c.in_ok-next.ensures.next c.if-not-branch.false
-    (λ back. (map closed_columns (close_entries 1 days), so_far.walked back)) clean in
+    let place = its_place g.S.Store start mid next Closes c.closes.walk c.next.new.self
+    c.in_ok-next.field-0 so_far.tree so_far.same c.in_ok-next.ensures.same c.in_ok-next.ensures.next
+    (λ back. (map closed_columns (close_entries 1 days), so_far.walked back)) clean
+    c.if-not-branch.false in
     let follows : IsNextClose days close =
     own_next_close (g.S.Store.view start).trees own days close place.0
     (place.1 ∙ ap (λ (r : Row). map closed_columns (close_entries 1 days) ++ r ∷ place.0) is_row) in

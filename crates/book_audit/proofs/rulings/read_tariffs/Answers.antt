@@ -6,19 +6,18 @@ use Rattle.sqlite_trees.specs.declared.error.StoreError.{StoreError}
 use Rattle.sqlite_trees.specs.declared.error.StoreError.TheVariants.{OutOfMemory}
 use Rattle.sqlite_value.specs.Order.{Row}
 use Rattle.book_model.specs.Words.{IsDay, Terms, terms_in}
-use Rattle.table_model.specs.Readable.{IsTexted}
+use Rattle.table_model.specs.Readable.{IsOfCharacters, IsTexted}
 use Rattle.table_model.specs.TablesOf.{tariff_entries}
 use Rattle.tree_rows.specs.Calls.{OnlyLooks}
 use Rattle.tree_rows.proofs.Calls.{quiet_both}
 use Rattle.tree_tables.specs.Columns.{tariff_columns}
 use Rattle.tree_tables.specs.Fits.{TariffFits}
-use Rattle.book_audit.specs.Rulings.{IsOfCharacters}
-use Rattle.book_audit.specs.Walks.{AreRising, HasWalked, WalksOn, width}
+use Rattle.book_audit.specs.Walks.{AreRising, HasWalked, width}
 use Rattle.book_audit.specs.declared.finding.Tree.TheVariants.{Tariffs}
 use Rattle.book_audit.proofs.TariffLemmas.{is_texted, of_characters, tariff_pushed, terms_pushed, texted}
 use Rattle.book_audit.proofs.OwnRulings.{IsTariffRow, own_tariffs, tariff_fits, tariff_said}
-use Rattle.book_audit.proofs.OwnStops.{err_fits, its_row, met_memory, stop_passed, stop_walked}
-use Rattle.book_audit.proofs.WalkSteps.{look_back, looks_on, no_look, walked_on}
+use Rattle.book_audit.proofs.OwnStops.{err_fits, met_memory, stop_passed, stop_walked}
+use Rattle.book_audit.proofs.WalkSteps.{its_row, look_back, looks_on, no_look, read_all, read_on}
 use Rattle.book_audit.proofs.rulings.read_tariffs.Goals as goal
 
 pub tariffs-init : goal.tariffs-init
@@ -63,12 +62,10 @@ tariffs-preserved g c =
             read.0 ++ texted text terms ∷ [],
             subst (HasWalked Tariffs c.next.new.self.key ((g.S.Store.view start).trees 1))
                 (tariff_pushed read.0 text c.in_ok-stored.stored.day terms row is own)
-                (subst (WalksOn Tariffs c.next.new.self.key row ((g.S.Store.view start).trees 1)
-                (map tariff_columns (tariff_entries read.0))) c.if-not-branch.false
-                (walked_on g.S.Store start mid next Tariffs c.tariffs.walk.tree c.tariffs.walk.key
-                c.next.new.self.key row (map tariff_columns (tariff_entries read.0))
+                (read_on g.S.Store start mid next Tariffs c.tariffs.walk c.next.new.self
                 c.in_ok-next.field-0 so_far.tree so_far.same looks c.in_ok-next.ensures.next
-                (λ back. read.1) clean)),
+                (λ back. (map tariff_columns (tariff_entries (so_far.read back).0), (so_far.read back).1))
+                clean c.if-not-branch.false),
             terms_pushed read.0 c.tariffs.tariffs.items text terms read.2
                 ∙ sym c.in_ok-push.ensures.items,
             all-append IsTexted read.0 (texted text terms ∷ []) read.3
@@ -87,13 +84,10 @@ returns-then-not-branch-clause-tariffs g c clean =
     let looks : OnlyLooks g.S.Store mid next = c.in_ok-next.ensures.same in
     let read = so_far.read (look_back g.S.Store mid next looks clean) in
     let all : (g.S.Store.view start).trees 1 ≡ map tariff_columns (tariff_entries read.0) =
-    subst (WalksOn Tariffs c.next.new.self.key c.next.new.self.row
-    ((g.S.Store.view start).trees 1) (map tariff_columns (tariff_entries read.0)))
-    c.if-not-branch.true
-    (walked_on g.S.Store start mid next Tariffs c.tariffs.walk.tree c.tariffs.walk.key
-    c.next.new.self.key c.next.new.self.row (map tariff_columns (tariff_entries read.0))
-    c.in_ok-next.field-0 so_far.tree so_far.same looks c.in_ok-next.ensures.next (λ back. read.1)
-    clean) in
+    read_all g.S.Store start mid next Tariffs c.tariffs.walk c.next.new.self c.in_ok-next.field-0
+    so_far.tree so_far.same looks c.in_ok-next.ensures.next
+    (λ back. (map tariff_columns (tariff_entries (so_far.read back).0), (so_far.read back).1)) clean
+    c.if-not-branch.true in
     record {
       accepted = read.0;
       are = all;
@@ -111,9 +105,8 @@ returns-in_err-next-clause-own g c =
     let so_far = c.tariffs.invariant in
     stop_passed g.S.Store start next c.in_err-next.field-0.0 c.from_residual.result
     c.from_residual.ensures.1
-    (stop_walked g.S.Store start mid next Tariffs c.tariffs.walk.tree c.tariffs.walk.key
-    c.in_err-next.field-0.0 so_far.tree so_far.same so_far.quiet c.next.ensures.quiet
-    c.in_err-next.ensures.own
+    (stop_walked g.S.Store start mid next Tariffs c.tariffs.walk c.in_err-next.field-0.0
+    so_far.tree so_far.same so_far.quiet c.next.ensures.quiet c.in_err-next.ensures.own
     (λ back. (map tariff_columns (tariff_entries (so_far.read back).0), (so_far.read back).1)))
 
 pub returns-in_err-stored-clause-own : goal.returns-in_err-stored-clause-own
@@ -129,11 +122,10 @@ returns-in_err-stored-clause-own g c =
     c.from_residual-in_err-stored.ensures.1
     (λ finding said clean own.
     let its : IsTariffRow row =
-    its_row g.S.Store start mid next Tariffs c.tariffs.walk.tree c.tariffs.walk.key
-    c.next.new.self.key row c.in_ok-next.field-0 so_far.tree so_far.same c.in_ok-next.ensures.same
-    c.in_ok-next.ensures.next c.if-not-branch.false
+    its_row g.S.Store start mid next Tariffs c.tariffs.walk c.next.new.self c.in_ok-next.field-0
+    so_far.tree so_far.same c.in_ok-next.ensures.same c.in_ok-next.ensures.next
     (λ back. (map tariff_columns (tariff_entries (so_far.read back).0), (so_far.read back).1)) clean
-    IsTariffRow (own_tariffs (g.S.Store.view start).trees own) in
+    c.if-not-branch.false IsTariffRow (own_tariffs (g.S.Store.view start).trees own) in
     let memory = err_fits (λ (error : StoreError). error ≡ OutOfMemory) c.tariff_in.result
     c.tariff_in.ensures.taken
     (subst TariffFits (sym c.row.ensures) (tariff_fits row its)) in
@@ -155,10 +147,9 @@ returns-in_err-tariff-clause-own g c =
     c.from_residual-in_err-tariff.ensures.1
     (λ finding said clean own.
     let its : IsTariffRow row =
-    its_row g.S.Store start mid next Tariffs c.tariffs.walk.tree c.tariffs.walk.key
-    c.next.new.self.key row c.in_ok-next.field-0 so_far.tree so_far.same c.in_ok-next.ensures.same
-    c.in_ok-next.ensures.next c.if-not-branch.false
+    its_row g.S.Store start mid next Tariffs c.tariffs.walk c.next.new.self c.in_ok-next.field-0
+    so_far.tree so_far.same c.in_ok-next.ensures.same c.in_ok-next.ensures.next
     (λ back. (map tariff_columns (tariff_entries (so_far.read back).0), (so_far.read back).1)) clean
-    IsTariffRow (own_tariffs (g.S.Store.view start).trees own) in
+    c.if-not-branch.false IsTariffRow (own_tariffs (g.S.Store.view start).trees own) in
     let told = tariff_said row day text its is_row in
     absurd (c.in_err-tariff.ensures.own told.0 told.1 told.2 finding said))

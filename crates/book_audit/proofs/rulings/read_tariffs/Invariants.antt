@@ -2,11 +2,10 @@ use Rattle.std.proofs.Common.{◌≡◌, List, map}
 use Rattle.std.specs.List.{AllByRecursion}
 use Rattle.sqlite_trees.specs.View.{IsClean}
 use Rattle.book_model.specs.Words.{AcceptedTerms}
-use Rattle.table_model.specs.Readable.{IsTexted}
+use Rattle.table_model.specs.Readable.{IsOfCharacters, IsTexted}
 use Rattle.table_model.specs.TablesOf.{tariff_entries}
 use Rattle.tree_rows.specs.Calls.{CommitsNothing, OnlyLooks}
 use Rattle.tree_tables.specs.Columns.{tariff_columns}
-use Rattle.book_audit.specs.Rulings.{IsOfCharacters}
 use Rattle.book_audit.specs.Walks.{HasWalked}
 use Rattle.book_audit.specs.declared.finding.Tree.TheVariants.{Tariffs}
 use Rattle.book_audit.proofs.rulings.read_tariffs.Given as goal

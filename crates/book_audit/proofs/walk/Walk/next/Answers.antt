@@ -32,20 +32,20 @@ returns-clause-next g c clean done so_far =
     (walk_step tree key row rows done so_far there long after)
 
 pub returns-then-len-columns-clause-own : goal.returns-then-len-columns-clause-own
-returns-then-len-columns-clause-own g c done walked finding is clean own =
+returns-then-len-columns-clause-own g c walked finding is clean own =
     let tree = c.args.self.now.tree in
     let key : Row = c.args.self.now.key in
     let row : Row = c.row_past.new.row in
     let trees = (g.S.Store.view c.args.trees.now.store).trees in
     let rows : List Row = trees (tree_number tree) in
     let there : IsFirst (rows_past key rows) row true = search rules in
+    let read = walked (clean_before g.S.Store c.row_past.ensures.quiet clean) in
     let wide : length row ≡ width tree =
-    next_wide tree key row rows done (own_walk trees own tree)
-    (walked (clean_before g.S.Store c.row_past.ensures.quiet clean)) there in
+    next_wide tree key row rows read.0 (own_walk trees own tree) read.1 there in
     absurd (omega (arith, wide))
 
 pub returns-then-not-is_gt-clause-own : goal.returns-then-not-is_gt-clause-own
-returns-then-not-is_gt-clause-own g c done walked finding is clean own =
+returns-then-not-is_gt-clause-own g c walked finding is clean own =
     let tree = c.args.self.now.tree in
     let key : Row = c.args.self.now.key in
     let row : Row = c.row_past.new.row in
@@ -53,8 +53,8 @@ returns-then-not-is_gt-clause-own g c done walked finding is clean own =
     let rows : List Row = trees (tree_number tree) in
     let there : IsFirst (rows_past key rows) row true = search rules in
     let some : key ≢ [] = search rules in
+    let read = walked (clean_before g.S.Store c.row_past.ensures.quiet clean) in
     let after : is_gt (prefix_cmp plain row key) ≡ true =
-    next_after tree key row rows done (own_walk trees own tree)
-    (walked (clean_before g.S.Store c.row_past.ensures.quiet clean)) there some in
+    next_after tree key row rows read.0 (own_walk trees own tree) read.1 there some in
     let not_after : is_gt (prefix_cmp plain row key) ≡ false = search rules in
     absurd (true≢false (sym after ∙ not_after))
