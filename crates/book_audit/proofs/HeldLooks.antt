@@ -1,6 +1,6 @@
 -- What look-ups in trees that hold tables find of them.
 use Rattle.std.proofs.Common.{◌≡◌, ◌<◌, ◌-◌, ◌∙◌, ◌&&◌, ◌∷◌, [], ℕ, zero, suc, Bool, true, false, not, cond, List, Option, Some, None}
-use Rattle.std.proofs.Common.{is_some, length, map, pos, ap, ap₂, arith, refl, subst, sym, ◌==◌}
+use Rattle.std.proofs.Common.{length, map, pos, ap, ap₂, arith, refl, subst, sym, ◌==◌}
 use Rattle.std.specs.Prelude.{IfSome, filter, take_while}
 use Rattle.std.specs.FinMap.{FinMap, entries, get, get-entries}
 use Rattle.std.specs.Option.{option_map_or}
@@ -13,7 +13,7 @@ use Rattle.std.proofs.lemmas.List.Sums.{take_while-cons}
 use Rattle.std.specs.declared.cmp.Ordering.{Ordering}
 use Rattle.sqlite_trees.specs.Tree.{Trees, from_key}
 use Rattle.sqlite_value.specs.Keys.{plain, prefix_cmp}
-use Rattle.sqlite_value.specs.Order.{Row, column}
+use Rattle.sqlite_value.specs.Order.{Row}
 use Rattle.sqlite_value.specs.declared.value.Value.TheVariants.{Blob, Int}
 use Rattle.table_model.specs.Tables.{RecordRow, Tables}
 use Rattle.table_model.specs.Views.{rows_with}
@@ -35,7 +35,6 @@ use Rattle.tree_tables.proofs.FoundNames.{Entry}
 use Rattle.tree_tables.proofs.Layouts.{identity_layout, mark_layout, record_layout}
 use Rattle.tree_tables.proofs.LineRows.{line_found, line_missing}
 use Rattle.tree_tables.proofs.RecordIndexes.{identity_named, mark_named}
-use Rattle.tree_tables.proofs.RowsRead.{same_count}
 use Rattle.book_audit.specs.Records.{GoesBack, IsLine, Turns}
 use Rattle.book_audit.specs.Records.Turns.{Stays, Turned}
 use Rattle.book_audit.specs.Trees.{FindsTwo}
@@ -83,13 +82,6 @@ turn_at tables name (suc k) now turns j below =
           let less : j < k = grind (arith, nat_tests) in
           turn_at tables name k now turns.1 j less
     ] refl
-
--- marks are known by their flags
-pub same_flag : (one other : Bool) → Int (pos (flag one)) ≡ Int (pos (flag other)) → one ≡ other
-same_flag true true same = refl
-same_flag false false same = refl
-same_flag true false same = absurd (let n = same_count 1 0 same in omega (arith, n))
-same_flag false true same = absurd (let n = same_count 0 1 same in omega (arith, n))
 
 -- Of some rows from a key on, of which the first has it: whether the next one has it too tells
 -- whether it is the only one.

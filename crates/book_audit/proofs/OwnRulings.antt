@@ -1,5 +1,5 @@
 -- The row of the book, the tariffs and the closes of books that calls made, as they are read.
-use Rattle.std.proofs.Common.{◌≡◌, ◌∙◌, ◌+◌, ◌<◌, ◌≤◌, ◌++◌, ◌∷◌, [], ℕ, suc, ℤ, List, All, true}
+use Rattle.std.proofs.Common.{◌≡◌, ◌∙◌, ◌+◌, ◌<◌, ◌++◌, ◌∷◌, [], ℕ, suc, ℤ, List, All, true}
 use Rattle.std.proofs.Common.{Option, Some, None, Ok, ap, ap₂, arith, length, map, refl, subst, sym}
 use Rattle.std.specs.Prelude.{int_lt, is_some, if◌then◌else◌, ◌&&◌, nat_le, nat_lt, unwrap_or}
 use Rattle.std.specs.List.{AllByRecursion, last_or}

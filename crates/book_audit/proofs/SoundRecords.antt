@@ -1,5 +1,5 @@
 -- The records of sound trees are right by their tables.
-use Rattle.std.proofs.Common.{◌≡◌, ◌∙◌, ◌<◌, ◌+◌, ◌-◌, ◌||◌, ◌∷◌, [], ℕ, ℤ, List, Bool, true, false, Option}
+use Rattle.std.proofs.Common.{◌≡◌, ◌∙◌, ◌+◌, ◌-◌, ◌||◌, ℕ, ℤ, List, Bool, true, false, Option}
 use Rattle.std.proofs.Common.{Some, None, ap, ap₂, arith, length, map, not, refl, subst, sym}
 use Rattle.std.specs.FinMap.{get, get-from_entries}
 use Rattle.std.specs.List.Sorted.{IsStrictlySortedBy}

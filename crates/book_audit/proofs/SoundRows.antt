@@ -5,13 +5,11 @@ use Rattle.std.proofs.Common.{sum_by, sym, true≢false, ◌&&◌}
 use Rattle.std.specs.Cmp.Lexicographic.{nat_list_cmp_total}
 use Rattle.std.specs.FinMap.{entries, find, from_entries, get, get-entries, get-from_entries, same_map}
 use Rattle.std.specs.FinMap.{values}
-use Rattle.std.specs.List.{AllByRecursion}
 use Rattle.std.specs.Ordering.{is_eq, is_lt, ordering_then}
-use Rattle.std.specs.Prelude.{filter, if◌then◌else◌}
+use Rattle.std.specs.Prelude.{filter}
 use Rattle.std.specs.declared.cmp.Ordering.{Ordering}
 use Rattle.std.specs.declared.cmp.Ordering.TheVariants.{Less, Equal, Greater}
 use Rattle.std.proofs.lemmas.List.Sums.{sum-map}
-use Rattle.std.proofs.lemmas.Option.{same_Some}
 use Rattle.tariff_rules.specs.declared.priced.Priced.{Priced}
 use Rattle.sqlite_trees.specs.Tree.{Trees, from_key}
 use Rattle.sqlite_trees.proofs.ListLemmas.{all_weaker, map-map}
@@ -30,18 +28,18 @@ use Rattle.tree_rows.proofs.IndexOrders.{by_bytes_exact}
 use Rattle.tree_rows.proofs.Keyed.{row_found}
 use Rattle.tree_rows.proofs.Maps.{head_is, prefix_of}
 use Rattle.tree_tables.proofs.Layouts.{line_layout, record_layout}
+use Rattle.tree_tables.proofs.LineRows.{same_flag}
 use Rattle.tree_tables.proofs.RowsRead.{same_blob, same_int}
 use Rattle.consistent_tables.specs.Consistent.{IsOwnLine, counted_entries, is_counted_row, ruled}
 use Rattle.consistent_tables.specs.DueRows.{due_entry, period_from}
 use Rattle.book_audit.specs.Lines.{IsLateLine}
 use Rattle.book_audit.specs.Details.{ShowsCounted}
-use Rattle.book_audit.specs.Records.{GoesBack, IsTold, Told, counted_prices, detail_key, later_periods, spot_of}
+use Rattle.book_audit.specs.Records.{GoesBack, IsTold, Told, detail_key, later_periods, spot_of}
 use Rattle.book_audit.specs.SoundTrees.{AreSound}
 use Rattle.book_audit.specs.Trees.{HasKey}
 use Rattle.book_audit.specs.declared.audited.Counts.{Counts as Numbers}
 use Rattle.book_audit.specs.declared.finding.DetailKey.{DetailKey}
 use Rattle.book_audit.proofs.CountedRecords.{name_counted, named, prices_are}
-use Rattle.book_audit.proofs.HeldLooks.{same_flag}
 use Rattle.book_audit.proofs.KeptRows.{of_found}
 use Rattle.book_audit.proofs.Pigeonhole.{IsOneOf}
 use Rattle.book_audit.proofs.SoundRecords.{past_is}

@@ -15,7 +15,7 @@ use Rattle.std.proofs.lemmas.List.Elements.{All-cons, All-from_recursion, All-ni
 use Rattle.tariff_rules.specs.Terms.{Terms}
 use Rattle.sqlite_trees.specs.Tree.{IsAscending, Trees}
 use Rattle.sqlite_value.specs.Order.{Row, column}
-use Rattle.book_model.specs.Words.{AcceptedTerms, Choice, IsDay, Rulings as Ruled, are_rising}
+use Rattle.book_model.specs.Words.{AcceptedTerms, Choice, IsDay, are_rising}
 use Rattle.book_model.specs.Words.{identity_by, last_period, most_choices, open_by, price_in}
 use Rattle.table_model.specs.BookIn.{choice_read, row_record}
 use Rattle.table_model.specs.Readable.{IsTexted}

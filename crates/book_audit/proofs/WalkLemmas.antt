@@ -1,6 +1,6 @@
 -- A walk by key reads the rows one by one, where each is after the one before.
 use Rattle.std.proofs.Common.{◌≡◌, ◌≢◌, ◌∙◌, ◌++◌, ◌∷◌, [], ℕ, ◌≤◌, ◌<◌, List, true, cond}
-use Rattle.std.proofs.Common.{ap, arith, drop, length, refl, sym, subst, take, true≢false, append-nil}
+use Rattle.std.proofs.Common.{ap, arith, drop, length, refl, sym, subst, take, true≢false}
 use Rattle.std.proofs.Common.{append_assoc}
 use Rattle.std.specs.List.{AllByRecursion}
 use Rattle.std.specs.Ordering.{is_eq, is_gt, is_lt}
