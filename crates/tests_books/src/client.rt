@@ -10,7 +10,7 @@ use std::cell::{Cell, RefCell};
 use std::io;
 use std::io::{Read, Write};
 use tests_requests::ScriptedClient;
-use tests_scripts::{LimitedReader, LimitedWriter, LineFault, LineResult, push_line};
+use tests_scripts::{AnswerText, LimitedReader, LimitedWriter};
 
 /// How many reads are made of what a client still sends after its answer.
 const DRAINING_READS: u32 = 1_000;
@@ -35,24 +35,18 @@ impl<'a> Client<'a> {
     }
 
     /// Adds the first line that it got, and whether it was drained.
-    pub(crate) fn push(&self, out: &mut Vec<u8>) -> LineResult {
+    pub(crate) fn push(&self, out: &mut AnswerText) {
         let Ok(writer) = self.writer.try_borrow() else {
-            return Err(LineFault::NotUnderstood);
+            out.line("IN USE");
+            return;
         };
-        let Ok(text) = str::from_utf8(&writer.taken) else {
-            return Err(LineFault::NotUnderstood);
-        };
-        let got = text.lines().next().unwrap_or("NOTHING");
-        out.extend_from_slice(got.as_bytes())?;
-        push_line(
-            out,
-            if self.is_drained.get() {
-                ", DRAINED"
-            } else {
-                ""
-            },
-        )?;
-        Ok(())
+        let text = str::from_utf8(&writer.taken).unwrap_or("NO TEXT");
+        out.text(text.lines().next().unwrap_or("NOTHING"));
+        out.line(if self.is_drained.get() {
+            ", DRAINED"
+        } else {
+            ""
+        });
     }
 }
 

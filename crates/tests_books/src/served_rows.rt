@@ -5,11 +5,9 @@ use crate::open_shelf::OpenShelf;
 use crate::session_streams::Output;
 use book_core::Ledger;
 use chargectl::{ServedLines, serve_each};
-use std::alloc::AllocError;
-use std::io::Write;
 use tests_ledgers::RefusingLedger;
 use tests_requests::read_clients;
-use tests_scripts::{Answers, Ask, LineFault, LineResult, Named, if_read};
+use tests_scripts::{AnswerText, Answers, Ask, LineFault, LineResult, Named};
 use tests_tables::{AsksOpenBooks, BookRows, Books};
 
 /// A row on books.
@@ -28,16 +26,11 @@ impl<B: Books> ServedRows<B> {
 }
 
 impl<B: Books> Answers for ServedRows<B> {
-    fn begin(&mut self, named: &Named, words: &[&str]) -> Result<bool, AllocError> {
+    fn begin(&mut self, named: &Named, words: &[&str]) -> LineResult {
         self.rows.begin(named, words)
     }
 
-    fn answer(
-        &mut self,
-        named: &Named,
-        ask: Ask<'_>,
-        out: &mut Vec<u8>,
-    ) -> Result<bool, AllocError> {
+    fn answer(&mut self, named: &Named, ask: Ask<'_>, out: &mut AnswerText) -> LineResult {
         if ask.verb == "serve" {
             self.rows.ask_open(named, &mut Service { ask }, out)
         } else {
@@ -57,28 +50,24 @@ impl AsksOpenBooks for Service<'_> {
         &mut self,
         named: &Named,
         ledger: &mut L,
-        out: &mut Vec<u8>,
-    ) -> Result<bool, AllocError> {
-        Ok(if_read(self.serve(named, ledger, out))?.is_some())
+        out: &mut AnswerText,
+    ) -> LineResult {
+        self.serve(named, ledger, out)
     }
 }
 
 impl Service<'_> {
     /// Serves all books, or those that refuse the call after a given number for lack of memory; or writes
     /// the lines to an output that takes so many bytes, and fails then.
-    fn serve<L: Ledger>(self, named: &Named, ledger: &mut L, out: &mut Vec<u8>) -> LineResult {
-        match *self.ask.words {
-            [] => self.serve_from(named, ledger, usize::MAX, out),
-            ["refused", calls] => {
-                let mut books = RefusingLedger::new(ledger, calls.parse::<u32>()?);
-                self.serve_from(named, &mut books, usize::MAX, out)
-            }
-            ["room", size] => {
-                let room = size.parse::<u32>()? as usize;
-                self.serve_from(named, ledger, room, out)
-            }
-            _ => Err(LineFault::NotUnderstood),
-        }
+    fn serve<L: Ledger>(self, named: &Named, ledger: &mut L, out: &mut AnswerText) -> LineResult {
+        let (calls, room) = match *self.ask.words {
+            [] => (None, usize::MAX),
+            ["refused", calls] => (Some(calls.parse::<u32>()?), usize::MAX),
+            ["room", size] => (None, size.parse::<u32>()? as usize),
+            _ => return Err(LineFault::NotUnderstood),
+        };
+        let mut books = RefusingLedger::new(ledger, calls);
+        self.serve_from(named, &mut books, room, out)
     }
 
     /// Adds the line of each client that is served, how many are left, and what those got that were
@@ -88,7 +77,7 @@ impl Service<'_> {
         named: &Named,
         ledger: &mut L,
         room: usize,
-        out: &mut Vec<u8>,
+        out: &mut AnswerText,
     ) -> LineResult {
         let scripted = read_clients(named, self.ask.body)?;
         let mut clients = Vec::new(named.alloc());
@@ -98,8 +87,9 @@ impl Service<'_> {
         let left = serve_clients(named, &clients, ledger, room, out)?;
         let served = clients.len().saturating_sub(left);
         for (number, client) in clients.iter().enumerate().take(served) {
-            write!(out, "{} ", number.saturating_add(1))?;
-            client.push(out)?;
+            out.value("", number.saturating_add(1));
+            out.text(" ");
+            client.push(out);
         }
         Ok(())
     }
@@ -112,7 +102,7 @@ fn serve_clients<L: Ledger>(
     clients: &[Client<'_>],
     ledger: &mut L,
     room: usize,
-    out: &mut Vec<u8>,
+    out: &mut AnswerText,
 ) -> LineResult<usize> {
     let mut queue = Queue {
         alloc: named.alloc(),
@@ -126,12 +116,9 @@ fn serve_clients<L: Ledger>(
     let mut has_log = false;
     serve_each(&mut queue, &mut shelf, "books", &mut has_log, &mut lines)?;
     let are_lost = lines.has_failed();
-    out.extend_from_slice(&lines.into_inner().taken)?;
+    out.bytes(&lines.into_inner().taken);
     let left = queue.left.len();
-    if are_lost {
-        writeln!(out, "LEFT {left}, LINES LOST")?;
-    } else {
-        writeln!(out, "LEFT {left}")?;
-    }
+    out.value("LEFT ", left);
+    out.line(if are_lost { ", LINES LOST" } else { "" });
     Ok(left)
 }

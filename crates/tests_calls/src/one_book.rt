@@ -1,4 +1,4 @@
-//! Shelves with one book in memory.
+//! A shelf with one book in memory.
 
 ghost use Rattle.std.specs.Prelude.{◌≡◌};
 
@@ -24,18 +24,26 @@ impl Naming for OneName {
     }
 }
 
+/// The openings before those of a book that is there, then away twice, and there again.
+pub(crate) const AWAY_TWICE: u32 = 0;
+
+/// The openings before those of a book that is always there.
+pub(crate) const ALWAYS_THERE: u32 = 3;
+
 /// One book, whatever it is called, under one tariff. It holds no more than one record.
 #[derive(Drop)]
 pub(crate) struct OneBook {
     book: PlainLedger<OneName>,
+    /// How often it was to be opened. The second time others have it, the third its store fails.
+    opened: u32,
 }
 
 impl OneBook {
-    /// A new one. None: there is no memory for it.
-    pub(crate) fn new(alloc: Global) -> Option<OneBook> {
+    /// A new one, as it is after so many openings. None: there is no memory for it.
+    pub(crate) fn new(alloc: Global, opened: u32) -> Option<OneBook> {
         let tariff = Tariff::flat(alloc, 20_000, 500, 0)?;
         match PlainLedger::flat(alloc, OneName, tariff) {
-            Ok(book) => Some(OneBook { book }),
+            Ok(book) => Some(OneBook { book, opened }),
             Err(_refused) => None,
         }
     }
@@ -61,7 +69,13 @@ impl Repository for OneBook {
     }
 
     fn open<V: Visit>(&mut self, _book: &str, visit: &mut V) -> Opened<V::Answer> {
-        without_log(Ok(visit.visit(&mut self.book)))
+        let opened = self.opened;
+        self.opened = opened.saturating_add(1);
+        match opened {
+            1 => without_log(Err(RepositoryFault::Busy)),
+            2 => without_log(Ok(visit.visit(&mut AwayBooks))),
+            _ => without_log(Ok(visit.visit(&mut self.book))),
+        }
     }
 
     fn try_out<V: Visit>(&mut self, _book: &str, _visit: &mut V) -> Opened<V::Answer> {
@@ -91,60 +105,5 @@ fn without_log<T: Drop>(answer: Result<T, RepositoryFault>) -> Opened<T>
     Opened {
         answer,
         has_log: false,
-    }
-}
-
-/// One book that is away twice after it was first opened: others have it, and then its store fails.
-#[derive(Drop)]
-pub(crate) struct AwayTwice {
-    pub(crate) book: OneBook,
-    /// How often it was to be opened.
-    pub(crate) opened: u32,
-}
-
-#[tactic(auto, using(office::proofs::ShelfLemmas::unknown_made, office::proofs::ShelfLemmas::unknown_opened, office::proofs::ShelfLemmas::unknown_tried, office::proofs::ShelfLemmas::unknown_untouched, office::proofs::ShelfLemmas::came_by, office::proofs::ShelfLemmas::same_by))]
-impl Repository for AwayTwice {
-    ghost use Rattle.std.specs.Prelude.{replicate};
-    ghost use Rattle.office.specs.Shelves.{unknown};
-
-    ghost shelf = { λ _. unknown (λ _. replicate 32 7) };
-
-    fn wait_up_to(&self, _seconds: u16) {}
-
-    fn expect(&self, book: &str) -> Result<(), RepositoryFault> {
-        self.book.expect(book)
-    }
-
-    fn make(&mut self, book: &str) -> Result<(), RepositoryFault> {
-        self.book.make(book)
-    }
-
-    fn open<V: Visit>(&mut self, book: &str, visit: &mut V) -> Opened<V::Answer> {
-        let opened = self.opened;
-        self.opened = opened.saturating_add(1);
-        match opened {
-            1 => without_log(Err(RepositoryFault::Busy)),
-            2 => without_log(Ok(visit.visit(&mut AwayBooks))),
-            _ => self.book.open(book, visit),
-        }
-    }
-
-    fn try_out<V: Visit>(&mut self, book: &str, visit: &mut V) -> Opened<V::Answer> {
-        self.book.try_out(book, visit)
-    }
-
-    fn upgrade(&mut self, book: &str) -> Opened<Upgraded> {
-        self.book.upgrade(book)
-    }
-}
-
-#[tactic(auto, using(book_audit::proofs::CopyLemmas::unknown_copied))]
-impl AuditedRepository for AwayTwice {
-    fn audit<W: Watch>(&self, book: &str, watch: &mut W) -> Opened<Audited> {
-        self.book.audit(book, watch)
-    }
-
-    fn back_up<W: Watch>(&mut self, book: &str, copy: &str, watch: &mut W) -> Opened<Audited> {
-        self.book.back_up(book, copy, watch)
     }
 }

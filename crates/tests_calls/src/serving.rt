@@ -2,9 +2,8 @@
 //! connects a client as soon as a line is whole, and reads what that client was answered as soon as
 //! the next line is. The port is taken before the first line, so no client waits for the server.
 
-use crate::one_book::{AwayTwice, OneBook};
+use crate::one_book::{ALWAYS_THERE, AWAY_TWICE, OneBook};
 use crate::sample::Record;
-use book_audit::AuditedRepository;
 use chargectl::{Status, command};
 use std::io;
 use std::io::{ErrorKind, Write};
@@ -132,6 +131,21 @@ HTTP/1.1 200 OK
 KEPT 0 KNOWN 1 UNPRICED 0 OTHER 0 HEADERS 0 TRAILERS 0 LOST 0 CONTINUED 0 DAMAGED 0 STOP END
 ";
 
+/// Connects a client, sends its request, and no more where it parts so.
+fn connected(rt: &HostRuntime, port: u16, client: &Client) -> io::Result<TcpStream> {
+    let (head, record, parting) = client;
+    let mut stream = TcpStream::connect(rt, ("127.0.0.1", port))?;
+    stream.set_read_timeout(Some(Duration::from_secs(READ_TIMEOUT)))?;
+    stream.write_all(head.as_bytes())?;
+    if let Some(record) = record {
+        stream.write_all(&record.bytes())?;
+    }
+    if *parting == Parting::Reads || *parting == Parting::Ends {
+        stream.shutdown(Shutdown::Write)?;
+    }
+    Ok(stream)
+}
+
 /// The server's output, and its clients.
 #[derive(Drop)]
 struct Clients<'a> {
@@ -147,35 +161,30 @@ struct Clients<'a> {
 }
 
 impl Clients<'_> {
+    /// Adds the first line and the last one of an answer.
+    fn push_ends(&mut self, answer: &str) -> io::Result<()> {
+        let first = answer.lines().next().unwrap_or("NO ANSWER");
+        let last = answer.lines().last().unwrap_or("NO ANSWER");
+        writeln!(self.seen, "{first}\n{last}")
+    }
+
     /// Reads what the client was answered, if it does read.
     fn read_answer(&mut self) -> io::Result<()> {
         let Some((stream, true)) = self.now.take() else {
             return Ok(());
         };
-        stream.set_read_timeout(Some(Duration::from_secs(READ_TIMEOUT)))?;
         let answer = io::read_to_string(self.rt.alloc(), &stream)?;
-        let (first, last) = (
-            answer.as_str().lines().next(),
-            answer.as_str().lines().last(),
-        );
-        writeln!(self.seen, "{}", first.unwrap_or("NO ANSWER"))?;
-        writeln!(self.seen, "{}", last.unwrap_or("NO ANSWER"))
+        self.push_ends(answer.as_str())
     }
 
     /// Connects the next client, and sends its request.
     fn send_next(&mut self) -> io::Result<()> {
-        let Some((head, record, parting)) = self.all.get(self.connected) else {
+        let Some(client) = self.all.get(self.connected) else {
             return Ok(());
         };
         self.connected = self.connected.saturating_add(1);
-        let mut stream = TcpStream::connect(self.rt, ("127.0.0.1", self.port))?;
-        stream.write_all(head.as_bytes())?;
-        if let Some(record) = record {
-            stream.write_all(&record.bytes())?;
-        }
-        if *parting == Parting::Reads || *parting == Parting::Ends {
-            stream.shutdown(Shutdown::Write)?;
-        }
+        let stream = connected(self.rt, self.port, client)?;
+        let (_, _, parting) = client;
         if *parting != Parting::Leaves {
             self.now = Some((stream, *parting == Parting::Reads));
         }
@@ -196,11 +205,15 @@ impl Write for Clients<'_> {
     }
 }
 
-/// How many clients the closed output has.
-const CLIENTS_OF_A_CLOSED_OUTPUT: usize = 3;
+/// Clients whose server can't say a word after the first.
+static CLIENTS_OF_A_CLOSED_OUTPUT: [Client; 3] = [
+    ("GET /periods HTTP/1.1\r\n\r\n", None, Parting::Reads),
+    ("GET /periods HTTP/1.1\r\n\r\n", None, Parting::Reads),
+    ("GET /periods HTTP/1.1\r\n\r\n", None, Parting::Reads),
+];
 
-/// An output that takes the first line, and is closed from then on; and its clients, which all connect as it
-/// takes that line, and send a request each.
+/// An output that takes the first line, and is closed from then on; and its clients, which all
+/// connect as it takes that line, and send a request each.
 #[derive(Drop)]
 struct ClosedOutput<'a> {
     rt: &'a HostRuntime,
@@ -219,23 +232,12 @@ impl Write for ClosedOutput<'_> {
 
     /// The port was taken.
     fn flush(&mut self) -> io::Result<()> {
-        for _ in 0..CLIENTS_OF_A_CLOSED_OUTPUT {
-            let mut stream = TcpStream::connect(self.rt, ("127.0.0.1", self.port))?;
-            stream.write_all(b"GET /periods HTTP/1.1\r\n\r\n")?;
-            stream.shutdown(Shutdown::Write)?;
-            stream.set_read_timeout(Some(Duration::from_secs(READ_TIMEOUT)))?;
+        for client in &CLIENTS_OF_A_CLOSED_OUTPUT {
+            let stream = connected(self.rt, self.port, client)?;
             self.clients.push(stream)?;
         }
         self.is_closed = true;
         Ok(())
-    }
-}
-
-/// A new book.
-fn new_book(rt: &HostRuntime) -> Result<OneBook, Fail> {
-    match OneBook::new(rt.alloc()) {
-        Some(book) => Ok(book),
-        None => Err("there is no memory for a book")?,
     }
 }
 
@@ -247,29 +249,22 @@ fn free_port(rt: &HostRuntime) -> io::Result<u16> {
 /// The words of a command that serves a given number of connections.
 fn serve_words(rt: &HostRuntime, port: u16, requests: usize) -> io::Result<Vec<String>> {
     let alloc = rt.alloc();
-    let port = format!(in alloc; "{port}")?;
-    let requests = format!(in alloc; "{requests}")?;
+    let line = format!(in alloc; "chargectl serve books --port {port} --requests {requests}")?;
     let mut words = Vec::new(alloc);
-    for word in [
-        "chargectl",
-        "serve",
-        "books",
-        "--port",
-        port.as_str(),
-        "--requests",
-        requests.as_str(),
-    ] {
+    for word in line.as_str().split(' ') {
         words.push(String::from_str(alloc, word)?)?;
     }
     Ok(words)
 }
 
-/// Serves clients from books. Whether all went well, and what the server said and they saw.
-fn seen_by<S: AuditedRepository>(
+/// Serves clients from a book. All goes well, and the server says and they see this.
+fn assert_seen(
     rt: &HostRuntime,
-    repository: &mut S,
+    book: Option<OneBook>,
     all: &'static [Client],
-) -> Result<(bool, Vec<u8>), Fail> {
+    expected: &str,
+) -> Result<(), Fail> {
+    let mut repository = book.ok_or("there is no memory for a book")?;
     let port = free_port(rt)?;
     let words = serve_words(rt, port, all.len())?;
     let mut errors = Vec::new(rt.alloc());
@@ -281,36 +276,45 @@ fn seen_by<S: AuditedRepository>(
         now: None,
         seen: Vec::new(rt.alloc()),
     };
-    let (status, clients) = command(rt, repository, &words, io::empty(), clients, &mut errors);
-    let is_done = status == Status::Done && errors.is_empty();
-    Ok((is_done, clients.seen))
-}
-
-#[test]
-fn clients_are_served_one_after_the_other(rt: HostRuntime) -> Result<(), Fail> {
-    let mut repository = new_book(&rt)?;
-    let (is_done, seen) = seen_by(&rt, &mut repository, CLIENTS.as_slice())?;
-    assert!(rt; is_done);
-    assert_eq!(rt; String::from_utf8(seen)?.as_str(), SEEN);
+    let (status, clients) = command(
+        rt,
+        &mut repository,
+        &words,
+        io::empty(),
+        clients,
+        &mut errors,
+    );
+    assert!(rt; status == Status::Done && errors.is_empty());
+    assert_eq!(rt; str::from_utf8(&clients.seen)?, expected);
     Ok(())
 }
 
 #[test]
+fn clients_are_served_one_after_the_other(rt: HostRuntime) -> Result<(), Fail> {
+    let book = OneBook::new(rt.alloc(), ALWAYS_THERE);
+    assert_seen(&rt, book, CLIENTS.as_slice(), SEEN)
+}
+
+#[test]
 fn clients_are_answered_while_the_books_are_away(rt: HostRuntime) -> Result<(), Fail> {
-    let mut repository = AwayTwice {
-        book: new_book(&rt)?,
-        opened: 0,
-    };
-    let (is_done, seen) = seen_by(&rt, &mut repository, CLIENTS_OF_AWAY_BOOKS.as_slice())?;
-    assert!(rt; is_done);
-    assert_eq!(rt; String::from_utf8(seen)?.as_str(), SEEN_OF_AWAY_BOOKS);
+    let book = OneBook::new(rt.alloc(), AWAY_TWICE);
+    let clients = CLIENTS_OF_AWAY_BOOKS.as_slice();
+    assert_seen(&rt, book, clients, SEEN_OF_AWAY_BOOKS)
+}
+
+/// A client gets an answer that begins so.
+fn assert_answered(rt: &HostRuntime, client: &TcpStream) -> Result<(), Fail> {
+    let answer = io::read_to_string(rt.alloc(), client)?;
+    assert!(rt; answer.as_str().starts_with("HTTP/1.1 200 OK\r\n"));
     Ok(())
 }
 
 #[test]
 fn a_closed_output_ends_no_service(rt: HostRuntime) -> Result<(), Fail> {
+    let book = OneBook::new(rt.alloc(), ALWAYS_THERE);
+    let mut repository = book.ok_or("there is no memory for a book")?;
     let port = free_port(&rt)?;
-    let words = serve_words(&rt, port, CLIENTS_OF_A_CLOSED_OUTPUT)?;
+    let words = serve_words(&rt, port, CLIENTS_OF_A_CLOSED_OUTPUT.len())?;
     let mut errors = Vec::new(rt.alloc());
     let output = ClosedOutput {
         rt: &rt,
@@ -318,7 +322,6 @@ fn a_closed_output_ends_no_service(rt: HostRuntime) -> Result<(), Fail> {
         clients: Vec::new(rt.alloc()),
         is_closed: false,
     };
-    let mut repository = new_book(&rt)?;
     let (status, output) = command(
         &rt,
         &mut repository,
@@ -328,13 +331,9 @@ fn a_closed_output_ends_no_service(rt: HostRuntime) -> Result<(), Fail> {
         &mut errors,
     );
     assert!(rt; status == Status::Io);
-    assert_eq!(rt; String::from_utf8(errors)?.as_str(), "chargectl: io\n");
+    assert!(rt; errors.as_slice() == b"chargectl: io\n".as_slice());
     for client in &output.clients {
-        let answer = io::read_to_string(rt.alloc(), client)?;
-        assert_eq!(rt;
-            answer.as_str().lines().next().unwrap_or("NO ANSWER"),
-            "HTTP/1.1 200 OK"
-        );
+        assert_answered(&rt, client)?;
     }
     Ok(())
 }

@@ -5,8 +5,7 @@ ghost use Rattle.book_import.specs.ReadLimits.{most_reads};
 
 use book_import::MAX_READS;
 use smf_frames::Layout;
-use std::io::Write;
-use tests_scripts::{LimitedReader, Limits, LineFault, LineResult};
+use tests_scripts::{AnswerText, LimitedReader, Limits, LineFault, LineResult};
 
 /// How a dump is read from here on.
 #[derive(Clone, Copy)]
@@ -98,10 +97,9 @@ impl Reading {
     }
 
     /// Adds how often the reader was asked, if that is to be shown.
-    pub(crate) fn push_asked(self, out: &mut Vec<u8>, asked: u64) -> LineResult {
+    pub(crate) fn push_asked(self, out: &mut AnswerText, asked: u64) {
         if self.is_counted {
-            writeln!(out, "READS {asked}")?;
+            out.value_line("READS ", asked);
         }
-        Ok(())
     }
 }

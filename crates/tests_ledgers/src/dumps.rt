@@ -1,24 +1,20 @@
 //! What a dump is cut into.
 
-use crate::answers::push_hex;
 use book_core::{Naming, ShaNames};
 use smf_frames::{Layout, split};
 use std::alloc::Global;
-use std::io::Write;
-use tests_scripts::{LineResult, push_line};
+use tests_scripts::{AnswerText, LineResult};
 
 /// Adds the descriptor of a record, and the name of its data.
-fn push_record(out: &mut Vec<u8>, bytes: &[u8]) -> LineResult {
+fn push_record(out: &mut AnswerText, bytes: &[u8]) {
     match bytes.split_at_checked(4) {
-        None => push_line(out, "NO RECORD")?,
+        None => out.line("NO RECORD"),
         Some((descriptor, data)) => {
-            push_hex(out, descriptor)?;
-            out.push(b' ')?;
-            push_hex(out, &ShaNames.name(data))?;
-            out.push(b'\n')?;
+            out.small_digits("", descriptor);
+            out.small_digits(" ", &ShaNames.name(data));
+            out.line("");
         }
     }
-    Ok(())
 }
 
 /// Adds how many records a dump has, the number of the fault after them, or 0, and whether that
@@ -28,15 +24,15 @@ pub(crate) fn push_split(
     layout: Layout,
     dump: &[u8],
     with_records: bool,
-    out: &mut Vec<u8>,
+    out: &mut AnswerText,
 ) -> LineResult {
     let parts = split(alloc, layout, dump)?;
-    let fault = parts.fault.map_or(0, |fault| fault.number());
-    write!(out, "RECORDS {} FAULT {fault}", parts.records.len())?;
-    push_line(out, if parts.is_broken { " BROKEN" } else { "" })?;
+    out.value("RECORDS ", parts.records.len());
+    out.value(" FAULT ", parts.fault.map_or(0, |fault| fault.number()));
+    out.line(if parts.is_broken { " BROKEN" } else { "" });
     if with_records {
         for bytes in &parts.records {
-            push_record(out, bytes)?;
+            push_record(out, bytes);
         }
     }
     Ok(())

@@ -3,13 +3,13 @@
 
 ghost use Rattle.book_core.specs.Effects.{HasOnly};
 
-use crate::answers::{push_fault, push_hex};
+use crate::answers::push_fault;
 use crate::day::Day;
 use crate::names::{record_in, record_name};
 use crate::prices::{push_priced, tariff_of, usage_of};
 use book_core::{DayChange, Effects, LineChange, Member, View, plan};
 use tariff_rules::{Priced, Tariff, price};
-use tests_scripts::{LineFault, LineResult, Named, push_line};
+use tests_scripts::{AnswerText, LineFault, LineResult, Named};
 
 /// The name and the price of the usage record that a word names.
 fn record_of(named: &Named, tariff: &Tariff, word: &str) -> LineResult<([u8; 32], Priced)> {
@@ -62,51 +62,44 @@ fn view_of(through: Option<i32>, held: &[Member]) -> View
     }
 }
 
-/// Adds what is done, and the name of a record.
-fn push_named(out: &mut Vec<u8>, done: &str, name: &[u8; 32]) -> LineResult {
-    out.extend_from_slice(done.as_bytes())?;
-    push_hex(out, name)
-}
-
 /// Adds what is done to a charge row, and the price.
-fn push_day_change(out: &mut Vec<u8>, change: &DayChange) -> LineResult {
+fn push_day_change(out: &mut AnswerText, change: &DayChange) {
     let (done, priced) = match change {
         DayChange::Add(priced) => (" ADD ", priced),
         DayChange::Take(priced) => (" TAKE ", priced),
     };
-    out.extend_from_slice(done.as_bytes())?;
-    push_priced(out, priced)
+    out.text(done);
+    push_priced(out, priced);
 }
 
 /// Adds what is done to an adjustment line, and the name of its record.
-fn push_line_change(out: &mut Vec<u8>, change: &LineChange) -> LineResult {
+fn push_line_change(out: &mut AnswerText, change: &LineChange) {
     let (done, name) = match change {
         LineChange::AddPlus(name) => (" PLUS ", name),
         LineChange::DropPlus(name) => (" NO PLUS ", name),
         LineChange::AddMinus(name) => (" MINUS ", name),
         LineChange::DropMinus(name) => (" NO MINUS ", name),
     };
-    push_named(out, done, name)
+    out.small_digits(done, name);
 }
 
 /// Adds all that changes: marks, charge rows, adjustment lines.
-fn push_effects(out: &mut Vec<u8>, effects: &Effects) -> LineResult {
-    let charged = if effects.charged {
+fn push_effects(out: &mut AnswerText, effects: &Effects) {
+    out.text(if effects.charged {
         "CHARGED"
     } else {
         "NOT CHARGED"
-    };
-    out.extend_from_slice(charged.as_bytes())?;
+    });
     if let Some(name) = &effects.unmark {
-        push_named(out, " UNMARK ", name)?;
+        out.small_digits(" UNMARK ", name);
     }
     if let Some(change) = &effects.day {
-        push_day_change(out, change)?;
+        push_day_change(out, change);
     }
     if let Some(change) = &effects.line {
-        push_line_change(out, change)?;
+        push_line_change(out, change);
     }
-    Ok(push_line(out, "")?)
+    out.line("");
 }
 
 /// Adds what each record after the word `new` changes.
@@ -115,13 +108,13 @@ fn push_plans(
     tariff: &Tariff,
     view: &View,
     words: &[&str],
-    out: &mut Vec<u8>,
+    out: &mut AnswerText,
 ) -> LineResult
     requires { HasOnly view.now }
 {
     for word in words.iter().skip(1) {
         let (name, priced) = record_of(named, tariff, word)?;
-        push_effects(out, &plan(view, name, &priced))?;
+        push_effects(out, &plan(view, name, &priced));
     }
     Ok(())
 }
@@ -132,7 +125,7 @@ fn answer_under(
     tariff: &Tariff,
     through: Option<i32>,
     words: &[&str],
-    out: &mut Vec<u8>,
+    out: &mut AnswerText,
 ) -> LineResult {
     let at = words.iter().position(|word| *word == "new");
     let (held, new) = words.split_at(at.ok_or(LineFault::NotUnderstood)?);
@@ -141,7 +134,7 @@ fn answer_under(
 }
 
 /// Answers `plan TEXT CLOSE HELD.. new NEW..`: what each new record changes under the tariff.
-pub(crate) fn answer_plan(named: &Named, words: &[&str], out: &mut Vec<u8>) -> LineResult {
+pub(crate) fn answer_plan(named: &Named, words: &[&str], out: &mut AnswerText) -> LineResult {
     let [name, close, words @ ..] = words else {
         return Err(LineFault::NotUnderstood);
     };

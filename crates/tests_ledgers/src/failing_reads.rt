@@ -5,27 +5,10 @@ use crate::dump_reading::Reading;
 use book_core::{Ledger, Source};
 use book_import::{Receipt, Stop, import};
 use std::alloc::Global;
-use tests_scripts::{Cases, LineResult, Named, push_line};
+use tests_scripts::{AnswerText, Cases, LineResult, Named};
 
 /// More reads than a dump of a script takes.
 const ENOUGH: u16 = 10_000;
-
-/// The dump of parts. A word `at:PLACE` puts the number there, in two bytes.
-fn numbered(named: &Named, words: &[&str], number: u16) -> LineResult<Vec<u8>> {
-    let alloc = named.alloc();
-    let mut parts = Vec::new(alloc);
-    for word in words {
-        parts.push(match word.strip_prefix("at:") {
-            Some(place) => format!(in alloc; "{place}:{number:04X}")?,
-            None => String::from_str(alloc, word)?,
-        })?;
-    }
-    let mut words = Vec::new(alloc);
-    for part in &parts {
-        words.push(part.as_str())?;
-    }
-    named.read_dump(&words)
-}
 
 /// Reads a dump into books.
 fn import_once<L: Ledger>(alloc: Global, ledger: &mut L, reading: Reading, dump: &[u8]) -> Receipt {
@@ -42,13 +25,13 @@ fn push_turn<L: Ledger>(
     reading: Reading,
     reads: u16,
     dump: &[u8],
-    out: &mut Vec<u8>,
-) -> LineResult<bool> {
+    out: &mut AnswerText,
+) -> bool {
     let receipt = import_once(alloc, ledger, reading.failing(reads), dump);
-    push_receipt(out, &receipt)?;
-    push_line(out, "AGAIN")?;
-    push_receipt(out, &import_once(alloc, ledger, reading.whole(), dump))?;
-    Ok(receipt.stop == Stop::Read)
+    push_receipt(out, &receipt);
+    out.line("AGAIN");
+    push_receipt(out, &import_once(alloc, ledger, reading.whole(), dump));
+    receipt.stop == Stop::Read
 }
 
 /// Imports a dump from a reader that fails at its first read, then from one that fails at its
@@ -58,18 +41,19 @@ pub(crate) fn import_each_read<L: Ledger>(
     ledger: &mut L,
     reading: Reading,
     words: &[&str],
-    out: &mut Vec<u8>,
+    out: &mut AnswerText,
 ) -> LineResult {
     let alloc = named.alloc();
-    let mut cases = Cases::new(alloc, out, "READS");
+    let mut cases = Cases::new(out, "READS");
     for reads in 0..ENOUGH {
-        let dump = numbered(named, words, reads)?;
-        let mut text = Vec::new(alloc);
-        let has_failed = push_turn(alloc, ledger, reading, reads, &dump, &mut text)?;
-        cases.take(text)?;
+        let dump = named.read_numbered(words, reads)?;
+        let mut text = AnswerText::new(alloc);
+        let has_failed = push_turn(alloc, ledger, reading, reads, &dump, &mut text);
+        cases.take(text);
         if !has_failed {
             break;
         }
     }
-    cases.say()
+    cases.say();
+    Ok(())
 }

@@ -5,7 +5,7 @@ use book_import::Stop;
 use book_reports::ReportFault;
 use smf_frames::FrameFault;
 use tariff_rules::{Key, TariffFault};
-use tests_scripts::{LineFault, LineResult};
+use tests_scripts::{LineFault, LineResult, value_of};
 
 /// The keys of a tariff file.
 const KEYS: [Key; 18] = [
@@ -34,16 +34,6 @@ fn key_of(word: &str) -> LineResult<Key> {
     for key in KEYS {
         if key.text() == word {
             return Ok(key);
-        }
-    }
-    Err(LineFault::NotUnderstood)
-}
-
-/// The value that a word names.
-fn value_of<T: Copy>(values: &[(&str, T)], word: &str) -> LineResult<T> {
-    for (name, value) in values {
-        if *name == word {
-            return Ok(*value);
         }
     }
     Err(LineFault::NotUnderstood)

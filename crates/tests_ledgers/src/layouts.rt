@@ -2,22 +2,17 @@
 
 use program_output::is_misread;
 use smf_frames::Layout;
-use std::io::Write;
-use tests_scripts::{LineResult, Named};
+use tests_scripts::{AnswerText, LineResult, Named};
 
 /// Adds whether the dump of parts is one in blocks, and is read in the other layout.
 pub(crate) fn push_layout(
     named: &Named,
     layout: Layout,
     parts: &[&str],
-    out: &mut Vec<u8>,
+    out: &mut AnswerText,
 ) -> LineResult {
     let dump = named.read_dump(parts)?;
-    let said = if is_misread(named.alloc(), layout, &dump)? {
-        "BLOCKS"
-    } else {
-        "AS READ"
-    };
-    writeln!(out, "{said}")?;
+    let is_misread = is_misread(named.alloc(), layout, &dump)?;
+    out.line(if is_misread { "BLOCKS" } else { "AS READ" });
     Ok(())
 }

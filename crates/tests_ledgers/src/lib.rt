@@ -75,6 +75,7 @@ mod text_writing;
 mod texts;
 mod what_ifs;
 
+pub use answers::push_fault;
 pub use books::answer;
 pub use lines::BookLines;
 pub use refusing_ledger::RefusingLedger;

@@ -1,4 +1,4 @@
-//! Books that refuse one call for lack of memory.
+//! Books that refuse one call for lack of memory, or none.
 
 ghost use Rattle.std.specs.Prelude.{◌≡◌, ◌<◌, length, take, List, ℤ, Err};
 ghost use Rattle.book_model.specs.Words.{periods_outcome};
@@ -20,15 +20,13 @@ pub struct RefusingLedger<'a, L: Ledger> {
 }
 
 impl<'a, L: Ledger> RefusingLedger<'a, L> {
-    /// Books that refuse the call after a given number.
-    pub fn new(inner: &'a mut L, calls: u32) -> RefusingLedger<'a, L> {
-        RefusingLedger {
-            inner,
-            calls_left: Some(calls),
-        }
+    /// Books that refuse the call after a given number, or none. Rows ask those too, so that what
+    /// asks books is built for one kind of them.
+    pub fn new(inner: &'a mut L, calls_left: Option<u32>) -> RefusingLedger<'a, L> {
+        RefusingLedger { inner, calls_left }
     }
 
-    /// They have refused a call.
+    /// They refuse no call any more.
     pub fn has_refused(&self) -> bool {
         self.calls_left.is_none()
     }
@@ -109,6 +107,9 @@ impl<L: Ledger> Ledger for RefusingLedger<'_, L> {
     }
 
     fn accept_many(&mut self, records: &[Vec<u8>]) -> Result<Vec<Accepted>, LedgerFault> {
+        if self.calls_left.is_none() {
+            return self.inner.accept_many(records);
+        }
         if is_due(&mut self.calls_left) {
             return Err(refusal(&mut *self.inner));
         }

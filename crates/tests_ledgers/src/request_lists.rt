@@ -9,7 +9,7 @@ use crate::names::name_in;
 use book_core::Ledger;
 use office::{Asked, run};
 use smf_frames::Layout;
-use tests_scripts::{Cases, LineFault, LineResult, Named};
+use tests_scripts::{AnswerText, Cases, LineFault, LineResult, Named, words_of};
 
 /// The request to import the dump of parts.
 fn import_by(named: &Named, layout: Layout, parts: &[&str]) -> LineResult<Asked>
@@ -49,7 +49,7 @@ fn asked_by_word(named: &Named, verb: &str, words: &[&str]) -> LineResult<Asked>
 fn request_of(named: &Named, layout: Layout, line: &str) -> LineResult<Asked>
     ensures { IfOk result IsAskableWithoutReader }
 {
-    let words: Vec<&str> = line.split_whitespace().collect(named.alloc())?;
+    let words = words_of(named.alloc(), line)?;
     let [verb, words @ ..] = words.as_slice() else {
         return Err(LineFault::NotUnderstood);
     };
@@ -78,11 +78,11 @@ pub(crate) fn push_answers<L: Ledger>(
     layout: Layout,
     ledger: &mut L,
     body: &str,
-    out: &mut Vec<u8>,
+    out: &mut AnswerText,
 ) -> LineResult {
     let requests = requests(named, layout, body)?;
     for answer in &run(named.alloc(), ledger, &requests)? {
-        push_answer(out, answer)?;
+        push_answer(out, answer);
     }
     Ok(())
 }
@@ -95,7 +95,7 @@ pub(crate) fn push_repeated<L: Ledger>(
     ledger: &mut L,
     body: &str,
     times: &str,
-    out: &mut Vec<u8>,
+    out: &mut AnswerText,
 ) -> LineResult {
     let alloc = named.alloc();
     let mut bodies = String::new(alloc);
@@ -103,11 +103,12 @@ pub(crate) fn push_repeated<L: Ledger>(
         bodies.push_str(body)?;
     }
     let requests = requests(named, layout, bodies.as_str())?;
-    let mut cases = Cases::new(alloc, out, "COMMANDS");
+    let mut cases = Cases::new(out, "COMMANDS");
     for answer in &run(alloc, ledger, &requests)? {
-        let mut text = Vec::new(alloc);
-        push_answer(&mut text, answer)?;
-        cases.take(text)?;
+        let mut text = AnswerText::new(alloc);
+        push_answer(&mut text, answer);
+        cases.take(text);
     }
-    cases.say()
+    cases.say();
+    Ok(())
 }

@@ -11,8 +11,7 @@ use crate::receipts::{read_numbers, receipt_of};
 use crate::standalone_texts::StandaloneText;
 use crate::text_writing::{Writing, push_text};
 use smf_frames::Layout;
-use std::alloc::AllocError;
-use tests_scripts::{Ask, LineFault, LineResult, Named, if_read};
+use tests_scripts::{AnswerText, Ask, LineFault, LineResult, Named};
 
 /// The trial of the dump of parts under three rates.
 fn trial_of<'a>(named: &Named, reading: Reading, ask: Ask<'a>) -> LineResult<StandaloneText<'a>> {
@@ -26,7 +25,7 @@ fn trial_of<'a>(named: &Named, reading: Reading, ask: Ask<'a>) -> LineResult<Sta
 }
 
 /// Adds what a dump is cut into, with its records if the line asks for these.
-fn push_dump(named: &Named, layout: Layout, ask: Ask<'_>, out: &mut Vec<u8>) -> LineResult {
+fn push_dump(named: &Named, layout: Layout, ask: Ask<'_>, out: &mut AnswerText) -> LineResult {
     let dump = named.read_dump(ask.words)?;
     push_split(named.alloc(), layout, &dump, ask.verb == "records", out)
 }
@@ -43,34 +42,35 @@ impl BookLines {
         }
     }
 
-    /// Sets how dumps are read or texts are written, or answers a line.
-    fn answer_standalone(&mut self, named: &Named, ask: Ask<'_>, out: &mut Vec<u8>) -> LineResult {
-        let (alloc, words) = (named.alloc(), ask.words);
-        match ask.verb {
-            "reader" => self.reading = Reading::of(words)?,
-            "writer" => self.writing = Writing::of(words)?,
-            "split" | "records" => return push_dump(named, self.reading.layout, ask, out),
-            "layout" => return push_layout(named, self.reading.layout, words, out),
-            "price" => return answer_price(named, words, out),
-            "plan" => return answer_plan(named, words, out),
-            "say" => return push_message(words, out),
-            _ => return push_text(
-                alloc,
-                &mut self.standalone_text(named, ask)?,
-                self.writing,
-                out,
-            ),
-        }
+    /// Writes the text that a line asks for.
+    fn push_standalone(&self, named: &Named, ask: Ask<'_>, out: &mut AnswerText) -> LineResult {
+        let mut text = self.standalone_text(named, ask)?;
+        push_text(named.alloc(), &mut text, self.writing, out);
         Ok(())
     }
 }
 
-/// Answers a line that needs no books. False where it is not one, or can't be read.
+/// Sets how dumps are read or texts are written, or answers a line that needs no books.
 pub fn answer_standalone(
     lines: &mut BookLines,
     named: &Named,
     ask: Ask<'_>,
-    out: &mut Vec<u8>,
-) -> Result<bool, AllocError> {
-    Ok(if_read(lines.answer_standalone(named, ask, out))?.is_some())
+    out: &mut AnswerText,
+) -> LineResult {
+    match ask.verb {
+        "reader" => {
+            lines.reading = Reading::of(ask.words)?;
+            Ok(())
+        }
+        "writer" => {
+            lines.writing = Writing::of(ask.words)?;
+            Ok(())
+        }
+        "split" | "records" => push_dump(named, lines.reading.layout, ask, out),
+        "layout" => push_layout(named, lines.reading.layout, ask.words, out),
+        "price" => answer_price(named, ask.words, out),
+        "plan" => answer_plan(named, ask.words, out),
+        "say" => push_message(ask.words, out),
+        _ => lines.push_standalone(named, ask, out),
+    }
 }

@@ -7,9 +7,8 @@ use book_import::{Receipt, Stop};
 use book_reports::{receipt_line, receipt_line_text, write_text};
 use program_output::{check_list, trial};
 use std::alloc::Global;
-use std::io::Write;
 use tariff_rules::Tariff;
-use tests_scripts::{LimitedWriter, Limits, LineResult};
+use tests_scripts::{LimitedWriter, Limits};
 
 /// A text that is made without books.
 #[derive(Drop)]
@@ -23,14 +22,14 @@ pub(crate) enum StandaloneText<'a> {
 }
 
 /// Writes what the records of a dump are.
-fn check(alloc: Global, reading: Reading, dump: &[u8], limits: Limits) -> LineResult<Written> {
+fn check(alloc: Global, reading: Reading, dump: &[u8], limits: Limits) -> Written {
     let mut source = Source::new(reading.reader(dump));
     let mut sink = Sink::new(LimitedWriter::new(alloc, limits));
     let reads = reading.allowed();
     let answer = check_list(alloc, &mut source, reading.layout, reads, &mut sink);
     let mut written = Written::of(alloc, sink, answer);
-    reading.push_asked(&mut written.message, source.asked())?;
-    Ok(written)
+    reading.push_asked(&mut written.message, source.asked());
+    written
 }
 
 /// Writes what a dump costs. Its receipt is added too where that is not the first line.
@@ -40,7 +39,7 @@ fn run_trial(
     tariff: Tariff,
     dump: &[u8],
     limits: Limits,
-) -> LineResult<Written> {
+) -> Written {
     let mut source = Source::new(reading.reader(dump));
     let mut sink = Sink::new(LimitedWriter::new(alloc, limits));
     let reads = reading.allowed();
@@ -49,15 +48,15 @@ fn run_trial(
     if let Ok(receipt) = answer {
         let line = receipt_line_text(&receipt);
         if !written.writer.taken.starts_with(line.as_bytes()) {
-            written.message.extend_from_slice(line.as_bytes())?;
+            written.message.bytes(line.as_bytes());
         }
     }
-    reading.push_asked(&mut written.message, source.asked())?;
-    Ok(written)
+    reading.push_asked(&mut written.message, source.asked());
+    written
 }
 
 impl Writes for StandaloneText<'_> {
-    fn write_to(&mut self, alloc: Global, limits: Limits) -> LineResult<Written> {
+    fn write_to(&mut self, alloc: Global, limits: Limits) -> Written {
         let mut sink = Sink::new(LimitedWriter::new(alloc, limits));
         let answer = match &*self {
             StandaloneText::Text(text) => write_text(&mut sink, text),
@@ -69,10 +68,10 @@ impl Writes for StandaloneText<'_> {
                     return run_trial(alloc, *reading, tariff, dump, limits);
                 }
                 let mut written = Written::of(alloc, sink, Ok(Stop::End));
-                writeln!(written.message, "RATES TOO HIGH")?;
-                return Ok(written);
+                written.message.line("RATES TOO HIGH");
+                return written;
             }
         };
-        Ok(Written::of(alloc, sink, answer.map(|()| Stop::End)))
+        Written::of(alloc, sink, answer.map(|()| Stop::End))
     }
 }

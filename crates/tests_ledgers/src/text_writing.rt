@@ -5,8 +5,7 @@ use book_import::Stop;
 use book_reports::ReportFault;
 use program_output::{report_failed, stopped};
 use std::alloc::Global;
-use std::io::Write;
-use tests_scripts::{LimitedWriter, Limits, LineFault, LineResult, push_line};
+use tests_scripts::{AnswerText, LimitedWriter, Limits, LineFault, LineResult};
 
 /// Where texts are written from here on.
 #[derive(Clone, Copy)]
@@ -54,7 +53,7 @@ pub(crate) struct Written {
     /// A write failed.
     failed: bool,
     /// What the program says of it on standard error, if anything.
-    pub(crate) message: Vec<u8>,
+    pub(crate) message: AnswerText,
 }
 
 impl Written {
@@ -64,7 +63,7 @@ impl Written {
         sink: Sink<LimitedWriter>,
         answer: Result<Stop, ReportFault>,
     ) -> Written {
-        let mut message = Vec::new(alloc);
+        let mut message = AnswerText::new(alloc);
         let _ = match answer {
             Ok(stop) => stopped(&mut message, stop),
             Err(fault) => report_failed(&mut message, fault),
@@ -81,15 +80,16 @@ impl Written {
 /// A text that can be written, again and again.
 pub(crate) trait Writes {
     /// Writes it to a limited writer.
-    fn write_to(&mut self, alloc: Global, limits: Limits) -> LineResult<Written>;
+    fn write_to(&mut self, alloc: Global, limits: Limits) -> Written;
 }
 
 /// Adds how much a writer took.
-fn push_took(out: &mut Vec<u8>, written: &Written) -> LineResult {
-    let (bytes, writes) = (written.writer.taken.len(), written.writer.asked);
-    let failed = if written.failed { " FAILED" } else { "" };
-    write!(out, "TOOK {bytes} IN {writes}{failed}")?;
-    Ok(())
+fn push_took(out: &mut AnswerText, written: &Written) {
+    out.value("TOOK ", written.writer.taken.len());
+    out.value(" IN ", written.writer.asked);
+    if written.failed {
+        out.text(" FAILED");
+    }
 }
 
 /// Writes to one writer after another, and adds how much each took, and whether that is no prefix
@@ -99,25 +99,23 @@ fn push_each<T: Writes>(
     text: &mut T,
     limits: Limits,
     end: u32,
-    out: &mut Vec<u8>,
-) -> LineResult {
-    let whole = text.write_to(alloc, Limits::none())?;
+    out: &mut AnswerText,
+) {
+    let whole = text.write_to(alloc, Limits::none());
     for calls in limits.calls..end {
-        let written = text.write_to(alloc, Limits { calls, ..limits })?;
-        push_took(out, &written)?;
+        let written = text.write_to(alloc, Limits { calls, ..limits });
+        push_took(out, &written);
         let is_prefix = whole.writer.taken.starts_with(&written.writer.taken);
-        push_line(out, if is_prefix { "" } else { " NO FRONT" })?;
+        out.line(if is_prefix { "" } else { " NO FRONT" });
     }
-    Ok(())
 }
 
 /// Adds what a writer took, in whole lines.
-fn push_taken(out: &mut Vec<u8>, taken: &[u8]) -> LineResult {
-    out.extend_from_slice(taken)?;
+fn push_taken(out: &mut AnswerText, taken: &[u8]) {
+    out.bytes(taken);
     if !matches!(taken.last(), None | Some(b'\n')) {
-        push_line(out, "")?;
+        out.line("");
     }
-    Ok(())
 }
 
 /// Writes as was set, and adds the result.
@@ -125,19 +123,21 @@ pub(crate) fn push_text<T: Writes>(
     alloc: Global,
     text: &mut T,
     writing: Writing,
-    out: &mut Vec<u8>,
-) -> LineResult {
+    out: &mut AnswerText,
+) {
     let limits = match writing {
         Writing::Whole => Limits::none(),
         Writing::To(limits) => limits,
-        Writing::Each { limits, end } => return push_each(alloc, text, limits, end, out),
+        Writing::Each { limits, end } => {
+            push_each(alloc, text, limits, end, out);
+            return;
+        }
     };
-    let written = text.write_to(alloc, limits)?;
-    push_taken(out, &written.writer.taken)?;
+    let written = text.write_to(alloc, limits);
+    push_taken(out, &written.writer.taken);
     if let Writing::To(_) = writing {
-        push_took(out, &written)?;
-        push_line(out, "")?;
+        push_took(out, &written);
+        out.line("");
     }
-    out.extend_from_slice(&written.message)?;
-    Ok(())
+    out.add(&written.message);
 }

@@ -2,16 +2,15 @@
 
 use crate::names::{centre_in, name_in};
 use crate::text_writing::{Writes, Written};
-use crate::what_ifs::form_of;
 use book_core::{Ledger, Sink};
 use book_import::Stop;
 use book_reports::{
-    DetailReport, PeriodReport, Report, adjustment_list, dispute_list, period_list, statement,
-    statement_csv, write_details, write_report,
+    DetailReport, PeriodReport, Report, StatementForm, adjustment_list, dispute_list, period_list,
+    statement, statement_csv, write_details, write_report,
 };
 use smf_text::Name;
 use std::alloc::Global;
-use tests_scripts::{LimitedWriter, Limits, LineFault, LineResult, Named};
+use tests_scripts::{Ask, LimitedWriter, Limits, LineFault, LineResult, Named, value_of};
 
 /// A text of books.
 #[derive(Clone, Copy)]
@@ -27,76 +26,100 @@ pub(crate) enum BookText {
     Periods,
 }
 
-impl BookText {
-    /// The text that a line asks for.
-    pub(crate) fn of(verb: &str, words: &[&str]) -> LineResult<BookText> {
-        match (verb, words) {
-            ("statement", [period]) => Ok(BookText::Statement(period.parse::<u16>()?)),
-            ("table", [period]) => Ok(BookText::Table(period.parse::<u16>()?)),
-            ("adjustments", [period]) => Ok(BookText::Adjustments(period.parse::<u16>()?)),
-            ("statement", [period, centre]) => of_centre(PeriodReport::Statement, period, centre),
-            ("table", [period, centre]) => of_centre(PeriodReport::StatementTable, period, centre),
-            ("adjustments", [period, centre]) => {
-                of_centre(PeriodReport::AdjustmentList, period, centre)
-            }
-            ("page", [period]) => page_of(period),
-            ("office-page", []) => Ok(BookText::Report(Report::OfficePage)),
-            ("disputes", []) => Ok(BookText::Disputes),
-            ("periods", []) => Ok(BookText::Periods),
-            _ => Err(LineFault::NotUnderstood),
+/// What a period has, for all centres or for one.
+#[derive(Clone, Copy)]
+enum PeriodText {
+    Statement,
+    Table,
+    Adjustments,
+    Details(StatementForm),
+    Bill(StatementForm),
+    /// It is of all centres alone.
+    Page,
+}
+
+/// By the verbs that ask for it.
+const PERIOD_TEXTS: [(&str, PeriodText); 8] = [
+    ("statement", PeriodText::Statement),
+    ("table", PeriodText::Table),
+    ("adjustments", PeriodText::Adjustments),
+    ("details", PeriodText::Details(StatementForm::Text)),
+    ("details-table", PeriodText::Details(StatementForm::Table)),
+    ("bill", PeriodText::Bill(StatementForm::Text)),
+    ("bill-table", PeriodText::Bill(StatementForm::Table)),
+    ("page", PeriodText::Page),
+];
+
+impl PeriodText {
+    /// The text of a period, for all centres.
+    fn whole(self, period: u16) -> BookText {
+        match self {
+            PeriodText::Statement => BookText::Statement(period),
+            PeriodText::Table => BookText::Table(period),
+            PeriodText::Adjustments => BookText::Adjustments(period),
+            PeriodText::Details(form) => details(form, period, None),
+            PeriodText::Bill(form) => bill(form, period, None),
+            PeriodText::Page => BookText::Report(Report::PeriodPage(period)),
         }
+    }
+
+    /// The text of a period, for one centre.
+    fn of_centre(self, period: u16, centre: Name) -> LineResult<BookText> {
+        let report = match self {
+            PeriodText::Statement => PeriodReport::Statement,
+            PeriodText::Table => PeriodReport::StatementTable,
+            PeriodText::Adjustments => PeriodReport::AdjustmentList,
+            PeriodText::Details(form) => return Ok(details(form, period, Some(centre))),
+            PeriodText::Bill(form) => return Ok(bill(form, period, Some(centre))),
+            PeriodText::Page => return Err(LineFault::NotUnderstood),
+        };
+        Ok(BookText::Report(Report::OfCentre {
+            report,
+            period,
+            centre,
+        }))
     }
 }
 
-/// What a period has of a centre.
-fn of_centre(report: PeriodReport, period: &str, centre: &str) -> LineResult<BookText> {
-    Ok(BookText::Report(Report::OfCentre {
-        report,
-        period: period.parse::<u16>()?,
-        centre: centre_in(centre)?,
-    }))
+/// The details of a period.
+fn details(form: StatementForm, period: u16, centre: Option<Name>) -> BookText {
+    BookText::Details(DetailReport {
+        form,
+        period,
+        centre,
+    })
 }
 
-/// The page of a period.
-fn page_of(period: &str) -> LineResult<BookText> {
-    Ok(BookText::Report(Report::PeriodPage(period.parse::<u16>()?)))
+/// The bill of a period.
+fn bill(form: StatementForm, period: u16, centre: Option<Name>) -> BookText {
+    BookText::Report(Report::Bill {
+        form,
+        period,
+        centre,
+    })
 }
 
-/// A period, and one centre in it, if words name one.
-fn place_in(words: &[&str]) -> LineResult<(u16, Option<Name>)> {
-    match *words {
-        [period] => Ok((period.parse::<u16>()?, None)),
-        [period, centre] => Ok((period.parse::<u16>()?, Some(centre_in(centre)?))),
+/// The text of a period, or of one centre in it, that a line asks for.
+fn in_period(verb: &str, words: &[&str]) -> LineResult<BookText> {
+    let text = value_of(&PERIOD_TEXTS, verb)?;
+    match words {
+        [period] => Ok(text.whole(period.parse::<u16>()?)),
+        [period, centre] => text.of_centre(period.parse::<u16>()?, centre_in(centre)?),
         _ => Err(LineFault::NotUnderstood),
     }
 }
 
-/// The details of a period, or of one centre in it.
-pub(crate) fn details_of(verb: &str, words: &[&str]) -> LineResult<BookText> {
-    let (period, centre) = place_in(words)?;
-    Ok(BookText::Details(DetailReport {
-        form: form_of(verb),
-        period,
-        centre,
-    }))
-}
-
-/// The bill of the office for a period, or of one centre.
-pub(crate) fn bill_of(verb: &str, words: &[&str]) -> LineResult<BookText> {
-    let (period, centre) = place_in(words)?;
-    Ok(BookText::Report(Report::Bill {
-        form: form_of(verb),
-        period,
-        centre,
-    }))
-}
-
-/// The trail of the record that a word names.
-pub(crate) fn trail_of(named: &Named, words: &[&str]) -> LineResult<BookText> {
-    let [word] = words else {
-        return Err(LineFault::NotUnderstood);
-    };
-    Ok(BookText::Report(Report::Record(name_in(named, word)?)))
+impl BookText {
+    /// The text that a line asks for.
+    pub(crate) fn of(named: &Named, ask: Ask<'_>) -> LineResult<BookText> {
+        match (ask.verb, ask.words) {
+            ("disputes", []) => Ok(BookText::Disputes),
+            ("periods", []) => Ok(BookText::Periods),
+            ("office-page", []) => Ok(BookText::Report(Report::OfficePage)),
+            ("record", [word]) => Ok(BookText::Report(Report::Record(name_in(named, word)?))),
+            (verb, words) => in_period(verb, words),
+        }
+    }
 }
 
 /// A text of these books.
@@ -107,7 +130,7 @@ pub(crate) struct TextOf<'a, L: Ledger> {
 }
 
 impl<L: Ledger> Writes for TextOf<'_, L> {
-    fn write_to(&mut self, alloc: Global, limits: Limits) -> LineResult<Written> {
+    fn write_to(&mut self, alloc: Global, limits: Limits) -> Written {
         let mut sink = Sink::new(LimitedWriter::new(alloc, limits));
         let ledger = &mut *self.ledger;
         let answer = match &self.text {
@@ -119,6 +142,6 @@ impl<L: Ledger> Writes for TextOf<'_, L> {
             BookText::Disputes => dispute_list(alloc, ledger, &mut sink),
             BookText::Periods => period_list(alloc, ledger, &mut sink),
         };
-        Ok(Written::of(alloc, sink, answer.map(|()| Stop::End)))
+        Written::of(alloc, sink, answer.map(|()| Stop::End))
     }
 }

@@ -1,37 +1,37 @@
 //! What a dump is cut into, and the class and the header of a record.
 
-use crate::answer::Answer;
 use crate::dump_reader::work_lines;
 use smf_frames::{Header, Split};
 use smf_type30::{Class, Damage, class};
-use tests_scripts::LineResult;
+use tests_scripts::AnswerText;
 
 /// Adds how many records a dump has, the number of the fault after them, or 0, and whether that
 /// stays whatever follows.
-pub(crate) fn push_parts(out: &mut Answer, parts: &Split) -> LineResult {
+pub(crate) fn push_parts(out: &mut AnswerText, parts: &Split) {
     out.value("RECORDS ", parts.records.len());
     out.value(" FAULT ", parts.fault.map_or(0, |fault| fault.number()));
-    out.line(if parts.is_broken { " BROKEN" } else { "" })
+    out.line(if parts.is_broken { " BROKEN" } else { "" });
 }
 
 /// Adds the header of a record, if it has one.
-pub(crate) fn push_header(out: &mut Answer, bytes: &[u8]) -> LineResult {
+pub(crate) fn push_header(out: &mut AnswerText, bytes: &[u8]) {
     let Some(header) = Header::read(bytes) else {
-        return out.line("NO HEADER");
+        out.line("NO HEADER");
+        return;
     };
     out.value("TYPE ", header.kind);
     out.value(" TIME ", header.time);
-    out.bytes(" DATE ", &header.date);
-    out.bytes_line(" SYSTEM ", &header.system)
+    out.digits(" DATE ", &header.date);
+    out.digits_line(" SYSTEM ", &header.system);
 }
 
 /// Adds the number of a record's damage.
-pub(crate) fn push_damage(out: &mut Answer, damage: Damage) -> LineResult {
-    out.value_line("DAMAGED ", damage.number())
+pub(crate) fn push_damage(out: &mut AnswerText, damage: Damage) {
+    out.value_line("DAMAGED ", damage.number());
 }
 
 /// Adds the class of a record, by the words of the check list.
-pub(crate) fn push_class(out: &mut Answer, bytes: &[u8]) -> LineResult {
+pub(crate) fn push_class(out: &mut AnswerText, bytes: &[u8]) {
     match class(bytes) {
         Class::DumpHeader => out.line("HEADER"),
         Class::DumpTrailer => out.line("TRAILER"),
@@ -44,7 +44,7 @@ pub(crate) fn push_class(out: &mut Answer, bytes: &[u8]) -> LineResult {
 }
 
 /// Adds a line for each step or job of a dump.
-pub(crate) fn push_work(out: &mut Answer, dump: &[u8]) -> LineResult {
-    let lines = work_lines(out.alloc(), dump)?;
-    out.end(lines.as_str())
+pub(crate) fn push_work(out: &mut AnswerText, dump: &[u8]) {
+    let lines = work_lines(out.alloc(), dump);
+    out.made(lines);
 }

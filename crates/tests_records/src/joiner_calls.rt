@@ -1,16 +1,15 @@
 //! What a joiner that lasts over the lines of a row answers.
 
-use crate::answer::Answer;
 use smf_frames::{FrameFault, Joiner};
-use tests_scripts::{LineFault, LineResult};
+use tests_scripts::{AnswerText, LineFault, LineResult};
 
 /// Adds the number of a fault.
-fn push_fault(out: &mut Answer, fault: FrameFault) -> LineResult {
-    out.value_line("FAULT ", fault.number())
+fn push_fault(out: &mut AnswerText, fault: FrameFault) {
+    out.value_line("FAULT ", fault.number());
 }
 
 /// Adds how much of a dump the joiner took, or its fault.
-fn push_taken(out: &mut Answer, joiner: &mut Joiner, dump: &[u8]) -> LineResult {
+fn push_taken(out: &mut AnswerText, joiner: &mut Joiner, dump: &[u8]) {
     match joiner.feed(dump) {
         Ok(taken) => out.value_line("TOOK ", taken),
         Err(fault) => push_fault(out, fault),
@@ -18,16 +17,17 @@ fn push_taken(out: &mut Answer, joiner: &mut Joiner, dump: &[u8]) -> LineResult 
 }
 
 /// Adds how long the record at which the joiner stands is, and whether it is this one.
-fn push_record(out: &mut Answer, joiner: &Joiner, expected: &[u8]) -> LineResult {
+fn push_record(out: &mut AnswerText, joiner: &Joiner, expected: &[u8]) {
     let Some(bytes) = joiner.record() else {
-        return out.line("NO RECORD");
+        out.line("NO RECORD");
+        return;
     };
     out.value("RECORD ", bytes.len());
-    out.line(if bytes == expected { " SAME" } else { " OTHER" })
+    out.line(if bytes == expected { " SAME" } else { " OTHER" });
 }
 
 /// Adds what the end of the dump leaves undone.
-fn push_end(out: &mut Answer, joiner: &Joiner) -> LineResult {
+fn push_end(out: &mut AnswerText, joiner: &Joiner) {
     match joiner.finish() {
         Ok(()) => out.line("END"),
         Err(fault) => push_fault(out, fault),
@@ -36,7 +36,7 @@ fn push_end(out: &mut Answer, joiner: &Joiner) -> LineResult {
 
 /// Does what a verb says with a joiner and a dump, and adds the result.
 pub(crate) fn push_joined(
-    out: &mut Answer,
+    out: &mut AnswerText,
     joiner: &mut Joiner,
     verb: &str,
     dump: &[u8],
@@ -44,11 +44,9 @@ pub(crate) fn push_joined(
     match verb {
         "feed" => push_taken(out, joiner, dump),
         "record" => push_record(out, joiner, dump),
-        _ if !dump.is_empty() => Err(LineFault::NotUnderstood),
+        _ if !dump.is_empty() => return Err(LineFault::NotUnderstood),
         "finish" => push_end(out, joiner),
-        _ => {
-            joiner.next();
-            Ok(())
-        }
+        _ => joiner.next(),
     }
+    Ok(())
 }

@@ -1,6 +1,5 @@
 //! What the lines of a row have set so far, and how each line is answered.
 
-use crate::answer::Answer;
 use crate::dumps::{push_class, push_header, push_parts, push_work};
 use crate::fields::push_field;
 use crate::joiner_calls::push_joined;
@@ -12,8 +11,8 @@ use crate::tariffs::{
 };
 use crate::texts::{push_date, push_day_of, push_encoded, push_name, push_packed, push_shown};
 use smf_frames::{Joiner, Layout};
-use std::alloc::{AllocError, Global};
-use tests_scripts::{Answers, Ask, LineFault, LineResult, Named, if_read};
+use std::alloc::Global;
+use tests_scripts::{AnswerText, Answers, Ask, LineFault, LineResult, Named};
 
 /// What the lines of a row have set so far.
 #[derive(Drop)]
@@ -26,7 +25,7 @@ pub(crate) struct RecordLines {
 }
 
 /// Adds the answer to a line on texts and days, or on a sink.
-fn push_of_texts(out: &mut Answer, ask: Ask<'_>) -> LineResult {
+fn push_of_texts(out: &mut AnswerText, ask: Ask<'_>) -> LineResult {
     match ask.verb {
         "packed" => push_packed(out, ask.words),
         "show" => push_shown(out, ask.words),
@@ -41,17 +40,18 @@ fn push_of_texts(out: &mut Answer, ask: Ask<'_>) -> LineResult {
 }
 
 /// Adds the answer to a line on a dump or a record alone.
-fn push_of_dump(named: &Named, out: &mut Answer, ask: Ask<'_>) -> LineResult {
+fn push_of_dump(named: &Named, out: &mut AnswerText, ask: Ask<'_>) -> LineResult {
     let dump = named.read_dump(ask.words)?;
     match ask.verb {
         "header" => push_header(out, &dump),
         "class" => push_class(out, &dump),
         _ => push_work(out, &dump),
     }
+    Ok(())
 }
 
 /// Adds the answer to a line on what a word says of a dump or a record.
-fn push_of_word(named: &Named, out: &mut Answer, ask: Ask<'_>) -> LineResult {
+fn push_of_word(named: &Named, out: &mut AnswerText, ask: Ask<'_>) -> LineResult {
     let [word, parts @ ..] = ask.words else {
         return Err(LineFault::NotUnderstood);
     };
@@ -64,15 +64,16 @@ fn push_of_word(named: &Named, out: &mut Answer, ask: Ask<'_>) -> LineResult {
 }
 
 /// Adds what records cost by a tariff file that is named.
-fn push_price(named: &Named, out: &mut Answer, name: &str, dump: &[u8]) -> LineResult {
-    match named.text(name) {
-        Some(text) => push_prices(out, text, dump),
-        None => Err(LineFault::NotUnderstood),
-    }
+fn push_price(named: &Named, out: &mut AnswerText, name: &str, dump: &[u8]) -> LineResult {
+    let Some(text) = named.text(name) else {
+        return Err(LineFault::NotUnderstood);
+    };
+    push_prices(out, text, dump);
+    Ok(())
 }
 
 /// Adds the answer to a line for which it does not matter what the lines before it have set.
-fn push_alone(named: &Named, out: &mut Answer, ask: Ask<'_>) -> LineResult {
+fn push_alone(named: &Named, out: &mut AnswerText, ask: Ask<'_>) -> LineResult {
     match ask.verb {
         "file" | "changed" | "repeated" => push_file_of(named, out, ask),
         "entry" => push_entry_of(named, out, ask),
@@ -113,7 +114,7 @@ impl RecordLines {
     }
 
     /// Adds what the joiner answers.
-    fn push_joined(&mut self, named: &Named, out: &mut Answer, ask: Ask<'_>) -> LineResult {
+    fn push_joined(&mut self, named: &Named, out: &mut AnswerText, ask: Ask<'_>) -> LineResult {
         let dump = named.read_dump(ask.words)?;
         match &mut self.joiner {
             Some(joiner) => push_joined(out, joiner, ask.verb, &dump),
@@ -122,20 +123,22 @@ impl RecordLines {
     }
 
     /// Adds what is read of the row's lines so far, with one more.
-    fn push_line(&mut self, out: &mut Answer, words: &[&str]) -> LineResult {
+    fn push_line(&mut self, out: &mut AnswerText, words: &[&str]) -> LineResult {
         let line = text_of(out.alloc(), words)?;
         self.file.push_str(line.as_str())?;
         self.file.push('\n')?;
-        push_file(out, self.file.as_str())
+        push_file(out, self.file.as_str());
+        Ok(())
     }
 
     /// Adds what a dump is cut into.
-    fn push_split(&self, named: &Named, out: &mut Answer, words: &[&str]) -> LineResult {
-        push_parts(out, &split_of(named, self.layout, words)?)
+    fn push_split(&self, named: &Named, out: &mut AnswerText, words: &[&str]) -> LineResult {
+        push_parts(out, &split_of(named, self.layout, words)?);
+        Ok(())
     }
 
     /// Adds the answer to a line.
-    fn push_answer(&mut self, named: &Named, out: &mut Answer, ask: Ask<'_>) -> LineResult {
+    fn push_answer(&mut self, named: &Named, out: &mut AnswerText, ask: Ask<'_>) -> LineResult {
         match ask.verb {
             "reader" => self.set_layout(ask.words),
             "joiner" => self.set_joiner(out.alloc(), ask.words),
@@ -149,20 +152,16 @@ impl RecordLines {
 }
 
 impl Answers for RecordLines {
-    fn begin(&mut self, named: &Named, words: &[&str]) -> Result<bool, AllocError> {
+    fn begin(&mut self, named: &Named, words: &[&str]) -> LineResult {
         *self = RecordLines::new(named.alloc());
-        Ok(words.is_empty())
+        if words.is_empty() {
+            Ok(())
+        } else {
+            Err(LineFault::NotUnderstood)
+        }
     }
 
-    fn answer(
-        &mut self,
-        named: &Named,
-        ask: Ask<'_>,
-        out: &mut Vec<u8>,
-    ) -> Result<bool, AllocError> {
-        let mut answer = Answer::new(named.alloc());
-        let answered = if_read(self.push_answer(named, &mut answer, ask))?;
-        out.extend_from_slice(answer.as_bytes())?;
-        Ok(answered.is_some())
+    fn answer(&mut self, named: &Named, ask: Ask<'_>, out: &mut AnswerText) -> LineResult {
+        self.push_answer(named, out, ask)
     }
 }

@@ -34,7 +34,6 @@
 //! | `sink SIZE WRITES HEX..` | each write to a sink over a writer with these limits |
 #![tactic(auto)]
 
-mod answer;
 mod dump_reader;
 mod dumps;
 mod fields;

@@ -1,10 +1,9 @@
 //! A joiner that gets a dump in pieces: their sizes make no difference.
 
-use crate::answer::Answer;
 use crate::spelled_words::split_words;
 use smf_frames::{FrameFault, Joiner, Layout, Split, split};
 use std::alloc::{AllocError, Global};
-use tests_scripts::{LineFault, LineResult, Named};
+use tests_scripts::{AnswerText, LineFault, LineResult, Named};
 
 /// More pieces and records than any dump of a script has.
 const ROUNDS: u32 = 200_000;
@@ -140,7 +139,7 @@ impl Sizes {
 }
 
 /// Adds a line of sizes, if there are any.
-fn push_sizes(out: &mut Answer, what: &str, sizes: &[usize]) {
+fn push_sizes(out: &mut AnswerText, what: &str, sizes: &[usize]) {
     if sizes.is_empty() {
         return;
     }
@@ -152,7 +151,7 @@ fn push_sizes(out: &mut Answer, what: &str, sizes: &[usize]) {
 }
 
 /// Adds the sizes of pieces with which a joiner makes what is expected, and the others.
-fn push_made(out: &mut Answer, expected: &ExpectedSplit, words: &str) -> LineResult {
+fn push_made(out: &mut AnswerText, expected: &ExpectedSplit, words: &str) -> LineResult {
     let mut sizes = Sizes {
         same: Vec::new(out.alloc()),
         other: Vec::new(out.alloc()),
@@ -160,14 +159,14 @@ fn push_made(out: &mut Answer, expected: &ExpectedSplit, words: &str) -> LineRes
     sizes.add_all(out.alloc(), expected, words)?;
     push_sizes(out, "SAME IN", &sizes.same);
     push_sizes(out, "OTHER IN", &sizes.other);
-    out.end("")
+    Ok(())
 }
 
 /// Adds the sizes of pieces with which a joiner makes of a dump what `split` makes of it, or of the
 /// dump after a colon, and the others.
 pub(crate) fn push_pieces(
     named: &Named,
-    out: &mut Answer,
+    out: &mut AnswerText,
     layout: Layout,
     words: &[&str],
 ) -> LineResult {

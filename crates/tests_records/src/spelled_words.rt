@@ -6,11 +6,8 @@ use tests_scripts::{LineFault, LineResult, push_hex};
 /// The bytes that a word spells.
 pub(crate) fn hex_of(alloc: Global, word: &str) -> LineResult<Vec<u8>> {
     let mut bytes = Vec::new(alloc);
-    if push_hex(&mut bytes, word)? {
-        Ok(bytes)
-    } else {
-        Err(LineFault::NotUnderstood)
-    }
+    push_hex(&mut bytes, word)?;
+    Ok(bytes)
 }
 
 /// The bytes that a line of one word spells.

@@ -1,13 +1,13 @@
 //! Tariff files: which are read, the first fault of one that is not and its entry, and what records
 //! cost by them.
 
-use crate::answer::Answer;
 use crate::spelled_words::{split_words, text_of};
+use crate::texts::push_day_text;
 use smf_frames::{Layout, split};
 use smf_type30::{Class, Type30, class};
 use std::alloc::Global;
-use tariff_rules::{Entry, Priced, Tariff, TariffFault, price};
-use tests_scripts::{Ask, LineFault, LineResult, Named};
+use tariff_rules::{Entry, Tariff, TariffFault, price};
+use tests_scripts::{AnswerText, Ask, LineFault, LineResult, Named};
 
 /// The most copies of a piece.
 const MOST_PIECES: usize = 2_000_000;
@@ -73,27 +73,28 @@ fn file_of(named: &Named, ask: Ask<'_>) -> LineResult<String> {
 }
 
 /// Adds the number of a fault, and what it says.
-fn push_fault(out: &mut Answer, fault: TariffFault) -> LineResult {
+fn push_fault(out: &mut AnswerText, fault: TariffFault) {
     out.value("FAULT ", fault.number());
-    out.value_line(": ", fault)
+    out.value_line(": ", fault);
 }
 
 /// Adds what is said where there is no memory for a tariff file.
-pub(crate) fn push_message(out: &mut Answer, words: &[&str]) -> LineResult {
+pub(crate) fn push_message(out: &mut AnswerText, words: &[&str]) -> LineResult {
     match words {
         ["memory"] => push_fault(out, TariffFault::Memory),
-        _ => Err(LineFault::NotUnderstood),
+        _ => return Err(LineFault::NotUnderstood),
     }
+    Ok(())
 }
 
 /// Adds the first day of a tariff.
-fn push_first_day(out: &mut Answer, tariff: &Tariff) -> LineResult {
-    out.day("FROM ", tariff.effective());
-    out.end("\n")
+fn push_first_day(out: &mut AnswerText, tariff: &Tariff) {
+    push_day_text(out, "FROM ", tariff.effective());
+    out.text("\n");
 }
 
 /// Adds what is read of a tariff file.
-pub(crate) fn push_file(out: &mut Answer, text: &str) -> LineResult {
+pub(crate) fn push_file(out: &mut AnswerText, text: &str) {
     match Tariff::parse(out.alloc(), text) {
         Ok(tariff) => push_first_day(out, &tariff),
         Err(fault) => push_fault(out, fault),
@@ -101,12 +102,13 @@ pub(crate) fn push_file(out: &mut Answer, text: &str) -> LineResult {
 }
 
 /// Adds what is read of the tariff file that a line gives.
-pub(crate) fn push_file_of(named: &Named, out: &mut Answer, ask: Ask<'_>) -> LineResult {
-    push_file(out, file_of(named, ask)?.as_str())
+pub(crate) fn push_file_of(named: &Named, out: &mut AnswerText, ask: Ask<'_>) -> LineResult {
+    push_file(out, file_of(named, ask)?.as_str());
+    Ok(())
 }
 
 /// Adds the entry at which a tariff file has its fault.
-fn push_entry(out: &mut Answer, text: &str) -> LineResult {
+fn push_entry(out: &mut AnswerText, text: &str) {
     match Tariff::entry_at_fault(out.alloc(), text) {
         Some(Entry::Shift(place)) => out.value_line("AT shift ", place),
         Some(Entry::Centre(place)) => out.value_line("AT centre ", place),
@@ -115,7 +117,7 @@ fn push_entry(out: &mut Answer, text: &str) -> LineResult {
 }
 
 /// Adds the entry at fault of the tariff file that the rest of a line gives.
-pub(crate) fn push_entry_of(named: &Named, out: &mut Answer, ask: Ask<'_>) -> LineResult {
+pub(crate) fn push_entry_of(named: &Named, out: &mut AnswerText, ask: Ask<'_>) -> LineResult {
     let [verb, words @ ..] = ask.words else {
         return Err(LineFault::NotUnderstood);
     };
@@ -124,50 +126,42 @@ pub(crate) fn push_entry_of(named: &Named, out: &mut Answer, ask: Ask<'_>) -> Li
         words,
         body: ask.body,
     };
-    push_entry(out, file_of(named, file)?.as_str())
+    push_entry(out, file_of(named, file)?.as_str());
+    Ok(())
 }
 
-/// Adds a price: the day, the centre, the shift, hundredths of a second of CPU time, blocks, and
-/// the amount in ten-thousandths.
-fn push_priced(out: &mut Answer, priced: &Priced) -> LineResult {
+/// Adds what a usage record costs by a tariff: the day, the centre, the shift, hundredths of a
+/// second of CPU time, blocks, and the amount in ten-thousandths.
+fn push_cost(out: &mut AnswerText, tariff: &Tariff, usage: &Type30<'_>) {
+    let priced = price(tariff, usage);
+    push_day_text(out, "", priced.day);
     out.value(" ", priced.centre.text());
     out.value(" ", priced.shift.text());
     out.value(" ", priced.cpu);
     out.value(" ", priced.excp);
-    out.value_line(" ", priced.amount)
-}
-
-/// Adds what a usage record costs by a tariff: the day, and the price.
-fn push_cost(out: &mut Answer, tariff: &Tariff, usage: &Type30<'_>) -> LineResult {
-    let priced = price(tariff, usage);
-    out.day("", priced.day);
-    push_priced(out, &priced)
+    out.value_line(" ", priced.amount);
 }
 
 /// Adds what a record costs by a tariff, if it is a usage record.
-fn push_cost_of(out: &mut Answer, tariff: &Tariff, bytes: &[u8]) -> LineResult {
+fn push_cost_of(out: &mut AnswerText, tariff: &Tariff, bytes: &[u8]) {
     if class(bytes) != Class::Usage {
-        return Ok(());
+        return;
     }
-    match Type30::read(bytes) {
-        Ok(usage) => push_cost(out, tariff, &usage),
-        Err(_) => Ok(()),
+    if let Ok(usage) = Type30::read(bytes) {
+        push_cost(out, tariff, &usage);
     }
 }
 
 /// Adds what each usage record of a dump costs by a tariff.
-fn push_costs(out: &mut Answer, tariff: &Tariff, dump: &[u8]) -> LineResult {
-    let parts = split(out.alloc(), Layout::Rdw, dump)?;
-    for bytes in &parts.records {
-        push_cost_of(out, tariff, bytes)?;
+fn push_costs(out: &mut AnswerText, tariff: &Tariff, dump: &[u8]) {
+    match split(out.alloc(), Layout::Rdw, dump) {
+        Ok(parts) => {
+            for bytes in &parts.records {
+                push_cost_of(out, tariff, bytes);
+            }
+        }
+        Err(_) => out.cut(),
     }
-    Ok(())
-}
-
-/// Adds the first day of a tariff, and what records cost by it.
-fn push_days(out: &mut Answer, tariff: &Tariff, dump: &[u8]) -> LineResult {
-    push_first_day(out, tariff)?;
-    push_costs(out, tariff, dump)
 }
 
 /// The tariff of three rates, if there is one.
@@ -179,25 +173,29 @@ fn flat_of(alloc: Global, rates: [&str; 3]) -> LineResult<Option<Tariff>> {
     Ok(Tariff::flat(alloc, cpu, excp, record))
 }
 
-/// Adds the tariff of three rates, and what records cost by it.
-fn push_flat_days(out: &mut Answer, rates: [&str; 3], dump: &[u8]) -> LineResult {
-    match flat_of(out.alloc(), rates)? {
-        Some(tariff) => push_days(out, &tariff, dump),
-        None => out.line("NO TARIFF"),
-    }
+/// Adds the tariff of three rates, if there is one, and what records cost by it.
+fn push_flat_days(out: &mut AnswerText, tariff: Option<Tariff>, dump: &[u8]) {
+    let Some(tariff) = tariff else {
+        out.line("NO TARIFF");
+        return;
+    };
+    push_first_day(out, &tariff);
+    push_costs(out, &tariff, dump);
 }
 
 /// The same of three rates, and a dump.
-pub(crate) fn push_flat(named: &Named, out: &mut Answer, words: &[&str]) -> LineResult {
+pub(crate) fn push_flat(named: &Named, out: &mut AnswerText, words: &[&str]) -> LineResult {
     let [cpu, excp, record, parts @ ..] = words else {
         return Err(LineFault::NotUnderstood);
     };
+    let tariff = flat_of(named.alloc(), [*cpu, *excp, *record])?;
     let dump = named.read_dump(parts)?;
-    push_flat_days(out, [*cpu, *excp, *record], &dump)
+    push_flat_days(out, tariff, &dump);
+    Ok(())
 }
 
 /// Adds what records cost by a tariff file.
-pub(crate) fn push_prices(out: &mut Answer, text: &str, dump: &[u8]) -> LineResult {
+pub(crate) fn push_prices(out: &mut AnswerText, text: &str, dump: &[u8]) {
     match Tariff::parse(out.alloc(), text) {
         Ok(tariff) => push_costs(out, &tariff, dump),
         Err(fault) => push_fault(out, fault),

@@ -4,8 +4,7 @@ use crate::connection::Connection;
 use book_core::{Ledger, Sink, Source};
 use book_http::{Served, serve_one};
 use std::alloc::Global;
-use std::io::Write;
-use tests_scripts::{LimitedWriter, LineResult, push_line};
+use tests_scripts::{AnswerText, LimitedWriter};
 
 /// What became of a request.
 #[derive(Drop)]
@@ -17,37 +16,34 @@ pub(crate) struct Exchange {
 
 /// Adds a byte as it is shown: a line's end and what prints as itself as they are, a carriage
 /// return as `\r`, a backslash as two, every other as `\x` and two digits.
-fn push_byte(out: &mut Vec<u8>, byte: u8) -> LineResult {
+fn push_byte(out: &mut AnswerText, byte: u8) {
     match byte {
-        b'\r' => out.extend_from_slice(b"\\r")?,
-        b'\\' => out.extend_from_slice(b"\\\\")?,
-        b'\n' | b' '..=b'~' => out.push(byte)?,
-        _ => write!(out, "\\x{byte:02X}")?,
+        b'\r' => out.text("\\r"),
+        b'\\' => out.text("\\\\"),
+        b'\n' | b' '..=b'~' => out.bytes(&[byte]),
+        _ => out.digits("\\x", &[byte]),
     }
-    Ok(())
 }
 
 /// Adds bytes as they are shown. A backslash is at the end where no line's end is.
-fn push_bytes(out: &mut Vec<u8>, bytes: &[u8]) -> LineResult {
+fn push_bytes(out: &mut AnswerText, bytes: &[u8]) {
     for byte in bytes {
-        push_byte(out, *byte)?;
+        push_byte(out, *byte);
     }
-    match bytes.last() {
-        None | Some(b'\n') => Ok(()),
-        Some(_) => Ok(push_line(out, "\\")?),
+    if !matches!(bytes.last(), None | Some(b'\n')) {
+        out.line("\\");
     }
 }
 
 /// Adds what was served.
-pub(crate) fn push_served(out: &mut Vec<u8>, served: Served) -> LineResult {
+pub(crate) fn push_served(out: &mut AnswerText, served: Served) {
     match served {
-        Served::Closed => writeln!(out, "CLOSED")?,
-        Served::ReadFault => writeln!(out, "READ")?,
-        Served::WriteFault => writeln!(out, "WRITE")?,
-        Served::Cut => writeln!(out, "CUT")?,
-        Served::Answered(status) => writeln!(out, "SERVED {status}")?,
+        Served::Closed => out.line("CLOSED"),
+        Served::ReadFault => out.line("READ"),
+        Served::WriteFault => out.line("WRITE"),
+        Served::Cut => out.line("CUT"),
+        Served::Answered(status) => out.value_line("SERVED ", status),
     }
-    Ok(())
 }
 
 impl Exchange {
@@ -68,12 +64,11 @@ impl Exchange {
     }
 
     /// Adds what was taken, what was served, and, where a write failed, how often it was asked.
-    pub(crate) fn push(&self, out: &mut Vec<u8>) -> LineResult {
-        push_bytes(out, &self.writer.taken)?;
-        push_served(out, self.served)?;
+    pub(crate) fn push(&self, out: &mut AnswerText) {
+        push_bytes(out, &self.writer.taken);
+        push_served(out, self.served);
         if self.served == Served::WriteFault {
-            writeln!(out, "ASKED {}", self.writer.asked)?;
+            out.value_line("ASKED ", self.writer.asked);
         }
-        Ok(())
     }
 }

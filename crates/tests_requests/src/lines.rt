@@ -3,8 +3,7 @@
 use crate::connection::Connection;
 use crate::scripted_request::ScriptedRequest;
 use book_core::Ledger;
-use std::alloc::AllocError;
-use tests_scripts::{Ask, LineResult, Named, if_read};
+use tests_scripts::{AnswerText, Ask, LineFault, LineResult, Named};
 
 /// What a row has set for its requests.
 #[derive(Drop)]
@@ -19,54 +18,55 @@ impl RequestLines {
             connection: Connection::whole(),
         }
     }
-
-    /// Sets how requests come from here on in the row, or sends one as a line asks it.
-    fn answer<'a, L: Ledger>(
-        &mut self,
-        named: &'a Named,
-        ledger: &mut L,
-        ask: Ask<'a>,
-        out: &mut Vec<u8>,
-    ) -> LineResult {
-        if ask.verb == "connection" {
-            self.connection = Connection::of(ask.words)?;
-            return Ok(());
-        }
-        let sending = ScriptedRequest {
-            named,
-            connection: self.connection,
-            script_line: ask,
-        };
-        match (ask.verb, ask.words) {
-            ("each-length", [verb, words @ ..]) => {
-                sending.with_words(verb, words).each_length(ledger, out)
-            }
-            ("each-read", [verb, words @ ..]) => sending
-                .with_words(verb, words)
-                .each_read(ledger, out),
-            ("each-write", [place, verb, words @ ..]) if place.starts_with("at:") => {
-                let place = place.strip_prefix("at:");
-                sending
-                    .with_words(verb, words)
-                    .each_write(place, ledger, out)
-            }
-            ("each-write", [verb, words @ ..]) => {
-                sending
-                    .with_words(verb, words)
-                    .each_write(None, ledger, out)
-            }
-            _ => sending.once(ledger, out),
-        }
-    }
 }
 
-/// Answers a line that asks by requests. False where it is not one, or can't be read.
-pub fn answer_request<L: Ledger>(
+/// How often a request is sent.
+#[derive(Clone, Copy)]
+enum Sending<'a> {
+    Once,
+    EachLength,
+    EachRead,
+    /// With the count of writes at a place, if one is given.
+    EachWrite(Option<&'a str>),
+}
+
+/// How often a line sends its request, and the line that gives the request.
+fn sending_of<'a>(ask: Ask<'a>) -> LineResult<(Sending<'a>, Ask<'a>)> {
+    let (sending, words) = match (ask.verb, ask.words) {
+        ("each-length", words) => (Sending::EachLength, words),
+        ("each-read", words) => (Sending::EachRead, words),
+        ("each-write", [place, words @ ..]) if place.starts_with("at:") => {
+            (Sending::EachWrite(place.strip_prefix("at:")), words)
+        }
+        ("each-write", words) => (Sending::EachWrite(None), words),
+        _ => return Ok((Sending::Once, ask)),
+    };
+    let (verb, words) = words.split_first().ok_or(LineFault::NotUnderstood)?;
+    Ok((sending, Ask { verb, words, ..ask }))
+}
+
+/// Sets how requests come from here on in the row, or sends one as a line asks it.
+pub fn answer_request<'a, L: Ledger>(
     lines: &mut RequestLines,
-    named: &Named,
+    named: &'a Named,
     ledger: &mut L,
-    ask: Ask<'_>,
-    out: &mut Vec<u8>,
-) -> Result<bool, AllocError> {
-    Ok(if_read(lines.answer(named, ledger, ask, out))?.is_some())
+    ask: Ask<'a>,
+    out: &mut AnswerText,
+) -> LineResult {
+    if ask.verb == "connection" {
+        lines.connection = Connection::of(ask.words)?;
+        return Ok(());
+    }
+    let (sending, script_line) = sending_of(ask)?;
+    let request = ScriptedRequest {
+        named,
+        connection: lines.connection,
+        script_line,
+    };
+    match sending {
+        Sending::Once => request.once(ledger, out),
+        Sending::EachLength => request.each_length(ledger, out),
+        Sending::EachRead => request.each_read(ledger, out),
+        Sending::EachWrite(place) => request.each_write(place, ledger, out),
+    }
 }

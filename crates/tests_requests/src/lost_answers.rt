@@ -5,7 +5,7 @@ use crate::exchange::{Exchange, push_served};
 use crate::scripted_request::ScriptedRequest;
 use book_core::Ledger;
 use book_http::Served;
-use tests_scripts::{Ask, Cases, LineResult, push_line};
+use tests_scripts::{AnswerText, Ask, Cases, LineResult};
 
 /// The most writes that an answer takes.
 const MOST_WRITES: u32 = 10_000;
@@ -44,22 +44,16 @@ impl ScriptedRequest<'_> {
     }
 
     /// Adds what was taken: of a prefix of the answer, only that it is one.
-    fn push_taken(
-        self,
-        before: &[u8],
-        lost: &Exchange,
-        writes: u32,
-        out: &mut Vec<u8>,
-    ) -> LineResult {
+    fn push_taken(self, before: &[u8], lost: &Exchange, writes: u32, out: &mut AnswerText) {
         if self.is_prefix(before, lost, writes) {
-            push_line(out, "A FRONT, AND ASKED ONCE MORE")?;
-            return push_served(out, lost.served);
+            out.line("A FRONT, AND ASKED ONCE MORE");
+            push_served(out, lost.served);
+            return;
         }
-        lost.push(out)?;
+        lost.push(out);
         if !lost.writer.taken.starts_with(before) {
-            push_line(out, "ANOTHER ANSWER")?;
+            out.line("ANOTHER ANSWER");
         }
-        Ok(())
     }
 
     /// Sends requests whose writes fail after each count, up to the first whose answer was written,
@@ -68,26 +62,27 @@ impl ScriptedRequest<'_> {
         self,
         place: Option<&str>,
         ledger: &mut L,
-        out: &mut Vec<u8>,
+        out: &mut AnswerText,
     ) -> LineResult {
         let alloc = self.alloc();
-        let mut cases = Cases::new(alloc, out, "WRITES");
+        let mut cases = Cases::new(out, "WRITES");
         let mut before = Vec::new(alloc);
         let mut connection = self.connection;
         for writes in 0..MOST_WRITES {
             let request = self.counted(place, writes)?;
             connection.writes.calls = writes;
             let lost = Exchange::over(alloc, connection, &request, ledger);
-            let mut text = Vec::new(alloc);
-            self.push_taken(&before, &lost, writes, &mut text)?;
-            push_line(&mut text, "AGAIN")?;
-            text.extend_from_slice(&self.shown(Connection::whole(), &request, ledger)?)?;
-            cases.take(text)?;
+            let mut text = AnswerText::new(alloc);
+            self.push_taken(&before, &lost, writes, &mut text);
+            text.line("AGAIN");
+            text.add(&self.shown(Connection::whole(), &request, ledger));
+            cases.take(text);
             if lost.served != Served::WriteFault {
                 break;
             }
             before = lost.writer.taken;
         }
-        cases.say()
+        cases.say();
+        Ok(())
     }
 }

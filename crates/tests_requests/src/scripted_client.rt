@@ -2,7 +2,7 @@
 
 use crate::connection::Connection;
 use crate::scripted_request::ScriptedRequest;
-use tests_scripts::{Ask, LineFault, LineResult, Named};
+use tests_scripts::{Ask, LineFault, LineResult, Named, words_of};
 
 /// A client: the request that it sends, and its connection.
 #[derive(Drop)]
@@ -36,7 +36,7 @@ pub fn read_clients(named: &Named, body: &str) -> LineResult<Vec<ScriptedClient>
     let mut connection = Connection::whole();
     let mut clients = Vec::new(alloc);
     for line in body.lines() {
-        let words: Vec<&str> = line.split_whitespace().collect(alloc)?;
+        let words = words_of(alloc, line)?;
         if let ["connection", limits @ ..] = words.as_slice() {
             connection = Connection::of(limits)?;
         } else {

@@ -1,7 +1,8 @@
 //! What a line of a script asks, and who answers it.
 
+use crate::answer_text::AnswerText;
+use crate::line_result::LineResult;
 use crate::named::Named;
-use std::alloc::AllocError;
 
 /// A line that asks: its first word, those after it, and the lines of its body, each with its end.
 #[derive(Clone, Copy)]
@@ -13,15 +14,9 @@ pub struct Ask<'a> {
 
 /// What answers the lines of a script.
 pub trait Answers: Drop {
-    /// Begins a row, with nothing left of the one before. False where no row begins with these
-    /// words.
-    fn begin(&mut self, named: &Named, words: &[&str]) -> Result<bool, AllocError>;
+    /// Begins a row, with nothing left of the one before, if one begins with these words.
+    fn begin(&mut self, named: &Named, words: &[&str]) -> LineResult;
 
-    /// Adds the answer to a line, in whole lines. False where the line can't be read.
-    fn answer(
-        &mut self,
-        named: &Named,
-        ask: Ask<'_>,
-        out: &mut Vec<u8>,
-    ) -> Result<bool, AllocError>;
+    /// Adds the answer to a line, in whole lines, if it can be read.
+    fn answer(&mut self, named: &Named, ask: Ask<'_>, out: &mut AnswerText) -> LineResult;
 }

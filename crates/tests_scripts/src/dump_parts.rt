@@ -1,7 +1,7 @@
 //! Dumps, put together of parts that a script names.
 
-use crate::line_result::{LineFault, LineResult, read_where};
-use std::alloc::{AllocError, Global};
+use crate::line_result::{LineFault, LineResult};
+use std::alloc::Global;
 use std::collections::BTreeMap;
 
 /// Dumps that a script has named.
@@ -27,20 +27,15 @@ fn byte_of(digits: &[u8]) -> Option<u8> {
     Some(digit_of(high)? << 4 | digit_of(low)?)
 }
 
-/// Adds the bytes that a word spells, two capital digits each. False where it spells none.
-pub fn push_hex(out: &mut Vec<u8>, word: &str) -> Result<bool, AllocError> {
+/// Adds the bytes that a word spells, two capital digits each.
+pub fn push_hex(out: &mut Vec<u8>, word: &str) -> LineResult {
     for digits in word.as_bytes().chunks(2) {
         let Some(byte) = byte_of(digits) else {
-            return Ok(false);
+            return Err(LineFault::NotUnderstood);
         };
         out.push(byte)?;
     }
-    Ok(true)
-}
-
-/// Adds the bytes that a word spells.
-fn push_bytes(out: &mut Vec<u8>, word: &str) -> LineResult {
-    read_where(push_hex(out, word)?)
+    Ok(())
 }
 
 /// Adds the bytes that the words of a line spell, up to a word that begins with a semicolon.
@@ -49,7 +44,7 @@ fn push_hex_line(out: &mut Vec<u8>, line: &str) -> LineResult {
         if word.starts_with(';') {
             break;
         }
-        push_bytes(out, word)?;
+        push_hex(out, word)?;
     }
     Ok(())
 }
@@ -75,7 +70,7 @@ fn put_at(out: &mut [u8], place: &str, bytes: &[u8]) -> LineResult {
 /// Puts the bytes that a word spells over those at a place, if they are there.
 fn put_hex(alloc: Global, out: &mut [u8], place: &str, word: &str) -> LineResult {
     let mut bytes = Vec::new(alloc);
-    push_bytes(&mut bytes, word)?;
+    push_hex(&mut bytes, word)?;
     put_at(out, place, &bytes)
 }
 
@@ -152,7 +147,7 @@ fn push_named(alloc: Global, dumps: &Dumps, out: &mut Vec<u8>, part: &str) -> Li
 /// Adds a part that names no dump: what is before its colon, and after it.
 fn push_kind(alloc: Global, out: &mut Vec<u8>, kind: &str, word: &str) -> LineResult {
     match kind {
-        "x" => push_bytes(out, word),
+        "x" => push_hex(out, word),
         "zeros" => push_copies(out, &[0], word),
         place => put_hex(alloc, out, place, word),
     }
@@ -168,11 +163,19 @@ fn push_part(alloc: Global, dumps: &Dumps, out: &mut Vec<u8>, part: &str) -> Lin
     }
 }
 
-/// The dump of parts.
-pub(crate) fn dump_of(alloc: Global, dumps: &Dumps, parts: &[&str]) -> LineResult<Vec<u8>> {
+/// The dump of parts. Where there is a number, a part `at:PLACE` puts it there, in two bytes.
+pub(crate) fn dump_of(
+    alloc: Global,
+    dumps: &Dumps,
+    parts: &[&str],
+    number: Option<u16>,
+) -> LineResult<Vec<u8>> {
     let mut out = Vec::new(alloc);
     for part in parts {
-        push_part(alloc, dumps, &mut out, part)?;
+        match (part.strip_prefix("at:"), number) {
+            (Some(place), Some(number)) => put_at(&mut out, place, &number.to_be_bytes())?,
+            _ => push_part(alloc, dumps, &mut out, part)?,
+        }
     }
     Ok(out)
 }

@@ -2,6 +2,7 @@
 //! beside it from outside. It is played line by line, and compared with what is answered.
 #![tactic(auto)]
 
+mod answer_text;
 mod ask;
 mod cases;
 mod dump_parts;
@@ -11,11 +12,11 @@ mod named;
 mod player;
 mod verdict;
 
+pub use answer_text::AnswerText;
 pub use ask::{Answers, Ask};
 pub use cases::Cases;
 pub use dump_parts::push_hex;
 pub use limited::{LimitedReader, LimitedWriter, Limits};
-pub use line_result::{LineFault, LineResult, if_read};
+pub use line_result::{LineFault, LineResult, value_of, words_of};
 pub use named::Named;
-pub use player::push_line;
 pub use verdict::play_files;

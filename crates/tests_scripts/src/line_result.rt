@@ -1,6 +1,6 @@
 //! The result of a line, or why there is none.
 
-use std::alloc::{AllocError, AllocFailed};
+use std::alloc::{AllocError, AllocFailed, Global};
 use std::io;
 use std::num::ParseIntError;
 
@@ -9,29 +9,27 @@ use std::num::ParseIntError;
 pub enum LineFault {
     /// It can't be read.
     NotUnderstood,
-    /// There is no memory for its answer.
+    /// There is no memory for what it names.
     Memory,
 }
 
 /// The result of a line.
 pub type LineResult<T = ()> = Result<T, LineFault>;
 
-/// The result of a line, if it could be read.
-pub fn if_read<T: Drop>(answered: LineResult<T>) -> Result<Option<T>, AllocError> {
-    match answered {
-        Ok(value) => Ok(Some(value)),
-        Err(LineFault::NotUnderstood) => Ok(None),
-        Err(LineFault::Memory) => Err(AllocError),
-    }
+/// The words of a line.
+pub fn words_of<'a>(alloc: Global, line: &'a str) -> LineResult<Vec<&'a str>> {
+    let words: Vec<&str> = line.split_whitespace().collect(alloc)?;
+    Ok(words)
 }
 
-/// A line could be read where this holds.
-pub(crate) fn read_where(is_read: bool) -> LineResult {
-    if is_read {
-        Ok(())
-    } else {
-        Err(LineFault::NotUnderstood)
+/// The value that a word names.
+pub fn value_of<T: Copy>(values: &[(&str, T)], word: &str) -> LineResult<T> {
+    for (name, value) in values {
+        if *name == word {
+            return Ok(*value);
+        }
     }
+    Err(LineFault::NotUnderstood)
 }
 
 impl From<ParseIntError> for LineFault {
@@ -52,7 +50,7 @@ impl<T: Drop> From<AllocFailed<T>> for LineFault {
     }
 }
 
-/// Answers are written to memory.
+/// What is written is written to memory.
 impl From<io::Error> for LineFault {
     fn from(_: io::Error) -> LineFault {
         LineFault::Memory

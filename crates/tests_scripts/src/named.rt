@@ -1,8 +1,8 @@
 //! What scripts have named: dumps and texts.
 
 use crate::dump_parts::{Dumps, dump_of, push_hex_lines};
-use crate::line_result::{LineFault, LineResult, if_read};
-use std::alloc::{AllocError, Global};
+use crate::line_result::{LineFault, LineResult};
+use std::alloc::Global;
 use std::collections::BTreeMap;
 
 /// What is named so far. A name may be given again, and then means what it was last given to.
@@ -40,12 +40,12 @@ impl Named {
 
     /// The dump of parts.
     pub fn read_dump(&self, parts: &[&str]) -> LineResult<Vec<u8>> {
-        dump_of(self.alloc, &self.dumps, parts)
+        dump_of(self.alloc, &self.dumps, parts, None)
     }
 
-    /// The dump of parts, if each can be read.
-    pub fn dump(&self, parts: &[&str]) -> Result<Option<Vec<u8>>, AllocError> {
-        if_read(self.read_dump(parts))
+    /// The same, where a part `at:PLACE` puts a number there, in two bytes.
+    pub fn read_numbered(&self, parts: &[&str], number: u16) -> LineResult<Vec<u8>> {
+        dump_of(self.alloc, &self.dumps, parts, Some(number))
     }
 
     /// A text that is named, if it is.
@@ -68,11 +68,6 @@ impl Named {
             self.push_text(&mut text, name)?;
         }
         Ok(text)
-    }
-
-    /// A body, and the texts that are named after it, if they are.
-    pub fn texts(&self, names: &[&str], body: &str) -> Result<Option<String>, AllocError> {
-        if_read(self.read_texts(names, body))
     }
 
     /// The dump of parts, and what lines spell after them.

@@ -2,23 +2,17 @@
 //! `|` are its body. A line that begins with `#`, and an empty one, say nothing. Every other line
 //! is an expected answer: it is left out, and the answer that is given is written in its place.
 
+use crate::answer_text::AnswerText;
 use crate::ask::{Answers, Ask};
-use crate::line_result::{LineFault, LineResult, if_read, read_where};
+use crate::line_result::{LineFault, LineResult, words_of};
 use crate::named::Named;
-use std::alloc::{AllocError, Global};
-
-/// Adds a text and a line's end.
-pub fn push_line(out: &mut Vec<u8>, text: &str) -> Result<(), AllocError> {
-    out.extend_from_slice(text.as_bytes())?;
-    out.push(b'\n')?;
-    Ok(())
-}
+use std::alloc::Global;
 
 /// What came of a script.
 #[derive(Drop)]
 pub(crate) struct Transcript {
     /// The script with the answers that were given.
-    pub(crate) text: Vec<u8>,
+    pub(crate) text: AnswerText,
     /// How many rows it has.
     pub(crate) rows: u64,
     /// How many lines were answered.
@@ -30,7 +24,7 @@ pub(crate) struct Transcript {
 impl Transcript {
     fn new(alloc: Global) -> Transcript {
         Transcript {
-            text: Vec::new(alloc),
+            text: AnswerText::new(alloc),
             rows: 0,
             answers: 0,
             unread: 0,
@@ -65,7 +59,7 @@ impl<A: Answers> Player<A> {
             return Err(LineFault::NotUnderstood);
         };
         self.played.rows = self.played.rows.saturating_add(1);
-        read_where(self.answers.begin(&self.named, kind)?)
+        self.answers.begin(&self.named, kind)
     }
 
     /// Asks for an answer.
@@ -73,10 +67,7 @@ impl<A: Answers> Player<A> {
         self.played.answers = self.played.answers.saturating_add(1);
         let body = self.body.as_str();
         let ask = Ask { verb, words, body };
-        read_where(
-            self.answers
-                .answer(&self.named, ask, &mut self.played.text)?,
-        )
+        self.answers.answer(&self.named, ask, &mut self.played.text)
     }
 
     /// Begins a row, names a dump or a text, or asks for an answer.
@@ -94,66 +85,63 @@ impl<A: Answers> Player<A> {
 
     /// Does what a line says.
     fn run_line(&mut self, line: &str) -> LineResult {
-        let words: Vec<&str> = line.split_whitespace().collect(self.named.alloc())?;
+        let words = words_of(self.named.alloc(), line)?;
         self.run_words(&words)
     }
 
     /// Does what the line says that asks, if one does.
-    fn finish(&mut self, asking: Option<&str>) -> Result<(), AllocError> {
+    fn finish(&mut self, asking: Option<&str>) {
         let Some(line) = asking else {
-            return Ok(());
+            return;
         };
-        if if_read(self.run_line(line))?.is_none() {
-            self.played.unread = self.played.unread.saturating_add(1);
-            push_line(&mut self.played.text, "NOT UNDERSTOOD")?;
+        match self.run_line(line) {
+            Ok(()) => {}
+            Err(LineFault::NotUnderstood) => {
+                self.played.unread = self.played.unread.saturating_add(1);
+                self.played.text.line("NOT UNDERSTOOD");
+            }
+            Err(LineFault::Memory) => self.played.text.cut(),
         }
-        Ok(())
     }
 
     /// Adds a line to the body, without the blank that it may begin with.
-    fn push_body(&mut self, line: &str) -> Result<(), AllocError> {
-        self.body.push_str(line.strip_prefix(' ').unwrap_or(line))?;
-        self.body.push('\n')
+    fn push_body(&mut self, line: &str) {
+        let line = line.strip_prefix(' ').unwrap_or(line);
+        if self.body.push_str(line).is_err() || self.body.push('\n').is_err() {
+            self.played.text.cut();
+        }
     }
 
     /// Plays a line that is in no body, after the one that asks, and gives what it asks.
-    fn turn<'a>(
-        &mut self,
-        asking: Option<&str>,
-        line: &'a str,
-    ) -> Result<Option<&'a str>, AllocError> {
-        self.finish(asking)?;
+    fn turn<'a>(&mut self, asking: Option<&str>, line: &'a str) -> Option<&'a str> {
+        self.finish(asking);
         let asking = line.strip_prefix("> ");
         if asking.is_some() {
             self.body.clear();
         }
         if asking.is_some() || line.is_empty() || line.starts_with('#') {
-            push_line(&mut self.played.text, line)?;
+            self.played.text.line(line);
         }
-        Ok(asking)
+        asking
     }
 
     /// Plays a line, after the one that asks, and gives what is asked then.
-    fn step<'a>(
-        &mut self,
-        asking: Option<&'a str>,
-        line: &'a str,
-    ) -> Result<Option<&'a str>, AllocError> {
+    fn step<'a>(&mut self, asking: Option<&'a str>, line: &'a str) -> Option<&'a str> {
         let Some(body) = line.strip_prefix('|') else {
             return self.turn(asking, line);
         };
-        self.push_body(body)?;
-        push_line(&mut self.played.text, line)?;
-        Ok(asking)
+        self.push_body(body);
+        self.played.text.line(line);
+        asking
     }
 
     /// Plays a script.
-    pub(crate) fn play(&mut self, script: &str) -> Result<(), AllocError> {
+    pub(crate) fn play(&mut self, script: &str) {
         self.played = Transcript::new(self.named.alloc());
         let mut asking = None;
         for line in script.lines() {
-            asking = self.step(asking, line)?;
+            asking = self.step(asking, line);
         }
-        self.finish(asking)
+        self.finish(asking);
     }
 }

@@ -1,9 +1,10 @@
 //! What is said about a script that was played.
 
+use crate::answer_text::AnswerText;
 use crate::ask::Answers;
 use crate::player::{Player, Transcript};
+use std::fs;
 use std::test::Fail;
-use std::{fs, io};
 
 /// How many lines are shown where a script was answered differently.
 const SHOWN: usize = 40;
@@ -20,49 +21,45 @@ fn same_lines(got: &str, want: &str) -> usize {
     same
 }
 
-/// Prints how many rows and answers a script has.
-fn print_counts(rt: &HostRuntime, name: &str, played: &Transcript) -> io::Result<()> {
-    let (rows, answers, unread) = (played.rows, played.answers, played.unread);
-    print!(rt; "{name}: {rows} rows, {answers} answers, {unread} not understood, ")
+/// Adds how many rows and answers a script has.
+fn push_counts(out: &mut AnswerText, name: &str, played: &Transcript) {
+    out.text(name);
+    out.value(": ", played.rows);
+    out.value(" rows, ", played.answers);
+    out.value(" answers, ", played.unread);
+    out.text(" not understood, ");
 }
 
-/// Prints some lines of a text, after a given number.
-fn print_lines(rt: &HostRuntime, text: &str, after: usize) -> io::Result<()> {
-    for line in text.lines().skip(after).take(SHOWN) {
-        println!(rt; "{line}")?;
-    }
-    Ok(())
-}
-
-/// Prints where a script was answered differently, and how.
-fn print_other(rt: &HostRuntime, got: &str, want: &str) -> io::Result<()> {
+/// Adds where a script was answered differently, and how.
+fn push_other(out: &mut AnswerText, got: &str, want: &str) {
     let same = same_lines(got, want);
-    println!(rt; "OTHER IN LINE {}", same.saturating_add(1))?;
-    print_lines(rt, got, same)
+    out.value_line("OTHER IN LINE ", same.saturating_add(1));
+    for line in got.lines().skip(same).take(SHOWN) {
+        out.line(line);
+    }
 }
 
-/// Prints how many rows and answers a script has, and whether it was answered as it is written.
-fn print_verdict(
-    rt: &HostRuntime,
-    name: &str,
-    script: &str,
-    played: &Transcript,
-) -> Result<(), Fail> {
-    print_counts(rt, name, played)?;
-    let text = str::from_utf8(&played.text)?;
-    if text == script {
-        println!(rt; "as written")?;
-    } else {
-        print_other(rt, text, script)?;
+/// Adds how many rows and answers a script has, and whether it was answered as it is written.
+fn push_verdict(out: &mut AnswerText, name: &str, script: &str, played: &Transcript) {
+    push_counts(out, name, played);
+    match str::from_utf8(played.text.as_bytes()) {
+        Ok(text) if text == script => out.line("as written"),
+        Ok(text) => push_other(out, text, script),
+        Err(_) => out.line("NO TEXT"),
     }
-    Ok(())
 }
 
 /// Plays the script of a file, and prints the result.
 fn play_file<A: Answers>(rt: &HostRuntime, player: &mut Player<A>, name: &str) -> Result<(), Fail> {
     let script = fs::read_to_string(rt, name)?;
-    player.play(script.as_str())?;
-    print_verdict(rt, name, script.as_str(), &player.played)
+    player.play(script.as_str());
+    let mut verdict = AnswerText::new(rt.alloc());
+    push_verdict(&mut verdict, name, script.as_str(), &player.played);
+    if player.played.text.is_cut() || verdict.is_cut() {
+        return Err(Fail::new("there is no memory for the answers"));
+    }
+    print!(rt; "{}", str::from_utf8(verdict.as_bytes())?)?;
+    Ok(())
 }
 
 /// Plays the scripts of these files, one after the other, and prints the result of each. What one

@@ -5,14 +5,14 @@ use sqlite_trees::store::Store;
 use sqlite_value::row::Row;
 use sqlite_value::value::ValueRef;
 use std::alloc::{AllocError, Global};
-use tests_scripts::Ask;
+use tests_scripts::{AnswerText, Ask, LineFault, LineResult};
 
 /// The tree of the charge rows.
 const CHARGES: u32 = 4;
 
 /// A change of all rows of a table.
 #[derive(Clone, Copy)]
-pub(crate) enum Change {
+enum Change {
     /// A column of the charge rows becomes this number.
     Set { column: usize, number: i64 },
     /// The rows of a tree are removed.
@@ -20,20 +20,20 @@ pub(crate) enum Change {
 }
 
 /// The change that a line asks for, if it asks for one.
-pub(crate) fn change_of(ask: Ask<'_>) -> Option<Change> {
+fn change_of(ask: Ask<'_>) -> LineResult<Change> {
     match (ask.verb, ask.words) {
         ("set", ["day_sum.count", number]) => set(4, number),
         ("set", ["day_sum.amount", number]) => set(7, number),
-        ("empty", ["book"]) => Some(Change::Empty { tree: 0 }),
-        ("empty", ["line"]) => Some(Change::Empty { tree: 5 }),
-        _ => None,
+        ("empty", ["book"]) => Ok(Change::Empty { tree: 0 }),
+        ("empty", ["line"]) => Ok(Change::Empty { tree: 5 }),
+        _ => Err(LineFault::NotUnderstood),
     }
 }
 
 /// A number for a column of the charge rows.
-fn set(column: usize, number: &str) -> Option<Change> {
-    let number = number.parse::<i64>().ok()?;
-    Some(Change::Set { column, number })
+fn set(column: usize, number: &str) -> LineResult<Change> {
+    let number = number.parse::<i64>()?;
+    Ok(Change::Set { column, number })
 }
 
 /// A row with another number in a column.
@@ -51,7 +51,7 @@ fn with_number(alloc: Global, row: &Row, column: usize, number: i64) -> Result<R
 }
 
 /// Changes the rows, and answers how many there were; none where the store can't.
-pub(crate) fn change_rows<S: Store + Drop>(
+fn change_rows<S: Store + Drop>(
     alloc: Global,
     trees: &mut Trees<S>,
     change: Change,
@@ -74,4 +74,18 @@ pub(crate) fn change_rows<S: Store + Drop>(
         }
     }
     trees.commit().then_some(rows.len())
+}
+
+/// Changes the rows as a line asks, and adds how many there were.
+pub(crate) fn push_change<S: Store + Drop>(
+    trees: &mut Trees<S>,
+    ask: Ask<'_>,
+    out: &mut AnswerText,
+) -> LineResult {
+    let change = change_of(ask)?;
+    match change_rows(out.alloc(), trees, change) {
+        Some(count) => out.value_line("CHANGED ", count),
+        None => out.line("NOT CHANGED"),
+    }
+    Ok(())
 }

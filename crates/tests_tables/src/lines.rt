@@ -2,10 +2,9 @@
 
 use crate::rows::AsksOpenBooks;
 use book_core::Ledger;
-use std::alloc::AllocError;
-use tests_ledgers::{BookLines, answer};
+use tests_ledgers::{BookLines, RefusingLedger, answer};
 use tests_requests::{RequestLines, answer_request};
-use tests_scripts::{Ask, Named};
+use tests_scripts::{AnswerText, Ask, LineFault, LineResult, Named};
 
 /// How dumps are read, texts are written and requests come from here on in a row.
 #[derive(Drop)]
@@ -23,19 +22,20 @@ impl Lines {
         }
     }
 
-    /// Answers a line that is asked of books, by calls or by requests. False where it is not one,
-    /// or can't be read.
+    /// Answers a line that is asked of books, by calls or by requests.
     pub(crate) fn ask_once<L: Ledger>(
         &mut self,
         named: &Named,
         ledger: &mut L,
         ask: Ask<'_>,
-        out: &mut Vec<u8>,
-    ) -> Result<bool, AllocError> {
-        if answer(&mut self.books, named, ledger, ask, out)? {
-            return Ok(true);
+        out: &mut AnswerText,
+    ) -> LineResult {
+        match answer(&mut self.books, named, ledger, ask, out) {
+            Err(LineFault::NotUnderstood) => {
+                answer_request(&mut self.requests, named, ledger, ask, out)
+            }
+            answered => answered,
         }
-        answer_request(&mut self.requests, named, ledger, ask, out)
     }
 
     /// The same, or answers `each-call` with such a line after it.
@@ -44,12 +44,12 @@ impl Lines {
         named: &Named,
         ledger: &mut L,
         ask: Ask<'_>,
-        out: &mut Vec<u8>,
-    ) -> Result<bool, AllocError> {
+        out: &mut AnswerText,
+    ) -> LineResult {
         if ask.verb == "each-call" {
             return self.ask_each_call(named, ledger, ask, out);
         }
-        self.ask_once(named, ledger, ask, out)
+        self.ask_once(named, &mut RefusingLedger::new(ledger, None), ask, out)
     }
 }
 
@@ -65,8 +65,8 @@ impl AsksOpenBooks for RowLine<'_> {
         &mut self,
         named: &Named,
         ledger: &mut L,
-        out: &mut Vec<u8>,
-    ) -> Result<bool, AllocError> {
+        out: &mut AnswerText,
+    ) -> LineResult {
         self.lines.ask(named, ledger, self.ask, out)
     }
 }

@@ -8,6 +8,9 @@ pub struct Names {
     has_one: bool,
 }
 
+/// Those that the program gives.
+pub(crate) const SHA_NAMES: Names = Names { has_one: false };
+
 impl Names {
     /// Those of a row that begins with these words.
     pub(crate) fn of(words: &[&str]) -> Names {

@@ -4,9 +4,15 @@ use crate::lines::{Lines, RowLine};
 use crate::names::Names;
 use crate::rows::{AsksOpenBooks, Books};
 use book_core::PlainLedger;
-use std::alloc::{AllocError, Global};
+use std::alloc::Global;
 use tariff_rules::Tariff;
-use tests_scripts::{Ask, Named};
+use tests_scripts::{AnswerText, Ask, LineResult, Named};
+
+/// The tariff of two rates.
+fn flat_of(alloc: Global, cpu: &str, blocks: &str) -> Option<Tariff> {
+    let (cpu, blocks) = (cpu.parse::<u64>().ok()?, blocks.parse::<u64>().ok()?);
+    Tariff::flat(alloc, cpu, blocks, 0)
+}
 
 impl Books for PlainLedger<Names> {
     fn begun(alloc: Global, words: &[&str]) -> Option<PlainLedger<Names>> {
@@ -14,9 +20,7 @@ impl Books for PlainLedger<Names> {
         match *words {
             ["new" | "one-name"] => PlainLedger::new(alloc, names).ok(),
             ["flat" | "one-name", cpu, blocks] => {
-                let (cpu, blocks) = (cpu.parse::<u64>().ok()?, blocks.parse::<u64>().ok()?);
-                let tariff = Tariff::flat(alloc, cpu, blocks, 0)?;
-                PlainLedger::flat(alloc, names, tariff).ok()
+                PlainLedger::flat(alloc, names, flat_of(alloc, cpu, blocks)?).ok()
             }
             _ => None,
         }
@@ -26,11 +30,11 @@ impl Books for PlainLedger<Names> {
         self,
         named: &Named,
         asking: &mut A,
-        out: &mut Vec<u8>,
-    ) -> Result<(PlainLedger<Names>, bool), AllocError> {
+        out: &mut AnswerText,
+    ) -> (PlainLedger<Names>, LineResult) {
         let mut ledger = self;
-        let is_read = asking.ask(named, &mut ledger, out)?;
-        Ok((ledger, is_read))
+        let answered = asking.ask(named, &mut ledger, out);
+        (ledger, answered)
     }
 
     fn answer(
@@ -38,8 +42,8 @@ impl Books for PlainLedger<Names> {
         lines: &mut Lines,
         named: &Named,
         ask: Ask<'_>,
-        out: &mut Vec<u8>,
-    ) -> Result<(PlainLedger<Names>, bool), AllocError> {
+        out: &mut AnswerText,
+    ) -> (PlainLedger<Names>, LineResult) {
         self.ask_open(named, &mut RowLine { lines, ask }, out)
     }
 }

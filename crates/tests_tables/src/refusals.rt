@@ -1,18 +1,21 @@
 //! Memory that runs out at each call of a store.
 
 use crate::empty_store::EmptyStore;
+use crate::names::SHA_NAMES;
 use crate::refusing_store::RefusingStore;
 use crate::run::{Run, reported};
 use crate::trees::Trees;
-use crate::uninterrupted::{Books, Mismatch, Uninterrupted, run_uninterrupted, snapshot_of};
-use book_core::{Ledger, LedgerFault, ShaNames};
+use crate::uninterrupted::{
+    Books, Mismatch, OTHER_ANSWERS, Uninterrupted, run_uninterrupted, snapshot_of,
+};
+use book_core::{Ledger, LedgerFault};
 use sqlite_disk::Memory;
 use sqlite_store::FileStore;
 use sqlite_trees::memory::MemStore;
 use sqlite_trees::store::Store;
-use std::alloc::{AllocError, Global};
+use std::alloc::Global;
 use table_ledger::TableLedger;
-use tests_scripts::{Ask, Named, push_line};
+use tests_scripts::{AnswerText, Ask, LineFault, LineResult, Named};
 
 /// More calls than any run makes of a store.
 const ENOUGH: u64 = 50_000;
@@ -25,13 +28,13 @@ fn create_in<S: Store + Drop>(
     alloc: Global,
     trees: Trees<S>,
 ) -> Result<(Books<S>, bool), Mismatch> {
-    match TableLedger::create(alloc, trees.into_store(), ShaNames) {
+    match TableLedger::create(alloc, trees.into_store(), SHA_NAMES) {
         Ok(books) => Ok((books, false)),
-        Err((LedgerFault::Memory, store)) => match TableLedger::create(alloc, store, ShaNames) {
+        Err((LedgerFault::Memory, store)) => match TableLedger::create(alloc, store, SHA_NAMES) {
             Ok(books) => Ok((books, true)),
             Err(_) => Err(Mismatch("NOT MADE AGAIN")),
         },
-        Err(_) => Err(Mismatch("OTHER ANSWERS")),
+        Err(_) => Err(OTHER_ANSWERS),
     }
 }
 
@@ -44,25 +47,27 @@ struct Refused {
     commands: usize,
 }
 
+/// How many changes an answer reports, and whether it is that memory ran out.
+fn outcome_of(answer: &AnswerText) -> Result<(usize, bool), Mismatch> {
+    let text = str::from_utf8(answer.as_bytes()).unwrap_or("");
+    match reported(text.trim_end()) {
+        Some((changes, None)) => Ok((changes, false)),
+        Some((changes, Some(MEMORY))) => Ok((changes, true)),
+        _ => Err(OTHER_ANSWERS),
+    }
+}
+
 /// Gives books the commands up to one that is answered that memory ran out, and answers how far
 /// they came until then; nothing where none was answered so.
 fn work<L: Ledger>(run: Run<'_>, ledger: &mut L) -> Result<Option<Refused>, Mismatch> {
-    let alloc = run.named.alloc();
     let mut changes: usize = 0;
     for (commands, line) in run.body.lines().enumerate() {
-        let mut answer = Vec::new(alloc);
-        let asked: Vec<&str> = line.split_whitespace().collect(alloc)?;
-        run.ask(ledger, &asked, &mut answer)?;
-        let text = String::from_utf8_lossy(alloc, &answer)?;
-        let words: Vec<&str> = text.as_str().split_whitespace().collect(alloc)?;
-        let Some((count, fault)) = reported(&words) else {
-            return Err(Mismatch("OTHER ANSWERS"));
-        };
+        let mut answer = AnswerText::new(run.named.alloc());
+        run.ask_line(ledger, line, &mut answer);
+        let (count, is_refused) = outcome_of(&answer)?;
         changes = changes.saturating_add(count);
-        match fault {
-            None => {}
-            Some(MEMORY) => return Ok(Some(Refused { changes, commands })),
-            Some(_) => return Err(Mismatch("OTHER ANSWERS")),
+        if is_refused {
+            return Ok(Some(Refused { changes, commands }));
         }
     }
     Ok(None)
@@ -113,7 +118,7 @@ fn finish<S: EmptyStore>(
     refused: Refused,
 ) -> Result<(), Mismatch> {
     let mut books = books;
-    let progress = run.give_from(&mut books, refused.commands)?;
+    let progress = run.give_from(&mut books, refused.commands);
     let (end, _) = snapshot_of(run, books)?;
     if progress.is_consistent && !progress.stopped && whole.is_end(&end) {
         Ok(())
@@ -144,44 +149,49 @@ fn try_refusal<S: EmptyStore>(
     Ok(true)
 }
 
-/// Refuses the calls of a run one by one, up to one that the run does not come to. Answers the
-/// result: how many changes the run has and how many calls were refused, or the first refusal that
-/// leaves what it should not.
-fn swept<S: EmptyStore>(run: Run<'_>, whole: &Uninterrupted) -> Result<String, AllocError> {
-    let alloc = run.named.alloc();
+/// Refuses the calls of a run one by one, up to one that the run does not come to. Adds the result:
+/// how many changes the run has and how many calls were refused, or the first refusal that leaves
+/// what it should not.
+fn push_swept<S: EmptyStore>(run: Run<'_>, whole: &Uninterrupted, out: &mut AnswerText) {
     for calls in 0..ENOUGH {
         match try_refusal::<S>(run, whole, calls) {
             Ok(true) => {}
-            Ok(false) => return whole.met(alloc, "REFUSED", calls as usize),
-            Err(other) => return format!(in alloc; "BEHIND {calls} CALLS {}", other.0),
+            Ok(false) => return whole.push_met(" REFUSED", calls as usize, out),
+            Err(other) => {
+                out.value("BEHIND ", calls);
+                out.value_line(" CALLS ", other.0);
+                return;
+            }
         }
     }
-    String::from_str(alloc, "EVERY RUN WAS REFUSED")
+    out.line("EVERY RUN WAS REFUSED");
 }
 
-/// Answers `refuses memory`, or `refuses memory files`, with commands, and gives back the trees whose books got them without a
-/// refusal, and whether the line was read.
+/// Answers `refuses memory`, or `refuses memory files`, with commands, and gives back the trees
+/// whose books got them without a refusal.
 pub(crate) fn answer_refusals<S: Store + Drop>(
     named: &Named,
     trees: Trees<S>,
     ask: Ask<'_>,
-    out: &mut Vec<u8>,
-) -> Result<(Trees<S>, bool), AllocError> {
+    out: &mut AnswerText,
+) -> (Trees<S>, LineResult) {
     let in_files = match *ask.words {
         ["memory"] => false,
         ["memory", "files"] => true,
-        _ => return Ok((trees, false)),
+        _ => return (trees, Err(LineFault::NotUnderstood)),
     };
     let run = Run {
         named,
         body: ask.body,
     };
-    let (whole, trees) = run_uninterrupted(run, trees)?;
-    let told = if in_files {
-        swept::<FileStore<Memory>>(run, &whole)?
+    let (whole, trees) = run_uninterrupted(run, trees);
+    if whole.is_cut {
+        out.cut();
+    }
+    if in_files {
+        push_swept::<FileStore<Memory>>(run, &whole, out);
     } else {
-        swept::<MemStore>(run, &whole)?
-    };
-    push_line(out, told.as_str())?;
-    Ok((trees, true))
+        push_swept::<MemStore>(run, &whole, out);
+    }
+    (trees, Ok(()))
 }

@@ -2,19 +2,14 @@
 
 use crate::lines::Lines;
 use book_core::Ledger;
-use std::alloc::{AllocError, Global};
+use std::alloc::Global;
 use tests_ledgers::answer_standalone;
-use tests_scripts::{Answers, Ask, Named};
+use tests_scripts::{AnswerText, Answers, Ask, LineFault, LineResult, Named};
 
 /// What is asked of the books of a row while they are open.
 pub trait AsksOpenBooks {
-    /// Asks books, and adds what they answer. False where the line that asks can't be read.
-    fn ask<L: Ledger>(
-        &mut self,
-        named: &Named,
-        ledger: &mut L,
-        out: &mut Vec<u8>,
-    ) -> Result<bool, AllocError>;
+    /// Asks books, and adds what they answer, if the line that asks can be read.
+    fn ask<L: Ledger>(&mut self, named: &Named, ledger: &mut L, out: &mut AnswerText) -> LineResult;
 }
 
 /// Books of a row.
@@ -22,22 +17,23 @@ pub trait Books: Drop {
     /// The books with which a row begins, if the words say which.
     fn begun(alloc: Global, words: &[&str]) -> Option<Self>;
 
-    /// Asks the books, opened for this. False where the line that asks can't be read.
+    /// Asks the books, opened for this, and gives them back, with whether the line that asks can be
+    /// read.
     fn ask_open<A: AsksOpenBooks>(
         self,
         named: &Named,
         asking: &mut A,
-        out: &mut Vec<u8>,
-    ) -> Result<(Self, bool), AllocError>;
+        out: &mut AnswerText,
+    ) -> (Self, LineResult);
 
-    /// Answers a line that is asked of the books. False where it is not one, or can't be read.
+    /// Answers a line that is asked of the books, and gives them back.
     fn answer(
         self,
         lines: &mut Lines,
         named: &Named,
         ask: Ask<'_>,
-        out: &mut Vec<u8>,
-    ) -> Result<(Self, bool), AllocError>;
+        out: &mut AnswerText,
+    ) -> (Self, LineResult);
 }
 
 /// A row, or none yet.
@@ -56,44 +52,47 @@ impl<B: Books> BookRows<B> {
         }
     }
 
-    /// Asks the books of the row, if one has begun, opened for this. False where none has, or where
-    /// the line that asks can't be read.
+    /// Asks the books of the row, if one has begun, opened for this.
     pub fn ask_open<A: AsksOpenBooks>(
         &mut self,
         named: &Named,
         asking: &mut A,
-        out: &mut Vec<u8>,
-    ) -> Result<bool, AllocError> {
+        out: &mut AnswerText,
+    ) -> LineResult {
         let Some(books) = self.books.take() else {
-            return Ok(false);
+            return Err(LineFault::NotUnderstood);
         };
-        let (books, is_read) = books.ask_open(named, asking, out)?;
+        let (books, answered) = books.ask_open(named, asking, out);
         self.books = Some(books);
-        Ok(is_read)
+        answered
+    }
+
+    /// Answers a line that is asked of the books of the row, if one has begun.
+    fn answer_by_books(&mut self, named: &Named, ask: Ask<'_>, out: &mut AnswerText) -> LineResult {
+        let Some(books) = self.books.take() else {
+            return Err(LineFault::NotUnderstood);
+        };
+        let (books, answered) = books.answer(&mut self.lines, named, ask, out);
+        self.books = Some(books);
+        answered
     }
 }
 
 impl<B: Books> Answers for BookRows<B> {
-    fn begin(&mut self, named: &Named, words: &[&str]) -> Result<bool, AllocError> {
+    fn begin(&mut self, named: &Named, words: &[&str]) -> LineResult {
         self.lines = Lines::new();
         self.books = B::begun(named.alloc(), words);
-        Ok(self.books.is_some())
+        if self.books.is_some() {
+            Ok(())
+        } else {
+            Err(LineFault::NotUnderstood)
+        }
     }
 
-    fn answer(
-        &mut self,
-        named: &Named,
-        ask: Ask<'_>,
-        out: &mut Vec<u8>,
-    ) -> Result<bool, AllocError> {
-        if answer_standalone(&mut self.lines.books, named, ask, out)? {
-            return Ok(true);
+    fn answer(&mut self, named: &Named, ask: Ask<'_>, out: &mut AnswerText) -> LineResult {
+        match answer_standalone(&mut self.lines.books, named, ask, out) {
+            Err(LineFault::NotUnderstood) => self.answer_by_books(named, ask, out),
+            answered => answered,
         }
-        let Some(books) = self.books.take() else {
-            return Ok(false);
-        };
-        let (books, is_read) = books.answer(&mut self.lines, named, ask, out)?;
-        self.books = Some(books);
-        Ok(is_read)
     }
 }

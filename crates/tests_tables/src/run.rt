@@ -1,9 +1,8 @@
 //! A run of commands, and how far it came by what was answered.
 
 use book_core::Ledger;
-use std::alloc::AllocError;
 use tests_ledgers::{BookLines, answer};
-use tests_scripts::{Ask, Named, push_line};
+use tests_scripts::{AnswerText, Ask, Named, words_of};
 
 /// The number of the fault of a store.
 const STORE: &str = "2";
@@ -42,31 +41,33 @@ pub(crate) const NOT_BEGUN: Progress = Progress {
 };
 
 /// How many changes a receipt reports, and the number of the fault that stopped the import.
-fn reported_by_receipt<'a>(words: &[&'a str]) -> Option<(usize, Option<&'a str>)> {
-    let (last, before) = words.split_last()?;
-    let (first, counts) = before.split_first()?;
-    let kept = counts.first()?.parse::<usize>().ok()?;
-    match (*first, *before.last()?, *last) {
-        ("KEPT", "STOP", "END") => Some((kept, None)),
-        ("KEPT", "LEDGER", fault) => Some((kept, Some(fault))),
-        _ => None,
+fn reported_by_receipt(line: &str) -> Option<(usize, Option<&str>)> {
+    let (kept, later) = line.strip_prefix("KEPT ")?.split_once(' ')?;
+    let kept = kept.parse::<usize>().ok()?;
+    let (_counts, stop) = later.split_once(" STOP ")?;
+    match stop.strip_prefix("LEDGER ") {
+        None if stop == "END" => Some((kept, None)),
+        None => None,
+        fault => Some((kept, fault)),
     }
 }
 
 /// How many changes an answer reports, and the number of the fault in it, if it is an answer to a
 /// command.
-pub(crate) fn reported<'a>(words: &[&'a str]) -> Option<(usize, Option<&'a str>)> {
-    match *words {
-        ["DONE"] => Some((1, None)),
-        ["ALREADY"] => Some((0, None)),
-        ["chargectl:", "ledger", fault] => Some((0, Some(fault))),
-        _ => reported_by_receipt(words),
+pub(crate) fn reported(line: &str) -> Option<(usize, Option<&str>)> {
+    match line {
+        "DONE" => Some((1, None)),
+        "ALREADY" => Some((0, None)),
+        _ => match line.strip_prefix("chargectl: ledger ") {
+            None => reported_by_receipt(line),
+            fault => Some((0, fault)),
+        },
     }
 }
 
 impl Progress {
     /// How far it came with one more answer.
-    fn with(self, answer: &[&str]) -> Progress {
+    fn with(self, answer: &str) -> Progress {
         let Some((changes, fault)) = reported(answer) else {
             return Progress {
                 is_consistent: false,
@@ -84,6 +85,22 @@ impl Progress {
             stopped: fault.is_some(),
             is_consistent: self.is_consistent && is_due,
         }
+    }
+
+    /// How far a run came that got these answers, a line each.
+    pub(crate) fn by(answers: &AnswerText) -> Progress {
+        let Ok(text) = str::from_utf8(answers.as_bytes()) else {
+            return Progress {
+                is_consistent: false,
+                ..BEGUN
+            };
+        };
+        let mut progress = BEGUN;
+        for line in text.lines() {
+            progress = progress.with(line);
+        }
+        progress.is_consistent = progress.is_consistent && !answers.is_cut();
+        progress
     }
 }
 
@@ -105,55 +122,35 @@ pub(crate) struct Run<'a> {
 }
 
 impl Run<'_> {
-    /// How far a run came that got these answers, a line each.
-    pub(crate) fn progress_by(self, answers: &[u8]) -> Result<Progress, AllocError> {
-        let alloc = self.named.alloc();
-        let mut progress = BEGUN;
-        for line in String::from_utf8_lossy(alloc, answers)?.as_str().lines() {
-            let words: Vec<&str> = line.split_whitespace().collect(alloc)?;
-            progress = progress.with(&words);
+    /// Asks books a command, and adds what they answer.
+    fn ask<L: Ledger>(self, ledger: &mut L, words: &[&str], out: &mut AnswerText) {
+        let mut lines = BookLines::new();
+        if answer(&mut lines, self.named, ledger, ask_of(words), out).is_err() {
+            out.line("NOT UNDERSTOOD");
         }
-        Ok(progress)
     }
 
-    /// Asks books, and adds what they answer.
-    pub(crate) fn ask<L: Ledger>(
-        self,
-        ledger: &mut L,
-        words: &[&str],
-        out: &mut Vec<u8>,
-    ) -> Result<(), AllocError> {
-        if !answer(
-            &mut BookLines::new(),
-            self.named,
-            ledger,
-            ask_of(words),
-            out,
-        )? {
-            push_line(out, "NOT UNDERSTOOD")?;
+    /// Asks books the command of a line, and adds what they answer.
+    pub(crate) fn ask_line<L: Ledger>(self, ledger: &mut L, line: &str, out: &mut AnswerText) {
+        match words_of(out.alloc(), line) {
+            Ok(words) => self.ask(ledger, &words, out),
+            Err(_) => out.cut(),
         }
-        Ok(())
     }
 
     /// Gives books all commands but the first few, and answers how far they came.
-    pub(crate) fn give_from<L: Ledger>(
-        self,
-        ledger: &mut L,
-        commands: usize,
-    ) -> Result<Progress, AllocError> {
-        let alloc = self.named.alloc();
-        let mut answers = Vec::new(alloc);
+    pub(crate) fn give_from<L: Ledger>(self, ledger: &mut L, commands: usize) -> Progress {
+        let mut answers = AnswerText::new(self.named.alloc());
         for line in self.body.lines().skip(commands) {
-            let words: Vec<&str> = line.split_whitespace().collect(alloc)?;
-            self.ask(ledger, &words, &mut answers)?;
+            self.ask_line(ledger, line, &mut answers);
         }
-        self.progress_by(&answers)
+        Progress::by(&answers)
     }
 
     /// All texts of books.
-    pub(crate) fn texts<L: Ledger>(self, ledger: &mut L) -> Result<Vec<u8>, AllocError> {
-        let mut texts = Vec::new(self.named.alloc());
-        self.ask(ledger, &["changes"], &mut texts)?;
-        Ok(texts)
+    pub(crate) fn texts<L: Ledger>(self, ledger: &mut L) -> AnswerText {
+        let mut texts = AnswerText::new(self.named.alloc());
+        self.ask(ledger, &["changes"], &mut texts);
+        texts
     }
 }

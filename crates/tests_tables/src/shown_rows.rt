@@ -4,8 +4,7 @@ use crate::trees::{Trees, WholeRow};
 use sqlite_trees::store::Store;
 use sqlite_value::row::Row;
 use sqlite_value::value::ValueRef;
-use std::alloc::{AllocError, Global};
-use tests_scripts::Ask;
+use tests_scripts::{AnswerText, Ask, LineFault, LineResult, value_of};
 
 /// The tree of the book's row.
 const BOOK: u32 = 0;
@@ -43,85 +42,98 @@ const DETAILS: u32 = 10;
 /// The columns of a record that an adjustment line shows: day, centre, shift, CPU, blocks, amount.
 const CHARGED: [usize; 6] = [3, 5, 4, 6, 7, 8];
 
+/// How the rows of a tree are shown.
+#[derive(Clone, Copy)]
+enum Showing {
+    /// A space between two of their columns.
+    Whole,
+    /// A tariff's first day, and its text between braces.
+    Tariffs,
+    /// A record's name, and its marks: whether it is charged, and whether it was at the last close.
+    Marks,
+    /// A record's name, and its identity.
+    Identities,
+}
+
+/// The tables, by the verbs that show them.
+const TABLES: [(&str, (u32, Showing)); 8] = [
+    ("book", (BOOK, Showing::Whole)),
+    ("closed", (CLOSES, Showing::Whole)),
+    ("rows", (CHARGES, Showing::Whole)),
+    ("tariffs", (TARIFFS, Showing::Tariffs)),
+    ("marks", (RECORDS, Showing::Marks)),
+    ("identities", (RECORDS, Showing::Identities)),
+    ("choices", (CHOICES, Showing::Whole)),
+    ("detail", (DETAILS, Showing::Whole)),
+];
+
+/// The trees that find rows of a table, by their names in the file.
+const INDEXES: [(&str, u32); 3] = [
+    ("record_ident", IDENTITIES),
+    ("record_charged", MARKS),
+    ("choice_name", CHOICE_NAMES),
+];
+
 /// Adds a value: bytes as hexadecimal digits, nothing for none.
-fn push_value(alloc: Global, out: &mut Vec<u8>, value: ValueRef<'_>) -> Result<(), AllocError> {
+fn push_value(out: &mut AnswerText, value: ValueRef<'_>) {
     match value {
-        ValueRef::Int(number) => {
-            out.extend_from_slice(format!(in alloc; "{number}")?.as_bytes())
-        }
-        ValueRef::Text(text) => out.extend_from_slice(text),
-        ValueRef::Blob(bytes) => {
-            out.extend_from_slice(hex::encode_upper(alloc, bytes)?.as_bytes())
-        }
-        ValueRef::Null | ValueRef::Real(_) => Ok(()),
+        ValueRef::Int(number) => out.value("", number),
+        ValueRef::Text(text) => out.bytes(text),
+        ValueRef::Blob(bytes) => out.digits("", bytes),
+        ValueRef::Null | ValueRef::Real(_) => {}
     }
 }
 
-/// Adds columns of a row, each with a space after it.
-fn push_columns(
-    alloc: Global,
-    out: &mut Vec<u8>,
-    row: &Row,
-    columns: &[usize],
-) -> Result<(), AllocError> {
-    for column in columns {
-        push_value(alloc, out, row.get(*column))?;
-        out.push(b' ')?;
+/// Adds columns of a row, a space between two.
+fn push_columns(out: &mut AnswerText, row: &Row, columns: &[usize]) {
+    for (place, column) in columns.iter().enumerate() {
+        if place > 0 {
+            out.text(" ");
+        }
+        push_value(out, row.get(*column));
     }
-    Ok(())
 }
 
-/// Adds a row, a space between two of its columns.
-fn push_whole(alloc: Global, out: &mut Vec<u8>, row: &Row) -> Result<(), AllocError> {
+/// Adds all columns of a row, a space between two.
+fn push_all_columns(out: &mut AnswerText, row: &Row) {
     for column in 0..row.len() {
         if column > 0 {
-            out.push(b' ')?;
+            out.text(" ");
         }
-        push_value(alloc, out, row.get(column))?;
+        push_value(out, row.get(column));
     }
-    Ok(out.push(b'\n')?)
 }
 
-/// Adds a tariff: its first day, and its text between braces.
-fn push_tariff(alloc: Global, out: &mut Vec<u8>, row: &Row) -> Result<(), AllocError> {
-    push_columns(alloc, out, row, &[0])?;
-    out.push(b'{')?;
-    push_value(alloc, out, row.get(1))?;
-    out.extend_from_slice(b"}\n")
-}
-
-/// Adds a record's name, and its marks: whether it is charged, and whether it was at the last
-/// close.
-fn push_marks(alloc: Global, out: &mut Vec<u8>, row: &Row) -> Result<(), AllocError> {
-    push_columns(alloc, out, row, &[0, 9])?;
-    push_value(alloc, out, row.get(10))?;
-    Ok(out.push(b'\n')?)
-}
-
-/// Adds a record's name, and its identity.
-fn push_identity(alloc: Global, out: &mut Vec<u8>, row: &Row) -> Result<(), AllocError> {
-    push_columns(alloc, out, row, &[0])?;
-    push_value(alloc, out, row.get(1))?;
-    Ok(out.push(b'\n')?)
+/// Adds a row.
+fn push_row(out: &mut AnswerText, showing: Showing, row: &Row) {
+    match showing {
+        Showing::Whole => push_all_columns(out, row),
+        Showing::Tariffs => {
+            push_value(out, row.get(0));
+            out.text(" {");
+            push_value(out, row.get(1));
+            out.text("}");
+        }
+        Showing::Marks => push_columns(out, row, &[0, 9, 10]),
+        Showing::Identities => push_columns(out, row, &[0, 1]),
+    }
+    out.text("\n");
 }
 
 /// Adds an adjustment line: its period, 1 for plus or 0 for minus, what its record is charged, and
 /// the record's name.
-fn push_line(
-    alloc: Global,
-    out: &mut Vec<u8>,
-    line: &Row,
-    records: &[WholeRow],
-) -> Result<(), AllocError> {
-    push_columns(alloc, out, line, &[0, 2])?;
+fn push_line(out: &mut AnswerText, line: &Row, records: &[WholeRow]) {
+    push_columns(out, line, &[0, 2]);
     let name = line.get(1);
     for record in records {
         if is_named(&record.0, name) {
-            push_columns(alloc, out, &record.0, &CHARGED)?;
+            out.text(" ");
+            push_columns(out, &record.0, &CHARGED);
         }
     }
-    push_value(alloc, out, name)?;
-    Ok(out.push(b'\n')?)
+    out.text(" ");
+    push_value(out, name);
+    out.text("\n");
 }
 
 /// Whether a record has this name.
@@ -132,114 +144,85 @@ fn is_named(record: &Row, name: ValueRef<'_>) -> bool {
     }
 }
 
-/// How the rows of a tree are shown.
-#[derive(Clone, Copy)]
-enum Showing {
-    Whole,
-    Tariffs,
-    Marks,
-    Identities,
-}
-
-/// Adds a row.
-fn push_row(
-    alloc: Global,
-    out: &mut Vec<u8>,
-    showing: Showing,
-    row: &Row,
-) -> Result<(), AllocError> {
-    match showing {
-        Showing::Whole => push_whole(alloc, out, row),
-        Showing::Tariffs => push_tariff(alloc, out, row),
-        Showing::Marks => push_marks(alloc, out, row),
-        Showing::Identities => push_identity(alloc, out, row),
-    }
-}
-
-/// All rows of a tree.
-fn shown<S: Store + Drop>(
-    alloc: Global,
+/// Adds all rows of a tree, or says that they can't be read.
+fn push_rows<S: Store + Drop>(
     trees: &mut Trees<S>,
     tree: u32,
     showing: Showing,
-) -> Option<Vec<u8>> {
-    let mut text = Vec::new(alloc);
-    for row in &trees.rows(alloc, tree)? {
-        push_row(alloc, &mut text, showing, &row.0).ok()?;
-    }
-    Some(text)
-}
-
-/// The adjustment lines, each with the record that it charges or reverses.
-fn shown_lines<S: Store + Drop>(alloc: Global, trees: &mut Trees<S>) -> Option<Vec<u8>> {
-    let records = trees.rows(alloc, RECORDS)?;
-    let mut text = Vec::new(alloc);
-    for line in &trees.rows(alloc, LINES)? {
-        push_line(alloc, &mut text, &line.0, &records).ok()?;
-    }
-    Some(text)
-}
-
-/// The tree that finds rows of a table, by its name in the file.
-fn index_of(name: &str) -> Option<u32> {
-    match name {
-        "record_ident" => Some(IDENTITIES),
-        "record_charged" => Some(MARKS),
-        "choice_name" => Some(CHOICE_NAMES),
-        _ => None,
+    out: &mut AnswerText,
+) {
+    let Some(rows) = trees.rows(out.alloc(), tree) else {
+        out.line("NOT SHOWN");
+        return;
+    };
+    for row in &rows {
+        push_row(out, showing, &row.0);
     }
 }
 
-/// What a line shows: `None` where it shows no table, and none within where the table can't be
-/// read.
-pub(crate) fn shown_table<S: Store + Drop>(
-    alloc: Global,
+/// Adds the adjustment lines, each with the record that it charges or reverses, or says that they
+/// can't be read.
+fn push_lines<S: Store + Drop>(trees: &mut Trees<S>, out: &mut AnswerText) {
+    let Some(records) = trees.rows(out.alloc(), RECORDS) else {
+        out.line("NOT SHOWN");
+        return;
+    };
+    let Some(lines) = trees.rows(out.alloc(), LINES) else {
+        out.line("NOT SHOWN");
+        return;
+    };
+    for line in &lines {
+        push_line(out, &line.0, &records);
+    }
+}
+
+/// Shows the table that a line asks for.
+pub(crate) fn push_table<S: Store + Drop>(
     trees: &mut Trees<S>,
     ask: Ask<'_>,
-) -> Option<Option<Vec<u8>>> {
-    match (ask.verb, ask.words) {
-        ("book", []) => Some(shown(alloc, trees, BOOK, Showing::Whole)),
-        ("closed", []) => Some(shown(alloc, trees, CLOSES, Showing::Whole)),
-        ("rows", []) => Some(shown(alloc, trees, CHARGES, Showing::Whole)),
-        ("tariffs", []) => Some(shown(alloc, trees, TARIFFS, Showing::Tariffs)),
-        ("marks", []) => Some(shown(alloc, trees, RECORDS, Showing::Marks)),
-        ("identities", []) => Some(shown(alloc, trees, RECORDS, Showing::Identities)),
-        ("choices", []) => Some(shown(alloc, trees, CHOICES, Showing::Whole)),
-        ("index", [name]) => Some(shown(alloc, trees, index_of(name)?, Showing::Whole)),
-        ("lines", []) => Some(shown_lines(alloc, trees)),
-        ("detail", []) => Some(shown(alloc, trees, DETAILS, Showing::Whole)),
-        _ => None,
-    }
+    out: &mut AnswerText,
+) -> LineResult {
+    let (tree, showing) = match (ask.verb, ask.words) {
+        ("lines", []) => {
+            push_lines(trees, out);
+            return Ok(());
+        }
+        ("index", [name]) => (value_of(&INDEXES, name)?, Showing::Whole),
+        (verb, []) => value_of(&TABLES, verb)?,
+        _ => return Err(LineFault::NotUnderstood),
+    };
+    push_rows(trees, tree, showing, out);
+    Ok(())
 }
 
-/// Adds all rows of some trees, an empty line after those of each; none where one can't be read.
-fn push_rows<S: Store + Drop>(
-    alloc: Global,
-    text: &mut Vec<u8>,
+/// Adds all rows of some trees, an empty line after those of each. False where one can't be read.
+fn push_trees<S: Store + Drop>(
     trees: &mut Trees<S>,
     first: u32,
     last: u32,
-) -> Option<()> {
+    out: &mut AnswerText,
+) -> bool {
     for tree in first..=last {
-        for row in &trees.rows(alloc, tree)? {
-            push_whole(alloc, text, &row.0).ok()?;
+        let Some(rows) = trees.rows(out.alloc(), tree) else {
+            return false;
+        };
+        for row in &rows {
+            push_row(out, Showing::Whole, &row.0);
         }
-        text.push(b'\n').ok()?;
+        out.text("\n");
     }
-    Some(())
+    true
 }
 
-/// All rows of all trees but those of choices.
-pub(crate) fn all_rows<S: Store + Drop>(alloc: Global, trees: &mut Trees<S>) -> Option<Vec<u8>> {
-    let mut text = Vec::new(alloc);
-    push_rows(alloc, &mut text, trees, BOOK, MARKS)?;
-    push_rows(alloc, &mut text, trees, DETAILS, DETAILS)?;
-    Some(text)
+/// Adds all rows of all trees but those of choices. False where one can't be read.
+pub(crate) fn push_all_rows<S: Store + Drop>(trees: &mut Trees<S>, out: &mut AnswerText) -> bool {
+    push_trees(trees, BOOK, MARKS, out) && push_trees(trees, DETAILS, DETAILS, out)
 }
 
-/// All rows of the trees of choices.
-pub(crate) fn all_choices<S: Store + Drop>(alloc: Global, trees: &mut Trees<S>) -> Option<Vec<u8>> {
-    let mut text = Vec::new(alloc);
-    push_rows(alloc, &mut text, trees, CHOICES, CHOICE_NAMES)?;
-    Some(text)
+/// Adds all rows of the trees of choices. False where one can't be read.
+pub(crate) fn push_all_choices<S: Store + Drop>(
+    trees: &mut Trees<S>,
+    out: &mut AnswerText,
+) -> bool {
+    push_trees(trees, CHOICES, CHOICE_NAMES, out)
 }

@@ -8,8 +8,8 @@ use crate::uninterrupted::{Mismatch, Uninterrupted, run_uninterrupted};
 use sqlite_disk::{Files, Memory};
 use sqlite_store::FileStore;
 use sqlite_trees::store::Store;
-use std::alloc::{AllocError, Global};
-use tests_scripts::{Ask, Named, push_line};
+use std::alloc::Global;
+use tests_scripts::{AnswerText, Ask, LineFault, LineResult, Named};
 
 /// More calls than any run makes of one file.
 const ENOUGH: u64 = 2_000;
@@ -104,21 +104,24 @@ fn stop_after(
     Err(Mismatch("EVERY WAY BACK WAS STOPPED"))
 }
 
-/// Stops a run at the calls of a file, up to one that meets no stop. Answers the result: how many
+/// Stops a run at the calls of a file, up to one that meets no stop. Adds the result: how many
 /// changes the run has and how often it was stopped, or the first stop that leaves what it should
 /// not.
-fn swept(run: Run<'_>, whole: &Uninterrupted, sweep: Sweep) -> Result<String, AllocError> {
-    let alloc = run.named.alloc();
+fn push_swept(run: Run<'_>, whole: &Uninterrupted, sweep: Sweep, out: &mut AnswerText) {
     let mut stops: usize = 0;
     for turn in 0..ENOUGH {
         let calls = turn.saturating_mul(sweep.stride());
         match stop_after(run, whole, sweep, calls, &mut stops) {
             Ok(true) => {}
-            Ok(false) => return whole.met(alloc, "STOPS", stops),
-            Err(other) => return format!(in alloc; "BEHIND {calls} CALLS {}", other.0),
+            Ok(false) => return whole.push_met(" STOPS", stops, out),
+            Err(other) => {
+                out.value("BEHIND ", calls);
+                out.value_line(" CALLS ", other.0);
+                return;
+            }
         }
     }
-    String::from_str(alloc, "EVERY RUN WAS STOPPED")
+    out.line("EVERY RUN WAS STOPPED");
 }
 
 /// What the words of a line ask.
@@ -148,21 +151,24 @@ fn sweep_of(words: &[&str]) -> Option<Sweep> {
 }
 
 /// Answers `stops FILE`, with commands, and gives back the trees whose books got them without a
-/// stop, and whether the line was read.
+/// stop.
 pub(crate) fn answer_stops<S: Store + Drop>(
     named: &Named,
     trees: Trees<S>,
     ask: Ask<'_>,
-    out: &mut Vec<u8>,
-) -> Result<(Trees<S>, bool), AllocError> {
+    out: &mut AnswerText,
+) -> (Trees<S>, LineResult) {
     let Some(sweep) = sweep_of(ask.words) else {
-        return Ok((trees, false));
+        return (trees, Err(LineFault::NotUnderstood));
     };
     let run = Run {
         named,
         body: ask.body,
     };
-    let (whole, trees) = run_uninterrupted(run, trees)?;
-    push_line(out, swept(run, &whole, sweep)?.as_str())?;
-    Ok((trees, true))
+    let (whole, trees) = run_uninterrupted(run, trees);
+    if whole.is_cut {
+        out.cut();
+    }
+    push_swept(run, &whole, sweep, out);
+    (trees, Ok(()))
 }

@@ -1,11 +1,12 @@
 //! A run over files that may fail: what is found when the machine is back, and how the same
 //! commands then end.
 
+use crate::names::SHA_NAMES;
 use crate::restart::Restart;
 use crate::run::{NOT_BEGUN, Progress, Run};
 use crate::trees::Trees;
-use crate::uninterrupted::{Books, Mismatch, Uninterrupted, snapshot_of};
-use book_core::{Ledger, LedgerFault, ShaNames};
+use crate::uninterrupted::{Books, Mismatch, OTHER_ANSWERS, Snapshot, Uninterrupted, snapshot_of};
+use book_core::{Ledger, LedgerFault};
 use std::alloc::Global;
 use table_ledger::TableLedger;
 
@@ -16,58 +17,95 @@ enum Remains<S: Restart> {
     Files(S::Disks),
 }
 
-/// The trees in which no books were opened or made, by a fault of the store.
-fn left_by<S: Restart>(fault: LedgerFault, trees: Trees<S>) -> Result<Opened<S>, Mismatch> {
+/// What is found of books when the machine is back.
+#[derive(Drop)]
+enum Reopened<S: Restart> {
+    Books(Books<S>),
+    /// What is left where the disk stops once more.
+    Stopped(Remains<S>),
+    /// They can't be opened or made, and it is not for the disk.
+    Other,
+}
+
+/// What is found where no books were opened or made in trees.
+fn left_by<S: Restart>(fault: LedgerFault, store: S) -> Reopened<S> {
     match fault {
-        LedgerFault::Store => Ok(Err(trees)),
-        _ => Err(Mismatch("OTHER ANSWERS")),
+        LedgerFault::Store => Reopened::Stopped(Remains::Store(store)),
+        _ => Reopened::Other,
     }
 }
 
-/// Books that were opened, or their trees on a disk that failed.
-type Opened<S> = Result<Books<S>, Trees<S>>;
-
 /// New books in trees that have none.
-fn create_in<S: Restart>(alloc: Global, trees: Trees<S>) -> Result<Opened<S>, Mismatch> {
-    match TableLedger::create(alloc, trees.into_store(), ShaNames) {
-        Ok(books) => Ok(Ok(books)),
-        Err((fault, store)) => left_by(fault, Trees::over(store)),
+fn create_in<S: Restart>(alloc: Global, trees: Trees<S>) -> Reopened<S> {
+    match TableLedger::create(alloc, trees.into_store(), SHA_NAMES) {
+        Ok(books) => Reopened::Books(books),
+        Err((fault, store)) => left_by(fault, store),
     }
 }
 
 /// The books in trees, new ones where there are none.
-fn open_in<S: Restart>(alloc: Global, trees: Trees<S>) -> Result<Opened<S>, Mismatch> {
-    match TableLedger::open(alloc, trees.into_store(), ShaNames) {
-        Ok(books) => Ok(Ok(books)),
+fn open_in<S: Restart>(alloc: Global, trees: Trees<S>) -> Reopened<S> {
+    match TableLedger::open(alloc, trees.into_store(), SHA_NAMES) {
+        Ok(books) => Reopened::Books(books),
         Err((LedgerFault::NotBooks, store)) => create_in(alloc, Trees::over(store)),
-        Err((fault, store)) => left_by(fault, Trees::over(store)),
+        Err((fault, store)) => left_by(fault, store),
+    }
+}
+
+/// The books as they are found when the machine is back: new ones where there are no trees, or none
+/// in them.
+fn books_in<S: Restart>(alloc: Global, left: Remains<S>) -> Reopened<S> {
+    match left {
+        Remains::Store(store) => match store.back() {
+            Ok(store) => open_in(alloc, Trees::over(store)),
+            Err(store) => Reopened::Stopped(Remains::Store(store)),
+        },
+        Remains::Files(files) => match S::made(alloc, files) {
+            Ok(store) => open_in(alloc, Trees::over(store)),
+            Err(files) => Reopened::Stopped(Remains::Files(files)),
+        },
+    }
+}
+
+/// The books as they are found in the end, and whether the disk stopped once more on the way there.
+/// It does so once.
+fn reopen<S: Restart>(alloc: Global, left: Remains<S>) -> Result<(Books<S>, bool), Mismatch> {
+    let left = match books_in(alloc, left) {
+        Reopened::Books(books) => return Ok((books, false)),
+        Reopened::Stopped(left) => left,
+        Reopened::Other => return Err(OTHER_ANSWERS),
+    };
+    match books_in(alloc, left) {
+        Reopened::Books(books) => Ok((books, true)),
+        Reopened::Stopped(_) => Err(Mismatch("NOT OPENED AGAIN")),
+        Reopened::Other => Err(OTHER_ANSWERS),
     }
 }
 
 /// Gives books the commands, up to a stop.
 fn work<L: Ledger>(run: Run<'_>, ledger: &mut L) -> Result<Progress, Mismatch> {
-    let progress = run.give_from(ledger, 0)?;
+    let progress = run.give_from(ledger, 0);
     let is_lost = progress.stopped && ledger.periods().err() != Some(LedgerFault::Reopen);
     if progress.is_consistent && !is_lost {
         Ok(progress)
     } else {
-        Err(Mismatch("OTHER ANSWERS"))
+        Err(OTHER_ANSWERS)
     }
+}
+
+/// Works on books, and gives back what is left of them.
+fn work_on<S: Restart>(run: Run<'_>, books: Books<S>) -> Result<(Progress, Remains<S>), Mismatch> {
+    let mut books = books;
+    let progress = work(run, &mut books)?;
+    Ok((progress, Remains::Store(books.close_store())))
 }
 
 /// Makes books in files that hold nothing and works on them, and gives back what is left of them.
 fn start<S: Restart>(run: Run<'_>, files: S::Disks) -> Result<(Progress, Remains<S>), Mismatch> {
-    let alloc = run.named.alloc();
-    let trees = match S::made(alloc, files) {
-        Ok(store) => Trees::over(store),
-        Err(files) => return Ok((NOT_BEGUN, Remains::Files(files))),
-    };
-    match open_in(alloc, trees)? {
-        Ok(mut books) => {
-            let progress = work(run, &mut books)?;
-            Ok((progress, Remains::Store(books.close_store())))
-        }
-        Err(trees) => Ok((NOT_BEGUN, Remains::Store(trees.into_store()))),
+    match books_in(run.named.alloc(), Remains::Files(files)) {
+        Reopened::Books(books) => work_on(run, books),
+        Reopened::Stopped(left) => Ok((NOT_BEGUN, left)),
+        Reopened::Other => Err(OTHER_ANSWERS),
     }
 }
 
@@ -83,47 +121,11 @@ fn checkpoint_log<S: Restart>(left: Remains<S>) -> (Remains<S>, bool) {
     }
 }
 
-/// The trees as they are found when the machine is back, new ones where there are none; or what is
-/// left where the disk stops once more.
-fn trees_after_crash<S: Restart>(alloc: Global, left: Remains<S>) -> Result<Trees<S>, Remains<S>> {
-    match left {
-        Remains::Store(store) => match store.back() {
-            Ok(store) => Ok(Trees::over(store)),
-            Err(store) => Err(Remains::Store(store)),
-        },
-        Remains::Files(files) => match S::made(alloc, files) {
-            Ok(store) => Ok(Trees::over(store)),
-            Err(files) => Err(Remains::Files(files)),
-        },
-    }
-}
-
-/// The books as they are found when the machine is back, or what is left where the disk stops once
-/// more.
-fn books_after_crash<S: Restart>(
-    alloc: Global,
-    left: Remains<S>,
-) -> Result<Result<Books<S>, Remains<S>>, Mismatch> {
-    match trees_after_crash(alloc, left) {
-        Ok(trees) => match open_in(alloc, trees)? {
-            Ok(books) => Ok(Ok(books)),
-            Err(trees) => Ok(Err(Remains::Store(trees.into_store()))),
-        },
-        Err(left) => Ok(Err(left)),
-    }
-}
-
-/// The books as they are found in the end, and whether the disk stopped once more on the way there.
-/// It does so once.
-fn reopen<S: Restart>(alloc: Global, left: Remains<S>) -> Result<(Books<S>, bool), Mismatch> {
-    let left = match books_after_crash(alloc, left)? {
-        Ok(books) => return Ok((books, false)),
-        Err(left) => left,
-    };
-    match books_after_crash(alloc, left)? {
-        Ok(books) => Ok((books, true)),
-        Err(_) => Err(Mismatch("NOT OPENED AGAIN")),
-    }
+/// All rows and texts of books, once they were opened again.
+fn end_of<S: Restart>(run: Run<'_>, books: Books<S>) -> Result<Snapshot, Mismatch> {
+    let (books, _) = reopen(run.named.alloc(), Remains::Store(books.close_store()))?;
+    let (end, _) = snapshot_of(run, books)?;
+    Ok(end)
 }
 
 /// Gives the books that are left the command in progress once more and those after it, which brings
@@ -134,11 +136,9 @@ fn finish<S: Restart>(
     stopped: Progress,
     left: Remains<S>,
 ) -> Result<(), Mismatch> {
-    let alloc = run.named.alloc();
-    let (mut books, _) = reopen(alloc, left)?;
-    let progress = run.give_from(&mut books, stopped.commands)?;
-    let (books, _) = reopen(alloc, Remains::Store(books.close_store()))?;
-    let (end, _) = snapshot_of(run, books)?;
+    let (mut books, _) = reopen(run.named.alloc(), left)?;
+    let progress = run.give_from(&mut books, stopped.commands);
+    let end = end_of(run, books)?;
     if progress.is_consistent && !progress.stopped && whole.is_end(&end) {
         Ok(())
     } else {
@@ -154,14 +154,12 @@ fn start_over<S: Restart>(
     whole: &Uninterrupted,
     left: Remains<S>,
 ) -> Result<(), Mismatch> {
-    let alloc = run.named.alloc();
-    let (mut books, _) = reopen(alloc, left)?;
-    run.give_from(&mut books, 0)?;
+    let (mut books, _) = reopen(run.named.alloc(), left)?;
+    let _ = run.give_from(&mut books, 0);
     if books.periods().is_err() {
-        return Err(Mismatch("OTHER ANSWERS"));
+        return Err(OTHER_ANSWERS);
     }
-    let (books, _) = reopen(alloc, Remains::Store(books.close_store()))?;
-    let (end, _) = snapshot_of(run, books)?;
+    let end = end_of(run, books)?;
     if whole.is_end_but_for_choices(&end) {
         Ok(())
     } else {

@@ -5,19 +5,19 @@ ghost use Rattle.sqlite_trees.specs.Memory.{memory_view};
 ghost use Rattle.sqlite_trees.specs.View.{IsClean};
 ghost use Rattle.tree_tables.specs.Holds.{HasShapes};
 
-use crate::changed_rows::{change_of, change_rows};
+use crate::changed_rows::push_change;
 use crate::empty_store::EmptyStore;
 use crate::lines::{Lines, RowLine};
 use crate::names::Names;
 use crate::refusals::answer_refusals;
 use crate::rows::{AsksOpenBooks, Books};
-use crate::shown_rows::shown_table;
+use crate::shown_rows::push_table;
 use crate::stops::answer_stops;
 use crate::trees::Trees;
 use sqlite_trees::memory::MemStore;
-use std::alloc::{AllocError, Global};
+use std::alloc::Global;
 use table_ledger::TableLedger;
-use tests_scripts::{Ask, Named, push_line};
+use tests_scripts::{AnswerText, Ask, LineFault, LineResult, Named};
 
 /// The trees, while no books are open on them.
 #[derive(Drop)]
@@ -26,26 +26,31 @@ pub struct TreeBooks {
     names: Names,
 }
 
-/// Answers a line that shows or changes rows. False where it is not one.
-fn answer_by_rows(
-    alloc: Global,
-    trees: &mut Trees<MemStore>,
-    ask: Ask<'_>,
-    out: &mut Vec<u8>,
-) -> Result<bool, AllocError> {
-    if let Some(asked) = change_of(ask) {
-        match change_rows(alloc, trees, asked) {
-            Some(count) => push_line(out, format!(in alloc; "CHANGED {count}")?.as_str())?,
-            None => push_line(out, "NOT CHANGED")?,
-        }
-        return Ok(true);
+/// Answers a line that shows or changes rows.
+fn answer_by_rows(trees: &mut Trees<MemStore>, ask: Ask<'_>, out: &mut AnswerText) -> LineResult {
+    match push_table(trees, ask, out) {
+        Err(LineFault::NotUnderstood) => push_change(trees, ask, out),
+        answered => answered,
     }
-    match shown_table(alloc, trees, ask) {
-        None => return Ok(false),
-        Some(None) => push_line(out, "NOT SHOWN")?,
-        Some(Some(rows)) => out.extend_from_slice(&rows)?,
+}
+
+impl TreeBooks {
+    /// Answers a line that is asked of open books, or a run of commands.
+    fn answer_by_books(
+        self,
+        lines: &mut Lines,
+        named: &Named,
+        ask: Ask<'_>,
+        out: &mut AnswerText,
+    ) -> (TreeBooks, LineResult) {
+        let TreeBooks { trees, names } = self;
+        let (trees, answered) = match ask.verb {
+            "stops" => answer_stops(named, trees, ask, out),
+            "refuses" => answer_refusals(named, trees, ask, out),
+            _ => trees.ask(named, names, &mut RowLine { lines, ask }, out),
+        };
+        (TreeBooks { trees, names }, answered)
     }
-    Ok(true)
 }
 
 impl Books for TreeBooks {
@@ -59,11 +64,11 @@ impl Books for TreeBooks {
         self,
         named: &Named,
         asking: &mut A,
-        out: &mut Vec<u8>,
-    ) -> Result<(TreeBooks, bool), AllocError> {
+        out: &mut AnswerText,
+    ) -> (TreeBooks, LineResult) {
         let TreeBooks { trees, names } = self;
-        let (trees, is_read) = trees.ask(named, names, asking, out)?;
-        Ok((TreeBooks { trees, names }, is_read))
+        let (trees, answered) = trees.ask(named, names, asking, out);
+        (TreeBooks { trees, names }, answered)
     }
 
     fn answer(
@@ -71,18 +76,13 @@ impl Books for TreeBooks {
         lines: &mut Lines,
         named: &Named,
         ask: Ask<'_>,
-        out: &mut Vec<u8>,
-    ) -> Result<(TreeBooks, bool), AllocError> {
-        let TreeBooks { mut trees, names } = self;
-        if answer_by_rows(named.alloc(), &mut trees, ask, out)? {
-            return Ok((TreeBooks { trees, names }, true));
+        out: &mut AnswerText,
+    ) -> (TreeBooks, LineResult) {
+        let mut books = self;
+        match answer_by_rows(&mut books.trees, ask, out) {
+            Err(LineFault::NotUnderstood) => books.answer_by_books(lines, named, ask, out),
+            answered => (books, answered),
         }
-        let (trees, is_read) = match ask.verb {
-            "stops" => answer_stops(named, trees, ask, out)?,
-            "refuses" => answer_refusals(named, trees, ask, out)?,
-            _ => trees.ask(named, names, &mut RowLine { lines, ask }, out)?,
-        };
-        Ok((TreeBooks { trees, names }, is_read))
     }
 }
 

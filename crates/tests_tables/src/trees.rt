@@ -5,14 +5,14 @@ ghost use Rattle.tree_tables.specs.Holds.{HasShapes};
 
 use crate::rows::AsksOpenBooks;
 use book_core::Naming;
-use program_output::ledger_refused;
 use sqlite_trees::error::StoreError;
 use sqlite_trees::store::{Shape, Store};
 use sqlite_value::keys::Order;
 use sqlite_value::row::Row;
-use std::alloc::{AllocError, Global};
+use std::alloc::Global;
 use table_ledger::TableLedger;
-use tests_scripts::Named;
+use tests_ledgers::push_fault;
+use tests_scripts::{AnswerText, LineResult, Named};
 use tree_rows::{ReadRow, change_row, list_run};
 
 /// A store with the trees of books.
@@ -81,23 +81,23 @@ impl<S: Store + Drop> Trees<S> {
         self.store.commit().is_ok()
     }
 
-    /// Asks the books in the trees, opened for this, and gives the trees back, with whether the line
-    /// that asks was read. What is asked of books that can't be opened is answered by the fault.
+    /// Asks the books in the trees, opened for this, and gives the trees back. What is asked of books
+    /// that can't be opened is answered by the fault.
     pub(crate) fn ask<N: Naming + Drop, A: AsksOpenBooks>(
         self,
         named: &Named,
         naming: N,
         asking: &mut A,
-        out: &mut Vec<u8>,
-    ) -> Result<(Trees<S>, bool), AllocError> {
+        out: &mut AnswerText,
+    ) -> (Trees<S>, LineResult) {
         match TableLedger::open(named.alloc(), self.store, naming) {
             Ok(mut books) => {
-                let is_read = asking.ask(named, &mut books, out)?;
-                Ok((Trees::over(books.close_store()), is_read))
+                let answered = asking.ask(named, &mut books, out);
+                (Trees::over(books.close_store()), answered)
             }
             Err((fault, store)) => {
-                let _ = ledger_refused(out, fault);
-                Ok((Trees::over(store), true))
+                push_fault(out, fault);
+                (Trees::over(store), Ok(()))
             }
         }
     }

@@ -1,27 +1,24 @@
 //! A run that nothing stops, change by change.
 
 use crate::lines::{Lines, RowLine};
+use crate::names::{Names, SHA_NAMES};
 use crate::run::{Progress, Run, ask_of};
-use crate::shown_rows::{all_choices, all_rows};
+use crate::shown_rows::{push_all_choices, push_all_rows};
 use crate::trees::Trees;
-use book_core::ShaNames;
 use sqlite_trees::store::Store;
-use std::alloc::{AllocError, Global};
+use std::alloc::Global;
 use table_ledger::TableLedger;
-use tests_scripts::Ask;
+use tests_scripts::{AnswerText, Ask, words_of};
 
 /// Books in the trees of a store.
-pub(crate) type Books<S> = TableLedger<S, ShaNames>;
+pub(crate) type Books<S> = TableLedger<S, Names>;
 
 /// What is not as it should be.
 #[derive(Clone, Copy)]
 pub(crate) struct Mismatch(pub(crate) &'static str);
 
-impl From<AllocError> for Mismatch {
-    fn from(_: AllocError) -> Mismatch {
-        Mismatch("NO MEMORY")
-    }
-}
+/// Books answered in another way than they have to.
+pub(crate) const OTHER_ANSWERS: Mismatch = Mismatch("OTHER ANSWERS");
 
 /// Books as they are between two changes: all their rows, those of choices apart, and all their
 /// texts.
@@ -33,17 +30,34 @@ pub(crate) struct Snapshot {
 }
 
 impl Snapshot {
-    /// Books with these texts, in trees; none where a row can't be read.
-    fn of<S: Store + Drop>(
-        alloc: Global,
-        trees: &mut Trees<S>,
-        texts: Vec<u8>,
-    ) -> Option<Snapshot> {
+    /// Books with these texts, in trees; none where a row can't be read, or where there is no
+    /// memory for it.
+    fn of<S: Store + Drop>(trees: &mut Trees<S>, texts: AnswerText) -> Option<Snapshot> {
+        let mut rows = AnswerText::new(texts.alloc());
+        let mut choices = AnswerText::new(texts.alloc());
+        let are_read = push_all_rows(trees, &mut rows) && push_all_choices(trees, &mut choices);
+        if !are_read || rows.is_cut() || choices.is_cut() || texts.is_cut() {
+            return None;
+        }
         Some(Snapshot {
-            rows: all_rows(alloc, trees)?,
-            choices: all_choices(alloc, trees)?,
-            texts,
+            rows: rows.into_bytes(),
+            choices: choices.into_bytes(),
+            texts: texts.into_bytes(),
         })
+    }
+}
+
+/// All rows and texts of books, and their trees.
+pub(crate) fn snapshot_of<S: Store + Drop>(
+    run: Run<'_>,
+    books: Books<S>,
+) -> Result<(Snapshot, Trees<S>), Mismatch> {
+    let mut books = books;
+    let texts = run.texts(&mut books);
+    let mut trees = Trees::over(books.close_store());
+    match Snapshot::of(&mut trees, texts) {
+        Some(snapshot) => Ok((snapshot, trees)),
+        None => Err(Mismatch("OTHER ROWS")),
     }
 }
 
@@ -53,9 +67,20 @@ pub(crate) struct Uninterrupted {
     snapshots: Vec<Snapshot>,
     /// How many changes there are after each command.
     ends: Vec<usize>,
+    /// There was no memory for a part of it.
+    pub(crate) is_cut: bool,
 }
 
 impl Uninterrupted {
+    /// It has not begun.
+    fn new(alloc: Global) -> Uninterrupted {
+        Uninterrupted {
+            snapshots: Vec::new(alloc),
+            ends: Vec::new(alloc),
+            is_cut: false,
+        }
+    }
+
     /// How many changes it makes.
     pub(crate) fn changes(&self) -> usize {
         self.snapshots.len().saturating_sub(1)
@@ -92,34 +117,53 @@ impl Uninterrupted {
         }
     }
 
-    /// How many changes it makes, and how often something came in its way: more often than that, or
-    /// how often.
-    pub(crate) fn met(
-        &self,
-        alloc: Global,
-        what: &str,
-        times: usize,
-    ) -> Result<String, AllocError> {
-        let changes = self.changes();
-        if times > changes {
-            format!(in alloc; "CHANGES {changes} {what} MORE")
+    /// Adds how many changes it makes, and how often something came in its way: more often than
+    /// that, or how often.
+    pub(crate) fn push_met(&self, what: &str, times: usize, out: &mut AnswerText) {
+        out.value("CHANGES ", self.changes());
+        out.text(what);
+        if times > self.changes() {
+            out.line(" MORE");
         } else {
-            format!(in alloc; "CHANGES {changes} {what} {times}")
+            out.value_line(" ", times);
         }
     }
-}
 
-/// All rows and texts of books, and their trees.
-pub(crate) fn snapshot_of<S: Store + Drop>(
-    run: Run<'_>,
-    books: Books<S>,
-) -> Result<(Snapshot, Trees<S>), Mismatch> {
-    let mut books = books;
-    let texts = run.texts(&mut books)?;
-    let mut trees = Trees::over(books.close_store());
-    match Snapshot::of(run.named.alloc(), &mut trees, texts) {
-        Some(snapshot) => Ok((snapshot, trees)),
-        None => Err(Mismatch("OTHER ROWS")),
+    /// Adds the books in trees as they are, and gives the trees back. Books whose rows can't be read
+    /// are not added.
+    fn add_snapshot<S: Store + Drop>(&mut self, run: Run<'_>, trees: Trees<S>) -> Trees<S> {
+        let (mut trees, texts) = answered(run, trees, ask_of(&["changes"]));
+        if let Some(snapshot) = Snapshot::of(&mut trees, texts) {
+            self.is_cut = self.snapshots.push(snapshot).is_err() || self.is_cut;
+        }
+        trees
+    }
+
+    /// Gives the books in trees the command of a line, each record of an import by a command of its
+    /// own, and adds the books after each change.
+    fn take_line<S: Store + Drop>(
+        &mut self,
+        run: Run<'_>,
+        trees: Trees<S>,
+        words: &[&str],
+    ) -> Trees<S> {
+        let mut trees = trees;
+        let ask = ask_of(words);
+        let size = if ask.verb == "import" {
+            1
+        } else {
+            ask.words.len().max(1)
+        };
+        for words in ask.words.chunks(size) {
+            let (then, answers) = answered(run, trees, Ask { words, ..ask });
+            trees = then;
+            if Progress::by(&answers).changes == 1 {
+                trees = self.add_snapshot(run, trees);
+            }
+        }
+        let changes = self.changes();
+        self.is_cut = self.ends.push(changes).is_err() || self.is_cut;
+        trees
     }
 }
 
@@ -128,69 +172,30 @@ fn answered<S: Store + Drop>(
     run: Run<'_>,
     trees: Trees<S>,
     ask: Ask<'_>,
-) -> Result<(Trees<S>, Vec<u8>), AllocError> {
-    let mut answers = Vec::new(run.named.alloc());
+) -> (Trees<S>, AnswerText) {
+    let mut answers = AnswerText::new(run.named.alloc());
     let mut lines = Lines::new();
     let mut line = RowLine {
         lines: &mut lines,
         ask,
     };
-    let (trees, _) = trees.ask(run.named, ShaNames, &mut line, &mut answers)?;
-    Ok((trees, answers))
-}
-
-/// Adds the books in trees as they are, and gives the trees back. Books whose rows can't be read
-/// are not added.
-fn add_snapshot<S: Store + Drop>(
-    run: Run<'_>,
-    trees: Trees<S>,
-    snapshots: &mut Vec<Snapshot>,
-) -> Result<Trees<S>, AllocError> {
-    let (mut trees, texts) = answered(run, trees, ask_of(&["changes"]))?;
-    if let Some(snapshot) = Snapshot::of(run.named.alloc(), &mut trees, texts) {
-        snapshots.push(snapshot)?;
-    }
-    Ok(trees)
-}
-
-/// Gives the books in trees the command of a line, each record of an import by a command of its
-/// own, and adds the books after each change.
-fn take_line<S: Store + Drop>(
-    run: Run<'_>,
-    trees: Trees<S>,
-    words: &[&str],
-    snapshots: &mut Vec<Snapshot>,
-) -> Result<Trees<S>, AllocError> {
-    let mut trees = trees;
-    let ask = ask_of(words);
-    let size = if ask.verb == "import" {
-        1
-    } else {
-        ask.words.len().max(1)
-    };
-    for words in ask.words.chunks(size) {
-        let (then, answers) = answered(run, trees, Ask { words, ..ask })?;
-        trees = then;
-        if run.progress_by(&answers)?.changes == 1 {
-            trees = add_snapshot(run, trees, snapshots)?;
-        }
-    }
-    Ok(trees)
+    let (trees, _) = trees.ask(run.named, SHA_NAMES, &mut line, &mut answers);
+    (trees, answers)
 }
 
 /// What a run that nothing stops leaves, and the trees after it.
 pub(crate) fn run_uninterrupted<S: Store + Drop>(
     run: Run<'_>,
     trees: Trees<S>,
-) -> Result<(Uninterrupted, Trees<S>), AllocError> {
+) -> (Uninterrupted, Trees<S>) {
     let alloc = run.named.alloc();
-    let mut snapshots = Vec::new(alloc);
-    let mut ends = Vec::new(alloc);
-    let mut trees = add_snapshot(run, trees, &mut snapshots)?;
+    let mut whole = Uninterrupted::new(alloc);
+    let mut trees = whole.add_snapshot(run, trees);
     for line in run.body.lines() {
-        let words: Vec<&str> = line.split_whitespace().collect(alloc)?;
-        trees = take_line(run, trees, &words, &mut snapshots)?;
-        ends.push(snapshots.len().saturating_sub(1))?;
+        match words_of(alloc, line) {
+            Ok(words) => trees = whole.take_line(run, trees, &words),
+            Err(_) => whole.is_cut = true,
+        }
     }
-    Ok((Uninterrupted { snapshots, ends }, trees))
+    (whole, trees)
 }

@@ -18,8 +18,8 @@ returns-then-is_due-clause-takes g c =
     (refused_as {V = _} _ (λ (accepted : Accepted). accepted) _ _ c.refusal.result
     (accept_outcome seen.naming (first_of records)) c.refusal.ensures).work
 
-pub accept_many-requires-clause-usage : goal.accept_many-requires-clause-usage
-accept_many-requires-clause-usage g c =
+pub accept_many-requires-2-clause-usage : goal.accept_many-requires-2-clause-usage
+accept_many-requires-2-clause-usage g c =
     subst (λ records. All (λ (one : Vec ℕ Global). IsUsageRecord one.items) records)
     (sym c.first_alone-first.ensures.first)
     (All-take (λ (one : Vec ℕ Global). IsUsageRecord one.items) 1 c.args.records.now
@@ -29,9 +29,9 @@ pub returns-clause-takes : goal.returns-clause-takes
 returns-clause-takes g c =
     let seen = g.L.Ledger.seen c.args.self.now.inner.now in
     let part = c.first_alone-first.result.now in
-    let result = c.accept_many.result in
+    let result = c.accept_many-2.result in
     work_as _ _ (Takes seen.naming (records_in part) result)
     (Takes seen.naming (records_in c.args.records.now) result)
     (takes_part seen.naming c.args.records.now 1 part result c.first_alone-first.ensures.first
     c.first_alone-first.ensures.some)
-    c.accept_many.ensures.takes
+    c.accept_many-2.ensures.takes
