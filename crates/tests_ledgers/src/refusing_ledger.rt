@@ -9,6 +9,7 @@ use book_core::{
     Tariff, Trail,
 };
 use std::alloc::Global;
+use tests_scripts::is_due;
 
 /// Passes a given number of calls on to a ledger, answers the next that memory ran out, with
 /// nothing done, and passes on all after that.
@@ -29,21 +30,6 @@ impl<'a, L: Ledger> RefusingLedger<'a, L> {
     /// They refuse no call any more.
     pub fn has_refused(&self) -> bool {
         self.calls_left.is_none()
-    }
-}
-
-/// Counts a call, and answers whether it is the one to refuse.
-fn is_due(calls_left: &mut Option<u32>) -> bool {
-    match *calls_left {
-        None => false,
-        Some(0) => {
-            *calls_left = None;
-            true
-        }
-        Some(calls) => {
-            *calls_left = Some(calls - 1);
-            false
-        }
     }
 }
 

@@ -16,7 +16,7 @@ pub use answer_text::AnswerText;
 pub use ask::{Answers, Ask};
 pub use cases::Cases;
 pub use dump_parts::push_hex;
-pub use limited::{LimitedReader, LimitedWriter, Limits};
+pub use limited::{LimitedReader, LimitedWriter, Limits, is_due};
 pub use line_result::{LineFault, LineResult, value_of, words_of};
 pub use named::Named;
 pub use verdict::play_files;

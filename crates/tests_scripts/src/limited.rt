@@ -97,3 +97,19 @@ impl Write for LimitedWriter {
         Ok(())
     }
 }
+
+/// Counts a call, and answers whether it is the one to fail: that after a given number, and none
+/// where there is no number.
+pub fn is_due(calls_left: &mut Option<u32>) -> bool {
+    match *calls_left {
+        None => false,
+        Some(0) => {
+            *calls_left = None;
+            true
+        }
+        Some(calls) => {
+            *calls_left = Some(calls - 1);
+            false
+        }
+    }
+}

@@ -18,7 +18,7 @@ use table_ledger::TableLedger;
 use tests_scripts::{AnswerText, Ask, LineFault, LineResult, Named};
 
 /// More calls than any run makes of a store.
-const ENOUGH: u64 = 50_000;
+const ENOUGH: u32 = 50_000;
 
 /// The number of the fault of memory.
 const MEMORY: &str = "1";
@@ -77,7 +77,7 @@ fn work<L: Ledger>(run: Run<'_>, ledger: &mut L) -> Result<Option<Refused>, Mism
 /// call. Answers the books, and how far they came until then; nothing where no call was refused.
 fn begin<S: EmptyStore>(
     run: Run<'_>,
-    calls: u64,
+    calls: u32,
 ) -> Result<(Books<RefusingStore<S>>, Option<Refused>), Mismatch> {
     let alloc = run.named.alloc();
     let Some(store) = S::empty(alloc) else {
@@ -132,7 +132,7 @@ fn finish<S: EmptyStore>(
 fn try_refusal<S: EmptyStore>(
     run: Run<'_>,
     whole: &Uninterrupted,
-    calls: u64,
+    calls: u32,
 ) -> Result<bool, Mismatch> {
     let (books, refused) = begin::<S>(run, calls)?;
     let Some(refused) = refused else {

@@ -1,10 +1,11 @@
 //! A store that answers one of its calls that memory ran out.
 
-ghost use Rattle.std.specs.Prelude.{◌≡◌, IfErr};
+ghost use Rattle.std.specs.Prelude.{◌≡◌};
 
 use sqlite_trees::error::StoreError;
 use sqlite_trees::store::{Direction, Shape, Store};
 use sqlite_value::row::Row;
+use tests_scripts::is_due;
 
 /// It passes a given number of calls on, answers the next that memory ran out, and passes on all
 /// after that.
@@ -12,12 +13,12 @@ use sqlite_value::row::Row;
 pub(crate) struct RefusingStore<S: Store> {
     inner: S,
     /// The calls before the refused one; none is refused any more where there is no number.
-    calls_left: Option<u64>,
+    calls_left: Option<u32>,
 }
 
 impl<S: Store> RefusingStore<S> {
     /// A store that refuses the call after a given number.
-    pub(crate) fn new(inner: S, calls: u64) -> RefusingStore<S>
+    pub(crate) fn new(inner: S, calls: u32) -> RefusingStore<S>
         ensures { result.inner ≡ inner }
     {
         RefusingStore {
@@ -30,21 +31,6 @@ impl<S: Store> RefusingStore<S> {
     pub(crate) fn has_refused(&self) -> bool {
         self.calls_left.is_none()
     }
-}
-
-/// Counts a call, or refuses it.
-fn spend(calls_left: &mut Option<u64>) -> Result<(), StoreError>
-    ensures memory { IfErr result (λ error. error ≡ StoreError.OutOfMemory) }
-{
-    match *calls_left {
-        None => {}
-        Some(0) => {
-            *calls_left = None;
-            return Err(StoreError::OutOfMemory);
-        }
-        Some(calls) => *calls_left = Some(calls - 1),
-    }
-    Ok(())
 }
 
 impl<S: Store> Store for RefusingStore<S> {
@@ -97,45 +83,59 @@ impl<S: Store> Store for RefusingStore<S> {
         key: &Row,
         direction: Direction,
     ) -> Result<(), StoreError> {
-        spend(&mut self.calls_left)?;
+        if is_due(&mut self.calls_left) {
+            return Err(StoreError::OutOfMemory);
+        }
         self.inner.seek(cursor, tree, key, direction)
     }
 
     fn next(&mut self, cursor: u16, row: &mut Row) -> Result<bool, StoreError> {
-        spend(&mut self.calls_left)?;
+        if is_due(&mut self.calls_left) {
+            return Err(StoreError::OutOfMemory);
+        }
         self.inner.next(cursor, row)
     }
 
     fn get(&mut self, table: u32, id: i64, row: &mut Row) -> Result<bool, StoreError> {
-        spend(&mut self.calls_left)?;
+        if is_due(&mut self.calls_left) {
+            return Err(StoreError::OutOfMemory);
+        }
         self.inner.get(table, id, row)
     }
 
     fn put(&mut self, table: u32, row: &Row) -> Result<(), StoreError> {
-        spend(&mut self.calls_left)?;
+        if is_due(&mut self.calls_left) {
+            return Err(StoreError::OutOfMemory);
+        }
         self.inner.put(table, row)
     }
 
     fn delete(&mut self, table: u32, id: i64) -> Result<(), StoreError> {
-        spend(&mut self.calls_left)?;
+        if is_due(&mut self.calls_left) {
+            return Err(StoreError::OutOfMemory);
+        }
         self.inner.delete(table, id)
     }
 
     fn insert(&mut self, index: u32, entry: &Row) -> Result<(), StoreError> {
-        spend(&mut self.calls_left)?;
+        if is_due(&mut self.calls_left) {
+            return Err(StoreError::OutOfMemory);
+        }
         self.inner.insert(index, entry)
     }
 
     fn remove(&mut self, index: u32, entry: &Row) -> Result<(), StoreError> {
-        spend(&mut self.calls_left)?;
+        if is_due(&mut self.calls_left) {
+            return Err(StoreError::OutOfMemory);
+        }
         self.inner.remove(index, entry)
     }
 
     // A commit that fails rolls back.
     fn commit(&mut self) -> Result<(), StoreError> {
-        if let Err(refused) = spend(&mut self.calls_left) {
+        if is_due(&mut self.calls_left) {
             self.inner.rollback();
-            return Err(refused);
+            return Err(StoreError::OutOfMemory);
         }
         self.inner.commit()
     }
@@ -145,17 +145,23 @@ impl<S: Store> Store for RefusingStore<S> {
     }
 
     fn savepoint(&mut self) -> Result<(), StoreError> {
-        spend(&mut self.calls_left)?;
+        if is_due(&mut self.calls_left) {
+            return Err(StoreError::OutOfMemory);
+        }
         self.inner.savepoint()
     }
 
     fn release(&mut self) -> Result<(), StoreError> {
-        spend(&mut self.calls_left)?;
+        if is_due(&mut self.calls_left) {
+            return Err(StoreError::OutOfMemory);
+        }
         self.inner.release()
     }
 
     fn rollback_to(&mut self) -> Result<(), StoreError> {
-        spend(&mut self.calls_left)?;
+        if is_due(&mut self.calls_left) {
+            return Err(StoreError::OutOfMemory);
+        }
         self.inner.rollback_to()
     }
 }
