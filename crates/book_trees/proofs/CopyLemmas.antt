@@ -46,11 +46,6 @@ copied_more at size original old new bytes read written torn within begins = rec
   ];
 }
 
--- a file of which no byte was copied yet
-pub copied_none : (size : ℕ) (original copy : List ℕ) → length copy ≡ size
-    → BeginsAs 0 size original copy
-copied_none size original copy long = record { length = long; each = λ i below. absurd (omega arith) }
-
 -- all bytes are the same, and so the files are
 pub copied_whole : (size : ℕ) (original copy : List ℕ) → size ≡ length original
     → BeginsAs size size original copy → copy ≡ original

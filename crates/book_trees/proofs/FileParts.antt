@@ -1,18 +1,20 @@
 -- What the state of a store says about its two files.
-use Rattle.std.proofs.Common.{◌≡◌, ◌≤◌, ℕ, IsTrue, refl, sym, ap, subst, subst₂, ◌∙◌, inl, inr, arith}
+use Rattle.std.proofs.Common.{◌≡◌, ◌≤◌, ℕ, IsTrue, List, refl, sym, ap, subst, subst₂, ◌∙◌, inl, inr}
+use Rattle.std.proofs.Common.{arith}
 use Rattle.sqlite_disk.specs.declared.Disk.{Ghosts}
 use Rattle.sqlite_disk.specs.declared.files.Files.{Files}
 use Rattle.sqlite_pool.specs.Pool.{state, files}
 use Rattle.sqlite_pool.specs.Stored.{IsUnreadable, RecoversAs}
 use Rattle.sqlite_pool.specs.declared.pool.Pool.{Pool}
-use Rattle.sqlite_store.specs.FileStore.{state as store_state, files as store_files}
+use Rattle.sqlite_store.specs.FileStore.{state as store_state, files as store_files, view}
 use Rattle.sqlite_store.specs.Unopened.{files_of, state_of, image, Opens}
+use Rattle.sqlite_store.specs.declared.catalog.Wanted.{Wanted}
 use Rattle.sqlite_store.specs.declared.store.FileStore.{FileStore}
 use Rattle.sqlite_store.specs.declared.store.open.Unopened.{Unopened}
 use Rattle.sqlite_wal.specs.Files.{seen_image}
 use Rattle.sqlite_wal.specs.Reads.{are_clean, AreClean}
 use Rattle.sqlite_wal.specs.Recovery.{Image}
-use Rattle.book_trees.specs.LedgerFiles.{image_of, page_size}
+use Rattle.book_trees.specs.LedgerFiles.{image_of, page_size, HoldsTables, trees_held}
 use Rattle.book_trees.proofs.Refused.{cause_for}
 use Rattle.book_trees.specs.Refusals.{faults_in, AreKept, HasCause, MayLeave}
 use Rattle.book_trees.specs.declared.faults.OpenFault.{OpenFault}
@@ -75,14 +77,6 @@ module _ {D : Type 0} {g : Ghosts D} where
     unread = λ unreadable left may. kept.unread unreadable left (crash left may);
   }
 
-  -- files that were given back unchanged were kept
-  pub same_files : (files : Files D) → AreKept g files files
-  same_files files = record {
-    counts = omega arith;
-    crash = λ left may. inl may;
-    unread = λ _ left may. may;
-  }
-
 -- An open that ends with these files in hand, having been given those.
 module _ {D : Type 0} {g : Ghosts D} (old end : Unopened D g) (first last : Files D)
     (given : files_of old ≡ (first.log, first.db)) (back : (last.log, last.db) ≡ files_of end)
@@ -95,11 +89,6 @@ module _ {D : Type 0} {g : Ghosts D} (old end : Unopened D g) (first last : File
     pub first_honest : IsTrue (state_of old).is_clean → AreClean g first.log first.db
     first_honest clean =
         sym (clean_is old.pool ∙ ap (λ (p : D × D). are_clean g p.0 p.1) given) ∙ clean
-
-    -- the state was honest, if the first were
-    pub old_honest : AreClean g first.log first.db → IsTrue (state_of old).is_clean
-    old_honest clean =
-        clean_is old.pool ∙ ap (λ (p : D × D). are_clean g p.0 p.1) given ∙ clean
 
     -- the state is honest, if the last are
     pub end_honest : AreClean g last.log last.db → IsTrue (state_of end).is_clean
@@ -139,3 +128,21 @@ pub store_kept : {D : Type 0} {g : Ghosts D} (old : Unopened D g) (store : FileS
 store_kept {g = g} old store first last given back size opens =
     subst₂ (AreKept g) (ap named given) (ap named (sym back))
     (opened_files old store.pool size opens)
+
+-- A store that was opened on these files,
+module _ {D : Type 0} {g : Ghosts D} (old : Unopened D g) (store : FileStore D g) (first : Files D)
+    (given : files_of old ≡ (first.log, first.db)) where
+  -- shows the tables that they hold,
+  pub shows_given : {wanted : List Wanted} → (IsTrue (store_state store).is_clean
+      → (held : HoldsTables wanted (image old)) → (view store).trees ≡ trees_held held)
+      → IsTrue (store_state store).is_clean
+      → (held : HoldsTables wanted (image_of g first)) → (view store).trees ≡ trees_held held
+  shows_given {wanted} found clean =
+      subst (λ (i : Image). (held : HoldsTables wanted i) → (view store).trees ≡ trees_held held)
+      (first_image old old first first given (sym given)) (found clean)
+
+  -- and they were honest where it is
+  pub honest_given : (IsTrue (store_state store).is_clean → IsTrue (state_of old).is_clean)
+      → IsTrue (store_state store).is_clean → AreClean g first.log first.db
+  honest_given honest clean =
+      first_honest old old first first given (sym given) (honest clean)

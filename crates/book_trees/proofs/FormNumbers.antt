@@ -7,9 +7,12 @@ use Rattle.sqlite_disk.specs.declared.Disk.{Ghosts}
 use Rattle.sqlite_disk.specs.declared.files.Files.{Files}
 use Rattle.sqlite_format.specs.Bytes.{u32_at}
 use Rattle.sqlite_pool.specs.File.{version_in}
-use Rattle.sqlite_store.specs.FileStore.{view}
+use Rattle.sqlite_store.specs.FileStore.{state, view, files as store_files, IsReady}
+use Rattle.sqlite_store.specs.Unopened.{files_of, image}
 use Rattle.sqlite_store.specs.declared.catalog.Wanted.{Wanted}
 use Rattle.sqlite_store.specs.declared.store.FileStore.{FileStore}
+use Rattle.sqlite_store.specs.declared.store.open.Unopened.{Unopened}
+use Rattle.sqlite_trees.proofs.Doubt.{no_doubt}
 use Rattle.sqlite_trees.specs.Objects.{version_rows, version_tree, with_version}
 use Rattle.sqlite_trees.specs.Tree.{Trees}
 use Rattle.sqlite_trees.specs.View.{Commits, IsClean, IsRolledBack, KeepsCommitted, SetsTree, View}
@@ -24,8 +27,9 @@ use Rattle.tree_tables.specs.Forms.{this_form}
 use Rattle.tree_tables.specs.Holds.{HasShapes}
 use Rattle.tree_tables.specs.Steps.{KeepsLastCommit}
 use Rattle.book_trees.specs.Forms.{AreNewer, IsSaid, form_in}
-use Rattle.book_trees.specs.LedgerFiles.{HoldsTables, trees_held}
+use Rattle.book_trees.specs.LedgerFiles.{image_of, HoldsTables, trees_held}
 use Rattle.book_trees.proofs.ClosedFiles.{both_true, first_true, second_true}
+use Rattle.book_trees.proofs.FileParts.{shows_given, store_honest}
 use Rattle.book_trees.proofs.Trees.{same_trees}
 use Rattle.book_trees.specs.Copies.{IsOnlyRead}
 use Rattle.book_trees.specs.Refusals.{faults_in, MayLeave}
@@ -52,6 +56,21 @@ newer_is_other store image shows newer held form =
     let number : newer.0 ≡ version_in held.pages = ap version_of same in
     let above = newer.2 in
     absurd (omega (arith, number, form, above))
+
+-- so files do not whose store says so, and is closed again
+pub newer_refused : {wanted : List Wanted} {D : Type 0} {g : Ghosts D} (old : Unopened D g)
+    (store : FileStore D g) (first last : Files D) → files_of old ≡ (first.log, first.db)
+    → (last.log, last.db) ≡ store_files store → IsReady store
+    → (IsTrue (state store).is_clean → (held : HoldsTables wanted (image old))
+    → (view store).trees ≡ trees_held held)
+    → (IsClean (view store) → IsTrue (view store).is_open → AreNewer (view store).trees)
+    → AreClean g last.log last.db → (held : HoldsTables wanted (image_of g first))
+    → version_in held.pages ≤ this_form → ⊥
+newer_refused {g = g} old store first last given back ready found newer clean =
+    let honest = store_honest store last back clean in
+    let sure = no_doubt _ honest in
+    newer_is_other store (image_of g first) (shows_given old store first given found honest)
+    (newer sure (ready.is_open sure))
 
 -- the number in four bytes that were read where a file says its form
 pub form_read : (file said : List ℕ) → Holds file 60 said → length said ≡ 4
@@ -113,10 +132,6 @@ ended_shaped (Ok done) sets commits rolled shaped clean =
     said_shaped (form_said (sets clean) (commits clean)) shaped
 ended_shaped (Err error) sets commits rolled shaped clean =
     undone_shaped (sets clean) rolled shaped
-
--- what stands while the store is open is the last commit
-pub kept_last : {old new : View} → KeepsCommitted old new → KeepsLastCommit old new
-kept_last kept = record { was_open = kept.was_open; committed = kept.committed }
 
 -- the number was set, and then rolled back
 pub form_undone : {old mid new : View} → SetsForm old mid

@@ -11,6 +11,7 @@ use Rattle.sqlite_trees.specs.View.{HasCause, IsClean, IsQuiet, IsRolledBack}
 use Rattle.sqlite_trees.specs.declared.error.StoreError.{StoreError}
 use Rattle.sqlite_trees.specs.declared.error.StoreError.TheVariants.{OutOfMemory, Io, Corrupt}
 use Rattle.sqlite_trees.specs.declared.error.StoreError.TheVariants.{Full, Broken, Unstorable}
+use Rattle.tree_rows.proofs.Failing.{more_since}
 use Rattle.book_trees.specs.Closing.{IsStuckFor}
 
 -- what is so unless pages spilled is so where none did
@@ -19,10 +20,7 @@ pub moved_if_open : {T E : Type 0} (P Q R : Type 0) (result : Result T E) → On
 moved_if_open P Q R (Ok value) moved logged = λ is_open. moved (logged is_open)
 moved_if_open P Q R (Err error) moved logged = moved
 
--- the count rose during the later of two calls, or during the earlier
-pub more_late : (old mid new : ℕ) → old ≤ mid → MoreFaults mid new → MoreFaults old new
-more_late old mid new first more = omega arith
-
+-- a count that rose during the earlier of two calls rose
 pub more_early : (old mid new : ℕ) → MoreFaults old mid → mid ≤ new → MoreFaults old new
 more_early old mid new more later = omega arith
 
@@ -44,9 +42,9 @@ module _ {D : Type 0} {g : Ghosts D} (old mid new : FileStore D g)
         → HasCause (view mid) (MoreFaults (faults mid) (faults new)) ⊥ error
         → IsStuckFor (faults old) (faults new) error
     stuck_by OutOfMemory clean is_open why = tt
-    stuck_by Io clean is_open why = more_late _ _ _ rolled.counts why
-    stuck_by Corrupt clean is_open why = more_late _ _ _ rolled.counts why
-    stuck_by Full clean is_open why = more_late _ _ _ rolled.counts why
+    stuck_by Io clean is_open why = more_since _ _ _ rolled.counts why
+    stuck_by Corrupt clean is_open why = more_since _ _ _ rolled.counts why
+    stuck_by Full clean is_open why = more_since _ _ _ rolled.counts why
     stuck_by Broken clean is_open why = elim (open_or_more clean is_open) [
       | inl still ↦ absurd (true≢false (sym why ∙ (undone.undone still).1))
       | inr more ↦ more_early _ _ _ more moved.counts

@@ -11,11 +11,13 @@ use Rattle.sqlite_pool.specs.StoredLaws.{recovers_once, readable, RecoversAs-fro
 use Rattle.sqlite_store.specs.Db.{IsFile, rows_at}
 use Rattle.sqlite_store.specs.FileStore.{state, view, schema_of, IsReady}
 use Rattle.sqlite_store.specs.Listing.{file_trees, IsOurs}
+use Rattle.sqlite_store.specs.Opening.{FailsToOpen}
 use Rattle.sqlite_store.specs.Saved.{kept_schema}
 use Rattle.sqlite_store.specs.Unopened.{state_of, image, wanted_by, HasFile, HasFileAs}
 use Rattle.sqlite_store.specs.Unopened.{HasSomeFile}
-use Rattle.sqlite_store.specs.Unopened.{IsCatalogOf, Opens}
+use Rattle.sqlite_store.specs.Unopened.{IsCatalogOf, IsFullFile, Opens}
 use Rattle.sqlite_store.specs.declared.catalog.Wanted.{Wanted}
+use Rattle.sqlite_store.specs.declared.error.OpenError.{OpenError}
 use Rattle.sqlite_store.specs.declared.store.FileStore.{FileStore}
 use Rattle.sqlite_store.specs.declared.store.open.Unopened.{Unopened}
 use Rattle.sqlite_trees.proofs.Doubt.{no_doubt}
@@ -25,10 +27,15 @@ use Rattle.sqlite_wal.specs.State.{State}
 use Rattle.book_trees.proofs.BlankFiles.{blank_unsound}
 use Rattle.book_trees.proofs.FormLemmas.{first_is_not_this}
 use Rattle.book_trees.proofs.ListingLemmas.{books_listed, first_listed}
+use Rattle.book_trees.proofs.Refused.{cause_of}
+use Rattle.book_trees.proofs.Trees.{has_trees}
 use Rattle.book_trees.specs.LedgerFiles.{page_size, AreLeft, HoldsBooks, HoldsFirstBooks}
-use Rattle.book_trees.specs.LedgerFiles.{HoldsTables}
+use Rattle.book_trees.specs.LedgerFiles.{HoldsTables, trees_held}
 use Rattle.book_trees.specs.Listing.{lists_books, lists_first_books}
+use Rattle.book_trees.specs.Refusals.{fault_for, HasCause}
 use Rattle.book_trees.specs.Schema.{books_schema, first_schema}
+use Rattle.book_trees.specs.StoreView.{IsOpen}
+use Rattle.book_trees.specs.declared.faults.OpenFault.{OpenFault}
 
 -- an empty list of rows does not list books
 none_listed : lists_books [] ≡ true → ⊥
@@ -48,6 +55,18 @@ some_file {wanted} it size held = (
   subst (λ s. Recovers s (image it) held.pages) (sym size) held.found,
   (wanted, subst (λ s. IsFile s wanted held.pages) (sym size) held.file),
 )
+
+-- so why their list is not read
+pub unread_refused : {wanted : List Wanted} {D : Type 0} {g : Ghosts D} (old mid : Unopened D g)
+    (Held : Type 0) → (state_of old).page_size ≡ page_size → (Held → HoldsTables wanted (image old))
+    → (error : OpenError) → FailsToOpen (state_of old).faults (state_of mid).faults (IsFullFile mid)
+    (HasSomeFile old) error → (fault : OpenFault) → fault ≡ fault_for error
+    → HasCause (state_of old).faults (state_of mid).faults (IsFullFile mid) Held fault
+unread_refused old mid Held size held error fails fault is =
+    let Cause : OpenFault → Type 0 =
+    HasCause (state_of old).faults (state_of mid).faults (IsFullFile mid) Held in
+    subst Cause (sym is) (cause_of (state_of old).faults (state_of mid).faults (IsFullFile mid)
+    (HasSomeFile old) Held (λ this. some_file old size (held this)) error fails)
 
 module _ {D : Type 0} {g : Ghosts D} (old mid : Unopened D g) (rows : List Row)
     (listed : IsCatalogOf old mid rows) (sized : (state_of old).page_size ≡ page_size) where
@@ -203,3 +222,26 @@ module _ {wanted : List Wanted} {D : Type 0} {g : Ghosts D} (store : FileStore D
       subst (IsFile page_size wanted) same
       (subst (λ (w : List Wanted). IsFile page_size w (state store).committed) plain
       (subst (λ s. IsFile s kept (state store).committed) size stored.ours.file))
+
+-- a store that is ready and has the schema of books is open over books
+pub is_open : {D : Type 0} {g : Ghosts D} (store : FileStore D g) → IsReady store
+    → schema_of store ≡ books_schema
+    → (IsTrue (state store).is_clean → (state store).page_size ≡ page_size) → IsOpen store
+is_open store ready schema size = record {
+  ready = ready;
+  schema = schema;
+  trees = has_trees store schema ready.unaltered;
+  size = size;
+}
+
+-- one that was opened on files whose list was read first shows the tables that they hold
+pub shows_held : {wanted : List Wanted} {D : Type 0} {g : Ghosts D} (old mid : Unopened D g)
+    (rows : List Row) → IsCatalogOf old mid rows → (state_of old).page_size ≡ page_size
+    → (store : FileStore D g) → IsReady store → schema_of store ≡ wanted
+    → Opens old (state_of mid) → Opens mid (state store) → IsTrue (state store).is_clean
+    → Recovers (state_of mid).page_size (image mid) (state store).committed
+    → (held : HoldsTables wanted (image old)) → (view store).trees ≡ trees_held held
+shows_held old mid rows listed sized store ready schema first second clean found held =
+    let size : (state_of mid).page_size ≡ page_size = first.size ∙ sized in
+    shows_tables store ready schema (second.size ∙ size) clean held.pages
+    (committed_is old mid rows listed sized held (state store).committed size found)

@@ -1,5 +1,6 @@
 -- Why an open fails.
-use Rattle.std.proofs.Common.{◌≤◌, ℕ, Bool, true, false, List, inl, inr, arith}
+use Rattle.std.proofs.Common.{◌≡◌, ◌≤◌, ◌∙◌, ℕ, Bool, true, false, true≢false, List, inl, inr, ap}
+use Rattle.std.proofs.Common.{arith, subst, sym}
 use Rattle.sqlite_store.specs.Opening.{FailsToOpen}
 use Rattle.sqlite_store.specs.declared.error.OpenError.{OpenError}
 use Rattle.sqlite_store.specs.declared.error.OpenError.TheVariants.{OutOfMemory, Io, Full, Refused}
@@ -58,3 +59,13 @@ pub unlisted_cause : (old new : ℕ) (AtLimit Held : Type 0) → (Held → ⊥) 
     → HasCause old new AtLimit Held (unlisted_fault rows)
 unlisted_cause old new AtLimit Held none rows =
     told_cause old new AtLimit Held none (lists_first_books rows) (list_any (lists first_table) rows)
+
+-- why files are refused that would be listed otherwise if they held this
+pub unlisted_refused : (old new : ℕ) (AtLimit Held : Type 0) (is_listed : List Row → Bool)
+    (rows read : List Row) → (Held → is_listed rows ≡ true) → read ≡ rows → is_listed read ≡ false
+    → (other : List Row) (fault : OpenFault) → fault ≡ unlisted_fault other
+    → HasCause old new AtLimit Held fault
+unlisted_refused old new AtLimit Held is_listed rows read listed same unlisted other fault is =
+    subst (λ (fault : OpenFault). HasCause old new AtLimit Held fault) (sym is)
+    (unlisted_cause old new AtLimit Held (λ held.
+    true≢false (sym (listed held) ∙ sym (ap is_listed same) ∙ unlisted)) other)

@@ -16,7 +16,7 @@ use Rattle.sqlite_wal.specs.declared.error.Error.TheVariants.{Io, OutOfMemory, C
 use Rattle.sqlite_wal.specs.declared.error.Error.TheVariants.{Full, Corrupt, Exists}
 use Rattle.book_trees.specs.Copies.{IsOnlyRead}
 use Rattle.book_trees.specs.LedgerFiles.{page_size, shortest_log, without_log}
-use Rattle.book_trees.specs.LedgerFiles.{HoldsTables, IsHugeLog, trees_held}
+use Rattle.book_trees.specs.LedgerFiles.{HoldsAlone, HoldsTables, IsHugeLog, trees_held}
 use Rattle.book_trees.specs.Refusals.{probe_answer, HasCause}
 
 -- the file alone stands for the same pages
@@ -66,10 +66,8 @@ only_read one two read = record { seen = read.seen; clean = read.clean; crash = 
 -- so where recovery is said to take nothing of it the file alone holds the same tables
 pub passed_alone : {E : Type 0} (Clean : Type 0) (log read : List ℕ) (result : Result Bool E)
     → read ≡ log → IfOk result (λ is. Clean → (IsTrue is ↔ Replays page_size read 0))
-    → IfOk result (λ is. Clean → IsTrue is → (wanted : List Wanted) (image : Image)
-    → image.log ≡ log → (held : HoldsTables wanted image)
-    → (alone : HoldsTables wanted (without_log image)) × (trees_held alone ≡ trees_held held))
-passed_alone Clean log read (Ok is) whole told = λ clean yes wanted image same held.
+    → IfOk result (λ is. Clean → IsTrue is → (image : Image) → image.log ≡ log → HoldsAlone image)
+passed_alone Clean log read (Ok is) whole told = λ clean yes image same wanted held.
     unused_alone image
     (subst (λ log. Replays page_size log 0) (whole ∙ sym same) ((told clean).0 yes)) held
 passed_alone Clean log read (Err error) whole told = tt

@@ -6,9 +6,10 @@ use Rattle.sqlite_pool.specs.File.{version_in}
 use Rattle.sqlite_store.specs.Listing.{IsOurs, listed_from}
 use Rattle.sqlite_store.specs.declared.error.OpenError.{OpenError}
 use Rattle.sqlite_store.specs.declared.error.OpenError.TheVariants as store
+use Rattle.sqlite_store.specs.declared.store.FileStore.{FileStore}
 use Rattle.sqlite_trees.specs.Objects.{catalog_tree}
 use Rattle.sqlite_trees.specs.Tree.{Trees}
-use Rattle.sqlite_trees.specs.View.{View}
+use Rattle.sqlite_trees.specs.View.{IsClean, View}
 use Rattle.sqlite_trees.specs.declared.store.Shape.TheVariants.{Absent, Index}
 use Rattle.sqlite_value.specs.Keys.{plain}
 use Rattle.sqlite_wal.specs.Reads.{AreClean}
@@ -18,6 +19,7 @@ use Rattle.book_trees.specs.Forms.{IsToldOf}
 use Rattle.book_trees.specs.LedgerFiles.{page_size, HoldsFirstBooks}
 use Rattle.book_trees.specs.Refusals.{fault_for, faults_in, HasCause, IsUnopened}
 use Rattle.book_trees.specs.Schema.{first_schema}
+use Rattle.book_trees.specs.StoreView.{IsOpenAs}
 use Rattle.book_trees.specs.declared.faults.OpenFault.{OpenFault}
 use Rattle.book_trees.specs.declared.faults.OpenFault.TheVariants.{NewForm}
 use Rattle.book_trees.specs.declared.first_form.FirstFault.{FirstFault}
@@ -76,6 +78,11 @@ pub record HasFirstTrees (view : View) : Type 0 where
   pub shapes : (tree : ℕ) → tree < 10 → view.shape tree ≡ Index plain
   pub none : view.shape 10 ≡ Absent
   pub settled : view.committed_shape ≡ view.shape
+
+-- A store of books of the first form is open.
+abbrev pub IsOpenFirst : {D : Type 0} {g : Ghosts D} → FileStore D g → Type 0
+IsOpenFirst store =
+    IsOpenAs first_schema (λ view. IsClean view → HasFirstTrees view) store
 
 -- the list of the trees is not that of books of the first form
 abbrev pub ListMore : Trees → Type 0

@@ -71,6 +71,12 @@ shortest_log = 32 + 24
 abbrev pub without_log : Image → Image
 without_log image = record { log = []; db = image.db }
 
+-- the file alone, with no log to go with it, holds whatever tables the two hold
+abbrev pub HoldsAlone : Image → Type 0
+HoldsAlone image =
+    (wanted : List Wanted) (held : HoldsTables wanted image)
+    → (alone : HoldsTables wanted (without_log image)) × (trees_held alone ≡ trees_held held)
+
 -- what a close leaves of a log: its header, and what shuts it behind that
 abbrev pub closed_log : ℕ
 closed_log = 32 + 9

@@ -78,6 +78,14 @@ module _ {D : Type 0} (g : Ghosts D) where
   StopCreating files =
       ∥ ((it : Unopened D g) × ((files.log, files.db) ≡ files_of it) × StopsCreating it) ∥₁
 
+  -- These files are given back with a fault, which has its cause as one of its kind has: they did not
+  -- hold this, or a call on them failed meanwhile, or they are at a limit.
+  abbrev pub IsRefusal : {Fault : Type 0} → (ℕ → ℕ → Type 0 → Type 0 → Fault → Type 0) → Files D
+      → Type 0 → (Files D → Type 0) → Fault × Files D → Type 0
+  IsRefusal Causes files Held AtLimit refusal =
+      AreClean g refusal.1.log refusal.1.db
+      → Causes (faults_in files) (faults_in refusal.1) (AtLimit refusal.1) Held refusal.0
+
   -- refused files were there, and held this: why they were refused
   abbrev pub IsRefusedFor : Type 0 → (Files D → Type 0) → OpenFault → Files D → Type 0
   IsRefusedFor Held AtLimit fault files =

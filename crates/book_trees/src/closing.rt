@@ -6,15 +6,14 @@ ghost use Rattle.sqlite_disk.specs.Disk.{MoreFaults};
 ghost use Rattle.sqlite_store.specs.Catalog.{wanted_of};
 ghost use Rattle.sqlite_store.specs.FileStore.{faults, files as files_of, log_frames};
 ghost use Rattle.sqlite_store.specs.FileStore.{recovers, state, view};
-ghost use Rattle.sqlite_store.specs.declared.catalog.Wanted.{Wanted};
 ghost use Rattle.sqlite_trees.specs.Tree.{Trees};
 ghost use Rattle.sqlite_trees.specs.View.{doubt, IsClean};
 ghost use Rattle.sqlite_wal.specs.Reads.{AreClean, IsClean as IsCleanFile};
 ghost use Rattle.sqlite_wal.specs.Recovery.{Image};
 ghost use Rattle.book_trees.specs.Closing.{HasSchema, HaveFailed, IsStuckFor, LeavesLog};
 ghost use Rattle.book_trees.specs.Closing.{MayBeFound};
-ghost use Rattle.book_trees.specs.LedgerFiles.{shortest_log, without_log, HoldsBooks, trees_held};
-ghost use Rattle.book_trees.specs.LedgerFiles.{HoldsFirstBooks, HoldsTables};
+ghost use Rattle.book_trees.specs.LedgerFiles.{shortest_log, HoldsAlone, HoldsBooks};
+ghost use Rattle.book_trees.specs.LedgerFiles.{HoldsFirstBooks, HoldsTables, trees_held};
 
 use crate::schema::{books_objects, first_objects};
 use crate::unopened::size_of_a_page;
@@ -191,9 +190,7 @@ const SHORTEST_LOG: u64 = 56;
 /// file alone, with the same tables.
 pub fn needs_no_log(len: u64) -> bool
     ensures short { IsTrue result ↔ (len < shortest_log) }
-    ensures alone { IsTrue result → (wanted : List Wanted) (image : Image) → length image.log ≡ len
-        → (held : HoldsTables wanted image)
-        → (alone : HoldsTables wanted (without_log image)) × (trees_held alone ≡ trees_held held) }
+    ensures alone { IsTrue result → (image : Image) → length image.log ≡ len → HoldsAlone image }
 {
     len < SHORTEST_LOG
 }

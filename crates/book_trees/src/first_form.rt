@@ -3,7 +3,6 @@
 ghost use Rattle.std.specs.Prelude.{◌≡◌, ◌≤◌, IfErr, IfOk, IfSome, IsTrue, MatchOption};
 ghost use Rattle.std.specs.Prelude.{OnErr, OnOk};
 ghost use Rattle.sqlite_store.specs.FileStore.{state, view, schema_of, IsReady};
-ghost use Rattle.sqlite_store.specs.FileStore.{files as files_of};
 ghost use Rattle.sqlite_store.specs.Unopened.{image, state_of, wanted_by, AreUsable};
 ghost use Rattle.sqlite_store.specs.Unopened.{IsFullFile, Opens};
 ghost use Rattle.sqlite_trees.specs.View.{IsClean};
@@ -12,10 +11,11 @@ ghost use Rattle.sqlite_wal.specs.Reads.{AreClean};
 ghost use Rattle.sqlite_wal.specs.Recovery.{Image};
 ghost use Rattle.book_trees.specs.FirstForm.{first_fault_for, HasFirstCause, HoldsFirstForm};
 ghost use Rattle.book_trees.specs.FirstForm.{AddsDetails, HasFirstTrees, IsFirstRefusedFor};
-ghost use Rattle.book_trees.specs.FirstForm.{IsToldFirst, IsToldThis, IsUnopenedFirst};
+ghost use Rattle.book_trees.specs.FirstForm.{IsOpenFirst, IsToldFirst, IsToldThis, IsUnopenedFirst};
 ghost use Rattle.tree_rows.specs.Calls.{CommitsNothing, LeavesCommitted};
 ghost use Rattle.book_trees.specs.LedgerFiles.{image_of, page_size, HoldsFirstBooks, trees_held};
-ghost use Rattle.book_trees.specs.Refusals.{faults_in, AreFull, AreKept, IsAsFound, MayLeave};
+ghost use Rattle.book_trees.specs.Refusals.{faults_in, AreFull, AreKept, IsAsFound, IsRefusal};
+ghost use Rattle.book_trees.specs.Refusals.{MayLeave};
 ghost use Rattle.book_trees.specs.Schema.{first_schema};
 
 use crate::catalog::{lists_books, lists_first_books, unlisted_fault};
@@ -61,11 +61,7 @@ fn open_first<D: Disk>(files: Unopened<D>) -> Result<FileStore<D>, (FirstFault, 
     requires usable { AreUsable files }
     requires schema { wanted_by files ≡ first_schema }
     requires size { (state_of files).page_size ≡ page_size }
-    ensures ready { IfOk result IsReady }
-    ensures schema { IfOk result (λ store. schema_of store ≡ first_schema) }
-    ensures trees { IfOk result (λ store. IsClean (view store) → HasFirstTrees (view store)) }
-    ensures size { IfOk result (λ store. IsTrue (state store).is_clean
-        → (state store).page_size ≡ page_size) }
+    ensures opened { IfOk result IsOpenFirst }
     ensures honest { IfOk result (λ store. IsTrue (state store).is_clean
         → IsTrue (state_of files).is_clean) }
     ensures found { IfOk result (λ store. IsTrue (state store).is_clean
@@ -94,44 +90,6 @@ fn open_first<D: Disk>(files: Unopened<D>) -> Result<FileStore<D>, (FirstFault, 
     }
 }
 
-/// Opens two files as books of the first form, or gives them back, whatever form they say that they
-/// have.
-fn open_first_known<D: Disk>(
-    alloc: Global,
-    files: Files<D>,
-    options: Options,
-) -> Result<FileStore<D>, (FirstFault, Files<D>)>
-    requires log { IsTrue (D.Disk.is_usable files.log) }
-    requires db { IsTrue (D.Disk.is_usable files.db) }
-    ensures ready { IfOk result IsReady }
-    ensures schema { IfOk result (λ store. schema_of store ≡ first_schema) }
-    ensures trees { IfOk result (λ store. IsClean (view store) → HasFirstTrees (view store)) }
-    ensures size { IfOk result (λ store. IsTrue (state store).is_clean
-        → (state store).page_size ≡ page_size) }
-    ensures honest { IfOk result (λ store. IsTrue (state store).is_clean
-        → AreClean D.Disk files.log files.db) }
-    ensures found { IfOk result (λ store. IsTrue (state store).is_clean
-        → (held : HoldsFirstBooks (image_of D.Disk files)) → (view store).trees ≡ trees_held held) }
-
-    // If they are closed at once, they are kept.
-    ensures closed { IfOk result (λ store. (last : Files D) → (last.log, last.db) ≡ files_of store
-        → AreClean D.Disk last.log last.db → AreKept D.Disk files last) }
-    ensures cause { IfErr result (λ refusal. AreClean D.Disk refusal.1.log refusal.1.db
-        → HasFirstCause (faults_in D.Disk files) (faults_in D.Disk refusal.1)
-        (AreFull D.Disk refusal.1) (HoldsFirstForm (image_of D.Disk files)) refusal.0) }
-    ensures unharmed { IfErr result (λ refusal. AreClean D.Disk refusal.1.log refusal.1.db
-        → AreKept D.Disk files refusal.1) }
-{
-    let files = match unopened_first(alloc, files, options) {
-        Ok(files) => files,
-        Err(files) => return Err((FirstFault::Open(OpenFault::Memory), files)),
-    };
-    match open_first(files) {
-        Ok(store) => Ok(store),
-        Err((fault, files)) => Err(told_first(fault, files.close())),
-    }
-}
-
 /// Opens two files as books of the first form, or gives them back.
 pub fn open_first_files<D: Disk>(
     alloc: Global,
@@ -140,26 +98,25 @@ pub fn open_first_files<D: Disk>(
 ) -> Result<FileStore<D>, (FirstFault, Files<D>)>
     requires log { IsTrue (D.Disk.is_usable files.log) }
     requires db { IsTrue (D.Disk.is_usable files.db) }
-    ensures ready { IfOk result IsReady }
-    ensures schema { IfOk result (λ store. schema_of store ≡ first_schema) }
-    ensures trees { IfOk result (λ store. IsClean (view store) → HasFirstTrees (view store)) }
-    ensures size { IfOk result (λ store. IsTrue (state store).is_clean
-        → (state store).page_size ≡ page_size) }
+    ensures opened { IfOk result IsOpenFirst }
     ensures honest { IfOk result (λ store. IsTrue (state store).is_clean
         → AreClean D.Disk files.log files.db) }
     ensures found { IfOk result (λ store. IsTrue (state store).is_clean
         → (held : HoldsFirstBooks (image_of D.Disk files)) → (view store).trees ≡ trees_held held) }
 
     // Files of the first form are not opened only because of memory and the disk.
-    ensures cause { IfErr result (λ refusal. AreClean D.Disk refusal.1.log refusal.1.db
-        → HasFirstCause (faults_in D.Disk files) (faults_in D.Disk refusal.1)
-        (AreFull D.Disk refusal.1) (HoldsFirstForm (image_of D.Disk files)) refusal.0) }
+    ensures cause { IfErr result (IsRefusal D.Disk HasFirstCause files
+        (HoldsFirstForm (image_of D.Disk files)) (AreFull D.Disk)) }
     ensures unharmed { IfErr result (λ refusal. AreClean D.Disk refusal.1.log refusal.1.db
         → AreKept D.Disk files refusal.1) }
 {
-    let store = match open_first_known(alloc, files, options) {
+    let files = match unopened_first(alloc, files, options) {
+        Ok(files) => files,
+        Err(files) => return Err((FirstFault::Open(OpenFault::Memory), files)),
+    };
+    let store = match open_first(files) {
         Ok(store) => store,
-        Err(refusal) => return Err(refusal),
+        Err((fault, files)) => return Err(told_first(fault, files.close())),
     };
     if says_newer(&store) {
         return Err((FirstFault::Open(OpenFault::NewForm), store.close()));

@@ -2,7 +2,6 @@
 
 ghost use Rattle.std.specs.Prelude.{◌≡◌, ◌≤◌, IfErr, IfOk, IfSome, IsTrue, MatchOption};
 ghost use Rattle.sqlite_store.specs.FileStore.{state, view, schema_of, IsReady};
-ghost use Rattle.sqlite_store.specs.FileStore.{files as files_of};
 ghost use Rattle.sqlite_store.specs.Unopened.{image, state_of, wanted_by, AreUsable};
 ghost use Rattle.sqlite_store.specs.Unopened.{IsFullFile, Opens};
 ghost use Rattle.sqlite_wal.specs.Files.{image_at};
@@ -12,9 +11,10 @@ ghost use Rattle.book_trees.specs.Forms.{HoldsThisForm};
 ghost use Rattle.book_trees.specs.LedgerFiles.{image_of, page_size, HoldsBooks, trees_held};
 ghost use Rattle.book_trees.specs.Looks.{look_fault_for, HasLookCause, IsLookRefusedFor};
 ghost use Rattle.book_trees.specs.Looks.{IsToldLook, IsUnopenedLook};
-ghost use Rattle.book_trees.specs.Refusals.{faults_in, AreFull, AreKept, IsAsFound, MayLeave};
+ghost use Rattle.book_trees.specs.Refusals.{faults_in, AreFull, AreKept, IsAsFound, IsRefusal};
+ghost use Rattle.book_trees.specs.Refusals.{MayLeave};
 ghost use Rattle.book_trees.specs.Schema.{books_schema};
-ghost use Rattle.book_trees.specs.StoreView.{ListsBooks};
+ghost use Rattle.book_trees.specs.StoreView.{IsOpen, ListsBooks};
 ghost use Rattle.tree_tables.specs.Holds.{HasShapes};
 
 use crate::catalog::{lists_books, unlisted_fault};
@@ -53,11 +53,7 @@ fn look_through_all<D: Disk>(files: Unopened<D>) -> Result<FileStore<D>, (LookFa
     requires usable { AreUsable files }
     requires schema { wanted_by files ≡ books_schema }
     requires size { (state_of files).page_size ≡ page_size }
-    ensures ready { IfOk result IsReady }
-    ensures schema { IfOk result (λ store. schema_of store ≡ books_schema) }
-    ensures trees { IfOk result (λ store. HasShapes (view store)) }
-    ensures size { IfOk result (λ store. IsTrue (state store).is_clean
-        → (state store).page_size ≡ page_size) }
+    ensures opened { IfOk result IsOpen }
     ensures honest { IfOk result (λ store. IsTrue (state store).is_clean
         → IsTrue (state_of files).is_clean) }
     ensures found { IfOk result (λ store. IsTrue (state store).is_clean
@@ -87,47 +83,6 @@ fn look_through_all<D: Disk>(files: Unopened<D>) -> Result<FileStore<D>, (LookFa
     }
 }
 
-/// Opens two files, and looks through all of their pages, whatever form they say that they have.
-fn look_known<D: Disk>(
-    alloc: Global,
-    files: Files<D>,
-    options: Options,
-) -> Result<FileStore<D>, (LookFault, Files<D>)>
-    requires log { IsTrue (D.Disk.is_usable files.log) }
-    requires db { IsTrue (D.Disk.is_usable files.db) }
-    ensures ready { IfOk result IsReady }
-    ensures schema { IfOk result (λ store. schema_of store ≡ books_schema) }
-    ensures trees { IfOk result (λ store. HasShapes (view store)) }
-    ensures size { IfOk result (λ store. IsTrue (state store).is_clean
-        → (state store).page_size ≡ page_size) }
-    ensures honest { IfOk result (λ store. IsTrue (state store).is_clean
-        → AreClean D.Disk files.log files.db) }
-    ensures found { IfOk result (λ store. IsTrue (state store).is_clean
-        → (held : HoldsBooks (image_of D.Disk files)) → (view store).trees ≡ trees_held held) }
-    ensures held { IfOk result (λ store. IsTrue (state store).is_clean
-        → ∥ HoldsBooks (image_of D.Disk files) ∥₁) }
-
-    // If they are closed at once, they are kept.
-    ensures closed { IfOk result (λ store. (last : Files D) → (last.log, last.db) ≡ files_of store
-        → AreClean D.Disk last.log last.db → AreKept D.Disk files last) }
-    ensures cause { IfErr result (λ refusal. AreClean D.Disk refusal.1.log refusal.1.db
-        → HasLookCause (faults_in D.Disk files) (faults_in D.Disk refusal.1)
-        (AreFull D.Disk refusal.1) (HoldsBooks (image_of D.Disk files)) refusal.0) }
-    ensures listed { IfErr result (λ refusal. refusal.0 ≡ LookFault.Pages
-        → AreClean D.Disk refusal.1.log refusal.1.db → ListsBooks (image_of D.Disk files)) }
-    ensures unharmed { IfErr result (λ refusal. AreClean D.Disk refusal.1.log refusal.1.db
-        → AreKept D.Disk files refusal.1) }
-{
-    let files = match unopened(alloc, files, options) {
-        Ok(files) => files,
-        Err(files) => return Err((LookFault::Open(OpenFault::Memory), files)),
-    };
-    match look_through_all(files) {
-        Ok(store) => Ok(store),
-        Err((fault, files)) => Err(told_look(fault, files.close())),
-    }
-}
-
 /// Opens two files, and looks through all of their pages. If there is no store they are given back.
 pub fn look_through<D: Disk>(
     alloc: Global,
@@ -136,11 +91,7 @@ pub fn look_through<D: Disk>(
 ) -> Result<FileStore<D>, (LookFault, Files<D>)>
     requires log { IsTrue (D.Disk.is_usable files.log) }
     requires db { IsTrue (D.Disk.is_usable files.db) }
-    ensures ready { IfOk result IsReady }
-    ensures schema { IfOk result (λ store. schema_of store ≡ books_schema) }
-    ensures trees { IfOk result (λ store. HasShapes (view store)) }
-    ensures size { IfOk result (λ store. IsTrue (state store).is_clean
-        → (state store).page_size ≡ page_size) }
+    ensures opened { IfOk result IsOpen }
     ensures honest { IfOk result (λ store. IsTrue (state store).is_clean
         → AreClean D.Disk files.log files.db) }
     ensures found { IfOk result (λ store. IsTrue (state store).is_clean
@@ -150,9 +101,8 @@ pub fn look_through<D: Disk>(
 
     // Files that hold books of this form are not looked through only because of memory and the
     // disk.
-    ensures cause { IfErr result (λ refusal. AreClean D.Disk refusal.1.log refusal.1.db
-        → HasLookCause (faults_in D.Disk files) (faults_in D.Disk refusal.1)
-        (AreFull D.Disk refusal.1) (HoldsThisForm (image_of D.Disk files)) refusal.0) }
+    ensures cause { IfErr result (IsRefusal D.Disk HasLookCause files
+        (HoldsThisForm (image_of D.Disk files)) (AreFull D.Disk)) }
 
     // Their pages are called wrong only of files that list the tables of books.
     ensures listed { IfErr result (λ refusal. refusal.0 ≡ LookFault.Pages
@@ -160,9 +110,13 @@ pub fn look_through<D: Disk>(
     ensures unharmed { IfErr result (λ refusal. AreClean D.Disk refusal.1.log refusal.1.db
         → AreKept D.Disk files refusal.1) }
 {
-    let store = match look_known(alloc, files, options) {
+    let files = match unopened(alloc, files, options) {
+        Ok(files) => files,
+        Err(files) => return Err((LookFault::Open(OpenFault::Memory), files)),
+    };
+    let store = match look_through_all(files) {
         Ok(store) => store,
-        Err(refusal) => return Err(refusal),
+        Err((fault, files)) => return Err(told_look(fault, files.close())),
     };
     if says_newer(&store) {
         return Err((LookFault::Open(OpenFault::NewForm), store.close()));

@@ -7,10 +7,10 @@ ghost use Rattle.sqlite_wal.specs.Reads.{AreClean};
 ghost use Rattle.sqlite_wal.specs.Recovery.{Image};
 ghost use Rattle.book_trees.specs.LedgerFiles.{image_of, page_size, HoldsBooks, trees_held};
 ghost use Rattle.book_trees.specs.LedgerFiles.{AreEmptyTables, HoldsNothing};
-ghost use Rattle.book_trees.specs.Refusals.{faults_in, AreKept, HasCause};
-ghost use Rattle.book_trees.specs.Refusals.{IsBegun, IsRefusedFor, IsUnopened, MayLeave};
-ghost use Rattle.book_trees.specs.Refusals.{StopCreating};
+ghost use Rattle.book_trees.specs.Refusals.{AreKept, HasCause, IsBegun, IsRefusal, IsRefusedFor};
+ghost use Rattle.book_trees.specs.Refusals.{IsUnopened, MayLeave, StopCreating};
 ghost use Rattle.book_trees.specs.Schema.{books_schema};
+ghost use Rattle.book_trees.specs.StoreView.{IsOpen};
 ghost use Rattle.tree_tables.specs.Holds.{HasShapes};
 
 use crate::faults::{OpenFault, fault_at, fault_of};
@@ -32,11 +32,7 @@ pub fn create_files<D: Disk>(
 ) -> Result<FileStore<D>, (OpenFault, Files<D>)>
     requires log { IsTrue (D.Disk.is_usable files.log) }
     requires db { IsTrue (D.Disk.is_usable files.db) }
-    ensures ready { IfOk result IsReady }
-    ensures schema { IfOk result (λ store. schema_of store ≡ books_schema) }
-    ensures trees { IfOk result (λ store. HasShapes (view store)) }
-    ensures size { IfOk result (λ store. IsTrue (state store).is_clean
-        → (state store).page_size ≡ page_size) }
+    ensures opened { IfOk result IsOpen }
     ensures honest { IfOk result (λ store. IsTrue (state store).is_clean
         → AreClean D.Disk files.log files.db) }
     ensures started { IfOk result (λ store. IsTrue (state store).is_clean
@@ -56,9 +52,8 @@ pub fn create_files<D: Disk>(
         → MayLeave D.Disk files left ⊎ IsBegun left) }
 
     // Files that hold nothing are refused only because of memory and the disk.
-    ensures cause { IfErr result (λ refusal. AreClean D.Disk refusal.1.log refusal.1.db
-        → HasCause (faults_in D.Disk files) (faults_in D.Disk refusal.1)
-        (StopCreating D.Disk refusal.1) (HoldsNothing (image_of D.Disk files)) refusal.0) }
+    ensures cause { IfErr result (IsRefusal D.Disk HasCause files
+        (HoldsNothing (image_of D.Disk files)) (StopCreating D.Disk)) }
     ensures unharmed { IfErr result (λ refusal. AreClean D.Disk refusal.1.log refusal.1.db
         → (¬ HoldsNothing (image_of D.Disk files)) → AreKept D.Disk files refusal.1) }
 {

@@ -1,12 +1,10 @@
 //! A log of which books take nothing.
 
-ghost use Rattle.std.specs.Prelude.{◌≡◌, ◌↔◌, ◌≤◌, IfErr, IfOk, IsTrue, List, ⊤};
-ghost use Rattle.sqlite_store.specs.declared.catalog.Wanted.{Wanted};
+ghost use Rattle.std.specs.Prelude.{◌≡◌, ◌↔◌, ◌≤◌, IfErr, IfOk, IsTrue, ⊤};
 ghost use Rattle.sqlite_wal.specs.Reads.{IsClean};
 ghost use Rattle.sqlite_wal.specs.Recovery.{Image, Replays};
 ghost use Rattle.book_trees.specs.Copies.{IsOnlyRead};
-ghost use Rattle.book_trees.specs.LedgerFiles.{page_size, without_log, HoldsTables, IsHugeLog};
-ghost use Rattle.book_trees.specs.LedgerFiles.{IsUnused, trees_held};
+ghost use Rattle.book_trees.specs.LedgerFiles.{page_size, HoldsAlone, IsHugeLog, IsUnused};
 ghost use Rattle.book_trees.specs.Refusals.{probe_answer, HasCause};
 
 use crate::faults::OpenFault;
@@ -51,9 +49,8 @@ pub fn is_unused<D: Disk>(alloc: Global, log: &mut D) -> Result<bool, OpenFault>
     requires { IsTrue (D.Disk.is_usable log.old) }
     ensures unused { IfOk result (λ is. IsClean D.Disk log.new
         → (IsTrue is ↔ IsUnused (D.Disk.seen log.old))) }
-    ensures alone { IfOk result (λ is. IsClean D.Disk log.new → IsTrue is → (wanted : List Wanted)
-        (image : Image) → image.log ≡ D.Disk.seen log.old → (held : HoldsTables wanted image)
-        → (alone : HoldsTables wanted (without_log image)) × (trees_held alone ≡ trees_held held)) }
+    ensures alone { IfOk result (λ is. IsClean D.Disk log.new → IsTrue is → (image : Image)
+        → image.log ≡ D.Disk.seen log.old → HoldsAlone image) }
 
     // It has no answer only because of memory and the disk.
     ensures cause { IfErr result (λ fault. IsClean D.Disk log.new

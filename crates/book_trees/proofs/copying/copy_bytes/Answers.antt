@@ -4,7 +4,7 @@ use Rattle.sqlite_disk.specs.Disk.{Holds}
 use Rattle.book_trees.specs.Copies.{BeginsAs}
 use Rattle.book_trees.proofs.CopyLemmas.{copied_more, first_more, read_twice, same_length}
 use Rattle.book_trees.proofs.CopyLemmas.{second_more, so_at_err}
-use Rattle.book_trees.proofs.Moved.{more_late}
+use Rattle.tree_rows.proofs.Failing.{more_since}
 use Rattle.book_trees.proofs.copying.copy_bytes.Goals as goal
 
 pub loop-done-preserved : goal.loop-done-preserved
@@ -48,7 +48,7 @@ returns-in_err-read_at-clause-cause g c =
     let whole = c.requires.whole (held.0.clean clean) in
     let same = ap length held.0.seen in
     grind (arith, common_steps, whole, same)) in
-    so_at_err _ c.from_residual.result (more_late _ _ _ held.7
+    so_at_err _ c.from_residual.result (more_since _ _ _ held.7
     (first_more (g.A.Disk.faults c.loop-done.from) (g.B.Disk.faults c.loop-done.to)
     (g.A.Disk.faults c.read_at.new.self) (g.B.Disk.faults c.loop-done.to) more (omega arith)))
 
@@ -56,7 +56,7 @@ pub returns-in_err-write_at-clause-cause : goal.returns-in_err-write_at-clause-c
 returns-in_err-write_at-clause-cause g c =
     let same = c.in_ok-read_at.ensures.faults in
     so_at_err _ c.from_residual-in_err-write_at.result
-    (more_late _ _ _ c.loop-done.invariant.7
+    (more_since _ _ _ c.loop-done.invariant.7
     (second_more (g.A.Disk.faults c.loop-done.from) (g.B.Disk.faults c.loop-done.to)
     (g.A.Disk.faults c.read_at.new.self) (g.B.Disk.faults c.write_at.new.self)
     (omega (arith, same)) c.in_err-write_at.ensures.faults.0))

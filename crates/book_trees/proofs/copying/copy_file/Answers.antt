@@ -1,7 +1,7 @@
 use Rattle.std.proofs.Common.{◌∙◌, ◌+◌, ◌≤◌, ap, arith, inl, inr, length, sym}
 use Rattle.book_trees.proofs.CopyLemmas.{copied_whole, copy_synced, counted_less, counted_stop}
 use Rattle.book_trees.proofs.CopyLemmas.{first_more, read_twice, said_by, said_on, second_more}
-use Rattle.book_trees.proofs.Moved.{more_late}
+use Rattle.tree_rows.proofs.Failing.{more_since}
 use Rattle.book_trees.specs.Copies.{StopsCopy}
 use Rattle.book_trees.proofs.copying.copy_file.Goals as goal
 
@@ -64,7 +64,7 @@ returns-in_err-copy_bytes-clause-cause g c =
     let new = g.A.Disk.faults c.copy_bytes.new.from + g.B.Disk.faults c.copy_bytes.new.to in
     said_on (StopsCopy (from + to) new)
     c.from_residual-in_err-copy_bytes.result c.from_residual-in_err-copy_bytes.ensures.1
-    (inr (more_late (from + to) old new (omega (arith, one, two)) c.in_err-copy_bytes.ensures.cause))
+    (inr (more_since (from + to) old new (omega (arith, one, two)) c.in_err-copy_bytes.ensures.cause))
 
 pub returns-clause-counts : goal.returns-clause-counts
 returns-clause-counts g c =
@@ -92,5 +92,5 @@ returns-clause-cause g c =
       c.copy_bytes.ensures.counts,
     ) in
     counted_stop c.sync.result (from + to) (from' + last) to' last c.sync.ensures.faults (λ more.
-    more_late (from + to) (from' + to') (from' + last) less
+    more_since (from + to) (from' + to') (from' + last) less
     (second_more from' to' from' last (omega arith) more))

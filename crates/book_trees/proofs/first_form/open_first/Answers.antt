@@ -1,29 +1,22 @@
 use Rattle.std.proofs.Common.{◌≡◌, true, sym, ap, ◌∙◌, subst}
 use Rattle.sqlite_store.specs.FileStore.{state}
-use Rattle.sqlite_store.specs.Unopened.{state_of, image, HasFileAs, HasSomeFile, IsFullFile}
+use Rattle.sqlite_store.specs.Unopened.{state_of, image, HasFileAs, IsFullFile}
 use Rattle.sqlite_trees.proofs.Doubt.{clean_of}
 use Rattle.book_trees.proofs.FirstCauses.{first_cause_of, first_since}
-use Rattle.book_trees.proofs.Opened.{committed_is, held_first_listed, held_first_only, held_ours}
-use Rattle.book_trees.proofs.Opened.{opens_twice, shows_tables, some_file}
-use Rattle.book_trees.proofs.Refused.{cause_of, unlisted_cause}
+use Rattle.book_trees.proofs.Opened.{held_first_listed, held_first_only, held_ours, opens_twice}
+use Rattle.book_trees.proofs.Opened.{shows_held, unread_refused}
+use Rattle.book_trees.proofs.Refused.{unlisted_refused}
 use Rattle.book_trees.proofs.Trees.{has_first_trees}
 use Rattle.book_trees.specs.FirstForm.{first_fault_for, HasFirstCause, HoldsFirstForm}
-use Rattle.book_trees.specs.LedgerFiles.{page_size}
 use Rattle.book_trees.specs.Listing.{lists_books, lists_first_books}
-use Rattle.book_trees.specs.Refusals.{HasCause}
-use Rattle.book_trees.specs.declared.faults.OpenFault.{OpenFault}
 use Rattle.book_trees.specs.declared.first_form.FirstFault.{FirstFault}
 use Rattle.book_trees.proofs.first_form.open_first.Goals as goal
 
 pub returns-in-Err-clause-cause : goal.returns-in-Err-clause-cause
 returns-in-Err-clause-cause g c clean =
-    let old = c.args.files in
-    let mid = c.read_catalog.new.self in
-    subst (λ (fault : OpenFault). HasCause (state_of old).faults (state_of mid).faults
-    (IsFullFile mid) (HoldsFirstForm (image old)) fault) (sym c.fault_of.ensures)
-    (cause_of (state_of old).faults (state_of mid).faults (IsFullFile mid) (HasSomeFile old)
-    (HoldsFirstForm (image old)) (λ first. some_file old c.requires.size first.held)
-    c.in-Err.error (c.in-Err.ensures.cause clean))
+    unread_refused c.args.files c.read_catalog.new.self (HoldsFirstForm (image c.args.files))
+    c.requires.size (λ first. first.held) c.in-Err.error (c.in-Err.ensures.cause clean) _
+    c.fault_of.ensures
 
 -- files of the first form do not list the tables of this one
 pub returns-then-lists_books-clause-cause : goal.returns-then-lists_books-clause-cause
@@ -39,43 +32,39 @@ pub returns-then-not-lists_first_books-clause-cause :
 returns-then-not-lists_first_books-clause-cause g c clean =
     let old = c.args.files in
     let mid = c.read_catalog.new.self in
-    let none : HoldsFirstForm (image old) → ⊥ = λ first.
-    let listed = held_first_listed old mid c.in-Ok.listed.items (c.in-Ok.ensures.ok clean)
-    c.requires.size first.held in
-    let not_listed = c.if-not-lists_first_books.true in
-    let tested = c.lists_first_books.ensures in
-    let same : lists_first_books c.in-Ok.listed.items
-    ≡ lists_first_books c.as_slice-2.result.now =
-    ap lists_first_books (sym c.as_slice-2.ensures.value) in
-    absurd (cc) in
-    subst (λ (fault : OpenFault). HasCause (state_of old).faults (state_of mid).faults
-    (IsFullFile mid) (HoldsFirstForm (image old)) fault) (sym c.unlisted_fault.ensures)
-    (unlisted_cause (state_of old).faults (state_of mid).faults (IsFullFile mid)
-    (HoldsFirstForm (image old)) none _)
+    let rows = c.in-Ok.listed.items in
+    unlisted_refused (state_of old).faults (state_of mid).faults (IsFullFile mid)
+    (HoldsFirstForm (image old)) lists_first_books rows c.as_slice-2.result.now
+    (λ first. held_first_listed old mid rows (c.in-Ok.ensures.ok clean) c.requires.size first.held)
+    c.as_slice-2.ensures.value
+    (sym c.lists_first_books.ensures ∙ c.if-not-lists_first_books.true) _ _
+    c.unlisted_fault.ensures
 
-pub returns-in-Ok-open_numbered-clause-size : goal.returns-in-Ok-open_numbered-clause-size
-returns-in-Ok-open_numbered-clause-size g c clean =
-    let then = c.in-Ok-open_numbered.ensures.honest clean in
-    (c.in-Ok-open_numbered.ensures.kept clean).size ∙ (c.read_catalog.ensures.kept then).size
-    ∙ c.requires.size
+pub returns-in-Ok-open_numbered-clause-opened : goal.returns-in-Ok-open_numbered-clause-opened
+returns-in-Ok-open_numbered-clause-opened g c =
+    let opened = c.in-Ok-open_numbered.ensures in
+    let schema = opened.schema ∙ c.read_catalog.ensures.schema ∙ c.requires.schema in
+    record {
+      ready = opened.ready;
+      schema = schema;
+      trees = λ clean. has_first_trees c.in-Ok-open_numbered.store schema opened.ready.unaltered
+          opened.numbered (clean_of _ clean);
+      size = λ clean. (opened.kept clean).size
+          ∙ (c.read_catalog.ensures.kept (opened.honest clean)).size ∙ c.requires.size;
+    }
 
 pub returns-in-Ok-open_numbered-clause-honest : goal.returns-in-Ok-open_numbered-clause-honest
 returns-in-Ok-open_numbered-clause-honest g c clean =
     c.read_catalog.ensures.honest (c.in-Ok-open_numbered.ensures.honest clean)
 
 pub returns-in-Ok-open_numbered-clause-found : goal.returns-in-Ok-open_numbered-clause-found
-returns-in-Ok-open_numbered-clause-found g c clean held =
+returns-in-Ok-open_numbered-clause-found g c clean =
     let opened = c.in-Ok-open_numbered.ensures in
     let then = opened.honest clean in
-    let store = c.in-Ok-open_numbered.store in
-    let mid = c.read_catalog.new.self in
-    let size : (state_of mid).page_size ≡ page_size =
-    (c.read_catalog.ensures.kept then).size ∙ c.requires.size in
-    shows_tables store opened.ready
+    shows_held c.args.files c.read_catalog.new.self c.in-Ok.listed.items (c.in-Ok.ensures.ok then)
+    c.requires.size c.in-Ok-open_numbered.store opened.ready
     (opened.schema ∙ c.read_catalog.ensures.schema ∙ c.requires.schema)
-    ((opened.kept clean).size ∙ size) clean held.pages
-    (committed_is c.args.files mid c.in-Ok.listed.items (c.in-Ok.ensures.ok then)
-    c.requires.size held (state store).committed size (opened.found clean))
+    (c.read_catalog.ensures.kept then) (opened.kept clean) clean (opened.found clean)
 
 pub returns-in-Ok-open_numbered-clause-kept : goal.returns-in-Ok-open_numbered-clause-kept
 returns-in-Ok-open_numbered-clause-kept g c clean =
@@ -108,10 +97,3 @@ returns-clause-cause g c clean =
     (first_since (state_of old).faults (state_of mid).faults (state_of end).faults
     (IsFullFile end) (HoldsFirstForm (image old)) (c.read_catalog.ensures.kept then).counts
     (first_fault_for c.in-Err-open_numbered.error) why)
-
-pub returns-in-Ok-open_numbered-clause-trees : goal.returns-in-Ok-open_numbered-clause-trees
-returns-in-Ok-open_numbered-clause-trees g c clean =
-    let opened = c.in-Ok-open_numbered.ensures in
-    has_first_trees c.in-Ok-open_numbered.store
-    (opened.schema ∙ c.read_catalog.ensures.schema ∙ c.requires.schema) opened.ready.unaltered
-    opened.numbered (clean_of _ clean)

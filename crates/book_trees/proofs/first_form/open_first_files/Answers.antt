@@ -1,19 +1,68 @@
-use Rattle.sqlite_trees.proofs.Doubt.{no_doubt}
-use Rattle.book_trees.proofs.FileParts.{store_honest}
-use Rattle.book_trees.proofs.FormNumbers.{newer_is_other}
+use Rattle.std.proofs.Common.{sym, subst}
+use Rattle.sqlite_store.specs.Unopened.{image, IsFullFile}
+use Rattle.book_trees.proofs.FileParts.{end_honest, files_kept, first_image, honest_given}
+use Rattle.book_trees.proofs.FileParts.{kept_still, shows_given, store_honest, store_kept}
+use Rattle.book_trees.proofs.FirstCauses.{first_file_cause}
+use Rattle.book_trees.proofs.FormNumbers.{newer_refused}
+use Rattle.book_trees.proofs.ToldCauses.{first_told_cause}
+use Rattle.book_trees.specs.FirstForm.{HoldsFirstForm}
 use Rattle.book_trees.specs.LedgerFiles.{image_of}
+use Rattle.book_trees.specs.Refusals.{faults_in, AreFull}
 use Rattle.book_trees.proofs.first_form.open_first_files.Goals as goal
+
+pub returns-clause-honest : goal.returns-clause-honest
+returns-clause-honest g c =
+    honest_given c.in-Ok.files c.in-Ok-open_first.store c.args.files c.in-Ok.ensures.files
+    c.in-Ok-open_first.ensures.honest
+
+pub returns-clause-found : goal.returns-clause-found
+returns-clause-found g c =
+    shows_given c.in-Ok.files c.in-Ok-open_first.store c.args.files c.in-Ok.ensures.files
+    c.in-Ok-open_first.ensures.found
 
 -- files of the first form do not say that they are of a newer one
 pub returns-then-says_newer-clause-cause : goal.returns-then-says_newer-clause-cause
 returns-then-says_newer-clause-cause g c clean first =
-    let store = c.in-Ok.store in
-    let honest = store_honest store c.close.result c.close.ensures clean in
-    let sure = no_doubt _ honest in
-    newer_is_other store (image_of g.D.Disk c.args.files) (c.in-Ok.ensures.found honest)
-    (c.says_newer.ensures.newer c.if-says_newer.true sure (c.in-Ok.ensures.ready.is_open sure))
+    newer_refused c.in-Ok.files c.in-Ok-open_first.store c.args.files c.close-then-says_newer.result
+    c.in-Ok.ensures.files c.close-then-says_newer.ensures c.in-Ok-open_first.ensures.opened.ready
+    c.in-Ok-open_first.ensures.found (c.says_newer.ensures.newer c.if-says_newer.true) clean
     first.held first.form
 
+-- and the others are kept
 pub returns-then-says_newer-clause-unharmed : goal.returns-then-says_newer-clause-unharmed
 returns-then-says_newer-clause-unharmed g c clean =
-    c.in-Ok.ensures.closed c.close.result c.close.ensures clean
+    let store = c.in-Ok-open_first.store in
+    store_kept c.in-Ok.files store c.args.files c.close-then-says_newer.result c.in-Ok.ensures.files
+    c.close-then-says_newer.ensures c.in-Ok.ensures.size (c.in-Ok-open_first.ensures.kept
+    (store_honest store c.close-then-says_newer.result c.close-then-says_newer.ensures clean))
+
+pub returns-in-Err-open_first-clause-cause : goal.returns-in-Err-open_first-clause-cause
+returns-in-Err-open_first-clause-cause g c clean =
+    let old = c.in-Ok.files in
+    let end = c.in-Err-open_first.files in
+    let given = c.in-Ok.ensures.files in
+    let back = c.close.ensures in
+    let same = first_image old end c.args.files c.close.result given back in
+    first_told_cause g.D.Disk (faults_in g.D.Disk c.args.files) (AreFull g.D.Disk)
+    (HoldsFirstForm (image_of g.D.Disk c.args.files)) c.close.result c.told_first.result.1
+    c.in-Err-open_first.fault c.told_first.result.0 c.told_first.ensures.told
+    (first_file_cause old end c.args.files c.close.result given back (IsFullFile end)
+    (AreFull g.D.Disk c.close.result) (HoldsFirstForm (image old))
+    (HoldsFirstForm (image_of g.D.Disk c.args.files)) (λ full. ∣ (end, back, full) ∣₁)
+    (subst HoldsFirstForm (sym same)) c.in-Err-open_first.fault
+    (c.in-Err-open_first.ensures.cause
+    (end_honest old end c.args.files c.close.result given back
+    (c.told_first.ensures.clean clean))))
+
+pub returns-in-Err-open_first-clause-unharmed : goal.returns-in-Err-open_first-clause-unharmed
+returns-in-Err-open_first-clause-unharmed g c clean =
+    let old = c.in-Ok.files in
+    let end = c.in-Err-open_first.files in
+    let given = c.in-Ok.ensures.files in
+    let back = c.close.ensures in
+    kept_still c.args.files c.close.result c.told_first.result.1 c.told_first.ensures.counts
+    c.told_first.ensures.crash
+    (files_kept old end c.args.files c.close.result given back c.in-Ok.ensures.size
+    (c.in-Err-open_first.ensures.unharmed
+    (end_honest old end c.args.files c.close.result given back
+    (c.told_first.ensures.clean clean))))

@@ -1,10 +1,10 @@
 use Rattle.std.proofs.Common.{◌∙◌, arith, inl, inr}
 use Rattle.sqlite_trees.specs.View.{IsClean}
 use Rattle.tree_rows.proofs.Calls.{closes_both}
-use Rattle.tree_tables.proofs.Looking.{failed_so, ok_so}
+use Rattle.tree_tables.proofs.Looking.{failed_so, kept_last, ok_so}
 use Rattle.book_trees.proofs.CopyLemmas.{so_at_err}
 use Rattle.book_trees.proofs.FormNumbers.{ended_shaped, form_said, form_set, form_undone}
-use Rattle.book_trees.proofs.FormNumbers.{kept_last, kept_shaped}
+use Rattle.book_trees.proofs.FormNumbers.{kept_shaped}
 use Rattle.book_trees.proofs.forms.commit_form.Goals as goal
 
 -- the number could not be set

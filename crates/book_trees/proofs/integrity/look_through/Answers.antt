@@ -1,31 +1,91 @@
-use Rattle.sqlite_trees.proofs.Doubt.{no_doubt}
-use Rattle.book_trees.proofs.FileParts.{store_honest}
-use Rattle.book_trees.proofs.FormNumbers.{newer_is_other}
-use Rattle.book_trees.proofs.LookCauses.{look_cause_for}
+use Rattle.std.proofs.Common.{sym, subst}
+use Rattle.sqlite_store.specs.Unopened.{image, IsFullFile}
+use Rattle.sqlite_wal.specs.Recovery.{Image}
+use Rattle.book_trees.proofs.FileParts.{end_honest, files_kept, first_image, honest_given}
+use Rattle.book_trees.proofs.FileParts.{kept_still, shows_given, store_honest, store_kept}
+use Rattle.book_trees.proofs.FormNumbers.{newer_refused}
+use Rattle.book_trees.proofs.LookCauses.{look_file_cause, told_pages}
+use Rattle.book_trees.proofs.ToldCauses.{look_told_cause}
 use Rattle.book_trees.specs.Forms.{HoldsThisForm}
 use Rattle.book_trees.specs.LedgerFiles.{image_of, HoldsBooks}
 use Rattle.book_trees.specs.Refusals.{faults_in, AreFull}
+use Rattle.book_trees.specs.StoreView.{ListsBooks}
 use Rattle.book_trees.proofs.integrity.look_through.Goals as goal
+
+pub returns-clause-honest : goal.returns-clause-honest
+returns-clause-honest g c =
+    honest_given c.in-Ok.files c.in-Ok-look_through_all.store c.args.files c.in-Ok.ensures.files
+    c.in-Ok-look_through_all.ensures.honest
+
+pub returns-clause-found : goal.returns-clause-found
+returns-clause-found g c =
+    shows_given c.in-Ok.files c.in-Ok-look_through_all.store c.args.files c.in-Ok.ensures.files
+    c.in-Ok-look_through_all.ensures.found
+
+pub returns-clause-held : goal.returns-clause-held
+returns-clause-held g c clean =
+    let given = c.in-Ok.ensures.files in
+    let old = c.in-Ok.files in
+    subst (λ (i : Image). ∥ HoldsBooks i ∥₁)
+    (first_image old old c.args.files c.args.files given (sym given))
+    (c.in-Ok-look_through_all.ensures.held clean)
 
 -- files that hold books of this form do not say that they are of a newer one
 pub returns-then-says_newer-clause-cause : goal.returns-then-says_newer-clause-cause
 returns-then-says_newer-clause-cause g c clean this =
-    let store = c.in-Ok.store in
-    let honest = store_honest store c.close.result c.close.ensures clean in
-    let sure = no_doubt _ honest in
-    newer_is_other store (image_of g.D.Disk c.args.files) (c.in-Ok.ensures.found honest)
-    (c.says_newer.ensures.newer c.if-says_newer.true sure (c.in-Ok.ensures.ready.is_open sure))
-    this.held this.form
+    newer_refused c.in-Ok.files c.in-Ok-look_through_all.store c.args.files
+    c.close-then-says_newer.result c.in-Ok.ensures.files c.close-then-says_newer.ensures
+    c.in-Ok-look_through_all.ensures.opened.ready c.in-Ok-look_through_all.ensures.found
+    (c.says_newer.ensures.newer c.if-says_newer.true) clean this.held this.form
 
+-- and the others are kept
 pub returns-then-says_newer-clause-unharmed : goal.returns-then-says_newer-clause-unharmed
 returns-then-says_newer-clause-unharmed g c clean =
-    c.in-Ok.ensures.closed c.close.result c.close.ensures clean
+    let store = c.in-Ok-look_through_all.store in
+    store_kept c.in-Ok.files store c.args.files c.close-then-says_newer.result c.in-Ok.ensures.files
+    c.close-then-says_newer.ensures c.in-Ok.ensures.size (c.in-Ok-look_through_all.ensures.kept
+    (store_honest store c.close-then-says_newer.result c.close-then-says_newer.ensures clean))
 
-pub returns-in-Err-clause-cause : goal.returns-in-Err-clause-cause
-returns-in-Err-clause-cause g c clean =
-    let first = faults_in g.D.Disk c.args.files in
-    let last = faults_in g.D.Disk c.in-Err.refusal.1 in
-    let found = image_of g.D.Disk c.args.files in
-    look_cause_for first last first last (AreFull g.D.Disk c.in-Err.refusal.1) (HoldsBooks found)
-    (HoldsThisForm found) (λ more. more) (λ this. this.held) c.in-Err.refusal.0
-    (c.in-Err.ensures.cause clean)
+pub returns-in-Err-look_through_all-clause-cause : goal.returns-in-Err-look_through_all-clause-cause
+returns-in-Err-look_through_all-clause-cause g c clean =
+    let old = c.in-Ok.files in
+    let end = c.in-Err-look_through_all.files in
+    let given = c.in-Ok.ensures.files in
+    let back = c.close.ensures in
+    let same = first_image old end c.args.files c.close.result given back in
+    look_told_cause g.D.Disk (faults_in g.D.Disk c.args.files) (AreFull g.D.Disk)
+    (HoldsThisForm (image_of g.D.Disk c.args.files)) c.close.result c.told_look.result.1
+    c.in-Err-look_through_all.fault c.told_look.result.0 c.told_look.ensures.told
+    (look_file_cause old end c.args.files c.close.result given back (IsFullFile end)
+    (AreFull g.D.Disk c.close.result) (HoldsBooks (image old))
+    (HoldsThisForm (image_of g.D.Disk c.args.files)) (λ full. ∣ (end, back, full) ∣₁)
+    (λ this. subst HoldsBooks (sym same) this.held) c.in-Err-look_through_all.fault
+    (c.in-Err-look_through_all.ensures.cause
+    (end_honest old end c.args.files c.close.result given back
+    (c.told_look.ensures.clean clean))))
+
+pub returns-in-Err-look_through_all-clause-unharmed : goal.returns-in-Err-look_through_all-clause-unharmed
+returns-in-Err-look_through_all-clause-unharmed g c clean =
+    let old = c.in-Ok.files in
+    let end = c.in-Err-look_through_all.files in
+    let given = c.in-Ok.ensures.files in
+    let back = c.close.ensures in
+    kept_still c.args.files c.close.result c.told_look.result.1 c.told_look.ensures.counts
+    c.told_look.ensures.crash
+    (files_kept old end c.args.files c.close.result given back c.in-Ok.ensures.size
+    (c.in-Err-look_through_all.ensures.unharmed
+    (end_honest old end c.args.files c.close.result given back
+    (c.told_look.ensures.clean clean))))
+
+pub returns-in-Err-look_through_all-clause-listed : goal.returns-in-Err-look_through_all-clause-listed
+returns-in-Err-look_through_all-clause-listed g c is clean =
+    let old = c.in-Ok.files in
+    let end = c.in-Err-look_through_all.files in
+    let given = c.in-Ok.ensures.files in
+    let back = c.close.ensures in
+    subst ListsBooks (first_image old end c.args.files c.close.result given back)
+    (c.in-Err-look_through_all.ensures.listed
+    (told_pages c.in-Err-look_through_all.fault c.close.result c.told_look.result.0
+    c.told_look.result.1 c.told_look.ensures.told is)
+    (end_honest old end c.args.files c.close.result given back
+    (c.told_look.ensures.clean clean)))

@@ -1,53 +1,42 @@
 use Rattle.std.proofs.Common.{◌≡◌, sym, ap, ◌∙◌, subst, true}
 use Rattle.std.proofs.Math.Logic.{∥∥₁_map}
 use Rattle.sqlite_store.specs.FileStore.{state}
-use Rattle.sqlite_store.specs.Unopened.{state_of, image, HasFile, HasSomeFile, IsFullFile}
+use Rattle.sqlite_store.specs.Unopened.{state_of, image, HasFile, IsFullFile}
 use Rattle.book_trees.proofs.LookCauses.{look_cause_of, look_since}
-use Rattle.book_trees.proofs.Opened.{committed_is, committed_listed, found_old, held_file}
-use Rattle.book_trees.proofs.Opened.{held_listed, opens_twice, rows_are, shows_tables, some_file}
-use Rattle.book_trees.proofs.Opened.{sound_tables}
-use Rattle.book_trees.proofs.Refused.{cause_of, unlisted_cause}
-use Rattle.book_trees.proofs.Trees.{has_trees}
+use Rattle.book_trees.proofs.Opened.{committed_listed, found_old, held_file, held_listed, is_open}
+use Rattle.book_trees.proofs.Opened.{opens_twice, rows_are, shows_held, sound_tables}
+use Rattle.book_trees.proofs.Opened.{unread_refused}
+use Rattle.book_trees.proofs.Refused.{unlisted_refused}
 use Rattle.book_trees.specs.LedgerFiles.{page_size, HoldsBooks}
 use Rattle.book_trees.specs.Listing.{lists_books}
 use Rattle.book_trees.specs.Looks.{HasLookCause}
-use Rattle.book_trees.specs.Refusals.{HasCause}
-use Rattle.book_trees.specs.declared.faults.OpenFault.{OpenFault}
 use Rattle.book_trees.specs.declared.integrity.LookFault.{LookFault}
 use Rattle.book_trees.proofs.integrity.look_through_all.Goals as goal
 
 pub returns-in-Err-clause-cause : goal.returns-in-Err-clause-cause
 returns-in-Err-clause-cause g c clean =
-    let old = c.args.files in
-    let mid = c.read_catalog.new.self in
-    subst (λ (fault : OpenFault). HasCause (state_of old).faults (state_of mid).faults
-    (IsFullFile mid) (HoldsBooks (image old)) fault) (sym c.fault_of.ensures)
-    (cause_of (state_of old).faults (state_of mid).faults (IsFullFile mid) (HasSomeFile old)
-    (HoldsBooks (image old)) (some_file old c.requires.size) c.in-Err.error
-    (c.in-Err.ensures.cause clean))
+    unread_refused c.args.files c.read_catalog.new.self (HoldsBooks (image c.args.files))
+    c.requires.size (λ held. held) c.in-Err.error (c.in-Err.ensures.cause clean) _
+    c.fault_of.ensures
 
 pub returns-then-not-lists_books-clause-cause : goal.returns-then-not-lists_books-clause-cause
 returns-then-not-lists_books-clause-cause g c clean =
     let old = c.args.files in
     let mid = c.read_catalog.new.self in
-    let none : HoldsBooks (image old) → ⊥ = λ held.
-    let listed = held_listed old mid c.in-Ok.listed.items (c.in-Ok.ensures.ok clean) c.requires.size
-    held in
-    let not_listed = c.if-not-lists_books.true in
-    let tested = c.lists_books.ensures in
-    let same : lists_books c.in-Ok.listed.items ≡ lists_books c.as_slice.result.now =
-    ap lists_books (sym c.as_slice.ensures.value) in
-    absurd (cc) in
-    subst (λ (fault : OpenFault). HasCause (state_of old).faults (state_of mid).faults
-    (IsFullFile mid) (HoldsBooks (image old)) fault) (sym c.unlisted_fault.ensures)
-    (unlisted_cause (state_of old).faults (state_of mid).faults (IsFullFile mid)
-    (HoldsBooks (image old)) none _)
+    let rows = c.in-Ok.listed.items in
+    unlisted_refused (state_of old).faults (state_of mid).faults (IsFullFile mid)
+    (HoldsBooks (image old)) lists_books rows c.as_slice.result.now
+    (held_listed old mid rows (c.in-Ok.ensures.ok clean) c.requires.size)
+    c.as_slice.ensures.value (sym c.lists_books.ensures ∙ c.if-not-lists_books.true) _ _
+    c.unlisted_fault.ensures
 
-pub returns-in-Ok-open-clause-trees : goal.returns-in-Ok-open-clause-trees
-returns-in-Ok-open-clause-trees g c =
+pub returns-in-Ok-open-clause-opened : goal.returns-in-Ok-open-clause-opened
+returns-in-Ok-open-clause-opened g c =
     let opened = c.in-Ok-open.ensures in
-    has_trees c.in-Ok-open.store
-    (opened.schema ∙ c.read_catalog.ensures.schema ∙ c.requires.schema) opened.ready.unaltered
+    is_open c.in-Ok-open.store opened.ready
+    (opened.schema ∙ c.read_catalog.ensures.schema ∙ c.requires.schema) (λ clean.
+    (opened.kept clean).size ∙ (c.read_catalog.ensures.kept (opened.honest clean)).size
+    ∙ c.requires.size)
 
 pub returns-clause-unharmed : goal.returns-clause-unharmed
 returns-clause-unharmed g c clean =
@@ -73,29 +62,18 @@ returns-clause-cause g c clean =
     (look_since (state_of old).faults (state_of mid).faults (state_of end).faults
     (IsFullFile end) (HoldsBooks (image old)) (c.read_catalog.ensures.kept then).counts _ why)
 
-pub returns-in-Ok-open-clause-size : goal.returns-in-Ok-open-clause-size
-returns-in-Ok-open-clause-size g c clean =
-    let then = c.in-Ok-open.ensures.honest clean in
-    (c.in-Ok-open.ensures.kept clean).size ∙ (c.read_catalog.ensures.kept then).size
-    ∙ c.requires.size
-
 pub returns-in-Ok-open-clause-honest : goal.returns-in-Ok-open-clause-honest
 returns-in-Ok-open-clause-honest g c clean =
     c.read_catalog.ensures.honest (c.in-Ok-open.ensures.honest clean)
 
 pub returns-in-Ok-open-clause-found : goal.returns-in-Ok-open-clause-found
-returns-in-Ok-open-clause-found g c clean held =
+returns-in-Ok-open-clause-found g c clean =
     let opened = c.in-Ok-open.ensures in
     let then = opened.honest clean in
-    let store = c.in-Ok-open.store in
-    let mid = c.read_catalog.new.self in
-    let size : (state_of mid).page_size ≡ page_size =
-    (c.read_catalog.ensures.kept then).size ∙ c.requires.size in
-    shows_tables store opened.ready
+    shows_held c.args.files c.read_catalog.new.self c.in-Ok.listed.items (c.in-Ok.ensures.ok then)
+    c.requires.size c.in-Ok-open.store opened.ready
     (opened.schema ∙ c.read_catalog.ensures.schema ∙ c.requires.schema)
-    ((opened.kept clean).size ∙ size) clean held.pages
-    (committed_is c.args.files mid c.in-Ok.listed.items (c.in-Ok.ensures.ok then)
-    c.requires.size held (state store).committed size (opened.found clean))
+    (c.read_catalog.ensures.kept then) (opened.kept clean) clean (opened.found clean)
 
 pub returns-in-Ok-open-clause-kept : goal.returns-in-Ok-open-clause-kept
 returns-in-Ok-open-clause-kept g c clean =

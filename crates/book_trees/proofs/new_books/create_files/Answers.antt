@@ -10,18 +10,19 @@ use Rattle.book_trees.proofs.Buildable.{can_create, holds_nothing}
 use Rattle.book_trees.proofs.EachLeft.{each_found}
 use Rattle.book_trees.proofs.FileParts.{end_honest, file_cause, files_kept, first_honest}
 use Rattle.book_trees.proofs.FileParts.{clean_if_left, first_image}
+use Rattle.book_trees.proofs.Opened.{is_open}
 use Rattle.book_trees.proofs.Refused.{cause_of}
-use Rattle.book_trees.proofs.Trees.{has_trees}
 use Rattle.book_trees.specs.LedgerFiles.{image_of, HoldsNothing}
 use Rattle.book_trees.specs.Refusals.{faults_in, HasCause, StopCreating}
 use Rattle.book_trees.specs.Schema.{books_schema}
 use Rattle.book_trees.specs.declared.faults.OpenFault.{OpenFault}
 use Rattle.book_trees.proofs.new_books.create_files.Goals as goal
 
-pub returns-in-Ok-create-clause-trees : goal.returns-in-Ok-create-clause-trees
-returns-in-Ok-create-clause-trees g c =
+pub returns-in-Ok-create-clause-opened : goal.returns-in-Ok-create-clause-opened
+returns-in-Ok-create-clause-opened g c =
     let made = c.in-Ok-create.ensures in
-    has_trees c.in-Ok-create.store (made.schema ∙ c.in-Ok.ensures.schema) made.ready.unaltered
+    is_open c.in-Ok-create.store made.ready (made.schema ∙ c.in-Ok.ensures.schema)
+    (λ clean. (made.kept clean).size ∙ c.in-Ok.ensures.size)
 
 pub returns-in-Ok-create-clause-honest : goal.returns-in-Ok-create-clause-honest
 returns-in-Ok-create-clause-honest g c clean =

@@ -1,10 +1,9 @@
-use Rattle.std.proofs.Common.{◌≡◌, subst, sym, inl, inr}
+use Rattle.std.proofs.Common.{◌≡◌, subst, sym}
 use Rattle.sqlite_store.specs.FileStore.{view}
 use Rattle.sqlite_wal.specs.Recovery.{Image}
-use Rattle.sqlite_pool.specs.Stored.{RecoversAs}
-use Rattle.book_trees.specs.LedgerFiles.{page_size, AreLeft, HoldsBooks, trees_held}
+use Rattle.book_trees.specs.LedgerFiles.{AreLeft, HoldsBooks, trees_held}
 use Rattle.book_trees.specs.StoreView.{ShowsBooks}
-use Rattle.book_trees.proofs.FreshFiles.{fresh_image, fresh_images}
+use Rattle.book_trees.proofs.FreshFiles.{as_found, fresh_image, fresh_images}
 use Rattle.book_trees.proofs.opening.open_at.Goals as goal
 
 pub open_files-requires-clause-left : goal.open_files-requires-clause-left
@@ -30,10 +29,6 @@ returns-in-Ok-open_files-clause-read g c clean =
 pub returns-in-Err-open_files-clause-kept : goal.returns-in-Err-open_files-clause-kept
 returns-in-Err-open_files-clause-kept g c left may =
     let fresh = c.in-Ok.ensures.fresh in
-    let kept = c.in-Err-open_files.ensures.unharmed may.0 in
-    elim (kept.crash left may) [
-      | inl was ↦ inl (fresh_images g.S.Start.is_mixing g.S.Start.log g.S.Start.db fresh.0 fresh.1
-          left was.1.0 was.1.1)
-      | inr same ↦ inr (subst (λ (first : Image). RecoversAs page_size first left)
-          (fresh_image g.S.Start.log g.S.Start.db fresh.0 fresh.1) same)
-    ]
+    as_found left (λ was. fresh_images g.S.Start.is_mixing g.S.Start.log g.S.Start.db fresh.0
+    fresh.1 left was.1.0 was.1.1) (fresh_image g.S.Start.log g.S.Start.db fresh.0 fresh.1)
+    ((c.in-Err-open_files.ensures.unharmed may.0).crash left may)

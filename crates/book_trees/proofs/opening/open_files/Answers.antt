@@ -1,30 +1,85 @@
-use Rattle.sqlite_trees.proofs.Doubt.{no_doubt}
-use Rattle.book_trees.proofs.FileParts.{store_honest}
-use Rattle.book_trees.proofs.FormNumbers.{newer_is_other}
-use Rattle.book_trees.proofs.Refused.{cause_for}
+use Rattle.std.proofs.Common.{◌≡◌, sym, subst}
+use Rattle.sqlite_store.specs.Unopened.{image, IsFullFile}
+use Rattle.sqlite_wal.specs.Recovery.{Image}
+use Rattle.book_trees.proofs.FileParts.{end_honest, file_cause, files_kept, first_honest}
+use Rattle.book_trees.proofs.FileParts.{first_image, honest_given, kept_still, shows_given}
+use Rattle.book_trees.proofs.FileParts.{store_honest, store_kept}
+use Rattle.book_trees.proofs.FormNumbers.{newer_refused}
+use Rattle.book_trees.proofs.ToldCauses.{told_cause}
 use Rattle.book_trees.specs.Forms.{HoldsThisForm}
-use Rattle.book_trees.specs.LedgerFiles.{image_of, HoldsBooks}
+use Rattle.book_trees.specs.LedgerFiles.{image_of, AreLeft, HoldsBooks}
 use Rattle.book_trees.specs.Refusals.{faults_in, AreFull}
+use Rattle.book_trees.specs.StoreView.{ShowsBooks}
 use Rattle.book_trees.proofs.opening.open_files.Goals as goal
+
+pub open_left-requires-clause-left : goal.open_left-requires-clause-left
+open_left-requires-clause-left g c clean =
+    let given = c.in-Ok.ensures.files in
+    let old = c.in-Ok.files in
+    let same : image old ≡ image_of g.D.Disk c.args.files =
+    first_image old old c.args.files c.args.files given (sym given) in
+    subst AreLeft (sym same) (c.requires.left
+    (first_honest old old c.args.files c.args.files given (sym given) clean))
+
+pub returns-clause-honest : goal.returns-clause-honest
+returns-clause-honest g c =
+    honest_given c.in-Ok.files c.in-Ok-open_left.store c.args.files c.in-Ok.ensures.files
+    c.in-Ok-open_left.ensures.honest
+
+pub returns-clause-found : goal.returns-clause-found
+returns-clause-found g c =
+    shows_given c.in-Ok.files c.in-Ok-open_left.store c.args.files c.in-Ok.ensures.files
+    c.in-Ok-open_left.ensures.found
+
+pub returns-clause-read : goal.returns-clause-read
+returns-clause-read g c clean =
+    let given = c.in-Ok.ensures.files in
+    let old = c.in-Ok.files in
+    subst (λ (i : Image). ShowsBooks i c.in-Ok-open_left.store)
+    (first_image old old c.args.files c.args.files given (sym given))
+    (c.in-Ok-open_left.ensures.read clean)
 
 -- files that hold books of this form do not say that they are of a newer one
 pub returns-then-says_newer-clause-cause : goal.returns-then-says_newer-clause-cause
 returns-then-says_newer-clause-cause g c clean this =
-    let store = c.in-Ok.store in
-    let honest = store_honest store c.close.result c.close.ensures clean in
-    let sure = no_doubt _ honest in
-    newer_is_other store (image_of g.D.Disk c.args.files) (c.in-Ok.ensures.found honest)
-    (c.says_newer.ensures.newer c.if-says_newer.true sure (c.in-Ok.ensures.ready.is_open sure))
+    newer_refused c.in-Ok.files c.in-Ok-open_left.store c.args.files c.close-then-says_newer.result
+    c.in-Ok.ensures.files c.close-then-says_newer.ensures c.in-Ok-open_left.ensures.opened.ready
+    c.in-Ok-open_left.ensures.found (c.says_newer.ensures.newer c.if-says_newer.true) clean
     this.held this.form
 
+-- and the others are kept
 pub returns-then-says_newer-clause-unharmed : goal.returns-then-says_newer-clause-unharmed
 returns-then-says_newer-clause-unharmed g c clean =
-    c.in-Ok.ensures.closed c.close.result c.close.ensures clean
+    let store = c.in-Ok-open_left.store in
+    store_kept c.in-Ok.files store c.args.files c.close-then-says_newer.result c.in-Ok.ensures.files
+    c.close-then-says_newer.ensures c.in-Ok.ensures.size (c.in-Ok-open_left.ensures.kept
+    (store_honest store c.close-then-says_newer.result c.close-then-says_newer.ensures clean))
 
-pub returns-in-Err-clause-cause : goal.returns-in-Err-clause-cause
-returns-in-Err-clause-cause g c clean =
-    let last = c.in-Err.refusal.1 in
-    let found = image_of g.D.Disk c.args.files in
-    cause_for (faults_in g.D.Disk c.args.files) (faults_in g.D.Disk last) (AreFull g.D.Disk last)
-    (AreFull g.D.Disk last) (HoldsBooks found) (HoldsThisForm found) (λ full. full)
-    (λ this. this.held) c.in-Err.refusal.0 (c.in-Err.ensures.cause clean)
+pub returns-in-Err-open_left-clause-cause : goal.returns-in-Err-open_left-clause-cause
+returns-in-Err-open_left-clause-cause g c clean =
+    let old = c.in-Ok.files in
+    let end = c.in-Err-open_left.files in
+    let given = c.in-Ok.ensures.files in
+    let back = c.close.ensures in
+    let same = first_image old end c.args.files c.close.result given back in
+    told_cause g.D.Disk (faults_in g.D.Disk c.args.files) (AreFull g.D.Disk)
+    (HoldsThisForm (image_of g.D.Disk c.args.files)) c.close.result c.told.result.1
+    c.in-Err-open_left.fault c.told.result.0 c.told.ensures.told
+    (file_cause old end c.args.files c.close.result given back (IsFullFile end)
+    (AreFull g.D.Disk c.close.result) (HoldsBooks (image old))
+    (HoldsThisForm (image_of g.D.Disk c.args.files)) (λ full. ∣ (end, back, full) ∣₁)
+    (λ this. subst HoldsBooks (sym same) this.held) c.in-Err-open_left.fault
+    (c.in-Err-open_left.ensures.cause
+    (end_honest old end c.args.files c.close.result given back (c.told.ensures.clean clean))))
+
+pub returns-in-Err-open_left-clause-unharmed : goal.returns-in-Err-open_left-clause-unharmed
+returns-in-Err-open_left-clause-unharmed g c clean =
+    let old = c.in-Ok.files in
+    let end = c.in-Err-open_left.files in
+    let given = c.in-Ok.ensures.files in
+    let back = c.close.ensures in
+    kept_still c.args.files c.close.result c.told.result.1 c.told.ensures.counts
+    c.told.ensures.crash
+    (files_kept old end c.args.files c.close.result given back c.in-Ok.ensures.size
+    (c.in-Err-open_left.ensures.unharmed
+    (end_honest old end c.args.files c.close.result given back (c.told.ensures.clean clean))))

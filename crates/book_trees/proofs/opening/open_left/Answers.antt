@@ -1,10 +1,9 @@
 use Rattle.std.proofs.Common.{◌≡◌, true, sym, ap, ◌∙◌, subst}
 use Rattle.sqlite_store.specs.FileStore.{state}
-use Rattle.sqlite_store.specs.Unopened.{state_of, image, HasSomeFile, IsFullFile}
-use Rattle.book_trees.proofs.Opened.{committed_is, committed_listed, found_old, has_file}
-use Rattle.book_trees.proofs.Opened.{held_listed, opens_twice, rows_are, shows_tables, some_file}
-use Rattle.book_trees.proofs.Refused.{cause_of, cause_since, unlisted_cause}
-use Rattle.book_trees.proofs.Trees.{has_trees}
+use Rattle.sqlite_store.specs.Unopened.{state_of, image, IsFullFile}
+use Rattle.book_trees.proofs.Opened.{committed_listed, found_old, has_file, held_listed, is_open}
+use Rattle.book_trees.proofs.Opened.{opens_twice, rows_are, shows_held, shows_tables, unread_refused}
+use Rattle.book_trees.proofs.Refused.{cause_of, cause_since, unlisted_refused}
 use Rattle.book_trees.specs.LedgerFiles.{page_size, HoldsBooks}
 use Rattle.book_trees.specs.Listing.{lists_books}
 use Rattle.book_trees.specs.Refusals.{HasCause}
@@ -15,18 +14,11 @@ pub returns-then-not-lists_books-clause-cause : goal.returns-then-not-lists_book
 returns-then-not-lists_books-clause-cause g c clean =
     let old = c.args.files in
     let mid = c.read_catalog.new.self in
-    let none : HoldsBooks (image old) → ⊥ = λ held.
-    let listed = held_listed old mid c.in-Ok.listed.items (c.in-Ok.ensures.ok clean) c.requires.size
-    held in
-    let not_listed = c.if-not-lists_books.true in
-    let tested = c.lists_books.ensures in
-    let same : lists_books c.in-Ok.listed.items ≡ lists_books c.as_slice.result.now =
-    ap lists_books (sym c.as_slice.ensures.value) in
-    absurd (cc) in
-    subst (λ (fault : OpenFault). HasCause (state_of old).faults (state_of mid).faults
-    (IsFullFile mid) (HoldsBooks (image old)) fault) (sym c.unlisted_fault.ensures)
-    (unlisted_cause (state_of old).faults (state_of mid).faults (IsFullFile mid)
-    (HoldsBooks (image old)) none _)
+    unlisted_refused (state_of old).faults (state_of mid).faults (IsFullFile mid)
+    (HoldsBooks (image old)) lists_books c.in-Ok.listed.items c.as_slice.result.now
+    (held_listed old mid c.in-Ok.listed.items (c.in-Ok.ensures.ok clean) c.requires.size)
+    c.as_slice.ensures.value (sym c.lists_books.ensures ∙ c.if-not-lists_books.true) _ _
+    c.unlisted_fault.ensures
 
 pub open_trusted-requires-clause-sound : goal.open_trusted-requires-clause-sound
 open_trusted-requires-clause-sound g c clean =
@@ -51,18 +43,13 @@ returns-in-Ok-open_trusted-clause-kept g c clean =
     (c.read_catalog.ensures.kept then) (c.in-Ok-open_trusted.ensures.kept clean)
 
 pub returns-in-Ok-open_trusted-clause-found : goal.returns-in-Ok-open_trusted-clause-found
-returns-in-Ok-open_trusted-clause-found g c clean held =
+returns-in-Ok-open_trusted-clause-found g c clean =
     let opened = c.in-Ok-open_trusted.ensures in
     let then = opened.honest clean in
-    let store = c.in-Ok-open_trusted.store in
-    let size : (state_of c.read_catalog.new.self).page_size ≡ page_size =
-    (c.read_catalog.ensures.kept then).size ∙ c.requires.size in
-    let pages = committed_is c.args.files c.read_catalog.new.self c.in-Ok.listed.items
-    (c.in-Ok.ensures.ok then) c.requires.size held (state store).committed size
-    (opened.found clean) in
-    shows_tables store opened.ready
+    shows_held c.args.files c.read_catalog.new.self c.in-Ok.listed.items (c.in-Ok.ensures.ok then)
+    c.requires.size c.in-Ok-open_trusted.store opened.ready
     (opened.schema ∙ c.read_catalog.ensures.schema ∙ c.requires.schema)
-    ((opened.kept clean).size ∙ size) clean held.pages pages
+    (c.read_catalog.ensures.kept then) (opened.kept clean) clean (opened.found clean)
 
 pub returns-in-Ok-open_trusted-clause-read : goal.returns-in-Ok-open_trusted-clause-read
 returns-in-Ok-open_trusted-clause-read g c clean =
@@ -91,11 +78,13 @@ returns-in-Ok-open_trusted-clause-read g c clean =
           ((opened.kept clean).size ∙ size) clean listed.pages same;
     }
 
-pub returns-in-Ok-open_trusted-clause-trees : goal.returns-in-Ok-open_trusted-clause-trees
-returns-in-Ok-open_trusted-clause-trees g c =
+pub returns-in-Ok-open_trusted-clause-opened : goal.returns-in-Ok-open_trusted-clause-opened
+returns-in-Ok-open_trusted-clause-opened g c =
     let opened = c.in-Ok-open_trusted.ensures in
-    has_trees c.in-Ok-open_trusted.store
-    (opened.schema ∙ c.read_catalog.ensures.schema ∙ c.requires.schema) opened.ready.unaltered
+    is_open c.in-Ok-open_trusted.store opened.ready
+    (opened.schema ∙ c.read_catalog.ensures.schema ∙ c.requires.schema) (λ clean.
+    (opened.kept clean).size ∙ (c.read_catalog.ensures.kept (opened.honest clean)).size
+    ∙ c.requires.size)
 
 pub returns-clause-falls : goal.returns-clause-falls
 returns-clause-falls g c clean =
@@ -125,10 +114,6 @@ returns-clause-cause g c clean =
 
 pub returns-in-Err-clause-cause : goal.returns-in-Err-clause-cause
 returns-in-Err-clause-cause g c clean =
-    let old = c.args.files in
-    let mid = c.read_catalog.new.self in
-    subst (λ (fault : OpenFault). HasCause (state_of old).faults (state_of mid).faults
-    (IsFullFile mid) (HoldsBooks (image old)) fault) (sym c.fault_of.ensures)
-    (cause_of (state_of old).faults (state_of mid).faults (IsFullFile mid) (HasSomeFile old)
-    (HoldsBooks (image old)) (some_file old c.requires.size) c.in-Err.error
-    (c.in-Err.ensures.cause clean))
+    unread_refused c.args.files c.read_catalog.new.self (HoldsBooks (image c.args.files))
+    c.requires.size (λ held. held) c.in-Err.error (c.in-Err.ensures.cause clean) _
+    c.fault_of.ensures
