@@ -16,6 +16,7 @@ use Rattle.book_reports.specs.BillTariffs.{tariffs_outcome, tariffs_shown}
 use Rattle.book_reports.specs.BillWork.{work_outcome, work_seen, work_shown}
 use Rattle.book_reports.specs.HeldBack.{held_back_outcome}
 use Rattle.book_reports.specs.Shown.{closed_through, shown_by}
+use Rattle.book_reports.proofs.DetailReading.{refused_back}
 use Rattle.book_reports.proofs.WritingLemmas.{same_value}
 
 -- of a period that is not there nothing is answered
@@ -25,12 +26,7 @@ unanswered : {A B : Type 0} (f : Period → A) (show : Period → B) (found : Op
 unanswered f show None fault is = let same : NoSuchPeriod ≡ fault = cc is in ap Err same
 unanswered f show (Some period) fault is = cc is
 
--- what is shown of an answer is refused as it is
-shown_refused : {A B : Type 0} (show : A → B) (answer : Result A LedgerFault) (fault : LedgerFault)
-    → shown_by show answer ≡ Err fault → answer ≡ Err fault
-shown_refused show (Ok given) fault is = cc is
-shown_refused show (Err other) fault is = cc is
-
+-- what is refused is shown as refused
 refused_shown : {A B : Type 0} (show : A → B) (answer : Result A LedgerFault) (fault : LedgerFault)
     → answer ≡ Err fault → shown_by show answer ≡ Err fault
 refused_shown show (Ok given) fault is = cc is
@@ -45,7 +41,7 @@ module _ (naming : Naming) (number : ℕ) (centre : Option (List ℕ)) (book : B
         refused_shown (bill_with (closed_through book number)) _ fault
         (unanswered (λ period. details_asked centre (details_of naming book.rulings period))
         (bill_of naming book number centre) (period_of book number) fault
-        (shown_refused (work_seen (closed_through book number)) _ fault is))
+        (refused_back (work_seen (closed_through book number)) _ fault is))
 
     -- and where its lines are
     pub bill_unlined : (lines_outcome naming number centre book).answer ≡ Err fault
@@ -54,7 +50,7 @@ module _ (naming : Naming) (number : ℕ) (centre : Option (List ℕ)) (book : B
         refused_shown (bill_with (closed_through book number)) _ fault
         (unanswered (lines_of naming book.rulings) (bill_of naming book number centre)
         (period_of book number) fault
-        (shown_refused (billed_lines naming book number centre) _ fault is))
+        (refused_back (billed_lines naming book number centre) _ fault is))
 
 -- the bill that is made of all its parts
 abbrev bill_made : PeriodWork → List BilledLine → Option HeldBack → KeptTariffs → PeriodBillSeen

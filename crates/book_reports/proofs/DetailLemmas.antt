@@ -25,10 +25,10 @@ use Rattle.book_reports.specs.declared.what_if.StatementForm.{StatementForm}
 use Rattle.book_reports.specs.declared.what_if.StatementForm.TheVariants as form
 use Rattle.book_reports.specs.BookTexts.{closed_through, closed_through_outcome, shown_by}
 use Rattle.book_reports.specs.Faults.{report_fault_of}
-use Rattle.book_reports.specs.StreamedAnswers.{WritesAnswerUntil}
-use Rattle.book_reports.specs.StreamedDetails.{WritesSomeDetails, detail_answer, details_end}
-use Rattle.book_reports.specs.StreamedDetails.{details_head, details_part, details_text, end_in}
-use Rattle.book_reports.specs.StreamedDetails.{head_in, part_in, sums_of, text_in, with_detail}
+use Rattle.book_reports.specs.StreamedDetails.{WritesDetails, WritesSomeDetails, detail_answer}
+use Rattle.book_reports.specs.StreamedDetails.{details_end, details_head, details_part}
+use Rattle.book_reports.specs.StreamedDetails.{details_text, end_in, head_in, part_in, sums_of}
+use Rattle.book_reports.specs.StreamedDetails.{text_in, with_detail}
 use Rattle.book_reports.specs.StreamedRulings.{WritesFirst}
 use Rattle.book_reports.specs.Writing.{WritesPrefix, WritesUntil, is_write_or_memory}
 use Rattle.book_reports.proofs.AnsweringLemmas.{HasBytes, IsRefusedBy, answer_refused, answer_unread}
@@ -220,7 +220,7 @@ pub none_read : (report : DetailReport) (old new : Seen) (fault : LedgerFault)
     (held : Option (List ℕ))
     → IsCall (λ day. day) old new (Err fault) (closed_through_outcome report.period)
     → IsTransition old new
-    (WritesAnswerUntil (detail_answer report) old.naming held held (Err (report_fault_of fault)))
+    (WritesDetails report old.naming held held (Err (report_fault_of fault)))
 none_read report old new fault held call =
     answer_unread (λ book. refl) fault call (detail_answer report) held
     (answer_some report old.naming)
@@ -238,7 +238,7 @@ pub first_refused : (report : DetailReport) (old mid new : Seen) (through : Opti
     → IsCall (λ found. found) mid new (Err fault)
     (next_detail_outcome mid.naming report.period report.centre None)
     → IsTransition old new
-    (WritesAnswerUntil (detail_answer report) old.naming held held (Err (report_fault_of fault)))
+    (WritesDetails report old.naming held held (Err (report_fault_of fault)))
 first_refused report old mid new through fault held day call =
     answer_refused (λ book. refl) day (λ book. refl) fault
     (subst (λ naming. IsCall (λ found. found) mid new (Err fault)
@@ -255,7 +255,7 @@ pub text_unbegun : (report : DetailReport) (old mid new : Seen) (through : Optio
     → IsCall (λ day. day) old mid (Ok through) (closed_through_outcome report.period)
     → IsCall (λ found. found) mid new (Ok next)
     (next_detail_outcome mid.naming report.period report.centre None)
-    → IsTransition old new (WritesAnswerUntil (detail_answer report) old.naming held held (Err fault))
+    → IsTransition old new (WritesDetails report old.naming held held (Err fault))
 text_unbegun report old mid new through next held fault plain day call =
     answer_written (λ book. refl) (first_read report old mid new through next day call).call
     (detail_answer report) held held (Err fault) plain
@@ -310,7 +310,7 @@ module _ {report : DetailReport} {old mid : Seen} {next : Option Detail} {sums :
 
     -- it went no further
     pub text_stopped : (fault : ReportFault) → is_write_or_memory fault ≡ true
-        → IsTransition old mid (WritesAnswerUntil (detail_answer report) old.naming held had (Err fault))
+        → IsTransition old mid (WritesDetails report old.naming held had (Err fault))
     text_stopped fault plain =
         answer_written (λ book. refl) it.far.call (detail_answer report) held had (Err fault) plain
         (λ book is.
@@ -329,7 +329,7 @@ module _ {report : DetailReport} {old mid : Seen} {next : Option Detail} {sums :
     pub text_ended : (has : Option (List ℕ)) (result : Result (Unit {0}) ReportFault) → next ≡ None
         → IfErr result (λ fault. is_write_or_memory fault ≡ true)
         → WritesUntil (waits ++ details_end report sums) had has result
-        → IsTransition old mid (WritesAnswerUntil (detail_answer report) old.naming held has result)
+        → IsTransition old mid (WritesDetails report old.naming held has result)
     text_ended has result last plain flushed =
         answer_written (λ book. refl) it.far.call (detail_answer report) held has result plain
         (λ book is.
@@ -372,7 +372,7 @@ module _ {report : DetailReport} {old mid : Seen} {next : Option Detail} {sums :
         -- a line was not written, or not whole
         pub text_cut : (fault : ReportFault) → is_write_or_memory fault ≡ true
             → IsTransition old mid
-            (WritesAnswerUntil (detail_answer report) old.naming held has (Err fault))
+            (WritesDetails report old.naming held has (Err fault))
         text_cut fault plain =
             answer_written (λ book. refl) it.far.call (detail_answer report) held has (Err fault)
             plain
@@ -393,7 +393,7 @@ module _ {report : DetailReport} {old mid : Seen} {next : Option Detail} {sums :
             → IsCall (λ found. found) mid new (Err fault)
             (next_detail_outcome mid.naming report.period report.centre (Some detail))
             → IsTransition old new
-            (WritesAnswerUntil (detail_answer report) old.naming held has (Err (report_fault_of fault)))
+            (WritesDetails report old.naming held has (Err (report_fault_of fault)))
         text_refused new fault call =
             answer_refused (λ book. refl) it.far.call (λ book. refl) fault
             (subst (λ naming. IsCall (λ found. found) mid new (Err fault)

@@ -2,15 +2,13 @@
 -- after another.
 use Rattle.std.proofs.Common.{◌≡◌, ◌∙◌, ℕ, ◌+◌, ◌<◌, ◌^◌, ℤ, Bool, true, false, List, [], ◌∷◌, ◌++◌}
 use Rattle.std.proofs.Common.{length, map, not, refl, sym, ap, subst, arith, append-nil, cond}
-use Rattle.std.proofs.Common.{Option, Some, None, Ok, Err, unwrap_or}
+use Rattle.std.proofs.Common.{Option, Some, None, Ok, Err}
 use Rattle.std.specs.Prelude.{All, filter, is_some, sum_by}
-use Rattle.std.specs.BTreeMap.{insert_entry, is_at, values}
-use Rattle.std.specs.Map.{lookup}
+use Rattle.std.specs.BTreeMap.{values}
 use Rattle.std.proofs.lemmas.List.{length-map, map-append}
 use Rattle.std.proofs.lemmas.List.Elements.{All-filter, All-map, All-push, filter-append}
 use Rattle.std.proofs.lemmas.List.Filters.{length-filter_both, sum_by-filter_both}
 use Rattle.std.proofs.lemmas.List.Folds.{fold-map}
-use Rattle.std.proofs.lemmas.Simd.{map-map}
 use Rattle.tariff_rules.specs.declared.priced.Priced.{Priced}
 use Rattle.book_model.specs.declared.bill.WorkRows.{WorkRows}
 use Rattle.book_model.specs.declared.detail.Detail.{Detail}
@@ -18,12 +16,12 @@ use Rattle.book_model.specs.declared.fault.LedgerFault.{LedgerFault}
 use Rattle.book_model.specs.declared.fault.LedgerFault.TheVariants.{Memory}
 use Rattle.book_model.specs.declared.row.ChargeRow.{ChargeRow}
 use Rattle.book_model.specs.declared.row.RowKey.{RowKey}
-use Rattle.book_model.specs.Words.{AreRows, IsDay, by_key, is_step, jobs_of, key_of, keys_of}
-use Rattle.book_model.specs.Words.{next_after, next_detail_outcome, row_at, rows_of, steps_of}
-use Rattle.book_model.specs.Words.{work_rows}
+use Rattle.book_model.specs.Words.{AreRows, IsDay, is_step, jobs_of, next_after}
+use Rattle.book_model.specs.Words.{next_detail_outcome, rows_of, steps_of, work_rows}
 use Rattle.book_core.specs.Calls.{IsCall}
+use Rattle.book_core.specs.KeyedRows.{keyed_rows}
 use Rattle.book_core.specs.Ledgers.{Seen}
-use Rattle.book_core.proofs.KeyedRowLemmas.{keyed_rows-push, row_so_far}
+use Rattle.book_core.proofs.KeyedRowLemmas.{rows_under_keys}
 use Rattle.book_core.proofs.ListLimits.{rows_shown, sum_by-rows_of_le}
 use Rattle.book_reports.specs.declared.bill_work.WorkSums.{WorkSums}
 use Rattle.book_reports.specs.declared.streamed_details.DetailReport.{DetailReport}
@@ -31,26 +29,12 @@ use Rattle.book_reports.specs.declared.what_if.StatementForm.TheVariants as form
 use Rattle.book_reports.specs.BillWork.{AreWork, IsWorkOf, work_outcome, work_seen, work_shown}
 use Rattle.book_reports.specs.BookTexts.{closed_through, closed_through_outcome, shown_by}
 use Rattle.book_reports.specs.StreamedDetails.{sums_of, with_detail}
-use Rattle.book_reports.specs.WorkSums.{AreSumsOf, SumsFit, keyed_rows, prices_of, with_price}
+use Rattle.book_reports.specs.WorkSums.{AreSumsOf, SumsFit, prices_of}
 use Rattle.book_reports.proofs.DetailLemmas.{sums_more}
 use Rattle.book_reports.proofs.DetailReading.{HasRead, all_details, first_read, next_shown}
 use Rattle.book_reports.proofs.DetailReading.{one_more_read, reads, refused_back}
 use Rattle.book_reports.proofs.ReadingLemmas.{fault_alike, fault_tells, read_as, read_then}
 use Rattle.book_reports.proofs.RulingReading.{all_taken}
-
--- ---- rows, price by price
-
--- a price joins the row that was found for its key
-pub price_joined : (prices : List Priced) (one : Priced) (rows : List (RowKey × ChargeRow))
-    (key : RowKey) (empty row more : ChargeRow) → rows ≡ keyed_rows prices → key ≡ key_of one
-    → empty ≡ row_at [] key → row ≡ unwrap_or (lookup (is_at (by_key key)) rows) empty
-    → more ≡ with_price row one
-    → insert_entry by_key rows key more ≡ keyed_rows (prices ++ one ∷ [])
-price_joined prices one rows key empty row more kept keyed is_empty found is =
-    let own : row ≡ row_at prices (key_of one) =
-    row_so_far prices rows key empty row kept is_empty found ∙ ap (row_at prices) keyed in
-    let joined = is ∙ ap (λ (row : ChargeRow). with_price row one) own in
-    (λ i. insert_entry by_key (kept i) (keyed i) (joined i)) ∙ sym (keyed_rows-push prices one)
 
 -- what some details of a kind cost, with one more detail that is of it, or is not
 kind_more : (kind : Detail → Bool) (details : List Detail) (detail : Detail) (is : Bool)
@@ -102,13 +86,6 @@ module _ (work more : WorkSums) (details : List Detail) (detail : Detail)
     }
 
 -- ---- the rows of all
-
--- the rows under their keys are the rows
-rows_under_keys : (prices : List Priced)
-    → map (λ (entry : RowKey × ChargeRow). entry.1) (keyed_rows prices) ≡ rows_of prices
-rows_under_keys prices =
-    map-map (λ (entry : RowKey × ChargeRow). entry.1) (λ key. (key, row_at prices key))
-    (keys_of prices)
 
 -- a sum over what steps cost and one over what jobs cost come to that over all details
 both_sums : (f : Priced → ℕ) (details : List Detail)

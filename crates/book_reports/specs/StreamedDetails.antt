@@ -4,6 +4,7 @@ use Rattle.std.specs.Prelude.{ℕ, ◌+◌, List, [], length, sum_by, Option, Re
 use Rattle.book_model.specs.declared.detail.Detail.{Detail}
 use Rattle.book_model.specs.declared.fault.LedgerFault.{LedgerFault}
 use Rattle.book_model.specs.Words.{Book, Naming, Outcome, details_outcome, no_event}
+use Rattle.book_core.specs.Transition.{Transition}
 use Rattle.report_texts.specs.DetailLists.{detail_head, detail_line, detail_list_text, detail_total}
 use Rattle.report_texts.specs.DetailTables.{detail_row, detail_table, details_heading}
 use Rattle.book_reports.specs.declared.fault.ReportFault.{ReportFault}
@@ -12,6 +13,7 @@ use Rattle.book_reports.specs.declared.streamed_details.Sums.{Sums}
 use Rattle.book_reports.specs.declared.what_if.StatementForm.{StatementForm}
 use Rattle.book_reports.specs.declared.what_if.StatementForm.TheVariants as form
 use Rattle.book_reports.specs.BookTexts.{closed_through, shown_by}
+use Rattle.book_reports.specs.StreamedAnswers.{WritesAnswerUntil}
 use Rattle.book_reports.specs.StreamedRulings.{WritesSome}
 
 -- the text of some details, by the day that the period was closed through, if it was
@@ -77,6 +79,11 @@ detail_text_outcome report naming book = no_event (detail_answer report naming b
 
 abbrev pub detail_length_outcome : DetailReport → Naming → Book → Outcome ℕ
 detail_length_outcome report naming book = no_event (shown_by length (detail_answer report naming book))
+
+-- their text was written, or a prefix of it that is not the whole
+abbrev pub WritesDetails : DetailReport → Naming → Option (List ℕ) → Option (List ℕ)
+    → Result (Unit {0}) ReportFault → Transition
+WritesDetails report = WritesAnswerUntil (detail_answer report)
 
 -- whatever the book is, what was written is the text of some details, or a prefix of one
 abbrev pub WritesSomeDetails : DetailReport → Option (List ℕ) → Option (List ℕ)

@@ -1,10 +1,9 @@
 -- The charge rows of steps and of jobs, as details are summed up one at a time.
-use Rattle.std.specs.Prelude.{◌≡◌, ◌<◌, ◌+◌, ◌^◌, All, List, map}
+use Rattle.std.specs.Prelude.{◌≡◌, ◌<◌, ◌^◌, All, List, map}
 use Rattle.tariff_rules.specs.declared.priced.Priced.{Priced}
 use Rattle.book_model.specs.declared.detail.Detail.{Detail}
-use Rattle.book_model.specs.declared.row.ChargeRow.{ChargeRow}
-use Rattle.book_model.specs.declared.row.RowKey.{RowKey}
-use Rattle.book_model.specs.Words.{IsDay, jobs_of, keys_of, row_at, steps_of}
+use Rattle.book_model.specs.Words.{IsDay, jobs_of, steps_of}
+use Rattle.book_core.specs.KeyedRows.{keyed_rows}
 use Rattle.book_reports.specs.declared.bill_work.WorkSums.{WorkSums}
 use Rattle.book_reports.specs.declared.streamed_details.Sums.{Sums}
 use Rattle.book_reports.specs.StreamedDetails.{sums_of}
@@ -18,20 +17,6 @@ Prices = List Priced
 -- what some details cost
 abbrev pub prices_of : List Detail → List Priced
 prices_of details = map (λ detail. detail.priced) details
-
--- the charge rows of some prices, each under its key
-abbrev pub keyed_rows : List Priced → List (RowKey × ChargeRow)
-keyed_rows prices =
-    map {B = RowKey × ChargeRow} (λ key. (key, row_at prices key)) (keys_of prices)
-
--- a row with one more price
-abbrev pub with_price : ChargeRow → Priced → ChargeRow
-with_price row one = record row {
-  count = row.count + 1;
-  cpu = row.cpu + one.cpu;
-  blocks = row.blocks + one.excp;
-  amount = row.amount + one.amount;
-}
 
 -- 64 bits hold the sums, and signed ones the amount
 pub record SumsFit (sums : Sums) : Type 0 where

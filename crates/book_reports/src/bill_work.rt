@@ -7,15 +7,15 @@ ghost use Rattle.std.specs.Option.{ForSome};
 ghost use Rattle.book_model.specs.Words as words;
 ghost use Rattle.book_model.specs.Words.{IsDay};
 ghost use Rattle.book_core.specs.Calls.{IsCall};
+ghost use Rattle.book_core.specs.KeyedRows.{keyed_rows};
 ghost use Rattle.book_reports.specs.BillWork as spec;
 ghost use Rattle.book_reports.specs.BillWork.{AreWork};
 ghost use Rattle.book_reports.specs.StreamedDetails as streamed;
-ghost use Rattle.book_reports.specs.WorkSums as keyed;
-ghost use Rattle.book_reports.specs.WorkSums.{Prices, SumsFit, keyed_rows};
+ghost use Rattle.book_reports.specs.WorkSums.{Prices, SumsFit};
 
 use crate::book_texts::closed_through;
 use crate::streamed_details::{MOST_DETAILS, NO_SUMS, Sums, with_detail};
-use book_core::{ChargeRow, Detail, Ledger, LedgerFault, RowKey, empty_row};
+use book_core::{ChargeRow, Detail, Ledger, LedgerFault, RowKey, empty_row, key_of, row_with};
 use book_model::WorkRows;
 use smf_text::Name;
 use std::alloc::{AllocError, Global};
@@ -48,32 +48,6 @@ fn is_step(detail: &Detail) -> bool
     detail.step.is_some()
 }
 
-/// Where a price is charged.
-fn key_of(priced: &Priced) -> RowKey
-    ensures { result ≡ words.key_of priced.now }
-{
-    RowKey {
-        day: priced.day,
-        centre: priced.centre,
-        shift: priced.shift,
-    }
-}
-
-/// The row with one more price, if 64 bits hold its sums.
-fn with_price(row: &ChargeRow, priced: &Priced) -> Option<ChargeRow>
-    ensures { IfSome result (λ more. more ≡ keyed.with_price row.now priced.now) }
-{
-    Some(ChargeRow {
-        day: row.day,
-        centre: row.centre,
-        shift: row.shift,
-        count: row.count.checked_add(1)?,
-        cpu: row.cpu.checked_add(priced.cpu)?,
-        blocks: row.blocks.checked_add(priced.excp)?,
-        amount: row.amount.checked_add(priced.amount)?,
-    })
-}
-
 /// A price joins the row of its key.
 fn add_price(rows: &mut BTreeMap<RowKey, ChargeRow>, priced: &Priced) -> Result<(), LedgerFault>
     ensures joined { OnOk result ((prices : Prices) → rows.old.entries ≡ keyed_rows prices
@@ -82,7 +56,7 @@ fn add_price(rows: &mut BTreeMap<RowKey, ChargeRow>, priced: &Priced) -> Result<
 {
     let key = key_of(priced);
     let row = rows.entry(key)?.or_insert(empty_row(key));
-    let Some(more) = with_price(row, priced) else {
+    let Some(more) = row_with(row, priced) else {
         return Err(LedgerFault::Memory);
     };
     *row = more;

@@ -79,6 +79,38 @@ fn centre_text<L: Ledger>(
     }
 }
 
+/// The statement of a period.
+fn statement_report<L: Ledger>(
+    alloc: Global,
+    ledger: &mut L,
+    period: u16,
+) -> Result<Vec<u8>, LedgerFault>
+    ensures { IsCall (λ text. text.items) (L.seen ledger.old) (L.seen ledger.new) result
+        (spec.report_outcome (L.seen ledger.old).naming (Report.Statement period)) }
+{
+    let through = closed_through(ledger, period)?;
+    made_of(
+        ledger.charges(period),
+        |rows| Ok(statement_text(alloc, period, through, &rows)?.into_bytes()),
+    )
+}
+
+/// The adjustments of a period.
+fn adjustment_report<L: Ledger>(
+    alloc: Global,
+    ledger: &mut L,
+    period: u16,
+) -> Result<Vec<u8>, LedgerFault>
+    ensures { IsCall (λ text. text.items) (L.seen ledger.old) (L.seen ledger.new) result
+        (spec.report_outcome (L.seen ledger.old).naming (Report.AdjustmentList period)) }
+{
+    let through = closed_through(ledger, period)?;
+    made_of(
+        ledger.adjustments(period),
+        |lines| Ok(adjustment_list_text(alloc, period, through, &lines)?.into_bytes()),
+    )
+}
+
 /// The text of a report.
 pub fn report_text<L: Ledger>(
     alloc: Global,
@@ -89,24 +121,12 @@ pub fn report_text<L: Ledger>(
         (spec.report_outcome (L.seen ledger.old).naming report) }
 {
     match report {
-        Report::Statement(period) => {
-            let through = closed_through(ledger, period)?;
-            made_of(
-                ledger.charges(period),
-                |rows| Ok(statement_text(alloc, period, through, &rows)?.into_bytes()),
-            )
-        }
+        Report::Statement(period) => statement_report(alloc, ledger, period),
         Report::StatementTable(period) => made_of(
             ledger.charges(period),
             |rows| statement_table(alloc, period, &rows),
         ),
-        Report::AdjustmentList(period) => {
-            let through = closed_through(ledger, period)?;
-            made_of(
-                ledger.adjustments(period),
-                |lines| Ok(adjustment_list_text(alloc, period, through, &lines)?.into_bytes()),
-            )
-        }
+        Report::AdjustmentList(period) => adjustment_report(alloc, ledger, period),
         Report::AdjustmentTable(period) => made_of(
             ledger.adjustments(period),
             |lines| adjustment_table(alloc, period, &lines),

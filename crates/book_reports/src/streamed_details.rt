@@ -7,7 +7,6 @@ ghost use Rattle.streams.specs.Sinks.{has_failed, writer_of};
 ghost use Rattle.book_model.specs.Words.{IsDay, ShowsDetail, next_detail_outcome};
 ghost use Rattle.book_core.specs.Calls.{IsCall, Reopens};
 ghost use Rattle.book_core.specs.Transition.{IsTransition};
-ghost use Rattle.book_reports.specs.StreamedAnswers.{WritesAnswerUntil};
 ghost use Rattle.book_reports.specs.StreamedDetails as spec;
 ghost use Rattle.book_reports.specs.StreamedRulings.{LeavesSome, WritesAllBut, refusal_in};
 ghost use Rattle.book_reports.specs.Writing.{WritesPrefix, WritesUntil, is_write_fault};
@@ -201,7 +200,7 @@ pub fn write_details<L: Ledger, W: Write + Drop>(
     sink: &mut Sink<W>,
 ) -> Result<(), ReportFault>
     ensures written { IsTransition (L.seen ledger.old) (L.seen ledger.new)
-        (WritesAnswerUntil (spec.detail_answer report) (L.seen ledger.old).naming
+        (spec.WritesDetails report (L.seen ledger.old).naming
         (W.contents (writer_of sink.old)) (W.contents (writer_of sink.new)) result) }
     ensures reopens { Reopens (refusal_in result)
         (L.seen ledger.old).must_reopen (L.seen ledger.new).must_reopen }

@@ -1,5 +1,5 @@
 use Rattle.std.proofs.Common.{◌∙◌, ap, rules, unwrap_or}
-use Rattle.book_reports.proofs.WorkLemmas.{price_joined}
+use Rattle.book_core.proofs.KeyedRowLemmas.{price_joined}
 use Rattle.book_reports.proofs.bill_work.add_price.Goals as goal
 
 pub returns-clause-joined : goal.returns-clause-joined
@@ -10,5 +10,5 @@ returns-clause-joined c = λ prices kept.
     let more =
     price_joined prices c.args.priced.now c.args.rows.now.entries c.key_of-key.result
     c.empty_row.result c.or_insert-row.result.now c.in-Some.more kept c.key_of-key.ensures
-    c.empty_row.ensures found c.in-Some.ensures in
+    c.empty_row.ensures found c.in-Some.ensures.value in
     search (rules, written, more)

@@ -1,53 +1,32 @@
 use Rattle.std.proofs.Common.{SFits, refl, rules, w32}
 use Rattle.std.proofs.lemmas.Int.{to_z-of_z}
-use Rattle.report_texts.specs.Statements.{statement_text}
 use Rattle.report_texts.specs.StatementTables.{statement_table}
-use Rattle.report_texts.specs.AdjustmentLists.{adjustment_list_text}
 use Rattle.report_texts.specs.AdjustmentTables.{adjustment_table}
 use Rattle.report_texts.specs.DisputeLists.{dispute_list_text}
 use Rattle.report_texts.specs.DisputeTables.{dispute_table}
 use Rattle.report_texts.specs.PeriodLists.{period_list_text}
 use Rattle.report_texts.specs.RecordTexts.{record_text}
-use Rattle.book_reports.proofs.ReadingLemmas.{call_failed, call_made, period_made}
+use Rattle.book_reports.proofs.ReadingLemmas.{call_made}
 use Rattle.book_reports.proofs.book_texts.report_text.Goals as goal
 
--- the books did not say through which day the period was closed
-pub returns-in_err-through-in-Statement : goal.returns-in_err-through-in-Statement
-returns-in_err-through-in-Statement g c =
-    let exit = c.from_residual in
-    rw c.in-Statement.is (call_failed exit.result exit.ensures.1 (λ book. refl) (λ book. refl)
-    (λ book is. cc is) c.in_err-through-in-Statement.ensures.through)
+-- the dated ones are texts of their own
+pub returns-in-Statement : goal.returns-in-Statement
+returns-in-Statement g c = rw c.in-Statement.is c.statement_report.ensures
 
-pub returns-in_err-through-in-AdjustmentList : goal.returns-in_err-through-in-AdjustmentList
-returns-in_err-through-in-AdjustmentList g c =
-    let exit = c.from_residual-in_err-through-in-AdjustmentList in
-    rw c.in-AdjustmentList.is (call_failed exit.result exit.ensures.1 (λ book. refl) (λ book. refl)
-    (λ book is. cc is) c.in_err-through-in-AdjustmentList.ensures.through)
+pub returns-in-AdjustmentList : goal.returns-in-AdjustmentList
+returns-in-AdjustmentList g c = rw c.in-AdjustmentList.is c.adjustment_report.ensures
 
--- each list that was asked for is made its text
-pub returns-in_ok-through-in-Statement : goal.returns-in_ok-through-in-Statement
-returns-in_ok-through-in-Statement g c =
-    rw c.in-Statement.is (period_made _ (statement_text c.in-Statement.period) (λ book. refl)
-    c.in_ok-through-in-Statement.ensures.through c.charges.ensures.rows c.made_of.ensures
-    λ rows text made. search rules)
-
+-- of each other list that was asked for its text is made
 pub returns-in-StatementTable : goal.returns-in-StatementTable
 returns-in-StatementTable g c =
     rw c.in-StatementTable.is (call_made (statement_table c.in-StatementTable.period) (λ book. refl)
-    c.charges-in-StatementTable.ensures.rows c.made_of-in-StatementTable.ensures
+    c.charges.ensures.rows c.made_of.ensures
     λ rows table made. search rules)
-
-pub returns-in_ok-through-in-AdjustmentList : goal.returns-in_ok-through-in-AdjustmentList
-returns-in_ok-through-in-AdjustmentList g c =
-    let day = c.in_ok-through-in-AdjustmentList.ensures.through in
-    rw c.in-AdjustmentList.is (period_made _ (adjustment_list_text c.in-AdjustmentList.period)
-    (λ book. refl) day (rw day.work.naming at c.adjustments.ensures.lines)
-    c.made_of-in-AdjustmentList.ensures λ lines text made. search rules)
 
 pub returns-in-AdjustmentTable : goal.returns-in-AdjustmentTable
 returns-in-AdjustmentTable g c =
     rw c.in-AdjustmentTable.is (call_made (adjustment_table c.in-AdjustmentTable.period)
-    (λ book. refl) c.adjustments-in-AdjustmentTable.ensures.lines
+    (λ book. refl) c.adjustments.ensures.lines
     c.made_of-in-AdjustmentTable.ensures λ lines table made. search rules)
 
 pub returns-in-DisputeTable : goal.returns-in-DisputeTable
