@@ -18,13 +18,13 @@ use Rattle.table_ledger.proofs.OwnBooks.{cause_told}
 use Rattle.table_ledger.proofs.SurvivalLemmas.{clean_before}
 
 -- what is said of the answer of a call that was tried is said of the answer that is given
-pub answer_said : {S V : Type 0} {Said : V → Type 0} {ghosts : Ghosts S} {middle last : S}
-    {before flag : Bool} {tried : Result (Result V LedgerFault) StoreError}
-    {result : Result V LedgerFault} → Finishes ghosts middle last before flag tried result
+pub answer_said : {S V : Type 0} {ghosts : Ghosts S} {middle last : S} {before flag : Bool}
+    {tried : Result (Result V LedgerFault) StoreError} {result : Result V LedgerFault}
+    (Said : V → Type 0) → Finishes ghosts middle last before flag tried result
     → IfOk tried (λ answer. IfOk answer Said) → IfOk result Said
-answer_said {V = V} {Said = Said} {tried = Ok answer} settles said =
+answer_said {V = V} {tried = Ok answer} Said settles said =
     subst (λ (given : Result V LedgerFault). IfOk given Said) (sym settles.ends.0) said
-answer_said {V = V} {Said = Said} {tried = Err error} settles said =
+answer_said {V = V} {tried = Err error} Said settles said =
     elim settles.ends [
       | inl wanting ↦ subst (λ (given : Result V LedgerFault). IfOk given Said) (sym wanting.0) tt
       | inr failed ↦ subst (λ (given : Result V LedgerFault). IfOk given Said) (sym failed.0) tt

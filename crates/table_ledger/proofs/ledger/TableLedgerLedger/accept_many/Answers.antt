@@ -56,4 +56,4 @@ returns-clause-few g c =
     c.if-self.false g.met.S.Store.settled c.finish.ensures.settles c.try_accept_many-tried.ensures.tries).0
 
 pub returns-clause-some : goal.returns-clause-some
-returns-clause-some g c = answer_said c.finish.ensures.settles c.try_accept_many-tried.ensures.some
+returns-clause-some g c = answer_said _ c.finish.ensures.settles c.try_accept_many-tried.ensures.some

@@ -27,4 +27,4 @@ returns-clause-own g c =
     c.finish.ensures.served c.finish.ensures.mended
 
 pub returns-clause-shown : goal.returns-clause-shown
-returns-clause-shown g c = answer_said c.finish.ensures.settles c.try_charges_under-tried.ensures.shown
+returns-clause-shown g c = answer_said _ c.finish.ensures.settles c.try_charges_under-tried.ensures.shown
