@@ -1,6 +1,6 @@
 -- One request of a client, from books that are open only while they are asked.
 use Rattle.std.proofs.Common.{◌≡◌, ◌∙◌, ◌<◌, Bool, true, false, List, [], ◌++◌, ℕ, refl, sym, ap, subst}
-use Rattle.std.proofs.Common.{inl, inr, Option, Result, Ok, Err, true≢false}
+use Rattle.std.proofs.Common.{◌⊎◌, inl, inr, Option, Result, Ok, Err, true≢false}
 use Rattle.book_model.specs.Words.{Book, Event, Naming}
 use Rattle.book_core.specs.Ledgers.{Seen}
 use Rattle.book_core.specs.Transition.{IsTransition, NoEvent}
