@@ -232,7 +232,7 @@ impl Write for ClosedOutput<'_> {
 
     /// The port was taken.
     fn flush(&mut self) -> io::Result<()> {
-        for client in &CLIENTS_OF_A_CLOSED_OUTPUT {
+        for client in CLIENTS_OF_A_CLOSED_OUTPUT.as_slice() {
             let stream = connected(self.rt, self.port, client)?;
             self.clients.push(stream)?;
         }
@@ -314,7 +314,7 @@ fn a_closed_output_ends_no_service(rt: HostRuntime) -> Result<(), Fail> {
     let book = OneBook::new(rt.alloc(), ALWAYS_THERE);
     let mut repository = book.ok_or("there is no memory for a book")?;
     let port = free_port(&rt)?;
-    let words = serve_words(&rt, port, CLIENTS_OF_A_CLOSED_OUTPUT.len())?;
+    let words = serve_words(&rt, port, CLIENTS_OF_A_CLOSED_OUTPUT.as_slice().len())?;
     let mut errors = Vec::new(rt.alloc());
     let output = ClosedOutput {
         rt: &rt,
