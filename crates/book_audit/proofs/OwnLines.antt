@@ -14,6 +14,7 @@ use Rattle.tree_tables.specs.Columns.{line_columns, record_columns}
 use Rattle.tree_tables.specs.Fits.{HasPeriod, LineFits, RecordFits}
 use Rattle.tree_tables.specs.Holds.{Holds}
 use Rattle.tree_tables.proofs.Layouts.{line_layout, record_layout}
+use Rattle.tree_tables.proofs.LineRows.{same_flag}
 use Rattle.tree_tables.proofs.RowsRead.{all_entries, same_blob, same_count, same_int, same_text}
 use Rattle.consistent_tables.specs.Consistent.{IsOwnLine, ruled}
 use Rattle.consistent_tables.specs.DueRows.{period_from}
@@ -21,7 +22,7 @@ use Rattle.book_audit.specs.Own.{AreOwn}
 use Rattle.book_audit.specs.OwnRecords.{IsLineIn}
 use Rattle.book_audit.specs.SoundTrees.{AreRuled}
 use Rattle.book_audit.specs.declared.rulings.Rulings.{Rulings}
-use Rattle.book_audit.proofs.HeldLooks.{record_looked, same_flag}
+use Rattle.book_audit.proofs.HeldLooks.{record_looked}
 use Rattle.book_audit.proofs.OwnRecords.{closes_are}
 use Rattle.book_audit.proofs.OwnTables.{own_consistent, own_fit, own_record_fits, own_tables}
 
