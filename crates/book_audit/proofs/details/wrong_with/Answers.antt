@@ -16,6 +16,7 @@ use Rattle.tree_tables.specs.Columns.{record_columns}
 use Rattle.tree_tables.specs.Stored.{stored_entry}
 use Rattle.tree_tables.specs.UsageData.{IsUsageData}
 use Rattle.tree_tables.specs.declared.stored_record.StoredRecord.{StoredRecord}
+use Rattle.book_audit.specs.Details.{IsCounted}
 use Rattle.book_audit.specs.Own.{IsOwnStop}
 use Rattle.book_audit.specs.OwnRecords.{AreOwnOf, IsCountedIn}
 use Rattle.book_audit.proofs.HeldLooks.{record_looked}
@@ -25,6 +26,34 @@ use Rattle.book_audit.proofs.OwnStops.{each_err, err_fits, met_memory, stop_on, 
 use Rattle.book_audit.proofs.OwnTables.{own_tables}
 use Rattle.book_audit.proofs.WalkSteps.{look_back, trees_stay}
 use Rattle.book_audit.proofs.details.wrong_with.Goals as goal
+
+-- what is shown is held and counted where nothing is wrong
+pub returns-clause-counted : goal.returns-clause-counted
+returns-clause-counted g c clean none =
+    let start = c.args.trees.now.store in
+    let mid = c.record_of.new.self.store in
+    let trees : Trees = (g.S.Store.view start).trees in
+    let shown = c.args.shown.now in
+    let stored = c.in-Some.record in
+    let entry : List ℕ × RecordRow = stored_entry stored in
+    let Read : Option StoredRecord → Type 0 = λ (found : Option StoredRecord).
+    IfSome found (λ (it : StoredRecord). IsClean (g.S.Store.view mid)
+    → Finds (Blob shown.name ∷ []) (trees 3) (record_columns (stored_entry it)) true) in
+    let held = subst Read c.in-Some.is (said_ok _ Read c.record_of.result c.map_err.result
+    c.in_ok-record.record c.map_err.ensures.cases c.in_ok-record.was c.record_of.ensures.read) in
+    let first : OnlyLooks g.S.Store start mid = search rules in
+    let back : IsClean (g.S.Store.view mid) =
+    look_back g.S.Store mid c.is_counted.new.trees.store c.in_ok-is_counted.ensures.same clean in
+    let is : shown ≡ detail_with shown.name (record_with stored.data_bytes.items) stored.priced =
+    search rules in
+    let counted : c.in_ok-is_counted.field-0 ≡ true = search rules in
+    record {
+      entry = entry;
+      held = held back;
+      is = is;
+      counted = subst (λ (all : Trees). IsCounted (all 5) c.args.rulings.now.closes.items entry)
+          (trees_stay g.S.Store start mid first back) (c.in_ok-is_counted.ensures.counted clean counted);
+    }
 
 -- what own books show is a record that is held,
 pub returns-in_default-clause-other : goal.returns-in_default-clause-other
