@@ -114,6 +114,11 @@ returns-then-not-branch-clause-records g c clean =
       placed = read.3;
     }
 
+pub returns-in_err-check_record-clause-quiet : goal.returns-in_err-check_record-clause-quiet
+returns-in_err-check_record-clause-quiet g c =
+    quiet_both g.S.Store (quiet_both g.S.Store c.records.invariant.quiet c.next.ensures.quiet)
+    c.check_record.ensures.quiet
+
 pub returns-then-record-gt-MAX_COST-clause-quiet :
     goal.returns-then-record-gt-MAX_COST-clause-quiet
 returns-then-record-gt-MAX_COST-clause-quiet g c =
