@@ -257,13 +257,12 @@ fn serve_words(rt: &HostRuntime, port: u16, requests: usize) -> io::Result<Vec<S
     Ok(words)
 }
 
-/// Serves clients from a book. All goes well, and the server says and they see this.
-fn assert_seen(
+/// Serves clients from a book, and gives what the server said and they saw.
+fn seen_by(
     rt: &HostRuntime,
     book: Option<OneBook>,
     all: &'static [Client],
-    expected: &str,
-) -> Result<(), Fail> {
+) -> Result<Vec<u8>, Fail> {
     let mut repository = book.ok_or("there is no memory for a book")?;
     let port = free_port(rt)?;
     let words = serve_words(rt, port, all.len())?;
@@ -284,29 +283,32 @@ fn assert_seen(
         clients,
         &mut errors,
     );
-    assert!(rt; status == Status::Done && errors.is_empty());
-    assert_eq!(rt; str::from_utf8(&clients.seen)?, expected);
-    Ok(())
+    if status != Status::Done || !errors.is_empty() {
+        return Err(Fail::new("the service did not end as it should"));
+    }
+    Ok(clients.seen)
 }
 
 #[test]
 fn clients_are_served_one_after_the_other(rt: HostRuntime) -> Result<(), Fail> {
     let book = OneBook::new(rt.alloc(), ALWAYS_THERE);
-    assert_seen(&rt, book, CLIENTS.as_slice(), SEEN)
+    let seen = seen_by(&rt, book, CLIENTS.as_slice())?;
+    assert_eq!(rt; str::from_utf8(&seen)?, SEEN);
+    Ok(())
 }
 
 #[test]
 fn clients_are_answered_while_the_books_are_away(rt: HostRuntime) -> Result<(), Fail> {
     let book = OneBook::new(rt.alloc(), AWAY_TWICE);
-    let clients = CLIENTS_OF_AWAY_BOOKS.as_slice();
-    assert_seen(&rt, book, clients, SEEN_OF_AWAY_BOOKS)
+    let seen = seen_by(&rt, book, CLIENTS_OF_AWAY_BOOKS.as_slice())?;
+    assert_eq!(rt; str::from_utf8(&seen)?, SEEN_OF_AWAY_BOOKS);
+    Ok(())
 }
 
-/// A client gets an answer that begins so.
-fn assert_answered(rt: &HostRuntime, client: &TcpStream) -> Result<(), Fail> {
+/// A client reads an answer that begins so.
+fn is_answered(rt: &HostRuntime, client: &TcpStream) -> io::Result<bool> {
     let answer = io::read_to_string(rt.alloc(), client)?;
-    assert!(rt; answer.as_str().starts_with("HTTP/1.1 200 OK\r\n"));
-    Ok(())
+    Ok(answer.as_str().starts_with("HTTP/1.1 200 OK\r\n"))
 }
 
 #[test]
@@ -333,7 +335,7 @@ fn a_closed_output_ends_no_service(rt: HostRuntime) -> Result<(), Fail> {
     assert!(rt; status == Status::Io);
     assert!(rt; errors.as_slice() == b"chargectl: io\n".as_slice());
     for client in &output.clients {
-        assert_answered(&rt, client)?;
+        assert!(rt; is_answered(&rt, client)?);
     }
     Ok(())
 }
