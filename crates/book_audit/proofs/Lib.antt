@@ -1,39 +1,8 @@
--- The lemmas: walks by key, over the trees of a store; rows by their columns; the rows of closes,
--- tariffs, lines, choices and records, and the charge rows that are due; books that were
--- copied; and the tables that sound trees hold.
-pub mod WalkLemmas
-pub mod WalkSteps
-pub mod RowLemmas
-pub mod ClosedLemmas
-pub mod TariffLemmas
-pub mod LineLemmas
-pub mod LastPassing
-pub mod ChoiceLemmas
-pub mod RecordLemmas
-pub mod CountedRecords
-pub mod DayLemmas
+-- The lemmas, in rooms: walks by key; rows, one after the other; trees that hold tables; what sound
+-- means of trees; why books that calls made are never called unsound; and books that were copied.
+pub mod Walks
+pub mod Rows
+pub mod Held
+pub mod Sound
+pub mod Own
 pub mod CopyLemmas
-pub mod Pigeonhole
-pub mod KeptRows
-pub mod IndexRows
-pub mod TreesHold
-pub mod SoundRulings
-pub mod SoundRecords
-pub mod SoundRows
-pub mod SoundBook
-pub mod HeldLooks
-pub mod HeldRulings
-pub mod OwnWalks
-pub mod OwnStops
-pub mod OwnSteps
-pub mod OwnRulings
-pub mod OwnHistory
-pub mod OwnEntries
-pub mod OwnTables
-pub mod OwnRecords
-pub mod OwnLines
-pub mod OwnDays
-pub mod OwnSums
-pub mod OwnDetails
-pub mod OwnChoices
-pub mod OwnTrees

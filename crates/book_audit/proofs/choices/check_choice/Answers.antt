@@ -5,9 +5,9 @@ use Rattle.sqlite_value.specs.Order.{Row}
 use Rattle.sqlite_value.specs.declared.value.Value.TheVariants.{Blob, Int}
 use Rattle.tree_rows.specs.Rows.{Finds}
 use Rattle.tree_rows.proofs.Calls.{clean_before}
-use Rattle.book_audit.proofs.OwnChoices.{chosen_found}
-use Rattle.book_audit.proofs.OwnStops.{err_passed}
-use Rattle.book_audit.proofs.WalkSteps.{trees_stay}
+use Rattle.book_audit.proofs.Own.Choices.{chosen_found}
+use Rattle.book_audit.proofs.Own.Stops.{err_passed}
+use Rattle.book_audit.proofs.Walks.Steps.{trees_stay}
 use Rattle.book_audit.proofs.choices.check_choice.Goals as goal
 
 -- a choice that is the next is taken

@@ -9,8 +9,8 @@ use Rattle.tree_rows.specs.Rows.{Finds}
 use Rattle.tree_rows.proofs.Calls.{clean_before}
 use Rattle.book_audit.specs.Rules.{may_split}
 use Rattle.book_audit.specs.Trees.{FindsTwo}
-use Rattle.book_audit.proofs.OwnChoices.{chosen_held, chosen_shares}
-use Rattle.book_audit.proofs.WalkSteps.{trees_stay}
+use Rattle.book_audit.proofs.Own.Choices.{chosen_held, chosen_shares}
+use Rattle.book_audit.proofs.Walks.Steps.{trees_stay}
 use Rattle.book_audit.proofs.choices.chosen_identity.Goals as goal
 
 -- the record of a choice is held

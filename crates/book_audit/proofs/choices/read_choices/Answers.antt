@@ -17,14 +17,14 @@ use Rattle.book_audit.specs.Own.{AreOwn}
 use Rattle.book_audit.specs.OwnChoices.{IsNextIn}
 use Rattle.book_audit.specs.Walks.{HasWalked, width}
 use Rattle.book_audit.specs.declared.finding.Tree.TheVariants.{Choices}
-use Rattle.book_audit.proofs.ChoiceLemmas.{made_pushed, none_made, rows_pushed}
-use Rattle.book_audit.proofs.OwnChoices.{own_choices_few, own_choices_fit, own_next_choice, since_from}
-use Rattle.book_audit.proofs.OwnChoices.{since_pushed}
-use Rattle.book_audit.proofs.OwnEntries.{choice_names_many}
-use Rattle.book_audit.proofs.OwnStops.{each_err, err_passed, err_said, stop_on, stop_walked}
-use Rattle.book_audit.proofs.TreesHold.{long_numbers}
-use Rattle.book_audit.proofs.WalkSteps.{its_place, its_row, look_back, looks_on, no_look, read_all}
-use Rattle.book_audit.proofs.WalkSteps.{read_on, trees_stay}
+use Rattle.book_audit.proofs.Rows.Choices.{made_pushed, none_made, rows_pushed}
+use Rattle.book_audit.proofs.Own.Choices.{own_choices_few, own_choices_fit, own_next_choice, since_from}
+use Rattle.book_audit.proofs.Own.Choices.{since_pushed}
+use Rattle.book_audit.proofs.Own.Entries.{choice_names_many}
+use Rattle.book_audit.proofs.Own.Stops.{each_err, err_passed, err_said, stop_on, stop_walked}
+use Rattle.book_audit.proofs.Sound.Tables.{long_numbers}
+use Rattle.book_audit.proofs.Walks.Steps.{its_place, its_row, look_back, looks_on, no_look, read_all}
+use Rattle.book_audit.proofs.Walks.Steps.{read_on, trees_stay}
 use Rattle.book_audit.proofs.choices.read_choices.Goals as goal
 
 pub choices-init : goal.choices-init

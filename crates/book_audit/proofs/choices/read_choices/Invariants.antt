@@ -4,7 +4,7 @@ use Rattle.tree_rows.specs.Calls.{CommitsNothing, OnlyLooks}
 use Rattle.book_audit.specs.ChoiceRows.{AreMade, Made, made_rows, said}
 use Rattle.book_audit.specs.Walks.{HasWalked}
 use Rattle.book_audit.specs.declared.finding.Tree.TheVariants.{Choices}
-use Rattle.book_audit.proofs.OwnChoices.{since_from}
+use Rattle.book_audit.proofs.Own.Choices.{since_from}
 use Rattle.book_audit.proofs.choices.read_choices.Given as goal
 
 -- the rows so far are those of choices

@@ -1,5 +1,5 @@
 use Rattle.std.proofs.Common.{rules}
-use Rattle.book_audit.proofs.RowLemmas.{row_is}
+use Rattle.book_audit.proofs.Rows.Columns.{row_is}
 use Rattle.book_audit.proofs.day_sums.row_in.Goals as goal
 
 pub returns-clause-read : goal.returns-clause-read

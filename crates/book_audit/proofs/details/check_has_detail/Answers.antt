@@ -14,10 +14,10 @@ use Rattle.tree_rows.specs.Rows.{Finds}
 use Rattle.tree_tables.specs.Stored.{stored_entry}
 use Rattle.tree_tables.specs.UsageData.{IsUsageData}
 use Rattle.book_audit.specs.Records.{detail_key, spot_of}
-use Rattle.book_audit.proofs.OwnDetails.{counted_usage, detail_found}
-use Rattle.book_audit.proofs.OwnSteps.{never_with, passed_with}
-use Rattle.book_audit.proofs.OwnStops.{err_fits, met_memory}
-use Rattle.book_audit.proofs.WalkSteps.{look_back}
+use Rattle.book_audit.proofs.Own.Details.{counted_usage, detail_found}
+use Rattle.book_audit.proofs.Own.Steps.{never_with, passed_with}
+use Rattle.book_audit.proofs.Own.Stops.{err_fits, met_memory}
+use Rattle.book_audit.proofs.Walks.Steps.{look_back}
 use Rattle.book_audit.proofs.details.check_has_detail.Goals as goal
 
 -- the data of a record of own books are those of usage,

@@ -3,7 +3,7 @@ use Rattle.sqlite_trees.specs.Tree.{Trees}
 use Rattle.sqlite_trees.specs.View.{IsClean}
 use Rattle.tree_tables.specs.Stored.{stored_entry}
 use Rattle.book_audit.specs.Records.{HasPast}
-use Rattle.book_audit.proofs.OwnRecords.{own_counts}
+use Rattle.book_audit.proofs.Own.Records.{own_counts}
 use Rattle.book_audit.proofs.details.is_counted.Goals as goal
 
 -- a record of own books that is counted is counted by its lines

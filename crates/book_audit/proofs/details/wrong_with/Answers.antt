@@ -19,12 +19,12 @@ use Rattle.tree_tables.specs.declared.stored_record.StoredRecord.{StoredRecord}
 use Rattle.book_audit.specs.Details.{IsCounted}
 use Rattle.book_audit.specs.Own.{IsOwnStop}
 use Rattle.book_audit.specs.OwnRecords.{AreOwnOf, IsCountedIn}
-use Rattle.book_audit.proofs.HeldLooks.{record_looked}
-use Rattle.book_audit.proofs.OwnDetails.{own_row, own_shown_at, own_usage}
-use Rattle.book_audit.proofs.OwnSteps.{said_ok}
-use Rattle.book_audit.proofs.OwnStops.{each_err, err_fits, met_memory, stop_on, stop_passed}
-use Rattle.book_audit.proofs.OwnTables.{own_tables}
-use Rattle.book_audit.proofs.WalkSteps.{look_back, trees_stay}
+use Rattle.book_audit.proofs.Held.Looks.{record_looked}
+use Rattle.book_audit.proofs.Own.Details.{own_row, own_shown_at, own_usage}
+use Rattle.book_audit.proofs.Own.Steps.{said_ok}
+use Rattle.book_audit.proofs.Own.Stops.{each_err, err_fits, met_memory, stop_on, stop_passed}
+use Rattle.book_audit.proofs.Own.Tables.{own_tables}
+use Rattle.book_audit.proofs.Walks.Steps.{look_back, trees_stay}
 use Rattle.book_audit.proofs.details.wrong_with.Goals as goal
 
 -- what is shown is held and counted where nothing is wrong

@@ -7,9 +7,9 @@ use Rattle.tree_rows.proofs.Calls.{quiet_both}
 use Rattle.book_audit.specs.Entries.{IsEntry}
 use Rattle.book_audit.specs.Trees.{tree_number}
 use Rattle.book_audit.specs.Walks.{AreRising, AreWide, width}
-use Rattle.book_audit.proofs.OwnEntries.{own_entries}
-use Rattle.book_audit.proofs.OwnStops.{stop_passed, stop_walked}
-use Rattle.book_audit.proofs.WalkSteps.{its_row, look_back, looks_on, no_look, read_all, read_on}
+use Rattle.book_audit.proofs.Own.Entries.{own_entries}
+use Rattle.book_audit.proofs.Own.Stops.{stop_passed, stop_walked}
+use Rattle.book_audit.proofs.Walks.Steps.{its_row, look_back, looks_on, no_look, read_all, read_on}
 use Rattle.book_audit.proofs.entry_counts.count_rows.Goals as goal
 
 pub entries-init : goal.entries-init

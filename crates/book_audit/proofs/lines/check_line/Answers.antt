@@ -9,8 +9,8 @@ use Rattle.sqlite_trees.specs.View.{IsClean}
 use Rattle.sqlite_value.specs.Order.{Row}
 use Rattle.tree_rows.specs.Calls.{OnlyLooks}
 use Rattle.book_audit.specs.Lines.{line_entry}
-use Rattle.book_audit.proofs.OwnLines.{own_line_found, own_line_late}
-use Rattle.book_audit.proofs.WalkSteps.{look_back}
+use Rattle.book_audit.proofs.Own.Lines.{own_line_found, own_line_late}
+use Rattle.book_audit.proofs.Walks.Steps.{look_back}
 use Rattle.book_audit.proofs.lines.check_line.Goals.{then-line-own-via-then-line-own}
 use Rattle.book_audit.proofs.lines.check_line.Goals.{then-line-own-via-else-line-own+then-open_period-line}
 use Rattle.book_audit.proofs.lines.check_line.Goals as goal

@@ -10,18 +10,18 @@ use Rattle.tree_tables.specs.Columns.{line_columns}
 use Rattle.book_audit.specs.Lines.{IsLateLine, line_entry}
 use Rattle.book_audit.specs.Walks.{AreRising, HasWalked, width}
 use Rattle.book_audit.specs.declared.finding.Tree.TheVariants.{Lines}
-use Rattle.book_audit.proofs.WalkSteps.{its_row, look_back, looks_on, no_look, read_all, read_on}
-use Rattle.book_audit.proofs.WalkSteps.{trees_stay}
+use Rattle.book_audit.proofs.Walks.Steps.{its_row, look_back, looks_on, no_look, read_all, read_on}
+use Rattle.book_audit.proofs.Walks.Steps.{trees_stay}
 use Rattle.std.specs.Prelude.{is_ok}
 use Rattle.sqlite_value.specs.Order.{column}
 use Rattle.table_model.specs.Tables.{Tables}
 use Rattle.tree_tables.specs.Fits.{HasPeriod, LineFits}
 use Rattle.tree_tables.specs.Holds.{Holds}
 use Rattle.book_audit.specs.SoundTrees.{AreRuled}
-use Rattle.book_audit.proofs.OwnLines.{IsLineOf, line_had, line_row_fits, lines_of}
-use Rattle.book_audit.proofs.OwnSteps.{never_with, passed_with}
-use Rattle.book_audit.proofs.OwnStops.{err_said, stop_on, stop_walked}
-use Rattle.book_audit.proofs.OwnTables.{own_tables}
+use Rattle.book_audit.proofs.Own.Lines.{IsLineOf, line_had, line_row_fits, lines_of}
+use Rattle.book_audit.proofs.Own.Steps.{never_with, passed_with}
+use Rattle.book_audit.proofs.Own.Stops.{err_said, stop_on, stop_walked}
+use Rattle.book_audit.proofs.Own.Tables.{own_tables}
 use Rattle.book_audit.proofs.lines.check_lines.Goals as goal
 
 pub lines-init : goal.lines-init

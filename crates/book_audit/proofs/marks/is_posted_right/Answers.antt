@@ -9,7 +9,7 @@ use Rattle.tree_tables.specs.Stored.{stored_entry}
 use Rattle.book_audit.specs.Days.{is_closed}
 use Rattle.book_audit.specs.Marks.{is_posted_so}
 use Rattle.book_audit.specs.Records.{IsLine}
-use Rattle.book_audit.proofs.OwnRecords.{own_posted}
+use Rattle.book_audit.proofs.Own.Records.{own_posted}
 use Rattle.book_audit.proofs.marks.is_posted_right.Goals as goal
 
 -- a record of own books is posted as it is to be

@@ -9,8 +9,8 @@ use Rattle.consistent_tables.specs.Consistent.{AreInTurn, ruled}
 use Rattle.consistent_tables.specs.DueRows.{period_from}
 use Rattle.tree_tables.specs.Holds.{Holds}
 use Rattle.tree_tables.specs.Stored.{stored_entry}
-use Rattle.book_audit.proofs.OwnRecords.{closes_are, own_turns}
-use Rattle.book_audit.proofs.OwnTables.{own_tables}
+use Rattle.book_audit.proofs.Own.Records.{closes_are, own_turns}
+use Rattle.book_audit.proofs.Own.Tables.{own_tables}
 use Rattle.book_audit.proofs.marks.past_in.Goals as goal
 
 -- the lines of a record of own books turn what was charged

@@ -12,9 +12,9 @@ use Rattle.book_audit.specs.Records.{IsLine, Turns}
 use Rattle.std.specs.FinMap.{get}
 use Rattle.consistent_tables.specs.Consistent.{charged_back, line_at, ruled}
 use Rattle.book_model.specs.Words.{open_by}
-use Rattle.book_audit.proofs.HeldLooks.{line_looked, turn_at, went_back}
-use Rattle.book_audit.proofs.LineLemmas.{goes_on, says_same, turns_none, turns_some}
-use Rattle.book_audit.proofs.WalkSteps.{look_back, looks_on, trees_stay}
+use Rattle.book_audit.proofs.Held.Looks.{line_looked, turn_at, went_back}
+use Rattle.book_audit.proofs.Rows.Lines.{goes_on, says_same, turns_none, turns_some}
+use Rattle.book_audit.proofs.Walks.Steps.{look_back, looks_on, trees_stay}
 use Rattle.book_audit.proofs.marks.past_of.Goals.{in-Some+else-plus-now, in_default}
 use Rattle.book_audit.proofs.marks.past_of.Goals as goal
 

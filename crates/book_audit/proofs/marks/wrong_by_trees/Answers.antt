@@ -11,10 +11,10 @@ use Rattle.book_audit.specs.Choices.{is_last}
 use Rattle.book_audit.specs.Marks.{should_be_charged}
 use Rattle.book_audit.specs.Trees.{FindsTwo}
 use Rattle.book_audit.specs.declared.choices.Chosen.{Chosen}
-use Rattle.book_audit.proofs.HeldLooks.{identity_found, mark_found}
-use Rattle.book_audit.proofs.OwnRecords.{own_due}
-use Rattle.book_audit.proofs.OwnTables.{own_tables}
-use Rattle.book_audit.proofs.WalkSteps.{look_back, looks_on, trees_stay}
+use Rattle.book_audit.proofs.Held.Looks.{identity_found, mark_found}
+use Rattle.book_audit.proofs.Own.Records.{own_due}
+use Rattle.book_audit.proofs.Own.Tables.{own_tables}
+use Rattle.book_audit.proofs.Walks.Steps.{look_back, looks_on, trees_stay}
 use Rattle.book_audit.proofs.marks.wrong_by_trees.Goals as goal
 
 pub returns-clause-found : goal.returns-clause-found

@@ -10,12 +10,12 @@ use Rattle.book_audit.specs.Own.{AreOwn}
 use Rattle.book_audit.specs.Records.{AreRecords}
 use Rattle.book_audit.specs.SoundTrees.{AreRuled}
 use Rattle.book_audit.specs.declared.rulings.Rulings.{Rulings}
-use Rattle.book_audit.proofs.OwnEntries.{identities_many, marks_many}
-use Rattle.book_audit.proofs.OwnSteps.{passed_with}
-use Rattle.book_audit.proofs.OwnStops.{stop_on}
-use Rattle.book_audit.proofs.OwnSums.{amount_is, count_is, own_held, own_sums}
-use Rattle.book_audit.proofs.OwnTables.{own_tables}
-use Rattle.book_audit.proofs.WalkSteps.{look_back, looks_on, trees_stay}
+use Rattle.book_audit.proofs.Own.Entries.{identities_many, marks_many}
+use Rattle.book_audit.proofs.Own.Steps.{passed_with}
+use Rattle.book_audit.proofs.Own.Stops.{stop_on}
+use Rattle.book_audit.proofs.Own.Sums.{amount_is, count_is, own_held, own_sums}
+use Rattle.book_audit.proofs.Own.Tables.{own_tables}
+use Rattle.book_audit.proofs.Walks.Steps.{look_back, looks_on, trees_stay}
 use Rattle.book_audit.proofs.records.check_records.Goals as goal
 
 -- as many records are found by their identities as are held,

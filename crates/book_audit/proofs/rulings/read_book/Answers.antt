@@ -10,9 +10,9 @@ use Rattle.book_audit.specs.Own.{IsOwnStop}
 use Rattle.book_audit.specs.Rules.{rule_of}
 use Rattle.book_audit.specs.Walks.{HasWalked, width}
 use Rattle.book_audit.specs.declared.finding.Tree.TheVariants.{Book}
-use Rattle.book_audit.proofs.OwnRulings.{book_fits, known_rule, own_book_row, own_readable}
-use Rattle.book_audit.proofs.OwnStops.{each_err, err_said, stop_passed, stop_walked}
-use Rattle.book_audit.proofs.WalkSteps.{its_place, look_back, no_look, read_all, read_on}
+use Rattle.book_audit.proofs.Own.Rulings.{book_fits, known_rule, own_book_row, own_readable}
+use Rattle.book_audit.proofs.Own.Stops.{each_err, err_said, stop_passed, stop_walked}
+use Rattle.book_audit.proofs.Walks.Steps.{its_place, look_back, no_look, read_all, read_on}
 use Rattle.book_audit.proofs.rulings.read_book.Goals as goal
 
 pub book_in-requires : goal.book_in-requires

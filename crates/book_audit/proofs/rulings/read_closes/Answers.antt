@@ -18,10 +18,10 @@ use Rattle.book_audit.specs.Own.{IsOwnStop}
 use Rattle.book_audit.specs.Rulings.{IsNextClose}
 use Rattle.book_audit.specs.Walks.{HasWalked, width}
 use Rattle.book_audit.specs.declared.finding.Tree.TheVariants.{Closes}
-use Rattle.book_audit.proofs.ClosedLemmas.{closes_pushed, is_later}
-use Rattle.book_audit.proofs.OwnRulings.{own_closes_fit, own_next_close}
-use Rattle.book_audit.proofs.OwnStops.{each_err, err_said, stop_passed, stop_walked}
-use Rattle.book_audit.proofs.WalkSteps.{its_place, its_row, looks_on, no_look, read_all, read_on}
+use Rattle.book_audit.proofs.Rows.Closes.{closes_pushed, is_later}
+use Rattle.book_audit.proofs.Own.Rulings.{own_closes_fit, own_next_close}
+use Rattle.book_audit.proofs.Own.Stops.{each_err, err_said, stop_passed, stop_walked}
+use Rattle.book_audit.proofs.Walks.Steps.{its_place, its_row, looks_on, no_look, read_all, read_on}
 use Rattle.book_audit.proofs.rulings.read_closes.Goals as goal
 
 pub closes-init : goal.closes-init

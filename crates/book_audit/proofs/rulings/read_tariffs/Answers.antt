@@ -14,10 +14,10 @@ use Rattle.tree_tables.specs.Columns.{tariff_columns}
 use Rattle.tree_tables.specs.Fits.{TariffFits}
 use Rattle.book_audit.specs.Walks.{AreRising, HasWalked, width}
 use Rattle.book_audit.specs.declared.finding.Tree.TheVariants.{Tariffs}
-use Rattle.book_audit.proofs.TariffLemmas.{is_texted, of_characters, tariff_pushed, terms_pushed, texted}
-use Rattle.book_audit.proofs.OwnRulings.{IsTariffRow, own_tariffs, tariff_fits, tariff_said}
-use Rattle.book_audit.proofs.OwnStops.{err_fits, met_memory, stop_passed, stop_walked}
-use Rattle.book_audit.proofs.WalkSteps.{its_row, look_back, looks_on, no_look, read_all, read_on}
+use Rattle.book_audit.proofs.Rows.Tariffs.{is_texted, of_characters, tariff_pushed, terms_pushed, texted}
+use Rattle.book_audit.proofs.Own.Rulings.{IsTariffRow, own_tariffs, tariff_fits, tariff_said}
+use Rattle.book_audit.proofs.Own.Stops.{err_fits, met_memory, stop_passed, stop_walked}
+use Rattle.book_audit.proofs.Walks.Steps.{its_row, look_back, looks_on, no_look, read_all, read_on}
 use Rattle.book_audit.proofs.rulings.read_tariffs.Goals as goal
 
 pub tariffs-init : goal.tariffs-init

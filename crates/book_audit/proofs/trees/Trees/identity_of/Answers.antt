@@ -6,7 +6,7 @@ use Rattle.sqlite_value.specs.declared.value.Value.TheVariants.{Blob}
 use Rattle.tree_rows.specs.Rows.{Finds}
 use Rattle.tree_rows.proofs.Failing.{caused_by_memory}
 use Rattle.book_audit.specs.Own.{IsOwnCause}
-use Rattle.book_audit.proofs.OwnTables.{own_found_fits}
+use Rattle.book_audit.proofs.Own.Tables.{own_found_fits}
 use Rattle.book_audit.proofs.trees.Trees.identity_of.Goals as goal
 
 -- a record that is found has its identity

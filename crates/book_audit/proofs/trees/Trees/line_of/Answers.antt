@@ -4,7 +4,7 @@ use Rattle.sqlite_value.specs.Order.{Row}
 use Rattle.sqlite_value.specs.declared.value.Value.TheVariants.{Blob, Int}
 use Rattle.tree_rows.specs.Rows.{Finds}
 use Rattle.book_audit.specs.Own.{IsOwnCause}
-use Rattle.book_audit.proofs.OwnTables.{own_line_marked}
+use Rattle.book_audit.proofs.Own.Tables.{own_line_marked}
 use Rattle.book_audit.proofs.trees.Trees.line_of.Goals as goal
 
 -- a line that is found has its mark

@@ -8,9 +8,9 @@ use Rattle.tree_rows.proofs.Calls.{clean_before}
 use Rattle.tree_tables.specs.Walks.{rows_past}
 use Rattle.book_audit.specs.Trees.{tree_number}
 use Rattle.book_audit.specs.Walks.{HasWalked, key_in, width}
-use Rattle.book_audit.proofs.OwnStops.{own_walk}
-use Rattle.book_audit.proofs.OwnWalks.{next_after, next_wide}
-use Rattle.book_audit.proofs.WalkLemmas.{walk_step}
+use Rattle.book_audit.proofs.Own.Stops.{own_walk}
+use Rattle.book_audit.proofs.Held.Walks.{next_after, next_wide}
+use Rattle.book_audit.proofs.Walks.Keys.{walk_step}
 use Rattle.book_audit.proofs.walk.Walk.next.Goals.{else-not-is_empty-via-then-not-is_empty+else-not-is_gt, else-not-is_empty-via-else-not-is_empty}
 use Rattle.book_audit.proofs.walk.Walk.next.Goals as goal
 

@@ -38,7 +38,7 @@ use Rattle.tree_tables.proofs.RecordIndexes.{identity_named, mark_named}
 use Rattle.book_audit.specs.Records.{GoesBack, IsLine, Turns}
 use Rattle.book_audit.specs.Records.Turns.{Stays, Turned}
 use Rattle.book_audit.specs.Trees.{FindsTwo}
-use Rattle.book_audit.proofs.CountedRecords.{some_kept}
+use Rattle.book_audit.proofs.Rows.Counted.{some_kept}
 
 -- a look-up of a key in the rows of a map
 pub found_in : {K V : Type 0} {R : K → K → Ordering} (layout : Layout K V R) (m : FinMap R V) (k : K)

@@ -61,10 +61,10 @@ use Rattle.book_audit.specs.declared.audited.Counts.{Counts as Numbers}
 use Rattle.book_audit.specs.declared.finding.Tree.TheVariants.{ChoiceNames, Days, Details, Identities}
 use Rattle.book_audit.specs.declared.finding.Tree.TheVariants.{Lines, Marks, Records, Tariffs}
 use Rattle.book_audit.specs.declared.rulings.Rulings.{Rulings}
-use Rattle.book_audit.proofs.IndexRows.{entries_rise, index_rows, rows_again, rows_at}
-use Rattle.book_audit.proofs.KeptRows.{entries_kept, of_found, rows_kept}
-use Rattle.book_audit.proofs.Pigeonhole.{IsOneOf, all_of_them, no_more}
-use Rattle.book_audit.proofs.RowLemmas.{row_is}
+use Rattle.book_audit.proofs.Held.Indexes.{entries_rise, index_rows, rows_again, rows_at}
+use Rattle.book_audit.proofs.Held.Kept.{entries_kept, of_found, rows_kept}
+use Rattle.book_audit.proofs.Held.Pigeonhole.{IsOneOf, all_of_them, no_more}
+use Rattle.book_audit.proofs.Rows.Columns.{row_is}
 
 -- ---- the entries of the indexes, as their rows say
 

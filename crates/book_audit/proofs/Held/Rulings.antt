@@ -36,8 +36,8 @@ use Rattle.book_audit.specs.Rules.{identity_under, may_be_open, rule_of}
 use Rattle.book_audit.specs.declared.choices.Chosen.{Chosen}
 use Rattle.book_audit.specs.declared.identity_rule.IdentityRule.{IdentityRule}
 use Rattle.book_audit.specs.declared.identity_rule.IdentityRule.TheVariants.{First, SecondSince}
-use Rattle.book_audit.proofs.HeldLooks.{record_looked}
-use Rattle.book_audit.proofs.LastPassing.{found_made, last_passing}
+use Rattle.book_audit.proofs.Held.Looks.{record_looked}
+use Rattle.book_audit.proofs.Held.LastPassing.{found_made, last_passing}
 
 -- ---- tariffs
 

@@ -31,11 +31,11 @@ use Rattle.book_audit.specs.Rules.{identity_under}
 use Rattle.book_audit.specs.SoundTrees.{AreRuled}
 use Rattle.book_audit.specs.Trees.{FindsTwo}
 use Rattle.book_audit.specs.declared.rulings.Rulings.{Rulings}
-use Rattle.book_audit.proofs.ClosedLemmas.{closed_before}
-use Rattle.book_audit.proofs.HeldLooks.{alone_looked, line_looked, turn_at, went_back}
-use Rattle.book_audit.proofs.HeldRulings.{identity_said, last_said, price_said, same_terms}
-use Rattle.book_audit.proofs.OwnRulings.{own_closes, own_readable, own_rule}
-use Rattle.book_audit.proofs.OwnTables.{own_consistent, own_ruled, own_tables}
+use Rattle.book_audit.proofs.Rows.Closes.{closed_before}
+use Rattle.book_audit.proofs.Held.Looks.{alone_looked, line_looked, turn_at, went_back}
+use Rattle.book_audit.proofs.Held.Rulings.{identity_said, last_said, price_said, same_terms}
+use Rattle.book_audit.proofs.Own.Rulings.{own_closes, own_readable, own_rule}
+use Rattle.book_audit.proofs.Own.Tables.{own_consistent, own_ruled, own_tables}
 
 -- ---- rulings
 

@@ -37,9 +37,9 @@ use Rattle.book_audit.specs.Walks.{AreRising}
 use Rattle.book_audit.specs.declared.audited.Counts.{Counts as Numbers}
 use Rattle.book_audit.specs.declared.finding.Tree.TheVariants.{Tariffs}
 use Rattle.book_audit.specs.declared.identity_rule.IdentityRule.{IdentityRule}
-use Rattle.book_audit.proofs.HeldRulings.{identity_said, price_said, which_rule}
-use Rattle.book_audit.proofs.KeptRows.{entries_kept, keys_rise}
-use Rattle.book_audit.proofs.TreesHold.{made, tables_held, trees_hold}
+use Rattle.book_audit.proofs.Held.Rulings.{identity_said, price_said, which_rule}
+use Rattle.book_audit.proofs.Held.Kept.{entries_kept, keys_rise}
+use Rattle.book_audit.proofs.Sound.Tables.{made, tables_held, trees_hold}
 
 -- ---- tariffs
 

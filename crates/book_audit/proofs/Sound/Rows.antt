@@ -39,13 +39,13 @@ use Rattle.book_audit.specs.SoundTrees.{AreSound}
 use Rattle.book_audit.specs.Trees.{HasKey}
 use Rattle.book_audit.specs.declared.audited.Counts.{Counts as Numbers}
 use Rattle.book_audit.specs.declared.finding.DetailKey.{DetailKey}
-use Rattle.book_audit.proofs.CountedRecords.{name_counted, named, prices_are}
-use Rattle.book_audit.proofs.KeptRows.{of_found}
-use Rattle.book_audit.proofs.Pigeonhole.{IsOneOf}
-use Rattle.book_audit.proofs.SoundRecords.{past_is}
-use Rattle.book_audit.proofs.SoundRulings.{closes_said, days, open_is}
-use Rattle.book_audit.proofs.TreesHold.{name_shown, names_shown, of_one, records_in_order, shown, shown_name}
-use Rattle.book_audit.proofs.TreesHold.{shown_row, so_many, tables_held, told_all, trees_hold}
+use Rattle.book_audit.proofs.Rows.Counted.{name_counted, named, prices_are}
+use Rattle.book_audit.proofs.Held.Kept.{of_found}
+use Rattle.book_audit.proofs.Held.Pigeonhole.{IsOneOf}
+use Rattle.book_audit.proofs.Sound.Records.{past_is}
+use Rattle.book_audit.proofs.Sound.Rulings.{closes_said, days, open_is}
+use Rattle.book_audit.proofs.Sound.Tables.{name_shown, names_shown, of_one, records_in_order, shown, shown_name}
+use Rattle.book_audit.proofs.Sound.Tables.{shown_row, so_many, tables_held, told_all, trees_hold}
 
 -- ---- details
 

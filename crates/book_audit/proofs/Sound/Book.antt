@@ -21,14 +21,14 @@ use Rattle.book_audit.specs.SoundTrees.{AreSound}
 use Rattle.book_audit.specs.Walks.{AreRising}
 use Rattle.book_audit.specs.declared.audited.Counts.{Counts as Numbers}
 use Rattle.book_audit.specs.declared.finding.Tree.TheVariants.{Days, Lines}
-use Rattle.book_audit.proofs.KeptRows.{entries_kept}
-use Rattle.book_audit.proofs.SoundRecords.{own_row}
-use Rattle.book_audit.proofs.SoundRows.{amount_is, days_are, held_are, held_few, names_are, own_line}
-use Rattle.book_audit.proofs.SoundRulings.{choices_counted, choices_few, choices_numbered, choices_read}
-use Rattle.book_audit.proofs.SoundRulings.{choices_timely, closes_days, closes_entered, closes_few}
-use Rattle.book_audit.proofs.SoundRulings.{closes_rise, closes_said, days, rule_is, tariffs_entered}
-use Rattle.book_audit.proofs.SoundRulings.{tariffs_said, tariffs_texted}
-use Rattle.book_audit.proofs.TreesHold.{due, tables_held, told_all, trees_hold}
+use Rattle.book_audit.proofs.Held.Kept.{entries_kept}
+use Rattle.book_audit.proofs.Sound.Records.{own_row}
+use Rattle.book_audit.proofs.Sound.Rows.{amount_is, days_are, held_are, held_few, names_are, own_line}
+use Rattle.book_audit.proofs.Sound.Rulings.{choices_counted, choices_few, choices_numbered, choices_read}
+use Rattle.book_audit.proofs.Sound.Rulings.{choices_timely, closes_days, closes_entered, closes_few}
+use Rattle.book_audit.proofs.Sound.Rulings.{closes_rise, closes_said, days, rule_is, tariffs_entered}
+use Rattle.book_audit.proofs.Sound.Rulings.{tariffs_said, tariffs_texted}
+use Rattle.book_audit.proofs.Sound.Tables.{due, tables_held, told_all, trees_hold}
 
 module _ (trees : Trees) (numbers : Numbers) (sound : AreSound trees numbers) where
   abbrev tables : Tables

@@ -33,12 +33,12 @@ use Rattle.book_audit.specs.Own.{AreOwn}
 use Rattle.book_audit.specs.Records.{Told, counted_prices}
 use Rattle.book_audit.specs.SoundTrees.{AreRuled}
 use Rattle.book_audit.specs.declared.rulings.Rulings.{Rulings}
-use Rattle.book_audit.proofs.CountedRecords.{prices_are}
-use Rattle.book_audit.proofs.IndexRows.{entries_rise}
-use Rattle.book_audit.proofs.KeptRows.{sorted}
-use Rattle.book_audit.proofs.OwnLines.{one_record}
-use Rattle.book_audit.proofs.OwnRecords.{closes_are}
-use Rattle.book_audit.proofs.OwnTables.{own_consistent, own_fit, own_tables}
+use Rattle.book_audit.proofs.Rows.Counted.{prices_are}
+use Rattle.book_audit.proofs.Held.Indexes.{entries_rise}
+use Rattle.book_audit.proofs.Held.Kept.{sorted}
+use Rattle.book_audit.proofs.Own.Lines.{one_record}
+use Rattle.book_audit.proofs.Own.Records.{closes_are}
+use Rattle.book_audit.proofs.Own.Tables.{own_consistent, own_fit, own_tables}
 
 -- a period is no later than that of a later day
 no_later : (n : ℕ) (closes : List ℤ) (one other : ℤ) → one ≤ℤ other

@@ -23,13 +23,13 @@ use Rattle.book_audit.specs.OfBook.{sha_names}
 use Rattle.book_audit.specs.Records.{HasPast, IsLine, IsRight, IsTold, Told, later_periods}
 use Rattle.book_audit.specs.SoundTrees.{AreSound}
 use Rattle.book_audit.specs.declared.audited.Counts.{Counts as Numbers}
-use Rattle.book_audit.proofs.ClosedLemmas.{closed_before}
-use Rattle.book_audit.proofs.HeldLooks.{alone_looked, line_looked, went_back}
-use Rattle.book_audit.proofs.HeldRulings.{last_said}
-use Rattle.book_audit.proofs.KeptRows.{of_found}
-use Rattle.book_audit.proofs.SoundRulings.{choices_numbered, closes_said, days, identity_is, open_is}
-use Rattle.book_audit.proofs.SoundRulings.{price_is}
-use Rattle.book_audit.proofs.TreesHold.{right_of, tables_held, told_all, trees_hold}
+use Rattle.book_audit.proofs.Rows.Closes.{closed_before}
+use Rattle.book_audit.proofs.Held.Looks.{alone_looked, line_looked, went_back}
+use Rattle.book_audit.proofs.Held.Rulings.{last_said}
+use Rattle.book_audit.proofs.Held.Kept.{of_found}
+use Rattle.book_audit.proofs.Sound.Rulings.{choices_numbered, closes_said, days, identity_is, open_is}
+use Rattle.book_audit.proofs.Sound.Rulings.{price_is}
+use Rattle.book_audit.proofs.Sound.Tables.{right_of, tables_held, told_all, trees_hold}
 
 -- ---- days of closed periods
 

@@ -23,7 +23,7 @@ use Rattle.book_audit.specs.declared.finding.Tree.{Tree}
 use Rattle.book_audit.specs.declared.finding.Tree.TheVariants.{Book, Tariffs, Closes, Records}
 use Rattle.book_audit.specs.declared.finding.Tree.TheVariants.{Days, Lines, Identities, Marks}
 use Rattle.book_audit.specs.declared.finding.Tree.TheVariants.{Choices, ChoiceNames, Details}
-use Rattle.book_audit.proofs.IndexRows.{index_many}
+use Rattle.book_audit.proofs.Held.Indexes.{index_many}
 
 -- what is made of each entry of a map is an entry of the tree
 each_entry : {E : Type 0} (tree : Tree) (columns : E → Row) (rows : List Row) (es : List E)

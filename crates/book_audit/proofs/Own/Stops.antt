@@ -21,8 +21,8 @@ use Rattle.book_audit.specs.declared.finding.Tree.{Tree}
 use Rattle.book_audit.specs.declared.stop.Stop.{Stop}
 use Rattle.book_audit.specs.declared.stop.Stop.TheVariants.{Unsound}
 use Rattle.book_audit.specs.declared.walk.Walk.{Walk}
-use Rattle.book_audit.proofs.OwnWalks.{CanBeWalked, held_walk}
-use Rattle.book_audit.proofs.WalkSteps.{trees_stay}
+use Rattle.book_audit.proofs.Held.Walks.{CanBeWalked, held_walk}
+use Rattle.book_audit.proofs.Walks.Steps.{trees_stay}
 
 -- the trees of books that calls made can be walked over
 pub own_walk : (trees : Trees) → AreOwn trees → (tree : Tree)

@@ -40,11 +40,11 @@ use Rattle.tree_tables.proofs.ShownDetails.{shown_fits}
 use Rattle.book_audit.specs.Own.{AreOwn}
 use Rattle.book_audit.specs.OwnRecords.{IsCountedIn, IsHeldIn}
 use Rattle.book_audit.specs.Records.{detail_key, spot_of}
-use Rattle.book_audit.proofs.CountedRecords.{name_counted}
-use Rattle.book_audit.proofs.HeldLooks.{record_looked}
-use Rattle.book_audit.proofs.OwnLines.{one_record}
-use Rattle.book_audit.proofs.OwnTables.{own_consistent, own_record_fits, own_tables}
-use Rattle.book_audit.proofs.TreesHold.{both_there, first_less, some_unit}
+use Rattle.book_audit.proofs.Rows.Counted.{name_counted}
+use Rattle.book_audit.proofs.Held.Looks.{record_looked}
+use Rattle.book_audit.proofs.Own.Lines.{one_record}
+use Rattle.book_audit.proofs.Own.Tables.{own_consistent, own_record_fits, own_tables}
+use Rattle.book_audit.proofs.Sound.Tables.{both_there, first_less, some_unit}
 
 -- ---- the names that are counted
 

@@ -24,8 +24,8 @@ use Rattle.tree_rows.proofs.Maps.{at_key, first, head_is, less, second}
 use Rattle.book_audit.specs.Trees.{HasKey}
 use Rattle.book_audit.specs.Walks.{AreRising, key_width}
 use Rattle.book_audit.specs.declared.finding.Tree.{Tree}
-use Rattle.book_audit.proofs.KeptRows.{keys_rise}
-use Rattle.book_audit.proofs.Pigeonhole.{IsOneOf, all_of_them}
+use Rattle.book_audit.proofs.Held.Kept.{keys_rise}
+use Rattle.book_audit.proofs.Held.Pigeonhole.{IsOneOf, all_of_them}
 
 -- a test that all pass leaves all
 all_pass : {X : Type 0} (xs : List X) → filter (λ (x : X). true) xs ≡ xs

@@ -22,9 +22,9 @@ use Rattle.book_audit.specs.Own.{AreOwn}
 use Rattle.book_audit.specs.OwnRecords.{IsLineIn}
 use Rattle.book_audit.specs.SoundTrees.{AreRuled}
 use Rattle.book_audit.specs.declared.rulings.Rulings.{Rulings}
-use Rattle.book_audit.proofs.HeldLooks.{record_looked}
-use Rattle.book_audit.proofs.OwnRecords.{closes_are}
-use Rattle.book_audit.proofs.OwnTables.{own_consistent, own_fit, own_record_fits, own_tables}
+use Rattle.book_audit.proofs.Held.Looks.{record_looked}
+use Rattle.book_audit.proofs.Own.Records.{closes_are}
+use Rattle.book_audit.proofs.Own.Tables.{own_consistent, own_fit, own_record_fits, own_tables}
 
 -- records and lines are known by their rows
 pub one_record : (e f : List ℕ × RecordRow) → record_columns e ≡ record_columns f → e ≡ f

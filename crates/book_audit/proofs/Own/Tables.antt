@@ -21,8 +21,8 @@ use Rattle.tree_tables.specs.Fits.{HasMark, RecordFits}
 use Rattle.tree_tables.proofs.Layouts.{line_layout}
 use Rattle.book_audit.specs.OfBook.{sha_names}
 use Rattle.book_audit.specs.Own.{AreOwn}
-use Rattle.book_audit.proofs.HeldLooks.{found_in, record_looked}
-use Rattle.book_audit.proofs.OwnRulings.{own_readable}
+use Rattle.book_audit.proofs.Held.Looks.{found_in, record_looked}
+use Rattle.book_audit.proofs.Own.Rulings.{own_readable}
 
 module _ (trees : Trees) (own : AreOwn trees) where
   -- the tables

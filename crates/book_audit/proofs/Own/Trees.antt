@@ -18,9 +18,9 @@ use Rattle.book_audit.specs.Own.{AreOwn}
 use Rattle.book_audit.specs.Records.{IsTold, Told, counted_prices}
 use Rattle.book_audit.specs.SoundTrees.{AreRuled}
 use Rattle.book_audit.specs.declared.rulings.Rulings.{Rulings}
-use Rattle.book_audit.proofs.OwnDays.{own_days, same_records}
-use Rattle.book_audit.proofs.OwnRecords.{own_counts}
-use Rattle.book_audit.proofs.OwnTables.{own_tables}
+use Rattle.book_audit.proofs.Own.Days.{own_days, same_records}
+use Rattle.book_audit.proofs.Own.Records.{own_counts}
+use Rattle.book_audit.proofs.Own.Tables.{own_tables}
 
 -- what holds of all elements by each of some values
 by_each : {X I : Type 0} (P : I → X → Type 0) (xs : List X)

@@ -42,9 +42,9 @@ use Rattle.book_audit.specs.declared.finding.Tree.{Tree}
 use Rattle.book_audit.specs.declared.finding.Tree.TheVariants.{Book, Tariffs, Closes, Records}
 use Rattle.book_audit.specs.declared.finding.Tree.TheVariants.{Days, Lines, Identities, Marks}
 use Rattle.book_audit.specs.declared.finding.Tree.TheVariants.{Choices, ChoiceNames, Details}
-use Rattle.book_audit.proofs.IndexRows.{entries_rise}
-use Rattle.book_audit.proofs.KeptRows.{own_key}
-use Rattle.book_audit.proofs.WalkLemmas.{last_long, one_of_all, prefix_is, within}
+use Rattle.book_audit.proofs.Held.Indexes.{entries_rise}
+use Rattle.book_audit.proofs.Held.Kept.{own_key}
+use Rattle.book_audit.proofs.Walks.Keys.{last_long, one_of_all, prefix_is, within}
 
 -- rows that a walk can read
 pub record CanBeWalked (tree : Tree) (rows : List Row) : Type 0 where

@@ -41,12 +41,12 @@ use Rattle.book_audit.specs.declared.choices.Choice.{Choice as Read}
 use Rattle.book_audit.specs.declared.choices.Chosen.{Chosen}
 use Rattle.book_audit.specs.declared.identity_rule.IdentityRule.{IdentityRule}
 use Rattle.book_audit.specs.declared.identity_rule.IdentityRule.TheVariants.{First, SecondSince}
-use Rattle.book_audit.proofs.OwnHistory.{choices_among, choices_rise, parted}
-use Rattle.book_audit.proofs.HeldLooks.{indexed_found, record_looked, shared_looked}
-use Rattle.book_audit.proofs.CountedRecords.{some_kept}
-use Rattle.book_audit.proofs.OwnRulings.{own_readable}
-use Rattle.book_audit.proofs.WalkLemmas.{one_of_all}
-use Rattle.book_audit.proofs.TreesHold.{long_numbers}
+use Rattle.book_audit.proofs.Own.History.{choices_among, choices_rise, parted}
+use Rattle.book_audit.proofs.Held.Looks.{indexed_found, record_looked, shared_looked}
+use Rattle.book_audit.proofs.Rows.Counted.{some_kept}
+use Rattle.book_audit.proofs.Own.Rulings.{own_readable}
+use Rattle.book_audit.proofs.Walks.Keys.{one_of_all}
+use Rattle.book_audit.proofs.Sound.Tables.{long_numbers}
 
 -- a choice's row says its number, its record's name and its period
 same_choice : (number other : ℕ) (one two : ChoiceRow)

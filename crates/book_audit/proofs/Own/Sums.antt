@@ -22,10 +22,10 @@ use Rattle.book_audit.specs.OwnRecords.{CanBeCounted}
 use Rattle.book_audit.specs.Records.{AreRecords, Told, counted_price, counted_prices}
 use Rattle.book_audit.specs.SoundTrees.{AreRuled}
 use Rattle.book_audit.specs.declared.rulings.Rulings.{Rulings}
-use Rattle.book_audit.proofs.OwnDays.{same_records}
-use Rattle.book_audit.proofs.OwnLines.{one_record}
-use Rattle.book_audit.proofs.OwnRulings.{own_book_row}
-use Rattle.book_audit.proofs.OwnTables.{own_consistent, own_tables}
+use Rattle.book_audit.proofs.Own.Days.{same_records}
+use Rattle.book_audit.proofs.Own.Lines.{one_record}
+use Rattle.book_audit.proofs.Own.Rulings.{own_book_row}
+use Rattle.book_audit.proofs.Own.Tables.{own_consistent, own_tables}
 
 -- what the records that are counted cost is no more than what all of them do
 few_counted : (told : List Told) → length (counted_prices told) ≤ length told

@@ -1,0 +1,16 @@
+-- Books that calls made are never called unsound: what stops an audit of them; their rulings, the
+-- history of their choices, the entries of their indexes, and their tables; and the records, lines,
+-- charge rows, sums, details and choices that are read of them.
+pub mod Stops
+pub mod Steps
+pub mod Rulings
+pub mod History
+pub mod Entries
+pub mod Tables
+pub mod Records
+pub mod Lines
+pub mod Days
+pub mod Sums
+pub mod Details
+pub mod Choices
+pub mod Trees
