@@ -110,7 +110,7 @@ module _ (naming : Naming) (book : Book) (whole : IsReadable naming book) where
   own_price bytes (Some priced) = refl
 
   -- so rows have the prices of their records,
-  pub own_prices : (ks : List (List ℕ))
+  own_prices : (ks : List (List ℕ))
       → map (λ (row : NamedRow). row.1.priced) (filter_map (entry naming book whole.sound) ks)
       ≡ filter_map (price_in book.rulings) ks
   own_prices ks =

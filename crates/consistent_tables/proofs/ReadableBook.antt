@@ -7,8 +7,8 @@ use Rattle.std.proofs.lemmas.List.Elements.{All-weaker}
 use Rattle.std.proofs.lemmas.List.Sorted.{length_permutation}
 use Rattle.std.proofs.lemmas.Option.{same_Some}
 use Rattle.tariff_rules.specs.declared.priced.Priced.{Priced}
-use Rattle.book_model.specs.Words.{Choice, IsPriced, IsUsageRecord, Naming, has, members, most_cost}
-use Rattle.book_model.specs.Words.{most_held, open_by, price_in, total_of}
+use Rattle.book_model.specs.Words.{Book, Choice, IsPriced, IsSound, IsUsageRecord, Naming, has}
+use Rattle.book_model.specs.Words.{members, most_cost, most_held, open_by, price_in, total_of}
 use Rattle.table_model.specs.BookIn.{book_in, close_after, row_record}
 use Rattle.table_model.specs.DisputesRead.{NamedRow}
 use Rattle.table_model.specs.PeriodLists.{AreFramed, HasLines, IsApart}
@@ -27,6 +27,17 @@ use Rattle.consistent_tables.proofs.PeriodLinks.{chain, ends}
 use Rattle.consistent_tables.proofs.RecordTable.{records_are}
 use Rattle.consistent_tables.proofs.RuledTables.{adopted, rising}
 use Rattle.consistent_tables.proofs.SoundTables.{all_past, sound}
+
+-- the tables of a sound book have as many rows as it has records
+pub rows_many : (naming : Naming) (book : Book) → IsSound naming book → AreFramed book.held
+    → length (entries (tables_of naming book).records) ≡ length (members book.held)
+rows_many naming book sound_book have_lengths =
+    let made : List NamedRow = all_entries naming book sound_book in
+    sym (length_permutation (entries (tables_of naming book).records) made
+    (all_permuted naming book sound_book))
+    ∙ sym (length-map made (λ e. row_record e.1))
+    ∙ ap length (records_of naming book sound_book have_lengths (members book.held)
+    (members_held book.held))
 
 module _ (naming : Naming) (tables : Tables) (whole : AreConsistent naming tables) where
   -- the records measure work,
@@ -57,15 +68,8 @@ module _ (naming : Naming) (tables : Tables) (whole : AreConsistent naming table
   -- there are as many rows as records
   pub as_many : length (entries tables.records) ≡ length (members (held naming tables whole))
   as_many =
-      let book = book_in tables in
-      let sound_book = sound naming tables whole in
-      let made : List NamedRow = all_entries naming book sound_book in
       ap (λ records. length (entries records)) (records_are naming tables whole)
-      ∙ sym (length_permutation (entries (tables_of naming book).records) made
-      (all_permuted naming book sound_book))
-      ∙ sym (length-map made (λ e. row_record e.1))
-      ∙ ap length (records_of naming book sound_book framed (members book.held)
-      (members_held book.held))
+      ∙ rows_many naming (book_in tables) (sound naming tables whole) framed
 
   -- and what they cost together is what the records cost
   pub cost_is : sum_by (λ row. row.priced.amount) (values tables.records)

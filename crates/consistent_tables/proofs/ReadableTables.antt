@@ -1,27 +1,20 @@
 -- The tables of a book that can be read back are consistent.
-use Rattle.std.proofs.Common.{◌≡◌, ◌∙◌, ◌⊎◌, ℕ, ◌+◌, ◌<◌, ◌≤◌, List, map, length, refl, sym, ap, subst}
+use Rattle.std.proofs.Common.{◌≡◌, ◌∙◌, ◌⊎◌, ℕ, ◌<◌, ◌≤◌, List, map, length, refl, sym, ap, subst}
 use Rattle.std.proofs.Common.{inl, inr, Option, Some, None}
-use Rattle.std.specs.Prelude.{All, ℤ, if◌then◌else◌, is_some, sum_by, unwrap_or}
-use Rattle.std.specs.FinMap.{entries, from_entries, values}
+use Rattle.std.specs.Prelude.{All, ℤ, if◌then◌else◌, is_some, unwrap_or}
+use Rattle.std.specs.FinMap.{from_entries}
 use Rattle.std.specs.List.Sorted.{IsStrictlySortedBy}
 use Rattle.std.specs.Ordering.{int_cmp}
-use Rattle.std.proofs.lemmas.List.{length-map}
 use Rattle.std.proofs.lemmas.List.Elements.{All-weaker}
-use Rattle.std.proofs.lemmas.List.Folds.{fold-map}
-use Rattle.std.proofs.lemmas.List.Sorted.{length_permutation, sum_by-IsPermutation}
-use Rattle.tariff_rules.specs.declared.priced.Priced.{Priced}
 use Rattle.book_model.specs.Words.{Book, IsDay, Naming, Rulings, first_rule, last_period}
-use Rattle.book_model.specs.Words.{members, most_choices, open_by, rows_of, second_rule}
-use Rattle.book_model.specs.Words.{total_of}
-use Rattle.table_model.specs.BookIn.{row_record}
+use Rattle.book_model.specs.Words.{most_choices, open_by, rows_of, second_rule}
 use Rattle.table_model.specs.DisputesRead.{NamedRow}
 use Rattle.table_model.specs.Readable.{IsBegun, IsReadable, IsTexted, IsTimely}
-use Rattle.table_model.specs.Tables.{ChoiceRow, RecordRow, Tables, never_adopted}
+use Rattle.table_model.specs.Tables.{ChoiceRow, Tables, never_adopted}
 use Rattle.table_model.specs.TablesOf.{choice_row, close_entries, tables_of, tariff_entries}
 use Rattle.table_model.specs.TablesOf.{under_numbers}
 use Rattle.table_model.proofs.ChoiceReading.{choices_count}
-use Rattle.table_model.proofs.RecordReading.{all_entries, all_permuted, records_of}
-use Rattle.table_model.proofs.RowsWhere.{members_held}
+use Rattle.table_model.proofs.LateRows.{amount_is_read}
 use Rattle.table_model.proofs.RulingsReading.{tariffs_kept}
 use Rattle.table_model.proofs.UnderNumbers.{entries-numbers, values-numbers}
 use Rattle.consistent_tables.specs.Consistent.{AreConsistent, counted_entries}
@@ -29,7 +22,8 @@ use Rattle.consistent_tables.specs.DueRows.{due_entry}
 use Rattle.consistent_tables.specs.Laws.{ReadableAreConsistent}
 use Rattle.consistent_tables.proofs.ChainTold.{ruled_back}
 use Rattle.consistent_tables.proofs.CountedTable.{counted_due}
-use Rattle.consistent_tables.proofs.DayTable.{days_due, own_prices}
+use Rattle.consistent_tables.proofs.DayTable.{days_due}
+use Rattle.consistent_tables.proofs.ReadableBook.{rows_many}
 use Rattle.consistent_tables.proofs.ReadableRows.{own_lines, own_rows}
 
 -- the rule of identity and the period of its adoption
@@ -53,29 +47,6 @@ module _ (naming : Naming) (book : Book) (whole : IsReadable naming book) where
 
   abbrev closes : List ℤ
   closes = book.rulings.closes
-
-  abbrev all : List NamedRow
-  all = all_entries naming book whole.sound
-
-  -- there are as many rows as records
-  held_count : length (members book.held) ≡ length (entries tables.records)
-  held_count =
-      ap length (sym (records_of naming book whole.sound whole.lines.framed (members book.held)
-      (members_held book.held)))
-      ∙ length-map all (λ (row : NamedRow). row_record row.1)
-      ∙ length_permutation (entries tables.records) all (all_permuted naming book whole.sound)
-
-  -- and they cost as much together
-  held_amount : total_of book.rulings book.held
-      ≡ sum_by (λ (row : RecordRow). row.priced.amount) (values tables.records)
-  held_amount =
-      ap (sum_by (λ (priced : Priced). priced.amount))
-      (sym (own_prices naming book whole (members book.held)))
-      ∙ fold-map (λ n (priced : Priced). n + priced.amount) (λ (row : NamedRow). row.1.priced) 0 all
-      ∙ sum_by-IsPermutation (λ (row : NamedRow). row.1.priced.amount) (entries tables.records) all
-      (all_permuted naming book whole.sound)
-      ∙ sym (fold-map (λ n (row : RecordRow). n + row.priced.amount) (λ (row : NamedRow). row.1) 0
-      (entries tables.records))
 
   -- all of it
   consistent : AreConsistent naming tables
@@ -110,8 +81,8 @@ module _ (naming : Naming) (book : Book) (whole : IsReadable naming book) where
             ∙ ap (λ (rulings : Rulings). from_entries (map (due_entry rulings.closes)
             (rows_of (map (λ (row : NamedRow). row.1.priced) (counted_entries tables))))) back;
         counted = counted_due naming book whole;
-        held = held_count;
-        amount = held_amount;
+        held = sym (rows_many naming book whole.sound whole.lines.framed);
+        amount = sym (amount_is_read naming book whole.sound);
         few = whole.limits.held;
         within = whole.limits.cost;
         few_closes = subst (λ (rulings : Rulings). length rulings.closes < last_period) back
