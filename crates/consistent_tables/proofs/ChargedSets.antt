@@ -59,7 +59,7 @@ module _ (tables : Tables) where
       (charged_back tables name (length days + 1 - suc k) now)) (its_number (length days) k within)
 
   -- of lines in turn, each says what its period ended with
-  in_turn : (name : List ℕ) (now : Bool) (all back : ℕ) → AreInTurn tables name all now
+  pub in_turn : (name : List ℕ) (now : Bool) (all back : ℕ) → AreInTurn tables name all now
       → back < all
       → IfSome (line_at tables name (length days + 1 - back))
       (λ plus. plus ≡ charged_back tables name back now)

@@ -1,6 +1,6 @@
 -- The entries of a map: they are what is found in it.
 use Rattle.std.proofs.Common.{◌≡◌, List, [], ◌∷◌, refl, sym, ap, ◌∙◌, true, false, true≢false, Bool}
-use Rattle.std.proofs.Common.{cond, ◌&&◌, ◌||◌, Option, Some, None, T}
+use Rattle.std.proofs.Common.{cond, ◌&&◌, ◌||◌, Some, None, T}
 use Rattle.std.specs.Cmp.{IsTotalOrder, tied_itself}
 use Rattle.std.specs.FinMap.{FinMap, IsAntisymmetric, entries, entries_sorted, find, from_entries, get}
 use Rattle.std.specs.FinMap.{get-entries, get-from_entries, same_map}
@@ -11,10 +11,8 @@ use Rattle.std.specs.declared.cmp.Ordering.{Ordering}
 use Rattle.std.specs.declared.cmp.Ordering.TheVariants.{Less, Equal, Greater}
 use Rattle.std.proofs.Math.Bool.{or-true}
 use Rattle.std.proofs.lemmas.Map.Views.{tells_apart}
+use Rattle.std.proofs.lemmas.Option.{none-some}
 use Rattle.table_model.proofs.UnderNumbers.{one_holds, other_holds}
-
-pub nothing : {V : Type 0} (value : V) → ◌≡◌ {A = Option V} None (Some value) → ⊥
-nothing value is = cc
 
 module _ {K V : Type 0} {R : K → K → Ordering} (total : IsTotalOrder R) (exact : IsAntisymmetric R)
   where
@@ -36,7 +34,7 @@ module _ {K V : Type 0} {R : K → K → Ordering} (total : IsTotalOrder R) (exa
     found_later e es key value rising found =
         elim (eq_by_cmp R key e.0) as (λ t. eq_by_cmp R key e.0 ≡ t
         → cond t (Some e.1) (find R key es) ≡ Some value) [
-          | true ↦ λ tied. absurd (nothing value
+          | true ↦ λ tied. absurd (none-some value
               (sym (below_none e.0 es (one_holds (below_all R e.0 es) (is_sorted R es) rising))
               ∙ ap (λ k. find R k es) (sym (tells_apart exact key e.0 tied)) ∙ found))
           | false ↦ λ apart. found
@@ -83,7 +81,7 @@ module _ {K V : Type 0} {R : K → K → Ordering} (total : IsTotalOrder R) (exa
     -- and if what is found passes, one of the entries does
     passes_found : (p : K × V → Bool) (key : K) (value : V) (es : List (K × V))
         → find R key es ≡ Some value → p (key, value) ≡ true → list_any p es ≡ true
-    passes_found p key value [] found passes = absurd (nothing value found)
+    passes_found p key value [] found passes = absurd (none-some value found)
     passes_found p key value (e ∷ es) found passes =
         elim (eq_by_cmp R key e.0) as (λ t. eq_by_cmp R key e.0 ≡ t
         → cond t (Some e.1) (find R key es) ≡ Some value → (p e || list_any p es) ≡ true) [

@@ -13,6 +13,7 @@ use Rattle.std.proofs.lemmas.Bool.Decides.{nat_tests}
 use Rattle.std.proofs.lemmas.Cmp.{nat_list_cmp_total}
 use Rattle.std.proofs.lemmas.Map.Lookups.{exact_bytes}
 use Rattle.std.proofs.lemmas.Map.Views.{tells_apart}
+use Rattle.std.proofs.lemmas.Option.{none-some}
 use Rattle.book_model.specs.Words.{Book, Choice, Naming, Records, charged_of, identity_by}
 use Rattle.book_model.specs.Words.{is_undisputed, members, name_of, price_in}
 use Rattle.book_model.proofs.RecordSets.{has_those, in_those, is}
@@ -29,7 +30,7 @@ use Rattle.consistent_tables.specs.Consistent.{AreConsistent, charged_back, rule
 use Rattle.consistent_tables.proofs.ChargedSets.{charged_held, days, has_charged}
 use Rattle.consistent_tables.proofs.ChargedSets.{own_period, same_held, where_held}
 use Rattle.consistent_tables.proofs.ClosePeriods.{most_period}
-use Rattle.consistent_tables.proofs.Entries.{made_again, nothing}
+use Rattle.consistent_tables.proofs.Entries.{made_again}
 use Rattle.consistent_tables.proofs.HeldRows.{has_where, is_held, its_name, row_of}
 use Rattle.consistent_tables.proofs.PeriodLinks.{ends}
 use Rattle.consistent_tables.proofs.SoundTables.{choice_of, sound}
@@ -69,7 +70,7 @@ module _ (naming : Naming) (tables : Tables) (whole : AreConsistent naming table
       false_from_ne_true (is name (name_of naming other)) (λ tied.
       let its = row_of naming tables whole other (members_held book.held other among) in
       let same = tells_apart exact_bytes name (name_of naming other) tied in
-      nothing its.row (sym none ∙ ap (get tables.records) same ∙ its.found)))
+      none-some its.row (sym none ∙ ap (get tables.records) same ∙ its.found)))
 
   -- so the records are those of the tables of the book
   records_made : tables.records ≡ made.records

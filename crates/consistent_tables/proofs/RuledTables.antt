@@ -8,7 +8,7 @@ use Rattle.std.specs.FinMap.Entries.{below_all, is_sorted}
 use Rattle.std.specs.List.{list_all}
 use Rattle.std.specs.Ordering.{int_cmp, is_lt}
 use Rattle.std.proofs.lemmas.Int.{ints}
-use Rattle.std.proofs.lemmas.Option.{same_Some}
+use Rattle.std.proofs.lemmas.Option.{none-some, same_Some}
 use Rattle.book_model.specs.Words.{AcceptedTerms, Naming, are_rising, first_rule, second_rule}
 use Rattle.table_model.specs.BookIn.{adopted_read, book_in}
 use Rattle.table_model.specs.Readable.{IsBegun}
@@ -17,7 +17,6 @@ use Rattle.table_model.specs.TablesOf.{tariff_entries}
 use Rattle.table_model.proofs.CloseOrder.{earlier}
 use Rattle.table_model.proofs.UnderNumbers.{is_less, one_holds, other_holds}
 use Rattle.consistent_tables.specs.Consistent.{AreConsistent, ruled}
-use Rattle.consistent_tables.proofs.Entries.{nothing}
 
 -- a day that is below those of tariffs is before them
 before_days : (day : ℤ) (tariffs : List AcceptedTerms)
@@ -33,7 +32,7 @@ before_days day (tariff ∷ tariffs) below =
     λ i. first i && before_days day tariffs (other_holds test rest below) i
 
 -- so tariffs in the order of their days rise
-tariffs_rise : (tariffs : List AcceptedTerms) → T (is_sorted int_cmp (tariff_entries tariffs))
+pub tariffs_rise : (tariffs : List AcceptedTerms) → T (is_sorted int_cmp (tariff_entries tariffs))
     → are_rising tariffs ≡ true
 tariffs_rise [] sorted = refl
 tariffs_rise (tariff ∷ tariffs) sorted =
@@ -49,7 +48,7 @@ adopted_begun : (row : BookRow) (open_period : ℕ)
     → (period : ℕ) → adopted_read row ≡ Some period → (0 < period) × (period ≤ open_period)
 adopted_begun row open_period (inl first) period is =
     let by = λ (rule : ℕ). if rule == second_rule then Some row.adopted else None in
-    absurd (nothing period (sym (ap by first.0) ∙ is))
+    absurd (none-some period (sym (ap by first.0) ∙ is))
 adopted_begun row open_period (inr second) period is =
     let by = λ (rule : ℕ). if rule == second_rule then Some row.adopted else None in
     let same : row.adopted ≡ period = same_Some row.adopted period (sym (ap by second.0) ∙ is) in
