@@ -1,14 +1,14 @@
--- The rows of a readable book that say that they are counted are those of the records that are.
-use Rattle.std.proofs.Common.{◌≡◌, ◌∙◌, ℕ, suc, ◌-◌, ◌≤◌, List, length, sym, ap, subst, true}
-use Rattle.std.proofs.Common.{◌&&◌, Bool, arith}
-use Rattle.std.specs.Prelude.{ℤ, filter}
-use Rattle.std.specs.List.{filter_map}
-use Rattle.std.specs.List.Sorted.{IsPermutation}
+-- The rows of a readable book that say that they are counted are those of the records that are, and
+-- so are their names.
+use Rattle.std.proofs.Common.{◌≡◌, ◌∙◌, ℕ, suc, ◌-◌, ◌≤◌, List, length, sym, ap, subst, true, ◌&&◌}
+use Rattle.std.proofs.Common.{Bool, arith, map, ℤ, filter, filter_map}
 use Rattle.std.proofs.lemmas.Bool.{eq-eqb, lt-ltb}
 use Rattle.std.proofs.lemmas.Cmp.{nat_list_cmp_total}
 use Rattle.std.proofs.lemmas.Map.Lookups.{exact_bytes}
-use Rattle.book_model.specs.Words.{Book, Naming, Records, Rulings, charged_of, counted_of, day_of, has}
-use Rattle.book_model.specs.Words.{is_counted, is_dated_in, members, name_of, open_by}
+use Rattle.std.specs.List.Sorted.{IsPermutation}
+use Rattle.std.specs.FinMap.{from_entries}
+use Rattle.book_model.specs.Words.{Book, Naming, Records, Rulings, charged_of, counted_of, day_of}
+use Rattle.book_model.specs.Words.{has, is_counted, is_dated_in, members, name_of, open_by}
 use Rattle.book_model.proofs.CountedDays.{counted_at}
 use Rattle.book_model.proofs.RecordSets.{has_those, in_those}
 use Rattle.book_model.proofs.SetChanges.{those-agree}
@@ -17,17 +17,18 @@ use Rattle.table_model.specs.BookIn.{close_after}
 use Rattle.table_model.specs.Readable.{IsReadable}
 use Rattle.table_model.specs.Tables.{Tables}
 use Rattle.table_model.specs.TablesOf.{status_of, tables_of}
+use Rattle.table_model.specs.DisputesRead.{NamedRow}
 use Rattle.table_model.proofs.CostLemmas.{day-price}
 use Rattle.table_model.proofs.CountedReading.{in_counted, its_period, period_after, sets}
 use Rattle.table_model.proofs.DetailReading.{in_windows}
 use Rattle.table_model.proofs.RecordReading.{entry}
 use Rattle.table_model.proofs.RowsWhere.{rows_where, those_among}
+use Rattle.table_model.proofs.CountedFirst.{names_alone, names_counted}
 use Rattle.consistent_tables.specs.Consistent.{charged_back, counted_entries, is_counted_row, ruled}
 use Rattle.consistent_tables.specs.DueRows.{period_from}
-use Rattle.consistent_tables.proofs.ChainTold.{all_later, later_periods, own, own_begun, own_numbered}
-use Rattle.consistent_tables.proofs.ChainTold.{ruled_back, told}
-use Rattle.consistent_tables.proofs.ClosePeriods.{after_close}
-use Rattle.consistent_tables.proofs.DayPlaces.{dated_is}
+use Rattle.consistent_tables.proofs.ChainTold.{all_later, later_periods, own, own_begun}
+use Rattle.consistent_tables.proofs.ChainTold.{own_numbered, ruled_back, told}
+use Rattle.consistent_tables.proofs.ClosePeriods.{after_close, dated_is}
 
 module _ (naming : Naming) (book : Book) (whole : IsReadable naming book) where
   abbrev tables : Tables
@@ -96,3 +97,13 @@ module _ (naming : Naming) (book : Book) (whole : IsReadable naming book) where
       (is_counted_row tables) is_its
       (λ bytes cost costs. ap (was_charged (ruled tables) bytes)
       (day-price book.rulings bytes cost costs)))
+
+-- and so are the names that are counted
+pub counted_due : (naming : Naming) (book : Book) (whole : IsReadable naming book)
+    → (tables_of naming book).counted
+    ≡ from_entries (map {B = List ℕ × Unit {0}} (λ entry. (entry.0, tt))
+    (counted_entries (tables_of naming book)))
+counted_due naming book whole =
+    let rows : List NamedRow = counted_entries (tables_of naming book) in
+    sym (names_counted naming book whole rows (rows_counted naming book whole))
+    ∙ sym (names_alone (λ (row : NamedRow). row.0) rows)

@@ -45,7 +45,7 @@ use Rattle.consistent_tables.specs.Consistent.{counted_entries}
 use Rattle.consistent_tables.specs.DueRows.{due_entry, period_from}
 use Rattle.consistent_tables.proofs.ClosePeriods.{least_period, most_period}
 use Rattle.consistent_tables.proofs.CountedRows.{rows_counted}
-use Rattle.consistent_tables.proofs.DayPlaces.{dated_is}
+use Rattle.consistent_tables.proofs.ClosePeriods.{dated_is}
 
 -- ---- rows, each in the period of its day
 

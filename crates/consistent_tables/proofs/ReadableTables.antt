@@ -21,7 +21,7 @@ use Rattle.consistent_tables.specs.Consistent.{AreConsistent, counted_entries}
 use Rattle.consistent_tables.specs.DueRows.{due_entry}
 use Rattle.consistent_tables.specs.Laws.{ReadableAreConsistent}
 use Rattle.consistent_tables.proofs.ChainTold.{ruled_back}
-use Rattle.consistent_tables.proofs.CountedTable.{counted_due}
+use Rattle.consistent_tables.proofs.CountedRows.{counted_due}
 use Rattle.consistent_tables.proofs.DayTable.{days_due}
 use Rattle.consistent_tables.proofs.ReadableBook.{rows_many}
 use Rattle.consistent_tables.proofs.ReadableRows.{own_lines, own_rows}
