@@ -65,24 +65,6 @@ turned : {line : Option Bool} {mid before : Bool} → Turns line mid before
 turned (Stays charged) = (refl, tt)
 turned (Turned plus) = (refl, refl)
 
--- lines in turn are so at each period
-pub turn_at : (tables : Tables) (name : List ℕ) (k : ℕ) (now : Bool)
-    → AreInTurn tables name k now → (j : ℕ) → j < k
-    → IfSome (line_at tables name (open_by (ruled tables) - j))
-    (λ plus. plus ≡ charged_back tables name j now)
-turn_at tables name zero now turns j below = absurd (omega (arith, below))
-turn_at tables name (suc k) now turns j below =
-    elim (j == k) as (λ b. (j == k) ≡ b → IfSome (line_at tables name (open_by (ruled tables) - j))
-    (λ plus. plus ≡ charged_back tables name j now)) [
-      | true ↦ λ same.
-          let at : k ≡ j = grind (arith, nat_tests) in
-          subst (λ i. IfSome (line_at tables name (open_by (ruled tables) - i))
-          (λ plus. plus ≡ charged_back tables name i now)) at turns.0
-      | false ↦ λ other.
-          let less : j < k = grind (arith, nat_tests) in
-          turn_at tables name k now turns.1 j less
-    ] refl
-
 -- Of some rows from a key on, of which the first has it: whether the next one has it too tells
 -- whether it is the only one.
 two_of : (key : Row) (rows : List Row) (row : Row) (there two : Bool)

@@ -17,6 +17,7 @@ use Rattle.table_model.specs.Views.{is_due_at}
 use Rattle.table_model.proofs.RulingsReading.{tariffs_kept}
 use Rattle.consistent_tables.specs.Consistent.{AreInTurn, charged_back, is_counted_row, line_at, periods_after, ruled}
 use Rattle.consistent_tables.specs.DueRows.{period_from}
+use Rattle.consistent_tables.proofs.ChargedSets.{in_turn}
 use Rattle.tree_tables.specs.Columns.{tariff_columns}
 use Rattle.tree_tables.specs.Stored.{stored_entry}
 use Rattle.tree_tables.specs.declared.stored_record.StoredRecord.{StoredRecord}
@@ -32,7 +33,7 @@ use Rattle.book_audit.specs.SoundTrees.{AreRuled}
 use Rattle.book_audit.specs.Trees.{FindsTwo}
 use Rattle.book_audit.specs.declared.rulings.Rulings.{Rulings}
 use Rattle.book_audit.proofs.Rows.Closes.{closed_before}
-use Rattle.book_audit.proofs.Held.Looks.{alone_looked, line_looked, turn_at, went_back}
+use Rattle.book_audit.proofs.Held.Looks.{alone_looked, line_looked, went_back}
 use Rattle.book_audit.proofs.Held.Rulings.{identity_said, last_said, price_said, same_terms}
 use Rattle.book_audit.proofs.Own.Rulings.{own_closes, own_readable, own_rule}
 use Rattle.book_audit.proofs.Own.Tables.{own_consistent, own_ruled, own_tables}
@@ -207,7 +208,7 @@ module _ (trees : Trees) (rulings : Rulings) (entry : List ℕ × RecordRow)
 
       first_turn : (k : ℕ) → 0 < k → AreInTurn tables entry.0 k entry.1.charged
           → IfSome (line_at tables entry.0 (open_by (ruled tables) - 0)) (λ plus. plus ≡ entry.1.charged)
-      first_turn k some turns = turn_at tables entry.0 k entry.1.charged turns 0 some
+      first_turn k some turns = in_turn tables entry.0 entry.1.charged k 0 turns some
 
       by_line : (line : Option Bool) → line ≡ get tables.lines (open_by (ruled tables), entry.0)
           → ((plus : Bool) → Some plus ≡ get tables.lines (open_by (ruled tables), entry.0) → ⊥)

@@ -12,7 +12,8 @@ use Rattle.book_audit.specs.Records.{IsLine, Turns}
 use Rattle.std.specs.FinMap.{get}
 use Rattle.consistent_tables.specs.Consistent.{charged_back, line_at, ruled}
 use Rattle.book_model.specs.Words.{open_by}
-use Rattle.book_audit.proofs.Held.Looks.{line_looked, turn_at, went_back}
+use Rattle.consistent_tables.proofs.ChargedSets.{in_turn}
+use Rattle.book_audit.proofs.Held.Looks.{line_looked, went_back}
 use Rattle.book_audit.proofs.Rows.Lines.{goes_on, says_same, turns_none, turns_some}
 use Rattle.book_audit.proofs.Walks.Steps.{look_back, looks_on, trees_stay}
 use Rattle.book_audit.proofs.marks.past_of.Goals.{in-Some+else-plus-now, in_default}
@@ -85,7 +86,7 @@ returns-then-plus-now-clause-other g c clean none tables holds last turns =
     ∙ ap (λ n. get tables.lines (n - back, name)) last in
     let turn : IfSome line (λ plus. plus ≡ charged_back tables name back c.args.charged) =
     subst (λ (l : Option Bool). IfSome l (λ plus. plus ≡ charged_back tables name back c.args.charged))
-    (sym its) (turn_at tables name (c.args.last - c.args.own) c.args.charged turns back inside) in
+    (sym its) (in_turn tables name c.args.charged (c.args.last - c.args.own) back turns inside) in
     let same : c.loop-back.now ≡ charged_back tables name back c.args.charged =
     (went_back trees tables holds name c.args.last back c.args.charged c.loop-back.now last
     (so_far.back before)).0 in
