@@ -6,14 +6,13 @@ use Rattle.smf_frames.specs.Framed.{data_of}
 use Rattle.sqlite_trees.specs.Tree.{Trees}
 use Rattle.sqlite_value.specs.Order.{Row, column}
 use Rattle.sqlite_value.specs.declared.value.Value.TheVariants.{Blob, Int}
-use Rattle.book_model.specs.Words.{Book}
 use Rattle.table_model.specs.BookIn.{row_record}
 use Rattle.table_model.specs.Fits.{TablesFit}
 use Rattle.table_model.specs.Tables.{RecordRow, Tables}
 use Rattle.table_model.specs.TablesOf.{tables_of}
-use Rattle.table_model.proofs.BookLemmas.{book_follows}
 use Rattle.table_model.proofs.FitsLemmas.{numbers_fit}
 use Rattle.consistent_tables.specs.Consistent.{AreConsistent, ruled}
+use Rattle.consistent_tables.proofs.ChainTold.{ruled_back}
 use Rattle.consistent_tables.proofs.ReadableTables.{readable_are_consistent}
 use Rattle.tree_rows.specs.Rows.{Finds}
 use Rattle.tree_tables.specs.Columns.{record_columns}
@@ -31,7 +30,7 @@ module _ (trees : Trees) (own : AreOwn trees) where
 
   -- The book can be read back, so its rulings are read of the tables,
   pub own_ruled : ruled own_tables ≡ own.book.rulings
-  own_ruled = ap (λ (book : Book). book.rulings) (book_follows sha_names own.book (own_readable trees own))
+  own_ruled = ruled_back sha_names own.book (own_readable trees own)
 
   -- the tables fit,
   pub own_fit : TablesFit own_tables

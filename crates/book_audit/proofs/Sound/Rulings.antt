@@ -1,34 +1,31 @@
 -- The rulings of sound trees are those that their tables say.
-use Rattle.std.proofs.Common.{◌≡◌, ◌∙◌, ◌<◌, ◌≤◌, ◌+◌, ◌∷◌, [], inl, inr, ℕ, suc, ℤ, List, true, ◌&&◌, All}
-use Rattle.std.proofs.Common.{Option, Some, None, ap, arith, length, map, refl, subst, sym}
-use Rattle.std.specs.FinMap.{entries, get, values}
-use Rattle.std.specs.List.{AllByRecursion, cons_option, filter_map, list_all}
-use Rattle.std.specs.List.Sorted.{IsStrictlySortedBy}
-use Rattle.std.specs.Option.{option_map}
-use Rattle.std.specs.Ordering.{int_cmp}
-use Rattle.std.specs.Prelude.{◌<ℤ◌, int_lt, nat_le}
-use Rattle.std.specs.declared.cmp.Ordering.TheVariants.{Less}
+use Rattle.std.proofs.Common.{◌≡◌, ◌∙◌, ◌<◌, ◌≤◌, ◌+◌, ◌∷◌, [], inl, inr, ℕ, suc, ℤ, List, true}
+use Rattle.std.proofs.Common.{All, Option, Some, None, ap, arith, length, refl, subst, sym, T}
+use Rattle.std.proofs.Common.{nat_le, int_cmp, option_map, filter_map}
 use Rattle.std.proofs.lemmas.Bool.Decides.{nat_tests}
-use Rattle.std.proofs.lemmas.Int.{ints}
 use Rattle.std.proofs.lemmas.List.{length-map}
 use Rattle.std.proofs.lemmas.List.Elements.{All-cons, All-from_recursion, All-nil}
+use Rattle.std.specs.FinMap.{entries, entries_sorted, get, values}
+use Rattle.std.specs.FinMap.Entries.{is_sorted}
+use Rattle.std.specs.List.{AllByRecursion, cons_option}
+use Rattle.std.specs.List.Sorted.{IsStrictlySortedBy}
 use Rattle.tariff_rules.specs.Terms.{Terms}
-use Rattle.sqlite_trees.specs.Tree.{IsAscending, Trees}
+use Rattle.sqlite_trees.specs.Tree.{Trees}
 use Rattle.sqlite_value.specs.Order.{Row, column}
-use Rattle.book_model.specs.Words.{AcceptedTerms, Choice, IsDay, are_rising}
-use Rattle.book_model.specs.Words.{identity_by, last_period, most_choices, open_by, price_in}
-use Rattle.table_model.specs.BookIn.{choice_read, row_record}
+use Rattle.book_model.specs.Words.{AcceptedTerms, Choice, IsDay, are_rising, identity_by}
+use Rattle.book_model.specs.Words.{last_period, most_choices, open_by, price_in}
+use Rattle.table_model.specs.BookIn.{choice_read}
 use Rattle.table_model.specs.Readable.{IsTexted}
 use Rattle.table_model.specs.Tables.{BookRow, ChoiceRow, RecordRow, RecordTable, Tables}
 use Rattle.table_model.specs.TablesOf.{close_entries, tariff_entries, under_numbers}
-use Rattle.table_model.proofs.CloseOrder.{earlier}
 use Rattle.table_model.proofs.RulingsReading.{tariffs_back}
 use Rattle.table_model.proofs.UnderNumbers.{entries-numbers, values-numbers}
-use Rattle.tree_rows.specs.Layouts.{row_of}
 use Rattle.tree_rows.proofs.Keyed.{row_found}
 use Rattle.tree_tables.proofs.Layouts.{record_layout, tariff_layout}
 use Rattle.tree_tables.proofs.RowsRead.{same_blob}
 use Rattle.consistent_tables.specs.Consistent.{IsOwnRule, choice_numbers, ruled}
+use Rattle.consistent_tables.proofs.RuledTables.{tariffs_rise}
+use Rattle.consistent_tables.proofs.SoundTables.{choice_of}
 use Rattle.book_audit.specs.ChoiceRows.{IsMade, Made, said}
 use Rattle.book_audit.specs.Data.{price_of}
 use Rattle.book_audit.specs.Rules.{identity_under, is_by, rule_of}
@@ -38,31 +35,8 @@ use Rattle.book_audit.specs.declared.audited.Counts.{Counts as Numbers}
 use Rattle.book_audit.specs.declared.finding.Tree.TheVariants.{Tariffs}
 use Rattle.book_audit.specs.declared.identity_rule.IdentityRule.{IdentityRule}
 use Rattle.book_audit.proofs.Held.Rulings.{identity_said, price_said, which_rule}
-use Rattle.book_audit.proofs.Held.Kept.{entries_kept, keys_rise}
+use Rattle.book_audit.proofs.Held.Kept.{entries_kept}
 use Rattle.book_audit.proofs.Sound.Tables.{made, tables_held, trees_hold}
-
--- ---- tariffs
-
--- tariffs whose days are above one begin later
-later_tariffs : (day : ℤ) (tariffs : List AcceptedTerms)
-    → AllByRecursion (λ (b : ℤ × Option (List ℕ)). int_cmp day b.0 ≡ Less) (tariff_entries tariffs)
-    → list_all (λ later. int_lt day later.terms.effective) tariffs ≡ true
-later_tariffs day [] above = refl
-later_tariffs day (tariff ∷ tariffs) above =
-    let less : day <ℤ tariff.terms.effective = earlier day tariff.terms.effective above.0 in
-    let first : int_lt day tariff.terms.effective ≡ true = grind (arith, ints) in
-    let rest = later_tariffs day tariffs above.1 in
-    λ i. first i && rest i
-
--- tariffs rise where their rows do
-tariffs_rise : (tariffs : List AcceptedTerms)
-    → IsAscending (λ (a b : ℤ × Option (List ℕ)). int_cmp a.0 b.0 ≡ Less) (tariff_entries tariffs)
-    → are_rising tariffs ≡ true
-tariffs_rise [] up = refl
-tariffs_rise (tariff ∷ tariffs) up =
-    let first = later_tariffs tariff.terms.effective tariffs up.0 in
-    let rest = tariffs_rise tariffs up.1 in
-    λ i. first i && rest i
 
 -- ---- the rule of identity
 
@@ -90,10 +64,6 @@ own_rule tables row found is begun = elim (which_rule row.rule row.adopted found
 abbrev pub IsHeldChoice : RecordTable → Made → Type 0
 IsHeldChoice records one =
     (row : RecordRow) × (get records one.1.name ≡ Some row) × (row.identity ≡ one.0)
-
--- the choice of a row, by its record
-abbrev choice_of : ChoiceRow → RecordRow → Choice
-choice_of choice row = record { chosen = row_record row; period = choice.period }
 
 -- so each choice is read,
 all_found : (records : RecordTable) (made : List Made) → AllByRecursion (IsHeldChoice records) made
@@ -134,16 +104,15 @@ module _ (trees : Trees) (numbers : Numbers) (sound : AreSound trees numbers) wh
 
   -- ---- tariffs
 
-  tariffs_up : AreRising Tariffs (map (row_of tariff_layout) (tariff_entries accepted))
-  tariffs_up = subst (AreRising Tariffs) sound.ruled.tariffs.are sound.ruled.tariffs.rising
-
   tariffs_in_order : entries tables.tariffs ≡ tariff_entries accepted
-  tariffs_in_order = entries_kept tariff_layout Tariffs (λ k. refl) (tariff_entries accepted) tariffs_up
+  tariffs_in_order =
+      entries_kept tariff_layout Tariffs (λ k. refl) (tariff_entries accepted)
+      (subst (AreRising Tariffs) sound.ruled.tariffs.are sound.ruled.tariffs.rising)
 
   rising : are_rising accepted ≡ true
   rising =
       tariffs_rise accepted
-      (keys_rise tariff_layout Tariffs (λ k. refl) (tariff_entries accepted) tariffs_up)
+      (subst (λ es. T (is_sorted int_cmp es)) tariffs_in_order (entries_sorted tables.tariffs))
 
   texted : All IsTexted accepted
   texted = All-from_recursion IsTexted accepted sound.ruled.tariffs.texts
