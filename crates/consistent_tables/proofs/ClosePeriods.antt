@@ -3,12 +3,12 @@
 use Rattle.std.proofs.Common.{◌≡◌, ◌∙◌, ◌+◌, ◌<◌, ◌≤◌, List, [], ◌∷◌, ℕ, ℤ, zero, suc, arith, false}
 use Rattle.std.proofs.Common.{length, refl, sym, ap, true, ◌-◌, not, ◌&&◌, if◌then◌else◌, int_lt}
 use Rattle.std.proofs.Common.{nat_lt, slice_get, ◌==◌, pos, int_cmp}
+use Rattle.std.specs.List.Sorted.{IsStrictlySortedBy}
+use Rattle.std.specs.Option.{option_map_or}
 use Rattle.std.proofs.lemmas.Bool.Decides.{nat_tests}
 use Rattle.std.proofs.lemmas.Int.{ints}
 use Rattle.std.proofs.lemmas.Bool.{le-ltb, ltb-false, ltb-true}
 use Rattle.std.proofs.lemmas.Option.{slice_get-get_or, slice_get_past}
-use Rattle.std.specs.List.Sorted.{IsStrictlySortedBy}
-use Rattle.std.specs.Option.{option_map_or}
 use Rattle.book_model.specs.Words.{day_of, is_dated_after, Rulings, is_dated_in, is_dated_through}
 use Rattle.book_model.specs.RulingAnswers.{through_of}
 use Rattle.table_model.specs.BookIn.{close_after}

@@ -2,11 +2,11 @@
 -- so are their names.
 use Rattle.std.proofs.Common.{◌≡◌, ◌∙◌, ℕ, suc, ◌-◌, ◌≤◌, List, length, sym, ap, subst, true, ◌&&◌}
 use Rattle.std.proofs.Common.{Bool, arith, map, ℤ, filter, filter_map}
+use Rattle.std.specs.List.Sorted.{IsPermutation}
+use Rattle.std.specs.FinMap.{from_entries}
 use Rattle.std.proofs.lemmas.Bool.{eq-eqb, lt-ltb}
 use Rattle.std.proofs.lemmas.Cmp.{nat_list_cmp_total}
 use Rattle.std.proofs.lemmas.Map.Lookups.{exact_bytes}
-use Rattle.std.specs.List.Sorted.{IsPermutation}
-use Rattle.std.specs.FinMap.{from_entries}
 use Rattle.book_model.specs.Words.{Book, Naming, Records, Rulings, charged_of, counted_of, day_of}
 use Rattle.book_model.specs.Words.{has, is_counted, is_dated_in, members, name_of, open_by}
 use Rattle.book_model.proofs.CountedDays.{counted_at}

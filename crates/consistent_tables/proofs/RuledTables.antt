@@ -3,13 +3,13 @@
 use Rattle.std.proofs.Common.{◌≡◌, ◌∙◌, ◌<◌, ◌≤◌, ◌&&◌, ◌∷◌, [], List, ℕ, ℤ, None, Some, T, ap}
 use Rattle.std.proofs.Common.{arith, inl, inr, refl, subst, sym, true, Option, unwrap_or, ◌==◌}
 use Rattle.std.proofs.Common.{if◌then◌else◌, int_lt, is_some, int_cmp, is_lt}
-use Rattle.std.proofs.lemmas.Int.{ints}
-use Rattle.std.proofs.lemmas.Option.{none-some, same_Some}
 use Rattle.std.specs.FinMap.{entries_sorted, from_entries, int_cmp-IsAntisymmetric}
 use Rattle.std.specs.FinMap.{nat_cmp-IsAntisymmetric}
 use Rattle.std.specs.FinMap.Entries.{below_all, is_sorted}
 use Rattle.std.specs.List.{list_all}
 use Rattle.std.specs.Cmp.{int_cmp_total, nat_cmp_total}
+use Rattle.std.proofs.lemmas.Int.{ints}
+use Rattle.std.proofs.lemmas.Option.{none-some, same_Some}
 use Rattle.book_model.specs.Words.{AcceptedTerms, Naming, are_rising, first_rule, open_by}
 use Rattle.book_model.specs.Words.{second_rule}
 use Rattle.table_model.specs.BookIn.{adopted_read, book_in}

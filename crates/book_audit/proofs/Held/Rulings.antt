@@ -1,11 +1,11 @@
 -- What the rulings that were read of trees are in the tables that the trees hold.
-use Rattle.std.proofs.Common.{◌≡◌, ◌∙◌, ◌<◌, ◌∷◌, [], ◌⊎◌, inl, inr, ℕ, suc, List, Bool, true, false}
-use Rattle.std.proofs.Common.{◌&&◌, ◌==◌, All, Option, Some, None, ap, ap₂, arith, map, refl, sym, Ok}
+use Rattle.std.proofs.Common.{◌≡◌, ◌∙◌, ◌<◌, ◌∷◌, [], ◌⊎◌, inl, inr, ℕ, suc, List, Bool, true}
+use Rattle.std.proofs.Common.{false, ◌&&◌, ◌==◌, All, Option, Some, None, ap, ap₂, map, refl, sym}
+use Rattle.std.proofs.Common.{Ok, eqb-true, ltb-true}
 use Rattle.std.specs.FinMap.{entries, values}
 use Rattle.std.specs.List.{AllByRecursion, last_or}
 use Rattle.std.specs.Option.{option_map, option_map_or, option_or}
 use Rattle.std.specs.Prelude.{if◌then◌else◌, filter, find, nat_le, nat_lt, reverse}
-use Rattle.std.proofs.lemmas.Bool.Decides.{nat_tests}
 use Rattle.std.proofs.lemmas.Cmp.{nat_list_eq_equiv}
 use Rattle.std.proofs.lemmas.List.Elements.{All-head, All-tail}
 use Rattle.std.proofs.lemmas.Option.{same_Some}
@@ -15,9 +15,9 @@ use Rattle.tariff_rules.specs.Terms.{Terms}
 use Rattle.tariff_rules.specs.declared.priced.Priced.{Priced}
 use Rattle.sqlite_trees.specs.Tree.{Trees}
 use Rattle.sqlite_value.specs.Order.{Row, column}
-use Rattle.book_model.specs.Words.{AcceptedTerms, Rulings as Ruled, are_rising}
-use Rattle.book_model.specs.Words.{first_rule, last_period, price_in, price_under, same_bytes}
-use Rattle.book_model.specs.Words.{second_rule, terms_in}
+use Rattle.book_model.specs.Words.{AcceptedTerms, Rulings as Ruled, are_rising, first_rule}
+use Rattle.book_model.specs.Words.{last_period, price_in, price_under, same_bytes, second_rule}
+use Rattle.book_model.specs.Words.{terms_in}
 use Rattle.book_model.proofs.LatestLemmas.{begun-last}
 use Rattle.book_model.proofs.RecordSets.{first_of, second_of}
 use Rattle.table_model.specs.BookIn.{adopted_read}
@@ -82,13 +82,6 @@ same_terms (a ∷ one) (b ∷ other) texted too same =
 
 -- ---- the rule of identity
 
--- numbers that a test finds equal, and one that is above none or no later
-same_number : (a b : ℕ) → (a == b) ≡ true → a ≡ b
-same_number a b same = grind (arith, nat_tests)
-
-above_none : (n : ℕ) → nat_lt 0 n ≡ true → 0 < n
-above_none n above = grind (arith, nat_tests)
-
 -- the rule that two numbers say
 pub which_rule : (rule adopted : ℕ) (found : IdentityRule) → rule_of rule adopted ≡ Some found
     → ((found ≡ First) × (rule ≡ first_rule) × (adopted ≡ never_adopted))
@@ -103,9 +96,9 @@ which_rule rule adopted found is =
     ⊎ ((found ≡ SecondSince adopted) × (rule ≡ second_rule) × (0 < adopted))) [
       | true ↦ λ both at. inl (
         sym (same_Some First found at),
-        same_number rule first_rule
+        eqb-true rule first_rule
             (first_of (rule == first_rule) (adopted == never_adopted) both),
-        same_number adopted never_adopted
+        eqb-true adopted never_adopted
             (second_of (rule == first_rule) (adopted == never_adopted) both),
       )
       | false ↦ λ neither at. inr (by_second ((rule == second_rule) && may_be_open adopted) refl at)
@@ -116,8 +109,8 @@ which_rule rule adopted found is =
         → (found ≡ SecondSince adopted) × (rule ≡ second_rule) × (0 < adopted)
     by_second true both at = (
       sym (same_Some (SecondSince adopted) found at),
-      same_number rule second_rule (first_of (rule == second_rule) (may_be_open adopted) both),
-      above_none adopted (first_of (nat_lt 0 adopted) (nat_le adopted last_period)
+      eqb-true rule second_rule (first_of (rule == second_rule) (may_be_open adopted) both),
+      ltb-true 0 adopted (first_of (nat_lt 0 adopted) (nat_le adopted last_period)
           (second_of (rule == second_rule) (may_be_open adopted) both)),
     )
     by_second false neither at = absurd (let e = at in cc)

@@ -1,18 +1,17 @@
 -- The choices of books that calls made: each was made no earlier than those before it, among records
 -- that are still its rivals, unless a rule of identity was adopted since.
-use Rattle.std.proofs.Common.{◌≡◌, ◌≤◌, ◌∙◌, ◌∷◌, [], ℕ, List, Bool, true, false, not, ◌||◌}
-use Rattle.std.proofs.Common.{Option, Some, None, ap, arith, length, refl, subst, sym, ◌⊎◌, inl, inr}
-use Rattle.std.specs.Prelude.{nat_le, unwrap_or}
+use Rattle.std.proofs.Common.{◌≡◌, ◌≤◌, ◌∙◌, ◌∷◌, [], ℕ, List, Bool, true, false, not, ◌||◌, Option}
+use Rattle.std.proofs.Common.{Some, None, ap, arith, length, refl, subst, sym, ◌⊎◌, inl, inr}
+use Rattle.std.proofs.Common.{le-leb, nat_le, unwrap_or}
 use Rattle.std.specs.List.{AllByRecursion}
 use Rattle.std.proofs.Math.Bool.{or-true}
-use Rattle.std.proofs.lemmas.Bool.Decides.{nat_tests}
 use Rattle.std.proofs.lemmas.List.Elements.{recursion_from_All}
 use Rattle.sqlite_trees.specs.Tree.{IsAscending}
 use Rattle.sqlite_trees.proofs.ListLemmas.{all-append, all_weaker, ascending-append}
-use Rattle.book_model.specs.Words.{Book, Choice, Event, Naming, PeriodClosed, RecordChosen, RecordKept}
-use Rattle.book_model.specs.Words.{SecondRuleAdopted, TariffAccepted, after, book_after, chosen_answer}
-use Rattle.book_model.specs.Words.{conflict, has, is_chosen, is_unrivalled, IsMadeByCalls}
-use Rattle.book_model.specs.Words.{most_choices, open_by, open_number}
+use Rattle.book_model.specs.Words.{Book, Choice, Event, Naming, PeriodClosed, RecordChosen}
+use Rattle.book_model.specs.Words.{RecordKept, SecondRuleAdopted, TariffAccepted, after, book_after}
+use Rattle.book_model.specs.Words.{chosen_answer, conflict, has, is_chosen, is_unrivalled}
+use Rattle.book_model.specs.Words.{IsMadeByCalls, most_choices, open_by, open_number}
 use Rattle.book_model.proofs.RecordSets.{has_with, is}
 use Rattle.table_model.specs.Changed.{IsAnswered}
 use Rattle.table_model.specs.FromCalls.{AreSubmitted, IsFromCalls, IsSubmittedTo}
@@ -110,11 +109,7 @@ event_chosen naming book SecondRuleAdopted timely so_far handed answered = recor
         (parted (Some (unwrap_or book.rulings.adopted (open_by book.rulings))) choice.period ≡ true)
         ⊎ Rival (after SecondRuleAdopted book) choice.chosen)
         (λ choice timely. inl (ap (λ (a : Option ℕ). nat_le choice.period (unwrap_or a (open_by book.rulings))) none
-        ∙ within choice.period timely.begun)) book.rulings.choices timely
-      where
-        within : (period : ℕ) → period ≤ open_by book.rulings
-            → nat_le period (open_by book.rulings) ≡ true
-        within period less = grind (arith, nat_tests)
+        ∙ le-leb choice.period (open_by book.rulings) timely.begun)) book.rulings.choices timely
     adopted_in (Some other) was =
         subst (λ (a : Option ℕ). AllByRecursion (λ (choice : Choice).
         (parted a choice.period ≡ true)

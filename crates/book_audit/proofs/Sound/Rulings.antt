@@ -1,14 +1,13 @@
 -- The rulings of sound trees are those that their tables say.
 use Rattle.std.proofs.Common.{◌≡◌, ◌∙◌, ◌<◌, ◌≤◌, ◌+◌, ◌∷◌, [], inl, inr, ℕ, suc, ℤ, List, true}
-use Rattle.std.proofs.Common.{All, Option, Some, None, ap, arith, length, refl, subst, sym, T}
-use Rattle.std.proofs.Common.{nat_le, int_cmp, option_map, filter_map}
-use Rattle.std.proofs.lemmas.Bool.Decides.{nat_tests}
-use Rattle.std.proofs.lemmas.List.{length-map}
-use Rattle.std.proofs.lemmas.List.Elements.{All-cons, All-from_recursion, All-nil}
+use Rattle.std.proofs.Common.{All, Option, Some, None, ap, length, refl, subst, sym, T, int_cmp}
+use Rattle.std.proofs.Common.{option_map, filter_map, leb-true}
 use Rattle.std.specs.FinMap.{entries, entries_sorted, get, values}
 use Rattle.std.specs.FinMap.Entries.{is_sorted}
 use Rattle.std.specs.List.{AllByRecursion, cons_option}
 use Rattle.std.specs.List.Sorted.{IsStrictlySortedBy}
+use Rattle.std.proofs.lemmas.List.{length-map}
+use Rattle.std.proofs.lemmas.List.Elements.{All-cons, All-from_recursion, All-nil}
 use Rattle.tariff_rules.specs.Terms.{Terms}
 use Rattle.sqlite_trees.specs.Tree.{Trees}
 use Rattle.sqlite_value.specs.Order.{Row, column}
@@ -40,10 +39,6 @@ use Rattle.book_audit.proofs.Sound.Tables.{made, tables_held, trees_hold}
 
 -- ---- the rule of identity
 
--- a number that a test finds no later
-no_later : (a b : ℕ) → nat_le a b ≡ true → a ≤ b
-no_later a b early = grind (arith, nat_tests)
-
 -- the row of the book says the rule
 own_rule : (tables : Tables) (row : BookRow) (found : IdentityRule)
     → rule_of row.rule row.adopted ≡ Some found → is_by (open_by (ruled tables)) found ≡ true
@@ -53,7 +48,7 @@ own_rule tables row found is begun = elim (which_rule row.rule row.adopted found
   | inr it ↦ inr (
     it.1,
     it.2,
-    no_later row.adopted (open_by (ruled tables))
+    leb-true row.adopted (open_by (ruled tables))
         (subst (λ (one : IdentityRule). is_by (open_by (ruled tables)) one ≡ true) it.0 begun),
   )
 ]
