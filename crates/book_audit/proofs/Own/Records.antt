@@ -1,11 +1,9 @@
 -- Records of books that calls made pass each test.
-use Rattle.std.proofs.Common.{◌≡◌, ◌∙◌, ◌<◌, ◌+◌, ◌-◌, ◌∷◌, [], ◌||◌, ℕ, ℤ, Bool, true, false, List, Option}
-use Rattle.std.proofs.Common.{Some, None}
-use Rattle.std.proofs.Common.{ap, ap₂, arith, cond, length, map, not, refl, subst, sym, IfSome, IsSome, true≢false}
-use Rattle.std.specs.Prelude.{nat_lt}
+use Rattle.std.proofs.Common.{◌≡◌, ◌∙◌, ◌<◌, ◌+◌, ◌-◌, ◌∷◌, [], ◌||◌, ℕ, ℤ, Bool, true, false, List}
+use Rattle.std.proofs.Common.{Option, Some, None, ap, ap₂, arith, cond, length, map, not, refl}
+use Rattle.std.proofs.Common.{subst, sym, IfSome, IsSome, true≢false, lt-ltb, ltb-true, nat_lt}
 use Rattle.std.specs.FinMap.{get}
 use Rattle.std.specs.Option.{option_map_or}
-use Rattle.std.proofs.lemmas.Bool.Decides.{nat_tests}
 use Rattle.std.proofs.lemmas.Option.{same_Some}
 use Rattle.sqlite_trees.specs.Tree.{Trees}
 use Rattle.sqlite_value.specs.Order.{Row}
@@ -15,7 +13,8 @@ use Rattle.book_model.specs.Words.{same_bytes}
 use Rattle.table_model.specs.Tables.{RecordRow, Tables}
 use Rattle.table_model.specs.Views.{is_due_at}
 use Rattle.table_model.proofs.RulingsReading.{tariffs_kept}
-use Rattle.consistent_tables.specs.Consistent.{AreInTurn, charged_back, is_counted_row, line_at, periods_after, ruled}
+use Rattle.consistent_tables.specs.Consistent.{AreInTurn, charged_back, is_counted_row, line_at}
+use Rattle.consistent_tables.specs.Consistent.{periods_after, ruled}
 use Rattle.consistent_tables.specs.DueRows.{period_from}
 use Rattle.consistent_tables.proofs.ChargedSets.{in_turn}
 use Rattle.tree_tables.specs.Columns.{tariff_columns}
@@ -32,7 +31,7 @@ use Rattle.book_audit.specs.Rules.{identity_under}
 use Rattle.book_audit.specs.SoundTrees.{AreRuled}
 use Rattle.book_audit.specs.Trees.{FindsTwo}
 use Rattle.book_audit.specs.declared.rulings.Rulings.{Rulings}
-use Rattle.book_audit.proofs.Rows.Closes.{closed_before}
+use Rattle.book_audit.proofs.Rows.Closes.{closed_is}
 use Rattle.book_audit.proofs.Held.Looks.{alone_looked, line_looked, went_back}
 use Rattle.book_audit.proofs.Held.Rulings.{identity_said, last_said, price_said, same_terms}
 use Rattle.book_audit.proofs.Own.Rulings.{own_closes, own_readable, own_rule}
@@ -170,41 +169,30 @@ module _ (trees : Trees) (rulings : Rulings) (entry : List ℕ × RecordRow)
       ∙ ap (λ (closes : List ℤ). get tables.lines (length closes + 1, entry.0)) same_closes in
       let after : ℕ = periods_after tables entry.1 in
       let closed : Bool = is_closed rulings.closes.items day in
-      let before : closed ≡ nat_lt (period_from 1 (ruled tables).closes day) last =
-      ap (λ (closes : List ℤ). is_closed closes day) same_closes
-      ∙ closed_before 1 (ruled tables).closes day consistent.in_order
-      ∙ ap (nat_lt (period_from 1 (ruled tables).closes day)) (turn_round (length (ruled tables).closes)) in
       let some : closed ≡ nat_lt 0 after =
-      before ∙ above_none (period_from 1 (ruled tables).closes day) last in
+      ap (λ (closes : List ℤ). is_closed closes day) same_closes
+      ∙ closed_is (ruled tables).closes day consistent.in_order in
       posted_so entry.1.charged entry.1.posted closed line
       (its.posted ∙ ap₂ (λ (b : Bool) (one : Option Bool).
       cond b (option_map_or not one entry.1.charged) false) (sym some)
       (ap (λ n. get tables.lines (n, entry.0)) (less_none last) ∙ sym found))
       (λ is_so. subst (λ (one : Option Bool). IfSome one (λ plus. plus ≡ entry.1.charged))
       (ap (λ n. get tables.lines (n, entry.0)) (less_none last) ∙ sym found)
-      (first_turn after (above after (sym some ∙ is_so)) its.turns))
+      (first_turn after (ltb-true 0 after (sym some ∙ is_so)) its.turns))
       (λ not_so. by_line line found (λ plus at.
       let late = (consistent.lines last entry.0 (subst (λ (one : Option Bool). IsSome one) at refl)) in
       let same : late.row ≡ entry.1 = same_Some late.row entry.1 (sym late.held ∙ there) in
       let own_period = late.after in
       not_above (period_from 1 (ruled tables).closes day) last
       (subst (λ (row : RecordRow). period_from 1 (ruled tables).closes row.priced.day < last) same
-      own_period) (sym before ∙ not_so)))
+      own_period) (sym some ∙ not_so)))
     where
-      turn_round : (n : ℕ) → 1 + n ≡ n + 1
-      turn_round n = omega arith
-
       less_none : (n : ℕ) → n - 0 ≡ n
       less_none n = omega arith
 
-      above_none : (own last : ℕ) → nat_lt own last ≡ nat_lt 0 (last - own)
-      above_none own last = grind (arith, nat_tests)
-
-      above : (n : ℕ) → nat_lt 0 n ≡ true → 0 < n
-      above n is = grind (arith, nat_tests)
-
-      not_above : (own last : ℕ) → own < last → nat_lt own last ≡ false → ⊥
-      not_above own last less not_less = grind (arith, nat_tests)
+      not_above : (own last : ℕ) → own < last → nat_lt 0 (last - own) ≡ false → ⊥
+      not_above own last less none =
+          true≢false (sym (lt-ltb 0 (last - own) (omega (arith, less))) ∙ none)
 
       first_turn : (k : ℕ) → 0 < k → AreInTurn tables entry.0 k entry.1.charged
           → IfSome (line_at tables entry.0 (open_by (ruled tables) - 0)) (λ plus. plus ≡ entry.1.charged)

@@ -1,12 +1,10 @@
 -- The rows of closes, one after the other.
-use Rattle.std.proofs.Common.{◌≡◌, ◌∙◌, ◌++◌, ◌∷◌, [], ℕ, suc, List, Option, Some, None, map, length}
-use Rattle.std.proofs.Common.{ap, arith, cond, false, not, refl, sym, true}
-use Rattle.std.specs.Prelude.{ℤ, ◌+◌, ◌<ℤ◌, MatchOption, int_lt, nat_lt}
+use Rattle.std.proofs.Common.{◌≡◌, ◌∙◌, ◌++◌, ◌∷◌, [], ℕ, suc, List, Option, Some, None, map}
+use Rattle.std.proofs.Common.{length, ap, arith, cond, false, not, refl, sym, true, ◌-◌, ℤ, ◌+◌}
+use Rattle.std.proofs.Common.{◌<ℤ◌, MatchOption, int_lt, nat_lt, int_cmp, Less}
 use Rattle.std.specs.List.{AllByRecursion, last_or}
 use Rattle.std.specs.List.Sorted.{IsStrictlySortedBy}
 use Rattle.std.specs.Option.{option_map_or}
-use Rattle.std.specs.Ordering.{int_cmp}
-use Rattle.std.specs.declared.cmp.Ordering.TheVariants.{Less}
 use Rattle.std.proofs.lemmas.Bool.Decides.{nat_tests}
 use Rattle.std.proofs.lemmas.Int.{ints}
 use Rattle.std.proofs.lemmas.List.{map-append}
@@ -17,6 +15,7 @@ use Rattle.table_model.proofs.CloseOrder.{earlier}
 use Rattle.table_model.proofs.UnderNumbers.{one_more}
 use Rattle.tree_tables.specs.Columns.{closed_columns}
 use Rattle.book_audit.specs.Days.{is_closed}
+use Rattle.book_audit.specs.Records.{later_periods}
 
 -- one row more
 pub closes_pushed : (days : List ℤ) (period : _) (day : ℤ) (row : Row)
@@ -47,7 +46,7 @@ last_late through day (next ∷ closes) above rising early =
     last_late next day closes rising.0 rising.1 its
 
 -- a day is closed where its period is before the open one
-pub closed_before : (n : ℕ) (closes : List ℤ) (day : ℤ) → IsStrictlySortedBy int_cmp closes
+closed_before : (n : ℕ) (closes : List ℤ) (day : ℤ) → IsStrictlySortedBy int_cmp closes
     → is_closed closes day ≡ nat_lt (period_from n closes day) (n + length closes)
 unfolding IsStrictlySortedBy
 closed_before n [] day rising = grind (arith, nat_tests)
@@ -71,3 +70,12 @@ closed_before n (through ∷ closes) day rising =
 
     below : (n m : ℕ) → nat_lt n (n + suc m) ≡ true
     below n m = grind (arith, nat_tests)
+
+-- so it is where there are later periods
+pub closed_is : (closes : List ℤ) (day : ℤ) → IsStrictlySortedBy int_cmp closes
+    → is_closed closes day ≡ nat_lt 0 (later_periods closes day)
+closed_is closes day rising =
+    closed_before 1 closes day rising ∙ less_left (period_from 1 closes day) (length closes)
+  where
+    less_left : (period n : ℕ) → nat_lt period (1 + n) ≡ nat_lt 0 ((n + 1) - period)
+    less_left period n = grind (arith, nat_tests)

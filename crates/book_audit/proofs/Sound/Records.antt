@@ -1,12 +1,9 @@
 -- The records of sound trees are right by their tables.
-use Rattle.std.proofs.Common.{◌≡◌, ◌∙◌, ◌+◌, ◌-◌, ◌||◌, ℕ, ℤ, List, Bool, true, false, Option}
-use Rattle.std.proofs.Common.{Some, None, ap, ap₂, arith, length, map, not, refl, subst, sym}
+use Rattle.std.proofs.Common.{◌≡◌, ◌∙◌, ◌+◌, ◌-◌, ◌||◌, ℕ, ℤ, List, Bool, true, false, Option, Some}
+use Rattle.std.proofs.Common.{None, ap, ap₂, arith, length, map, not, refl, subst, sym}
 use Rattle.std.specs.FinMap.{get, get-from_entries}
-use Rattle.std.specs.List.Sorted.{IsStrictlySortedBy}
 use Rattle.std.specs.Option.{option_map_or}
-use Rattle.std.specs.Ordering.{int_cmp}
 use Rattle.std.specs.Prelude.{if◌then◌else◌, nat_lt}
-use Rattle.std.proofs.lemmas.Bool.Decides.{nat_tests}
 use Rattle.sqlite_trees.specs.Tree.{Trees}
 use Rattle.sqlite_trees.proofs.ListLemmas.{all-map, all_weaker}
 use Rattle.book_model.specs.Words.{open_by, same_bytes}
@@ -23,24 +20,13 @@ use Rattle.book_audit.specs.OfBook.{sha_names}
 use Rattle.book_audit.specs.Records.{HasPast, IsLine, IsRight, IsTold, Told, later_periods}
 use Rattle.book_audit.specs.SoundTrees.{AreSound}
 use Rattle.book_audit.specs.declared.audited.Counts.{Counts as Numbers}
-use Rattle.book_audit.proofs.Rows.Closes.{closed_before}
+use Rattle.book_audit.proofs.Rows.Closes.{closed_is}
 use Rattle.book_audit.proofs.Held.Looks.{alone_looked, line_looked, went_back}
 use Rattle.book_audit.proofs.Held.Rulings.{last_said}
 use Rattle.book_audit.proofs.Held.Kept.{of_found}
-use Rattle.book_audit.proofs.Sound.Rulings.{choices_numbered, closes_said, days, identity_is, open_is}
-use Rattle.book_audit.proofs.Sound.Rulings.{price_is}
+use Rattle.book_audit.proofs.Sound.Rulings.{choices_numbered, closes_said, days, identity_is}
+use Rattle.book_audit.proofs.Sound.Rulings.{open_is, price_is}
 use Rattle.book_audit.proofs.Sound.Tables.{right_of, tables_held, told_all, trees_hold}
-
--- ---- days of closed periods
-
-less_left : (period n : ℕ) → nat_lt period (1 + n) ≡ nat_lt 0 ((n + 1) - period)
-less_left period n = grind (arith, nat_tests)
-
--- so there are later periods
-closed_is : (closes : List ℤ) (day : ℤ) → IsStrictlySortedBy int_cmp closes
-    → is_closed closes day ≡ nat_lt 0 (later_periods closes day)
-closed_is closes day rising =
-    closed_before 1 closes day rising ∙ less_left (period_from 1 closes day) (length closes)
 
 -- ---- posted
 
