@@ -1,23 +1,24 @@
 -- What look-ups in trees that hold tables find of them.
-use Rattle.std.proofs.Common.{◌≡◌, ◌<◌, ◌-◌, ◌∙◌, ◌&&◌, ◌∷◌, [], ℕ, zero, suc, Bool, true, false, not, cond, List, Option, Some, None}
-use Rattle.std.proofs.Common.{length, map, pos, ap, ap₂, arith, refl, subst, sym, ◌==◌}
-use Rattle.std.specs.Prelude.{IfSome, filter, take_while}
+use Rattle.std.proofs.Common.{◌≡◌, ◌<◌, ◌-◌, ◌∙◌, ◌&&◌, ◌∷◌, [], ℕ, zero, suc, Bool, true, false}
+use Rattle.std.proofs.Common.{not, cond, List, Option, Some, None, length, map, pos, ap, ap₂, arith}
+use Rattle.std.proofs.Common.{refl, subst, sym, ◌==◌, ℤ, IfSome, filter, take_while, is_eq}
+use Rattle.std.proofs.Common.{Ordering}
 use Rattle.std.specs.FinMap.{FinMap, entries, get, get-entries}
 use Rattle.std.specs.Option.{option_map_or}
-use Rattle.std.specs.Ordering.{eq_by_cmp, is_eq}
+use Rattle.std.specs.Ordering.{eq_by_cmp}
 use Rattle.std.proofs.lemmas.Map.Views.{tells_apart}
 use Rattle.std.proofs.lemmas.Bool.Decides.{nat_tests}
 use Rattle.std.proofs.lemmas.Cmp.{nat_list_eq_equiv}
 use Rattle.std.proofs.lemmas.List.{length-map}
 use Rattle.std.proofs.lemmas.List.Sums.{take_while-cons}
-use Rattle.std.specs.declared.cmp.Ordering.{Ordering}
 use Rattle.sqlite_trees.specs.Tree.{Trees, from_key}
 use Rattle.sqlite_value.specs.Keys.{plain, prefix_cmp}
 use Rattle.sqlite_value.specs.Order.{Row}
 use Rattle.sqlite_value.specs.declared.value.Value.TheVariants.{Blob, Int}
 use Rattle.table_model.specs.Tables.{RecordRow, Tables}
 use Rattle.table_model.specs.Views.{rows_with}
-use Rattle.consistent_tables.specs.Consistent.{AreInTurn, charged_back, line_at, ruled}
+use Rattle.consistent_tables.specs.Consistent.{AreInTurn, charged_back, is_counted_row, line_at}
+use Rattle.consistent_tables.specs.Consistent.{periods_after, ruled}
 use Rattle.book_model.specs.Words.{open_by, same_bytes}
 use Rattle.tree_rows.specs.Indexes.{IsIndexKey, by_bytes, index_of, indexed_by}
 use Rattle.tree_rows.specs.Layouts.{Answers, Layout, rows_of}
@@ -35,7 +36,7 @@ use Rattle.tree_tables.proofs.FoundNames.{Entry}
 use Rattle.tree_tables.proofs.Layouts.{identity_layout, mark_layout, record_layout}
 use Rattle.tree_tables.proofs.LineRows.{line_found, line_missing}
 use Rattle.tree_tables.proofs.RecordIndexes.{identity_named, mark_named}
-use Rattle.book_audit.specs.Records.{GoesBack, IsLine, Turns}
+use Rattle.book_audit.specs.Records.{GoesBack, HasPast, IsLine, Turns}
 use Rattle.book_audit.specs.Records.Turns.{Stays, Turned}
 use Rattle.book_audit.specs.Trees.{FindsTwo}
 use Rattle.book_audit.proofs.Rows.Counted.{some_kept}
@@ -203,3 +204,12 @@ module _ (trees : Trees) (tables : Tables) (holds : Holds trees tables) where
           so_far.1,
         ),
       )
+
+  -- so they say whether the row of its period counts it
+  pub past_told : (closes : List ℤ) → closes ≡ (ruled tables).closes
+      → (entry : List ℕ × RecordRow) (counted : Bool) → HasPast (trees 5) closes entry counted
+      → (counted ≡ is_counted_row tables entry)
+      × AreInTurn tables entry.0 (periods_after tables entry.1) entry.1.charged
+  past_told closes same entry counted past =
+      went_back entry.0 (open_by (ruled tables)) (periods_after tables entry.1) entry.1.charged counted
+      refl (subst (λ (days : List ℤ). HasPast (trees 5) days entry counted) same past)

@@ -13,8 +13,8 @@ use Rattle.book_model.specs.Words.{same_bytes}
 use Rattle.table_model.specs.Tables.{RecordRow, Tables}
 use Rattle.table_model.specs.Views.{is_due_at}
 use Rattle.table_model.proofs.RulingsReading.{tariffs_kept}
-use Rattle.consistent_tables.specs.Consistent.{AreInTurn, charged_back, is_counted_row, line_at}
-use Rattle.consistent_tables.specs.Consistent.{periods_after, ruled}
+use Rattle.consistent_tables.specs.Consistent.{AreInTurn, is_counted_row, line_at, periods_after}
+use Rattle.consistent_tables.specs.Consistent.{ruled}
 use Rattle.consistent_tables.specs.DueRows.{period_from}
 use Rattle.consistent_tables.proofs.ChargedSets.{in_turn}
 use Rattle.tree_tables.specs.Columns.{tariff_columns}
@@ -32,7 +32,7 @@ use Rattle.book_audit.specs.SoundTrees.{AreRuled}
 use Rattle.book_audit.specs.Trees.{FindsTwo}
 use Rattle.book_audit.specs.declared.rulings.Rulings.{Rulings}
 use Rattle.book_audit.proofs.Rows.Closes.{closed_is}
-use Rattle.book_audit.proofs.Held.Looks.{alone_looked, line_looked, went_back}
+use Rattle.book_audit.proofs.Held.Looks.{alone_looked, line_looked, past_told}
 use Rattle.book_audit.proofs.Held.Rulings.{identity_said, last_said, price_said, same_terms}
 use Rattle.book_audit.proofs.Own.Rulings.{own_closes, own_readable, own_rule}
 use Rattle.book_audit.proofs.Own.Tables.{own_consistent, own_ruled, own_tables}
@@ -148,12 +148,7 @@ module _ (trees : Trees) (rulings : Rulings) (entry : List ℕ × RecordRow)
   pub own_counts : (counted : Bool) → HasPast (trees 5) rulings.closes.items entry counted
       → counted ≡ is_counted_row tables entry
   own_counts counted past =
-      let back : ℕ = (length rulings.closes.items + 1)
-      - period_from 1 rulings.closes.items entry.1.priced.day in
-      (went_back trees tables are.own.holds entry.0 (length rulings.closes.items + 1) back
-      entry.1.charged counted (ap (λ (closes : List ℤ). length closes + 1) same_closes) past).0
-      ∙ ap (λ (closes : List ℤ). charged_back tables entry.0
-      ((length closes + 1) - period_from 1 closes entry.1.priced.day) entry.1.charged) same_closes
+      (past_told trees tables are.own.holds rulings.closes.items same_closes entry counted past).0
 
   -- and it is posted as the line of the open period says
   pub own_posted : (line : Option Bool) → IsLine (trees 5) (length rulings.closes.items + 1) entry.0 line

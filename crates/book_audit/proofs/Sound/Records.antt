@@ -21,7 +21,7 @@ use Rattle.book_audit.specs.Records.{HasPast, IsLine, IsRight, IsTold, Told, lat
 use Rattle.book_audit.specs.SoundTrees.{AreSound}
 use Rattle.book_audit.specs.declared.audited.Counts.{Counts as Numbers}
 use Rattle.book_audit.proofs.Rows.Closes.{closed_is}
-use Rattle.book_audit.proofs.Held.Looks.{alone_looked, line_looked, went_back}
+use Rattle.book_audit.proofs.Held.Looks.{alone_looked, line_looked, past_told}
 use Rattle.book_audit.proofs.Held.Rulings.{last_said}
 use Rattle.book_audit.proofs.Held.Kept.{of_found}
 use Rattle.book_audit.proofs.Sound.Rulings.{choices_numbered, closes_said, days, identity_is}
@@ -65,12 +65,8 @@ module _ (trees : Trees) (numbers : Numbers) (sound : AreSound trees numbers) wh
       → (counted ≡ is_counted_row tables (name, row))
       × AreInTurn tables name (periods_after tables row) row.charged
   past_is name row counted past =
-      let back = went_back trees tables (trees_hold trees numbers sound) name (length closes + 1)
-      (later_periods closes row.priced.day) row.charged counted
-      (sym (open_is trees numbers sound)) past in (
-        back.0 ∙ ap (λ k. charged_back tables name k row.charged) (sym (after_is row)),
-        subst (λ k. AreInTurn tables name k row.charged) (sym (after_is row)) back.1,
-      )
+      past_told trees tables (trees_hold trees numbers sound) closes
+      (sym (closes_said trees numbers sound)) (name, row) counted past
 
   abbrev IsPast : List ℕ × RecordRow → Type 0
   IsPast entry = (counted : Bool) × HasPast (trees 5) closes entry counted
