@@ -25,10 +25,11 @@ use Rattle.tree_rows.specs.Layouts.{Answers, Layout, rows_of}
 use Rattle.tree_rows.specs.Rows.{Finds, IsFirst, past_key}
 use Rattle.tree_rows.specs.Runs.{has_part, run_of}
 use Rattle.tree_rows.proofs.Indexes.{index_has}
-use Rattle.tree_rows.proofs.Maps.{looked_up, none_there, not_none}
+use Rattle.tree_rows.proofs.Maps.{none_there, not_none}
 use Rattle.tree_rows.proofs.IndexOrders.{by_bytes_exact}
 use Rattle.tree_rows.proofs.PartIndexes.{part_in_order}
 use Rattle.tree_rows.proofs.Runs.{run_named}
+use Rattle.tree_rows.proofs.Keyed.{row_found}
 use Rattle.book_model.proofs.SetLemmas.{same_bytes-by_cmp}
 use Rattle.tree_tables.specs.Columns.{flag, identity_columns}
 use Rattle.tree_tables.specs.Holds.{Holds, identity_index, identity_key}
@@ -41,15 +42,6 @@ use Rattle.book_audit.specs.Records.Turns.{Stays, Turned}
 use Rattle.book_audit.specs.Trees.{FindsTwo}
 use Rattle.book_audit.proofs.Rows.Counted.{some_kept}
 
--- a look-up of a key in the rows of a map
-pub found_in : {K V : Type 0} {R : K → K → Ordering} (layout : Layout K V R) (m : FinMap R V) (k : K)
-    {rows : List Row} (row : Row) (hit : Bool) → rows ≡ rows_of layout m
-    → Finds (layout.key k) rows row hit → Answers layout m k row hit
-found_in layout m k row hit held finds =
-    looked_up layout m k row finds.there hit
-    (subst (λ (rows : List Row). IsFirst (from_key plain (layout.key k) rows) row finds.there) held
-    finds.first) finds.is
-
 -- an entry of an index is found
 pub indexed_found : {K V Q : Type 0} {R : K → K → Ordering} {P : Q → Q → Ordering} {key : K × V → Q}
     {name : Q → K} (index : IsIndexKey R P key name) (layout : Layout Q (Unit {0}) P)
@@ -58,7 +50,7 @@ pub indexed_found : {K V Q : Type 0} {R : K → K → Ordering} {P : Q → Q →
     → Finds (layout.key (key (k, v))) rows row false → ⊥
 indexed_found {P = P} {key = key} index layout m k v row held there finds =
     not_none tt (sym (index_has index m k v there)
-    ∙ found_in layout (index_of {P = P} key m) (key (k, v)) row false held finds)
+    ∙ row_found layout (index_of {P = P} key m) (key (k, v)) finds held refl)
 
 -- what a line turns
 turned : {line : Option Bool} {mid before : Bool} → Turns line mid before
@@ -126,7 +118,7 @@ module _ (trees : Trees) (tables : Tables) (holds : Holds trees tables) where
       → Finds (Blob name ∷ []) (trees 3) row hit
       → Answers record_layout tables.records name row hit
   record_looked name row hit finds =
-      found_in record_layout tables.records name row hit holds.records finds
+      row_found record_layout tables.records name finds holds.records refl
 
   -- a line by its period and its record's name
   pub line_looked : (period : ℕ) (name : List ℕ) (line : Option Bool)

@@ -1,5 +1,6 @@
 -- What the tables of books that calls made have.
-use Rattle.std.proofs.Common.{◌≡◌, ◌∙◌, ◌∷◌, [], ℕ, List, true, Some, length, pos, ap, refl, subst, sym}
+use Rattle.std.proofs.Common.{◌≡◌, ◌∙◌, ◌∷◌, [], ℕ, List, true, Some, length, pos, ap, refl, subst}
+use Rattle.std.proofs.Common.{sym}
 use Rattle.std.specs.FinMap.{get}
 use Rattle.sha2.proofs.Facts256.{length-sha256}
 use Rattle.smf_frames.specs.Framed.{data_of}
@@ -18,9 +19,10 @@ use Rattle.tree_rows.specs.Rows.{Finds}
 use Rattle.tree_tables.specs.Columns.{record_columns}
 use Rattle.tree_tables.specs.Fits.{HasMark, RecordFits}
 use Rattle.tree_tables.proofs.Layouts.{line_layout}
+use Rattle.tree_rows.proofs.Keyed.{row_found}
 use Rattle.book_audit.specs.OfBook.{sha_names}
 use Rattle.book_audit.specs.Own.{AreOwn}
-use Rattle.book_audit.proofs.Held.Looks.{found_in, record_looked}
+use Rattle.book_audit.proofs.Held.Looks.{record_looked}
 use Rattle.book_audit.proofs.Own.Rulings.{own_readable}
 
 module _ (trees : Trees) (own : AreOwn trees) where
@@ -83,5 +85,5 @@ module _ (trees : Trees) (own : AreOwn trees) where
   pub own_line_marked : (period : ℕ) (name : List ℕ) (row : Row)
       → Finds (Int (pos period) ∷ Blob name ∷ []) (trees 5) row true → HasMark (column row 2)
   own_line_marked period name row finds =
-      let found = found_in line_layout own_tables.lines (period, name) row true own.holds.lines finds in
+      let found = row_found line_layout own_tables.lines (period, name) finds own.holds.lines refl in
       (found.0, ap (λ (r : Row). column r 2) found.2)

@@ -1,20 +1,20 @@
 -- Sound trees hold tables: those of their rows.
-use Rattle.std.proofs.Common.{◌≡◌, ◌∙◌, ◌∷◌, [], ℕ, zero, suc, ℤ, pos, List, Bool, true, false, Option, Some, None}
-use Rattle.std.proofs.Common.{map, length, take, cond, ap, ap₂, refl, subst, sym, ◌⊎◌, inl, inr, arith, is_some}
+use Rattle.std.proofs.Common.{◌≡◌, ◌∙◌, ◌∷◌, [], ℕ, zero, suc, ℤ, pos, List, Bool, true, false}
+use Rattle.std.proofs.Common.{Option, Some, None, map, length, take, cond, ap, ap₂, refl, subst}
+use Rattle.std.proofs.Common.{sym, ◌⊎◌, inl, inr, arith, is_some, is_eq, Ordering, Less, Equal}
+use Rattle.std.proofs.Common.{Greater}
 use Rattle.std.specs.FinMap.{FinMap, contains_key, entries, entries_sorted, find, from_entries, get}
 use Rattle.std.specs.FinMap.{get-entries, get-from_entries}
 use Rattle.std.specs.Cmp.Lexicographic.{nat_list_cmp_total}
 use Rattle.std.specs.List.{AllByRecursion}
-use Rattle.std.specs.Ordering.{eq_by_cmp, is_eq, ordering_then}
-use Rattle.std.specs.declared.cmp.Ordering.{Ordering}
-use Rattle.std.specs.declared.cmp.Ordering.TheVariants.{Less, Equal, Greater}
+use Rattle.std.specs.Ordering.{eq_by_cmp, ordering_then}
 use Rattle.std.proofs.lemmas.Cmp.{eq_by_cmp_equiv}
 use Rattle.std.proofs.lemmas.List.{length-map}
 use Rattle.std.proofs.lemmas.List.Elements.{recursion_from_All}
 use Rattle.std.proofs.lemmas.Simd.{map-map}
-use Rattle.sqlite_trees.specs.Tree.{IsAscending, Trees, from_key}
-use Rattle.sqlite_trees.proofs.ListLemmas.{all-map, all_weaker, ascending-map, ascending_from_map, ascending_weaker}
-use Rattle.sqlite_value.specs.Keys.{plain}
+use Rattle.sqlite_trees.specs.Tree.{IsAscending, Trees}
+use Rattle.sqlite_trees.proofs.ListLemmas.{all-map, all_weaker, ascending-map, ascending_from_map}
+use Rattle.sqlite_trees.proofs.ListLemmas.{ascending_weaker}
 use Rattle.sqlite_value.specs.Order.{Row, column, row_cmp, value_cmp}
 use Rattle.sqlite_value.specs.declared.value.Value.TheVariants.{Blob, Int}
 use Rattle.smf_frames.specs.Framed.{record_with}
@@ -30,11 +30,10 @@ use Rattle.table_model.specs.TablesOf.{close_entries, row_key, tariff_entries, u
 use Rattle.table_model.proofs.UnderNumbers.{entries-numbers}
 use Rattle.tree_rows.specs.Indexes.{IsKeyOf, index_answer}
 use Rattle.tree_rows.specs.Layouts.{row_of, rows_of}
-use Rattle.tree_rows.specs.Rows.{IsFirst}
 use Rattle.tree_rows.proofs.IndexOrders.{by_bytes_exact}
 use Rattle.tree_rows.proofs.Indexes.{indexed}
 use Rattle.tree_rows.proofs.IndexLists.{index_names_all}
-use Rattle.tree_rows.proofs.Maps.{looked_up}
+use Rattle.tree_rows.proofs.Keyed.{row_found}
 use Rattle.tree_tables.specs.Columns.{choice_columns, closed_columns, detail_columns}
 use Rattle.tree_tables.specs.Columns.{record_columns}
 use Rattle.tree_tables.specs.Holds.{AreUnderOwnKeys, Holds, by_shown, choice_name_index}
@@ -43,14 +42,13 @@ use Rattle.tree_tables.specs.Holds.{identity_key, mark_key, marks}
 use Rattle.tree_tables.proofs.ChoiceRows.{chosen_named}
 use Rattle.tree_tables.proofs.CountedRows.{detail_named, get_counted}
 use Rattle.tree_tables.proofs.DetailOrders.{by_shown_exact, by_shown_total}
-use Rattle.tree_tables.proofs.Layouts.{choice_layout, choice_name_layout, day_layout}
-use Rattle.tree_tables.proofs.Layouts.{detail_layout, detail_order}
-use Rattle.tree_tables.proofs.Layouts.{identity_layout, line_layout, mark_layout, record_layout}
-use Rattle.tree_tables.proofs.Layouts.{tariff_layout}
+use Rattle.tree_tables.proofs.Layouts.{choice_layout, choice_name_layout, day_layout, detail_layout}
+use Rattle.tree_tables.proofs.Layouts.{detail_order, identity_layout, line_layout, mark_layout}
+use Rattle.tree_tables.proofs.Layouts.{record_layout, tariff_layout}
 use Rattle.tree_tables.proofs.RecordIndexes.{identity_named, mark_named}
 use Rattle.tree_tables.proofs.RowsRead.{same_blob, same_count, same_int, same_text}
-use Rattle.book_audit.specs.ChoiceRows.{IsMade, Made, said}
 use Rattle.consistent_tables.specs.DueRows.{due_entry}
+use Rattle.book_audit.specs.ChoiceRows.{IsMade, Made, said}
 use Rattle.book_audit.specs.Details.{ShowsCounted}
 use Rattle.book_audit.specs.Entries.{IsEntry}
 use Rattle.book_audit.specs.Records.{IsRight, Told, counted_prices}
@@ -58,8 +56,9 @@ use Rattle.book_audit.specs.SoundTrees.{AreSound}
 use Rattle.book_audit.specs.Trees.{HasKey}
 use Rattle.book_audit.specs.Walks.{AreRising, AreWide, key_in}
 use Rattle.book_audit.specs.declared.audited.Counts.{Counts as Numbers}
-use Rattle.book_audit.specs.declared.finding.Tree.TheVariants.{ChoiceNames, Days, Details, Identities}
-use Rattle.book_audit.specs.declared.finding.Tree.TheVariants.{Lines, Marks, Records, Tariffs}
+use Rattle.book_audit.specs.declared.finding.Tree.TheVariants.{ChoiceNames, Days, Details}
+use Rattle.book_audit.specs.declared.finding.Tree.TheVariants.{Identities, Lines, Marks, Records}
+use Rattle.book_audit.specs.declared.finding.Tree.TheVariants.{Tariffs}
 use Rattle.book_audit.specs.declared.rulings.Rulings.{Rulings}
 use Rattle.book_audit.proofs.Held.Indexes.{entries_rise, index_rows, rows_again, rows_at}
 use Rattle.book_audit.proofs.Held.Kept.{entries_kept, of_found, rows_kept}
@@ -354,11 +353,8 @@ module _ (trees : Trees) (numbers : Numbers) (sound : AreSound trees numbers) wh
       → (row : RecordRow) × (get records d.name ≡ Some row) × (d ≡ detail_shown (d.name, row))
   is_shown d one =
       let shows = of_one (ShowsCounted trees sound.rulings.closes.items) shown sound.details.each d one in
-      let held = shows.held in
-      let at = looked_up record_layout records d.name (record_columns shows.entry) held.there true
-      (subst (λ (rows : List Row). IsFirst (from_key plain (Blob d.name ∷ []) rows) (record_columns shows.entry) held.there)
-      (rows_kept record_layout Records (λ k. refl) es records_are sound.records.rising) held.first)
-      held.is in (
+      let at = row_found record_layout records d.name shows.held
+      (rows_kept record_layout Records (λ k. refl) es records_are sound.records.rising) refl in (
         at.0,
         at.1,
         shows.is ∙ same_shown d.name shows.entry (d.name, at.0) at.2,
