@@ -1,4 +1,4 @@
--- Rows, one after the other: a row by its columns; one row more of closes, tariffs, lines, choices
+-- Rows, one after the other: what is known by a row; one row more of closes, tariffs, lines, choices
 -- and records; the records that are counted; and the charge rows that are due.
 pub mod Columns
 pub mod Closes

@@ -27,7 +27,7 @@ use Rattle.table_model.specs.TablesOf.{tariff_entries, under_numbers}
 use Rattle.table_model.specs.Views.{last_named, name_has_identity}
 use Rattle.tree_tables.specs.Columns.{choice_columns, tariff_columns, tariff_value}
 use Rattle.tree_tables.specs.Holds.{Holds}
-use Rattle.tree_tables.proofs.RowsRead.{same_blob, same_count, same_text}
+use Rattle.tree_tables.proofs.RowsRead.{same_blob, same_text}
 use Rattle.consistent_tables.specs.Consistent.{choice_numbers}
 use Rattle.book_audit.specs.ChoiceRows.{AreChoices, IsMade, Made, said}
 use Rattle.book_audit.specs.Choices.{last_chosen}
@@ -38,6 +38,7 @@ use Rattle.book_audit.specs.declared.identity_rule.IdentityRule.{IdentityRule}
 use Rattle.book_audit.specs.declared.identity_rule.IdentityRule.TheVariants.{First, SecondSince}
 use Rattle.book_audit.proofs.Held.Looks.{record_looked}
 use Rattle.book_audit.proofs.Held.LastPassing.{found_made, last_passing}
+use Rattle.book_audit.proofs.Rows.Columns.{same_choice, same_values}
 
 -- ---- tariffs
 
@@ -133,21 +134,6 @@ identity_said row found bytes is =
 
 -- ---- choices
 
--- choices are known by their rows
-same_choices : (n : ℕ) (one other : List ChoiceRow)
-    → map choice_columns (under_numbers n one) ≡ map choice_columns (under_numbers n other)
-    → one ≡ other
-same_choices n [] [] same = refl
-same_choices n [] (b ∷ other) same = absurd (let e = same in cc)
-same_choices n (a ∷ one) [] same = absurd (let e = same in cc)
-same_choices n (a ∷ one) (b ∷ other) same =
-    let row : choice_columns (n, a) ≡ choice_columns (n, b) = (let e = same in cc) in
-    let rest : map choice_columns (under_numbers (suc n) one)
-    ≡ map choice_columns (under_numbers (suc n) other) = (let e = same in cc) in
-    let name = same_blob a.name b.name (ap (λ (r : Row). column r 1) row) in
-    let period = same_count a.period b.period (ap (λ (r : Row). column r 2) row) in
-    λ i. record { name = name i; period = period i } ∷ same_choices (suc n) one other rest i
-
 module _ (trees : Trees) (tables : Tables) (holds : Holds trees tables)
     (numbers : entries tables.choices ≡ choice_numbers tables) (rule : IdentityRule) where
   -- the record of a choice is held, and has its identity
@@ -173,8 +159,9 @@ module _ (trees : Trees) (tables : Tables) (holds : Holds trees tables)
       → (identity : List ℕ) → last_chosen chosen identity ≡ last_named tables identity
   last_said open_period chosen choices identity =
       let made : List Made = choices.made in
-      let same : said made ≡ values tables.choices = same_choices 1 (said made) (values tables.choices)
-      (sym choices.rows ∙ holds.choices ∙ ap (map choice_columns) numbers) in
+      let same : said made ≡ values tables.choices =
+      same_values choice_columns (λ n a b row. (same_choice n n a b row).1) 1 (said made)
+      (values tables.choices) (sym choices.rows ∙ holds.choices ∙ ap (map choice_columns) numbers) in
       let name : Made → List ℕ = λ (one : Made). one.1.name in
       choices.are.last identity
       ∙ either (option_map name (find (λ (one : Made). same_bytes identity one.0) (reverse made)))

@@ -1,6 +1,7 @@
 -- The choices of books that calls made, as they are read.
-use Rattle.std.proofs.Common.{◌≡◌, ◌≤◌, ◌<◌, ◌+◌, ◌∙◌, ◌++◌, ◌∷◌, [], ℕ, suc, List, Bool, true, false, not, ◌||◌}
-use Rattle.std.proofs.Common.{Option, Some, None, ap, ap₂, arith, length, map, pos, refl, subst, sym}
+use Rattle.std.proofs.Common.{◌≡◌, ◌≤◌, ◌<◌, ◌+◌, ◌∙◌, ◌++◌, ◌∷◌, [], ℕ, suc, List, Bool, true}
+use Rattle.std.proofs.Common.{false, not, ◌||◌, Option, Some, None, ap, ap₂, arith, length, map}
+use Rattle.std.proofs.Common.{pos, refl, subst, sym}
 use Rattle.std.specs.Prelude.{slice_get, unwrap_or, is_some, if◌then◌else◌, nat_le, ◌==◌}
 use Rattle.std.specs.FinMap.{entries, get, get-entries, get-from_entries}
 use Rattle.std.specs.List.{AllByRecursion}
@@ -15,8 +16,9 @@ use Rattle.sqlite_trees.specs.Tree.{IsAscending, Trees}
 use Rattle.sqlite_trees.proofs.ListLemmas.{all_weaker}
 use Rattle.sqlite_value.specs.Order.{Row, column}
 use Rattle.sqlite_value.specs.declared.value.Value.TheVariants.{Blob, Int}
-use Rattle.book_model.specs.Words.{Choice, IsChoiceOf, first_rule, is_unrivalled, last_period}
-use Rattle.book_model.specs.Words.{charged_of, identity_by, most_choices, same_bytes, second_rule}
+use Rattle.book_model.specs.Words.{Choice, IsChoiceOf, charged_of, first_rule, identity_by}
+use Rattle.book_model.specs.Words.{is_unrivalled, last_period, most_choices, same_bytes}
+use Rattle.book_model.specs.Words.{second_rule}
 use Rattle.table_model.specs.Readable.{IsTimely}
 use Rattle.table_model.specs.Tables.{ChoiceRow, RecordRow, Tables, never_adopted}
 use Rattle.table_model.specs.TablesOf.{choice_row, record_row, tables_of, under_numbers}
@@ -30,7 +32,7 @@ use Rattle.tree_tables.specs.Columns.{choice_columns}
 use Rattle.tree_tables.specs.Fits.{ChoiceFits}
 use Rattle.tree_tables.proofs.ChoiceRows.{chosen_named}
 use Rattle.tree_tables.proofs.Layouts.{choice_name_layout}
-use Rattle.tree_tables.proofs.RowsRead.{same_blob, same_count}
+use Rattle.tree_tables.proofs.RowsRead.{same_blob}
 use Rattle.book_audit.specs.ChoiceRows.{Made, entry_of, made_rows, row_of, said}
 use Rattle.book_audit.specs.OfBook.{sha_names}
 use Rattle.book_audit.specs.Own.{AreOwn}
@@ -47,17 +49,7 @@ use Rattle.book_audit.proofs.Rows.Counted.{some_kept}
 use Rattle.book_audit.proofs.Own.Rulings.{own_readable}
 use Rattle.book_audit.proofs.Walks.Keys.{one_of_all}
 use Rattle.book_audit.proofs.Sound.Tables.{long_numbers}
-
--- a choice's row says its number, its record's name and its period
-same_choice : (number other : ℕ) (one two : ChoiceRow)
-    → choice_columns (number, one) ≡ choice_columns (other, two) → (number ≡ other) × (one ≡ two)
-same_choice number other one two same =
-    let name : one.name ≡ two.name = same_blob one.name two.name (ap (λ (r : Row). column r 1) same) in
-    let period : one.period ≡ two.period =
-    same_count one.period two.period (ap (λ (r : Row). column r 2) same) in (
-      same_count number other (ap (λ (r : Row). column r 0) same),
-      λ i. record { name = name i; period = period i },
-    )
+use Rattle.book_audit.proofs.Rows.Columns.{same_choice}
 
 -- Of some choices, the one whose row stands behind those of others.
 record IsBehind (n : ℕ) (before : List ChoiceRow) (number : ℕ) (row : ChoiceRow)

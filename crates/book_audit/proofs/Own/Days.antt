@@ -1,10 +1,11 @@
 -- The charge rows of books that calls made are those that are due, in the order of their places.
-use Rattle.std.proofs.Common.{◌≡◌, ◌∙◌, ◌<◌, ◌≤◌, ◌+◌, ◌++◌, ◌==◌, ◌∷◌, [], ℕ, ℤ, Bool, true, false, List, ap, arith, cond, get_or, length, length-append, map, refl, subst, suc, sym, take, zero}
-use Rattle.std.specs.Prelude.{filter, int_lt, nat_lt, ◌≤ℤ◌}
+use Rattle.std.proofs.Common.{◌≡◌, ◌∙◌, ◌<◌, ◌≤◌, ◌+◌, ◌++◌, ◌==◌, ◌∷◌, [], ℕ, ℤ, Bool, true, false}
+use Rattle.std.proofs.Common.{List, ap, arith, cond, get_or, length, length-append, map, refl}
+use Rattle.std.proofs.Common.{subst, suc, sym, take, zero, filter, int_lt, nat_lt, ◌≤ℤ◌, int_cmp}
+use Rattle.std.proofs.Common.{nat_cmp, Less, Equal, Greater}
 use Rattle.std.specs.FinMap.{entries, entries_sorted, from_entries}
 use Rattle.std.specs.List.{AllByRecursion}
-use Rattle.std.specs.Ordering.{int_cmp, nat_cmp, ordering_then}
-use Rattle.std.specs.declared.cmp.Ordering.TheVariants.{Less, Equal, Greater}
+use Rattle.std.specs.Ordering.{ordering_then}
 use Rattle.std.specs.Cmp.{int_ranked}
 use Rattle.std.proofs.lemmas.Bool.Decides.{nat_tests}
 use Rattle.std.proofs.lemmas.Int.{ints}
@@ -21,14 +22,13 @@ use Rattle.book_model.specs.declared.row.RowKey.{RowKey}
 use Rattle.book_model.proofs.FilterLemmas.{entries-sorted}
 use Rattle.table_model.specs.PeriodRows.{by_period}
 use Rattle.table_model.specs.Tables.{RecordRow, Tables}
-use Rattle.table_model.specs.TablesOf.{row_key}
 use Rattle.consistent_tables.specs.Consistent.{counted_entries, is_counted_row, ruled}
 use Rattle.consistent_tables.specs.DueRows.{due_entry, period_from}
 use Rattle.consistent_tables.proofs.ClosePeriods.{least_period}
 use Rattle.tree_tables.specs.Columns.{day_columns, record_columns}
 use Rattle.tree_tables.specs.Fits.{ChargeFits, HasPeriod}
 use Rattle.tree_tables.proofs.Layouts.{day_layout}
-use Rattle.tree_tables.proofs.RowsRead.{all_entries, same_count, same_int, same_text}
+use Rattle.tree_tables.proofs.RowsRead.{all_entries}
 use Rattle.book_audit.specs.Own.{AreOwn}
 use Rattle.book_audit.specs.Records.{Told, counted_prices}
 use Rattle.book_audit.specs.SoundTrees.{AreRuled}
@@ -36,7 +36,7 @@ use Rattle.book_audit.specs.declared.rulings.Rulings.{Rulings}
 use Rattle.book_audit.proofs.Rows.Counted.{prices_are}
 use Rattle.book_audit.proofs.Held.Indexes.{entries_rise}
 use Rattle.book_audit.proofs.Held.Kept.{sorted}
-use Rattle.book_audit.proofs.Own.Lines.{one_record}
+use Rattle.book_audit.proofs.Rows.Columns.{same_records}
 use Rattle.book_audit.proofs.Own.Records.{closes_are}
 use Rattle.book_audit.proofs.Own.Tables.{own_consistent, own_fit, own_tables}
 
@@ -113,17 +113,6 @@ due_kept closes prices =
     (λ (a : RowKey) (b : RowKey). by_period by_key (due a).0 (due b).0 ≡ Less)
     (λ a b less. in_periods closes a b less) (keys_of prices) up))))
 
--- records are those of the tables where their rows are
-pub same_records : (one other : List (List ℕ × RecordRow))
-    → map record_columns one ≡ map record_columns other → one ≡ other
-same_records [] [] same = refl
-same_records [] (f ∷ other) same = absurd (let e = same in cc)
-same_records (e ∷ one) [] same = absurd (let e = same in cc)
-same_records (e ∷ one) (f ∷ other) same =
-    let first : record_columns e ≡ record_columns f = (let e = same in cc) in
-    let rest : map record_columns one ≡ map record_columns other = (let e = same in cc) in
-    λ i. one_record e f first i ∷ same_records one other rest i
-
 module _ (trees : Trees) (own : AreOwn trees) (rulings : Rulings) (are : AreRuled trees rulings) where
   -- the tree of charge rows is the rows that are due
   pub own_days : (told : List Told) → trees 3 ≡ map (λ (one : Told). record_columns one.0) told
@@ -169,24 +158,6 @@ module _ (trees : Trees) (own : AreOwn trees) where
           amount = (row.amount, refl);
         },
       ))))
-
--- charge rows are known by their rows
-pub one_day : (m n : ℕ) (a b : ChargeRow)
-    → day_columns ((m, row_key a), a) ≡ day_columns ((n, row_key b), b)
-    → ◌≡◌ {A = (ℕ × RowKey) × ChargeRow} ((m, row_key a), a) ((n, row_key b), b)
-one_day m n a b same =
-    let at : (k : ℕ) → column (day_columns ((m, row_key a), a)) k
-    ≡ column (day_columns ((n, row_key b), b)) k = λ k. ap (λ (r : Row). column r k) same in
-    let row : a ≡ b = λ i. record {
-      day = same_int a.day b.day (at 1) i;
-      centre = same_text a.centre b.centre (at 2) i;
-      shift = same_text a.shift b.shift (at 3) i;
-      count = same_count a.count b.count (at 4) i;
-      cpu = same_count a.cpu b.cpu (at 5) i;
-      blocks = same_count a.blocks b.blocks (at 6) i;
-      amount = same_count a.amount b.amount (at 7) i;
-    } in
-    λ i. ((same_count m n (at 0) i, row_key (row i)), row i)
 
 -- ---- rows that are read one after the other
 

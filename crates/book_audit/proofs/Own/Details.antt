@@ -1,13 +1,11 @@
 -- The details of books that calls made: a row for each record that is counted.
-use Rattle.std.proofs.Common.{◌≡◌, ◌∙◌, ◌∷◌, [], ℕ, Bool, true, false, List, Option, Some, None, ap, cond}
-use Rattle.std.proofs.Common.{is_some, map, refl, subst, sym, true≢false, ◌&&◌}
-use Rattle.std.specs.Prelude.{filter}
+use Rattle.std.proofs.Common.{◌≡◌, ◌∙◌, ◌∷◌, [], ℕ, Bool, true, false, List, Option, Some, None, ap}
+use Rattle.std.proofs.Common.{cond, is_some, map, refl, subst, sym, true≢false, ◌&&◌, filter, is_eq}
+use Rattle.std.proofs.Common.{is_lt, Ordering, Less, Equal, Greater}
 use Rattle.std.specs.Cmp.{tied_itself}
-use Rattle.std.specs.FinMap.{FinMap, contains_key, entries, find, get, get-entries, get-from_entries}
+use Rattle.std.specs.FinMap.{FinMap, contains_key, entries, find, get, get-entries}
+use Rattle.std.specs.FinMap.{get-from_entries}
 use Rattle.std.specs.List.{AllByRecursion}
-use Rattle.std.specs.Ordering.{is_eq, is_lt}
-use Rattle.std.specs.declared.cmp.Ordering.{Ordering}
-use Rattle.std.specs.declared.cmp.Ordering.TheVariants.{Less, Equal, Greater}
 use Rattle.std.proofs.lemmas.Cmp.{nat_list_cmp_total}
 use Rattle.std.proofs.lemmas.Option.{same_Some}
 use Rattle.sqlite_trees.specs.Tree.{Trees, from_key}
@@ -31,8 +29,8 @@ use Rattle.tree_rows.proofs.Maps.{prefix_of}
 use Rattle.tree_tables.specs.Columns.{detail_columns, record_columns}
 use Rattle.tree_tables.specs.Holds.{Holds, by_shown, counted_among, detail_index}
 use Rattle.tree_tables.specs.Fits.{DetailFits}
-use Rattle.tree_tables.proofs.DetailOrders.{by_shown_exact}
 use Rattle.tree_tables.specs.UsageData.{IsUsageData}
+use Rattle.tree_tables.proofs.DetailOrders.{by_shown_exact}
 use Rattle.tree_tables.proofs.CountedRows.{detail_named, get_counted}
 use Rattle.tree_tables.proofs.Layouts.{detail_layout, detail_order, record_layout, work_columns}
 use Rattle.tree_tables.proofs.RowsRead.{all_entries}
@@ -42,7 +40,7 @@ use Rattle.book_audit.specs.OwnRecords.{IsCountedIn, IsHeldIn}
 use Rattle.book_audit.specs.Records.{detail_key, spot_of}
 use Rattle.book_audit.proofs.Rows.Counted.{name_counted}
 use Rattle.book_audit.proofs.Held.Looks.{record_looked}
-use Rattle.book_audit.proofs.Own.Lines.{one_record}
+use Rattle.book_audit.proofs.Rows.Columns.{one_record}
 use Rattle.book_audit.proofs.Own.Tables.{own_consistent, own_record_fits, own_tables}
 use Rattle.book_audit.proofs.Sound.Tables.{both_there, first_less, some_unit}
 

@@ -1,5 +1,6 @@
 -- The rows of the lines and of the records of books that calls made.
-use Rattle.std.proofs.Common.{◌≡◌, ◌∙◌, ◌<◌, ◌≤◌, ◌+◌, ◌∷◌, [], ℕ, ℤ, Bool, false, true, IsSome, List, Option, Some, ap, arith, length, refl, subst, sym}
+use Rattle.std.proofs.Common.{◌≡◌, ◌∙◌, ◌<◌, ◌≤◌, ◌+◌, ◌∷◌, [], ℕ, ℤ, Bool, false, true, IsSome}
+use Rattle.std.proofs.Common.{List, Option, Some, ap, arith, length, refl, subst, sym}
 use Rattle.std.specs.FinMap.{entries, get}
 use Rattle.std.specs.List.{AllByRecursion}
 use Rattle.std.proofs.lemmas.Option.{same_Some}
@@ -14,8 +15,7 @@ use Rattle.tree_tables.specs.Columns.{line_columns, record_columns}
 use Rattle.tree_tables.specs.Fits.{HasPeriod, LineFits, RecordFits}
 use Rattle.tree_tables.specs.Holds.{Holds}
 use Rattle.tree_tables.proofs.Layouts.{line_layout, record_layout}
-use Rattle.tree_tables.proofs.LineRows.{same_flag}
-use Rattle.tree_tables.proofs.RowsRead.{all_entries, same_blob, same_count, same_int, same_text}
+use Rattle.tree_tables.proofs.RowsRead.{all_entries, same_blob}
 use Rattle.consistent_tables.specs.Consistent.{IsOwnLine, ruled}
 use Rattle.consistent_tables.specs.DueRows.{period_from}
 use Rattle.book_audit.specs.Own.{AreOwn}
@@ -25,38 +25,7 @@ use Rattle.book_audit.specs.declared.rulings.Rulings.{Rulings}
 use Rattle.book_audit.proofs.Held.Looks.{record_looked}
 use Rattle.book_audit.proofs.Own.Records.{closes_are}
 use Rattle.book_audit.proofs.Own.Tables.{own_consistent, own_fit, own_record_fits, own_tables}
-
--- records and lines are known by their rows
-pub one_record : (e f : List ℕ × RecordRow) → record_columns e ≡ record_columns f → e ≡ f
-one_record e f same =
-    let at : (n : ℕ) → column (record_columns e) n ≡ column (record_columns f) n =
-    λ n. ap (λ (r : Row). column r n) same in
-    λ i. (
-      same_blob e.0 f.0 (at 0) i,
-      record {
-        identity = same_blob e.1.identity f.1.identity (at 1) i;
-        data_bytes = same_blob e.1.data_bytes f.1.data_bytes (at 2) i;
-        priced = record {
-          day = same_int e.1.priced.day f.1.priced.day (at 3) i;
-          shift = same_text e.1.priced.shift f.1.priced.shift (at 4) i;
-          centre = same_text e.1.priced.centre f.1.priced.centre (at 5) i;
-          cpu = same_count e.1.priced.cpu f.1.priced.cpu (at 6) i;
-          excp = same_count e.1.priced.excp f.1.priced.excp (at 7) i;
-          amount = same_count e.1.priced.amount f.1.priced.amount (at 8) i;
-        };
-        charged = same_flag e.1.charged f.1.charged (at 9) i;
-        posted = same_flag e.1.posted f.1.posted (at 10) i;
-      },
-    )
-
-one_line : (e f : (ℕ × List ℕ) × Bool) → line_columns e ≡ line_columns f → e ≡ f
-one_line e f same =
-    let at : (n : ℕ) → column (line_columns e) n ≡ column (line_columns f) n =
-    λ n. ap (λ (r : Row). column r n) same in
-    λ i. (
-      (same_count e.0.0 f.0.0 (at 0) i, same_blob e.0.1 f.0.1 (at 1) i),
-      same_flag e.1 f.1 (at 2) i,
-    )
+use Rattle.book_audit.proofs.Rows.Columns.{one_line, one_record}
 
 -- a row is that of a record, or of a line, of the tables
 pub record IsRecordOf (tables : Tables) (row : Row) : Type 0 where

@@ -1,11 +1,10 @@
 -- The row of the book, the tariffs and the closes of books that calls made, as they are read.
-use Rattle.std.proofs.Common.{◌≡◌, ◌∙◌, ◌+◌, ◌<◌, ◌++◌, ◌∷◌, [], ℕ, suc, ℤ, List, All, true}
-use Rattle.std.proofs.Common.{Option, Some, None, Ok, ap, ap₂, arith, length, map, refl, subst, sym}
-use Rattle.std.specs.Prelude.{int_lt, is_some, if◌then◌else◌, ◌&&◌, nat_le, nat_lt, unwrap_or}
+use Rattle.std.proofs.Common.{◌≡◌, ◌∙◌, ◌+◌, ◌<◌, ◌++◌, ◌∷◌, [], ℕ, suc, ℤ, List, All, true, Option}
+use Rattle.std.proofs.Common.{Some, None, Ok, ap, arith, length, map, refl, subst, sym, int_lt}
+use Rattle.std.proofs.Common.{is_some, if◌then◌else◌, ◌&&◌, nat_le, nat_lt, unwrap_or, int_cmp}
 use Rattle.std.specs.List.{AllByRecursion, last_or}
 use Rattle.std.specs.List.Sorted.{IsStrictlySortedBy}
 use Rattle.std.specs.Option.{option_map_or}
-use Rattle.std.specs.Ordering.{int_cmp}
 use Rattle.std.proofs.lemmas.Bool.Decides.{nat_tests}
 use Rattle.std.proofs.lemmas.List.Elements.{All-head, All-tail}
 use Rattle.sqlite_trees.specs.Tree.{Trees}
@@ -22,9 +21,9 @@ use Rattle.table_model.proofs.UnderNumbers.{entries-numbers}
 use Rattle.tree_tables.specs.Columns.{book_columns, closed_columns, tariff_columns, tariff_value}
 use Rattle.tree_tables.specs.Fits.{BookFits, CloseFits, HasCount, TariffFits}
 use Rattle.tree_tables.specs.declared.closed_rows.Close.{Close}
+use Rattle.tree_tables.specs.Stored.{close_entry}
 use Rattle.tree_tables.proofs.RowsRead.{same_count, same_int, same_text}
 use Rattle.tree_tables.proofs.RulingRows.{closes_fit, tariff_fits as row_fits}
-use Rattle.tree_tables.specs.Stored.{close_entry}
 use Rattle.book_audit.specs.OfBook.{sha_names}
 use Rattle.book_audit.specs.Own.{AreOwn}
 use Rattle.book_audit.specs.OwnChoices.{AreItsRulings}
@@ -33,6 +32,7 @@ use Rattle.book_audit.specs.Rulings.{AreClosed, HasOneRow, IsNextClose}
 use Rattle.book_audit.specs.declared.identity_rule.IdentityRule.{IdentityRule}
 use Rattle.book_audit.specs.declared.identity_rule.IdentityRule.TheVariants.{First, SecondSince}
 use Rattle.book_audit.specs.declared.rulings.BookRow.{BookRow as Read}
+use Rattle.book_audit.proofs.Rows.Columns.{same_values}
 
 -- books that calls made can be read back
 pub own_readable : (trees : Trees) (own : AreOwn trees) → IsReadable sha_names own.book
@@ -148,20 +148,6 @@ tariff_said row day text its is =
 
 -- ---- closes
 
--- the rows of closes through these days are those of no others
-pub same_closes : (n : ℕ) (days others : List ℤ)
-    → map closed_columns (close_entries n days) ≡ map closed_columns (close_entries n others)
-    → days ≡ others
-same_closes n [] [] same = refl
-same_closes n [] (other ∷ others) same = absurd (let e = same in cc)
-same_closes n (day ∷ days) [] same = absurd (let e = same in cc)
-same_closes n (day ∷ days) (other ∷ others) same =
-    let one : closed_columns (n, day) ≡ closed_columns (n, other) = (let e = same in cc) in
-    let rest : map closed_columns (close_entries (suc n) days)
-    ≡ map closed_columns (close_entries (suc n) others) = (let e = same in cc) in
-    ap₂ (λ (d : ℤ) (ds : List ℤ). d ∷ ds) (same_int day other (ap (λ (r : Row). column r 1) one))
-    (same_closes (suc n) days others rest)
-
 -- the rows of the tree
 own_close_rows : (trees : Trees) (own : AreOwn trees)
     → trees 2 ≡ map closed_columns (close_entries 1 own.book.rulings.closes)
@@ -171,7 +157,8 @@ own_close_rows trees own =
 pub own_closes : (trees : Trees) (own : AreOwn trees) (days : List ℤ) → AreClosed (trees 2) days
     → days ≡ own.book.rulings.closes
 own_closes trees own days closed =
-    same_closes 1 days own.book.rulings.closes (sym closed.are ∙ own_close_rows trees own)
+    same_values closed_columns (λ n a b row. same_int a b (ap (λ (r : Row). column r 1) row)) 1
+    days own.book.rulings.closes (sym closed.are ∙ own_close_rows trees own)
 
 -- a row behind those of some days is that of the next close
 next_from : (n : ℕ) (last : Option ℤ) (days closes : List ℤ) (close : Close) (more : List Row)

@@ -1,5 +1,6 @@
 -- The sums of records of books that calls made are within the limits.
-use Rattle.std.proofs.Common.{◌≡◌, ◌∙◌, ◌<◌, ◌≤◌, ◌+◌, ◌*◌, ◌^◌, ◌++◌, ◌∷◌, [], ℕ, Bool, true, false, List, ap, arith, cond, length, length-append, map, refl, sym}
+use Rattle.std.proofs.Common.{◌≡◌, ◌∙◌, ◌<◌, ◌≤◌, ◌+◌, ◌*◌, ◌^◌, ◌++◌, ◌∷◌, [], ℕ, Bool, true}
+use Rattle.std.proofs.Common.{false, List, ap, arith, cond, length, length-append, map, refl, sym}
 use Rattle.std.specs.Prelude.{sum_by}
 use Rattle.std.specs.FinMap.{entries}
 use Rattle.std.specs.List.{AllByRecursion}
@@ -22,8 +23,7 @@ use Rattle.book_audit.specs.OwnRecords.{CanBeCounted}
 use Rattle.book_audit.specs.Records.{AreRecords, Told, counted_price, counted_prices}
 use Rattle.book_audit.specs.SoundTrees.{AreRuled}
 use Rattle.book_audit.specs.declared.rulings.Rulings.{Rulings}
-use Rattle.book_audit.proofs.Own.Days.{same_records}
-use Rattle.book_audit.proofs.Own.Lines.{one_record}
+use Rattle.book_audit.proofs.Rows.Columns.{one_record, same_records}
 use Rattle.book_audit.proofs.Own.Rulings.{own_book_row}
 use Rattle.book_audit.proofs.Own.Tables.{own_consistent, own_tables}
 

@@ -18,7 +18,8 @@ use Rattle.book_audit.specs.Own.{AreOwn}
 use Rattle.book_audit.specs.Records.{IsTold, Told, counted_prices}
 use Rattle.book_audit.specs.SoundTrees.{AreRuled}
 use Rattle.book_audit.specs.declared.rulings.Rulings.{Rulings}
-use Rattle.book_audit.proofs.Own.Days.{own_days, same_records}
+use Rattle.book_audit.proofs.Rows.Columns.{same_records}
+use Rattle.book_audit.proofs.Own.Days.{own_days}
 use Rattle.book_audit.proofs.Own.Records.{own_counts}
 use Rattle.book_audit.proofs.Own.Tables.{own_tables}
 

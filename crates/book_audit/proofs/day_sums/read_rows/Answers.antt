@@ -2,7 +2,8 @@ use Rattle.std.proofs.Common.{◌≡◌, ◌∙◌, ℕ, ℤ, List, map, take, a
 use Rattle.std.specs.Prelude.{is_ok}
 use Rattle.sqlite_value.specs.Order.{column}
 use Rattle.tree_tables.specs.Fits.{ChargeFits, HasPeriod}
-use Rattle.book_audit.proofs.Own.Days.{no_fewer, no_further, one_day, own_days_fit, row_next}
+use Rattle.book_audit.proofs.Rows.Columns.{one_day}
+use Rattle.book_audit.proofs.Own.Days.{no_fewer, no_further, own_days_fit, row_next}
 use Rattle.book_audit.proofs.Own.Steps.{never_with, passed_with}
 use Rattle.book_audit.proofs.Own.Stops.{err_said, stop_walked}
 use Rattle.sqlite_value.specs.Order.{Row}
