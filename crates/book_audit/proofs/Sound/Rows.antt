@@ -1,20 +1,18 @@
 -- The lines, the charge rows and the details of sound trees are those of the records that are counted.
-use Rattle.std.proofs.Common.{◌≡◌, ◌∙◌, ◌++◌, ◌<◌, ◌≤◌, ◌+◌, ◌∷◌, [], inl, inr, ℕ, ℤ, List, Bool, true, false}
-use Rattle.std.proofs.Common.{Option, Some, None, IsSome, ap, ap₂, arith, cond, drop, length, map, pos, refl, subst, sum}
-use Rattle.std.proofs.Common.{sum_by, sym, true≢false, ◌&&◌}
+use Rattle.std.proofs.Common.{◌≡◌, ◌∙◌, ◌++◌, ◌<◌, ◌≤◌, ◌∷◌, [], inl, inr, ℕ, ℤ, List, Bool, true}
+use Rattle.std.proofs.Common.{false, Option, Some, None, IsSome, ap, ap₂, arith, cond, drop, length}
+use Rattle.std.proofs.Common.{map, pos, refl, subst, sum, sum_by, sym, true≢false, ◌&&◌, filter}
+use Rattle.std.proofs.Common.{is_eq, is_lt, Ordering, Less, Equal, Greater}
 use Rattle.std.specs.Cmp.Lexicographic.{nat_list_cmp_total}
-use Rattle.std.specs.FinMap.{entries, find, from_entries, get, get-entries, get-from_entries, same_map}
-use Rattle.std.specs.FinMap.{values}
-use Rattle.std.specs.Ordering.{is_eq, is_lt, ordering_then}
-use Rattle.std.specs.Prelude.{filter}
-use Rattle.std.specs.declared.cmp.Ordering.{Ordering}
-use Rattle.std.specs.declared.cmp.Ordering.TheVariants.{Less, Equal, Greater}
+use Rattle.std.specs.FinMap.{entries, find, from_entries, get, get-entries, get-from_entries}
+use Rattle.std.specs.FinMap.{same_map, values}
+use Rattle.std.specs.Ordering.{ordering_then}
 use Rattle.std.proofs.lemmas.List.Sums.{sum-map}
 use Rattle.tariff_rules.specs.declared.priced.Priced.{Priced}
 use Rattle.sqlite_trees.specs.Tree.{Trees, from_key}
 use Rattle.sqlite_trees.proofs.ListLemmas.{all_weaker, map-map}
 use Rattle.sqlite_value.specs.Keys.{plain, prefix_cmp}
-use Rattle.sqlite_value.specs.Order.{Row, column, row_cmp, value_cmp}
+use Rattle.sqlite_value.specs.Order.{Row, row_cmp, value_cmp}
 use Rattle.sqlite_value.specs.declared.value.Value.{Value}
 use Rattle.sqlite_value.specs.declared.value.Value.TheVariants.{Blob, Int, Text}
 use Rattle.sqlite_value.proofs.OrderLemmas.{value_cmp-Blob}
@@ -28,13 +26,11 @@ use Rattle.tree_rows.proofs.IndexOrders.{by_bytes_exact}
 use Rattle.tree_rows.proofs.Keyed.{row_found}
 use Rattle.tree_rows.proofs.Maps.{head_is, prefix_of}
 use Rattle.tree_tables.proofs.Layouts.{line_layout, record_layout}
-use Rattle.tree_tables.proofs.LineRows.{same_flag}
-use Rattle.tree_tables.proofs.RowsRead.{same_blob, same_int}
 use Rattle.consistent_tables.specs.Consistent.{IsOwnLine, counted_entries, is_counted_row, ruled}
 use Rattle.consistent_tables.specs.DueRows.{due_entry, period_from}
 use Rattle.book_audit.specs.Lines.{IsLateLine}
 use Rattle.book_audit.specs.Details.{ShowsCounted}
-use Rattle.book_audit.specs.Records.{GoesBack, IsTold, Told, detail_key, later_periods, spot_of}
+use Rattle.book_audit.specs.Records.{HasPast, IsTold, Told, detail_key, spot_of}
 use Rattle.book_audit.specs.SoundTrees.{AreSound}
 use Rattle.book_audit.specs.Trees.{HasKey}
 use Rattle.book_audit.specs.declared.audited.Counts.{Counts as Numbers}
@@ -44,8 +40,10 @@ use Rattle.book_audit.proofs.Held.Kept.{of_found}
 use Rattle.book_audit.proofs.Held.Pigeonhole.{IsOneOf}
 use Rattle.book_audit.proofs.Sound.Records.{past_is}
 use Rattle.book_audit.proofs.Sound.Rulings.{closes_said, days, open_is}
-use Rattle.book_audit.proofs.Sound.Tables.{name_shown, names_shown, of_one, records_in_order, shown, shown_name}
-use Rattle.book_audit.proofs.Sound.Tables.{shown_row, so_many, tables_held, told_all, trees_hold}
+use Rattle.book_audit.proofs.Sound.Tables.{name_shown, names_shown, of_one, records_in_order, shown}
+use Rattle.book_audit.proofs.Sound.Tables.{shown_name, shown_row, so_many, tables_held, told_all}
+use Rattle.book_audit.proofs.Sound.Tables.{trees_hold}
+use Rattle.book_audit.proofs.Rows.Columns.{one_record}
 
 -- ---- details
 
@@ -194,18 +192,11 @@ module _ (trees : Trees) (numbers : Numbers) (sound : AreSound trees numbers) wh
       → (row : RecordRow) × (get tables.records d.name ≡ Some row) × (counts (d.name, row) ≡ true)
   shown_counted d one =
       let shows = of_one (ShowsCounted trees closes) (shown trees numbers sound) sound.details.each d one in
-      let entry : List ℕ × RecordRow = shows.entry in
       let at = row_found record_layout tables.records d.name shows.held
       (trees_hold trees numbers sound).records refl in
-      let name : entry.0 ≡ d.name = same_blob entry.0 d.name (ap (λ (r : Row). column r 0) at.2) in
-      let day : entry.1.priced.day ≡ at.0.priced.day =
-      same_int entry.1.priced.day at.0.priced.day (ap (λ (r : Row). column r 3) at.2) in
-      let charged : entry.1.charged ≡ at.0.charged =
-      same_flag entry.1.charged at.0.charged (ap (λ (r : Row). column r 9) at.2) in
-      let past : GoesBack (trees 5) d.name (length closes + 1) (later_periods closes at.0.priced.day)
-      at.0.charged true =
-      subst (λ (it : List ℕ × ℤ × Bool). GoesBack (trees 5) it.0 (length closes + 1)
-      (later_periods closes it.1) it.2 true) (λ i. (name i, day i, charged i)) shows.counted in
+      let past : HasPast (trees 5) closes (d.name, at.0) true =
+      subst (λ (e : List ℕ × RecordRow). HasPast (trees 5) closes e true)
+      (one_record shows.entry (d.name, at.0) at.2) shows.counted in
       (at.0, at.1, sym (past_is trees numbers sound d.name at.0 true past).0)
 
   -- and what is counted is shown
@@ -255,13 +246,12 @@ module _ (trees : Trees) (numbers : Numbers) (sound : AreSound trees numbers) wh
       (sym (get-from_entries line_layout.total sound.lines.lines (period, name)) ∙ there) in
       let at = row_found record_layout tables.records name late.held
       (trees_hold trees numbers sound).records refl in
-      let day : late.entry.1.priced.day ≡ at.0.priced.day =
-      same_int late.entry.1.priced.day at.0.priced.day (ap (λ (r : Row). column r 3) at.2) in
+      let same = one_record late.entry (name, at.0) at.2 in
       record {
         row = at.0;
         held = at.1;
         after = subst (λ (it : List ℤ × ℤ). period_from 1 it.0 it.1 < period)
-            (λ i. (sym (closes_said trees numbers sound) i, day i)) late.after;
+            (λ i. (sym (closes_said trees numbers sound) i, (same i).1.priced.day)) late.after;
         begun = subst (λ n. period ≤ n) (sym (open_is trees numbers sound)) late.begun;
       }
 

@@ -15,9 +15,8 @@ use Rattle.std.proofs.lemmas.Simd.{map-map}
 use Rattle.sqlite_trees.specs.Tree.{IsAscending, Trees}
 use Rattle.sqlite_trees.proofs.ListLemmas.{all-map, all_weaker, ascending-map, ascending_from_map}
 use Rattle.sqlite_trees.proofs.ListLemmas.{ascending_weaker}
-use Rattle.sqlite_value.specs.Order.{Row, column, row_cmp, value_cmp}
+use Rattle.sqlite_value.specs.Order.{Row, row_cmp, value_cmp}
 use Rattle.sqlite_value.specs.declared.value.Value.TheVariants.{Blob, Int}
-use Rattle.smf_frames.specs.Framed.{record_with}
 use Rattle.book_model.specs.Words.{by_bytes, detail_with, rows_of as charge_rows}
 use Rattle.book_model.specs.declared.detail.Detail.{Detail}
 use Rattle.book_model.specs.declared.row.ChargeRow.{ChargeRow}
@@ -35,7 +34,6 @@ use Rattle.tree_rows.proofs.Indexes.{indexed}
 use Rattle.tree_rows.proofs.IndexLists.{index_names_all}
 use Rattle.tree_rows.proofs.Keyed.{row_found}
 use Rattle.tree_tables.specs.Columns.{choice_columns, closed_columns, detail_columns}
-use Rattle.tree_tables.specs.Columns.{record_columns}
 use Rattle.tree_tables.specs.Holds.{AreUnderOwnKeys, Holds, by_shown, choice_name_index}
 use Rattle.tree_tables.specs.Holds.{choice_name_key, counted_among, detail_index, identity_index}
 use Rattle.tree_tables.specs.Holds.{identity_key, mark_key, marks}
@@ -46,7 +44,6 @@ use Rattle.tree_tables.proofs.Layouts.{choice_layout, choice_name_layout, day_la
 use Rattle.tree_tables.proofs.Layouts.{detail_order, identity_layout, line_layout, mark_layout}
 use Rattle.tree_tables.proofs.Layouts.{record_layout, tariff_layout}
 use Rattle.tree_tables.proofs.RecordIndexes.{identity_named, mark_named}
-use Rattle.tree_tables.proofs.RowsRead.{same_blob, same_count, same_int, same_text}
 use Rattle.consistent_tables.specs.DueRows.{due_entry}
 use Rattle.book_audit.specs.ChoiceRows.{IsMade, Made, said}
 use Rattle.book_audit.specs.Details.{ShowsCounted}
@@ -63,7 +60,7 @@ use Rattle.book_audit.specs.declared.rulings.Rulings.{Rulings}
 use Rattle.book_audit.proofs.Held.Indexes.{entries_rise, index_rows, rows_again, rows_at}
 use Rattle.book_audit.proofs.Held.Kept.{entries_kept, of_found, rows_kept}
 use Rattle.book_audit.proofs.Held.Pigeonhole.{IsOneOf, all_of_them, no_more}
-use Rattle.book_audit.proofs.Rows.Columns.{row_is}
+use Rattle.book_audit.proofs.Rows.Columns.{one_record, row_is}
 
 -- ---- the entries of the indexes, as their rows say
 
@@ -141,22 +138,6 @@ first_less (suc n) (x ∷ a) (y ∷ b) less =
       | Equal ↦ λ less. first_less n a b less
       | Greater ↦ λ less. absurd (let e = less in cc)
     ] less
-
--- what a record's row says that details show
-same_shown : (name : List ℕ) (one other : List ℕ × RecordRow)
-    → record_columns one ≡ record_columns other
-    → detail_with name (row_record one.1) one.1.priced ≡ detail_with name (row_record other.1) other.1.priced
-same_shown name one other same =
-    let bytes : one.1.data_bytes ≡ other.1.data_bytes = same_blob one.1.data_bytes other.1.data_bytes (ap (λ (r : Row). column r 2) same) in
-    let price : one.1.priced ≡ other.1.priced = λ i. record {
-      day = same_int one.1.priced.day other.1.priced.day (ap (λ (r : Row). column r 3) same) i;
-      shift = same_text one.1.priced.shift other.1.priced.shift (ap (λ (r : Row). column r 4) same) i;
-      centre = same_text one.1.priced.centre other.1.priced.centre (ap (λ (r : Row). column r 5) same) i;
-      cpu = same_count one.1.priced.cpu other.1.priced.cpu (ap (λ (r : Row). column r 6) same) i;
-      excp = same_count one.1.priced.excp other.1.priced.excp (ap (λ (r : Row). column r 7) same) i;
-      amount = same_count one.1.priced.amount other.1.priced.amount (ap (λ (r : Row). column r 8) same) i;
-    } in
-    λ i. detail_with name (record_with (bytes i)) (price i)
 
 -- a key that is found is one of those
 pub one_found : {Q : Type 0} (P : Q → Q → Ordering) → ((x y : Q) → P x y ≡ Equal → x ≡ y) → (q : Q)
@@ -357,7 +338,8 @@ module _ (trees : Trees) (numbers : Numbers) (sound : AreSound trees numbers) wh
       (rows_kept record_layout Records (λ k. refl) es records_are sound.records.rising) refl in (
         at.0,
         at.1,
-        shows.is ∙ same_shown d.name shows.entry (d.name, at.0) at.2,
+        shows.is ∙ ap (λ (e : List ℕ × RecordRow). detail_with d.name (row_record e.1) e.1.priced)
+            (one_record shows.entry (d.name, at.0) at.2),
       )
 
   abbrev index_shown : FinMap by_shown (Unit {0})
