@@ -1,7 +1,6 @@
 -- The sums of records of books that calls made are within the limits.
 use Rattle.std.proofs.Common.{◌≡◌, ◌∙◌, ◌<◌, ◌≤◌, ◌+◌, ◌*◌, ◌^◌, ◌++◌, ◌∷◌, [], ℕ, Bool, true}
-use Rattle.std.proofs.Common.{false, List, ap, arith, cond, length, length-append, map, refl, sym}
-use Rattle.std.specs.Prelude.{sum_by}
+use Rattle.std.proofs.Common.{false, List, ap, arith, cond, length, length-append, map, sym, sum_by}
 use Rattle.std.specs.FinMap.{entries}
 use Rattle.std.specs.List.{AllByRecursion}
 use Rattle.std.proofs.lemmas.List.{length-map}
@@ -26,6 +25,7 @@ use Rattle.book_audit.specs.declared.rulings.Rulings.{Rulings}
 use Rattle.book_audit.proofs.Rows.Columns.{one_record, same_records}
 use Rattle.book_audit.proofs.Own.Rulings.{own_book_row}
 use Rattle.book_audit.proofs.Own.Tables.{own_consistent, own_tables}
+use Rattle.book_audit.proofs.Rows.Counted.{sum_told, sum_values}
 
 -- what the records that are counted cost is no more than what all of them do
 few_counted : (told : List Told) → length (counted_prices told) ≤ length told
@@ -93,18 +93,6 @@ first_sum (one ∷ told) entry rest (e ∷ all) same =
     let so_far = sum_by-cons (λ (one : Told). one.0.1.priced.amount) one told in
     let more = first_sum told entry rest all others in
     omega (arith, its, sum, so_far, more)
-
--- the values of a map are as many as its entries, and so are their sums
-sum_values : (es : List (List ℕ × RecordRow))
-    → sum_by (λ (row : RecordRow). row.priced.amount) (map (λ (e : List ℕ × RecordRow). e.1) es)
-    ≡ sum_by (λ (e : List ℕ × RecordRow). e.1.priced.amount) es
-sum_values [] = refl
-sum_values (e ∷ es) =
-    let one = sum_by-cons (λ (row : RecordRow). row.priced.amount) e.1
-    (map (λ (e : List ℕ × RecordRow). e.1) es) in
-    let other = sum_by-cons (λ (e : List ℕ × RecordRow). e.1.priced.amount) e es in
-    let rest = sum_values es in
-    omega (arith, one, other, rest)
 
 module _ (trees : Trees) (own : AreOwn trees) where
   -- how many records there are, and what they cost
@@ -187,18 +175,6 @@ so_many told rest rows read =
     let both = length-append (map (λ (one : Told). record_columns one.0) told) rest in
     let mapped = length-map told (λ (one : Told). record_columns one.0) in
     omega (arith, long, both, mapped)
-
--- what records cost by what is told of them
-sum_told : (told : List Told)
-    → sum_by (λ (one : Told). one.0.1.priced.amount) told
-    ≡ sum_by (λ (e : List ℕ × RecordRow). e.1.priced.amount) (map (λ (one : Told). one.0) told)
-sum_told [] = refl
-sum_told (one ∷ told) =
-    let its = sum_by-cons (λ (one : Told). one.0.1.priced.amount) one told in
-    let other = sum_by-cons (λ (e : List ℕ × RecordRow). e.1.priced.amount) one.0
-    (map (λ (one : Told). one.0) told) in
-    let rest = sum_told told in
-    omega (arith, its, other, rest)
 
 -- the records that were read are as many as the rows
 pub count_is : (trees : Trees) (rulings : Rulings) (count amount : ℕ)

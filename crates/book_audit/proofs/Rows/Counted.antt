@@ -1,12 +1,11 @@
 -- The records that pass a test, as those that are counted do: their prices and their names.
-use Rattle.std.proofs.Common.{◌≡◌, ◌∙◌, ◌<◌, ◌++◌, ◌∷◌, [], ℕ, List, Bool, true, false, Some, ap, ap₂, arith}
-use Rattle.std.proofs.Common.{cond, length, map, refl, subst, sym, true≢false}
+use Rattle.std.proofs.Common.{◌≡◌, ◌∙◌, ◌<◌, ◌++◌, ◌∷◌, [], ℕ, List, Bool, true, false, Some, ap}
+use Rattle.std.proofs.Common.{ap₂, arith, cond, length, map, refl, subst, sym, true≢false, ◌+◌}
+use Rattle.std.proofs.Common.{sum_by, filter, if◌then◌else◌, is_eq, Less, Equal, Greater}
 use Rattle.std.specs.FinMap.{find}
 use Rattle.std.specs.List.{AllByRecursion}
-use Rattle.std.specs.Ordering.{is_eq}
-use Rattle.std.specs.Prelude.{filter, if◌then◌else◌}
-use Rattle.std.specs.declared.cmp.Ordering.TheVariants.{Less, Equal, Greater}
 use Rattle.std.proofs.lemmas.Option.{same_Some}
+use Rattle.std.proofs.lemmas.List.Folds.{fold-map}
 use Rattle.tariff_rules.specs.declared.priced.Priced.{Priced}
 use Rattle.book_model.specs.Words.{by_bytes}
 use Rattle.table_model.specs.Tables.{RecordRow}
@@ -90,3 +89,17 @@ some_kept test name row (e ∷ es) there passes =
 
     first : (e : List ℕ × RecordRow) (kept : List (List ℕ × RecordRow)) → 0 < length (e ∷ kept)
     first e kept = omega arith
+
+-- what records cost together: by their rows and by their entries,
+pub sum_values : (es : List (List ℕ × RecordRow))
+    → sum_by (λ (row : RecordRow). row.priced.amount) (map (λ (e : List ℕ × RecordRow). e.1) es)
+    ≡ sum_by (λ (e : List ℕ × RecordRow). e.1.priced.amount) es
+sum_values es =
+    fold-map (λ n (row : RecordRow). n + row.priced.amount) (λ (e : List ℕ × RecordRow). e.1) 0 es
+
+-- and by what is told of them
+pub sum_told : (told : List Told)
+    → sum_by (λ (one : Told). one.0.1.priced.amount) told
+    ≡ sum_by (λ (e : List ℕ × RecordRow). e.1.priced.amount) (map (λ (one : Told). one.0) told)
+sum_told told =
+    sym (fold-map (λ n (e : List ℕ × RecordRow). n + e.1.priced.amount) (λ (one : Told). one.0) 0 told)

@@ -1,16 +1,15 @@
 -- The lines, the charge rows and the details of sound trees are those of the records that are counted.
 use Rattle.std.proofs.Common.{◌≡◌, ◌∙◌, ◌++◌, ◌<◌, ◌≤◌, ◌∷◌, [], inl, inr, ℕ, ℤ, List, Bool, true}
 use Rattle.std.proofs.Common.{false, Option, Some, None, IsSome, ap, ap₂, arith, cond, drop, length}
-use Rattle.std.proofs.Common.{map, pos, refl, subst, sum, sum_by, sym, true≢false, ◌&&◌, filter}
-use Rattle.std.proofs.Common.{is_eq, is_lt, Ordering, Less, Equal, Greater}
+use Rattle.std.proofs.Common.{map, pos, refl, subst, sum_by, sym, true≢false, ◌&&◌, filter, is_eq}
+use Rattle.std.proofs.Common.{is_lt, Ordering, Less, Equal, Greater}
 use Rattle.std.specs.Cmp.Lexicographic.{nat_list_cmp_total}
 use Rattle.std.specs.FinMap.{entries, find, from_entries, get, get-entries, get-from_entries}
 use Rattle.std.specs.FinMap.{same_map, values}
 use Rattle.std.specs.Ordering.{ordering_then}
-use Rattle.std.proofs.lemmas.List.Sums.{sum-map}
 use Rattle.tariff_rules.specs.declared.priced.Priced.{Priced}
 use Rattle.sqlite_trees.specs.Tree.{Trees, from_key}
-use Rattle.sqlite_trees.proofs.ListLemmas.{all_weaker, map-map}
+use Rattle.sqlite_trees.proofs.ListLemmas.{all_weaker}
 use Rattle.sqlite_value.specs.Keys.{plain, prefix_cmp}
 use Rattle.sqlite_value.specs.Order.{Row, row_cmp, value_cmp}
 use Rattle.sqlite_value.specs.declared.value.Value.{Value}
@@ -35,7 +34,7 @@ use Rattle.book_audit.specs.SoundTrees.{AreSound}
 use Rattle.book_audit.specs.Trees.{HasKey}
 use Rattle.book_audit.specs.declared.audited.Counts.{Counts as Numbers}
 use Rattle.book_audit.specs.declared.finding.DetailKey.{DetailKey}
-use Rattle.book_audit.proofs.Rows.Counted.{name_counted, named, prices_are}
+use Rattle.book_audit.proofs.Rows.Counted.{name_counted, named, prices_are, sum_told, sum_values}
 use Rattle.book_audit.proofs.Held.Kept.{of_found}
 use Rattle.book_audit.proofs.Held.Pigeonhole.{IsOneOf}
 use Rattle.book_audit.proofs.Sound.Records.{past_is}
@@ -274,12 +273,7 @@ module _ (trees : Trees) (numbers : Numbers) (sound : AreSound trees numbers) wh
 
   pub amount_is : tables.book.amount ≡ sum_by (λ (row : RecordRow). row.priced.amount) (values tables.records)
   amount_is =
-      let amount : RecordRow → ℕ = λ (row : RecordRow). row.priced.amount in
-      let value : List ℕ × RecordRow → RecordRow = λ (entry : List ℕ × RecordRow). entry.1 in
-      sound.records.are.summed ∙ sym (sum-map (λ (one : Told). one.0.1.priced.amount) told_here)
-      ∙ ap sum (sym (map-map (λ (entry : List ℕ × RecordRow). entry.1.priced.amount) (λ (one : Told). one.0)
-      told_here)
-      ∙ ap (map (λ (entry : List ℕ × RecordRow). entry.1.priced.amount))
+      sound.records.are.summed ∙ sum_told told_here
+      ∙ ap (sum_by (λ (e : List ℕ × RecordRow). e.1.priced.amount))
       (sym (records_in_order trees numbers sound))
-      ∙ sym (map-map amount value (entries tables.records)))
-      ∙ sum-map amount (values tables.records)
+      ∙ sym (sum_values (entries tables.records))
