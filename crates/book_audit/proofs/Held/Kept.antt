@@ -1,13 +1,9 @@
 -- Rows of entries that rise by their keys are those of a map.
-use Rattle.std.proofs.Common.{◌≡◌, ◌∙◌, ◌++◌, ◌∷◌, [], List, Some, cond, map, length, take}
-use Rattle.std.proofs.Common.{ap, ap₂, refl, subst, sym}
-use Rattle.std.specs.Prelude.{T}
-use Rattle.std.specs.FinMap.{entries, find, from_entries, is_sorted}
+use Rattle.std.proofs.Common.{◌≡◌, ◌∙◌, ◌++◌, ◌∷◌, [], List, map, length, take, ap, ap₂, refl}
+use Rattle.std.proofs.Common.{subst, sym, T, is_lt, Ordering, Less}
+use Rattle.std.specs.FinMap.{entries, from_entries, is_sorted}
 use Rattle.std.specs.FinMap.Entries.{below_all}
 use Rattle.std.specs.List.{AllByRecursion}
-use Rattle.std.specs.Ordering.{is_eq, is_lt}
-use Rattle.std.specs.declared.cmp.Ordering.{Ordering}
-use Rattle.std.specs.declared.cmp.Ordering.TheVariants.{Less, Equal, Greater}
 use Rattle.sqlite_trees.specs.Tree.{IsAscending}
 use Rattle.sqlite_trees.proofs.ListLemmas.{ascending_from_map, ascending_weaker}
 use Rattle.sqlite_value.specs.Order.{Row, row_cmp}
@@ -67,17 +63,3 @@ module _ {K V : Type 0} {R : K → K → Ordering} (layout : Layout K V R) where
         → AreRising tree rows → rows ≡ rows_of layout (from_entries {R = R} es)
     rows_kept es are rising =
         are ∙ ap (map (row_of layout)) (sym (entries_kept es (subst (AreRising tree) are rising)))
-
-  -- what holds of each entry holds of what is found
-  pub of_found : (G : K × V → Type 0) (es : List (K × V)) → AllByRecursion G es → (k : K) (v : V)
-      → find R k es ≡ Some v → G (k, v)
-  of_found G [] each k v there = absurd (let e = there in cc)
-  of_found G (e ∷ es) each k v there =
-      elim (R k e.0) as (λ o. R k e.0 ≡ o → cond (is_eq o) (Some e.1) (find R k es) ≡ Some v → G (k, v)) [
-        | Less ↦ λ at later. of_found G es each.1 k v later
-        | Equal ↦ λ at it.
-            let same_key : e.0 ≡ k = sym (layout.exact k e.0 at) in
-            let same : e.1 ≡ v = let i = it in cc in
-            subst G (λ i. (same_key i, same i)) each.0
-        | Greater ↦ λ at later. of_found G es each.1 k v later
-      ] refl there

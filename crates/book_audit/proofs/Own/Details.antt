@@ -3,8 +3,7 @@ use Rattle.std.proofs.Common.{◌≡◌, ◌∙◌, ◌∷◌, [], ℕ, Bool, tr
 use Rattle.std.proofs.Common.{cond, is_some, map, refl, subst, sym, true≢false, ◌&&◌, filter, is_eq}
 use Rattle.std.proofs.Common.{is_lt, Ordering, Less, Equal, Greater}
 use Rattle.std.specs.Cmp.{tied_itself}
-use Rattle.std.specs.FinMap.{FinMap, contains_key, entries, find, get, get-entries}
-use Rattle.std.specs.FinMap.{get-from_entries}
+use Rattle.std.specs.FinMap.{FinMap, contains_key, entries, get, get-entries, get-from_entries}
 use Rattle.std.specs.List.{AllByRecursion}
 use Rattle.std.proofs.lemmas.Cmp.{nat_list_cmp_total}
 use Rattle.std.proofs.lemmas.Option.{same_Some}
@@ -15,7 +14,7 @@ use Rattle.sqlite_value.specs.Keys.{plain, prefix_cmp}
 use Rattle.sqlite_value.specs.Order.{Row, row_cmp}
 use Rattle.sqlite_value.specs.declared.value.Value.TheVariants.{Blob}
 use Rattle.sqlite_value.proofs.OrderLemmas.{row_cmp_total}
-use Rattle.book_model.specs.Words.{by_bytes, detail_with}
+use Rattle.book_model.specs.Words.{detail_with}
 use Rattle.book_model.specs.declared.detail.Detail.{Detail}
 use Rattle.table_model.specs.BookIn.{row_record}
 use Rattle.table_model.specs.DetailsRead.{detail_shown}
@@ -35,6 +34,7 @@ use Rattle.tree_tables.proofs.CountedRows.{detail_named, get_counted}
 use Rattle.tree_tables.proofs.Layouts.{detail_layout, detail_order, record_layout, work_columns}
 use Rattle.tree_tables.proofs.RowsRead.{all_entries}
 use Rattle.tree_tables.proofs.ShownDetails.{shown_fits}
+use Rattle.table_model.proofs.Finding.{get_one}
 use Rattle.book_audit.specs.Own.{AreOwn}
 use Rattle.book_audit.specs.OwnRecords.{IsCountedIn, IsHeldIn}
 use Rattle.book_audit.specs.Records.{detail_key, spot_of}
@@ -56,18 +56,6 @@ all_kept {X = X} G p (x ∷ xs) all =
       | true ↦ λ passes. ((all.0, passes), all_kept G p xs all.1)
       | false ↦ λ fails. all_kept G p xs all.1
     ] refl
-
--- what holds of each name holds of one that is found
-found_good : (G : List ℕ × Unit {0} → Type 0) (es : List (List ℕ × Unit {0})) → AllByRecursion G es
-    → (name : List ℕ) → find by_bytes name es ≡ Some tt → G (name, tt)
-found_good G [] all name there = absurd (let e = there in cc)
-found_good G (e ∷ es) all name there =
-    elim (by_bytes name e.0) as (λ o. by_bytes name e.0 ≡ o
-    → cond (is_eq o) (Some e.1) (find by_bytes name es) ≡ Some tt → G (name, tt)) [
-      | Less ↦ λ at behind. found_good G es all.1 name behind
-      | Equal ↦ λ at it. subst (λ (one : List ℕ). G (one, tt)) (sym (by_bytes_exact name e.0 at)) all.0
-      | Greater ↦ λ at behind. found_good G es all.1 name behind
-    ] refl there
 
 -- ---- the row of a record that is counted
 
@@ -174,9 +162,9 @@ own_shown_at trees own shown is =
     (all_entries record_layout.total record_layout.exact
     (λ (e : List ℕ × RecordRow). get tables.records e.0 ≡ Some e.1) tables.records
     (λ name row there. there)))) in
-    let found = found_good Good es all shown.name
-    (sym (get-from_entries nat_list_cmp_total es shown.name)
-    ∙ sym (ap (λ m. get m shown.name) (own_consistent trees own).counted)
+    let found = get_one nat_list_cmp_total by_bytes_exact
+    (λ (name : List ℕ) (it : Unit {0}). Good (name, it)) es all shown.name tt
+    (sym (ap (λ m. get m shown.name) (own_consistent trees own).counted)
     ∙ some_unit (get tables.counted shown.name) both.0) in
     let same : found.0 ≡ key.0 = same_Some found.0 key.0 (sym found.1 ∙ both.1) in (
       key.0,

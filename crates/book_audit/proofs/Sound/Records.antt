@@ -1,7 +1,7 @@
 -- The records of sound trees are right by their tables.
 use Rattle.std.proofs.Common.{◌≡◌, ◌∙◌, ◌+◌, ◌-◌, ◌||◌, ℕ, ℤ, List, Bool, true, false, Option, Some}
 use Rattle.std.proofs.Common.{None, ap, ap₂, arith, length, map, not, refl, subst, sym}
-use Rattle.std.specs.FinMap.{get, get-from_entries}
+use Rattle.std.specs.FinMap.{get}
 use Rattle.std.specs.Option.{option_map_or}
 use Rattle.std.specs.Prelude.{if◌then◌else◌, nat_lt}
 use Rattle.sqlite_trees.specs.Tree.{Trees}
@@ -14,6 +14,7 @@ use Rattle.tree_tables.proofs.Layouts.{record_layout}
 use Rattle.consistent_tables.specs.Consistent.{AreInTurn, IsOwnRow, charged_back, is_counted_row}
 use Rattle.consistent_tables.specs.Consistent.{periods_after, ruled}
 use Rattle.consistent_tables.specs.DueRows.{period_from}
+use Rattle.table_model.proofs.Finding.{get_one}
 use Rattle.book_audit.specs.Days.{is_closed}
 use Rattle.book_audit.specs.Marks.{is_posted_so}
 use Rattle.book_audit.specs.OfBook.{sha_names}
@@ -23,7 +24,6 @@ use Rattle.book_audit.specs.declared.audited.Counts.{Counts as Numbers}
 use Rattle.book_audit.proofs.Rows.Closes.{closed_is}
 use Rattle.book_audit.proofs.Held.Looks.{alone_looked, line_looked, past_told}
 use Rattle.book_audit.proofs.Held.Rulings.{last_said}
-use Rattle.book_audit.proofs.Held.Kept.{of_found}
 use Rattle.book_audit.proofs.Sound.Rulings.{choices_numbered, closes_said, days, identity_is}
 use Rattle.book_audit.proofs.Sound.Rulings.{open_is, price_is}
 use Rattle.book_audit.proofs.Sound.Tables.{right_of, tables_held, told_all, trees_hold}
@@ -74,13 +74,13 @@ module _ (trees : Trees) (numbers : Numbers) (sound : AreSound trees numbers) wh
   its_past : (name : List ℕ) (row : RecordRow) → get tables.records name ≡ Some row
       → IsPast (name, row)
   its_past name row there =
-      of_found record_layout IsPast (map (λ (told : Told). told.0) (told_all trees numbers sound))
+      get_one record_layout.total record_layout.exact
+      (λ (name : List ℕ) (row : RecordRow). IsPast (name, row))
+      (map (λ (told : Told). told.0) (told_all trees numbers sound))
       (all-map IsPast (λ (told : Told). told.0) (told_all trees numbers sound)
       (all_weaker (IsTold trees closes) (λ (told : Told). IsPast told.0)
       (λ told is. (told.1, is.past)) (told_all trees numbers sound)
-      sound.records.are.past)) name row
-      (sym (get-from_entries record_layout.total
-      (map (λ (told : Told). told.0) (told_all trees numbers sound)) name) ∙ there)
+      sound.records.are.past)) name row there
 
   module _ (name : List ℕ) (row : RecordRow) (there : get tables.records name ≡ Some row) where
     right : IsRight trees sound.rulings (name, row)

@@ -27,6 +27,7 @@ use Rattle.tree_rows.proofs.Maps.{head_is, prefix_of}
 use Rattle.tree_tables.proofs.Layouts.{line_layout, record_layout}
 use Rattle.consistent_tables.specs.Consistent.{IsOwnLine, counted_entries, is_counted_row, ruled}
 use Rattle.consistent_tables.specs.DueRows.{due_entry, period_from}
+use Rattle.table_model.proofs.Finding.{get_one}
 use Rattle.book_audit.specs.Lines.{IsLateLine}
 use Rattle.book_audit.specs.Details.{ShowsCounted}
 use Rattle.book_audit.specs.Records.{HasPast, IsTold, Told, detail_key, spot_of}
@@ -35,7 +36,6 @@ use Rattle.book_audit.specs.Trees.{HasKey}
 use Rattle.book_audit.specs.declared.audited.Counts.{Counts as Numbers}
 use Rattle.book_audit.specs.declared.finding.DetailKey.{DetailKey}
 use Rattle.book_audit.proofs.Rows.Counted.{name_counted, named, prices_are, sum_told, sum_values}
-use Rattle.book_audit.proofs.Held.Kept.{of_found}
 use Rattle.book_audit.proofs.Held.Pigeonhole.{IsOneOf}
 use Rattle.book_audit.proofs.Sound.Records.{past_is}
 use Rattle.book_audit.proofs.Sound.Rulings.{closes_said, days, open_is}
@@ -240,9 +240,9 @@ module _ (trees : Trees) (numbers : Numbers) (sound : AreSound trees numbers) wh
   late_line : (period : ℕ) (name : List ℕ) (plus : Bool) → get tables.lines (period, name) ≡ Some plus
       → IsOwnLine tables period name
   late_line period name plus there =
-      let late = of_found line_layout (IsLateLine (trees 3) closes) sound.lines.lines sound.lines.each
-      (period, name) plus
-      (sym (get-from_entries line_layout.total sound.lines.lines (period, name)) ∙ there) in
+      let late = get_one line_layout.total line_layout.exact
+      (λ (place : ℕ × List ℕ) (plus : Bool). IsLateLine (trees 3) closes (place, plus))
+      sound.lines.lines sound.lines.each (period, name) plus there in
       let at = row_found record_layout tables.records name late.held
       (trees_hold trees numbers sound).records refl in
       let same = one_record late.entry (name, at.0) at.2 in

@@ -27,6 +27,7 @@ use Rattle.table_model.specs.Tables.{ChoiceRow, ChoiceTable, CountedTable, DayTa
 use Rattle.table_model.specs.Tables.{RecordTable, Tables}
 use Rattle.table_model.specs.TablesOf.{close_entries, row_key, tariff_entries, under_numbers}
 use Rattle.table_model.proofs.UnderNumbers.{entries-numbers}
+use Rattle.table_model.proofs.Finding.{get_one}
 use Rattle.tree_rows.specs.Indexes.{IsKeyOf, index_answer}
 use Rattle.tree_rows.specs.Layouts.{row_of, rows_of}
 use Rattle.tree_rows.proofs.IndexOrders.{by_bytes_exact}
@@ -58,7 +59,7 @@ use Rattle.book_audit.specs.declared.finding.Tree.TheVariants.{Identities, Lines
 use Rattle.book_audit.specs.declared.finding.Tree.TheVariants.{Tariffs}
 use Rattle.book_audit.specs.declared.rulings.Rulings.{Rulings}
 use Rattle.book_audit.proofs.Held.Indexes.{entries_rise, index_rows, rows_again, rows_at}
-use Rattle.book_audit.proofs.Held.Kept.{entries_kept, of_found, rows_kept}
+use Rattle.book_audit.proofs.Held.Kept.{entries_kept, rows_kept}
 use Rattle.book_audit.proofs.Held.Pigeonhole.{IsOneOf, all_of_them, no_more}
 use Rattle.book_audit.proofs.Rows.Columns.{one_record, row_is}
 
@@ -239,10 +240,10 @@ module _ (trees : Trees) (numbers : Numbers) (sound : AreSound trees numbers) wh
   pub right_of : (name : List ℕ) (row : RecordRow) → get records name ≡ Some row
       → IsRight trees sound.rulings (name, row)
   right_of name row there =
-      of_found record_layout (IsRight trees sound.rulings) es
+      get_one record_layout.total record_layout.exact
+      (λ (name : List ℕ) (row : RecordRow). IsRight trees sound.rulings (name, row)) es
       (all-map (IsRight trees sound.rulings) (λ (told : Told). told.0) told_all
-      sound.records.are.right) name row
-      (sym (get-from_entries record_layout.total es name) ∙ there)
+      sound.records.are.right) name row there
 
   pub so_many : numbers.records ≡ length (entries records)
   so_many =
@@ -283,9 +284,9 @@ module _ (trees : Trees) (numbers : Numbers) (sound : AreSound trees numbers) wh
   named_of : (number : ℕ) (row : ChoiceRow) → get choices number ≡ Some row
       → IsNamed (trees 9) (number, row)
   named_of number row there =
-      of_found choice_layout (IsNamed (trees 9)) (under_numbers 1 (said made))
-      (all_named trees sound.rulings 1 made sound.ruled.choices.are.each) number row
-      (sym (get-from_entries choice_layout.total (under_numbers 1 (said made)) number) ∙ there)
+      get_one choice_layout.total choice_layout.exact
+      (λ (number : ℕ) (row : ChoiceRow). IsNamed (trees 9) (number, row)) (under_numbers 1 (said made))
+      (all_named trees sound.rulings 1 made sound.ruled.choices.are.each) number row there
 
   choice_name_rows : trees 9 ≡ rows_of choice_name_layout (choice_name_index choices)
   choice_name_rows =
@@ -309,9 +310,9 @@ module _ (trees : Trees) (numbers : Numbers) (sound : AreSound trees numbers) wh
 
   placed : AreUnderOwnKeys days
   placed key row there =
-      of_found day_layout (λ (e : (ℕ × RowKey) × ChargeRow). row_key e.1 ≡ e.0.1) due
-      (all_placed sound.rulings.closes.items (charge_rows (counted_prices told_all))) key row
-      (sym (get-from_entries day_layout.total due key) ∙ there)
+      get_one day_layout.total day_layout.exact
+      (λ (key : ℕ × RowKey) (row : ChargeRow). row_key row ≡ key.1) due
+      (all_placed sound.rulings.closes.items (charge_rows (counted_prices told_all))) key row there
 
   -- the details
   abbrev pub shown : List Detail
