@@ -111,10 +111,10 @@ module _ {Q : Type 0} {P : Q → Q → Ordering} (layout : Layout Q (Unit {0}) P
 
   module _ {K V : Type 0} {R : K → K → Ordering} {key : K × V → Q} {name : Q → K}
       (index : IsIndexKey R P key name) (m : FinMap R V) (tree : Tree)
-      (wide : (q : Q) → length (layout.key q) ≡ key_width tree) (qs : List Q)
-      (rising : AreRising tree (rows_at qs))
-      (each : (k : K) (v : V) → get m k ≡ Some v → HasKey (layout.key (key (k, v))) (rows_at qs))
-      (long : length qs ≡ length (entries m)) where
+      (wide : (q : Q) → length (layout.key q) ≡ key_width tree) (qs : List Q) {rows : List Row}
+      (are : rows ≡ rows_at qs) (rising : AreRising tree rows)
+      (each : (k : K) (v : V) → get m k ≡ Some v → HasKey (layout.key (key (k, v))) rows)
+      (long : length rows ≡ length (entries m)) where
     abbrev own_entries : List (Q × Unit {0})
     own_entries = entries (index_of {P = P} key m)
 
@@ -126,17 +126,20 @@ module _ {Q : Type 0} {P : Q → Q → Ordering} (layout : Layout Q (Unit {0}) P
     each_one =
         all_weaker (IsKeyOf key name m) (λ (q : Q). IsOneOf q qs)
         (λ q is. subst (λ (x : Q). IsOneOf x qs) is.2
-        (has_one qs (key (name q, is.0)) (each (name q) is.0 is.1))) own_keys
+        (has_one qs (key (name q, is.0)) (subst (HasKey (layout.key (key (name q, is.0)))) are
+        (each (name q) is.0 is.1)))) own_keys
         (recursion_from_All (IsKeyOf key name m) own_keys (index_names_all index m))
 
     -- there are as many
     as_many : length own_keys ≡ length qs
-    as_many = index_many index m ∙ sym long
+    as_many =
+        index_many index m ∙ sym long ∙ ap length are
+        ∙ length-map qs (λ (q : Q). row_of layout (q, tt))
 
     -- so the rows of the tree are those of the index
-    pub index_rows : rows_at qs ≡ rows_of layout (index_of {P = P} key m)
+    pub index_rows : rows ≡ rows_of layout (index_of {P = P} key m)
     index_rows =
         let up = ascending-map (λ (a : Q) (b : Q). P a b ≡ Less) (λ (e : Q × Unit {0}). e.0)
         own_entries (entries_rise P own_entries (entries_sorted (index_of {P = P} key m))) in
-        sym (rows_again own_entries
-        ∙ ap rows_at (all_of_them layout.total qs own_keys up (keys_up tree wide qs rising) each_one as_many))
+        are ∙ sym (rows_again own_entries ∙ ap rows_at (all_of_them layout.total qs own_keys up
+        (keys_up tree wide qs (subst (AreRising tree) are rising)) each_one as_many))

@@ -29,7 +29,7 @@ use Rattle.table_model.specs.TablesOf.{close_entries, row_key, tariff_entries, u
 use Rattle.table_model.proofs.UnderNumbers.{entries-numbers}
 use Rattle.table_model.proofs.Finding.{get_one}
 use Rattle.tree_rows.specs.Indexes.{IsKeyOf, index_answer}
-use Rattle.tree_rows.specs.Layouts.{row_of, rows_of}
+use Rattle.tree_rows.specs.Layouts.{Layout, row_of, rows_of}
 use Rattle.tree_rows.proofs.IndexOrders.{by_bytes_exact}
 use Rattle.tree_rows.proofs.Indexes.{indexed}
 use Rattle.tree_rows.proofs.IndexLists.{index_names_all}
@@ -37,7 +37,7 @@ use Rattle.tree_rows.proofs.Keyed.{row_found}
 use Rattle.tree_tables.specs.Columns.{choice_columns, closed_columns, detail_columns}
 use Rattle.tree_tables.specs.Holds.{AreUnderOwnKeys, Holds, by_shown, choice_name_index}
 use Rattle.tree_tables.specs.Holds.{choice_name_key, counted_among, detail_index, identity_index}
-use Rattle.tree_tables.specs.Holds.{identity_key, mark_key, marks}
+use Rattle.tree_tables.specs.Holds.{marks}
 use Rattle.tree_tables.proofs.ChoiceRows.{chosen_named}
 use Rattle.tree_tables.proofs.CountedRows.{detail_named, get_counted}
 use Rattle.tree_tables.proofs.DetailOrders.{by_shown_exact, by_shown_total}
@@ -52,12 +52,13 @@ use Rattle.book_audit.specs.Entries.{IsEntry}
 use Rattle.book_audit.specs.Records.{IsRight, Told, counted_prices}
 use Rattle.book_audit.specs.SoundTrees.{AreSound}
 use Rattle.book_audit.specs.Trees.{HasKey}
-use Rattle.book_audit.specs.Walks.{AreRising, AreWide, key_in}
+use Rattle.book_audit.specs.Walks.{AreRising, AreWide, key_in, width}
 use Rattle.book_audit.specs.declared.audited.Counts.{Counts as Numbers}
 use Rattle.book_audit.specs.declared.finding.Tree.TheVariants.{ChoiceNames, Days, Details}
 use Rattle.book_audit.specs.declared.finding.Tree.TheVariants.{Identities, Lines, Marks, Records}
 use Rattle.book_audit.specs.declared.finding.Tree.TheVariants.{Tariffs}
 use Rattle.book_audit.specs.declared.rulings.Rulings.{Rulings}
+use Rattle.book_audit.specs.declared.finding.Tree.{Tree}
 use Rattle.book_audit.proofs.Held.Indexes.{entries_rise, index_rows, rows_again, rows_at}
 use Rattle.book_audit.proofs.Held.Kept.{entries_kept, rows_kept}
 use Rattle.book_audit.proofs.Held.Pigeonhole.{IsOneOf, all_of_them, no_more}
@@ -65,40 +66,40 @@ use Rattle.book_audit.proofs.Rows.Columns.{one_record, row_is}
 
 -- ---- the entries of the indexes, as their rows say
 
-identities_in : (rows : List Row) → AllByRecursion (IsEntry Identities) rows → AreWide Identities rows
-    → (keys : List (List ℕ × List ℕ)) × (rows ≡ rows_at identity_layout keys)
-identities_in [] each wide = ([], refl)
-identities_in (row ∷ rows) each wide =
-    let more = identities_in rows each.1 wide.1 in (
-      (each.0.0.0, each.0.1.0) ∷ more.0,
-      ap₂ (λ (one : Row) (others : List Row). one ∷ others)
-          (row_is row (Blob each.0.0.0 ∷ Blob each.0.1.0 ∷ []) wide.0 (each.0.0.1, (each.0.1.1, tt)))
-          more.1,
-    )
+-- the keys of a tree's rows, if each row has one
+keys_in : {Q : Type 0} {P : Q → Q → Ordering} (layout : Layout Q (Unit {0}) P) (tree : Tree)
+    → ((row : Row) → IsEntry tree row → length row ≡ width tree
+    → (q : Q) × (row ≡ row_of layout (q, tt)))
+    → (rows : List Row) → AllByRecursion (IsEntry tree) rows → AreWide tree rows
+    → (keys : List Q) × (rows ≡ rows_at layout keys)
+keys_in layout tree key_of [] each wide = ([], refl)
+keys_in layout tree key_of (row ∷ rows) each wide =
+    let one = key_of row each.0 wide.0 in
+    let more = keys_in layout tree key_of rows each.1 wide.1 in
+    (one.0 ∷ more.0, ap₂ (λ (r : Row) (rs : List Row). r ∷ rs) one.1 more.1)
 
-marks_in : (rows : List Row) → AllByRecursion (IsEntry Marks) rows → AreWide Marks rows
-    → (keys : List (ℕ × (List ℕ × List ℕ))) × (rows ≡ rows_at mark_layout keys)
-marks_in [] each wide = ([], refl)
-marks_in (row ∷ rows) each wide =
-    let more = marks_in rows each.1 wide.1 in
-    let one = each.0 in (
-      (one.0.0, (one.1.0, one.2.0)) ∷ more.0,
-      ap₂ (λ (one : Row) (others : List Row). one ∷ others)
-          (row_is row (Int (pos one.0.0) ∷ Blob one.1.0 ∷ Blob one.2.0 ∷ []) wide.0
-          (one.0.1, (one.1.1, (one.2.1, tt)))) more.1,
-    )
+-- of identities, marks and choices
+identity_of : (row : Row) → IsEntry Identities row → length row ≡ width Identities
+    → (q : List ℕ × List ℕ) × (row ≡ row_of identity_layout (q, tt))
+identity_of row its wide = (
+  (its.0.0, its.1.0),
+  row_is row (Blob its.0.0 ∷ Blob its.1.0 ∷ []) wide (its.0.1, (its.1.1, tt)),
+)
 
-choice_names_in : (rows : List Row) → AllByRecursion (IsEntry ChoiceNames) rows
-    → AreWide ChoiceNames rows
-    → (keys : List (List ℕ × ℕ)) × (rows ≡ rows_at choice_name_layout keys)
-choice_names_in [] each wide = ([], refl)
-choice_names_in (row ∷ rows) each wide =
-    let more = choice_names_in rows each.1 wide.1 in (
-      (each.0.0.0, each.0.1.0) ∷ more.0,
-      ap₂ (λ (one : Row) (others : List Row). one ∷ others)
-          (row_is row (Blob each.0.0.0 ∷ Int (pos each.0.1.0) ∷ []) wide.0 (each.0.0.1, (each.0.1.1, tt)))
-          more.1,
-    )
+mark_of : (row : Row) → IsEntry Marks row → length row ≡ width Marks
+    → (q : ℕ × (List ℕ × List ℕ)) × (row ≡ row_of mark_layout (q, tt))
+mark_of row its wide = (
+  (its.0.0, (its.1.0, its.2.0)),
+  row_is row (Int (pos its.0.0) ∷ Blob its.1.0 ∷ Blob its.2.0 ∷ []) wide
+      (its.0.1, (its.1.1, (its.2.1, tt))),
+)
+
+choice_name_of : (row : Row) → IsEntry ChoiceNames row → length row ≡ width ChoiceNames
+    → (q : List ℕ × ℕ) × (row ≡ row_of choice_name_layout (q, tt))
+choice_name_of row its wide = (
+  (its.0.0, its.1.0),
+  row_is row (Blob its.0.0 ∷ Int (pos its.1.0) ∷ []) wide (its.0.1, (its.1.1, tt)),
+)
 
 -- ---- values under numbers
 
@@ -252,25 +253,17 @@ module _ (trees : Trees) (numbers : Numbers) (sound : AreSound trees numbers) wh
 
   identity_rows : trees 6 ≡ rows_of identity_layout (identity_index records)
   identity_rows =
-      let keys = identities_in (trees 6) sound.identities.each sound.identities.wide in
-      keys.1
-      ∙ index_rows identity_layout identity_named records Identities (λ q. refl) keys.0
-      (subst (AreRising Identities) keys.1 sound.identities.rising)
-      (λ name row there. subst (HasKey (identity_layout.key (identity_key (name, row)))) keys.1
-      (right_of name row there).marked.found.identity)
-      (sym (length-map keys.0 (λ (q : List ℕ × List ℕ). row_of identity_layout (q, tt)))
-      ∙ sym (ap length keys.1) ∙ sym sound.identities.are ∙ so_many)
+      let keys = keys_in identity_layout Identities identity_of (trees 6) sound.identities.each
+      sound.identities.wide in
+      index_rows identity_layout identity_named records Identities (λ q. refl) keys.0 keys.1
+      sound.identities.rising (λ name row there. (right_of name row there).marked.found.identity)
+      (sym sound.identities.are ∙ so_many)
 
   mark_rows : trees 7 ≡ rows_of mark_layout (marks records)
   mark_rows =
-      let keys = marks_in (trees 7) sound.marks.each sound.marks.wide in
-      keys.1
-      ∙ index_rows mark_layout mark_named records Marks (λ q. refl) keys.0
-      (subst (AreRising Marks) keys.1 sound.marks.rising)
-      (λ name row there. subst (HasKey (mark_layout.key (mark_key (name, row)))) keys.1
-      (right_of name row there).marked.found.mark)
-      (sym (length-map keys.0 (λ (q : ℕ × (List ℕ × List ℕ)). row_of mark_layout (q, tt)))
-      ∙ sym (ap length keys.1) ∙ sym sound.marks.are ∙ so_many)
+      let keys = keys_in mark_layout Marks mark_of (trees 7) sound.marks.each sound.marks.wide in
+      index_rows mark_layout mark_named records Marks (λ q. refl) keys.0 keys.1 sound.marks.rising
+      (λ name row there. (right_of name row there).marked.found.mark) (sym sound.marks.are ∙ so_many)
 
   abbrev pub made : List Made
   made = sound.ruled.choices.made
@@ -290,14 +283,11 @@ module _ (trees : Trees) (numbers : Numbers) (sound : AreSound trees numbers) wh
 
   choice_name_rows : trees 9 ≡ rows_of choice_name_layout (choice_name_index choices)
   choice_name_rows =
-      let keys = choice_names_in (trees 9) sound.ruled.choice_names.each sound.ruled.choice_names.wide in
-      keys.1
-      ∙ index_rows choice_name_layout chosen_named choices ChoiceNames (λ q. refl) keys.0
-      (subst (AreRising ChoiceNames) keys.1 sound.ruled.choice_names.rising)
-      (λ number row there. subst (λ (rows : List Row). IsNamed rows (number, row)) keys.1
-      (named_of number row there))
-      (sym (length-map keys.0 (λ (q : List ℕ × ℕ). row_of choice_name_layout (q, tt)))
-      ∙ sym (ap length keys.1) ∙ sym sound.ruled.choice_names.are ∙ sound.ruled.choices.are.counted
+      let names = sound.ruled.choice_names in
+      let keys = keys_in choice_name_layout ChoiceNames choice_name_of (trees 9) names.each names.wide in
+      index_rows choice_name_layout chosen_named choices ChoiceNames (λ q. refl) keys.0 keys.1
+      names.rising named_of
+      (sym names.are ∙ sound.ruled.choices.are.counted
       ∙ sym (length-map made (λ (one : Made). one.1)) ∙ sym (long_numbers 1 (said made))
       ∙ ap length (sym choices_in_order))
 
