@@ -1,15 +1,28 @@
 -- A rising list of elements of another rising list is that list, if it is as long.
-use Rattle.std.proofs.Common.{◌≡◌, ◌≤◌, ◌⊎◌, inl, inr, List, [], ◌∷◌, length, refl, subst, sym, arith, ap₂}
+use Rattle.std.proofs.Common.{◌≡◌, ◌≤◌, ◌⊎◌, inl, inr, List, [], ◌∷◌, length, refl, subst, sym}
+use Rattle.std.proofs.Common.{arith, ap₂, Ordering, Less}
 use Rattle.std.specs.Cmp.{IsTotalOrder, tied_itself}
 use Rattle.std.specs.List.{AllByRecursion}
-use Rattle.std.specs.declared.cmp.Ordering.{Ordering}
-use Rattle.std.specs.declared.cmp.Ordering.TheVariants.{Less}
 use Rattle.sqlite_trees.specs.Tree.{IsAscending}
 
 -- it is one of these
 abbrev pub IsOneOf : {X : Type 0} → X → List X → Type 0
 IsOneOf x [] = ⊥
 IsOneOf x (y ∷ ys) = (x ≡ y) ⊎ IsOneOf x ys
+
+-- what holds of all elements holds of one of them
+pub of_one : {X : Type 0} (G : X → Type 0) (xs : List X) → AllByRecursion G xs → (x : X)
+    → IsOneOf x xs → G x
+of_one G [] each x one = absurd one
+of_one G (y ∷ xs) each x (inl is) = subst G (sym is) each.0
+of_one G (y ∷ xs) each x (inr later) = of_one G xs each.1 x later
+
+-- each element is one of them
+pub each_is_one : {X : Type 0} (all xs : List X) → ((x : X) → IsOneOf x xs → IsOneOf x all)
+    → AllByRecursion (λ (x : X). IsOneOf x all) xs
+each_is_one all [] among = tt
+each_is_one all (x ∷ xs) among =
+    (among x (inl refl), each_is_one all xs (λ y later. among y (inr later)))
 
 module _ {X : Type 0} {R : X → X → Ordering} (total : IsTotalOrder R) where
   abbrev pub Rises : List X → Type 0

@@ -36,10 +36,10 @@ use Rattle.book_audit.specs.Trees.{HasKey}
 use Rattle.book_audit.specs.declared.audited.Counts.{Counts as Numbers}
 use Rattle.book_audit.specs.declared.finding.DetailKey.{DetailKey}
 use Rattle.book_audit.proofs.Rows.Counted.{name_counted, named, prices_are, sum_told, sum_values}
-use Rattle.book_audit.proofs.Held.Pigeonhole.{IsOneOf}
+use Rattle.book_audit.proofs.Held.Pigeonhole.{IsOneOf, of_one}
 use Rattle.book_audit.proofs.Sound.Records.{past_is}
 use Rattle.book_audit.proofs.Sound.Rulings.{closes_said, days, open_is}
-use Rattle.book_audit.proofs.Sound.Tables.{name_shown, names_shown, of_one, records_in_order, shown}
+use Rattle.book_audit.proofs.Sound.Tables.{name_shown, names_shown, records_in_order, shown}
 use Rattle.book_audit.proofs.Sound.Tables.{shown_name, shown_row, so_many, tables_held, told_all}
 use Rattle.book_audit.proofs.Sound.Tables.{trees_hold}
 use Rattle.book_audit.proofs.Rows.Columns.{one_record}

@@ -12,6 +12,7 @@ use Rattle.std.proofs.lemmas.Cmp.{eq_by_cmp_equiv}
 use Rattle.std.proofs.lemmas.List.{length-map}
 use Rattle.std.proofs.lemmas.List.Elements.{recursion_from_All}
 use Rattle.std.proofs.lemmas.Simd.{map-map}
+use Rattle.std.proofs.lemmas.Option.{same_Some}
 use Rattle.sqlite_trees.specs.Tree.{IsAscending, Trees}
 use Rattle.sqlite_trees.proofs.ListLemmas.{all-map, all_weaker, ascending-map, ascending_from_map}
 use Rattle.sqlite_trees.proofs.ListLemmas.{ascending_weaker}
@@ -61,7 +62,7 @@ use Rattle.book_audit.specs.declared.rulings.Rulings.{Rulings}
 use Rattle.book_audit.specs.declared.finding.Tree.{Tree}
 use Rattle.book_audit.proofs.Held.Indexes.{entries_rise, index_rows, rows_again, rows_at}
 use Rattle.book_audit.proofs.Held.Kept.{entries_kept, rows_kept}
-use Rattle.book_audit.proofs.Held.Pigeonhole.{IsOneOf, all_of_them, no_more}
+use Rattle.book_audit.proofs.Held.Pigeonhole.{IsOneOf, all_of_them, each_is_one, no_more, of_one}
 use Rattle.book_audit.proofs.Rows.Columns.{one_record, row_is}
 
 -- ---- the entries of the indexes, as their rows say
@@ -154,19 +155,6 @@ one_found {Q = Q} P exact q (e ∷ es) there =
       | Greater ↦ λ at later. inr (one_found P exact q es later)
     ] refl there
 
--- what holds of all elements holds of one of them
-pub of_one : {X : Type 0} (G : X → Type 0) (xs : List X) → AllByRecursion G xs → (x : X) → IsOneOf x xs → G x
-of_one G [] each x one = absurd one
-of_one G (y ∷ xs) each x (inl is) = subst G (sym is) each.0
-of_one G (y ∷ xs) each x (inr later) = of_one G xs each.1 x later
-
--- each element is one of them
-each_is_one : {X : Type 0} (all xs : List X) → ((x : X) → IsOneOf x xs → IsOneOf x all)
-    → AllByRecursion (λ (x : X). IsOneOf x all) xs
-each_is_one all [] among = tt
-each_is_one all (x ∷ xs) among =
-    (among x (inl refl), each_is_one all xs (λ y later. among y (inr later)))
-
 -- the names in details
 abbrev pub names_shown : List Detail → List (List ℕ × Unit {0})
 names_shown shown = map (λ (d : Detail). (d.name, tt)) shown
@@ -209,9 +197,6 @@ both_there false found row is = absurd (let e = is in cc)
 pub some_unit : (found : Option (Unit {0})) → is_some found ≡ true → found ≡ Some tt
 some_unit None is = absurd (let e = is in cc)
 some_unit (Some it) is = refl
-
-some_same : (one other : RecordRow) → Some one ≡ Some other → one ≡ other
-some_same one other same = cc
 
 -- the row of what is shown
 abbrev pub shown_row : Detail → Row
@@ -350,7 +335,7 @@ module _ (trees : Trees) (numbers : Numbers) (sound : AreSound trees numbers) wh
       ∙ some_unit (get counted q.name) both.0) in
       let it = is_shown named.0 named.1 in
       let same : it.0 ≡ is.0 =
-      some_same it.0 is.0 (sym it.1 ∙ ap (get records) named.2 ∙ both.1) in
+      same_Some it.0 is.0 (sym it.1 ∙ ap (get records) named.2 ∙ both.1) in
       subst (λ (d : Detail). IsOneOf d shown)
       (it.2 ∙ (λ i. detail_shown (named.2 i, same i)) ∙ is.2) named.1
 
