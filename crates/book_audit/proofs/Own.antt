@@ -2,7 +2,6 @@
 -- history of their choices, the entries of their indexes, and their tables; and the records, lines,
 -- charge rows, sums, details and choices that are read of them.
 pub mod Stops
-pub mod Steps
 pub mod Rulings
 pub mod History
 pub mod Entries

@@ -1,7 +1,7 @@
--- What stops an audit of books that calls made, over a store that is only looked at meanwhile.
+-- What stops an audit of books that calls made, over a store that is only looked at meanwhile; and
+-- where something is known of their trees.
 use Rattle.std.proofs.Common.{◌≡◌, ◌∙◌, List, false, true≢false, Result, Ok, Err, IfErr, is_ok}
-use Rattle.std.proofs.Common.{subst, sym}
-use Rattle.std.specs.Prelude.{IsErrAnd, MatchResult}
+use Rattle.std.proofs.Common.{subst, sym, IsErrAnd, IfOk, MatchResult}
 use Rattle.sqlite_trees.specs.Tree.{Trees}
 use Rattle.sqlite_trees.specs.View.{IsClean}
 use Rattle.sqlite_trees.specs.declared.error.StoreError.{StoreError}
@@ -34,6 +34,17 @@ pub err_said : {A E : Type 0} {Said : E → Type 0} (found : Result A E) → is_
     → IfErr found Said → (error : E) × Said error
 err_said (Ok value) refused said = absurd (true≢false refused)
 err_said (Err error) refused said = (error, said)
+
+-- what is said of a value that came, where errors were told otherwise
+pub said_ok : {A E D : Type 0} (Stands : E → D → Type 0) (Said : A → Type 0) (found : Result A E)
+    (made : Result A D) (value : A)
+    → MatchResult found (λ one. made ≡ Ok one) (λ error. IsErrAnd made (Stands error))
+    → made ≡ Ok value → IfOk found Said → Said value
+said_ok Stands Said (Ok one) made value cases was said =
+    let same : one ≡ value = (let e = sym cases ∙ was in cc) in
+    subst Said same said
+said_ok {A = A} {D = D} Stands Said (Err error) made value cases was said =
+    absurd (subst (λ (other : Result A D). IsErrAnd other (Stands error)) was cases)
 
 -- what is said of an error if a row fits, where it does
 pub err_fits : {A E Fits : Type 0} (Said : E → Type 0) (found : Result A E)
@@ -72,8 +83,8 @@ module _ {S : Type 0} (ghosts : Ghosts S) where
   pub stop_passed : {A : Type 0} (old new : S) (stop : Stop) (result : Result A Stop)
       → IsErrAnd result (λ other. other ≡ stop) → IsOwnStop ghosts old new stop
       → IfErr result (IsOwnStop ghosts old new)
-  stop_passed old new stop (Err other) is own = λ finding said. own finding (sym is ∙ said)
-  stop_passed old new stop (Ok value) is own = absurd is
+  stop_passed old new stop result is own =
+      err_passed (IsOwnStop ghosts old new) stop result is own
 
   -- the trees are still those of books that calls made after looks
   pub own_still : (start mid : S) → OnlyLooks ghosts start mid → IsClean (ghosts.view mid)
@@ -107,3 +118,19 @@ module _ {S : Type 0} (ghosts : Ghosts S) where
             (subst (λ (all : Trees). HasWalked tree walk.key (all (tree_number tree)) read.0)
             (sym (trees_stay ghosts start mid same back)) read.1),
       )))
+
+module _ {S A When : Type 0} (ghosts : Ghosts S) (old new : S) where
+  -- an error that is passed on stops so as well
+  pub passed_with : (stop : Stop) (result : Result A Stop) → IsErrAnd result (λ other. other ≡ stop)
+      → (When → IsOwnStop ghosts old new stop)
+      → IfErr result (λ stop. When → IsOwnStop ghosts old new stop)
+  passed_with stop result is own =
+      err_passed (λ (stop : Stop). When → IsOwnStop ghosts old new stop) stop result is own
+
+  -- where such trees can't come, all stops are so
+  pub never_with : (result : Result A Stop)
+      → (When → IsClean (ghosts.view new) → AreOwn (ghosts.view old).trees → ⊥)
+      → IfErr result (λ stop. When → IsOwnStop ghosts old new stop)
+  never_with result never =
+      each_err (λ (stop : Stop). When → IsOwnStop ghosts old new stop) result
+      (λ stop known finding said clean own. absurd (never known clean own))

@@ -8,20 +8,19 @@ use Rattle.book_model.specs.declared.detail.Detail.{Detail}
 use Rattle.tree_rows.specs.Calls.{OnlyLooks}
 use Rattle.tree_rows.proofs.Calls.{quiet_both}
 use Rattle.tree_tables.specs.Columns.{detail_columns}
+use Rattle.tree_tables.specs.Fits.{DetailFits}
+use Rattle.tree_tables.specs.Holds.{Holds}
 use Rattle.book_audit.specs.Details.{ShowsCounted}
 use Rattle.book_audit.specs.Walks.{AreRising, HasWalked, width}
 use Rattle.book_audit.specs.declared.finding.Tree.TheVariants.{Details}
+use Rattle.book_audit.specs.SoundTrees.{AreRuled}
 use Rattle.book_audit.proofs.Walks.Steps.{its_row, look_back, looks_on, no_look, read_all, read_on}
 use Rattle.book_audit.proofs.Walks.Steps.{trees_stay}
+use Rattle.book_audit.proofs.Own.Details.{IsShownOf, shown_had, shown_of, shown_row_fits}
+use Rattle.book_audit.proofs.Own.Stops.{err_said, never_with, passed_with, stop_on, stop_walked}
+use Rattle.book_audit.proofs.Own.Tables.{own_tables}
 use Rattle.std.specs.Prelude.{is_ok}
 use Rattle.table_model.specs.Tables.{Tables}
-use Rattle.tree_tables.specs.Fits.{DetailFits}
-use Rattle.tree_tables.specs.Holds.{Holds}
-use Rattle.book_audit.specs.SoundTrees.{AreRuled}
-use Rattle.book_audit.proofs.Own.Details.{IsShownOf, shown_had, shown_of, shown_row_fits}
-use Rattle.book_audit.proofs.Own.Steps.{never_with, passed_with}
-use Rattle.book_audit.proofs.Own.Stops.{err_said, stop_on, stop_walked}
-use Rattle.book_audit.proofs.Own.Tables.{own_tables}
 use Rattle.book_audit.proofs.details.check_details.Goals as goal
 
 -- the row of what is shown

@@ -1,5 +1,4 @@
-use Rattle.std.proofs.Common.{◌≡◌, ◌∙◌, List, ℕ, ap, false, rules, subst, sym}
-use Rattle.std.specs.Prelude.{is_ok}
+use Rattle.std.proofs.Common.{◌≡◌, ◌∙◌, List, ℕ, ap, false, rules, subst, sym, is_ok}
 use Rattle.smf_frames.specs.Framed.{record_with}
 use Rattle.sqlite_trees.specs.Tree.{Trees}
 use Rattle.sqlite_trees.specs.View.{IsClean}
@@ -15,8 +14,7 @@ use Rattle.tree_tables.specs.Stored.{stored_entry}
 use Rattle.tree_tables.specs.UsageData.{IsUsageData}
 use Rattle.book_audit.specs.Records.{detail_key, spot_of}
 use Rattle.book_audit.proofs.Own.Details.{counted_usage, detail_found}
-use Rattle.book_audit.proofs.Own.Steps.{never_with, passed_with}
-use Rattle.book_audit.proofs.Own.Stops.{err_fits, met_memory}
+use Rattle.book_audit.proofs.Own.Stops.{err_fits, met_memory, never_with, passed_with}
 use Rattle.book_audit.proofs.Walks.Steps.{look_back}
 use Rattle.book_audit.proofs.details.check_has_detail.Goals as goal
 

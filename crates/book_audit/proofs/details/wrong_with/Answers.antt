@@ -1,5 +1,5 @@
-use Rattle.std.proofs.Common.{IfSome, Option, ◌≡◌, ◌∙◌, ◌∷◌, [], List, ℕ, ap, false, true, rules, subst, sym}
-use Rattle.std.specs.Prelude.{is_ok}
+use Rattle.std.proofs.Common.{IfSome, Option, ◌≡◌, ◌∙◌, ◌∷◌, [], List, ℕ, ap, false, true, rules}
+use Rattle.std.proofs.Common.{subst, sym, is_ok}
 use Rattle.smf_frames.specs.Framed.{record_with}
 use Rattle.sqlite_trees.specs.Tree.{Trees}
 use Rattle.sqlite_trees.specs.View.{IsClean}
@@ -21,8 +21,8 @@ use Rattle.book_audit.specs.Own.{IsOwnStop}
 use Rattle.book_audit.specs.OwnRecords.{AreOwnOf, IsCountedIn}
 use Rattle.book_audit.proofs.Held.Looks.{record_looked}
 use Rattle.book_audit.proofs.Own.Details.{own_row, own_shown_at, own_usage}
-use Rattle.book_audit.proofs.Own.Steps.{said_ok}
-use Rattle.book_audit.proofs.Own.Stops.{each_err, err_fits, met_memory, stop_on, stop_passed}
+use Rattle.book_audit.proofs.Own.Stops.{each_err, err_fits, met_memory, said_ok, stop_on}
+use Rattle.book_audit.proofs.Own.Stops.{stop_passed}
 use Rattle.book_audit.proofs.Own.Tables.{own_tables}
 use Rattle.book_audit.proofs.Walks.Steps.{look_back, trees_stay}
 use Rattle.book_audit.proofs.details.wrong_with.Goals as goal

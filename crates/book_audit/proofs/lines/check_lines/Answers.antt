@@ -1,27 +1,25 @@
-use Rattle.std.proofs.Common.{◌≡◌, ◌∙◌, ◌++◌, ◌∷◌, [], ℕ, ℤ, Bool, List, length, map, ap, arith, length-append, refl, rules, subst, sym}
+use Rattle.std.proofs.Common.{◌≡◌, ◌∙◌, ◌++◌, ◌∷◌, [], ℕ, ℤ, Bool, List, length, map, ap, arith}
+use Rattle.std.proofs.Common.{length-append, refl, rules, subst, sym, is_ok}
 use Rattle.std.proofs.lemmas.List.{map-append}
 use Rattle.sqlite_trees.specs.Tree.{Trees}
 use Rattle.sqlite_trees.specs.View.{IsClean}
 use Rattle.sqlite_trees.proofs.ListLemmas.{all-append}
-use Rattle.sqlite_value.specs.Order.{Row}
+use Rattle.sqlite_value.specs.Order.{Row, column}
 use Rattle.tree_rows.specs.Calls.{OnlyLooks}
 use Rattle.tree_rows.proofs.Calls.{quiet_both}
 use Rattle.tree_tables.specs.Columns.{line_columns}
+use Rattle.tree_tables.specs.Fits.{HasPeriod, LineFits}
+use Rattle.tree_tables.specs.Holds.{Holds}
 use Rattle.book_audit.specs.Lines.{IsLateLine, line_entry}
 use Rattle.book_audit.specs.Walks.{AreRising, HasWalked, width}
 use Rattle.book_audit.specs.declared.finding.Tree.TheVariants.{Lines}
+use Rattle.book_audit.specs.SoundTrees.{AreRuled}
 use Rattle.book_audit.proofs.Walks.Steps.{its_row, look_back, looks_on, no_look, read_all, read_on}
 use Rattle.book_audit.proofs.Walks.Steps.{trees_stay}
-use Rattle.std.specs.Prelude.{is_ok}
-use Rattle.sqlite_value.specs.Order.{column}
-use Rattle.table_model.specs.Tables.{Tables}
-use Rattle.tree_tables.specs.Fits.{HasPeriod, LineFits}
-use Rattle.tree_tables.specs.Holds.{Holds}
-use Rattle.book_audit.specs.SoundTrees.{AreRuled}
 use Rattle.book_audit.proofs.Own.Lines.{IsLineOf, line_had, line_row_fits, lines_of}
-use Rattle.book_audit.proofs.Own.Steps.{never_with, passed_with}
-use Rattle.book_audit.proofs.Own.Stops.{err_said, stop_on, stop_walked}
+use Rattle.book_audit.proofs.Own.Stops.{err_said, never_with, passed_with, stop_on, stop_walked}
 use Rattle.book_audit.proofs.Own.Tables.{own_tables}
+use Rattle.table_model.specs.Tables.{Tables}
 use Rattle.book_audit.proofs.lines.check_lines.Goals as goal
 
 pub lines-init : goal.lines-init

@@ -5,8 +5,7 @@ use Rattle.tree_rows.specs.Calls.{OnlyLooks}
 use Rattle.tree_tables.specs.Stored.{stored_entry}
 use Rattle.book_audit.specs.OwnRecords.{IsCountedIn}
 use Rattle.book_audit.proofs.Own.Records.{own_counts, own_data}
-use Rattle.book_audit.proofs.Own.Steps.{passed_with}
-use Rattle.book_audit.proofs.Own.Stops.{stop_on}
+use Rattle.book_audit.proofs.Own.Stops.{passed_with, stop_on}
 use Rattle.book_audit.proofs.Own.Tables.{own_tables}
 use Rattle.book_audit.proofs.Walks.Steps.{look_back, trees_stay}
 use Rattle.book_audit.proofs.records.check_record.Goals as goal

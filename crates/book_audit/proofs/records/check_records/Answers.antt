@@ -11,8 +11,7 @@ use Rattle.book_audit.specs.Records.{AreRecords}
 use Rattle.book_audit.specs.SoundTrees.{AreRuled}
 use Rattle.book_audit.specs.declared.rulings.Rulings.{Rulings}
 use Rattle.book_audit.proofs.Own.Entries.{identities_many, marks_many}
-use Rattle.book_audit.proofs.Own.Steps.{passed_with}
-use Rattle.book_audit.proofs.Own.Stops.{stop_on}
+use Rattle.book_audit.proofs.Own.Stops.{passed_with, stop_on}
 use Rattle.book_audit.proofs.Own.Sums.{amount_is, count_is, own_held, own_sums}
 use Rattle.book_audit.proofs.Own.Tables.{own_tables}
 use Rattle.book_audit.proofs.Walks.Steps.{look_back, looks_on, trees_stay}

@@ -1,33 +1,33 @@
-use Rattle.std.proofs.Common.{◌≡◌, ◌≤◌, ◌+◌, ◌∙◌, ◌++◌, ◌∷◌, [], ℕ, List, Some, false, map, length, ap}
-use Rattle.std.proofs.Common.{arith, rules, subst, sym}
+use Rattle.std.proofs.Common.{◌≡◌, ◌≤◌, ◌+◌, ◌∙◌, ◌++◌, ◌∷◌, [], ℕ, List, Some, false, map, length}
+use Rattle.std.proofs.Common.{ap, arith, rules, subst, sym, is_ok}
 use Rattle.sqlite_trees.specs.Tree.{Trees}
 use Rattle.sqlite_trees.specs.View.{IsClean}
+use Rattle.sqlite_trees.specs.declared.error.StoreError.{StoreError}
+use Rattle.sqlite_trees.specs.declared.error.StoreError.TheVariants.{OutOfMemory}
 use Rattle.sqlite_value.specs.Order.{Row}
 use Rattle.tree_rows.specs.Calls.{OnlyLooks}
 use Rattle.tree_rows.proofs.Calls.{quiet_both}
 use Rattle.tree_tables.specs.Columns.{record_columns}
 use Rattle.tree_tables.specs.Stored.{stored_entry}
+use Rattle.tree_tables.specs.Holds.{Holds}
+use Rattle.tree_tables.specs.Fits.{RecordFits}
 use Rattle.book_audit.specs.Records.{IsRight, IsTold, Told, counted_prices}
 use Rattle.book_audit.specs.Walks.{AreRising, HasWalked, width}
 use Rattle.book_audit.specs.declared.finding.Tree.TheVariants.{Records}
-use Rattle.book_audit.proofs.Rows.Records.{counts_none, counts_on, entries_pushed, none_yet, row_pushed}
-use Rattle.book_audit.proofs.Walks.Steps.{its_place, its_row, look_back, looks_on, no_look, read_all}
-use Rattle.book_audit.proofs.Walks.Steps.{read_on, trees_stay}
+use Rattle.book_audit.specs.SoundTrees.{AreRuled}
+use Rattle.book_audit.proofs.Rows.Records.{counts_none, counts_on, entries_pushed, none_yet}
+use Rattle.book_audit.proofs.Rows.Records.{row_pushed}
+use Rattle.book_audit.proofs.Walks.Steps.{its_place, its_row, look_back, looks_on, no_look}
+use Rattle.book_audit.proofs.Walks.Steps.{read_all, read_on, trees_stay}
+use Rattle.book_audit.proofs.Own.Lines.{IsRecordOf, record_had, record_row_fits, records_of}
+use Rattle.book_audit.proofs.Own.Stops.{err_fits, met_memory, own_still, passed_with, stop_on}
+use Rattle.book_audit.proofs.Own.Stops.{stop_walked}
+use Rattle.book_audit.proofs.Own.Sums.{own_cost, own_counted, own_few, so_many}
+use Rattle.book_audit.proofs.Own.Tables.{own_fit, own_tables}
 use Rattle.std.specs.FinMap.{get}
 use Rattle.sqlite_trees.proofs.ListLemmas.{all_weaker}
 use Rattle.book_model.specs.Words.{IsPriced}
 use Rattle.table_model.specs.Tables.{RecordRow, Tables}
-use Rattle.tree_tables.specs.Holds.{Holds}
-use Rattle.book_audit.specs.SoundTrees.{AreRuled}
-use Rattle.book_audit.proofs.Own.Lines.{IsRecordOf, record_had, record_row_fits, records_of}
-use Rattle.book_audit.proofs.Own.Steps.{passed_with}
-use Rattle.std.specs.Prelude.{is_ok}
-use Rattle.sqlite_trees.specs.declared.error.StoreError.{StoreError}
-use Rattle.sqlite_trees.specs.declared.error.StoreError.TheVariants.{OutOfMemory}
-use Rattle.tree_tables.specs.Fits.{RecordFits}
-use Rattle.book_audit.proofs.Own.Stops.{err_fits, met_memory, own_still, stop_on, stop_walked}
-use Rattle.book_audit.proofs.Own.Sums.{own_cost, own_counted, own_few, so_many}
-use Rattle.book_audit.proofs.Own.Tables.{own_fit, own_tables}
 use Rattle.book_audit.proofs.records.read_records.Goals as goal
 
 pub records-init : goal.records-init
