@@ -12,4 +12,3 @@ pub mod Days
 pub mod Sums
 pub mod Details
 pub mod Choices
-pub mod Trees

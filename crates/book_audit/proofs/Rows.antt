@@ -1,10 +1,7 @@
--- Rows, one after the other: what is known by a row; one row more of closes, tariffs, lines, choices
--- and records; the records that are counted; and the charge rows that are due.
+-- Rows, one after the other: what is known by a row; one row more of closes, tariffs, choices,
+-- records and charge rows; and the records that are counted.
 pub mod Columns
-pub mod Closes
-pub mod Tariffs
-pub mod Lines
+pub mod Rulings
 pub mod Choices
 pub mod Records
 pub mod Counted
-pub mod Days

@@ -1,9 +1,10 @@
--- The charge rows of books that calls made are those that are due, in the order of their places.
+-- The charge rows of books that calls made are those that are due for their records, in the order of
+-- their places.
 use Rattle.std.proofs.Common.{◌≡◌, ◌∙◌, ◌<◌, ◌≤◌, ◌+◌, ◌++◌, ◌==◌, ◌∷◌, [], ℕ, ℤ, Bool, true, false}
 use Rattle.std.proofs.Common.{List, ap, arith, cond, get_or, length, length-append, map, refl}
 use Rattle.std.proofs.Common.{subst, suc, sym, take, zero, filter, int_lt, nat_lt, ◌≤ℤ◌, int_cmp}
-use Rattle.std.proofs.Common.{nat_cmp, Less, Equal, Greater}
-use Rattle.std.specs.FinMap.{entries, entries_sorted, from_entries}
+use Rattle.std.proofs.Common.{nat_cmp, Less, Equal, Greater, Some}
+use Rattle.std.specs.FinMap.{entries, entries_sorted, from_entries, get}
 use Rattle.std.specs.List.{AllByRecursion}
 use Rattle.std.specs.Ordering.{ordering_then}
 use Rattle.std.specs.Cmp.{int_ranked}
@@ -12,7 +13,8 @@ use Rattle.std.proofs.lemmas.Int.{ints}
 use Rattle.std.proofs.lemmas.List.{length-map, length-take, length-take-le}
 use Rattle.std.proofs.lemmas.Simd.{map-map}
 use Rattle.sqlite_trees.specs.Tree.{IsAscending, Trees}
-use Rattle.sqlite_trees.proofs.ListLemmas.{all-map, ascending-map, ascending_weaker}
+use Rattle.sqlite_trees.proofs.ListLemmas.{all-map, all_both, all_from_map, ascending-map}
+use Rattle.sqlite_trees.proofs.ListLemmas.{ascending_weaker}
 use Rattle.sqlite_value.specs.Order.{Row, column}
 use Rattle.tariff_rules.specs.declared.priced.Priced.{Priced}
 use Rattle.book_model.specs.Rows.{key_of, keys_of}
@@ -27,17 +29,18 @@ use Rattle.consistent_tables.specs.DueRows.{due_entry, period_from}
 use Rattle.consistent_tables.proofs.ClosePeriods.{least_period}
 use Rattle.tree_tables.specs.Columns.{day_columns, record_columns}
 use Rattle.tree_tables.specs.Fits.{ChargeFits, HasPeriod}
-use Rattle.tree_tables.proofs.Layouts.{day_layout}
+use Rattle.tree_tables.specs.Holds.{Holds}
+use Rattle.tree_tables.proofs.Layouts.{day_layout, record_layout}
 use Rattle.tree_tables.proofs.RowsRead.{all_entries}
 use Rattle.book_audit.specs.Own.{AreOwn}
-use Rattle.book_audit.specs.Records.{Told, counted_prices}
+use Rattle.book_audit.specs.Records.{IsTold, Told, counted_prices}
 use Rattle.book_audit.specs.SoundTrees.{AreRuled}
 use Rattle.book_audit.specs.declared.rulings.Rulings.{Rulings}
 use Rattle.book_audit.proofs.Rows.Counted.{prices_are}
 use Rattle.book_audit.proofs.Held.Indexes.{entries_rise}
 use Rattle.book_audit.proofs.Held.Kept.{sorted}
 use Rattle.book_audit.proofs.Rows.Columns.{same_records}
-use Rattle.book_audit.proofs.Own.Records.{closes_are}
+use Rattle.book_audit.proofs.Own.Records.{closes_are, own_counts}
 use Rattle.book_audit.proofs.Own.Tables.{own_consistent, own_fit, own_tables}
 
 -- a period is no later than that of a later day
@@ -115,7 +118,7 @@ due_kept closes prices =
 
 module _ (trees : Trees) (own : AreOwn trees) (rulings : Rulings) (are : AreRuled trees rulings) where
   -- the tree of charge rows is the rows that are due
-  pub own_days : (told : List Told) → trees 3 ≡ map (λ (one : Told). record_columns one.0) told
+  own_days : (told : List Told) → trees 3 ≡ map (λ (one : Told). record_columns one.0) told
       → AllByRecursion (λ (one : Told). one.1 ≡ is_counted_row (own_tables trees own) one.0) told
       → trees 4 ≡ map day_columns (map (due_entry rulings.closes.items) (rows_of (counted_prices told)))
   own_days told read each =
@@ -133,6 +136,49 @@ module _ (trees : Trees) (own : AreOwn trees) (rulings : Rulings) (are : AreRule
       ∙ ap (map day_columns) (due_kept (ruled tables).closes
       (map (λ (e : List ℕ × RecordRow). e.1.priced) (counted_entries tables)))
       ∙ sym (λ i. map day_columns (map (due_entry (closes_are trees rulings own are i)) (rows_of (prices i))))
+
+-- what holds of all elements by each of some values
+by_each : {X I : Type 0} (P : I → X → Type 0) (xs : List X)
+    → ((i : I) → AllByRecursion (P i) xs) → AllByRecursion (λ x. (i : I) → P i x) xs
+by_each P [] all = tt
+by_each P (x ∷ xs) all = (λ i. (all i).0, by_each P xs (λ i. (all i).1))
+
+-- tables that trees hold
+abbrev Held : Trees → Type 0
+Held trees = (tables : Tables) × Holds trees tables
+
+module _ (trees : Trees) (own : AreOwn trees) (rulings : Rulings) (are : AreRuled trees rulings)
+    (told : List Told) (read : trees 3 ≡ map (λ (one : Told). record_columns one.0) told)
+    (past : AllByRecursion (λ (one : Told). IsTold trees rulings.closes.items one) told) where
+  -- each record that was read is held
+  each_held : (held : Held trees)
+      → AllByRecursion (λ (one : Told). get held.0.records one.0.0 ≡ Some one.0.1) told
+  each_held held =
+      let its : List ℕ × RecordRow → Type 0 =
+      λ (entry : List ℕ × RecordRow). get held.0.records entry.0 ≡ Some entry.1 in
+      all_from_map its (λ (one : Told). one.0) told
+      (subst (AllByRecursion its)
+      (sym (same_records (map (λ (one : Told). one.0) told) (entries held.0.records)
+      (map-map record_columns (λ (one : Told). one.0) told ∙ sym read ∙ held.1.records)))
+      (all_entries record_layout.total record_layout.exact its held.0.records
+      (λ name row there. there)))
+
+  -- and told as its row counts it
+  each_told : AllByRecursion
+      (λ (one : Told). one.1 ≡ is_counted_row (own_tables trees own) one.0) told
+  each_told =
+      all_both (λ (one : Told). (held : Held trees) → get held.0.records one.0.0 ≡ Some one.0.1)
+      (λ (one : Told). IsTold trees rulings.closes.items one)
+      (λ (one : Told). one.1 ≡ is_counted_row (own_tables trees own) one.0)
+      (λ one there is. own_counts trees rulings one.0
+      (record { own = own; ruled = are; held = λ tables holds. there (tables, holds) })
+      one.1 is.past) told
+      (by_each (λ (held : Held trees) (one : Told). get held.0.records one.0.0 ≡ Some one.0.1) told
+      each_held) past
+
+  pub rows_due : trees 4
+      ≡ map day_columns (map (due_entry rulings.closes.items) (rows_of (counted_prices told)))
+  rows_due = own_days trees own rulings are told read each_told
 
 module _ (trees : Trees) (own : AreOwn trees) where
   -- the rows fit

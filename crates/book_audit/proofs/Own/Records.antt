@@ -31,7 +31,7 @@ use Rattle.book_audit.specs.Rules.{identity_under}
 use Rattle.book_audit.specs.SoundTrees.{AreRuled}
 use Rattle.book_audit.specs.Trees.{FindsTwo}
 use Rattle.book_audit.specs.declared.rulings.Rulings.{Rulings}
-use Rattle.book_audit.proofs.Rows.Closes.{closed_is}
+use Rattle.book_audit.proofs.Rows.Rulings.{closed_is}
 use Rattle.book_audit.proofs.Held.Looks.{alone_looked, line_looked, past_told}
 use Rattle.book_audit.proofs.Held.Rulings.{identity_said, last_said, price_said, same_terms}
 use Rattle.book_audit.proofs.Own.Rulings.{own_closes, own_readable, own_rule}

@@ -1,17 +1,21 @@
--- The rows of records that are right, one after the other.
+-- The rows of records that are right, one after the other, and the charge rows that are due for them.
 use Rattle.std.proofs.Common.{◌≡◌, ◌≤◌, ◌+◌, ◌∙◌, ◌++◌, ◌∷◌, [], ℕ, List, map, ap, refl, sym, arith}
-use Rattle.std.proofs.Common.{append-nil, append_assoc, length-append}
-use Rattle.std.proofs.lemmas.List.{map-append}
+use Rattle.std.proofs.Common.{append-nil, append_assoc, length-append, ◌<◌, ℤ, take, get_or, length}
+use Rattle.std.proofs.lemmas.List.{map-append, take_all, take_more}
 use Rattle.std.proofs.lemmas.List.Sums.{sum_by-append}
 use Rattle.sqlite_trees.specs.Tree.{Trees}
 use Rattle.sqlite_trees.proofs.ListLemmas.{all-append}
 use Rattle.sqlite_value.specs.Order.{Row}
-use Rattle.book_model.specs.Words.{most_cost}
+use Rattle.book_model.specs.Words.{most_cost, rows_of}
 use Rattle.book_model.specs.declared.row.ChargeRow.{ChargeRow}
 use Rattle.book_model.specs.declared.row.RowKey.{RowKey}
-use Rattle.tree_tables.specs.Columns.{record_columns}
+use Rattle.tree_tables.specs.Columns.{day_columns, record_columns}
 use Rattle.book_core.specs.KeyedRows.{keyed_rows}
-use Rattle.book_audit.specs.Records.{AreEntries, Counts, IsRight, IsTold, Told, counted_price, counted_prices}
+use Rattle.tariff_rules.specs.declared.priced.Priced.{Priced}
+use Rattle.book_core.proofs.KeyedRowLemmas.{rows_of-keyed_rows}
+use Rattle.consistent_tables.specs.DueRows.{due_entry}
+use Rattle.book_audit.specs.Records.{AreEntries, Counts, IsRight, IsTold, Told, counted_price}
+use Rattle.book_audit.specs.Records.{counted_prices}
 use Rattle.book_audit.specs.declared.rulings.Rulings.{Rulings}
 
 pub none_yet : (trees : Trees) (rulings : Rulings) → AreEntries trees rulings 0 0 []
@@ -66,3 +70,23 @@ counts_on old mid new entries told before after prices kept =
 
 pub counts_none : (rows : List (RowKey × ChargeRow)) → Counts rows rows []
 counts_none rows prices kept = kept ∙ ap keyed_rows (sym (append-nil prices))
+
+-- one row more
+pub due_pushed : (closes : List ℤ) (due : List ChargeRow) (i : ℕ) (one : ChargeRow) (row : Row)
+    → i < length due → one ≡ get_or due i one → row ≡ day_columns (due_entry closes one)
+    → map day_columns (map (due_entry closes) (take i due)) ++ row ∷ []
+    ≡ map day_columns (map (due_entry closes) (take (i + 1) due))
+due_pushed closes due i one row inside is shows =
+    let so_far : List Row = map day_columns (map (due_entry closes) (take i due)) in
+    ap (λ (r : Row). so_far ++ r ∷ []) (shows ∙ ap (λ (x : ChargeRow). day_columns (due_entry closes x)) is)
+    ∙ sym (map-append day_columns (map (due_entry closes) (take i due)) (due_entry closes (get_or due i one) ∷ []))
+    ∙ ap (map day_columns) (sym (map-append (due_entry closes) (take i due) (get_or due i one ∷ [])))
+    ∙ ap (λ (xs : List ChargeRow). map day_columns (map (due_entry closes) xs))
+    (sym (take_more due i one inside))
+
+-- the rows of places are those of the records that they count
+pub rows_counted : (prices : List Priced) (rows : List (RowKey × ChargeRow)) → rows ≡ keyed_rows prices
+    → map (λ (entry : RowKey × ChargeRow). entry.1) rows ≡ rows_of prices
+rows_counted prices rows kept =
+    rows_of-keyed_rows prices (length prices) rows (omega arith)
+    (kept ∙ ap keyed_rows (sym (take_all (length prices) prices (omega arith))))

@@ -21,7 +21,7 @@ use Rattle.book_audit.specs.OfBook.{sha_names}
 use Rattle.book_audit.specs.Records.{HasPast, IsLine, IsRight, IsTold, Told, later_periods}
 use Rattle.book_audit.specs.SoundTrees.{AreSound}
 use Rattle.book_audit.specs.declared.audited.Counts.{Counts as Numbers}
-use Rattle.book_audit.proofs.Rows.Closes.{closed_is}
+use Rattle.book_audit.proofs.Rows.Rulings.{closed_is}
 use Rattle.book_audit.proofs.Held.Looks.{alone_looked, line_looked, past_told}
 use Rattle.book_audit.proofs.Held.Rulings.{last_said}
 use Rattle.book_audit.proofs.Sound.Rulings.{choices_numbered, closes_said, days, identity_is}

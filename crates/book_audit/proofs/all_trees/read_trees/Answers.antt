@@ -18,9 +18,9 @@ use Rattle.book_audit.specs.SoundTrees.{AreRuled}
 use Rattle.book_audit.specs.Walks.{AreRising}
 use Rattle.book_audit.specs.declared.finding.Tree.TheVariants.{Days, Identities, Marks}
 use Rattle.book_audit.specs.declared.rulings.Rulings.{Rulings}
-use Rattle.book_audit.proofs.Rows.Days.{rows_counted}
+use Rattle.book_audit.proofs.Rows.Records.{rows_counted}
 use Rattle.book_audit.proofs.Own.Stops.{stop_on, stop_passed}
-use Rattle.book_audit.proofs.Own.Trees.{rows_due}
+use Rattle.book_audit.proofs.Own.Days.{rows_due}
 use Rattle.book_audit.proofs.Sound.Book.{of_book}
 use Rattle.book_audit.proofs.Walks.Steps.{look_back, looks_on, no_look, trees_stay}
 use Rattle.book_audit.proofs.all_trees.read_trees.Goals as goal

@@ -1,23 +1,55 @@
-use Rattle.std.proofs.Common.{◌≡◌, ◌<◌, ◌∙◌, ap, sym, ◌∷◌, ◌-◌, [], ℕ, List, IfSome, is_some, pos, rules}
-use Rattle.std.proofs.Common.{subst, Bool, Option}
+use Rattle.std.proofs.Common.{◌≡◌, ◌<◌, ◌∙◌, ap, sym, ◌∷◌, ◌-◌, [], ℕ, List, IfSome, is_some, pos}
+use Rattle.std.proofs.Common.{rules, subst, Bool, Option, ◌+◌, suc, true, false, Some, None, not}
+use Rattle.std.proofs.Common.{arith, refl}
+use Rattle.std.specs.FinMap.{get}
+use Rattle.std.specs.Bool.{beq}
 use Rattle.sqlite_trees.specs.Tree.{Trees}
 use Rattle.sqlite_trees.specs.View.{IsClean}
 use Rattle.sqlite_value.specs.Order.{Row, column}
 use Rattle.sqlite_value.specs.declared.value.Value.TheVariants.{Blob, Int}
 use Rattle.tree_rows.specs.Calls.{OnlyLooks}
-use Rattle.tree_rows.proofs.Calls.{quiet_both}
 use Rattle.tree_rows.specs.Rows.{Finds}
+use Rattle.tree_rows.proofs.Calls.{quiet_both}
 use Rattle.tree_tables.specs.Columns.{flag}
-use Rattle.book_audit.specs.Records.{IsLine, Turns}
-use Rattle.std.specs.FinMap.{get}
 use Rattle.consistent_tables.specs.Consistent.{charged_back, line_at, ruled}
 use Rattle.book_model.specs.Words.{open_by}
 use Rattle.consistent_tables.proofs.ChargedSets.{in_turn}
+use Rattle.book_audit.specs.Records.{GoesBack, IsLine, Turns}
+use Rattle.book_audit.specs.Records.Turns.{Stays, Turned}
 use Rattle.book_audit.proofs.Held.Looks.{line_looked, went_back}
-use Rattle.book_audit.proofs.Rows.Lines.{goes_on, says_same, turns_none, turns_some}
 use Rattle.book_audit.proofs.Walks.Steps.{look_back, looks_on, trees_stay}
 use Rattle.book_audit.proofs.marks.past_of.Goals.{in-Some+else-plus-now, in_default}
 use Rattle.book_audit.proofs.marks.past_of.Goals as goal
+
+-- two marks that are not tested to differ
+says_same : (one other : Bool) → not (beq one other) ≡ false → one ≡ other
+says_same true true same = refl
+says_same false false same = refl
+says_same true false same = absurd (cc)
+says_same false true same = absurd (cc)
+
+-- a line that says what is charged turns it
+turns_some : (line : Option Bool) (plus now before : Bool) → line ≡ Some plus → plus ≡ now
+    → before ≡ not plus → Turns line now before
+turns_some line plus now before is same turned =
+    subst (λ l. Turns l now before) (sym is)
+    (subst (λ n. Turns (Some plus) n before) same
+    (subst (Turns (Some plus) plus) (sym turned) (Turned plus)))
+
+-- no line leaves it
+turns_none : (line : Option Bool) (now before : Bool) → line ≡ None → before ≡ now
+    → Turns line now before
+turns_none line now before is same =
+    subst (λ l. Turns l now before) (sym is) (subst (Turns None now) (sym same) (Stays now))
+
+-- one period further back
+goes_on : (lines : List Row) (name : List ℕ) (last k : ℕ) (charged now before : Bool)
+    (line : Option Bool) → GoesBack lines name last k charged now
+    → IsLine lines (last - k) name line → Turns line now before
+    → GoesBack lines name last (k + 1) charged before
+goes_on lines name last k charged now before line so_far is turns =
+    let step : suc k ≡ k + 1 = omega arith in
+    subst (λ n. GoesBack lines name last n charged before) step (now, line, so_far, is, turns)
 
 pub loop-back-preserved : goal.loop-back-preserved
 loop-back-preserved g c =

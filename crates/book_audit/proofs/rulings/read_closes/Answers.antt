@@ -1,8 +1,7 @@
-use Rattle.std.proofs.Common.{◌≡◌, ◌∙◌, ◌++◌, ◌∷◌, [], ℤ, All, List, None, is_ok, map, length, ap, rules}
-use Rattle.std.proofs.Common.{subst, sym, w32}
+use Rattle.std.proofs.Common.{◌≡◌, ◌∙◌, ◌++◌, ◌∷◌, [], ℤ, All, List, None, is_ok, map, length, ap}
+use Rattle.std.proofs.Common.{rules, subst, sym, w32, int_cmp}
 use Rattle.std.specs.List.{last_or}
 use Rattle.std.specs.List.Sorted.{IsStrictlySortedBy}
-use Rattle.std.specs.Ordering.{int_cmp}
 use Rattle.std.proofs.lemmas.Int.{to_z-of_z}
 use Rattle.std.proofs.lemmas.List.Elements.{All-nil, All-push}
 use Rattle.sqlite_value.specs.Order.{Row}
@@ -18,7 +17,7 @@ use Rattle.book_audit.specs.Own.{IsOwnStop}
 use Rattle.book_audit.specs.Rulings.{IsNextClose}
 use Rattle.book_audit.specs.Walks.{HasWalked, width}
 use Rattle.book_audit.specs.declared.finding.Tree.TheVariants.{Closes}
-use Rattle.book_audit.proofs.Rows.Closes.{closes_pushed, is_later}
+use Rattle.book_audit.proofs.Rows.Rulings.{closes_pushed, is_later}
 use Rattle.book_audit.proofs.Own.Rulings.{own_closes_fit, own_next_close}
 use Rattle.book_audit.proofs.Own.Stops.{each_err, err_said, stop_passed, stop_walked}
 use Rattle.book_audit.proofs.Walks.Steps.{its_place, its_row, looks_on, no_look, read_all, read_on}

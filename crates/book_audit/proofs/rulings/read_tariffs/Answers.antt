@@ -1,5 +1,5 @@
-use Rattle.std.proofs.Common.{◌≡◌, ◌∙◌, ◌++◌, ◌∷◌, [], ℕ, List, Some, Ok, false, is_ok, map, length, ap}
-use Rattle.std.proofs.Common.{rules, string_bytes, subst, sym}
+use Rattle.std.proofs.Common.{◌≡◌, ◌∙◌, ◌++◌, ◌∷◌, [], ℕ, List, Some, Ok, false, is_ok, map, length}
+use Rattle.std.proofs.Common.{ap, rules, string_bytes, subst, sym}
 use Rattle.std.proofs.lemmas.Str.{IsUtf8-string_bytes}
 use Rattle.sqlite_trees.proofs.ListLemmas.{all-append}
 use Rattle.sqlite_trees.specs.declared.error.StoreError.{StoreError}
@@ -14,7 +14,8 @@ use Rattle.tree_tables.specs.Columns.{tariff_columns}
 use Rattle.tree_tables.specs.Fits.{TariffFits}
 use Rattle.book_audit.specs.Walks.{AreRising, HasWalked, width}
 use Rattle.book_audit.specs.declared.finding.Tree.TheVariants.{Tariffs}
-use Rattle.book_audit.proofs.Rows.Tariffs.{is_texted, of_characters, tariff_pushed, terms_pushed, texted}
+use Rattle.book_audit.proofs.Rows.Rulings.{is_texted, of_characters, tariff_pushed, terms_pushed}
+use Rattle.book_audit.proofs.Rows.Rulings.{texted}
 use Rattle.book_audit.proofs.Own.Rulings.{IsTariffRow, own_tariffs, tariff_fits, tariff_said}
 use Rattle.book_audit.proofs.Own.Stops.{err_fits, met_memory, stop_passed, stop_walked}
 use Rattle.book_audit.proofs.Walks.Steps.{its_row, look_back, looks_on, no_look, read_all, read_on}

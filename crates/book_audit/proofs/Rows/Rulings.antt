@@ -1,19 +1,23 @@
--- The rows of closes, one after the other.
+-- The rows of closes and of tariffs, one after the other.
 use Rattle.std.proofs.Common.{◌≡◌, ◌∙◌, ◌++◌, ◌∷◌, [], ℕ, suc, List, Option, Some, None, map}
 use Rattle.std.proofs.Common.{length, ap, arith, cond, false, not, refl, sym, true, ◌-◌, ℤ, ◌+◌}
-use Rattle.std.proofs.Common.{◌<ℤ◌, MatchOption, int_lt, nat_lt, int_cmp, Less}
+use Rattle.std.proofs.Common.{◌<ℤ◌, MatchOption, int_lt, nat_lt, int_cmp, Less, Ok, subst}
 use Rattle.std.specs.List.{AllByRecursion, last_or}
 use Rattle.std.specs.List.Sorted.{IsStrictlySortedBy}
 use Rattle.std.specs.Option.{option_map_or}
+use Rattle.std.specs.Str.{IsUtf8}
 use Rattle.std.proofs.lemmas.Bool.Decides.{nat_tests}
 use Rattle.std.proofs.lemmas.Int.{ints}
 use Rattle.std.proofs.lemmas.List.{map-append}
+use Rattle.std.proofs.lemmas.Option.{same_Some}
 use Rattle.sqlite_value.specs.Order.{Row}
 use Rattle.consistent_tables.specs.DueRows.{period_from}
-use Rattle.table_model.specs.TablesOf.{close_entries}
+use Rattle.table_model.specs.TablesOf.{close_entries, tariff_entries}
+use Rattle.table_model.specs.Readable.{IsOfCharacters, IsTexted}
 use Rattle.table_model.proofs.CloseOrder.{earlier}
 use Rattle.table_model.proofs.UnderNumbers.{one_more}
-use Rattle.tree_tables.specs.Columns.{closed_columns}
+use Rattle.tree_tables.specs.Columns.{closed_columns, tariff_columns}
+use Rattle.book_model.specs.Words.{AcceptedTerms, IsDay, Terms, terms_in}
 use Rattle.book_audit.specs.Days.{is_closed}
 use Rattle.book_audit.specs.Records.{later_periods}
 
@@ -79,3 +83,35 @@ closed_is closes day rising =
   where
     less_left : (period n : ℕ) → nat_lt period (1 + n) ≡ nat_lt 0 ((n + 1) - period)
     less_left period n = grind (arith, nat_tests)
+
+-- a tariff with its text
+abbrev pub texted : List ℕ → Terms → AcceptedTerms
+texted text terms = record { text = Some text; terms = terms }
+
+pub is_texted : (text : List ℕ) (terms : Terms) → terms_in text ≡ Ok terms → IsDay terms.effective
+    → IsTexted (texted text terms)
+is_texted text terms said day = record { text = text; is = refl; said = said; day = day }
+
+pub of_characters : (text : List ℕ) (terms : Terms) → IsUtf8 text
+    → IsOfCharacters (texted text terms)
+of_characters text terms utf8 other is = subst IsUtf8 (same_Some text other is) utf8
+
+-- one row more
+pub tariff_pushed : (accepted : List AcceptedTerms) (text : List ℕ) (day : ℤ) (terms : Terms) (row : Row)
+    → row ≡ tariff_columns (day, Some text) → terms.effective ≡ day
+    → map tariff_columns (tariff_entries accepted) ++ row ∷ []
+    ≡ map tariff_columns (tariff_entries (accepted ++ texted text terms ∷ []))
+tariff_pushed accepted text day terms row is same =
+    let so_far : List Row = map tariff_columns (tariff_entries accepted) in
+    let entry : AcceptedTerms → ℤ × Option (List ℕ) = λ tariff. (tariff.terms.effective, tariff.text) in
+    ap (λ (r : Row). so_far ++ r ∷ []) (is ∙ ap (λ (d : ℤ). tariff_columns (d, Some text)) (sym same))
+    ∙ sym (map-append tariff_columns (tariff_entries accepted) ((terms.effective, Some text) ∷ []))
+    ∙ ap (map tariff_columns) (sym (map-append entry accepted (texted text terms ∷ [])))
+
+pub terms_pushed : (accepted : List AcceptedTerms) (tariffs : List Terms) (text : List ℕ) (terms : Terms)
+    → map (λ (tariff : AcceptedTerms). tariff.terms) accepted ≡ tariffs
+    → map (λ (tariff : AcceptedTerms). tariff.terms) (accepted ++ texted text terms ∷ [])
+    ≡ tariffs ++ terms ∷ []
+terms_pushed accepted tariffs text terms so_far =
+    map-append (λ (tariff : AcceptedTerms). tariff.terms) accepted (texted text terms ∷ [])
+    ∙ ap (λ (all : List Terms). all ++ terms ∷ []) so_far
