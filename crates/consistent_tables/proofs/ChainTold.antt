@@ -1,14 +1,13 @@
 -- What the mark and the lines of a record tell: whether it was charged before the last periods,
 -- counted back from the open one to that of its day. Its lines are in turn.
-use Rattle.std.proofs.Common.{◌≡◌, ◌∙◌, ℕ, zero, suc, ◌+◌, ◌-◌, ◌<◌, ◌≤◌, List, length, refl, sym, ap}
-use Rattle.std.proofs.Common.{subst, true, false, Bool, cond, not, ◌&&◌, Option, Some, None, IfSome}
-use Rattle.std.proofs.Common.{arith}
-use Rattle.std.specs.Prelude.{if◌then◌else◌}
+use Rattle.std.proofs.Common.{◌≡◌, ◌∙◌, ℕ, zero, suc, ◌+◌, ◌-◌, ◌<◌, ◌≤◌, List, length, refl, sym}
+use Rattle.std.proofs.Common.{ap, subst, true, false, Bool, cond, not, ◌&&◌, Option, Some, None}
+use Rattle.std.proofs.Common.{IfSome, arith, if◌then◌else◌}
 use Rattle.std.specs.Option.{option_map_or}
 use Rattle.std.proofs.lemmas.Bool.{le-ltb, lt-leb}
 use Rattle.tariff_rules.specs.declared.priced.Priced.{Priced}
-use Rattle.book_model.specs.Words.{Book, Naming, charged_of, day_of, has, is_dated_after}
-use Rattle.book_model.specs.Words.{name_of, open_by, price_in}
+use Rattle.book_model.specs.Words.{Book, Naming, charged_of, day_of, has, is_dated_after, name_of}
+use Rattle.book_model.specs.Words.{open_by, price_in}
 use Rattle.book_model.proofs.MapLemmas.{else_find}
 use Rattle.table_model.specs.BookIn.{close_after}
 use Rattle.table_model.specs.Readable.{IsReadable}
@@ -17,7 +16,8 @@ use Rattle.table_model.specs.TablesOf.{record_row, tables_of}
 use Rattle.table_model.proofs.BookLemmas.{book_follows}
 use Rattle.table_model.proofs.CostLemmas.{day-price}
 use Rattle.table_model.proofs.CountedReading.{line_there, sets}
-use Rattle.consistent_tables.specs.Consistent.{AreInTurn, charged_back, line_at, periods_after, ruled}
+use Rattle.consistent_tables.specs.Consistent.{AreInTurn, charged_back, line_at, periods_after}
+use Rattle.consistent_tables.specs.Consistent.{ruled}
 use Rattle.consistent_tables.specs.DueRows.{period_from}
 use Rattle.consistent_tables.proofs.ClosePeriods.{after_close, least_period, most_period}
 

@@ -2,8 +2,7 @@
 -- tables.
 use Rattle.std.proofs.Common.{◌≡◌, ◌∙◌, ◌+◌, ◌-◌, ◌<◌, ◌≤◌, ◌&&◌, List, ℕ, ℤ, zero, suc, Bool, true}
 use Rattle.std.proofs.Common.{false, true≢false, not, None, Some, ap, arith, length, refl, sym}
-use Rattle.std.proofs.Common.{is_some, subst}
-use Rattle.std.specs.Prelude.{IfSome, if◌then◌else◌, nat_le, nat_lt}
+use Rattle.std.proofs.Common.{is_some, subst, IfSome, if◌then◌else◌, nat_le, nat_lt}
 use Rattle.std.specs.Cmp.{both_ways}
 use Rattle.std.specs.FinMap.{get}
 use Rattle.std.specs.Option.{option_map_or}

@@ -9,7 +9,7 @@ use Rattle.std.proofs.lemmas.Bool.Decides.{nat_tests}
 use Rattle.std.proofs.lemmas.Int.{ints}
 use Rattle.std.proofs.lemmas.Bool.{le-ltb, ltb-false, ltb-true}
 use Rattle.std.proofs.lemmas.Option.{slice_get-get_or, slice_get_past}
-use Rattle.book_model.specs.Words.{day_of, is_dated_after, Rulings, is_dated_in, is_dated_through}
+use Rattle.book_model.specs.Words.{Rulings, day_of, is_dated_after, is_dated_in, is_dated_through}
 use Rattle.book_model.specs.RulingAnswers.{through_of}
 use Rattle.table_model.specs.BookIn.{close_after}
 use Rattle.table_model.proofs.CloseOrder.{earlier}

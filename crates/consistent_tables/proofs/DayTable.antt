@@ -1,17 +1,14 @@
 -- The charge rows of a readable book are those of all records that it counts, each row in the period
 -- of its day.
-use Rattle.std.proofs.Common.{◌≡◌, ◌∙◌, ℕ, suc, ◌+◌, ◌-◌, ◌≤◌, List, [], ◌∷◌, length, map, refl, sym, ap}
-use Rattle.std.proofs.Common.{subst, true, false, true≢false, Bool, cond, Option, Some, None, arith}
-use Rattle.std.specs.Prelude.{ℤ, ◌==◌, slice_get}
+use Rattle.std.proofs.Common.{◌≡◌, ◌∙◌, ℕ, suc, ◌+◌, ◌-◌, ◌≤◌, List, [], ◌∷◌, length, map, refl}
+use Rattle.std.proofs.Common.{sym, ap, subst, true, false, true≢false, Bool, cond, Option, Some}
+use Rattle.std.proofs.Common.{None, arith, ℤ, ◌==◌, slice_get, is_eq, nat_cmp, Ordering, Less}
+use Rattle.std.proofs.Common.{Equal, Greater, option_map, filter_map}
 use Rattle.std.specs.Cmp.{nat_cmp_total, tied_itself}
-use Rattle.std.specs.FinMap.{find, from_entries, get, get-from_entries}
-use Rattle.std.specs.FinMap.{nat_cmp-IsAntisymmetric, same_map}
-use Rattle.std.specs.List.{filter_map}
+use Rattle.std.specs.FinMap.{find, from_entries, get, get-from_entries, nat_cmp-IsAntisymmetric}
+use Rattle.std.specs.FinMap.{same_map}
 use Rattle.std.specs.List.Sorted.{IsPermutation}
-use Rattle.std.specs.Option.{option_map}
-use Rattle.std.specs.Ordering.{is_eq, nat_cmp, ordering_then}
-use Rattle.std.specs.declared.cmp.Ordering.{Ordering}
-use Rattle.std.specs.declared.cmp.Ordering.TheVariants.{Less, Equal, Greater}
+use Rattle.std.specs.Ordering.{ordering_then}
 use Rattle.std.proofs.lemmas.Bool.{eq-eqb, ne_eqb}
 use Rattle.std.proofs.lemmas.List.{length-append}
 use Rattle.std.proofs.lemmas.List.Sorted.{IsPermutation-map}
@@ -43,9 +40,8 @@ use Rattle.table_model.proofs.RecordReading.{entry, entry_at}
 use Rattle.table_model.proofs.SetReading.{permuted-alike}
 use Rattle.consistent_tables.specs.Consistent.{counted_entries}
 use Rattle.consistent_tables.specs.DueRows.{due_entry, period_from}
-use Rattle.consistent_tables.proofs.ClosePeriods.{least_period, most_period}
+use Rattle.consistent_tables.proofs.ClosePeriods.{dated_is, least_period, most_period}
 use Rattle.consistent_tables.proofs.CountedRows.{rows_counted}
-use Rattle.consistent_tables.proofs.ClosePeriods.{dated_is}
 
 -- ---- rows, each in the period of its day
 

@@ -1,7 +1,6 @@
 -- The rows of consistent tables and the records that are held: each row is that of one record that
 -- is held, and each record that is held has one row, under its name.
-use Rattle.std.proofs.Common.{◌≡◌, ◌∙◌, ◌&&◌, List, ℕ, Bool, true, Some, ap, sym}
-use Rattle.std.specs.Prelude.{filter, map}
+use Rattle.std.proofs.Common.{◌≡◌, ◌∙◌, ◌&&◌, List, ℕ, Bool, true, Some, ap, sym, filter, map}
 use Rattle.std.specs.Cmp.{both_ways}
 use Rattle.std.specs.FinMap.{entries, get, values}
 use Rattle.std.specs.List.{list_any}

@@ -1,9 +1,8 @@
 -- The lines of consistent tables are those of the book that they determine.
-use Rattle.std.proofs.Common.{◌≡◌, ◌∙◌, ℕ, zero, suc, ◌+◌, ◌-◌, ◌≤◌, List, [], ◌∷◌, length, map, refl}
-use Rattle.std.proofs.Common.{sym, ap, true, false, Bool, cond, not, Option, Some, None, arith, is_some}
-use Rattle.std.specs.Prelude.{if◌then◌else◌, nat_le, slice_get}
+use Rattle.std.proofs.Common.{◌≡◌, ◌∙◌, ℕ, zero, suc, ◌+◌, ◌-◌, ◌≤◌, List, [], ◌∷◌, length, map}
+use Rattle.std.proofs.Common.{refl, sym, ap, true, false, Bool, cond, not, Option, Some, None}
+use Rattle.std.proofs.Common.{arith, is_some, if◌then◌else◌, nat_le, slice_get}
 use Rattle.std.specs.FinMap.{find, get, get-from_entries, same_map}
-use Rattle.std.specs.FinMap as fin
 use Rattle.std.specs.Option.{option_map_or}
 use Rattle.std.proofs.lemmas.Bool.{false_from_ne_true, leb-false, leb-true}
 use Rattle.std.proofs.lemmas.Cmp.{nat_list_cmp_total}
@@ -11,9 +10,9 @@ use Rattle.std.proofs.lemmas.List.{length-append}
 use Rattle.std.proofs.lemmas.Map.Lookups.{exact_bytes}
 use Rattle.std.proofs.lemmas.Map.Views.{tells_apart}
 use Rattle.std.proofs.lemmas.Option.{none-some, slice_get_within}
-use Rattle.book_model.specs.Words.{AreAmong, AreDatedThrough, AreHeld, Book, Naming, Period, Records}
-use Rattle.book_model.specs.Words.{all_periods, by_bytes, charged_of, has, members, name_of}
-use Rattle.book_model.specs.Words.{open_period, period_by}
+use Rattle.book_model.specs.Words.{AreAmong, AreDatedThrough, AreHeld, Book, Naming, Period}
+use Rattle.book_model.specs.Words.{Records, all_periods, by_bytes, charged_of, has, members}
+use Rattle.book_model.specs.Words.{name_of, open_period, period_by}
 use Rattle.book_model.proofs.FilterMapLemmas.{find-none}
 use Rattle.book_model.proofs.MapLemmas.{else_find, find-both}
 use Rattle.book_model.proofs.RecordSets.{is}
@@ -38,6 +37,7 @@ use Rattle.consistent_tables.proofs.ReadableBook.{consistent_are_readable}
 use Rattle.consistent_tables.proofs.RecordTable.{charged_is}
 use Rattle.consistent_tables.proofs.RowLines.{has_kept, lines_exact, lines_total}
 use Rattle.consistent_tables.proofs.SoundTables.{sound}
+use Rattle.std.specs.FinMap as fin
 
 -- a line is on one of the sides, or there is none
 by_sides : (line : Option Bool)

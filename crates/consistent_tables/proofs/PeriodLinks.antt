@@ -1,8 +1,7 @@
 -- The periods of consistent tables are linked by what was charged at the end of each.
 use Rattle.std.proofs.Common.{◌≡◌, ◌∙◌, ◌+◌, ◌-◌, ◌≤◌, ◌++◌, ◌∷◌, [], ◌&&◌, List, ℕ, zero, suc}
-use Rattle.std.proofs.Common.{Bool, true, false, true≢false, not, Option, None, Some, ap, arith, length}
-use Rattle.std.proofs.Common.{refl, sym}
-use Rattle.std.specs.Prelude.{IfSome, nat_le}
+use Rattle.std.proofs.Common.{Bool, true, false, true≢false, not, Option, None, Some, ap, arith}
+use Rattle.std.proofs.Common.{length, refl, sym, IfSome, nat_le}
 use Rattle.std.specs.FinMap.{get}
 use Rattle.std.specs.Option.{option_map_or}
 use Rattle.std.proofs.lemmas.Bool.Decides.{nat_tests}
@@ -10,8 +9,8 @@ use Rattle.book_model.specs.Words.{AreAmong, AreHeld, Naming, Period, Records, h
 use Rattle.book_model.specs.Words.{name_of, those, without}
 use Rattle.book_model.proofs.RecordSets.{has_those}
 use Rattle.book_model.proofs.SoundLemmas.{period_held}
-use Rattle.table_model.specs.BookIn.{added_in, book_in, charged_before, close_after, past_in, period_in}
-use Rattle.table_model.specs.BookIn.{row_record, taken_in}
+use Rattle.table_model.specs.BookIn.{added_in, book_in, charged_before, close_after, past_in}
+use Rattle.table_model.specs.BookIn.{period_in, row_record, taken_in}
 use Rattle.table_model.specs.Readable.{IsChain, chained}
 use Rattle.table_model.specs.Tables.{RecordRow, Tables}
 use Rattle.table_model.proofs.BookLemmas.{link}

@@ -1,10 +1,8 @@
 -- The rows and lines of a book that can be read back are right by its rulings.
-use Rattle.std.proofs.Common.{◌≡◌, ◌∙◌, ℕ, suc, ◌<◌, ◌≤◌, List, [], ◌∷◌, ◌||◌, length, refl}
-use Rattle.std.proofs.Common.{sym, ap, subst, true, false, true≢false, Bool, not, ◌&&◌, Some, IsSome}
-use Rattle.std.proofs.Common.{arith, map}
-use Rattle.std.specs.Prelude.{if◌then◌else◌, nat_lt}
+use Rattle.std.proofs.Common.{◌≡◌, ◌∙◌, ℕ, suc, ◌<◌, ◌≤◌, List, [], ◌∷◌, ◌||◌, length, refl, sym}
+use Rattle.std.proofs.Common.{ap, subst, true, false, true≢false, Bool, not, ◌&&◌, Some, IsSome}
+use Rattle.std.proofs.Common.{arith, map, if◌then◌else◌, nat_lt}
 use Rattle.std.specs.FinMap.{find, get}
-use Rattle.std.specs.FinMap as fin
 use Rattle.std.specs.List.{AllByRecursion, list_any}
 use Rattle.std.proofs.Math.Bool.{and-true, or-true}
 use Rattle.std.proofs.lemmas.Bool.{false_from_ne_true, lt-ltb, ltb-false, ltb-true}
@@ -14,8 +12,8 @@ use Rattle.std.proofs.lemmas.Map.Lookups.{exact_bytes}
 use Rattle.std.proofs.lemmas.Option.{slice_get_within}
 use Rattle.tariff_rules.specs.declared.priced.Priced.{Priced}
 use Rattle.book_model.specs.Words.{Book, IsUsageRecord, Naming, Period, all_periods, by_bytes}
-use Rattle.book_model.specs.Words.{charged_of, has, identity_by, is_dated_after, is_undisputed, members}
-use Rattle.book_model.specs.Words.{name_of, open_by, open_period, price_in, without}
+use Rattle.book_model.specs.Words.{charged_of, has, identity_by, is_dated_after, is_undisputed}
+use Rattle.book_model.specs.Words.{members, name_of, open_by, open_period, price_in, without}
 use Rattle.book_model.proofs.RecordSets.{has_those, in_those, is, is_first, not_true, passes_those}
 use Rattle.table_model.specs.BookIn.{close_after, row_record}
 use Rattle.table_model.specs.Readable.{IsReadable}
@@ -30,12 +28,12 @@ use Rattle.table_model.proofs.LineReading.{held_row}
 use Rattle.table_model.proofs.ListOrder.{all_joined}
 use Rattle.table_model.proofs.RecordReading.{every_row}
 use Rattle.table_model.proofs.TableParts.{what_is}
-use Rattle.consistent_tables.specs.Consistent.{AreInTurn, IsOwnLine, IsOwnRow, charged_back}
-use Rattle.consistent_tables.specs.Consistent.{ruled}
+use Rattle.consistent_tables.specs.Consistent.{AreInTurn, IsOwnLine, IsOwnRow, charged_back, ruled}
 use Rattle.consistent_tables.specs.DueRows.{period_from}
 use Rattle.consistent_tables.proofs.ClosePeriods.{after_close}
 use Rattle.consistent_tables.proofs.ChainTold.{all_later, in_turn, later_are, later_periods, own}
 use Rattle.consistent_tables.proofs.ChainTold.{ruled_back, told}
+use Rattle.std.specs.FinMap as fin
 
 module _ (naming : Naming) (book : Book) (whole : IsReadable naming book) where
   abbrev tables : Tables

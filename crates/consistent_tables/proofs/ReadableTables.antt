@@ -1,10 +1,9 @@
 -- The tables of a book that can be read back are consistent.
 use Rattle.std.proofs.Common.{◌≡◌, ◌∙◌, ◌⊎◌, ℕ, ◌<◌, ◌≤◌, List, map, length, refl, sym, ap, subst}
-use Rattle.std.proofs.Common.{inl, inr, Option, Some, None}
-use Rattle.std.specs.Prelude.{All, ℤ, if◌then◌else◌, is_some, unwrap_or}
+use Rattle.std.proofs.Common.{inl, inr, Option, Some, None, All, ℤ, if◌then◌else◌, is_some}
+use Rattle.std.proofs.Common.{unwrap_or, int_cmp}
 use Rattle.std.specs.FinMap.{from_entries}
 use Rattle.std.specs.List.Sorted.{IsStrictlySortedBy}
-use Rattle.std.specs.Ordering.{int_cmp}
 use Rattle.std.proofs.lemmas.List.Elements.{All-weaker}
 use Rattle.book_model.specs.Words.{Book, IsDay, Naming, Rulings, first_rule, last_period}
 use Rattle.book_model.specs.Words.{most_choices, open_by, rows_of, second_rule}

@@ -1,12 +1,11 @@
 -- The records and the choices of consistent tables are those of the tables of their book.
-use Rattle.std.proofs.Common.{◌≡◌, ◌∙◌, ◌+◌, ◌-◌, ◌≤◌, ◌∷◌, [], ◌&&◌, List, ℕ, suc, Bool, true, Option, None}
-use Rattle.std.proofs.Common.{Some, ap, arith, length, map, refl, sym}
-use Rattle.std.specs.Prelude.{nat_le}
+use Rattle.std.proofs.Common.{◌≡◌, ◌∙◌, ◌+◌, ◌-◌, ◌≤◌, ◌∷◌, [], ◌&&◌, List, ℕ, suc, Bool, true}
+use Rattle.std.proofs.Common.{Option, None, Some, ap, arith, length, map, refl, sym, nat_le}
+use Rattle.std.proofs.Common.{option_map, filter_map}
 use Rattle.std.specs.Cmp.{nat_cmp_total}
 use Rattle.std.specs.FinMap.{from_entries, get, get-from_entries, nat_cmp-IsAntisymmetric, same_map}
 use Rattle.std.specs.FinMap.{values}
-use Rattle.std.specs.List.{cons_option, filter_map}
-use Rattle.std.specs.Option.{option_map}
+use Rattle.std.specs.List.{cons_option}
 use Rattle.std.proofs.Math.Bool.{and-true}
 use Rattle.std.proofs.lemmas.Bool.{false_from_ne_true}
 use Rattle.std.proofs.lemmas.Bool.Decides.{nat_tests}
@@ -19,16 +18,16 @@ use Rattle.book_model.specs.Words.{is_undisputed, members, name_of, price_in}
 use Rattle.book_model.proofs.RecordSets.{has_those, in_those, is}
 use Rattle.table_model.specs.BookIn.{book_in, choice_read, records_of_rows, row_record}
 use Rattle.table_model.specs.Tables.{ChoiceRow, RecordRow, Tables}
-use Rattle.table_model.specs.TablesOf.{choice_row, entries_by, row_by, status_by, tables_at, tables_of}
-use Rattle.table_model.specs.TablesOf.{under_numbers}
+use Rattle.table_model.specs.TablesOf.{choice_row, entries_by, row_by, status_by, tables_at}
+use Rattle.table_model.specs.TablesOf.{tables_of, under_numbers}
 use Rattle.table_model.specs.Views.{is_due_in}
 use Rattle.table_model.proofs.DueLemmas.{due-follows}
 use Rattle.table_model.proofs.RecordChanges.{no_entry}
 use Rattle.table_model.proofs.Restated.{row-found}
 use Rattle.table_model.proofs.RowsWhere.{members_held}
 use Rattle.consistent_tables.specs.Consistent.{AreConsistent, charged_back, ruled}
-use Rattle.consistent_tables.proofs.ChargedSets.{charged_held, days, has_charged}
-use Rattle.consistent_tables.proofs.ChargedSets.{own_period, same_held, where_held}
+use Rattle.consistent_tables.proofs.ChargedSets.{charged_held, days, has_charged, own_period}
+use Rattle.consistent_tables.proofs.ChargedSets.{same_held, where_held}
 use Rattle.consistent_tables.proofs.ClosePeriods.{most_period}
 use Rattle.consistent_tables.proofs.Entries.{made_again}
 use Rattle.consistent_tables.proofs.HeldRows.{has_where, is_held, its_name, row_of}

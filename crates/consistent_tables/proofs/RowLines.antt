@@ -1,12 +1,10 @@
 -- What a period adds and reverses, by the lines of its records.
-use Rattle.std.proofs.Common.{◌≡◌, ◌∙◌, ◌&&◌, List, ℕ, Bool, true, false, true≢false, Option}
-use Rattle.std.proofs.Common.{None, Some, ap, refl, sym}
-use Rattle.std.specs.Prelude.{filter, ◌==◌}
-use Rattle.std.specs.Cmp.{both_ways}
+use Rattle.std.proofs.Common.{◌≡◌, ◌∙◌, ◌&&◌, List, ℕ, Bool, true, false, true≢false, Option, None}
+use Rattle.std.proofs.Common.{Some, ap, refl, sym, filter, ◌==◌, option_map, filter_map}
+use Rattle.std.specs.Cmp.{both_ways, IsTotalOrder}
 use Rattle.std.specs.FinMap.{IsAntisymmetric, entries, get}
-use Rattle.std.specs.Cmp.{IsTotalOrder}
-use Rattle.std.specs.List.{filter_map, list_any}
-use Rattle.std.specs.Option.{option_map, option_map_or}
+use Rattle.std.specs.List.{list_any}
+use Rattle.std.specs.Option.{option_map_or}
 use Rattle.std.proofs.lemmas.Bool.{eq-eqb, eqb-true}
 use Rattle.std.proofs.lemmas.Cmp.{nat_list_cmp_total}
 use Rattle.std.proofs.lemmas.Map.Lookups.{exact_bytes}

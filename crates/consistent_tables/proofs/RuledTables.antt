@@ -15,7 +15,7 @@ use Rattle.book_model.specs.Words.{second_rule}
 use Rattle.table_model.specs.BookIn.{adopted_read, book_in}
 use Rattle.table_model.specs.Readable.{IsBegun}
 use Rattle.table_model.specs.Tables.{BookRow, Tables, never_adopted}
-use Rattle.table_model.specs.TablesOf.{tariff_entries, tables_of}
+use Rattle.table_model.specs.TablesOf.{tables_of, tariff_entries}
 use Rattle.table_model.proofs.CloseOrder.{earlier}
 use Rattle.table_model.proofs.UnderNumbers.{is_less, one_holds, other_holds}
 use Rattle.consistent_tables.specs.Consistent.{AreConsistent, IsOwnRule, ruled}

@@ -1,10 +1,9 @@
 -- The book that consistent tables determine is sound.
 use Rattle.std.proofs.Common.{◌≡◌, ◌∙◌, ◌<◌, ◌≤◌, ◌∷◌, [], List, ℕ, zero, suc, None, Some, ap}
-use Rattle.std.proofs.Common.{arith, is_some, length, not, refl, subst, sym, true}
-use Rattle.std.specs.Prelude.{All}
+use Rattle.std.proofs.Common.{arith, is_some, length, not, refl, subst, sym, true, All, option_map}
+use Rattle.std.proofs.Common.{filter_map}
 use Rattle.std.specs.FinMap.{get, values}
-use Rattle.std.specs.List.{cons_option, filter_map}
-use Rattle.std.specs.Option.{option_map}
+use Rattle.std.specs.List.{cons_option}
 use Rattle.std.proofs.lemmas.List.{length-append}
 use Rattle.std.proofs.lemmas.List.Elements.{All-cons, All-nil, All-push}
 use Rattle.book_model.specs.Words.{AreAllDatedThrough, AreHeld, Choice, IsChoiceOf, IsSound, Naming}
