@@ -1,19 +1,16 @@
 -- A tree that finds the rows of a table: where each of them is found there, and there are as many
 -- entries, these are all.
 use Rattle.std.proofs.Common.{◌≡◌, ◌∙◌, ◌∷◌, [], List, Bool, true, false, Some, cond, map, length}
-use Rattle.std.proofs.Common.{ap, refl, subst, sym, true≢false, ◌⊎◌, inl, inr, ◌&&◌}
-use Rattle.std.specs.Prelude.{T, filter}
+use Rattle.std.proofs.Common.{ap, refl, subst, sym, true≢false, ◌⊎◌, inl, inr, ◌&&◌, T, filter}
+use Rattle.std.proofs.Common.{is_eq, is_lt, Ordering, Less, Equal, Greater}
 use Rattle.std.specs.FinMap.{FinMap, entries, entries_sorted, get, is_sorted}
 use Rattle.std.specs.FinMap.Entries.{below_all}
 use Rattle.std.specs.List.{AllByRecursion}
-use Rattle.std.specs.Ordering.{is_eq, is_lt}
-use Rattle.std.specs.declared.cmp.Ordering.{Ordering}
-use Rattle.std.specs.declared.cmp.Ordering.TheVariants.{Less, Equal, Greater}
 use Rattle.std.proofs.lemmas.List.{length-map}
 use Rattle.std.proofs.lemmas.List.Elements.{recursion_from_All}
 use Rattle.std.proofs.lemmas.List.Sorted.{length_permutation}
 use Rattle.sqlite_trees.specs.Tree.{IsAscending, from_key}
-use Rattle.sqlite_trees.proofs.ListLemmas.{all_weaker, ascending_from_map, ascending-map}
+use Rattle.sqlite_trees.proofs.ListLemmas.{all_weaker, ascending-map, ascending_from_map}
 use Rattle.sqlite_value.specs.Keys.{plain, prefix_cmp}
 use Rattle.sqlite_value.specs.Order.{Row}
 use Rattle.tree_rows.specs.Indexes.{IsIndexKey, IsKeyOf, index_of}

@@ -15,11 +15,12 @@ use Rattle.sqlite_trees.specs.Tree.{Trees, from_key}
 use Rattle.sqlite_value.specs.Keys.{plain, prefix_cmp}
 use Rattle.sqlite_value.specs.Order.{Row}
 use Rattle.sqlite_value.specs.declared.value.Value.TheVariants.{Blob, Int}
+use Rattle.book_model.specs.Words.{open_by, same_bytes}
+use Rattle.book_model.proofs.SetLemmas.{same_bytes-by_cmp}
 use Rattle.table_model.specs.Tables.{RecordRow, Tables}
 use Rattle.table_model.specs.Views.{rows_with}
 use Rattle.consistent_tables.specs.Consistent.{AreInTurn, charged_back, is_counted_row, line_at}
 use Rattle.consistent_tables.specs.Consistent.{periods_after, ruled}
-use Rattle.book_model.specs.Words.{open_by, same_bytes}
 use Rattle.tree_rows.specs.Indexes.{IsIndexKey, by_bytes, index_of, indexed_by}
 use Rattle.tree_rows.specs.Layouts.{Answers, Layout, rows_of}
 use Rattle.tree_rows.specs.Rows.{Finds, IsFirst, past_key}
@@ -30,7 +31,6 @@ use Rattle.tree_rows.proofs.IndexOrders.{by_bytes_exact}
 use Rattle.tree_rows.proofs.PartIndexes.{part_in_order}
 use Rattle.tree_rows.proofs.Runs.{run_named}
 use Rattle.tree_rows.proofs.Keyed.{row_found}
-use Rattle.book_model.proofs.SetLemmas.{same_bytes-by_cmp}
 use Rattle.tree_tables.specs.Columns.{flag, identity_columns}
 use Rattle.tree_tables.specs.Holds.{Holds, identity_index, identity_key}
 use Rattle.tree_tables.proofs.FoundNames.{Entry}

@@ -9,12 +9,12 @@ use Rattle.std.specs.Prelude.{if◌then◌else◌, filter, find, nat_le, nat_lt,
 use Rattle.std.proofs.lemmas.Cmp.{nat_list_eq_equiv}
 use Rattle.std.proofs.lemmas.List.Elements.{All-head, All-tail}
 use Rattle.std.proofs.lemmas.Option.{same_Some}
+use Rattle.sqlite_trees.specs.Tree.{Trees}
+use Rattle.sqlite_value.specs.Order.{Row, column}
 use Rattle.smf_type30.specs.Usage.{day_of, identity2_of, identity_of}
 use Rattle.tariff_rules.specs.Price.{price_by}
 use Rattle.tariff_rules.specs.Terms.{Terms}
 use Rattle.tariff_rules.specs.declared.priced.Priced.{Priced}
-use Rattle.sqlite_trees.specs.Tree.{Trees}
-use Rattle.sqlite_value.specs.Order.{Row, column}
 use Rattle.book_model.specs.Words.{AcceptedTerms, Rulings as Ruled, are_rising, first_rule}
 use Rattle.book_model.specs.Words.{last_period, price_in, price_under, same_bytes, second_rule}
 use Rattle.book_model.specs.Words.{terms_in}
@@ -25,10 +25,10 @@ use Rattle.table_model.specs.Readable.{IsTexted}
 use Rattle.table_model.specs.Tables.{BookRow, ChoiceRow, RecordRow, Tables, never_adopted}
 use Rattle.table_model.specs.TablesOf.{tariff_entries, under_numbers}
 use Rattle.table_model.specs.Views.{last_named, name_has_identity}
+use Rattle.consistent_tables.specs.Consistent.{choice_numbers}
 use Rattle.tree_tables.specs.Columns.{choice_columns, tariff_columns, tariff_value}
 use Rattle.tree_tables.specs.Holds.{Holds}
 use Rattle.tree_tables.proofs.RowsRead.{same_blob, same_text}
-use Rattle.consistent_tables.specs.Consistent.{choice_numbers}
 use Rattle.book_audit.specs.ChoiceRows.{AreChoices, IsMade, Made, said}
 use Rattle.book_audit.specs.Choices.{last_chosen}
 use Rattle.book_audit.specs.Data.{has_begun, price_of}

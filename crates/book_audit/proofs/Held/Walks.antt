@@ -1,13 +1,12 @@
 -- Walks over trees that hold tables: their rows have the columns of their trees, and their keys
 -- rise, so no row is refused.
-use Rattle.std.proofs.Common.{◌≡◌, ◌≢◌, ◌∙◌, ◌++◌, ◌∷◌, [], pos, List, Some, true, ap, ap₂, arith, length, map}
-use Rattle.std.proofs.Common.{refl, subst, sym}
+use Rattle.std.proofs.Common.{◌≡◌, ◌≢◌, ◌∙◌, ◌++◌, ◌∷◌, [], pos, List, Some, true, ap, ap₂, arith}
+use Rattle.std.proofs.Common.{length, map, refl, subst, sym, int_cmp, is_eq, is_gt, nat_cmp}
+use Rattle.std.proofs.Common.{Ordering, Less, Equal, Greater}
 use Rattle.std.specs.Cmp.{tied_itself}
 use Rattle.std.specs.FinMap.{FinMap, entries, entries_sorted, get}
 use Rattle.std.specs.List.{AllByRecursion}
-use Rattle.std.specs.Ordering.{int_cmp, is_eq, is_gt, nat_cmp, ordering_reverse, ordering_then}
-use Rattle.std.specs.declared.cmp.Ordering.{Ordering}
-use Rattle.std.specs.declared.cmp.Ordering.TheVariants.{Less, Equal, Greater}
+use Rattle.std.specs.Ordering.{ordering_reverse, ordering_then}
 use Rattle.std.proofs.lemmas.List.Elements.{recursion_from_All}
 use Rattle.std.proofs.lemmas.Option.{same_Some}
 use Rattle.sqlite_trees.specs.Tree.{IsAscending, Trees}
@@ -15,8 +14,8 @@ use Rattle.sqlite_trees.proofs.ListLemmas.{all-map, all_both, all_from_map, all_
 use Rattle.sqlite_trees.proofs.ListLemmas.{ascending_weaker}
 use Rattle.sqlite_value.specs.Keys.{plain, prefix_cmp}
 use Rattle.sqlite_value.specs.Order.{Row, row_cmp}
-use Rattle.sqlite_value.proofs.OrderLemmas.{row_cmp_total, then-Equal, value_cmp-Blob, value_cmp-Int}
-use Rattle.sqlite_value.proofs.OrderLemmas.{value_cmp-Text}
+use Rattle.sqlite_value.proofs.OrderLemmas.{row_cmp_total, then-Equal, value_cmp-Blob}
+use Rattle.sqlite_value.proofs.OrderLemmas.{value_cmp-Int, value_cmp-Text}
 use Rattle.book_model.specs.Words.{by_bytes, by_detail}
 use Rattle.book_model.specs.declared.detail.Detail.{Detail}
 use Rattle.book_model.proofs.DetailLemmas.{names_tie}
@@ -37,11 +36,12 @@ use Rattle.tree_tables.proofs.Layouts.{choice_layout, choice_name_layout, closed
 use Rattle.tree_tables.proofs.Layouts.{detail_layout, identity_layout, line_layout, mark_layout}
 use Rattle.tree_tables.proofs.Layouts.{record_layout, tariff_layout}
 use Rattle.book_audit.specs.Trees.{tree_number}
-use Rattle.book_audit.specs.Walks.{AreRising, AreWide, HasWalked, key_in, key_width, last_key, width}
+use Rattle.book_audit.specs.Walks.{AreRising, AreWide, HasWalked, key_in, key_width, last_key}
+use Rattle.book_audit.specs.Walks.{width}
 use Rattle.book_audit.specs.declared.finding.Tree.{Tree}
-use Rattle.book_audit.specs.declared.finding.Tree.TheVariants.{Book, Tariffs, Closes, Records}
-use Rattle.book_audit.specs.declared.finding.Tree.TheVariants.{Days, Lines, Identities, Marks}
-use Rattle.book_audit.specs.declared.finding.Tree.TheVariants.{Choices, ChoiceNames, Details}
+use Rattle.book_audit.specs.declared.finding.Tree.TheVariants.{Book, ChoiceNames, Choices, Closes}
+use Rattle.book_audit.specs.declared.finding.Tree.TheVariants.{Days, Details, Identities, Lines}
+use Rattle.book_audit.specs.declared.finding.Tree.TheVariants.{Marks, Records, Tariffs}
 use Rattle.book_audit.proofs.Held.Indexes.{entries_rise}
 use Rattle.book_audit.proofs.Held.Kept.{own_key}
 use Rattle.book_audit.proofs.Walks.Keys.{last_long, one_of_all, prefix_is, within}

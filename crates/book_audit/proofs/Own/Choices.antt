@@ -11,11 +11,11 @@ use Rattle.std.proofs.lemmas.Option.{same_Some}
 use Rattle.std.proofs.lemmas.List.{length-map}
 use Rattle.std.proofs.lemmas.List.Elements.{recursion_from_All}
 use Rattle.sha2.proofs.Facts256.{length-sha256}
-use Rattle.smf_frames.specs.Framed.{data_of}
 use Rattle.sqlite_trees.specs.Tree.{IsAscending, Trees}
 use Rattle.sqlite_trees.proofs.ListLemmas.{all_weaker}
 use Rattle.sqlite_value.specs.Order.{Row, column}
 use Rattle.sqlite_value.specs.declared.value.Value.TheVariants.{Blob, Int}
+use Rattle.smf_frames.specs.Framed.{data_of}
 use Rattle.book_model.specs.Words.{Choice, IsChoiceOf, charged_of, first_rule, identity_by}
 use Rattle.book_model.specs.Words.{is_unrivalled, last_period, most_choices, same_bytes}
 use Rattle.book_model.specs.Words.{second_rule}

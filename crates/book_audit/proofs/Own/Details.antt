@@ -19,6 +19,7 @@ use Rattle.book_model.specs.declared.detail.Detail.{Detail}
 use Rattle.table_model.specs.BookIn.{row_record}
 use Rattle.table_model.specs.DetailsRead.{detail_shown}
 use Rattle.table_model.specs.Tables.{RecordRow, Tables}
+use Rattle.table_model.proofs.Finding.{get_one}
 use Rattle.consistent_tables.specs.Consistent.{counted_entries, is_counted_row}
 use Rattle.tree_rows.specs.Rows.{Finds, IsFirst}
 use Rattle.tree_rows.proofs.FromPart.{FindsFrom, finds_from}
@@ -34,7 +35,6 @@ use Rattle.tree_tables.proofs.CountedRows.{detail_named, get_counted}
 use Rattle.tree_tables.proofs.Layouts.{detail_layout, detail_order, record_layout, work_columns}
 use Rattle.tree_tables.proofs.RowsRead.{all_entries}
 use Rattle.tree_tables.proofs.ShownDetails.{shown_fits}
-use Rattle.table_model.proofs.Finding.{get_one}
 use Rattle.book_audit.specs.Own.{AreOwn}
 use Rattle.book_audit.specs.OwnRecords.{IsCountedIn, IsHeldIn}
 use Rattle.book_audit.specs.Records.{detail_key, spot_of}

@@ -1,8 +1,7 @@
 -- The trees that find the rows of tables: their rows are entries, as many as the rows that they find.
-use Rattle.std.proofs.Common.{◌≡◌, ◌∙◌, List, length, map, ap, refl, subst, sym, true}
+use Rattle.std.proofs.Common.{◌≡◌, ◌∙◌, List, length, map, ap, refl, subst, sym, true, Ordering}
 use Rattle.std.specs.FinMap.{FinMap, entries}
 use Rattle.std.specs.List.{AllByRecursion}
-use Rattle.std.specs.declared.cmp.Ordering.{Ordering}
 use Rattle.std.proofs.lemmas.List.{length-map}
 use Rattle.sqlite_trees.specs.Tree.{Trees}
 use Rattle.sqlite_trees.proofs.ListLemmas.{all-map, all_of}
@@ -20,9 +19,9 @@ use Rattle.book_audit.specs.OfBook.{sha_names}
 use Rattle.book_audit.specs.Own.{AreOwn, is_index}
 use Rattle.book_audit.specs.Trees.{tree_number}
 use Rattle.book_audit.specs.declared.finding.Tree.{Tree}
-use Rattle.book_audit.specs.declared.finding.Tree.TheVariants.{Book, Tariffs, Closes, Records}
-use Rattle.book_audit.specs.declared.finding.Tree.TheVariants.{Days, Lines, Identities, Marks}
-use Rattle.book_audit.specs.declared.finding.Tree.TheVariants.{Choices, ChoiceNames, Details}
+use Rattle.book_audit.specs.declared.finding.Tree.TheVariants.{Book, ChoiceNames, Choices, Closes}
+use Rattle.book_audit.specs.declared.finding.Tree.TheVariants.{Days, Details, Identities, Lines}
+use Rattle.book_audit.specs.declared.finding.Tree.TheVariants.{Marks, Records, Tariffs}
 use Rattle.book_audit.proofs.Held.Indexes.{index_many}
 
 -- what is made of each entry of a map is an entry of the tree

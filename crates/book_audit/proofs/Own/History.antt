@@ -8,10 +8,10 @@ use Rattle.std.proofs.Math.Bool.{or-true}
 use Rattle.std.proofs.lemmas.List.Elements.{recursion_from_All}
 use Rattle.sqlite_trees.specs.Tree.{IsAscending}
 use Rattle.sqlite_trees.proofs.ListLemmas.{all-append, all_weaker, ascending-append}
-use Rattle.book_model.specs.Words.{Book, Choice, Event, Naming, PeriodClosed, RecordChosen}
-use Rattle.book_model.specs.Words.{RecordKept, SecondRuleAdopted, TariffAccepted, after, book_after}
-use Rattle.book_model.specs.Words.{chosen_answer, conflict, has, is_chosen, is_unrivalled}
-use Rattle.book_model.specs.Words.{IsMadeByCalls, most_choices, open_by, open_number}
+use Rattle.book_model.specs.Words.{Book, Choice, Event, IsMadeByCalls, Naming, PeriodClosed}
+use Rattle.book_model.specs.Words.{RecordChosen, RecordKept, SecondRuleAdopted, TariffAccepted}
+use Rattle.book_model.specs.Words.{after, book_after, chosen_answer, conflict, has, is_chosen}
+use Rattle.book_model.specs.Words.{is_unrivalled, most_choices, open_by, open_number}
 use Rattle.book_model.proofs.RecordSets.{has_with, is}
 use Rattle.table_model.specs.Changed.{IsAnswered}
 use Rattle.table_model.specs.FromCalls.{AreSubmitted, IsFromCalls, IsSubmittedTo}

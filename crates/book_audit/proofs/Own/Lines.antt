@@ -9,6 +9,8 @@ use Rattle.sqlite_trees.proofs.ListLemmas.{all-map}
 use Rattle.sqlite_value.specs.Order.{Row, column}
 use Rattle.sqlite_value.specs.declared.value.Value.TheVariants.{Blob}
 use Rattle.table_model.specs.Tables.{RecordRow, Tables}
+use Rattle.consistent_tables.specs.Consistent.{IsOwnLine, ruled}
+use Rattle.consistent_tables.specs.DueRows.{period_from}
 use Rattle.tree_rows.specs.Rows.{Finds}
 use Rattle.tree_rows.proofs.Maps.{not_none}
 use Rattle.tree_tables.specs.Columns.{line_columns, record_columns}
@@ -16,8 +18,6 @@ use Rattle.tree_tables.specs.Fits.{HasPeriod, LineFits, RecordFits}
 use Rattle.tree_tables.specs.Holds.{Holds}
 use Rattle.tree_tables.proofs.Layouts.{line_layout, record_layout}
 use Rattle.tree_tables.proofs.RowsRead.{all_entries, same_blob}
-use Rattle.consistent_tables.specs.Consistent.{IsOwnLine, ruled}
-use Rattle.consistent_tables.specs.DueRows.{period_from}
 use Rattle.book_audit.specs.Own.{AreOwn}
 use Rattle.book_audit.specs.OwnRecords.{IsLineIn}
 use Rattle.book_audit.specs.SoundTrees.{AreRuled}

@@ -3,10 +3,10 @@ use Rattle.std.proofs.Common.{◌≡◌, ◌∙◌, ◌∷◌, [], ℕ, List, tr
 use Rattle.std.proofs.Common.{sym}
 use Rattle.std.specs.FinMap.{get}
 use Rattle.sha2.proofs.Facts256.{length-sha256}
-use Rattle.smf_frames.specs.Framed.{data_of}
 use Rattle.sqlite_trees.specs.Tree.{Trees}
 use Rattle.sqlite_value.specs.Order.{Row, column}
 use Rattle.sqlite_value.specs.declared.value.Value.TheVariants.{Blob, Int}
+use Rattle.smf_frames.specs.Framed.{data_of}
 use Rattle.table_model.specs.BookIn.{row_record}
 use Rattle.table_model.specs.Fits.{TablesFit}
 use Rattle.table_model.specs.Tables.{RecordRow, Tables}
@@ -16,10 +16,10 @@ use Rattle.consistent_tables.specs.Consistent.{AreConsistent, ruled}
 use Rattle.consistent_tables.proofs.ChainTold.{ruled_back}
 use Rattle.consistent_tables.proofs.ReadableTables.{readable_are_consistent}
 use Rattle.tree_rows.specs.Rows.{Finds}
+use Rattle.tree_rows.proofs.Keyed.{row_found}
 use Rattle.tree_tables.specs.Columns.{record_columns}
 use Rattle.tree_tables.specs.Fits.{HasMark, RecordFits}
 use Rattle.tree_tables.proofs.Layouts.{line_layout}
-use Rattle.tree_rows.proofs.Keyed.{row_found}
 use Rattle.book_audit.specs.OfBook.{sha_names}
 use Rattle.book_audit.specs.Own.{AreOwn}
 use Rattle.book_audit.proofs.Held.Looks.{record_looked}

@@ -1,9 +1,8 @@
 -- The choices, one after the other.
-use Rattle.std.proofs.Common.{◌≡◌, ◌<◌, ◌≤◌, ◌+◌, ◌∙◌, ◌++◌, ◌∷◌, [], ℕ, List, Bool, true, false, Option, Some, None, cond}
-use Rattle.std.proofs.Common.{map, length, ap, refl, sym, subst, arith, length-append}
-use Rattle.std.specs.Prelude.{find, reverse}
+use Rattle.std.proofs.Common.{◌≡◌, ◌<◌, ◌≤◌, ◌+◌, ◌∙◌, ◌++◌, ◌∷◌, [], ℕ, List, Bool, true, false}
+use Rattle.std.proofs.Common.{Option, Some, None, cond, map, length, ap, refl, sym, subst, arith}
+use Rattle.std.proofs.Common.{length-append, find, reverse, option_map}
 use Rattle.std.specs.List.{AllByRecursion}
-use Rattle.std.specs.Option.{option_map}
 use Rattle.std.proofs.lemmas.List.{length-map, map-append, reverse-append}
 use Rattle.sqlite_trees.specs.Tree.{Trees}
 use Rattle.sqlite_trees.proofs.ListLemmas.{all-append, all_weaker, ascending-append}
@@ -12,7 +11,8 @@ use Rattle.book_model.specs.Words.{same_bytes}
 use Rattle.table_model.specs.TablesOf.{under_numbers}
 use Rattle.table_model.proofs.UnderNumbers.{one_more}
 use Rattle.tree_tables.specs.Columns.{choice_columns}
-use Rattle.book_audit.specs.ChoiceRows.{AreMade, Chooses, IsMade, Made, last_made, made_rows, row_of, said}
+use Rattle.book_audit.specs.ChoiceRows.{AreMade, Chooses, IsMade, Made, last_made, made_rows}
+use Rattle.book_audit.specs.ChoiceRows.{row_of, said}
 use Rattle.book_audit.specs.Choices.{last_chosen}
 use Rattle.book_audit.specs.declared.choices.Choice.{Choice}
 use Rattle.book_audit.specs.declared.choices.Chosen.{Chosen}

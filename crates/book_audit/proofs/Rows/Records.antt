@@ -6,14 +6,14 @@ use Rattle.std.proofs.lemmas.List.Sums.{sum_by-append}
 use Rattle.sqlite_trees.specs.Tree.{Trees}
 use Rattle.sqlite_trees.proofs.ListLemmas.{all-append}
 use Rattle.sqlite_value.specs.Order.{Row}
+use Rattle.tariff_rules.specs.declared.priced.Priced.{Priced}
 use Rattle.book_model.specs.Words.{most_cost, rows_of}
 use Rattle.book_model.specs.declared.row.ChargeRow.{ChargeRow}
 use Rattle.book_model.specs.declared.row.RowKey.{RowKey}
-use Rattle.tree_tables.specs.Columns.{day_columns, record_columns}
 use Rattle.book_core.specs.KeyedRows.{keyed_rows}
-use Rattle.tariff_rules.specs.declared.priced.Priced.{Priced}
 use Rattle.book_core.proofs.KeyedRowLemmas.{rows_of-keyed_rows}
 use Rattle.consistent_tables.specs.DueRows.{due_entry}
+use Rattle.tree_tables.specs.Columns.{day_columns, record_columns}
 use Rattle.book_audit.specs.Records.{AreEntries, Counts, IsRight, IsTold, Told, counted_price}
 use Rattle.book_audit.specs.Records.{counted_prices}
 use Rattle.book_audit.specs.declared.rulings.Rulings.{Rulings}

@@ -11,13 +11,13 @@ use Rattle.std.proofs.lemmas.Int.{ints}
 use Rattle.std.proofs.lemmas.List.{map-append}
 use Rattle.std.proofs.lemmas.Option.{same_Some}
 use Rattle.sqlite_value.specs.Order.{Row}
-use Rattle.consistent_tables.specs.DueRows.{period_from}
+use Rattle.book_model.specs.Words.{AcceptedTerms, IsDay, Terms, terms_in}
 use Rattle.table_model.specs.TablesOf.{close_entries, tariff_entries}
 use Rattle.table_model.specs.Readable.{IsOfCharacters, IsTexted}
 use Rattle.table_model.proofs.CloseOrder.{earlier}
 use Rattle.table_model.proofs.UnderNumbers.{one_more}
+use Rattle.consistent_tables.specs.DueRows.{period_from}
 use Rattle.tree_tables.specs.Columns.{closed_columns, tariff_columns}
-use Rattle.book_model.specs.Words.{AcceptedTerms, IsDay, Terms, terms_in}
 use Rattle.book_audit.specs.Days.{is_closed}
 use Rattle.book_audit.specs.Records.{later_periods}
 

@@ -9,12 +9,12 @@ use Rattle.table_model.specs.BookIn.{book_in}
 use Rattle.table_model.specs.Readable.{HasTexts, IsOfCharacters}
 use Rattle.table_model.specs.Tables.{Tables}
 use Rattle.table_model.specs.TablesOf.{tables_of}
-use Rattle.tree_tables.specs.Holds.{Holds}
-use Rattle.tree_tables.proofs.Layouts.{day_layout, line_layout}
 use Rattle.consistent_tables.specs.Consistent.{AreConsistent, ruled}
 use Rattle.consistent_tables.specs.DueRows.{due_entry}
 use Rattle.consistent_tables.proofs.ReadableBook.{consistent_are_readable}
 use Rattle.consistent_tables.proofs.Tables.{consistent_are_tables}
+use Rattle.tree_tables.specs.Holds.{Holds}
+use Rattle.tree_tables.proofs.Layouts.{day_layout, line_layout}
 use Rattle.book_audit.specs.OfBook.{AreOfBook, sha_names}
 use Rattle.book_audit.specs.Records.{counted_prices}
 use Rattle.book_audit.specs.SoundTrees.{AreSound}
@@ -23,11 +23,13 @@ use Rattle.book_audit.specs.declared.audited.Counts.{Counts as Numbers}
 use Rattle.book_audit.specs.declared.finding.Tree.TheVariants.{Days, Lines}
 use Rattle.book_audit.proofs.Held.Kept.{entries_kept}
 use Rattle.book_audit.proofs.Sound.Records.{own_row}
-use Rattle.book_audit.proofs.Sound.Rows.{amount_is, days_are, held_are, held_few, names_are, own_line}
-use Rattle.book_audit.proofs.Sound.Rulings.{choices_counted, choices_few, choices_numbered, choices_read}
-use Rattle.book_audit.proofs.Sound.Rulings.{choices_timely, closes_days, closes_entered, closes_few}
-use Rattle.book_audit.proofs.Sound.Rulings.{closes_rise, closes_said, days, rule_is, tariffs_entered}
-use Rattle.book_audit.proofs.Sound.Rulings.{tariffs_said, tariffs_texted}
+use Rattle.book_audit.proofs.Sound.Rows.{amount_is, days_are, held_are, held_few, names_are}
+use Rattle.book_audit.proofs.Sound.Rows.{own_line}
+use Rattle.book_audit.proofs.Sound.Rulings.{choices_counted, choices_few, choices_numbered}
+use Rattle.book_audit.proofs.Sound.Rulings.{choices_read, choices_timely, closes_days}
+use Rattle.book_audit.proofs.Sound.Rulings.{closes_entered, closes_few, closes_rise, closes_said}
+use Rattle.book_audit.proofs.Sound.Rulings.{days, rule_is, tariffs_entered, tariffs_said}
+use Rattle.book_audit.proofs.Sound.Rulings.{tariffs_texted}
 use Rattle.book_audit.proofs.Sound.Tables.{due, tables_held, told_all, trees_hold}
 
 module _ (trees : Trees) (numbers : Numbers) (sound : AreSound trees numbers) where

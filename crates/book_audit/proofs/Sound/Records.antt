@@ -10,11 +10,11 @@ use Rattle.book_model.specs.Words.{open_by, same_bytes}
 use Rattle.table_model.specs.BookIn.{row_record}
 use Rattle.table_model.specs.Tables.{RecordRow, Tables}
 use Rattle.table_model.specs.Views.{is_due_at, is_due_in}
-use Rattle.tree_tables.proofs.Layouts.{record_layout}
+use Rattle.table_model.proofs.Finding.{get_one}
 use Rattle.consistent_tables.specs.Consistent.{AreInTurn, IsOwnRow, charged_back, is_counted_row}
 use Rattle.consistent_tables.specs.Consistent.{periods_after, ruled}
 use Rattle.consistent_tables.specs.DueRows.{period_from}
-use Rattle.table_model.proofs.Finding.{get_one}
+use Rattle.tree_tables.proofs.Layouts.{record_layout}
 use Rattle.book_audit.specs.Days.{is_closed}
 use Rattle.book_audit.specs.Marks.{is_posted_so}
 use Rattle.book_audit.specs.OfBook.{sha_names}

@@ -7,7 +7,6 @@ use Rattle.std.specs.Cmp.Lexicographic.{nat_list_cmp_total}
 use Rattle.std.specs.FinMap.{entries, find, from_entries, get, get-entries, get-from_entries}
 use Rattle.std.specs.FinMap.{same_map, values}
 use Rattle.std.specs.Ordering.{ordering_then}
-use Rattle.tariff_rules.specs.declared.priced.Priced.{Priced}
 use Rattle.sqlite_trees.specs.Tree.{Trees, from_key}
 use Rattle.sqlite_trees.proofs.ListLemmas.{all_weaker}
 use Rattle.sqlite_value.specs.Keys.{plain, prefix_cmp}
@@ -15,19 +14,20 @@ use Rattle.sqlite_value.specs.Order.{Row, row_cmp, value_cmp}
 use Rattle.sqlite_value.specs.declared.value.Value.{Value}
 use Rattle.sqlite_value.specs.declared.value.Value.TheVariants.{Blob, Int, Text}
 use Rattle.sqlite_value.proofs.OrderLemmas.{value_cmp-Blob}
+use Rattle.tariff_rules.specs.declared.priced.Priced.{Priced}
 use Rattle.book_model.specs.Words.{by_bytes, by_key, most_held, rows_of as charge_rows}
 use Rattle.book_model.specs.declared.detail.Detail.{Detail}
 use Rattle.table_model.specs.DetailsRead.{detail_shown}
 use Rattle.table_model.specs.PeriodRows.{by_period}
 use Rattle.table_model.specs.Tables.{RecordRow, Tables}
+use Rattle.table_model.proofs.Finding.{get_one}
+use Rattle.consistent_tables.specs.Consistent.{IsOwnLine, counted_entries, is_counted_row, ruled}
+use Rattle.consistent_tables.specs.DueRows.{due_entry, period_from}
 use Rattle.tree_rows.specs.Rows.{IsFirst}
 use Rattle.tree_rows.proofs.IndexOrders.{by_bytes_exact}
 use Rattle.tree_rows.proofs.Keyed.{row_found}
 use Rattle.tree_rows.proofs.Maps.{head_is, prefix_of}
 use Rattle.tree_tables.proofs.Layouts.{line_layout, record_layout}
-use Rattle.consistent_tables.specs.Consistent.{IsOwnLine, counted_entries, is_counted_row, ruled}
-use Rattle.consistent_tables.specs.DueRows.{due_entry, period_from}
-use Rattle.table_model.proofs.Finding.{get_one}
 use Rattle.book_audit.specs.Lines.{IsLateLine}
 use Rattle.book_audit.specs.Details.{ShowsCounted}
 use Rattle.book_audit.specs.Records.{HasPast, IsTold, Told, detail_key, spot_of}

@@ -8,9 +8,9 @@ use Rattle.std.specs.List.{AllByRecursion, cons_option}
 use Rattle.std.specs.List.Sorted.{IsStrictlySortedBy}
 use Rattle.std.proofs.lemmas.List.{length-map}
 use Rattle.std.proofs.lemmas.List.Elements.{All-cons, All-from_recursion, All-nil}
-use Rattle.tariff_rules.specs.Terms.{Terms}
 use Rattle.sqlite_trees.specs.Tree.{Trees}
 use Rattle.sqlite_value.specs.Order.{Row, column}
+use Rattle.tariff_rules.specs.Terms.{Terms}
 use Rattle.book_model.specs.Words.{AcceptedTerms, Choice, IsDay, are_rising, identity_by}
 use Rattle.book_model.specs.Words.{last_period, most_choices, open_by, price_in}
 use Rattle.table_model.specs.BookIn.{choice_read}
@@ -19,12 +19,12 @@ use Rattle.table_model.specs.Tables.{BookRow, ChoiceRow, RecordRow, RecordTable,
 use Rattle.table_model.specs.TablesOf.{close_entries, tariff_entries, under_numbers}
 use Rattle.table_model.proofs.RulingsReading.{tariffs_back}
 use Rattle.table_model.proofs.UnderNumbers.{entries-numbers, values-numbers}
-use Rattle.tree_rows.proofs.Keyed.{row_found}
-use Rattle.tree_tables.proofs.Layouts.{record_layout, tariff_layout}
-use Rattle.tree_tables.proofs.RowsRead.{same_blob}
 use Rattle.consistent_tables.specs.Consistent.{IsOwnRule, choice_numbers, ruled}
 use Rattle.consistent_tables.proofs.RuledTables.{tariffs_rise}
 use Rattle.consistent_tables.proofs.SoundTables.{choice_of}
+use Rattle.tree_rows.proofs.Keyed.{row_found}
+use Rattle.tree_tables.proofs.Layouts.{record_layout, tariff_layout}
+use Rattle.tree_tables.proofs.RowsRead.{same_blob}
 use Rattle.book_audit.specs.ChoiceRows.{IsMade, Made, said}
 use Rattle.book_audit.specs.Data.{price_of}
 use Rattle.book_audit.specs.Rules.{identity_under, is_by, rule_of}

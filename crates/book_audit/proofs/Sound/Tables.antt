@@ -29,6 +29,7 @@ use Rattle.table_model.specs.Tables.{RecordTable, Tables}
 use Rattle.table_model.specs.TablesOf.{close_entries, row_key, tariff_entries, under_numbers}
 use Rattle.table_model.proofs.UnderNumbers.{entries-numbers}
 use Rattle.table_model.proofs.Finding.{get_one}
+use Rattle.consistent_tables.specs.DueRows.{due_entry}
 use Rattle.tree_rows.specs.Indexes.{IsKeyOf, index_answer}
 use Rattle.tree_rows.specs.Layouts.{Layout, row_of, rows_of}
 use Rattle.tree_rows.proofs.IndexOrders.{by_bytes_exact}
@@ -46,7 +47,6 @@ use Rattle.tree_tables.proofs.Layouts.{choice_layout, choice_name_layout, day_la
 use Rattle.tree_tables.proofs.Layouts.{detail_order, identity_layout, line_layout, mark_layout}
 use Rattle.tree_tables.proofs.Layouts.{record_layout, tariff_layout}
 use Rattle.tree_tables.proofs.RecordIndexes.{identity_named, mark_named}
-use Rattle.consistent_tables.specs.DueRows.{due_entry}
 use Rattle.book_audit.specs.ChoiceRows.{IsMade, Made, said}
 use Rattle.book_audit.specs.Details.{ShowsCounted}
 use Rattle.book_audit.specs.Entries.{IsEntry}

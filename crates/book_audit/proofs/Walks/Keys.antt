@@ -1,11 +1,8 @@
 -- A walk by key reads the rows one by one, where each is after the one before.
-use Rattle.std.proofs.Common.{◌≡◌, ◌≢◌, ◌∙◌, ◌++◌, ◌∷◌, [], ℕ, ◌≤◌, ◌<◌, List, true, cond}
-use Rattle.std.proofs.Common.{ap, arith, drop, length, refl, sym, subst, take, true≢false}
-use Rattle.std.proofs.Common.{append_assoc}
+use Rattle.std.proofs.Common.{◌≡◌, ◌≢◌, ◌∙◌, ◌++◌, ◌∷◌, [], ℕ, ◌≤◌, ◌<◌, List, true, cond, ap}
+use Rattle.std.proofs.Common.{arith, drop, length, refl, sym, subst, take, true≢false, append_assoc}
+use Rattle.std.proofs.Common.{is_eq, is_gt, is_lt, Ordering, Less, Equal, Greater}
 use Rattle.std.specs.List.{AllByRecursion}
-use Rattle.std.specs.Ordering.{is_eq, is_gt, is_lt}
-use Rattle.std.specs.declared.cmp.Ordering.{Ordering}
-use Rattle.std.specs.declared.cmp.Ordering.TheVariants.{Less, Equal, Greater}
 use Rattle.std.specs.Cmp.{tied_itself}
 use Rattle.std.proofs.lemmas.List.{length-take-le, take-append-drop}
 use Rattle.sqlite_trees.specs.Tree.{from_key}
@@ -18,10 +15,11 @@ use Rattle.tree_rows.specs.Rows.{IsFirst, past_key}
 use Rattle.tree_rows.proofs.Maps.{prefix_of}
 use Rattle.tree_tables.specs.Walks.{rows_past}
 use Rattle.book_audit.specs.declared.finding.Tree.{Tree}
-use Rattle.book_audit.specs.declared.finding.Tree.TheVariants.{Book, Tariffs, Closes, Records}
-use Rattle.book_audit.specs.declared.finding.Tree.TheVariants.{Days, Lines, Identities, Marks}
-use Rattle.book_audit.specs.declared.finding.Tree.TheVariants.{Choices, ChoiceNames, Details}
-use Rattle.book_audit.specs.Walks.{AreRising, AreWide, HasWalked, key_in, key_width, last_key, width}
+use Rattle.book_audit.specs.declared.finding.Tree.TheVariants.{Book, ChoiceNames, Choices, Closes}
+use Rattle.book_audit.specs.declared.finding.Tree.TheVariants.{Days, Details, Identities, Lines}
+use Rattle.book_audit.specs.declared.finding.Tree.TheVariants.{Marks, Records, Tariffs}
+use Rattle.book_audit.specs.Walks.{AreRising, AreWide, HasWalked, key_in, key_width, last_key}
+use Rattle.book_audit.specs.Walks.{width}
 
 -- what holds of all elements holds of one behind others
 pub one_of_all : {X : Type 0} (P : X → Type 0) (done : List X) (x : X) (more : List X)

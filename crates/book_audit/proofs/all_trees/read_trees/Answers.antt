@@ -1,14 +1,14 @@
 use Rattle.std.proofs.Common.{◌≡◌, ◌∙◌, [], ℕ, List, ap, length, rules, subst, sym}
 use Rattle.std.specs.BTreeMap.{values}
-use Rattle.tree_rows.proofs.Calls.{clean_before, quiet_both}
 use Rattle.sqlite_trees.specs.Tree.{Trees}
 use Rattle.sqlite_trees.specs.View.{IsClean}
 use Rattle.sqlite_trees.specs.declared.store.Store.{Ghosts}
-use Rattle.book_core.proofs.KeyedRowLemmas.{keyed_rows-none}
 use Rattle.book_model.specs.Words.{rows_of}
 use Rattle.book_model.specs.declared.row.ChargeRow.{ChargeRow}
 use Rattle.book_model.specs.declared.row.RowKey.{RowKey}
+use Rattle.book_core.proofs.KeyedRowLemmas.{keyed_rows-none}
 use Rattle.tree_rows.specs.Calls.{OnlyLooks}
+use Rattle.tree_rows.proofs.Calls.{clean_before, quiet_both}
 use Rattle.book_audit.specs.Days.{AreDueRows}
 use Rattle.book_audit.specs.Details.{AreDetails}
 use Rattle.book_audit.specs.Entries.{AreCounted}

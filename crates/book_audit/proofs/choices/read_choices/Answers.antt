@@ -1,5 +1,5 @@
-use Rattle.std.proofs.Common.{◌≡◌, ◌+◌, ◌∙◌, ◌++◌, ◌∷◌, [], ℕ, List, is_ok, length, ap, arith, rules}
-use Rattle.std.proofs.Common.{length-append, subst, sym}
+use Rattle.std.proofs.Common.{◌≡◌, ◌+◌, ◌∙◌, ◌++◌, ◌∷◌, [], ℕ, List, is_ok, length, ap, arith}
+use Rattle.std.proofs.Common.{rules, length-append, subst, sym}
 use Rattle.std.proofs.lemmas.List.{length-map, map-append}
 use Rattle.sqlite_trees.specs.Tree.{Trees}
 use Rattle.sqlite_trees.specs.View.{IsClean}
@@ -18,13 +18,13 @@ use Rattle.book_audit.specs.OwnChoices.{IsNextIn}
 use Rattle.book_audit.specs.Walks.{HasWalked, width}
 use Rattle.book_audit.specs.declared.finding.Tree.TheVariants.{Choices}
 use Rattle.book_audit.proofs.Rows.Choices.{made_pushed, none_made, rows_pushed}
-use Rattle.book_audit.proofs.Own.Choices.{own_choices_few, own_choices_fit, own_next_choice, since_from}
-use Rattle.book_audit.proofs.Own.Choices.{since_pushed}
+use Rattle.book_audit.proofs.Own.Choices.{own_choices_few, own_choices_fit, own_next_choice}
+use Rattle.book_audit.proofs.Own.Choices.{since_from, since_pushed}
 use Rattle.book_audit.proofs.Own.Entries.{choice_names_many}
 use Rattle.book_audit.proofs.Own.Stops.{each_err, err_passed, err_said, stop_on, stop_walked}
 use Rattle.book_audit.proofs.Sound.Tables.{long_numbers}
-use Rattle.book_audit.proofs.Walks.Steps.{its_place, its_row, look_back, looks_on, no_look, read_all}
-use Rattle.book_audit.proofs.Walks.Steps.{read_on, trees_stay}
+use Rattle.book_audit.proofs.Walks.Steps.{its_place, its_row, look_back, looks_on, no_look}
+use Rattle.book_audit.proofs.Walks.Steps.{read_all, read_on, trees_stay}
 use Rattle.book_audit.proofs.choices.read_choices.Goals as goal
 
 pub choices-init : goal.choices-init

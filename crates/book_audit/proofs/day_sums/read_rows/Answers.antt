@@ -1,20 +1,20 @@
 use Rattle.std.proofs.Common.{◌≡◌, ◌∙◌, ℕ, ℤ, List, map, take, ap, rules, subst, sym, is_ok}
 use Rattle.sqlite_value.specs.Order.{Row, column}
-use Rattle.tree_tables.specs.Fits.{ChargeFits, HasPeriod}
-use Rattle.tree_tables.specs.Columns.{day_columns}
+use Rattle.book_model.specs.declared.row.ChargeRow.{ChargeRow}
+use Rattle.consistent_tables.specs.DueRows.{due_entry}
 use Rattle.tree_rows.specs.Calls.{OnlyLooks}
 use Rattle.tree_rows.proofs.Calls.{quiet_both}
-use Rattle.consistent_tables.specs.DueRows.{due_entry}
-use Rattle.book_model.specs.declared.row.ChargeRow.{ChargeRow}
+use Rattle.tree_tables.specs.Fits.{ChargeFits, HasPeriod}
+use Rattle.tree_tables.specs.Columns.{day_columns}
+use Rattle.book_audit.specs.Days.{entry_of}
+use Rattle.book_audit.specs.Walks.{HasWalked}
+use Rattle.book_audit.specs.declared.finding.Tree.TheVariants.{Days}
 use Rattle.book_audit.proofs.Rows.Columns.{one_day}
 use Rattle.book_audit.proofs.Own.Days.{no_fewer, no_further, own_days_fit, row_next}
 use Rattle.book_audit.proofs.Own.Stops.{err_said, never_with, passed_with, stop_walked}
 use Rattle.book_audit.proofs.Rows.Records.{due_pushed}
 use Rattle.book_audit.proofs.Walks.Steps.{its_place, its_row, look_back, looks_on, no_look}
 use Rattle.book_audit.proofs.Walks.Steps.{read_all, read_on}
-use Rattle.book_audit.specs.Days.{entry_of}
-use Rattle.book_audit.specs.Walks.{HasWalked}
-use Rattle.book_audit.specs.declared.finding.Tree.TheVariants.{Days}
 use Rattle.book_audit.proofs.day_sums.read_rows.Goals as goal
 
 -- the rows of the first sums that are due

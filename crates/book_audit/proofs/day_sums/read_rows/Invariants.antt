@@ -1,8 +1,8 @@
 use Rattle.std.proofs.Common.{◌≡◌, map, take}
 use Rattle.sqlite_trees.specs.View.{IsClean}
+use Rattle.consistent_tables.specs.DueRows.{due_entry}
 use Rattle.tree_rows.specs.Calls.{CommitsNothing, OnlyLooks}
 use Rattle.tree_tables.specs.Columns.{day_columns}
-use Rattle.consistent_tables.specs.DueRows.{due_entry}
 use Rattle.book_audit.specs.Walks.{HasWalked}
 use Rattle.book_audit.specs.declared.finding.Tree.TheVariants.{Days}
 use Rattle.book_audit.proofs.day_sums.read_rows.Given as goal

@@ -1,10 +1,12 @@
 use Rattle.std.proofs.Common.{◌≡◌, ◌∙◌, ◌++◌, ◌∷◌, [], ℤ, List, length, map, ap, rules, subst, sym}
+use Rattle.std.specs.Prelude.{is_ok}
 use Rattle.std.proofs.lemmas.List.{map-append}
 use Rattle.sqlite_trees.specs.Tree.{Trees}
 use Rattle.sqlite_trees.specs.View.{IsClean}
 use Rattle.sqlite_trees.proofs.ListLemmas.{all-append}
 use Rattle.sqlite_value.specs.Order.{Row}
 use Rattle.book_model.specs.declared.detail.Detail.{Detail}
+use Rattle.table_model.specs.Tables.{Tables}
 use Rattle.tree_rows.specs.Calls.{OnlyLooks}
 use Rattle.tree_rows.proofs.Calls.{quiet_both}
 use Rattle.tree_tables.specs.Columns.{detail_columns}
@@ -19,8 +21,6 @@ use Rattle.book_audit.proofs.Walks.Steps.{trees_stay}
 use Rattle.book_audit.proofs.Own.Details.{IsShownOf, shown_had, shown_of, shown_row_fits}
 use Rattle.book_audit.proofs.Own.Stops.{err_said, never_with, passed_with, stop_on, stop_walked}
 use Rattle.book_audit.proofs.Own.Tables.{own_tables}
-use Rattle.std.specs.Prelude.{is_ok}
-use Rattle.table_model.specs.Tables.{Tables}
 use Rattle.book_audit.proofs.details.check_details.Goals as goal
 
 -- the row of what is shown

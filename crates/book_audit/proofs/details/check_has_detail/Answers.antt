@@ -1,10 +1,10 @@
 use Rattle.std.proofs.Common.{◌≡◌, ◌∙◌, List, ℕ, ap, false, rules, subst, sym, is_ok}
-use Rattle.smf_frames.specs.Framed.{record_with}
 use Rattle.sqlite_trees.specs.Tree.{Trees}
 use Rattle.sqlite_trees.specs.View.{IsClean}
 use Rattle.sqlite_trees.specs.declared.error.StoreError.{StoreError}
 use Rattle.sqlite_trees.specs.declared.error.StoreError.TheVariants.{OutOfMemory}
 use Rattle.sqlite_value.specs.Order.{Row}
+use Rattle.smf_frames.specs.Framed.{record_with}
 use Rattle.book_model.specs.Words.{IsUsage}
 use Rattle.table_model.specs.DetailsRead.{detail_shown}
 use Rattle.table_model.specs.Tables.{RecordRow}

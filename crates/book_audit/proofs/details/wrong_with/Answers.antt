@@ -1,12 +1,12 @@
 use Rattle.std.proofs.Common.{IfSome, Option, ◌≡◌, ◌∙◌, ◌∷◌, [], List, ℕ, ap, false, true, rules}
 use Rattle.std.proofs.Common.{subst, sym, is_ok}
-use Rattle.smf_frames.specs.Framed.{record_with}
 use Rattle.sqlite_trees.specs.Tree.{Trees}
 use Rattle.sqlite_trees.specs.View.{IsClean}
 use Rattle.sqlite_trees.specs.declared.error.StoreError.{StoreError}
 use Rattle.sqlite_trees.specs.declared.error.StoreError.TheVariants.{OutOfMemory}
 use Rattle.sqlite_value.specs.Order.{Row}
 use Rattle.sqlite_value.specs.declared.value.Value.TheVariants.{Blob}
+use Rattle.smf_frames.specs.Framed.{record_with}
 use Rattle.book_model.specs.Words.{IsUsage, detail_with}
 use Rattle.table_model.specs.Tables.{RecordRow}
 use Rattle.tree_rows.specs.Calls.{OnlyLooks}

@@ -1,18 +1,19 @@
-use Rattle.std.proofs.Common.{◌≡◌, ◌<◌, ◌≤◌, ◌+◌, ◌∷◌, [], ℤ, List, false, true, length, arith, rules}
-use Rattle.sqlite_value.specs.declared.value.Value.TheVariants.{Blob}
-use Rattle.tree_rows.specs.Rows.{Finds}
-use Rattle.tree_tables.specs.Columns.{record_columns}
-use Rattle.tree_tables.specs.Stored.{stored_entry}
-use Rattle.consistent_tables.specs.DueRows.{period_from}
+use Rattle.std.proofs.Common.{◌≡◌, ◌<◌, ◌≤◌, ◌+◌, ◌∷◌, [], ℤ, List, false, true, length, arith}
+use Rattle.std.proofs.Common.{rules}
 use Rattle.sqlite_trees.specs.Tree.{Trees}
 use Rattle.sqlite_trees.specs.View.{IsClean}
+use Rattle.sqlite_value.specs.declared.value.Value.TheVariants.{Blob}
 use Rattle.sqlite_value.specs.Order.{Row}
+use Rattle.consistent_tables.specs.DueRows.{period_from}
+use Rattle.tree_rows.specs.Rows.{Finds}
 use Rattle.tree_rows.specs.Calls.{OnlyLooks}
+use Rattle.tree_tables.specs.Columns.{record_columns}
+use Rattle.tree_tables.specs.Stored.{stored_entry}
 use Rattle.book_audit.specs.Lines.{line_entry}
 use Rattle.book_audit.proofs.Own.Lines.{own_line_found, own_line_late}
 use Rattle.book_audit.proofs.Walks.Steps.{look_back}
-use Rattle.book_audit.proofs.lines.check_line.Goals.{then-line-own-via-then-line-own}
 use Rattle.book_audit.proofs.lines.check_line.Goals.{then-line-own-via-else-line-own+then-open_period-line}
+use Rattle.book_audit.proofs.lines.check_line.Goals.{then-line-own-via-then-line-own}
 use Rattle.book_audit.proofs.lines.check_line.Goals as goal
 
 pub returns-clause-late : goal.returns-clause-late

@@ -5,6 +5,7 @@ use Rattle.sqlite_trees.specs.Tree.{Trees}
 use Rattle.sqlite_trees.specs.View.{IsClean}
 use Rattle.sqlite_trees.proofs.ListLemmas.{all-append}
 use Rattle.sqlite_value.specs.Order.{Row, column}
+use Rattle.table_model.specs.Tables.{Tables}
 use Rattle.tree_rows.specs.Calls.{OnlyLooks}
 use Rattle.tree_rows.proofs.Calls.{quiet_both}
 use Rattle.tree_tables.specs.Columns.{line_columns}
@@ -19,7 +20,6 @@ use Rattle.book_audit.proofs.Walks.Steps.{trees_stay}
 use Rattle.book_audit.proofs.Own.Lines.{IsLineOf, line_had, line_row_fits, lines_of}
 use Rattle.book_audit.proofs.Own.Stops.{err_said, never_with, passed_with, stop_on, stop_walked}
 use Rattle.book_audit.proofs.Own.Tables.{own_tables}
-use Rattle.table_model.specs.Tables.{Tables}
 use Rattle.book_audit.proofs.lines.check_lines.Goals as goal
 
 pub lines-init : goal.lines-init

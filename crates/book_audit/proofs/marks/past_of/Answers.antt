@@ -7,13 +7,13 @@ use Rattle.sqlite_trees.specs.Tree.{Trees}
 use Rattle.sqlite_trees.specs.View.{IsClean}
 use Rattle.sqlite_value.specs.Order.{Row, column}
 use Rattle.sqlite_value.specs.declared.value.Value.TheVariants.{Blob, Int}
+use Rattle.book_model.specs.Words.{open_by}
+use Rattle.consistent_tables.specs.Consistent.{charged_back, line_at, ruled}
+use Rattle.consistent_tables.proofs.ChargedSets.{in_turn}
 use Rattle.tree_rows.specs.Calls.{OnlyLooks}
 use Rattle.tree_rows.specs.Rows.{Finds}
 use Rattle.tree_rows.proofs.Calls.{quiet_both}
 use Rattle.tree_tables.specs.Columns.{flag}
-use Rattle.consistent_tables.specs.Consistent.{charged_back, line_at, ruled}
-use Rattle.book_model.specs.Words.{open_by}
-use Rattle.consistent_tables.proofs.ChargedSets.{in_turn}
 use Rattle.book_audit.specs.Records.{GoesBack, IsLine, Turns}
 use Rattle.book_audit.specs.Records.Turns.{Stays, Turned}
 use Rattle.book_audit.proofs.Held.Looks.{line_looked, went_back}

@@ -1,10 +1,14 @@
 use Rattle.std.proofs.Common.{◌≡◌, ◌≤◌, ◌+◌, ◌∙◌, ◌++◌, ◌∷◌, [], ℕ, List, Some, false, map, length}
 use Rattle.std.proofs.Common.{ap, arith, rules, subst, sym, is_ok}
+use Rattle.std.specs.FinMap.{get}
 use Rattle.sqlite_trees.specs.Tree.{Trees}
 use Rattle.sqlite_trees.specs.View.{IsClean}
 use Rattle.sqlite_trees.specs.declared.error.StoreError.{StoreError}
 use Rattle.sqlite_trees.specs.declared.error.StoreError.TheVariants.{OutOfMemory}
+use Rattle.sqlite_trees.proofs.ListLemmas.{all_weaker}
 use Rattle.sqlite_value.specs.Order.{Row}
+use Rattle.book_model.specs.Words.{IsPriced}
+use Rattle.table_model.specs.Tables.{RecordRow, Tables}
 use Rattle.tree_rows.specs.Calls.{OnlyLooks}
 use Rattle.tree_rows.proofs.Calls.{quiet_both}
 use Rattle.tree_tables.specs.Columns.{record_columns}
@@ -24,10 +28,6 @@ use Rattle.book_audit.proofs.Own.Stops.{err_fits, met_memory, own_still, passed_
 use Rattle.book_audit.proofs.Own.Stops.{stop_walked}
 use Rattle.book_audit.proofs.Own.Sums.{own_cost, own_counted, own_few, so_many}
 use Rattle.book_audit.proofs.Own.Tables.{own_fit, own_tables}
-use Rattle.std.specs.FinMap.{get}
-use Rattle.sqlite_trees.proofs.ListLemmas.{all_weaker}
-use Rattle.book_model.specs.Words.{IsPriced}
-use Rattle.table_model.specs.Tables.{RecordRow, Tables}
 use Rattle.book_audit.proofs.records.read_records.Goals as goal
 
 pub records-init : goal.records-init

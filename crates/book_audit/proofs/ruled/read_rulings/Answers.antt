@@ -15,7 +15,8 @@ use Rattle.book_audit.specs.Rulings.{AreClosed, AreTariffs}
 use Rattle.book_audit.specs.declared.finding.Tree.TheVariants.{ChoiceNames}
 use Rattle.book_audit.specs.declared.identity_rule.IdentityRule.{IdentityRule}
 use Rattle.book_audit.specs.declared.rulings.BookRow.{BookRow}
-use Rattle.book_audit.proofs.Own.Rulings.{known_rule, own_closes, own_readable, own_rule, own_rulings}
+use Rattle.book_audit.proofs.Own.Rulings.{known_rule, own_closes, own_readable, own_rule}
+use Rattle.book_audit.proofs.Own.Rulings.{own_rulings}
 use Rattle.book_audit.proofs.Own.Stops.{stop_on, stop_passed}
 use Rattle.book_audit.proofs.Walks.Steps.{look_back, looks_on, trees_stay}
 use Rattle.book_audit.proofs.ruled.read_rulings.Goals as goal

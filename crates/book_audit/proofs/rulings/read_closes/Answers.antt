@@ -7,12 +7,12 @@ use Rattle.std.proofs.lemmas.List.Elements.{All-nil, All-push}
 use Rattle.sqlite_value.specs.Order.{Row}
 use Rattle.book_model.specs.Words.{IsDay}
 use Rattle.book_model.proofs.DayLemmas.{day_fits}
-use Rattle.table_model.proofs.CloseOrder.{rise_behind}
 use Rattle.table_model.specs.TablesOf.{close_entries}
+use Rattle.table_model.proofs.CloseOrder.{rise_behind}
+use Rattle.tree_rows.proofs.Calls.{quiet_both}
 use Rattle.tree_tables.specs.Columns.{closed_columns}
 use Rattle.tree_tables.specs.Fits.{CloseFits}
 use Rattle.tree_tables.specs.Stored.{close_entry}
-use Rattle.tree_rows.proofs.Calls.{quiet_both}
 use Rattle.book_audit.specs.Own.{IsOwnStop}
 use Rattle.book_audit.specs.Rulings.{IsNextClose}
 use Rattle.book_audit.specs.Walks.{HasWalked, width}

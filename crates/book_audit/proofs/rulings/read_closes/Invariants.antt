@@ -1,6 +1,5 @@
-use Rattle.std.proofs.Common.{◌≡◌, All, map}
+use Rattle.std.proofs.Common.{◌≡◌, All, map, int_cmp}
 use Rattle.std.specs.List.Sorted.{IsStrictlySortedBy}
-use Rattle.std.specs.Ordering.{int_cmp}
 use Rattle.sqlite_trees.specs.View.{IsClean}
 use Rattle.book_model.specs.Words.{IsDay}
 use Rattle.table_model.specs.TablesOf.{close_entries}

@@ -1,6 +1,5 @@
-use Rattle.std.proofs.Common.{◌∙◌, ap, sym, false}
+use Rattle.std.proofs.Common.{◌∙◌, ap, sym, false, option_copied}
 use Rattle.std.specs.Option.{option_map_or}
-use Rattle.std.specs.Prelude.{option_copied}
 use Rattle.book_model.specs.Words.{same_bytes}
 use Rattle.book_audit.proofs.choices.Chosen.is_last.Goals as goal
 

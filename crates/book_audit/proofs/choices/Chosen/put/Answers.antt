@@ -1,8 +1,8 @@
 use Rattle.std.proofs.Common.{◌∙◌, ap, sym, cond, Some}
 use Rattle.std.specs.Cmp.Lexicographic.{texts_ties}
 use Rattle.std.specs.Map.{lookup}
-use Rattle.book_audit.specs.Choices.{last_chosen}
 use Rattle.tree_tables.proofs.Inserting.{lookup-insert_entry}
+use Rattle.book_audit.specs.Choices.{last_chosen}
 use Rattle.book_audit.proofs.choices.Chosen.put.Goals as goal
 
 pub returns-clause-names : goal.returns-clause-names

@@ -1,6 +1,5 @@
-use Rattle.std.proofs.Common.{◌≡◌, ◌≢◌, ◌∙◌, ◌++◌, ◌∷◌, [], List, arith, false, length, true, true≢false}
-use Rattle.std.proofs.Common.{rules, subst, sym}
-use Rattle.std.specs.Ordering.{is_gt}
+use Rattle.std.proofs.Common.{◌≡◌, ◌≢◌, ◌∙◌, ◌++◌, ◌∷◌, [], List, arith, false, length, true}
+use Rattle.std.proofs.Common.{true≢false, rules, subst, sym, is_gt}
 use Rattle.sqlite_value.specs.Keys.{plain, prefix_cmp}
 use Rattle.sqlite_value.specs.Order.{Row}
 use Rattle.tree_rows.specs.Rows.{IsFirst}
@@ -11,7 +10,8 @@ use Rattle.book_audit.specs.Walks.{HasWalked, key_in, width}
 use Rattle.book_audit.proofs.Own.Stops.{own_walk}
 use Rattle.book_audit.proofs.Held.Walks.{next_after, next_wide}
 use Rattle.book_audit.proofs.Walks.Keys.{walk_step}
-use Rattle.book_audit.proofs.walk.Walk.next.Goals.{else-not-is_empty-via-then-not-is_empty+else-not-is_gt, else-not-is_empty-via-else-not-is_empty}
+use Rattle.book_audit.proofs.walk.Walk.next.Goals.{else-not-is_empty-via-else-not-is_empty}
+use Rattle.book_audit.proofs.walk.Walk.next.Goals.{else-not-is_empty-via-then-not-is_empty+else-not-is_gt}
 use Rattle.book_audit.proofs.walk.Walk.next.Goals as goal
 
 pub returns-clause-next : goal.returns-clause-next
