@@ -31,7 +31,7 @@ use Rattle.tree_rows.proofs.IndexOrders.{by_bytes_exact}
 use Rattle.tree_rows.proofs.PartIndexes.{part_in_order}
 use Rattle.tree_rows.proofs.Runs.{run_named}
 use Rattle.tree_rows.proofs.Keyed.{row_found}
-use Rattle.tree_tables.specs.Columns.{flag, identity_columns}
+use Rattle.tree_tables.specs.Columns.{flag, identity_columns, record_columns}
 use Rattle.tree_tables.specs.Holds.{Holds, identity_index, identity_key}
 use Rattle.tree_tables.proofs.FoundNames.{Entry}
 use Rattle.tree_tables.proofs.Layouts.{identity_layout, mark_layout, record_layout}
@@ -41,6 +41,7 @@ use Rattle.book_audit.specs.Records.{GoesBack, HasPast, IsLine, Turns}
 use Rattle.book_audit.specs.Records.Turns.{Stays, Turned}
 use Rattle.book_audit.specs.Trees.{FindsTwo}
 use Rattle.book_audit.proofs.Rows.Counted.{some_kept}
+use Rattle.book_audit.proofs.Rows.Columns.{one_record}
 
 -- an entry of an index is found
 pub indexed_found : {K V Q : Type 0} {R : K → K → Ordering} {P : Q → Q → Ordering} {key : K × V → Q}
@@ -119,6 +120,17 @@ module _ (trees : Trees) (tables : Tables) (holds : Holds trees tables) where
       → Answers record_layout tables.records name row hit
   record_looked name row hit finds =
       row_found record_layout tables.records name finds holds.records refl
+
+  -- a record whose row is found has the name, and is in the table
+  pub entry_looked : (name : List ℕ) (entry : List ℕ × RecordRow)
+      → Finds (Blob name ∷ []) (trees 3) (record_columns entry) true
+      → (entry.0 ≡ name) × (get tables.records name ≡ Some entry.1)
+  entry_looked name entry finds =
+      let found = record_looked name (record_columns entry) true finds in
+      let same : entry ≡ (name, found.0) = one_record entry (name, found.0) found.2 in (
+        ap (λ (e : List ℕ × RecordRow). e.0) same,
+        found.1 ∙ ap (λ (e : List ℕ × RecordRow). Some e.1) (sym same),
+      )
 
   -- a line by its period and its record's name
   pub line_looked : (period : ℕ) (name : List ℕ) (line : Option Bool)

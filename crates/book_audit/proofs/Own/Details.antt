@@ -39,8 +39,7 @@ use Rattle.book_audit.specs.Own.{AreOwn}
 use Rattle.book_audit.specs.OwnRecords.{IsCountedIn, IsHeldIn}
 use Rattle.book_audit.specs.Records.{detail_key, spot_of}
 use Rattle.book_audit.proofs.Rows.Counted.{name_counted}
-use Rattle.book_audit.proofs.Held.Looks.{record_looked}
-use Rattle.book_audit.proofs.Rows.Columns.{one_record}
+use Rattle.book_audit.proofs.Held.Looks.{entry_looked}
 use Rattle.book_audit.proofs.Own.Tables.{own_consistent, own_record_fits, own_tables}
 use Rattle.book_audit.proofs.Sound.Tables.{both_there, first_less, some_unit}
 
@@ -133,8 +132,7 @@ module _ (trees : Trees) (entry : List ℕ × RecordRow) (is : IsCountedIn trees
 pub held_found : (trees : Trees) (entry : List ℕ × RecordRow)
     → Finds (Blob entry.0 ∷ []) (trees 3) (record_columns entry) true → IsHeldIn trees entry
 held_found trees entry finds = λ tables holds.
-    let found = record_looked trees tables holds entry.0 (record_columns entry) true finds in
-    found.1 ∙ ap (λ (e : List ℕ × RecordRow). Some e.1) (sym (one_record entry (entry.0, found.0) found.2))
+    (entry_looked trees tables holds entry.0 entry finds).1
 
 -- what is shown is a record that is counted
 pub own_shown_at : (trees : Trees) (own : AreOwn trees) (shown : Detail)
@@ -227,16 +225,14 @@ pub own_row : (trees : Trees) (own : AreOwn trees) (shown : Detail) (entry : Lis
 own_row trees own shown entry is finds =
     let tables : Tables = own_tables trees own in
     let its = own_shown_at trees own shown is in
-    let found = record_looked trees tables own.holds shown.name (record_columns entry) true finds in
-    let same : entry ≡ (shown.name, found.0) = one_record entry (shown.name, found.0) found.2 in
-    let row : its.0 ≡ found.0 = same_Some its.0 found.0 (sym its.1 ∙ found.1) in
+    let at = entry_looked trees tables own.holds shown.name entry finds in
+    let row : its.0 ≡ entry.1 = same_Some its.0 entry.1 (sym its.1 ∙ at.1) in
     let its_entry : List ℕ × RecordRow = (shown.name, its.0) in
-    let again : its_entry ≡ entry =
-    ap (λ (r : RecordRow). let e : List ℕ × RecordRow = (shown.name, r) in e) row ∙ sym same in
+    let again : its_entry ≡ entry = λ i. (sym at.0 i, row i) in
     record {
       shows = sym its.2 ∙ ap (λ (e : List ℕ × RecordRow). detail_with shown.name (row_record e.1) e.1.priced) again;
       held = held_found trees entry (subst (λ (name : List ℕ). Finds (Blob name ∷ []) (trees 3)
-          (record_columns entry) true) (sym (ap (λ (e : List ℕ × RecordRow). e.0) same)) finds);
+          (record_columns entry) true) (sym at.0) finds);
       counted = record {
         own = own;
         held = subst (λ (e : List ℕ × RecordRow). get tables.records e.0 ≡ Some e.1) again its.1;
@@ -248,11 +244,9 @@ own_row trees own shown entry is finds =
 pub own_usage : (trees : Trees) (own : AreOwn trees) (name : List ℕ) (entry : List ℕ × RecordRow)
     → Finds (Blob name ∷ []) (trees 3) (record_columns entry) true → IsUsageData entry.1.data_bytes
 own_usage trees own name entry finds =
-    let found = record_looked trees (own_tables trees own) own.holds name (record_columns entry) true finds in
-    let same : entry ≡ (name, found.0) = one_record entry (name, found.0) found.2 in
-    let usage = ((own_consistent trees own).records name found.0 found.1).usage in
-    subst (λ (e : List ℕ × RecordRow). IsUsageData e.1.data_bytes) (sym same)
-    (record { short = usage.framed.short; usage = usage.usage })
+    let at = entry_looked trees (own_tables trees own) own.holds name entry finds in
+    let usage = ((own_consistent trees own).records name entry.1 at.1).usage in
+    record { short = usage.framed.short; usage = usage.usage }
 
 -- so are those of one that is counted
 pub counted_usage : (trees : Trees) (entry : List ℕ × RecordRow) → IsCountedIn trees entry

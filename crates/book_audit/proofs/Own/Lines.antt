@@ -22,7 +22,7 @@ use Rattle.book_audit.specs.Own.{AreOwn}
 use Rattle.book_audit.specs.OwnRecords.{IsLineIn}
 use Rattle.book_audit.specs.SoundTrees.{AreRuled}
 use Rattle.book_audit.specs.declared.rulings.Rulings.{Rulings}
-use Rattle.book_audit.proofs.Held.Looks.{record_looked}
+use Rattle.book_audit.proofs.Held.Looks.{entry_looked, record_looked}
 use Rattle.book_audit.proofs.Own.Records.{closes_are}
 use Rattle.book_audit.proofs.Own.Tables.{own_consistent, own_fit, own_record_fits, own_tables}
 use Rattle.book_audit.proofs.Rows.Columns.{one_line, one_record}
@@ -118,12 +118,9 @@ module _ (trees : Trees) (own : AreOwn trees) where
         × (line.0.0 ≤ length rulings.closes.items + 1)
     own_line_late entry finds =
         let closes = closes_are trees rulings own are in
-        let found = record_looked trees (own_tables trees own) own.holds line.0.1
-        (record_columns entry) true finds in
-        let same : entry ≡ (line.0.1, found.0) = one_record entry (line.0.1, found.0) found.2 in
+        let at = entry_looked trees (own_tables trees own) own.holds line.0.1 entry finds in
         let row : entry.1 ≡ own_line.row =
-        ap (λ (e : List ℕ × RecordRow). e.1) same
-        ∙ same_Some found.0 own_line.row (sym found.1 ∙ own_line.held) in (
+        same_Some entry.1 own_line.row (sym at.1 ∙ own_line.held) in (
           subst (λ (days : List ℤ). period_from 1 days entry.1.priced.day < line.0.0) (sym closes)
               (subst (λ (r : RecordRow). period_from 1 (ruled (own_tables trees own)).closes r.priced.day
               < line.0.0) (sym row) own_line.after),

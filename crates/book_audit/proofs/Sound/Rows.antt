@@ -25,9 +25,8 @@ use Rattle.consistent_tables.specs.Consistent.{IsOwnLine, counted_entries, is_co
 use Rattle.consistent_tables.specs.DueRows.{due_entry, period_from}
 use Rattle.tree_rows.specs.Rows.{IsFirst}
 use Rattle.tree_rows.proofs.IndexOrders.{by_bytes_exact}
-use Rattle.tree_rows.proofs.Keyed.{row_found}
 use Rattle.tree_rows.proofs.Maps.{head_is, prefix_of}
-use Rattle.tree_tables.proofs.Layouts.{line_layout, record_layout}
+use Rattle.tree_tables.proofs.Layouts.{line_layout}
 use Rattle.book_audit.specs.Lines.{IsLateLine}
 use Rattle.book_audit.specs.Details.{ShowsCounted}
 use Rattle.book_audit.specs.Records.{HasPast, IsTold, Told, detail_key, spot_of}
@@ -42,7 +41,7 @@ use Rattle.book_audit.proofs.Sound.Rulings.{closes_said, days, open_is}
 use Rattle.book_audit.proofs.Sound.Tables.{name_shown, names_shown, records_in_order, shown}
 use Rattle.book_audit.proofs.Sound.Tables.{shown_name, shown_row, so_many, tables_held, told_all}
 use Rattle.book_audit.proofs.Sound.Tables.{trees_hold}
-use Rattle.book_audit.proofs.Rows.Columns.{one_record}
+use Rattle.book_audit.proofs.Held.Looks.{entry_looked}
 
 -- ---- details
 
@@ -191,12 +190,11 @@ module _ (trees : Trees) (numbers : Numbers) (sound : AreSound trees numbers) wh
       → (row : RecordRow) × (get tables.records d.name ≡ Some row) × (counts (d.name, row) ≡ true)
   shown_counted d one =
       let shows = of_one (ShowsCounted trees closes) (shown trees numbers sound) sound.details.each d one in
-      let at = row_found record_layout tables.records d.name shows.held
-      (trees_hold trees numbers sound).records refl in
-      let past : HasPast (trees 5) closes (d.name, at.0) true =
-      subst (λ (e : List ℕ × RecordRow). HasPast (trees 5) closes e true)
-      (one_record shows.entry (d.name, at.0) at.2) shows.counted in
-      (at.0, at.1, sym (past_is trees numbers sound d.name at.0 true past).0)
+      let row : RecordRow = shows.entry.1 in
+      let at = entry_looked trees tables (trees_hold trees numbers sound) d.name shows.entry shows.held in
+      let past : HasPast (trees 5) closes (d.name, row) true =
+      subst (λ (name : List ℕ). HasPast (trees 5) closes (name, row) true) at.0 shows.counted in
+      (row, at.1, sym (past_is trees numbers sound d.name row true past).0)
 
   -- and what is counted is shown
   counted_shown : (one : Told) → IsOneOf one told_here → counts one.0 ≡ true
@@ -243,14 +241,12 @@ module _ (trees : Trees) (numbers : Numbers) (sound : AreSound trees numbers) wh
       let late = get_one line_layout.total line_layout.exact
       (λ (place : ℕ × List ℕ) (plus : Bool). IsLateLine (trees 3) closes (place, plus))
       sound.lines.lines sound.lines.each (period, name) plus there in
-      let at = row_found record_layout tables.records name late.held
-      (trees_hold trees numbers sound).records refl in
-      let same = one_record late.entry (name, at.0) at.2 in
+      let at = entry_looked trees tables (trees_hold trees numbers sound) name late.entry late.held in
       record {
-        row = at.0;
+        row = late.entry.1;
         held = at.1;
-        after = subst (λ (it : List ℤ × ℤ). period_from 1 it.0 it.1 < period)
-            (λ i. (sym (closes_said trees numbers sound) i, (same i).1.priced.day)) late.after;
+        after = subst (λ (all : List ℤ). period_from 1 all late.entry.1.priced.day < period)
+            (sym (closes_said trees numbers sound)) late.after;
         begun = subst (λ n. period ≤ n) (sym (open_is trees numbers sound)) late.begun;
       }
 
