@@ -2,7 +2,7 @@
 use Rattle.std.proofs.Common.{◌≡◌, ◌∙◌, ◌<◌, ◌∷◌, [], ◌⊎◌, inl, inr, ℕ, suc, List, Bool, true}
 use Rattle.std.proofs.Common.{false, ◌&&◌, ◌==◌, All, Option, Some, None, ap, ap₂, map, refl, sym}
 use Rattle.std.proofs.Common.{Ok, eqb-true, ltb-true}
-use Rattle.std.specs.FinMap.{entries, values}
+use Rattle.std.specs.FinMap.{entries, values, get}
 use Rattle.std.specs.List.{AllByRecursion, last_or}
 use Rattle.std.specs.Option.{option_map, option_map_or, option_or}
 use Rattle.std.specs.Prelude.{if◌then◌else◌, filter, find, nat_le, nat_lt, reverse}
@@ -22,7 +22,8 @@ use Rattle.book_model.proofs.LatestLemmas.{begun-last}
 use Rattle.book_model.proofs.RecordSets.{first_of, second_of}
 use Rattle.table_model.specs.BookIn.{adopted_read}
 use Rattle.table_model.specs.Readable.{IsTexted}
-use Rattle.table_model.specs.Tables.{BookRow, ChoiceRow, RecordRow, Tables, never_adopted}
+use Rattle.table_model.specs.Tables.{BookRow, ChoiceRow, RecordRow, RecordTable, Tables}
+use Rattle.table_model.specs.Tables.{never_adopted}
 use Rattle.table_model.specs.TablesOf.{tariff_entries, under_numbers}
 use Rattle.table_model.specs.Views.{last_named, name_has_identity}
 use Rattle.consistent_tables.specs.Consistent.{choice_numbers}
@@ -134,22 +135,34 @@ identity_said row found bytes is =
 
 -- ---- choices
 
+-- the record of a choice is held, and has its identity
+abbrev pub IsHeldChoice : RecordTable → Made → Type 0
+IsHeldChoice records one =
+    (row : RecordRow) × (get records one.1.name ≡ Some row) × (row.identity ≡ one.0)
+
+pub held_choice : (trees : Trees) (tables : Tables) → Holds trees tables → (rule : IdentityRule)
+    (n : ℕ) (one : Made) → IsMade trees rule (n, one) → IsHeldChoice tables.records one
+held_choice trees tables holds rule n one is =
+    let among = is.among in
+    let found = record_looked trees tables holds one.1.name among.found true among.held in (
+      found.0,
+      found.1,
+      same_blob found.0.identity one.0 (sym (ap (λ (r : Row). column r 1) found.2) ∙ among.identity_of),
+    )
+
 module _ (trees : Trees) (tables : Tables) (holds : Holds trees tables)
     (numbers : entries tables.choices ≡ choice_numbers tables) (rule : IdentityRule) where
-  -- the record of a choice is held, and has its identity
+  -- so it has an identity if that is its own
   of_identity : (identity : List ℕ) (n : ℕ) (made : List Made)
       → AllByRecursion (IsMade trees rule) (under_numbers n made)
       → AllByRecursion (λ (one : Made). name_has_identity tables.records identity one.1.name
       ≡ same_bytes identity one.0) made
   of_identity identity n [] each = tt
   of_identity identity n (one ∷ made) each =
-      let among = each.0.among in
-      let found = record_looked trees tables holds one.1.name among.found true among.held in
-      let same : found.0.identity ≡ one.0 = same_blob found.0.identity one.0
-      (sym (ap (λ (r : Row). column r 1) found.2) ∙ among.identity_of) in (
+      let its = held_choice trees tables holds rule n one each.0 in (
         ap (λ (row : Option RecordRow). option_map_or (λ (row : RecordRow).
-            same_bytes row.identity identity) row false) found.1
-            ∙ ap (λ (own : List ℕ). same_bytes own identity) same
+            same_bytes row.identity identity) row false) its.1
+            ∙ ap (λ (own : List ℕ). same_bytes own identity) its.2
             ∙ nat_list_eq_equiv.symm one.0 identity,
         of_identity identity (suc n) made each.1,
       )

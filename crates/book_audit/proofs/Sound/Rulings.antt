@@ -9,7 +9,6 @@ use Rattle.std.specs.List.Sorted.{IsStrictlySortedBy}
 use Rattle.std.proofs.lemmas.List.{length-map}
 use Rattle.std.proofs.lemmas.List.Elements.{All-cons, All-from_recursion, All-nil}
 use Rattle.sqlite_trees.specs.Tree.{Trees}
-use Rattle.sqlite_value.specs.Order.{Row, column}
 use Rattle.tariff_rules.specs.Terms.{Terms}
 use Rattle.book_model.specs.Words.{AcceptedTerms, Choice, IsDay, are_rising, identity_by}
 use Rattle.book_model.specs.Words.{last_period, most_choices, open_by, price_in}
@@ -22,9 +21,7 @@ use Rattle.table_model.proofs.UnderNumbers.{entries-numbers, values-numbers}
 use Rattle.consistent_tables.specs.Consistent.{IsOwnRule, choice_numbers, ruled}
 use Rattle.consistent_tables.proofs.RuledTables.{tariffs_rise}
 use Rattle.consistent_tables.proofs.SoundTables.{choice_of}
-use Rattle.tree_rows.proofs.Keyed.{row_found}
-use Rattle.tree_tables.proofs.Layouts.{record_layout, tariff_layout}
-use Rattle.tree_tables.proofs.RowsRead.{same_blob}
+use Rattle.tree_tables.proofs.Layouts.{tariff_layout}
 use Rattle.book_audit.specs.ChoiceRows.{IsMade, Made, said}
 use Rattle.book_audit.specs.Data.{price_of}
 use Rattle.book_audit.specs.Rules.{identity_under, is_by, rule_of}
@@ -33,7 +30,8 @@ use Rattle.book_audit.specs.Walks.{AreRising}
 use Rattle.book_audit.specs.declared.audited.Counts.{Counts as Numbers}
 use Rattle.book_audit.specs.declared.finding.Tree.TheVariants.{Tariffs}
 use Rattle.book_audit.specs.declared.identity_rule.IdentityRule.{IdentityRule}
-use Rattle.book_audit.proofs.Held.Rulings.{identity_said, price_said, which_rule}
+use Rattle.book_audit.proofs.Held.Rulings.{IsHeldChoice, held_choice, identity_said, price_said}
+use Rattle.book_audit.proofs.Held.Rulings.{which_rule}
 use Rattle.book_audit.proofs.Held.Kept.{entries_kept}
 use Rattle.book_audit.proofs.Sound.Tables.{made, tables_held, trees_hold}
 
@@ -55,12 +53,7 @@ own_rule tables row found is begun = elim (which_rule row.rule row.adopted found
 
 -- ---- choices
 
--- the record of a choice is held, and has its identity
-abbrev pub IsHeldChoice : RecordTable → Made → Type 0
-IsHeldChoice records one =
-    (row : RecordRow) × (get records one.1.name ≡ Some row) × (row.identity ≡ one.0)
-
--- so each choice is read,
+-- where the records of choices are held, each choice is read,
 all_found : (records : RecordTable) (made : List Made) → AllByRecursion (IsHeldChoice records) made
     → length (filter_map (choice_read records) (said made)) ≡ length (said made)
 all_found records [] held = refl
@@ -167,18 +160,10 @@ module _ (trees : Trees) (numbers : Numbers) (sound : AreSound trees numbers) wh
       → AllByRecursion (IsMade trees sound.rulings.rule) (under_numbers n some)
       → AllByRecursion (IsHeldChoice tables.records) some
   held_choices n [] each = tt
-  held_choices n (one ∷ some) each =
-      let among = each.0.among in
-      let held = row_found record_layout tables.records one.1.name among.held
-      (trees_hold trees numbers sound).records refl in (
-        (
-          held.0,
-          held.1,
-          same_blob held.0.identity one.0
-              (sym (ap (λ (r : Row). column r 1) held.2) ∙ among.identity_of),
-        ),
-        held_choices (suc n) some each.1,
-      )
+  held_choices n (one ∷ some) each = (
+    held_choice trees tables (trees_hold trees numbers sound) sound.rulings.rule n one each.0,
+    held_choices (suc n) some each.1,
+  )
 
   pub choices_held : AllByRecursion (IsHeldChoice tables.records) its_choices
   choices_held = held_choices 1 its_choices sound.ruled.choices.are.each
