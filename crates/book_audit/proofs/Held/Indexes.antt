@@ -10,7 +10,7 @@ use Rattle.std.proofs.lemmas.List.{length-map}
 use Rattle.std.proofs.lemmas.List.Elements.{recursion_from_All}
 use Rattle.std.proofs.lemmas.List.Sorted.{length_permutation}
 use Rattle.sqlite_trees.specs.Tree.{IsAscending, from_key}
-use Rattle.sqlite_trees.proofs.ListLemmas.{all_weaker, ascending-map, ascending_from_map}
+use Rattle.sqlite_trees.proofs.ListLemmas.{all_weaker, ascending-map, ascending_from_map, map-map}
 use Rattle.sqlite_value.specs.Keys.{plain, prefix_cmp}
 use Rattle.sqlite_value.specs.Order.{Row}
 use Rattle.tree_rows.specs.Indexes.{IsIndexKey, IsKeyOf, index_of}
@@ -62,8 +62,8 @@ module _ {Q : Type 0} {P : Q → Q → Ordering} (layout : Layout Q (Unit {0}) P
   -- the rows of entries are those of their keys
   pub rows_again : (es : List (Q × Unit {0}))
       → map (row_of layout) es ≡ rows_at (map (λ (e : Q × Unit {0}). e.0) es)
-  rows_again [] = refl
-  rows_again (e ∷ es) = ap (λ more. row_of layout e ∷ more) (rows_again es)
+  rows_again es =
+      sym (map-map (λ (q : Q). row_of layout (q, tt)) (λ (e : Q × Unit {0}). e.0) es)
 
   -- the row that has a key is that of the key
   found_one : (qs : List Q) (x : Q) (row : Row) (more : List Row)
@@ -100,11 +100,7 @@ module _ {Q : Type 0} {P : Q → Q → Ordering} (layout : Layout Q (Unit {0}) P
       ascending_from_map (λ (a : Q × Unit {0}) (b : Q × Unit {0}). P a.0 b.0 ≡ Less)
       (λ (q : Q). (q, tt)) qs
       (keys_rise layout tree wide (map (λ (q : Q). (q, tt)) qs)
-      (subst (AreRising tree) (made_again qs) rising))
-    where
-      made_again : (qs : List Q) → rows_at qs ≡ map (row_of layout) (map (λ (q : Q). (q, tt)) qs)
-      made_again [] = refl
-      made_again (q ∷ qs) = ap (λ more. row_of layout (q, tt) ∷ more) (made_again qs)
+      (subst (AreRising tree) (sym (map-map (row_of layout) (λ (q : Q). (q, tt)) qs)) rising))
 
   module _ {K V : Type 0} {R : K → K → Ordering} {key : K × V → Q} {name : Q → K}
       (index : IsIndexKey R P key name) (m : FinMap R V) (tree : Tree)

@@ -48,8 +48,7 @@ use Rattle.book_audit.proofs.Held.Looks.{indexed_found, record_looked, shared_lo
 use Rattle.book_audit.proofs.Rows.Counted.{some_kept}
 use Rattle.book_audit.proofs.Own.Rulings.{own_readable}
 use Rattle.book_audit.proofs.Walks.Keys.{one_of_all}
-use Rattle.book_audit.proofs.Sound.Tables.{long_numbers}
-use Rattle.book_audit.proofs.Rows.Columns.{same_choice}
+use Rattle.book_audit.proofs.Rows.Columns.{long_numbers, same_choice}
 
 -- Of some choices, the one whose row stands behind those of others.
 record IsBehind (n : ℕ) (before : List ChoiceRow) (number : ℕ) (row : ChoiceRow)

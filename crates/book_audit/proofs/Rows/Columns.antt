@@ -101,7 +101,12 @@ same_choice number other one two same =
       λ i. record { name = name i; period = period i },
     )
 
--- values under numbers are known by their rows, where each is by its own
+-- values under numbers are as many,
+pub long_numbers : {V : Type 0} (n : ℕ) (vs : List V) → length (under_numbers n vs) ≡ length vs
+long_numbers n [] = refl
+long_numbers n (v ∷ vs) = ap suc (long_numbers (suc n) vs)
+
+-- and known by their rows, where each is by its own
 pub same_values : {V : Type 0} (columns : ℕ × V → Row)
     → ((n : ℕ) (a b : V) → columns (n, a) ≡ columns (n, b) → a ≡ b) → (n : ℕ) (one other : List V)
     → map columns (under_numbers n one) ≡ map columns (under_numbers n other) → one ≡ other

@@ -63,7 +63,7 @@ use Rattle.book_audit.specs.declared.finding.Tree.{Tree}
 use Rattle.book_audit.proofs.Held.Indexes.{entries_rise, index_rows, rows_again, rows_at}
 use Rattle.book_audit.proofs.Held.Kept.{entries_kept, rows_kept}
 use Rattle.book_audit.proofs.Held.Pigeonhole.{IsOneOf, all_of_them, each_is_one, no_more, of_one}
-use Rattle.book_audit.proofs.Rows.Columns.{one_record, row_is}
+use Rattle.book_audit.proofs.Rows.Columns.{long_numbers, one_record, row_is}
 
 -- ---- the entries of the indexes, as their rows say
 
@@ -102,11 +102,7 @@ choice_name_of row its wide = (
   row_is row (Blob its.0.0 ∷ Int (pos its.1.0) ∷ []) wide (its.0.1, (its.1.1, tt)),
 )
 
--- ---- values under numbers
-
-pub long_numbers : {V : Type 0} (n : ℕ) (vs : List V) → length (under_numbers n vs) ≡ length vs
-long_numbers n [] = refl
-long_numbers n (v ∷ vs) = ap suc (long_numbers (suc n) vs)
+-- ---- choices
 
 -- each choice is found by the name of its record
 abbrev IsNamed : List Row → ℕ × ChoiceRow → Type 0

@@ -22,7 +22,7 @@ use Rattle.book_audit.proofs.Own.Choices.{own_choices_few, own_choices_fit, own_
 use Rattle.book_audit.proofs.Own.Choices.{since_from, since_pushed}
 use Rattle.book_audit.proofs.Own.Entries.{choice_names_many}
 use Rattle.book_audit.proofs.Own.Stops.{each_err, err_passed, err_said, stop_on, stop_walked}
-use Rattle.book_audit.proofs.Sound.Tables.{long_numbers}
+use Rattle.book_audit.proofs.Rows.Columns.{long_numbers}
 use Rattle.book_audit.proofs.Walks.Steps.{its_place, its_row, look_back, looks_on, no_look}
 use Rattle.book_audit.proofs.Walks.Steps.{read_all, read_on, trees_stay}
 use Rattle.book_audit.proofs.choices.read_choices.Goals as goal
