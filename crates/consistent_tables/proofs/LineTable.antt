@@ -30,12 +30,12 @@ use Rattle.table_model.proofs.PeriodReading.{find-at}
 use Rattle.consistent_tables.specs.Consistent.{AreConsistent, line_at}
 use Rattle.consistent_tables.proofs.ChargedSets.{charged_dated, days, posted_is}
 use Rattle.consistent_tables.proofs.DayTable.{nothing}
-use Rattle.consistent_tables.proofs.HeldRows.{is_held, its_name, row_of}
+use Rattle.consistent_tables.proofs.HeldRows.{has_kept, is_held, its_name, lines_exact, lines_total}
+use Rattle.consistent_tables.proofs.HeldRows.{row_of}
 use Rattle.consistent_tables.proofs.PeriodLinks.{added_is, book_past, ends, its_held, period_after}
 use Rattle.consistent_tables.proofs.PeriodLinks.{taken_is}
 use Rattle.consistent_tables.proofs.ReadableBook.{consistent_are_readable}
 use Rattle.consistent_tables.proofs.RecordTable.{charged_is}
-use Rattle.consistent_tables.proofs.RowLines.{has_kept, lines_exact, lines_total}
 use Rattle.consistent_tables.proofs.SoundTables.{sound}
 use Rattle.std.specs.FinMap as fin
 

@@ -19,8 +19,7 @@ use Rattle.consistent_tables.specs.Consistent.{AreConsistent, charged_back, line
 use Rattle.consistent_tables.proofs.ChargedSets.{back_step, charged_at, charged_dated, charged_held}
 use Rattle.consistent_tables.proofs.ChargedSets.{days, has_charged, late_row, line_says, no_line}
 use Rattle.consistent_tables.proofs.ChargedSets.{own_period, posted_is, same_held}
-use Rattle.consistent_tables.proofs.HeldRows.{held, is_held}
-use Rattle.consistent_tables.proofs.RowLines.{has_kept, kept, line_there}
+use Rattle.consistent_tables.proofs.HeldRows.{has_kept, held, is_held, kept, line_there}
 
 -- nothing that fails passes with another
 and_false : (a : Bool) → false ≡ (a && false)
