@@ -7,7 +7,6 @@ pub mod History
 pub mod Entries
 pub mod Tables
 pub mod Records
-pub mod Lines
 pub mod Days
 pub mod Sums
 pub mod Details

@@ -42,8 +42,7 @@ use Rattle.book_audit.specs.declared.finding.Tree.{Tree}
 use Rattle.book_audit.specs.declared.finding.Tree.TheVariants.{Book, ChoiceNames, Choices, Closes}
 use Rattle.book_audit.specs.declared.finding.Tree.TheVariants.{Days, Details, Identities, Lines}
 use Rattle.book_audit.specs.declared.finding.Tree.TheVariants.{Marks, Records, Tariffs}
-use Rattle.book_audit.proofs.Held.Indexes.{entries_rise}
-use Rattle.book_audit.proofs.Held.Kept.{own_key}
+use Rattle.book_audit.proofs.Held.Maps.{entries_rise, own_key}
 use Rattle.book_audit.proofs.Walks.Keys.{last_long, one_of_all, prefix_is, within}
 
 -- rows that a walk can read

@@ -37,8 +37,7 @@ use Rattle.book_audit.specs.Records.{IsTold, Told, counted_prices}
 use Rattle.book_audit.specs.SoundTrees.{AreRuled}
 use Rattle.book_audit.specs.declared.rulings.Rulings.{Rulings}
 use Rattle.book_audit.proofs.Rows.Counted.{prices_are}
-use Rattle.book_audit.proofs.Held.Indexes.{entries_rise}
-use Rattle.book_audit.proofs.Held.Kept.{sorted}
+use Rattle.book_audit.proofs.Held.Maps.{entries_rise, sorted}
 use Rattle.book_audit.proofs.Rows.Columns.{same_records}
 use Rattle.book_audit.proofs.Own.Records.{closes_are, own_counts}
 use Rattle.book_audit.proofs.Own.Tables.{own_consistent, own_fit, own_tables}

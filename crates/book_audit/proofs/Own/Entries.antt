@@ -22,7 +22,7 @@ use Rattle.book_audit.specs.declared.finding.Tree.{Tree}
 use Rattle.book_audit.specs.declared.finding.Tree.TheVariants.{Book, ChoiceNames, Choices, Closes}
 use Rattle.book_audit.specs.declared.finding.Tree.TheVariants.{Days, Details, Identities, Lines}
 use Rattle.book_audit.specs.declared.finding.Tree.TheVariants.{Marks, Records, Tariffs}
-use Rattle.book_audit.proofs.Held.Indexes.{index_many}
+use Rattle.book_audit.proofs.Held.Maps.{index_many}
 
 -- what is made of each entry of a map is an entry of the tree
 each_entry : {E : Type 0} (tree : Tree) (columns : E → Row) (rows : List Row) (es : List E)

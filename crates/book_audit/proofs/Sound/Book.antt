@@ -21,7 +21,7 @@ use Rattle.book_audit.specs.SoundTrees.{AreSound}
 use Rattle.book_audit.specs.Walks.{AreRising}
 use Rattle.book_audit.specs.declared.audited.Counts.{Counts as Numbers}
 use Rattle.book_audit.specs.declared.finding.Tree.TheVariants.{Days, Lines}
-use Rattle.book_audit.proofs.Held.Kept.{entries_kept}
+use Rattle.book_audit.proofs.Held.Maps.{entries_kept}
 use Rattle.book_audit.proofs.Sound.Records.{own_row}
 use Rattle.book_audit.proofs.Sound.Rows.{amount_is, days_are, held_are, held_few, names_are}
 use Rattle.book_audit.proofs.Sound.Rows.{own_line}

@@ -32,7 +32,7 @@ use Rattle.book_audit.specs.declared.finding.Tree.TheVariants.{Tariffs}
 use Rattle.book_audit.specs.declared.identity_rule.IdentityRule.{IdentityRule}
 use Rattle.book_audit.proofs.Held.Rulings.{IsHeldChoice, held_choice, identity_said, price_said}
 use Rattle.book_audit.proofs.Held.Rulings.{which_rule}
-use Rattle.book_audit.proofs.Held.Kept.{entries_kept}
+use Rattle.book_audit.proofs.Held.Maps.{entries_kept}
 use Rattle.book_audit.proofs.Sound.Tables.{made, tables_held, trees_hold}
 
 -- ---- the rule of identity

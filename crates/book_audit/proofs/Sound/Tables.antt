@@ -60,8 +60,8 @@ use Rattle.book_audit.specs.declared.finding.Tree.TheVariants.{Identities, Lines
 use Rattle.book_audit.specs.declared.finding.Tree.TheVariants.{Tariffs}
 use Rattle.book_audit.specs.declared.rulings.Rulings.{Rulings}
 use Rattle.book_audit.specs.declared.finding.Tree.{Tree}
-use Rattle.book_audit.proofs.Held.Indexes.{entries_rise, index_rows, rows_again, rows_at}
-use Rattle.book_audit.proofs.Held.Kept.{entries_kept, rows_kept}
+use Rattle.book_audit.proofs.Held.Maps.{entries_kept, entries_rise, index_rows, rows_again, rows_at}
+use Rattle.book_audit.proofs.Held.Maps.{rows_kept}
 use Rattle.book_audit.proofs.Held.Pigeonhole.{IsOneOf, all_of_them, each_is_one, no_more, of_one}
 use Rattle.book_audit.proofs.Rows.Columns.{long_numbers, one_record, row_is}
 

@@ -10,7 +10,7 @@ use Rattle.tree_rows.specs.Calls.{OnlyLooks}
 use Rattle.tree_tables.specs.Columns.{record_columns}
 use Rattle.tree_tables.specs.Stored.{stored_entry}
 use Rattle.book_audit.specs.Lines.{line_entry}
-use Rattle.book_audit.proofs.Own.Lines.{own_line_found, own_line_late}
+use Rattle.book_audit.proofs.Own.Records.{own_line_found, own_line_late}
 use Rattle.book_audit.proofs.Walks.Steps.{look_back}
 use Rattle.book_audit.proofs.lines.check_line.Goals.{then-line-own-via-else-line-own+then-open_period-line}
 use Rattle.book_audit.proofs.lines.check_line.Goals.{then-line-own-via-then-line-own}

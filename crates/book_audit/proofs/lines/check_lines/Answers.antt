@@ -17,7 +17,7 @@ use Rattle.book_audit.specs.declared.finding.Tree.TheVariants.{Lines}
 use Rattle.book_audit.specs.SoundTrees.{AreRuled}
 use Rattle.book_audit.proofs.Walks.Steps.{its_row, look_back, looks_on, no_look, read_all, read_on}
 use Rattle.book_audit.proofs.Walks.Steps.{trees_stay}
-use Rattle.book_audit.proofs.Own.Lines.{IsLineOf, line_had, line_row_fits, lines_of}
+use Rattle.book_audit.proofs.Own.Records.{IsLineOf, line_had, line_row_fits, lines_of}
 use Rattle.book_audit.proofs.Own.Stops.{err_said, never_with, passed_with, stop_on, stop_walked}
 use Rattle.book_audit.proofs.Own.Tables.{own_tables}
 use Rattle.book_audit.proofs.lines.check_lines.Goals as goal

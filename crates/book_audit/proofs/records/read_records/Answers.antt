@@ -23,7 +23,7 @@ use Rattle.book_audit.proofs.Rows.Records.{counts_none, counts_on, entries_pushe
 use Rattle.book_audit.proofs.Rows.Records.{row_pushed}
 use Rattle.book_audit.proofs.Walks.Steps.{its_place, its_row, look_back, looks_on, no_look}
 use Rattle.book_audit.proofs.Walks.Steps.{read_all, read_on, trees_stay}
-use Rattle.book_audit.proofs.Own.Lines.{IsRecordOf, record_had, record_row_fits, records_of}
+use Rattle.book_audit.proofs.Own.Records.{IsRecordOf, record_had, record_row_fits, records_of}
 use Rattle.book_audit.proofs.Own.Stops.{err_fits, met_memory, own_still, passed_with, stop_on}
 use Rattle.book_audit.proofs.Own.Stops.{stop_walked}
 use Rattle.book_audit.proofs.Own.Sums.{own_cost, own_counted, own_few, so_many}

@@ -1,28 +1,80 @@
--- A tree that finds the rows of a table: where each of them is found there, and there are as many
--- entries, these are all.
-use Rattle.std.proofs.Common.{◌≡◌, ◌∙◌, ◌∷◌, [], List, Bool, true, false, Some, cond, map, length}
-use Rattle.std.proofs.Common.{ap, refl, subst, sym, true≢false, ◌⊎◌, inl, inr, ◌&&◌, T, filter}
-use Rattle.std.proofs.Common.{is_eq, is_lt, Ordering, Less, Equal, Greater}
-use Rattle.std.specs.FinMap.{FinMap, entries, entries_sorted, get, is_sorted}
+-- Rows of entries that rise by their keys are those of a map. And those of a tree that finds the rows
+-- of a table are those of its index, where each row is found there, and there are as many entries.
+use Rattle.std.proofs.Common.{◌≡◌, ◌∙◌, ◌++◌, ◌∷◌, [], List, map, length, take, ap, ap₂, refl}
+use Rattle.std.proofs.Common.{subst, sym, T, is_lt, Ordering, Less, Bool, true, false, Some, cond}
+use Rattle.std.proofs.Common.{true≢false, ◌⊎◌, inl, inr, ◌&&◌, filter, is_eq, Equal, Greater}
+use Rattle.std.specs.FinMap.{entries, from_entries, is_sorted, FinMap, entries_sorted, get}
 use Rattle.std.specs.FinMap.Entries.{below_all}
 use Rattle.std.specs.List.{AllByRecursion}
 use Rattle.std.proofs.lemmas.List.{length-map}
 use Rattle.std.proofs.lemmas.List.Elements.{recursion_from_All}
 use Rattle.std.proofs.lemmas.List.Sorted.{length_permutation}
 use Rattle.sqlite_trees.specs.Tree.{IsAscending, from_key}
-use Rattle.sqlite_trees.proofs.ListLemmas.{all_weaker, ascending-map, ascending_from_map, map-map}
+use Rattle.sqlite_trees.proofs.ListLemmas.{all_weaker, ascending-map, ascending_from_map}
+use Rattle.sqlite_trees.proofs.ListLemmas.{ascending_weaker, map-map}
+use Rattle.sqlite_value.specs.Order.{Row, row_cmp}
 use Rattle.sqlite_value.specs.Keys.{plain, prefix_cmp}
-use Rattle.sqlite_value.specs.Order.{Row}
-use Rattle.tree_rows.specs.Indexes.{IsIndexKey, IsKeyOf, index_of}
+use Rattle.book_model.proofs.FilterLemmas.{entries-sorted}
 use Rattle.tree_rows.specs.Layouts.{Layout, row_of, rows_of}
+use Rattle.tree_rows.specs.Indexes.{IsIndexKey, IsKeyOf, index_of}
 use Rattle.tree_rows.specs.Rows.{IsFirst}
-use Rattle.tree_rows.proofs.IndexLists.{index_names_all, index_permutes}
+use Rattle.tree_rows.proofs.IndexLists.{both, index_names_all, index_permutes}
 use Rattle.tree_rows.proofs.Maps.{at_key, first, head_is, less, second}
-use Rattle.book_audit.specs.Trees.{HasKey}
-use Rattle.book_audit.specs.Walks.{AreRising, key_width}
+use Rattle.book_audit.specs.Walks.{AreRising, key_in, key_width}
 use Rattle.book_audit.specs.declared.finding.Tree.{Tree}
-use Rattle.book_audit.proofs.Held.Kept.{keys_rise}
+use Rattle.book_audit.specs.Trees.{HasKey}
 use Rattle.book_audit.proofs.Held.Pigeonhole.{IsOneOf, all_of_them}
+
+-- the first columns, as many as there are of one part
+take_own : (a more : Row) → take (length a) (a ++ more) ≡ a
+take_own [] more = refl
+take_own (x ∷ a) more = ap (λ r. x ∷ r) (take_own a more)
+
+module _ {K V : Type 0} {R : K → K → Ordering} (layout : Layout K V R) where
+  -- entries whose keys rise are sorted
+  all_below : (k : K) (es : List (K × V)) → AllByRecursion (λ (b : K × V). R k b.0 ≡ Less) es
+      → T (below_all R k es)
+  all_below k [] below = tt
+  all_below k (e ∷ es) below =
+      both (is_lt (R k e.0)) (below_all R k es) (subst (λ o. T (is_lt o)) (sym below.0) tt)
+      (all_below k es below.1)
+
+  pub sorted : (es : List (K × V)) → IsAscending (λ (a : K × V) (b : K × V). R a.0 b.0 ≡ Less) es
+      → T (is_sorted R es)
+  sorted [] up = tt
+  sorted (e ∷ es) up =
+      both (below_all R e.0 es) (is_sorted R es) (all_below e.0 es up.0) (sorted es up.1)
+
+  module _ (tree : Tree) (wide : (k : K) → length (layout.key k) ≡ key_width tree) where
+    -- the key of an entry's row
+    pub own_key : (e : K × V) → key_in tree (row_of layout e) ≡ layout.key e.0
+    own_key e =
+        ap (λ n. take n (row_of layout e)) (sym (wide e.0))
+        ∙ take_own (layout.key e.0) (layout.rest e.1)
+
+    -- where the keys of rows rise, those of the entries do
+    pub keys_rise : (es : List (K × V)) → AreRising tree (map (row_of layout) es)
+        → IsAscending (λ (a : K × V) (b : K × V). R a.0 b.0 ≡ Less) es
+    keys_rise es rising =
+        ascending_weaker
+        (λ (a : K × V) (b : K × V). row_cmp (key_in tree (row_of layout a)) (key_in tree (row_of layout b)) ≡ Less)
+        (λ (a : K × V) (b : K × V). R a.0 b.0 ≡ Less)
+        (λ a b less. sym (layout.ordered a.0 b.0) ∙ sym (ap₂ row_cmp (own_key a) (own_key b)) ∙ less)
+        es
+        (ascending_from_map (λ (a : Row) (b : Row). row_cmp (key_in tree a) (key_in tree b) ≡ Less)
+        (row_of layout) es rising)
+
+    -- the entries are those of their map, in its order
+    pub entries_kept : (es : List (K × V)) → AreRising tree (map (row_of layout) es)
+        → entries (from_entries {R = R} es) ≡ es
+    entries_kept es rising =
+        entries-sorted layout.total layout.exact es (sorted es (keys_rise es rising))
+
+    -- and so are the rows
+    pub rows_kept : (es : List (K × V)) {rows : List Row} → rows ≡ map (row_of layout) es
+        → AreRising tree rows → rows ≡ rows_of layout (from_entries {R = R} es)
+    rows_kept es are rising =
+        are ∙ ap (map (row_of layout)) (sym (entries_kept es (subst (AreRising tree) are rising)))
 
 -- a test that all pass leaves all
 all_pass : {X : Type 0} (xs : List X) → filter (λ (x : X). true) xs ≡ xs
