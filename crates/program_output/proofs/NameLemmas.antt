@@ -101,18 +101,6 @@ no_name names line later fault.TooMany it =
 
 -- ---- bytes as they come
 
-pub none_read : (list : NameList) → list.names.items ≡ [] → list.line.items ≡ [] → HasRead [] list
-none_read list names line = record {
-  names = λ more. joined_none (names_in more)
-      ∙ (λ i. names_after (sym names i) (lines (sym line i ++ more)));
-  unended = subst (All (λ byte. is_feed byte ≡ false)) (sym line)
-      (All-nil (λ byte. is_feed byte ≡ false));
-}
-  where
-    joined_none : (found : Names) → found ≡ joined [] found
-    joined_none (Ok more) = refl
-    joined_none (Err why) = refl
-
 -- the line feed after a line
 pub line_read : (text : List ℕ) (old new : NameList) (byte : ℕ) (line : List ℕ) → byte ≡ 10
     → line ≡ strip_carriage_return old.line.items → HasRead text old

@@ -36,7 +36,7 @@ pub record HasListed (records : List (List ℕ)) (held holds : Option (List ℕ)
   pub count : listed_count listing ≡ length records
   pub lines : WritesFirst (record_lines 1 records) (waiting listing) held holds
 
--- the the first lines of a text's records were written, whatever bytes follow the text
+-- the first lines of a text's records were written, whatever bytes follow the text
 abbrev pub WritesSome : Layout → List ℕ → Option (List ℕ) → Option (List ℕ) → Type 0
 WritesSome layout text held holds = (more : List ℕ) → (left : List ℕ)
     × WritesFirst (record_lines 1 (front layout (text ++ more)).records) left held holds
