@@ -70,8 +70,3 @@ pub tariff_is : (text : List ℕ) (result : Result Terms CommandFault)
 tariff_is text (Ok terms) is why = (text, is)
 tariff_is text (Err fault) is (inl memory) = inl (OutOfMemory, memory)
 tariff_is text (Err fault) is (inr refused) = refused_text (terms_in text) fault refused
-
-pub no_tariff : (result : Result Terms CommandFault) (found : CommandFault) → IsErr result
-    → IsErrAnd result (λ why. why ≡ found) → IsTextFault found → IsTariffRead result
-no_tariff (Ok terms) found bad is why = absurd (true≢false (sym bad))
-no_tariff (Err fault) found bad is why = subst IsTextFault (sym is) why
