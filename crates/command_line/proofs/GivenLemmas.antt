@@ -8,7 +8,7 @@ use Rattle.std.proofs.lemmas.Option.{same_Some}
 use Rattle.std.proofs.lemmas.Slice.Eq.{bytes_eq-Decides}
 use Rattle.clap.specs.Faults.{level_fault}
 use Rattle.clap.specs.Simple.{Shape, built_leaf, filled, filled_from, help_rule, help_shape, index_after}
-use Rattle.clap.specs.Simple.{inherited, label_of, marked_built, new_shape, with_index, with_leaf_noted}
+use Rattle.clap.specs.Simple.{inherited, label_of, with_index}
 use Rattle.clap.specs.Values.{read_as, reading_of}
 use Rattle.clap.specs.ValueTests.{accepts}
 use Rattle.clap.specs.Walk.{Row, Rule, Text, answers_to, first_of, has_row, nothing_held, one_of, rows_after}
