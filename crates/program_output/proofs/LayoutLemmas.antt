@@ -11,10 +11,10 @@ use Rattle.smf_frames.specs.declared.dump.Layout.TheVariants.{Rdw, Bdw}
 use Rattle.smf_frames.specs.declared.fault.FrameFault.{FrameFault}
 use Rattle.smf_frames.specs.declared.fault.FrameFault.TheVariants.{MissingLast, Truncated}
 use Rattle.smf_frames.specs.Segment.{descriptor_len}
-use Rattle.smf_frames.specs.Faults.{descriptor_fault, end_fault, fault_at}
+use Rattle.smf_frames.specs.Faults.{descriptor_fault, end_fault}
 use Rattle.smf_frames.specs.Group.{group_record}
 use Rattle.smf_frames.specs.Lawful.{IsCut, MayGoOn}
-use Rattle.smf_frames.specs.Longest.{Front, Longest, data_begun, IsFront}
+use Rattle.smf_frames.specs.Longest.{Front, Longest, data_begun}
 use Rattle.smf_frames.specs.Front.{start, data_len, prepend, stopped, front_from, front}
 use Rattle.smf_frames.proofs.ReaderWays.{Way, way_same, front_way, front_stops, leads, progress_at}
 use Rattle.smf_frames.proofs.ReaderWaits.{short_stops}
@@ -23,7 +23,7 @@ use Rattle.smf_frames.proofs.GroupedTexts.{cut_way}
 use Rattle.smf_frames.proofs.TakenGroups.{way_cut}
 use Rattle.smf_frames.proofs.Fronts.{front_led, is_front}
 use Rattle.program_output.specs.Layouts.{ends_segment, is_filled, looks_like, IsDumpIn, is_block}
-use Rattle.program_output.specs.Layouts.{first_record, is_misread, FirstBytesTell}
+use Rattle.program_output.specs.Layouts.{is_misread, FirstBytesTell}
 
 -- the records of a text come first, whatever bytes follow it
 record ComeFirst (layout : Layout) (text more : List ℕ) : Type 0 where

@@ -1,6 +1,6 @@
 -- Lists of names: their lines, from the front on, and the names so far.
 use Rattle.std.proofs.Common.{◌≡◌, ◌≢◌, ◌∙◌, ◌+◌, ◌<◌, ◌≤◌, ℕ, Bool, true, false, cond, List, []}
-use Rattle.std.proofs.Common.{◌∷◌, ◌++◌, length, Option, Some, None, Result, Ok, Err}
+use Rattle.std.proofs.Common.{◌∷◌, ◌++◌, length, Result, Ok, Err}
 use Rattle.std.proofs.Common.{ap, refl, subst, sym, arith, append_assoc, append-nil, le-ltb, length-append}
 use Rattle.std.proofs.Common.{lt-ltb, ne_eqb}
 use Rattle.std.specs.List.{All, onto_first, slice_split}
