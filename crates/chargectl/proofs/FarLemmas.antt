@@ -19,8 +19,7 @@ use Rattle.office.specs.declared.repository.RepositoryFault.{RepositoryFault}
 use Rattle.office.specs.declared.repository.RepositoryFault.TheVariants.{Unseen}
 use Rattle.office.specs.declared.request.Answer.{Answer}
 use Rattle.office.specs.declared.request.Asked.{Asked}
-use Rattle.office.specs.declared.request.Asked.TheVariants.{Tariff, Close, Choose, Adopt, Import}
-use Rattle.office.specs.declared.request.Asked.TheVariants.{ImportBytes, Report, WhatIf}
+use Rattle.office.specs.declared.request.Asked.TheVariants.{Tariff, Close, Choose, Adopt}
 use Rattle.office.specs.Requests.{IsAskableRuling, IsAskableUnread, no_dump, response_by}
 use Rattle.office.specs.Shelves.{IsDoneTo, IsOpened, Shelf}
 use Rattle.office.proofs.ShelfLemmas.{done_as}

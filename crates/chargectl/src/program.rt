@@ -3,7 +3,7 @@
 ghost use Rattle.std.specs.Prelude.{◌≡◌, IfErr, IfOk, Ok};
 ghost use Rattle.tariff_rules.specs.TariffFile.{terms_in};
 ghost use Rattle.program_output.specs.Messages.{AreSaid};
-ghost use Rattle.chargectl.specs.Faults.{IsFaultIn, shelf_end, status_by};
+ghost use Rattle.chargectl.specs.Faults.{IsFaultIn, shelf_end};
 ghost use Rattle.chargectl.specs.Reading as spec;
 ghost use Rattle.chargectl.specs.Reading.{Checks, IsTariffRead, Lists, TellsOf, TriesBy, TriesUnder};
 ghost use Rattle.chargectl.specs.Reading.{check_end, lasting, trial_end};
