@@ -1,5 +1,5 @@
-//! What help says of words and options. It stands apart from the table of the commands: that is proved
-//! to be the table of `Known.antt`, byte for byte, and no clause speaks of help.
+//! What help says of words and options. It stands apart from the table of the commands: that is
+//! proved to be the table of `Known.antt`, byte for byte, and no clause speaks of help.
 
 /// A word or an option whose help it is.
 #[derive(Clone, Copy)]
@@ -36,11 +36,11 @@ impl Help {
     pub(crate) fn text(self) -> &'static str {
         match self {
             Help::Book => "The file of the books",
-            Help::Dump => "The dump",
-            Help::Tariff => "The tariff",
+            Help::Dump => "The file of the dump",
+            Help::Tariff => "The file of the tariff",
             Help::Copy => "The file of the copy, which is not there yet",
             Help::Period => "The number of the period, from 1",
-            Help::Date => "Its last day, such as 2024-01-31",
+            Help::Date => "The last day of the period, such as 2024-01-31",
             Help::FirstDay => "The tariff's first day, such as 2024-01-01",
             Help::Sha256 => "The record's name, as the list of disputes shows it",
             Help::RecordName => {
@@ -57,7 +57,7 @@ impl Help {
             Help::Cpu => "Ten-thousandths of the money unit for a CPU second",
             Help::Excp => "Ten-thousandths of the money unit for 1,000 blocks",
             Help::Record => "Ten-thousandths of the money unit for a record",
-            Help::Prices => "A tariff in place of rates, in force on every day",
+            Help::Prices => "A tariff file in place of rates, in force on every day",
             Help::OtherPrices => {
                 "The same records as they would be charged by this tariff file; nothing is written"
             }
