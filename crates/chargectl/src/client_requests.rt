@@ -7,7 +7,7 @@ ghost use Rattle.streams.specs.Sources.{has_ended, has_failed, reads_of};
 ghost use Rattle.book_core.specs.Transition.{IsTransition};
 ghost use Rattle.book_http.specs.Reads.{IsDue, ReadsOn};
 ghost use Rattle.book_http.specs.Replies.{reply_of};
-ghost use Rattle.book_http.specs.Served.{IsSent, is_unanswered};
+ghost use Rattle.book_http.specs.Served.{IsSent, is_read_fault, is_unanswered};
 ghost use Rattle.chargectl.specs.ClientRequests as spec;
 ghost use Rattle.chargectl.specs.ClientRequests.{AsksOpen, EndsBy, IsAnsweredFrom, IsServedFrom};
 ghost use Rattle.chargectl.specs.ClientRequests.{SendsOpen};
@@ -202,6 +202,9 @@ pub fn serve_request<R: Reader + Drop, W: Peer + Drop, S: Repository>(
     // The books are not opened before a request is whole.
     ensures closed { is_unanswered result.0 ≡ true → repository.new ≡ repository.old }
     ensures log { (S.shelf repository.new).has_log book.now has_log.new }
+
+    // That reading failed is said where a read did, and nowhere else.
+    ensures read { has_failed source.new ≡ is_read_fault result.0 }
 {
     match read_request(alloc, source) {
         Ok(Requested::Settled(answer)) => send_to(writer, &answer),
