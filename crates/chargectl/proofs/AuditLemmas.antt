@@ -1,8 +1,8 @@
 -- How an audit ends.
 use Rattle.std.proofs.Common.{◌≡◌, ℕ, List, Option, Result, Ok, Err, ap, inl, inr, refl, subst, sym}
 use Rattle.std.proofs.Common.{true≢false}
-use Rattle.std.specs.Prelude.{IsErr, IsErrAnd, OnOk}
-use Rattle.std.specs.Io.KnownBytes.{Appends}
+use Rattle.std.specs.Prelude.{IsErr, IsErrAnd}
+use Rattle.std.specs.declared.io.ErrorKind.TheVariants.{OutOfMemory}
 use Rattle.book_model.specs.declared.fault.LedgerFault.TheVariants as ledger
 use Rattle.book_audit.specs.declared.audited.Audited.{Audited}
 use Rattle.book_audit.specs.declared.audited.Audited.TheVariants.{Sound, Unsound}
@@ -16,7 +16,7 @@ use Rattle.chargectl.specs.declared.command_fault.CommandFault.{CommandFault}
 use Rattle.chargectl.specs.declared.command_fault.CommandFault.TheVariants as fault
 use Rattle.chargectl.specs.declared.ended.Ended.{Ended}
 use Rattle.chargectl.specs.Audits.{AuditsBy, EndsAudit}
-use Rattle.chargectl.specs.Faults.{shelf_fault}
+use Rattle.chargectl.specs.Faults.{EndsText, shelf_fault}
 
 -- there was no memory for the text
 pub audit_memory : (audited : Audited) (held holds : Option (List ℕ))
@@ -24,21 +24,20 @@ pub audit_memory : (audited : Audited) (held holds : Option (List ℕ))
     → IsErrAnd result (λ why. why ≡ fault.Ledger ledger.Memory)
     → EndsAudit (Ok audited) held holds result
 audit_memory (Sound counts) held holds (Ok done) is = absurd is
-audit_memory (Sound counts) held holds (Err why) is = tt
+audit_memory (Sound counts) held holds (Err why) is = (OutOfMemory, is)
 audit_memory (Unsound finding) held holds (Ok done) is = absurd is
 audit_memory (Unsound finding) held holds (Err why) is = inr (ap Err is)
 
 sound_of : (counts : Counts) (text : List ℕ) (held holds : Option (List ℕ))
     (written : Result (Unit {0}) CommandFault) → text ≡ sound_text counts
-    → OnOk written (Appends held holds text) → EndsAudit (Ok (Sound counts)) held holds written
-sound_of counts text held holds (Ok done) is line =
-    subst (λ text. Appends held holds text) is line
-sound_of counts text held holds (Err why) is line = tt
+    → EndsText text held holds written → EndsAudit (Ok (Sound counts)) held holds written
+sound_of counts text held holds written is line =
+    subst (λ text. EndsText text held holds written) is line
 
 -- the text of sound books was written, or not
 pub audit_sound : (audited : Audited) (counts : Counts) (text : List ℕ) (held holds : Option (List ℕ))
     (written : Result (Unit {0}) CommandFault) → audited ≡ Sound counts → IsAuditText audited text
-    → OnOk written (Appends held holds text) → EndsAudit (Ok audited) held holds written
+    → EndsText text held holds written → EndsAudit (Ok audited) held holds written
 audit_sound audited counts text held holds written is told line =
     subst (λ audited. EndsAudit (Ok audited) held holds written) (sym is)
     (sound_of counts text held holds written (subst (λ audited. IsAuditText audited text) is told) line)

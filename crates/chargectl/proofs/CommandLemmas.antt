@@ -31,7 +31,7 @@ use Rattle.chargectl.specs.declared.ended.Answered.{Answered}
 use Rattle.chargectl.specs.Commands.{AsksNothing, AsksOnceBy, ComesOf, IsAskedBy, IsDated}
 use Rattle.chargectl.specs.Commands.{IsNoticedBy, IsShelfFault, IsTextFault, IsWordFault, ReportsBy}
 use Rattle.chargectl.specs.Commands.{is_dated}
-use Rattle.chargectl.specs.Faults.{io_fault, shelf_fault}
+use Rattle.chargectl.specs.Faults.{EndsText, io_fault, shelf_fault}
 
 -- a request with its answer
 pub asked_once : (asked : Asked) (answer : Result Answer LedgerFault) (books : Books) (input : Input)
@@ -108,6 +108,13 @@ pub file_fault : {T : Type 0} (result : Result T CommandFault) (kind : ErrorKind
     → IsErrAnd result (λ why. why ≡ io_fault kind) → IfErr result IsTextFault
 file_fault (Ok text) kind is = absurd is
 file_fault (Err why) kind is = inl (kind, is)
+
+-- the output failed
+pub text_untold : (text : List ℕ) (held holds : Option (List ℕ))
+    (result : Result (Unit {0}) CommandFault) (kind : ErrorKind)
+    → IsErrAnd result (λ why. why ≡ io_fault kind) → EndsText text held holds result
+text_untold text held holds (Ok done) kind is = absurd is
+text_untold text held holds (Err why) kind is = (kind, is)
 
 -- a word that is there is no fault
 pub word_there : {A : Type 0} (read : Option A) (found : A) (IsLater : CommandFault → Type 0)

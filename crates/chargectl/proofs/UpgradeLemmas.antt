@@ -1,22 +1,13 @@
 -- How books are brought over to the present form.
 use Rattle.std.proofs.Common.{◌≡◌, ℕ, List, Option, Result, Ok, Err, refl, sym, true≢false}
 use Rattle.std.specs.Prelude.{IsErr, IsErrAnd}
-use Rattle.std.specs.declared.io.ErrorKind.{ErrorKind}
 use Rattle.office.specs.declared.repository.RepositoryFault.{RepositoryFault}
-use Rattle.office.specs.declared.repository.Upgraded.{Upgraded}
 use Rattle.office.specs.Shelves.{Shelf}
 use Rattle.office.proofs.ShelfLemmas.{untouched}
 use Rattle.chargectl.specs.declared.command_fault.CommandFault.{CommandFault}
 use Rattle.chargectl.specs.declared.ended.Ended.{Ended}
-use Rattle.chargectl.specs.Faults.{io_fault, shelf_fault}
-use Rattle.chargectl.specs.Upgrades.{EndsUpgrade, UpgradesBy}
-
--- the output failed
-pub upgrade_untold : (upgraded : Upgraded) (held holds : Option (List ℕ))
-    (result : Result (Unit {0}) CommandFault) (kind : ErrorKind)
-    → IsErrAnd result (λ why. why ≡ io_fault kind) → EndsUpgrade (Ok upgraded) held holds result
-upgrade_untold upgraded held holds (Ok done) kind is = absurd is
-upgrade_untold upgraded held holds (Err why) kind is = (kind, is)
+use Rattle.chargectl.specs.Faults.{shelf_fault}
+use Rattle.chargectl.specs.Upgrades.{UpgradesBy}
 
 -- there is nothing of that name
 pub upgrades_none : (book : List ℕ) (shelf : Shelf) (held : Option (List ℕ)) (why : RepositoryFault)

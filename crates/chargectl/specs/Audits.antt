@@ -1,6 +1,5 @@
 -- How an audit ends, of books or of a copy of them.
-use Rattle.std.specs.Prelude.{◌≡◌, ◌⊎◌, false, ℕ, List, OnOk, Option, None, Result, Ok, Err}
-use Rattle.std.specs.Io.KnownBytes.{Appends}
+use Rattle.std.specs.Prelude.{◌≡◌, ◌⊎◌, false, ℕ, List, Option, None, Result, Ok, Err}
 use Rattle.book_model.specs.declared.fault.LedgerFault.TheVariants as ledger
 use Rattle.book_audit.specs.declared.audited.Audited.{Audited}
 use Rattle.book_audit.specs.declared.audited.Audited.TheVariants.{Sound, Unsound}
@@ -12,13 +11,14 @@ use Rattle.chargectl.specs.declared.command_fault.CommandFault.{CommandFault}
 use Rattle.chargectl.specs.declared.command_fault.CommandFault.TheVariants as fault
 use Rattle.chargectl.specs.declared.ended.Ended.{Ended}
 use Rattle.chargectl.specs.Commands.{IsShelfFault}
-use Rattle.chargectl.specs.Faults.{shelf_fault}
+use Rattle.chargectl.specs.Faults.{EndsText, shelf_fault}
 
--- Of sound books the lines are written. Books that are unsound end the command so, whatever became of
--- the text, unless there was no memory for it. Of books that were not opened nothing is written.
+-- Of sound books the lines are written, unless the output failed or there was no memory for them. Books
+-- that are unsound end the command so, whatever became of the text, unless there was no memory for it. Of
+-- books that were not opened nothing is written.
 abbrev pub EndsAudit : Result Audited RepositoryFault → Option (List ℕ) → Option (List ℕ)
     → Result (Unit {0}) CommandFault → Type 0
-EndsAudit (Ok (Sound counts)) held holds came = OnOk came (Appends held holds (sound_text counts))
+EndsAudit (Ok (Sound counts)) held holds came = EndsText (sound_text counts) held holds came
 EndsAudit (Ok (Unsound finding)) held holds came =
     (came ≡ Err fault.Unsound) ⊎ (came ≡ Err (fault.Ledger ledger.Memory))
 EndsAudit (Err fault) held holds came = (holds ≡ held) × (came ≡ Err (shelf_fault fault))

@@ -2,6 +2,7 @@
 -- lines on standard error that say so.
 use Rattle.std.specs.Prelude.{◌≡◌, ◌⊎◌, if◌then◌else◌, false, ℕ, List, [], ◌∷◌, ◌++◌, codes}
 use Rattle.std.specs.Prelude.{Option, Some, None, Result, Ok, Err}
+use Rattle.std.specs.Io.KnownBytes.{Appends}
 use Rattle.std.specs.declared.io.ErrorKind.{ErrorKind}
 use Rattle.std.specs.declared.io.ErrorKind.TheVariants.{OutOfMemory}
 use Rattle.tariff_rules.specs.declared.fault.TariffFault.{TariffFault}
@@ -137,9 +138,15 @@ abbrev pub io_fault : ErrorKind → CommandFault
 io_fault OutOfMemory = fault.Ledger ledger.Memory
 io_fault kind = fault.Io
 
--- a file failed, or is not there
+-- a file or the output failed, or a file is not there; or there was no memory for it
 abbrev pub IsFileFault : CommandFault → Type 0
 IsFileFault why = (kind : ErrorKind) × (why ≡ io_fault kind)
+
+-- a text was written, unless the output failed
+abbrev pub EndsText : List ℕ → Option (List ℕ) → Option (List ℕ) → Result (Unit {0}) CommandFault
+    → Type 0
+EndsText text held holds (Ok done) = Appends held holds text
+EndsText text held holds (Err why) = IsFileFault why
 
 -- the file of a tariff failed, or its text is none
 abbrev pub IsTextFault : CommandFault → Type 0

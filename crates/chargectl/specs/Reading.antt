@@ -1,7 +1,7 @@
 -- What the commands do that ask no books: trials, checks and explanations.
 use Rattle.std.specs.Prelude.{◌≡◌, ◌↔◌, ◌⊎◌, Bool, ℕ, List, ◌++◌, codes, Option, Some, None, Result}
-use Rattle.std.specs.Prelude.{Ok, Err, IsSome, IfSome, OnOk}
-use Rattle.std.specs.Io.KnownBytes.{Appends, Keeps}
+use Rattle.std.specs.Prelude.{Ok, Err, IsSome, IfSome}
+use Rattle.std.specs.Io.KnownBytes.{Keeps}
 use Rattle.std.specs.declared.io.ErrorKind.{ErrorKind}
 use Rattle.smf_frames.specs.declared.dump.Layout.{Layout}
 use Rattle.tariff_rules.specs.declared.fault.TariffFault.{TariffFault}
@@ -28,7 +28,7 @@ use Rattle.program_output.specs.Trials.{IsTrial}
 use Rattle.chargectl.specs.declared.command_fault.CommandFault.{CommandFault}
 use Rattle.chargectl.specs.declared.command_fault.CommandFault.TheVariants as fault
 use Rattle.chargectl.specs.declared.ended.Ended.{Ended}
-use Rattle.chargectl.specs.Faults.{IsTextFault, io_fault, without_log}
+use Rattle.chargectl.specs.Faults.{EndsText, IsTextFault, io_fault, without_log}
 use Rattle.chargectl.specs.FirstBytes.{IsLookedAt, dump_end}
 
 -- how a trial ends of a dump that looked misread or not
@@ -128,12 +128,16 @@ kind_of number.Log = kind.Word word.Log
 kind_of number.Layout = kind.Word word.Layout
 kind_of number.Far = kind.Word word.Far
 
--- what is told of a number: what it means and what to do, a line each; or that nothing has it
+-- what a number means and what to do, a line each
+abbrev pub explanation_text : List ℕ → List ℕ → List ℕ
+explanation_text meaning advice = meaning ++ codes "\n" ++ advice ++ codes "\n"
+
+-- what is told of a number: that is written, unless the output failed; or that nothing has it
 abbrev pub TellsNumber : Option Explanation → Option (List ℕ) → Option (List ℕ)
     → Result (Unit {0}) CommandFault → Type 0
 TellsNumber None held holds ended = (holds ≡ held) × (ended ≡ Err fault.Number)
-TellsNumber (Some told) held holds ended = OnOk ended (Appends held holds
-    (told.meaning.now ++ codes "\n" ++ told.advice.now ++ codes "\n"))
+TellsNumber (Some told) held holds ended =
+    EndsText (explanation_text told.meaning.now told.advice.now) held holds ended
 
 pub record TellsOf (kind : FaultKind) (number : ℕ) (held holds : Option (List ℕ))
     (ended : Result (Unit {0}) CommandFault) : Type 0 where

@@ -1,7 +1,6 @@
 -- Books of an older form, which are brought over to the present one.
 use Rattle.std.specs.Prelude.{◌≡◌, true, ℕ, List, ◌++◌, codes, Option, None, Result, Ok, Err}
 use Rattle.std.specs.Fmt.{decimal}
-use Rattle.std.specs.Io.KnownBytes.{Appends}
 use Rattle.office.specs.declared.repository.RepositoryFault.{RepositoryFault}
 use Rattle.office.specs.declared.repository.Upgraded.{Upgraded}
 use Rattle.office.specs.declared.repository.Upgraded.TheVariants.{To, Already}
@@ -9,7 +8,7 @@ use Rattle.office.specs.Shelves.{Shelf, IsUntouched}
 use Rattle.chargectl.specs.declared.command_fault.CommandFault.{CommandFault}
 use Rattle.chargectl.specs.declared.ended.Ended.{Ended}
 use Rattle.chargectl.specs.Commands.{IsShelfFault}
-use Rattle.chargectl.specs.Faults.{IsFileFault, shelf_fault}
+use Rattle.chargectl.specs.Faults.{EndsText, shelf_fault}
 
 -- what is written of them, by what came of it: the number of the form that they have now, or that they
 -- had it before
@@ -20,8 +19,7 @@ upgrade_text Already = codes "ALREADY\n"
 -- It was written, unless the output failed. Of books that were not opened nothing is.
 abbrev pub EndsUpgrade : Result Upgraded RepositoryFault → Option (List ℕ) → Option (List ℕ)
     → Result (Unit {0}) CommandFault → Type 0
-EndsUpgrade (Ok upgraded) held holds (Ok done) = Appends held holds (upgrade_text upgraded)
-EndsUpgrade (Ok upgraded) held holds (Err why) = IsFileFault why
+EndsUpgrade (Ok upgraded) held holds came = EndsText (upgrade_text upgraded) held holds came
 EndsUpgrade (Err fault) held holds came = (holds ≡ held) × (came ≡ Err (shelf_fault fault))
 
 -- The books of a name were brought over, or had the present form, or why not; and whether their log is

@@ -1,8 +1,8 @@
 //! Audits of books, and of copies of them.
 
-ghost use Rattle.std.specs.Prelude.{OnOk, string_bytes};
-ghost use Rattle.std.specs.Io.KnownBytes.{Appends};
+ghost use Rattle.std.specs.Prelude.{string_bytes};
 ghost use Rattle.chargectl.specs.Audits.{AuditsBooks, BacksUp, EndsAudit};
+ghost use Rattle.chargectl.specs.Faults.{EndsText};
 
 use crate::command_fault::CommandFault;
 use crate::ended::Ended;
@@ -91,8 +91,8 @@ fn write_audited<O: Write + Drop>(
 
 /// Writes a text, so that it has left the program.
 fn write_text<O: Write + Drop>(text: &String, output: &mut O) -> Result<(), CommandFault>
-    ensures { OnOk result (Appends (O.contents output.old) (O.contents output.new)
-        (string_bytes text.now)) }
+    ensures { EndsText (string_bytes text.now) (O.contents output.old) (O.contents output.new)
+        result }
 {
     write!(output, "{text}")?;
     Ok(output.flush()?)

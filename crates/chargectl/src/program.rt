@@ -3,7 +3,7 @@
 ghost use Rattle.std.specs.Prelude.{◌≡◌, IfErr, IfOk, Ok};
 ghost use Rattle.tariff_rules.specs.TariffFile.{terms_in};
 ghost use Rattle.program_output.specs.Messages.{AreSaid};
-ghost use Rattle.chargectl.specs.Faults.{IsFaultIn, shelf_end};
+ghost use Rattle.chargectl.specs.Faults.{EndsText, IsFaultIn, shelf_end};
 ghost use Rattle.chargectl.specs.Reading as spec;
 ghost use Rattle.chargectl.specs.Reading.{Checks, IsTariffRead, Lists, TellsOf, TriesBy, TriesUnder};
 ghost use Rattle.chargectl.specs.Reading.{check_end, lasting, trial_end};
@@ -260,6 +260,18 @@ fn explain<O: Write + Drop>(
     let Some(Explanation { meaning, advice }) = explained(numbered(kind), number) else {
         return Err(CommandFault::Number);
     };
+    tell_lines(meaning, advice, output)
+}
+
+/// Writes what a number means and what to do, so that it has left the program.
+fn tell_lines<O: Write + Drop>(
+    meaning: &str,
+    advice: &str,
+    output: &mut O,
+) -> Result<(), CommandFault>
+    ensures { EndsText (spec.explanation_text meaning.now advice.now)
+        (O.contents output.old) (O.contents output.new) result }
+{
     writeln!(output, "{meaning}\n{advice}")?;
     Ok(output.flush()?)
 }
