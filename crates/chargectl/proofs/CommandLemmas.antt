@@ -1,6 +1,6 @@
 -- What commands ask, and what they tell.
 use Rattle.std.proofs.Common.{◌≡◌, ◌∙◌, List, ℕ, Option, Some, None, Result, Ok, Err, true, false}
-use Rattle.std.proofs.Common.{sym, subst, refl, true≢false, take, length, inl}
+use Rattle.std.proofs.Common.{sym, subst, refl, true≢false, take, length, inl, inr}
 use Rattle.std.proofs.KnownBytes.{Appends-kept}
 use Rattle.std.proofs.Math.Seq.{take-length}
 use Rattle.std.specs.Prelude.{IfErr, IsErr, IsErrAnd, option_map}
@@ -12,6 +12,7 @@ use Rattle.book_core.specs.Ledgers.{Books}
 use Rattle.book_core.specs.Transition.{IsTransition}
 use Rattle.book_core.proofs.TransitionLemmas.{work_as}
 use Rattle.book_reports.specs.declared.fault.ReportFault.{ReportFault}
+use Rattle.book_reports.specs.declared.fault.ReportFault.TheVariants as report
 use Rattle.book_reports.specs.declared.report.Report.{Report}
 use Rattle.book_reports.specs.Reports.{IsWritten}
 use Rattle.office.specs.declared.request.Answer.{Answer}
@@ -29,7 +30,8 @@ use Rattle.chargectl.specs.declared.command_fault.CommandFault.{CommandFault}
 use Rattle.chargectl.specs.declared.command_fault.CommandFault.TheVariants as fault
 use Rattle.chargectl.specs.declared.ended.Answered.{Answered}
 use Rattle.chargectl.specs.Commands.{AsksNothing, AsksOnceBy, ComesOf, IsAskedBy, IsDated}
-use Rattle.chargectl.specs.Commands.{IsNoticedBy, IsShelfFault, IsTextFault, IsWordFault, ReportsBy}
+use Rattle.chargectl.specs.Commands.{IsNoticedBy, IsPrinted, IsShelfFault, IsTextFault}
+use Rattle.chargectl.specs.Commands.{IsWordFault, ReportsBy}
 use Rattle.chargectl.specs.Commands.{is_dated}
 use Rattle.chargectl.specs.Faults.{EndsText, io_fault, shelf_fault}
 
@@ -127,6 +129,23 @@ pub word_gone : {A : Type 0} (read : Option A) (IsLater : CommandFault → Type 
     → IsWordFault read IsLater fault.Argument
 word_gone read IsLater is = subst (λ read. IsWordFault read IsLater fault.Argument) (sym is) refl
 
+-- an answer was not written
+pub not_written : (text : List ℕ) (output : Output) (told : Result (Unit {0}) ReportFault)
+    (refused : ReportFault) (held holds : Option (List ℕ)) → IsWritten text output told
+    → told ≡ Err refused → output.old.holds ≡ held → output.new.holds ≡ holds
+    → IsPrinted text held holds (Err (fault.Report refused))
+not_written text output told report.Write held holds written is old new =
+    let wrote = subst (λ told. IsWritten text output told) is written in
+    (
+      inr refl,
+      wrote.0,
+      subst (λ held. Appends held holds (take wrote.0 text)) old
+          (subst (λ holds. Appends output.old.holds holds (take wrote.0 text)) new wrote.2),
+    )
+not_written text output told refused held holds written is old new =
+    absurd (subst (λ told. IsWritten text output told) is written)
+
+-- or it was written, and not seen to have left the program
 pub not_flushed : (text : List ℕ) (output : Output) (told : Result (Unit {0}) ReportFault)
     (held has holds : Option (List ℕ)) → IsWritten text output told
     → ((fault : ReportFault) → told ≡ Err fault → ⊥) → output.old.holds ≡ held

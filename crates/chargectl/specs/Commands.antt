@@ -39,7 +39,7 @@ use Rattle.chargectl.specs.declared.ended.Ended.{Ended}
 use Rattle.chargectl.specs.declared.notice.Notice.{Notice}
 use Rattle.chargectl.specs.Far.{far_notice}
 pub use Rattle.chargectl.specs.Faults.{IsFileFault, IsTextFault}
-use Rattle.chargectl.specs.Faults.{end_of, shelf_fault, without_log}
+use Rattle.chargectl.specs.Faults.{IsOutputFault, end_of, shelf_fault, without_log}
 use Rattle.chargectl.specs.FirstBytes.{IsLookedAt, layout_notice}
 
 -- what a period has of the whole office, or of the centre that is named, if that is a name
@@ -250,7 +250,8 @@ ends_by answer written = written
 abbrev pub IsPrinted : List ℕ → Option (List ℕ) → Option (List ℕ) → Result (Unit {0}) CommandFault
     → Type 0
 IsPrinted text held holds (Ok done) = Appends held holds text
-IsPrinted text held holds (Err fault) = (count : ℕ) × Appends held holds (take count text)
+IsPrinted text held holds (Err why) =
+    IsOutputFault why × (count : ℕ) × Appends held holds (take count text)
 
 -- What a command writes of an answer, and how it ends. Of a fault nothing is written.
 abbrev pub IsTold : Result Answer CommandFault → Option (List ℕ) → Option (List ℕ)

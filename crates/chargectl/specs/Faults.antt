@@ -9,6 +9,7 @@ use Rattle.tariff_rules.specs.declared.fault.TariffFault.{TariffFault}
 use Rattle.book_model.specs.declared.fault.LedgerFault.TheVariants as ledger
 use Rattle.book_import.specs.declared.receipt.Stop.{Stop}
 use Rattle.book_import.specs.declared.receipt.Stop.TheVariants.{End}
+use Rattle.book_reports.specs.declared.fault.ReportFault.TheVariants as report
 use Rattle.command_line.specs.declared.request.Unclear.{Unclear}
 use Rattle.command_line.specs.declared.request.Unclear.TheVariants as unclear
 use Rattle.office.specs.declared.repository.RepositoryFault.{RepositoryFault}
@@ -141,6 +142,10 @@ io_fault kind = fault.Io
 -- a file or the output failed, or a file is not there; or there was no memory for it
 abbrev pub IsFileFault : CommandFault → Type 0
 IsFileFault why = (kind : ErrorKind) × (why ≡ io_fault kind)
+
+-- the output failed, or there was no memory for what is written
+abbrev pub IsOutputFault : CommandFault → Type 0
+IsOutputFault why = IsFileFault why ⊎ (why ≡ fault.Report report.Write)
 
 -- a text was written, unless the output failed
 abbrev pub EndsText : List ℕ → Option (List ℕ) → Option (List ℕ) → Result (Unit {0}) CommandFault
