@@ -1,8 +1,10 @@
 -- How connections are served.
 use Rattle.std.proofs.Common.{◌≡◌, Bool, true, false, List, [], ◌∷◌, ℕ, ◌+◌, refl, sym, subst}
 use Rattle.std.proofs.Common.{Option, None, Result, Ok, Err, true≢false, length, add-zero, arith}
-use Rattle.std.specs.Prelude.{IfOk, IsErr}
+use Rattle.std.proofs.Common.{inl, inr}
+use Rattle.std.specs.Prelude.{IfErr, IfOk, IsErr, IsErrAnd}
 use Rattle.std.specs.declared.io.Error.{Error}
+use Rattle.std.specs.declared.io.ErrorKind.{ErrorKind}
 use Rattle.streams.specs.InputOutput.{WriterSeen}
 use Rattle.book_model.specs.Words.{Naming}
 use Rattle.book_core.specs.Follow.{MakesAnswered}
@@ -11,11 +13,13 @@ use Rattle.book_core.proofs.FollowLemmas.{none_answered, then_answered}
 use Rattle.book_http.specs.declared.served.Served.{Served}
 use Rattle.book_http.specs.declared.served.Served.TheVariants as served
 use Rattle.book_http.proofs.LawLemmas.{requests_make_history}
+use Rattle.office.specs.declared.repository.RepositoryFault.{RepositoryFault}
 use Rattle.office.specs.Shelves.{Shelf, IsDoneTo, IsUntouched, OpenedAnew}
 use Rattle.office.proofs.ShelfLemmas.{done_after, done_as, done_then, untouched}
 use Rattle.chargectl.specs.declared.command_fault.CommandFault.{CommandFault}
 use Rattle.chargectl.specs.declared.ended.Ended.{Ended}
-use Rattle.chargectl.specs.Requests.{Serves}
+use Rattle.chargectl.specs.Faults.{io_fault, shelf_fault}
+use Rattle.chargectl.specs.Requests.{IsServiceFault, Serves}
 use Rattle.chargectl.specs.ServedLines.{Gains, unfailed}
 use Rattle.chargectl.specs.Serving.{IsServing, Replies, ServesEach, ServesOne, ServesSome, left_by}
 use Rattle.chargectl.specs.Serving.{line_of, lines_of, ready, service_end}
@@ -109,18 +113,31 @@ none_served book old new none =
     done_as book NoEvent (ServesSome old.naming) old new
     (λ before events is made. record { told = []; made = made }) none
 
+-- the place of the books failed
+pub shelf_failed : {T : Type 0} (result : Result T CommandFault) (why : RepositoryFault)
+    → IsErrAnd result (λ fault. fault ≡ shelf_fault why) → IfErr result IsServiceFault
+shelf_failed (Ok value) why is = absurd is
+shelf_failed (Err fault) why is = inl (why, is)
+
+-- or the port
+pub port_failed : {T : Type 0} (result : Result T CommandFault) (kind : ErrorKind)
+    → IsErrAnd result (λ fault. fault ≡ io_fault kind) → IfErr result IsServiceFault
+port_failed (Ok value) kind is = absurd is
+port_failed (Err fault) kind is = inr (kind, is)
+
 -- a service that ended with a fault
 cut_by : (book : List ℕ) (old new : Shelf) (requests : ℕ) (held holds : Option (List ℕ))
     (ended : Ended) (why : CommandFault) (has_log : Bool)
     → ended ≡ record { came = Err why; has_log = has_log; is_change = true; notice = None }
-    → IsDoneTo book (ServesSome old.naming) old new → new.has_log book has_log
+    → IsServiceFault why → IsDoneTo book (ServesSome old.naming) old new → new.has_log book has_log
     → Serves requests book old new held holds ended
-cut_by book old new requests held holds ended why has_log is some log =
+cut_by book old new requests held holds ended why has_log is known some log =
     subst (λ ended. Serves requests book old new held holds ended) (sym is)
     (record {
       served = Err why;
       some = some;
       all = tt;
+      cause = known;
       ends = refl;
       log = log;
       change = refl;
@@ -132,20 +149,21 @@ pub serves_cut : (book : List ℕ) (old new : Shelf) (requests due left : ℕ)
     (held holds : Option (List ℕ)) (before after : WriterSeen) (ended : Ended) (why : CommandFault)
     (has_log : Bool)
     → ended ≡ record { came = Err why; has_log = has_log; is_change = true; notice = None }
-    → IsServing [] due left book old new before after → new.has_log book has_log
+    → IsServiceFault why → IsServing [] due left book old new before after → new.has_log book has_log
     → Serves requests book old new held holds ended
-serves_cut book old new requests due left held holds before after ended why has_log is it log =
-    cut_by book old new requests held holds ended why has_log is
+serves_cut book old new requests due left held holds before after ended why has_log is known it log =
+    cut_by book old new requests held holds ended why has_log is known
     (serving_some [] due left book old new before after it) log
 
 -- or the books were in the way, or the port
 pub serves_none : (book : List ℕ) (old new : Shelf) (requests : ℕ) (held holds : Option (List ℕ))
     (ended : Ended) (why : CommandFault) (has_log : Bool)
     → ended ≡ record { came = Err why; has_log = has_log; is_change = true; notice = None }
-    → IsUntouched book old new → new.has_log book has_log
+    → IsServiceFault why → IsUntouched book old new → new.has_log book has_log
     → Serves requests book old new held holds ended
-serves_none book old new requests held holds ended why has_log is none log =
-    cut_by book old new requests held holds ended why has_log is (none_served book old new none) log
+serves_none book old new requests held holds ended why has_log is known none log =
+    cut_by book old new requests held holds ended why has_log is known
+    (none_served book old new none) log
 
 -- a service of all connections, whose lines were written, or lost from one on
 pub serves_all : (book : List ℕ) (old new : Shelf) (requests due left : ℕ)
@@ -179,6 +197,7 @@ serves_all book old new requests due left held holds first before after failed e
             lines = gains_then (unfailed held) before after ready (lines_of it.told)
                 (subst (λ first. Gains first before ready) begun said) it.lines;
           }));
+      cause = tt;
       ends = refl;
       log = log;
       change = refl;
@@ -208,6 +227,7 @@ serves_after book one two three requests held holds ended none it = record {
   served = it.served;
   some = done_after book ServesSome one two three none it.some;
   all = all_after book one two three requests held holds it.served none it.all;
+  cause = it.cause;
   ends = it.ends;
   log = it.log;
   change = it.change;

@@ -1,6 +1,6 @@
 -- What the program does: for each request, and for words that are none.
-use Rattle.std.specs.Prelude.{◌≡◌, ◌⊎◌, Bool, true, ℕ, List, [], ◌∷◌, Option, None, Result, Ok, Err, IfOk}
-use Rattle.std.specs.Prelude.{String, string_bytes}
+use Rattle.std.specs.Prelude.{◌≡◌, ◌⊎◌, Bool, true, ℕ, List, [], ◌∷◌, Option, None, Result, Ok, Err}
+use Rattle.std.specs.Prelude.{IfErr, IfOk, String, string_bytes}
 use Rattle.std.specs.Global.{Global}
 use Rattle.std.specs.Io.KnownBytes.{Appends}
 use Rattle.tariff_rules.specs.Limits.{most_rate}
@@ -24,7 +24,8 @@ use Rattle.chargectl.specs.Audits.{AuditsBooks, BacksUp}
 use Rattle.chargectl.specs.Choices.{ChoosesListed}
 use Rattle.chargectl.specs.Commands.{AsksAndTells, IsShelfFault}
 use Rattle.chargectl.specs.DryRuns.{TriesAndTells}
-use Rattle.chargectl.specs.Faults.{error_lines, settled_as, shelf_end, status_by, without_log}
+use Rattle.chargectl.specs.Faults.{IsFileFault, error_lines, settled_as, shelf_end, status_by}
+use Rattle.chargectl.specs.Faults.{without_log}
 use Rattle.chargectl.specs.Reading.{Checks, TellsOf, TriesAt, TriesUnder, kind_of}
 use Rattle.chargectl.specs.declared.streamed_lists.StreamedList.TheVariants as list
 use Rattle.chargectl.specs.StreamedLists.{ListsAsked, ListsBy, details_by, disputes_by}
@@ -40,6 +41,10 @@ pub record Makes (book : List ℕ) (old new : Shelf) (held holds : Option (List 
   pub ends : ended ≡ without_log (shelf_end made)
   pub none : holds ≡ held
 
+-- why a service did not answer all: the books were in the way, or the port, or a connection did not come
+abbrev pub IsServiceFault : CommandFault → Type 0
+IsServiceFault why = IsShelfFault why ⊎ IsFileFault why
+
 -- What a service came to: some connections were answered; and all, with their lines, unless one did not
 -- come or the books were in the way. A write of a line that failed is told at the end, and ends nothing
 -- before. And whether a log is left.
@@ -49,6 +54,7 @@ pub record Serves (requests : ℕ) (book : List ℕ) (old new : Shelf) (held hol
   pub some : IsDoneTo book (ServesSome old.naming) old new
   pub all : IfOk served (λ failed. IsServing ready requests 0 book old new (unfailed held)
       (record { holds = holds; has_failed = failed }))
+  pub cause : IfErr served IsServiceFault
   pub ends : ended.came ≡ service_end served
   pub log : new.has_log book ended.has_log
   pub change : ended.is_change ≡ true

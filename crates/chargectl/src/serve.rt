@@ -1,7 +1,7 @@
 //! Serves the books over HTTP, to this machine only.
 
 ghost use Rattle.std.specs.Prelude.{◌≡◌, ◌++◌, [], codes, decimal, IfErr, None, Ok, OnOk, true};
-ghost use Rattle.chargectl.specs.Requests.{Serves, ServesBy};
+ghost use Rattle.chargectl.specs.Requests.{IsServiceFault, Serves, ServesBy};
 ghost use Rattle.chargectl.specs.ServedLines.{Gains, seen_of};
 ghost use Rattle.chargectl.specs.Serving.{IsServing, NoneCame, left_by, line_of, service_end};
 ghost use Rattle.chargectl.specs.Serving.{ready};
@@ -56,7 +56,9 @@ fn listen(
     rt: &HostRuntime,
     port: u16,
     opened: Result<(), RepositoryFault>,
-) -> Result<TcpListener, CommandFault> {
+) -> Result<TcpListener, CommandFault>
+    ensures { IfErr result IsServiceFault }
+{
     opened?;
     Ok(listen_here(rt, port)?)
 }

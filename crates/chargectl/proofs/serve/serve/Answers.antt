@@ -30,6 +30,6 @@ returns-in-Err-listen g c =
     let new = shelf c.open-answer.new.self in
     let held = g.O.Write.contents c.args.output in
     serves_none book old new c.args.requests held held c.ended.result c.in-Err-listen.fault
-    c.open-answer.result.has_log c.ended.ensures
+    c.open-answer.result.has_log c.ended.ensures c.in-Err-listen.ensures
     (opened_untouched book old new c.open-answer.result.answer c.open-answer.ensures.opened)
     c.open-answer.ensures.log

@@ -1,3 +1,5 @@
+use Rattle.std.proofs.Common.{inr}
+use Rattle.std.specs.IoError.{error_kind}
 use Rattle.chargectl.specs.ServedLines.{seen_of}
 use Rattle.chargectl.proofs.ServingLemmas.{serves_all, serves_cut}
 use Rattle.chargectl.proofs.serve.serve_here.Goals as goal
@@ -24,4 +26,5 @@ returns-in-Err g c =
     c.args.requests c.over-port.result.left _ (contents c.args.output)
     (contents c.into_inner-in-Err.result) (seen c.say_ready.new.lines) (seen c.serve_each.new.lines)
     c.ended-in-Err.result c.from-fault.result c.serve_each.new.has_log c.ended-in-Err.ensures
-    c.in-Err.ensures.served c.serve_each.ensures.log
+    (inr (error_kind c.in-Err.error, c.from-fault.ensures)) c.in-Err.ensures.served
+    c.serve_each.ensures.log
