@@ -1,9 +1,9 @@
 -- What commands ask, and what they tell.
-use Rattle.std.proofs.Common.{◌≡◌, ◌∙◌, List, ℕ, Option, Some, None, Result, Ok, Err, true, false}
-use Rattle.std.proofs.Common.{sym, subst, refl, true≢false, take, length, inl, inr}
+use Rattle.std.proofs.Common.{◌≡◌, List, ℕ, Option, Some, None, Result, Ok, Err, true, false}
+use Rattle.std.proofs.Common.{sym, subst, refl, true≢false, take, length, inl}
 use Rattle.std.proofs.KnownBytes.{Appends-kept}
 use Rattle.std.proofs.Math.Seq.{take-length}
-use Rattle.std.specs.Prelude.{IfErr, IsErr, IsErrAnd, option_map}
+use Rattle.std.specs.Prelude.{IfErr, IsErr, IsErrAnd}
 use Rattle.std.specs.declared.io.ErrorKind.{ErrorKind}
 use Rattle.std.specs.Io.KnownBytes.{Appends, Keeps}
 use Rattle.streams.specs.InputOutput.{Input, Output}
@@ -12,13 +12,9 @@ use Rattle.book_core.specs.Ledgers.{Books}
 use Rattle.book_core.specs.Transition.{IsTransition}
 use Rattle.book_core.proofs.TransitionLemmas.{work_as}
 use Rattle.book_reports.specs.declared.fault.ReportFault.{ReportFault}
-use Rattle.book_reports.specs.declared.fault.ReportFault.TheVariants as report
-use Rattle.book_reports.specs.declared.report.Report.{Report}
 use Rattle.book_reports.specs.Reports.{IsWritten}
 use Rattle.office.specs.declared.request.Answer.{Answer}
-use Rattle.office.specs.declared.repository.RepositoryFault.{RepositoryFault}
 use Rattle.office.specs.declared.request.Asked.{Asked}
-use Rattle.office.specs.declared.request.Asked.TheVariants as asks
 use Rattle.office.specs.Requests.{Asks, IsAsked, response_by}
 use Rattle.office.specs.Shelves.{Shelf}
 use Rattle.office.proofs.ShelfLemmas.{untouched}
@@ -29,11 +25,9 @@ use Rattle.command_line.specs.Requests.{request_of}
 use Rattle.chargectl.specs.declared.command_fault.CommandFault.{CommandFault}
 use Rattle.chargectl.specs.declared.command_fault.CommandFault.TheVariants as fault
 use Rattle.chargectl.specs.declared.ended.Answered.{Answered}
-use Rattle.chargectl.specs.Commands.{AsksNothing, AsksOnceBy, ComesOf, IsAskedBy, IsDated}
-use Rattle.chargectl.specs.Commands.{IsNoticedBy, IsPrinted, IsShelfFault, IsTextFault}
-use Rattle.chargectl.specs.Commands.{IsWordFault, ReportsBy}
-use Rattle.chargectl.specs.Commands.{is_dated}
-use Rattle.chargectl.specs.Faults.{EndsText, io_fault, shelf_fault}
+use Rattle.chargectl.specs.Commands.{AsksNothing, AsksOnceBy, ComesOf, IsDated, IsNoticedBy}
+use Rattle.chargectl.specs.Commands.{IsTextFault, IsWordFault, is_dated}
+use Rattle.chargectl.specs.Faults.{io_fault}
 
 -- a request with its answer
 pub asked_once : (asked : Asked) (answer : Result Answer LedgerFault) (books : Books) (input : Input)
@@ -53,37 +47,6 @@ pub not_asked : (request : BookRequest) (book : List ℕ) (shelf : Shelf)
 not_asked request book shelf (Ok answered) found bad is why = absurd is
 not_asked request book shelf (Err fault) found bad is why =
     (subst (AsksNothing request) (sym is) why, untouched book shelf)
-
--- nor is a report asked for where there is nothing of that name
-pub no_report : (report : Report) (book : List ℕ) (shelf : Shelf) (why : RepositoryFault)
-    (result : Result Answered CommandFault) → IsErr result
-    → IsErrAnd result (λ fault. fault ≡ shelf_fault why)
-    → ReportsBy (Some report) book shelf shelf result
-no_report report book shelf why (Ok answered) bad is = absurd is
-no_report report book shelf why (Err fault) bad is = ((why, is), untouched book shelf)
-
--- a command asks for this report, if its words are what they have to be
-pub reports : (request : BookRequest) (made known : Option Report) (book : List ℕ) (old new : Shelf)
-    (result : Result Answered CommandFault) → made ≡ known
-    → ((report : Report) → known ≡ Some report → IsAskedBy request (asks.Report report))
-    → ((report : Report) (answered : Answered) → answered.notice ≡ None
-    → IsNoticedBy request (asks.Report report) book old new answered)
-    → ((why : CommandFault) → IsWordFault known IsShelfFault why → AsksNothing request why)
-    → ReportsBy made book old new result → ComesOf request book old new result
-reports request made known book old new (Ok answered) same words notice nothing it = record {
-  asked = asks.Report it.0;
-  words = words it.0 (sym same ∙ it.1);
-  came = it.2;
-  notice = notice it.0 answered it.3;
-}
-reports request made known book old new (Err why) same words notice nothing it =
-    (nothing why (subst (λ made. IsWordFault made IsShelfFault why) same it.0), it.1)
-
--- a word of which a report is made is there where the report is
-pub word_mapped : {A B : Type 0} (f : A → B) (read : Option A) (IsLater : CommandFault → Type 0)
-    (why : CommandFault) → IsWordFault (option_map f read) IsLater why → IsWordFault read IsLater why
-word_mapped f None IsLater why is = is
-word_mapped f (Some found) IsLater why is = is
 
 -- what was noticed of a ruling of a day
 pub day_noticed : (ruled : Ruling) (asked : Asked) (book : List ℕ) (old new : Shelf)

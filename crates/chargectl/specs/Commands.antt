@@ -28,6 +28,8 @@ use Rattle.office.specs.Shelves.{Shelf, IsOpened, IsUntouched}
 use Rattle.office.proofs.LawLemmas.{asks_answered}
 use Rattle.command_line.specs.declared.request.BookRequest.{BookRequest}
 use Rattle.command_line.specs.declared.request.BookRequest.TheVariants as book
+use Rattle.command_line.specs.declared.request.ReportWords.{ReportWords}
+use Rattle.command_line.specs.declared.request.ReportWords.TheVariants as worded
 use Rattle.command_line.specs.declared.request.Ruling.{Ruling}
 use Rattle.command_line.specs.declared.request.Ruling.TheVariants as ruling
 use Rattle.program_output.specs.Names.{name_in}
@@ -54,6 +56,15 @@ bill_report form period None = Some (Bill form period None)
 bill_report form period (Some centre) =
     option_map (λ named. Bill form period (Some named)) (centre_named centre.now)
 
+-- the report that words ask for, if each of them is what it has to be
+abbrev pub report_of : ReportWords → Option Report
+report_of (worded.OfPeriod report period centre) = period_report report period centre
+report_of (worded.Bill form period centre) = bill_report form period centre
+report_of (worded.Page period) = Some (PeriodPage period)
+report_of (worded.Record name) = option_map Record (name_in name.now)
+report_of worded.Periods = Some PeriodList
+report_of (worded.TariffText date) = option_map TariffText (day_of_text_of date.now)
+
 -- a statement in this form by other prices, of one centre or of the whole office
 abbrev pub what_if_for : StatementForm → ℕ → Option (List ℕ) → WhatIf
 what_if_for form period centre = record { form = form; period = period; centre = centre }
@@ -72,18 +83,9 @@ IsAskedBy (book.Close period date) (asks.Close number through) =
     (number ≡ period) × (day_of_text_of date.now ≡ Some through)
 IsAskedBy (book.Choose name) (asks.Choose chosen) = name_in name.now ≡ Some chosen
 IsAskedBy book.Adopt (asks.Adopt rule) = rule ≡ 2
-IsAskedBy (book.OfPeriod report period centre) (asks.Report printed) =
-    period_report report period centre ≡ Some printed
+IsAskedBy (book.Report said) (asks.Report printed) = report_of said ≡ Some printed
 IsAskedBy (book.WhatIf form period centre file) (asks.WhatIf report text) =
     what_if_of form period centre ≡ Some report
-IsAskedBy (book.Bill form period centre) (asks.Report printed) =
-    bill_report form period centre ≡ Some printed
-IsAskedBy (book.TariffText date) (asks.Report printed) =
-    option_map TariffText (day_of_text_of date.now) ≡ Some printed
-IsAskedBy (book.Record name) (asks.Report printed) =
-    option_map Record (name_in name.now) ≡ Some printed
-IsAskedBy (book.Page period) (asks.Report printed) = printed ≡ PeriodPage period
-IsAskedBy book.Periods (asks.Report printed) = printed ≡ PeriodList
 IsAskedBy request asked = ⊥
 
 -- it may change the books: a report may not, by whatever prices it is
@@ -174,14 +176,9 @@ AsksNothing (book.Tariff file) why = IsTariffFault why
 AsksNothing (book.Import dump) why = IsShelfFault why ⊎ IsFileFault why
 AsksNothing (book.Close period date) why = IsWordFault (day_of_text_of date.now) IsShelfFault why
 AsksNothing (book.Choose name) why = IsWordFault (name_in name.now) IsShelfFault why
-AsksNothing (book.OfPeriod report period centre) why =
-    IsWordFault (period_report report period centre) IsShelfFault why
+AsksNothing (book.Report said) why = IsWordFault (report_of said) IsShelfFault why
 AsksNothing (book.WhatIf form period centre file) why =
     IsWordFault (what_if_of form period centre) IsTariffFault why
-AsksNothing (book.Bill form period centre) why =
-    IsWordFault (bill_report form period centre) IsShelfFault why
-AsksNothing (book.Record name) why = IsWordFault (name_in name.now) IsShelfFault why
-AsksNothing (book.TariffText date) why = IsWordFault (day_of_text_of date.now) IsShelfFault why
 AsksNothing request why = IsShelfFault why
 
 -- what an import notices of a dump that looked misread or not
@@ -227,13 +224,6 @@ pub record Asking (request : BookRequest) (book : List ℕ) (old new : Shelf) (a
 abbrev pub ComesOf : BookRequest → List ℕ → Shelf → Shelf → Result Answered CommandFault → Type 0
 ComesOf request book old new (Ok answered) = Asking request book old new answered
 ComesOf request book old new (Err why) = AsksNothing request why × IsUntouched book old new
-
--- The books of a name were asked for a report, once. Or nothing was asked: a word is not what it has to
--- be, or there is nothing of that name.
-abbrev pub ReportsBy : Option Report → List ℕ → Shelf → Shelf → Result Answered CommandFault → Type 0
-ReportsBy made book old new (Ok answered) = (report : Report) × (made ≡ Some report)
-    × IsAnswered (asks.Report report) book old new answered × (answered.notice ≡ None)
-ReportsBy made book old new (Err why) = IsWordFault made IsShelfFault why × IsUntouched book old new
 
 -- the first fault
 abbrev pub first_fault : Result (Unit {0}) CommandFault → Result (Unit {0}) CommandFault

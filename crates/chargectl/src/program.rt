@@ -19,9 +19,7 @@ use crate::ended::Ended;
 use crate::first_bytes::{LookedAt, look_at};
 use crate::help_lines::{Said, help};
 use crate::progress::{WatchedReader, clear_line};
-use crate::report_commands::{
-    report_bill, report_page, report_period, report_periods, report_record, report_tariff, what_if,
-};
+use crate::report_commands::{report, what_if};
 use crate::serve::serve;
 use crate::streamed_lists::{StreamedList, disputes_by, list_details, write_list};
 use crate::upgrades::upgrade;
@@ -150,14 +148,7 @@ fn run_on_books<S: AuditedRepository, O: Write + Drop>(
         BookRequest::ChooseListed { file } => choose_listed(rt, repository, book, file, output),
         BookRequest::Adopt => tell(rule(rt, repository, book, Ruling::Adopt), output),
         BookRequest::DryRun(ruling) => tell(dry_run(rt, repository, book, ruling), output),
-        BookRequest::OfPeriod {
-            report,
-            period,
-            centre,
-        } => tell(
-            report_period(rt, repository, book, report, period, centre),
-            output,
-        ),
+        BookRequest::Report(words) => tell(report(rt, repository, book, words), output),
         BookRequest::WhatIf {
             form,
             period,
@@ -175,27 +166,13 @@ fn run_on_books<S: AuditedRepository, O: Write + Drop>(
             let (listed, output) = list_details(rt, repository, book, csv, period, centre, output);
             (Ended::settled(listed), output)
         }
-        BookRequest::Bill {
-            form,
-            period,
-            centre,
-        } => tell(
-            report_bill(rt, repository, book, form, period, centre),
-            output,
-        ),
-        BookRequest::Page { period } => tell(report_page(rt, repository, book, period), output),
         BookRequest::Disputes { csv } => {
             let (listed, output) = write_list(rt, repository, book, disputes_by(csv), output);
             (Ended::settled(listed), output)
         }
-        BookRequest::Record { name } => tell(report_record(rt, repository, book, name), output),
-        BookRequest::Periods => tell(report_periods(rt, repository, book), output),
         BookRequest::Rulings => {
             let (listed, output) = write_list(rt, repository, book, StreamedList::Rulings, output);
             (Ended::settled(listed), output)
-        }
-        BookRequest::TariffText { date } => {
-            tell(report_tariff(rt, repository, book, date), output)
         }
         BookRequest::Upgrade => {
             let upgraded = upgrade(repository, book, &mut output);

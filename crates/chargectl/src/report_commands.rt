@@ -6,12 +6,12 @@ ghost use Rattle.smf_text.specs.Day.{day_of_text_of};
 ghost use Rattle.book_reports.specs.declared.report.Report.TheVariants.{Record, TariffText};
 ghost use Rattle.program_output.specs.Names.{name_in};
 ghost use Rattle.chargectl.specs.Commands as spec;
-ghost use Rattle.chargectl.specs.Commands.{ComesOf, ReportsBy};
+ghost use Rattle.chargectl.specs.Commands.{ComesOf};
 
 use crate::book_commands::{ask_books, tariff_text};
 use crate::command_fault::CommandFault;
 use crate::ended::Answered;
-use command_line::BookRequest;
+use command_line::{BookRequest, ReportWords};
 use office::{
     Asked, PeriodReport, Report, Repository, StatementForm, WhatIf, centre_named, report_of_all,
 };
@@ -19,16 +19,17 @@ use program_output::name_of_text;
 use smf_text::day_of_text;
 use std::io;
 
-/// Asks the books of a name for a report. `None`: a word is not what it has to be.
-fn ask_report<S: Repository>(
+/// Asks the books of a name for a report.
+pub(crate) fn report<S: Repository>(
     rt: &HostRuntime,
     repository: &mut S,
     book: &str,
-    report: Option<Report>,
+    words: ReportWords<'_>,
 ) -> Result<Answered, CommandFault>
-    ensures { ReportsBy report book.now (S.shelf repository.old) (S.shelf repository.new) result }
+    ensures { ComesOf (BookRequest.Report words.entry) book.now
+        (S.shelf repository.old) (S.shelf repository.new) result }
 {
-    let made = match report {
+    let made = match report_of(words) {
         Some(made) => made,
         None => return Err(CommandFault::Argument),
     };
@@ -37,45 +38,29 @@ fn ask_report<S: Repository>(
     Ok(ask_books(rt, repository, book, asked, io::empty()))
 }
 
-/// Makes the list of periods.
-pub(crate) fn report_periods<S: Repository>(
-    rt: &HostRuntime,
-    repository: &mut S,
-    book: &str,
-) -> Result<Answered, CommandFault>
-    ensures { ComesOf BookRequest.Periods book.now
-        (S.shelf repository.old) (S.shelf repository.new) result }
+/// The report that words ask for. `None`: one of them is not what it has to be.
+fn report_of(words: ReportWords<'_>) -> Option<Report>
+    ensures { result ≡ spec.report_of words.entry }
 {
-    ask_report(rt, repository, book, Some(Report::PeriodList))
+    match words {
+        ReportWords::OfPeriod {
+            report,
+            period,
+            centre,
+        } => period_report(report, period, centre),
+        ReportWords::Bill {
+            form,
+            period,
+            centre,
+        } => bill_of(form, period, centre),
+        ReportWords::Page { period } => Some(Report::PeriodPage(period)),
+        ReportWords::Record { name } => record_report(name),
+        ReportWords::Periods => Some(Report::PeriodList),
+        ReportWords::TariffText { date } => tariff_report(date),
+    }
 }
 
-/// Makes the page of a period.
-pub(crate) fn report_page<S: Repository>(
-    rt: &HostRuntime,
-    repository: &mut S,
-    book: &str,
-    period: u16,
-) -> Result<Answered, CommandFault>
-    ensures { ComesOf (BookRequest.Page period) book.now
-        (S.shelf repository.old) (S.shelf repository.new) result }
-{
-    ask_report(rt, repository, book, Some(Report::PeriodPage(period)))
-}
-
-/// Makes the report of the record of a name.
-pub(crate) fn report_record<S: Repository>(
-    rt: &HostRuntime,
-    repository: &mut S,
-    book: &str,
-    name: &str,
-) -> Result<Answered, CommandFault>
-    ensures { ComesOf (BookRequest.Record name.entry) book.now
-        (S.shelf repository.old) (S.shelf repository.new) result }
-{
-    ask_report(rt, repository, book, record_report(name))
-}
-
-/// The report. `None`: the text is no name.
+/// The report of a record. `None`: the text is no name.
 fn record_report(name: &str) -> Option<Report>
     ensures { result ≡ option_map Record (name_in name.now) }
 {
@@ -85,20 +70,7 @@ fn record_report(name: &str) -> Option<Report>
     }
 }
 
-/// Gives back the tariff file that begins on a day.
-pub(crate) fn report_tariff<S: Repository>(
-    rt: &HostRuntime,
-    repository: &mut S,
-    book: &str,
-    date: &str,
-) -> Result<Answered, CommandFault>
-    ensures { ComesOf (BookRequest.TariffText date.entry) book.now
-        (S.shelf repository.old) (S.shelf repository.new) result }
-{
-    ask_report(rt, repository, book, tariff_report(date))
-}
-
-/// The report. `None`: the text is no day.
+/// The report of a tariff. `None`: the text is no day.
 fn tariff_report(date: &str) -> Option<Report>
     ensures { result ≡ option_map TariffText (day_of_text_of date.now) }
 {
@@ -108,22 +80,7 @@ fn tariff_report(date: &str) -> Option<Report>
     }
 }
 
-/// Makes what a period has, of one centre or of the whole office.
-pub(crate) fn report_period<S: Repository>(
-    rt: &HostRuntime,
-    repository: &mut S,
-    book: &str,
-    report: PeriodReport,
-    period: u16,
-    centre: Option<&str>,
-) -> Result<Answered, CommandFault>
-    ensures { ComesOf (BookRequest.OfPeriod report period centre.entry) book.now
-        (S.shelf repository.old) (S.shelf repository.new) result }
-{
-    ask_report(rt, repository, book, period_report(report, period, centre))
-}
-
-/// The report, of the whole office where no centre is named. `None`: the text is no name.
+/// What a period has, of the whole office where no centre is named. `None`: the text is no name.
 fn period_report(report: PeriodReport, period: u16, centre: Option<&str>) -> Option<Report>
     ensures { result ≡ spec.period_report report period centre.entry }
 {
@@ -138,21 +95,6 @@ fn period_report(report: PeriodReport, period: u16, centre: Option<&str>) -> Opt
         },
         None => Some(report_of_all(report, period)),
     }
-}
-
-/// Makes a bill, of one centre or of the whole office.
-pub(crate) fn report_bill<S: Repository>(
-    rt: &HostRuntime,
-    repository: &mut S,
-    book: &str,
-    form: StatementForm,
-    period: u16,
-    centre: Option<&str>,
-) -> Result<Answered, CommandFault>
-    ensures { ComesOf (BookRequest.Bill form period centre.entry) book.now
-        (S.shelf repository.old) (S.shelf repository.new) result }
-{
-    ask_report(rt, repository, book, bill_of(form, period, centre))
 }
 
 /// The bill, of the whole office where no centre is named. `None`: the text is no name.

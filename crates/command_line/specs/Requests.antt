@@ -19,6 +19,8 @@ use Rattle.command_line.specs.declared.request.BookRequest.TheVariants as book
 use Rattle.command_line.specs.declared.request.DumpFile.{DumpFile}
 use Rattle.command_line.specs.declared.request.NumberKind.{NumberKind}
 use Rattle.command_line.specs.declared.request.NumberKind.TheVariants as number
+use Rattle.command_line.specs.declared.request.ReportWords.{ReportWords}
+use Rattle.command_line.specs.declared.request.ReportWords.TheVariants as worded
 use Rattle.command_line.specs.declared.request.Request.{Request}
 use Rattle.command_line.specs.declared.request.Request.TheVariants as request
 use Rattle.command_line.specs.declared.request.Ruling.{Ruling}
@@ -118,6 +120,19 @@ is_table form.Table = true
 abbrev pub IsForm : List Row → StatementForm → Type 0
 IsForm rows value = IsCsv rows (is_table value)
 
+-- a report
+abbrev pub AsksReport : Text → List Row → ReportWords → Type 0
+AsksReport name rows (worded.OfPeriod asked period centre) =
+    IsOfPeriod name rows asked period × IsCentre rows centre
+AsksReport name rows (worded.Bill form period centre) =
+    (name ≡ codes "bill") × IsPeriod rows period × IsForm rows form × IsCentre rows centre
+AsksReport name rows (worded.Page period) = (name ≡ codes "page") × IsPeriod rows period
+AsksReport name rows (worded.Record digest) =
+    (name ≡ codes "record") × IsText rows (codes "sha256") digest
+AsksReport name rows worded.Periods = name ≡ codes "periods"
+AsksReport name rows (worded.TariffText date) =
+    (name ≡ codes "tariff-text") × IsText rows (codes "date") date
+
 -- a ruling
 abbrev pub IsRuling : Text → List Row → Ruling → Type 0
 IsRuling name rows (ruling.Tariff file) =
@@ -156,26 +171,15 @@ IsOfBooks name rows (book.ChooseListed file) =
     × IsText rows (codes "from") file × IsDryRun rows false
 IsOfBooks name rows book.Adopt = IsRuling name rows ruling.Adopt × IsDryRun rows false
 IsOfBooks name rows (book.DryRun ruled) = IsRuling name rows ruled × IsDryRun rows true
-IsOfBooks name rows (book.OfPeriod asked period centre) =
-    IsOfPeriod name rows asked period × IsCentre rows centre
+IsOfBooks name rows (book.Report asked) = AsksReport name rows asked
 IsOfBooks name rows (book.WhatIf form period centre file) =
     (name ≡ codes "statement") × IsPeriod rows period × IsForm rows form
     × IsCentre rows centre × IsText rows (codes "tariff") file
 IsOfBooks name rows (book.Details csv period centre) =
     (name ≡ codes "details") × IsPeriod rows period × IsCsv rows csv × IsCentre rows centre
-IsOfBooks name rows (book.Bill form period centre) =
-    (name ≡ codes "bill") × IsPeriod rows period × IsForm rows form
-    × IsCentre rows centre
-IsOfBooks name rows (book.Page period) =
-    (name ≡ codes "page") × IsPeriod rows period
 IsOfBooks name rows (book.Disputes csv) =
     (name ≡ codes "disputes") × IsCsv rows csv
-IsOfBooks name rows (book.Record digest) =
-    (name ≡ codes "record") × IsText rows (codes "sha256") digest
-IsOfBooks name rows book.Periods = name ≡ codes "periods"
 IsOfBooks name rows book.Rulings = name ≡ codes "rulings"
-IsOfBooks name rows (book.TariffText date) =
-    (name ≡ codes "tariff-text") × IsText rows (codes "date") date
 IsOfBooks name rows book.Upgrade = name ≡ codes "upgrade"
 IsOfBooks name rows (book.Audit quiet) =
     (name ≡ codes "audit") × IsFlag rows (codes "quiet") quiet

@@ -11,4 +11,4 @@ mod request;
 
 pub use command_line::requested_by;
 pub use fault::ArgumentFault;
-pub use request::{BookRequest, DumpFile, NumberKind, Request, Ruling, Unclear};
+pub use request::{BookRequest, DumpFile, NumberKind, ReportWords, Request, Ruling, Unclear};

@@ -12,7 +12,9 @@ ghost use Rattle.command_line.specs.Requests.{IsOfPeriod, IsPeriod, IsRequest, I
 ghost use Rattle.command_line.specs.Requests.{is_table, rows_in};
 ghost use Rattle.command_line.specs.Requests as spec;
 
-use crate::request::{BookRequest, DumpFile, NumberKind, Request, Ruling, Unclear};
+use crate::request::{
+    BookRequest, DumpFile, NumberKind, ReportWords, Request, Ruling, Unclear,
+};
 use book_reports::{PeriodReport, StatementForm};
 use clap::ArgMatches;
 use smf_frames::Layout;
@@ -109,7 +111,7 @@ fn list_in<'a>(name: &str, found: &ArgMatches<'a>) -> Option<Request<'a>>
         "bill" => of_books_in(found, bill_in(found)),
         "page" => of_books_in(found, page_in(found)),
         "record" => of_books_in(found, record_in(found)),
-        "periods" => of_books_in(found, Some(BookRequest::Periods)),
+        "periods" => of_books_in(found, Some(BookRequest::Report(ReportWords::Periods))),
         "rulings" => of_books_in(found, Some(BookRequest::Rulings)),
         "tariff-text" => of_books_in(found, tariff_text_in(found)),
         _ => None,
@@ -334,11 +336,11 @@ fn of_period_in<'a>(found: &ArgMatches<'a>, report: PeriodReport, period: u16) -
         → IsOfBooks name (rows_in found.now) result }
 {
     let centre = text_in(found, "centre");
-    BookRequest::OfPeriod {
+    BookRequest::Report(ReportWords::OfPeriod {
         report,
         period,
         centre,
-    }
+    })
 }
 
 fn adjustments_in<'a>(found: &ArgMatches<'a>) -> Option<BookRequest<'a>>
@@ -448,11 +450,11 @@ fn bill_of<'a>(found: &ArgMatches<'a>, form: StatementForm, period: u16) -> Book
         → IsOfBooks (codes "bill") (rows_in found.now) result }
 {
     let centre = text_in(found, "centre");
-    BookRequest::Bill {
+    BookRequest::Report(ReportWords::Bill {
         form,
         period,
         centre,
-    }
+    })
 }
 
 fn page_in<'a>(found: &ArgMatches<'_>) -> Option<BookRequest<'a>>
@@ -460,7 +462,7 @@ fn page_in<'a>(found: &ArgMatches<'_>) -> Option<BookRequest<'a>>
     ensures some { HasWord (rows_in found.now) known.period → IsSome result }
 {
     let period = number_in(found, "period")?;
-    Some(BookRequest::Page { period })
+    Some(BookRequest::Report(ReportWords::Page { period }))
 }
 
 fn disputes_in<'a>(found: &ArgMatches<'_>) -> Option<BookRequest<'a>>
@@ -476,7 +478,7 @@ fn record_in<'a>(found: &ArgMatches<'a>) -> Option<BookRequest<'a>>
     ensures some { HasWord (rows_in found.now) known.record_name → IsSome result }
 {
     let name = text_in(found, "sha256")?;
-    Some(BookRequest::Record { name })
+    Some(BookRequest::Report(ReportWords::Record { name }))
 }
 
 fn tariff_text_in<'a>(found: &ArgMatches<'a>) -> Option<BookRequest<'a>>
@@ -484,7 +486,7 @@ fn tariff_text_in<'a>(found: &ArgMatches<'a>) -> Option<BookRequest<'a>>
     ensures some { HasWord (rows_in found.now) known.date → IsSome result }
 {
     let date = text_in(found, "date")?;
-    Some(BookRequest::TariffText { date })
+    Some(BookRequest::Report(ReportWords::TariffText { date }))
 }
 
 fn audit_in<'a>(found: &ArgMatches<'_>) -> Option<BookRequest<'a>>

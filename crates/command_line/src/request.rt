@@ -96,6 +96,44 @@ impl<'a> Ruling<'a> {
     }
 }
 
+/// The words that ask for a report. A text may turn out to be no name and no day.
+#[derive(Clone, Copy)]
+pub enum ReportWords<'a> {
+    /// What a period has.
+    OfPeriod {
+        report: PeriodReport,
+        /// The number of the period.
+        period: u16,
+        /// The name of the one centre that it is of; None stands for the whole office.
+        centre: Option<&'a str>,
+    },
+    /// A bill: that of a centre, or what each centre owes.
+    Bill {
+        form: StatementForm,
+        /// The number of the period.
+        period: u16,
+        /// The name of the one centre that it is of; None stands for the whole office.
+        centre: Option<&'a str>,
+    },
+    /// A period as a page for a browser.
+    Page {
+        /// The number of the period.
+        period: u16,
+    },
+    /// A record, with its price and what became of it.
+    Record {
+        /// Its name, as 64 hexadecimal digits.
+        name: &'a str,
+    },
+    /// The list of periods.
+    Periods,
+    /// The file of a tariff.
+    TariffText {
+        /// Its first day, as `YYYY-MM-DD`.
+        date: &'a str,
+    },
+}
+
 /// What is asked of books in a file.
 #[derive(Clone, Copy)]
 pub enum BookRequest<'a> {
@@ -129,14 +167,8 @@ pub enum BookRequest<'a> {
     Adopt,
     /// What a ruling would change printed, and nothing changed.
     DryRun(Ruling<'a>),
-    /// What a period has printed.
-    OfPeriod {
-        report: PeriodReport,
-        /// The number of the period.
-        period: u16,
-        /// The name of the one centre that it is of; None stands for the whole office.
-        centre: Option<&'a str>,
-    },
+    /// A report printed.
+    Report(ReportWords<'a>),
     /// A period's statement printed as it would be by other prices.
     WhatIf {
         form: StatementForm,
@@ -156,38 +188,13 @@ pub enum BookRequest<'a> {
         /// The name of the one centre that they are of; None stands for the whole office.
         centre: Option<&'a str>,
     },
-    /// A bill printed: that of a centre, or what each centre owes.
-    Bill {
-        form: StatementForm,
-        /// The number of the period.
-        period: u16,
-        /// The name of the one centre that it is of; None stands for the whole office.
-        centre: Option<&'a str>,
-    },
-    /// A period printed as a page for a browser.
-    Page {
-        /// The number of the period.
-        period: u16,
-    },
     /// The disputes printed.
     Disputes {
         /// As a table of comma-separated values.
         csv: bool,
     },
-    /// A record printed, with its price and what became of it.
-    Record {
-        /// Its name, as 64 hexadecimal digits.
-        name: &'a str,
-    },
-    /// The list of periods printed.
-    Periods,
     /// The list of rulings printed.
     Rulings,
-    /// The file of a tariff printed.
-    TariffText {
-        /// Its first day, as `YYYY-MM-DD`.
-        date: &'a str,
-    },
     /// The books brought over to the form in which books are written now.
     Upgrade,
     /// The whole file audited.

@@ -1,0 +1,31 @@
+use Rattle.std.proofs.Common.{◌∙◌, refl, sym}
+use Rattle.command_line.specs.declared.request.BookRequest.TheVariants as book
+use Rattle.chargectl.specs.Commands.{IsShelfFault}
+use Rattle.chargectl.specs.Faults.{shelf_fault}
+use Rattle.chargectl.proofs.CommandLemmas.{not_asked, word_gone, word_there}
+use Rattle.office.specs.declared.request.Asked.TheVariants as asks
+use Rattle.office.proofs.ShelfLemmas.{untouched}
+use Rattle.chargectl.proofs.report_commands.report.Goals as goal
+
+pub returns-in-None : goal.returns-in-None
+returns-in-None g c = (
+  word_gone _ IsShelfFault (sym c.report_of.ensures ∙ c.in-None.is),
+  untouched c.args.book.now (g.S.Repository.shelf c.args.repository.now),
+)
+
+pub returns-in_err-expect : goal.returns-in_err-expect
+returns-in_err-expect g c =
+    not_asked (book.Report c.args.words) c.args.book.now
+    (g.S.Repository.shelf c.args.repository.now) c.from_residual.result
+    (shelf_fault c.in_err-expect.field-0.0) c.from_residual.ensures.0
+    c.from_residual.ensures.1
+    (word_there _ c.in-Some.made IsShelfFault (shelf_fault c.in_err-expect.field-0.0)
+    (sym c.report_of.ensures ∙ c.in-Some.is) (c.in_err-expect.field-0.0, refl))
+
+pub returns : goal.returns
+returns g c = record {
+  asked = asks.Report c.in-Some.made;
+  words = sym c.report_of.ensures ∙ c.in-Some.is;
+  came = c.ask_books.ensures.answered;
+  notice = c.ask_books.ensures.notice;
+}
