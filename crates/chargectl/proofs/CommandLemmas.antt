@@ -19,9 +19,9 @@ use Rattle.office.specs.Requests.{Asks, IsAsked, response_by}
 use Rattle.office.specs.Shelves.{Shelf}
 use Rattle.office.proofs.ShelfLemmas.{untouched}
 use Rattle.command_line.specs.declared.request.BookRequest.{BookRequest}
+use Rattle.command_line.specs.declared.request.BookRequest.TheVariants as to_books
 use Rattle.command_line.specs.declared.request.Ruling.{Ruling}
 use Rattle.command_line.specs.declared.request.Ruling.TheVariants as ruling
-use Rattle.command_line.specs.Requests.{request_of}
 use Rattle.chargectl.specs.declared.command_fault.CommandFault.{CommandFault}
 use Rattle.chargectl.specs.declared.command_fault.CommandFault.TheVariants as fault
 use Rattle.chargectl.specs.declared.ended.Answered.{Answered}
@@ -51,7 +51,7 @@ not_asked request book shelf (Err fault) found bad is why =
 -- what was noticed of a ruling of a day
 pub day_noticed : (ruled : Ruling) (asked : Asked) (book : List ℕ) (old new : Shelf)
     (answered : Answered) → is_dated ruled ≡ true → IsDated asked book old new answered
-    → IsNoticedBy (request_of ruled) asked book old new answered
+    → IsNoticedBy (to_books.Rule ruled) asked book old new answered
 day_noticed (ruling.Tariff file) asked book old new answered is dated = dated
 day_noticed (ruling.Close period date) asked book old new answered is dated = dated
 day_noticed (ruling.Choose digest) asked book old new answered is dated =
@@ -61,7 +61,7 @@ day_noticed ruling.Adopt asked book old new answered is dated = absurd (true≢f
 -- and nothing was of another
 pub none_noticed : (ruled : Ruling) (asked : Asked) (book : List ℕ) (old new : Shelf)
     (answered : Answered) → is_dated ruled ≡ false → answered.notice ≡ None
-    → IsNoticedBy (request_of ruled) asked book old new answered
+    → IsNoticedBy (to_books.Rule ruled) asked book old new answered
 none_noticed (ruling.Tariff file) asked book old new answered is none = absurd (true≢false is)
 none_noticed (ruling.Close period date) asked book old new answered is none =
     absurd (true≢false is)

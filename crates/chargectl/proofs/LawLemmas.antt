@@ -29,7 +29,6 @@ use Rattle.command_line.specs.declared.request.Request.{Request}
 use Rattle.command_line.specs.declared.request.Request.TheVariants as request
 use Rattle.command_line.specs.declared.request.Ruling.{Ruling}
 use Rattle.command_line.specs.declared.fault.ArgumentFault.{ArgumentFault}
-use Rattle.command_line.specs.Requests.{request_of}
 use Rattle.program_output.specs.declared.status.Status.{Status}
 use Rattle.chargectl.specs.declared.choices.ListAnswered.{ListAnswered}
 use Rattle.chargectl.specs.declared.command_fault.CommandFault.{CommandFault}
@@ -437,9 +436,9 @@ module _ (history : List Event) (name : List ℕ) (old new : Shelf)
       (by_came it.answered it.comes)
     where
       by_came : (came : Result Answered CommandFault)
-          → ComesOfDryRun (request_of ruling) book old new came
+          → ComesOfDryRun (asks.Rule ruling) book old new came
           → Step old.naming history name old new
-          (λ made. (book ≡ name → TriedBy old.naming history (request_of ruling) came) × (made ≡ []))
+          (λ made. (book ≡ name → TriedBy old.naming history (asks.Rule ruling) came) × (made ≡ []))
       by_came (Ok answered) comes =
           step_as (λ made so. (
             λ same. record {

@@ -25,7 +25,6 @@ use Rattle.command_line.specs.declared.request.Request.TheVariants as request
 use Rattle.command_line.specs.declared.request.Ruling.{Ruling}
 use Rattle.command_line.specs.declared.fault.ArgumentFault.{ArgumentFault}
 use Rattle.command_line.specs.Known.{AreReadAs, as_texts}
-use Rattle.command_line.specs.Requests.{request_of}
 use Rattle.program_output.specs.declared.status.Status.{Status}
 use Rattle.program_output.specs.Messages.{program_name}
 use Rattle.chargectl.specs.declared.choices.ListAnswered.{ListAnswered}
@@ -133,7 +132,7 @@ TriedBy naming history request (Err why) = AsksNothing request why
 pub record TriesOfHistory (naming : Naming) (history : List Event) (ruling : Ruling)
     (held holds : Option (List ℕ)) (ended : Ended) (made : List Event) : Type 0 where
   pub came : Result Answered CommandFault
-  pub tried : TriedBy naming history (request_of ruling) came
+  pub tried : TriedBy naming history (book.Rule ruling) came
   pub tells : Tells came held holds ended
   pub none : made ≡ []
 

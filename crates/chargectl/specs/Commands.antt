@@ -77,12 +77,12 @@ what_if_of form period (Some centre) =
 
 -- The table: what a command asks of the office. The text of a tariff is what its file gave.
 abbrev pub IsAskedBy : BookRequest → Asked → Type 0
-IsAskedBy (book.Tariff file) (asks.Tariff text) = ⊤
+IsAskedBy (book.Rule (ruling.Tariff file)) (asks.Tariff text) = ⊤
 IsAskedBy (book.Import dump) (asks.Import layout) = layout ≡ dump.layout
-IsAskedBy (book.Close period date) (asks.Close number through) =
+IsAskedBy (book.Rule (ruling.Close period date)) (asks.Close number through) =
     (number ≡ period) × (day_of_text_of date.now ≡ Some through)
-IsAskedBy (book.Choose name) (asks.Choose chosen) = name_in name.now ≡ Some chosen
-IsAskedBy book.Adopt (asks.Adopt rule) = rule ≡ 2
+IsAskedBy (book.Rule (ruling.Choose name)) (asks.Choose chosen) = name_in name.now ≡ Some chosen
+IsAskedBy (book.Rule ruling.Adopt) (asks.Adopt rule) = rule ≡ 2
 IsAskedBy (book.Report said) (asks.Report printed) = report_of said ≡ Some printed
 IsAskedBy (book.WhatIf form period centre file) (asks.WhatIf report text) =
     what_if_of form period centre ≡ Some report
@@ -172,10 +172,11 @@ IsWordFault (Some read) IsLater why = IsLater why
 
 -- why a command asks nothing
 abbrev pub AsksNothing : BookRequest → CommandFault → Type 0
-AsksNothing (book.Tariff file) why = IsTariffFault why
+AsksNothing (book.Rule (ruling.Tariff file)) why = IsTariffFault why
 AsksNothing (book.Import dump) why = IsShelfFault why ⊎ IsFileFault why
-AsksNothing (book.Close period date) why = IsWordFault (day_of_text_of date.now) IsShelfFault why
-AsksNothing (book.Choose name) why = IsWordFault (name_in name.now) IsShelfFault why
+AsksNothing (book.Rule (ruling.Close period date)) why =
+    IsWordFault (day_of_text_of date.now) IsShelfFault why
+AsksNothing (book.Rule (ruling.Choose name)) why = IsWordFault (name_in name.now) IsShelfFault why
 AsksNothing (book.Report said) why = IsWordFault (report_of said) IsShelfFault why
 AsksNothing (book.WhatIf form period centre file) why =
     IsWordFault (what_if_of form period centre) IsTariffFault why
@@ -198,8 +199,9 @@ pub record IsDated (asked : Asked) (book : List ℕ) (old new : Shelf) (answered
 -- What a command noticed beside its answer: of a tariff and a close whether the day is far, of an import
 -- the layout, of others nothing. No contract says what the file of a dump holds.
 abbrev pub IsNoticedBy : BookRequest → Asked → List ℕ → Shelf → Shelf → Answered → Type 0
-IsNoticedBy (book.Tariff file) asked name old new answered = IsDated asked name old new answered
-IsNoticedBy (book.Close period date) asked name old new answered =
+IsNoticedBy (book.Rule (ruling.Tariff file)) asked name old new answered =
+    IsDated asked name old new answered
+IsNoticedBy (book.Rule (ruling.Close period date)) asked name old new answered =
     IsDated asked name old new answered
 IsNoticedBy (book.Import dump) asked name old new answered = (looked : Bool)
     × IsLookedAt dump.layout None looked × (answered.notice ≡ answer_notice looked answered.answer)

@@ -27,8 +27,8 @@ use Rattle.office.specs.Runs.{AsksWithoutReader, dump_here}
 use Rattle.office.specs.Shelves.{Shelf, IsTried, IsUntouched}
 use Rattle.office.proofs.LawLemmas.{asks_answered}
 use Rattle.command_line.specs.declared.request.BookRequest.{BookRequest}
+use Rattle.command_line.specs.declared.request.BookRequest.TheVariants as to_books
 use Rattle.command_line.specs.declared.request.Ruling.{Ruling}
-use Rattle.command_line.specs.Requests.{request_of}
 use Rattle.chargectl.specs.declared.command_fault.CommandFault.{CommandFault}
 use Rattle.chargectl.specs.declared.dated_rulings.DatedAnswer.{DatedAnswer}
 use Rattle.chargectl.specs.declared.ended.Answered.{Answered}
@@ -162,5 +162,5 @@ ComesOfDryRun request book old new (Err why) = AsksNothing request why × IsUnto
 pub record TriesAndTells (ruling : Ruling) (book : List ℕ) (old new : Shelf)
     (held holds : Option (List ℕ)) (ended : Ended) : Type 0 where
   pub answered : Result Answered CommandFault
-  pub comes : ComesOfDryRun (request_of ruling) book old new answered
+  pub comes : ComesOfDryRun (to_books.Rule ruling) book old new answered
   pub tells : Tells answered held holds ended

@@ -1,7 +1,6 @@
 //! What the office is asked for a ruling. Faults are found in this order: a date or a name, the
 //! books, the file.
 
-ghost use Rattle.command_line.specs.Requests.{request_of};
 ghost use Rattle.chargectl.specs.DryRuns.{IsAskedFor};
 
 use crate::book_commands::tariff_text;
@@ -21,7 +20,7 @@ pub(crate) fn asked_ruling<S: Repository>(
     book: &str,
     ruling: Ruling<'_>,
 ) -> Result<Asked, CommandFault>
-    ensures { IsAskedFor (request_of ruling.entry) result }
+    ensures { IsAskedFor (BookRequest.Rule ruling.entry) result }
 {
     match ruling {
         Ruling::Tariff { file } => asked_tariff(rt, repository, book, file),
@@ -38,7 +37,7 @@ fn asked_tariff<S: Repository>(
     book: &str,
     file: &str,
 ) -> Result<Asked, CommandFault>
-    ensures { IsAskedFor (BookRequest.Tariff file.entry) result }
+    ensures { IsAskedFor (BookRequest.Rule (Ruling.Tariff file.entry)) result }
 {
     repository.expect(book)?;
     let text = tariff_text(rt, file)?;
@@ -52,7 +51,7 @@ fn asked_close<S: Repository>(
     period: u16,
     date: &str,
 ) -> Result<Asked, CommandFault>
-    ensures { IsAskedFor (BookRequest.Close period date.entry) result }
+    ensures { IsAskedFor (BookRequest.Rule (Ruling.Close period date.entry)) result }
 {
     let through = match day_of_text(date) {
         Some(through) => through,
@@ -68,7 +67,7 @@ fn asked_choice<S: Repository>(
     book: &str,
     name: &str,
 ) -> Result<Asked, CommandFault>
-    ensures { IsAskedFor (BookRequest.Choose name.entry) result }
+    ensures { IsAskedFor (BookRequest.Rule (Ruling.Choose name.entry)) result }
 {
     let chosen = match name_of_text(name) {
         Some(chosen) => chosen,
@@ -80,7 +79,7 @@ fn asked_choice<S: Repository>(
 
 /// What is asked for the adoption of the later rule of identity.
 fn asked_adoption<S: Repository>(repository: &S, book: &str) -> Result<Asked, CommandFault>
-    ensures { IsAskedFor BookRequest.Adopt result }
+    ensures { IsAskedFor (BookRequest.Rule Ruling.Adopt) result }
 {
     repository.expect(book)?;
     Ok(Asked::Adopt(LATER_RULE))

@@ -7,7 +7,6 @@ ghost use Rattle.book_core.specs.Transition.{IsTransition};
 ghost use Rattle.office.specs.Answers.{answer_text};
 ghost use Rattle.office.specs.Requests.{IsAskableUnread, response_by, response_of};
 ghost use Rattle.office.proofs.AskLemmas.{askable_once};
-ghost use Rattle.command_line.specs.Requests.{request_of};
 ghost use Rattle.chargectl.specs.Commands as spec;
 ghost use Rattle.chargectl.specs.Commands.{AsksOnce, once_answered, ComesOf, IsAnswered, IsPrinted};
 ghost use Rattle.chargectl.specs.Commands.{IsTextFault, IsTold, Tells, TellsAnswered, answer_of};
@@ -219,7 +218,7 @@ pub(crate) fn rule<S: Repository>(
     book: &str,
     ruling: Ruling<'_>,
 ) -> Result<Answered, CommandFault>
-    ensures { ComesOf (request_of ruling.entry) book.now
+    ensures { ComesOf (BookRequest.Rule ruling.entry) book.now
         (S.shelf repository.old) (S.shelf repository.new) result }
 {
     let asked = asked_ruling(rt, repository, book, ruling)?;

@@ -7,7 +7,6 @@ ghost use Rattle.report_texts.specs.DryRuns.{NamesDay};
 ghost use Rattle.office.specs.Requests as requests;
 ghost use Rattle.office.specs.Requests.{IsAskableRuling};
 ghost use Rattle.office.proofs.AskLemmas.{ruling_once};
-ghost use Rattle.command_line.specs.Requests.{request_of};
 ghost use Rattle.chargectl.specs.DryRuns.{ComesOfDryRun, IsNamedBy, IsShown, IsTriedOnce};
 ghost use Rattle.chargectl.specs.DryRuns.{IsUnnamed, TriesOnceBy, dated_by, tried_answered};
 ghost use Rattle.chargectl.specs.Far.{notice_by};
@@ -20,7 +19,7 @@ use crate::far::is_far_asked;
 use crate::notice::Notice;
 use book_core::{Ledger, LedgerFault, Ruled, Tariff};
 use book_reports::{open_period, period_figures};
-use command_line::Ruling;
+use command_line::{BookRequest, Ruling};
 use office::{Answer, Asked, Opened, Repository, Visit, ask_without_reader};
 use report_texts::{Figures, TriedRuling, dry_run_text};
 use std::alloc::Global;
@@ -72,7 +71,7 @@ pub(crate) fn dry_run<S: Repository>(
     book: &str,
     ruling: Ruling<'_>,
 ) -> Result<Answered, CommandFault>
-    ensures { ComesOfDryRun (request_of ruling.entry) book.now
+    ensures { ComesOfDryRun (BookRequest.Rule ruling.entry) book.now
         (S.shelf repository.old) (S.shelf repository.new) result }
 {
     let asked = asked_ruling(rt, repository, book, ruling)?;

@@ -207,7 +207,7 @@ impl<'a> Places<'a> {
 /// The file that a request to books reads.
 fn read_by<'a>(asked: BookRequest<'a>) -> Option<&'a str> {
     match asked {
-        BookRequest::Tariff { file }
+        BookRequest::Rule(Ruling::Tariff { file })
         | BookRequest::DryRun(Ruling::Tariff { file })
         | BookRequest::ChooseListed { file }
         | BookRequest::WhatIf { file, .. } => Some(file),

@@ -27,9 +27,7 @@ use book_audit::AuditedRepository;
 use book_core::{LedgerFault, Sink, Source};
 use book_import::{MAX_READS, Receipt, Stop};
 use book_reports::ReportFault;
-use command_line::{
-    ArgumentFault, BookRequest, DumpFile, NumberKind, Request, Ruling, requested_by,
-};
+use command_line::{ArgumentFault, BookRequest, DumpFile, NumberKind, Request, requested_by};
 use office::RepositoryFault;
 use program_output::{
     Explanation, FaultKind, PROGRAM, Status, WordKind, check_list, explained, io_failed,
@@ -132,21 +130,9 @@ fn run_on_books<S: AuditedRepository, O: Write + Drop>(
             let came = made(repository.make(book));
             (Ended::without_log(came), output)
         }
-        BookRequest::Tariff { file } => {
-            tell(rule(rt, repository, book, Ruling::Tariff { file }), output)
-        }
+        BookRequest::Rule(ruling) => tell(rule(rt, repository, book, ruling), output),
         BookRequest::Import(dump) => tell(import_dump(rt, repository, book, dump), output),
-        BookRequest::Close { period, date } => {
-            tell(
-                rule(rt, repository, book, Ruling::Close { period, date }),
-                output,
-            )
-        }
-        BookRequest::Choose { name } => {
-            tell(rule(rt, repository, book, Ruling::Choose { name }), output)
-        }
         BookRequest::ChooseListed { file } => choose_listed(rt, repository, book, file, output),
-        BookRequest::Adopt => tell(rule(rt, repository, book, Ruling::Adopt), output),
         BookRequest::DryRun(ruling) => tell(dry_run(rt, repository, book, ruling), output),
         BookRequest::Report(words) => tell(report(rt, repository, book, words), output),
         BookRequest::WhatIf {

@@ -23,13 +23,11 @@ use Rattle.clap.proofs.CallerReads.{signed_reads}
 use Rattle.clap.proofs.WalkLemmas.{one_text-rows}
 use Rattle.std.specs.Box.{box_value}
 use Rattle.command_line.specs.Given.{HasNumber, HasRate, NoneIs}
-use Rattle.command_line.specs.Requests.{IsCentre, IsDryRun, IsFlag, IsLeftOut, IsNumber, IsOfBooks}
-use Rattle.command_line.specs.Requests.{IsOfCommand, IsRequest, IsRuling, IsText, Writes}
-use Rattle.command_line.specs.Requests.{has_plain_period, is_of_period_text, request_of}
+use Rattle.command_line.specs.Requests.{IsCentre, IsFlag, IsLeftOut, IsNumber, IsOfCommand}
+use Rattle.command_line.specs.Requests.{IsRequest, IsText, Writes, has_plain_period}
+use Rattle.command_line.specs.Requests.{is_of_period_text}
 use Rattle.command_line.specs.declared.request.Request.{Request}
 use Rattle.command_line.specs.declared.request.Request.TheVariants as request
-use Rattle.command_line.specs.declared.request.Ruling.{Ruling}
-use Rattle.command_line.specs.declared.request.Ruling.TheVariants as ruling
 use Rattle.command_line.specs.declared.request.Unclear.TheVariants as unclear
 use Rattle.command_line.proofs.RowLemmas.{none_some, true_false}
 
@@ -216,16 +214,6 @@ module _ {Z : Type 0} where
       → IsSomeAnd (subcommand_rows sub) P → ⊥
   none_met P None named met = met
   none_met P (Some b) named met = none_some _ named
-
--- ---- a ruling
-
--- where no dry run is asked for, the ruling itself is
-pub ruling_asked : (name : Text) (rows : List Row) (ruled : Ruling) → IsRuling name rows ruled
-    → IsDryRun rows false → IsOfBooks name rows (request_of ruled)
-ruling_asked name rows (ruling.Tariff file) is plain = (is, plain)
-ruling_asked name rows (ruling.Close period date) is plain = (is, plain)
-ruling_asked name rows (ruling.Choose digest) is plain = (is, plain)
-ruling_asked name rows ruling.Adopt is plain = (is, plain)
 
 -- ---- a period
 

@@ -145,13 +145,6 @@ IsRuling name rows (ruling.Choose digest) =
     × IsLeftOut rows (codes "from")
 IsRuling name rows ruling.Adopt = name ≡ codes "adopt"
 
--- the request to rule so
-abbrev pub request_of : Ruling → BookRequest
-request_of (ruling.Tariff file) = book.Tariff file
-request_of (ruling.Close period date) = book.Close period date
-request_of (ruling.Choose digest) = book.Choose digest
-request_of ruling.Adopt = book.Adopt
-
 -- whether only what would change is asked for
 abbrev pub IsDryRun : List Row → Bool → Type 0
 IsDryRun rows value = IsFlag rows (codes "dry-run") value
@@ -159,17 +152,11 @@ IsDryRun rows value = IsFlag rows (codes "dry-run") value
 -- what is asked of books
 abbrev pub IsOfBooks : Text → List Row → BookRequest → Type 0
 IsOfBooks name rows book.Init = name ≡ codes "init"
-IsOfBooks name rows (book.Tariff file) =
-    IsRuling name rows (ruling.Tariff file) × IsDryRun rows false
+IsOfBooks name rows (book.Rule ruled) = IsRuling name rows ruled × IsDryRun rows false
 IsOfBooks name rows (book.Import dump) = (name ≡ codes "import") × IsDump rows dump
-IsOfBooks name rows (book.Close period date) =
-    IsRuling name rows (ruling.Close period date) × IsDryRun rows false
-IsOfBooks name rows (book.Choose digest) =
-    IsRuling name rows (ruling.Choose digest) × IsDryRun rows false
 IsOfBooks name rows (book.ChooseListed file) =
     (name ≡ codes "choose") × IsLeftOut rows (codes "sha256")
     × IsText rows (codes "from") file × IsDryRun rows false
-IsOfBooks name rows book.Adopt = IsRuling name rows ruling.Adopt × IsDryRun rows false
 IsOfBooks name rows (book.DryRun ruled) = IsRuling name rows ruled × IsDryRun rows true
 IsOfBooks name rows (book.Report asked) = AsksReport name rows asked
 IsOfBooks name rows (book.WhatIf form period centre file) =

@@ -12,9 +12,7 @@ ghost use Rattle.command_line.specs.Requests.{IsOfPeriod, IsPeriod, IsRequest, I
 ghost use Rattle.command_line.specs.Requests.{is_table, rows_in};
 ghost use Rattle.command_line.specs.Requests as spec;
 
-use crate::request::{
-    BookRequest, DumpFile, NumberKind, ReportWords, Request, Ruling, Unclear,
-};
+use crate::request::{BookRequest, DumpFile, NumberKind, ReportWords, Request, Ruling, Unclear};
 use book_reports::{PeriodReport, StatementForm};
 use clap::ArgMatches;
 use smf_frames::Layout;
@@ -281,7 +279,6 @@ fn close_in<'a>(found: &ArgMatches<'a>) -> Option<BookRequest<'a>>
 }
 
 /// The ruling, or a dry run of it.
-#[tactic(auto, using(crate::proofs::ReaderLemmas::ruling_asked))]
 fn ruling_in<'a>(found: &ArgMatches<'_>, ruling: Ruling<'a>) -> Option<BookRequest<'a>>
     ensures asked { (name : _) → IsRuling name (rows_in found.now) ruling.entry
         → IfSome result (IsOfBooks name (rows_in found.now)) }
@@ -290,7 +287,7 @@ fn ruling_in<'a>(found: &ArgMatches<'_>, ruling: Ruling<'a>) -> Option<BookReque
     if flag_in(found, "dry-run")? {
         Some(BookRequest::DryRun(ruling))
     } else {
-        Some(ruling.request())
+        Some(BookRequest::Rule(ruling))
     }
 }
 

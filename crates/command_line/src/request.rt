@@ -1,6 +1,3 @@
-ghost use Rattle.std.specs.Prelude.{◌≡◌};
-ghost use Rattle.command_line.specs.Requests.{request_of};
-
 use book_reports::{PeriodReport, StatementForm};
 use smf_frames::Layout;
 
@@ -82,20 +79,6 @@ pub enum Ruling<'a> {
     Adopt,
 }
 
-impl<'a> Ruling<'a> {
-    /// The request to rule so.
-    pub fn request(self) -> BookRequest<'a>
-        ensures { result ≡ request_of self.entry }
-    {
-        match self {
-            Ruling::Tariff { file } => BookRequest::Tariff { file },
-            Ruling::Close { period, date } => BookRequest::Close { period, date },
-            Ruling::Choose { name } => BookRequest::Choose { name },
-            Ruling::Adopt => BookRequest::Adopt,
-        }
-    }
-}
-
 /// The words that ask for a report. A text may turn out to be no name and no day.
 #[derive(Clone, Copy)]
 pub enum ReportWords<'a> {
@@ -139,32 +122,15 @@ pub enum ReportWords<'a> {
 pub enum BookRequest<'a> {
     /// New books in a file that is not there yet.
     Init,
-    /// A tariff file submitted.
-    Tariff {
-        /// The path of the tariff.
-        file: &'a str,
-    },
+    /// A ruling made.
+    Rule(Ruling<'a>),
     /// A dump read into the books.
     Import(DumpFile<'a>),
-    /// The open period closed.
-    Close {
-        /// The number of the period.
-        period: u16,
-        /// Its last day, as `YYYY-MM-DD`.
-        date: &'a str,
-    },
-    /// A record chosen among those of its identity.
-    Choose {
-        /// Its name, as 64 hexadecimal digits.
-        name: &'a str,
-    },
     /// The records of a list chosen, one after the other.
     ChooseListed {
         /// The path of the list, which has a name a line.
         file: &'a str,
     },
-    /// Identity rule 2 adopted for good.
-    Adopt,
     /// What a ruling would change printed, and nothing changed.
     DryRun(Ruling<'a>),
     /// A report printed.

@@ -1,10 +1,12 @@
 use Rattle.std.proofs.Common.{refl}
 use Rattle.command_line.specs.declared.request.BookRequest.TheVariants as book
+use Rattle.command_line.specs.declared.request.Ruling.TheVariants as ruling
 use Rattle.chargectl.specs.Faults.{shelf_fault}
 use Rattle.chargectl.proofs.DryRunLemmas.{none_asked}
 use Rattle.chargectl.proofs.asked_rulings.asked_adoption.Goals as goal
 
 pub returns-in_err-expect : goal.returns-in_err-expect
 returns-in_err-expect g c =
-    none_asked book.Adopt c.from_residual.result (shelf_fault c.in_err-expect.field-0.0)
-    c.from_residual.ensures.0 c.from_residual.ensures.1 (c.in_err-expect.field-0.0, refl)
+    none_asked (book.Rule ruling.Adopt) c.from_residual.result
+    (shelf_fault c.in_err-expect.field-0.0) c.from_residual.ensures.0 c.from_residual.ensures.1
+    (c.in_err-expect.field-0.0, refl)

@@ -1,5 +1,6 @@
 use Rattle.std.proofs.Common.{◌∙◌, refl, sym}
 use Rattle.command_line.specs.declared.request.BookRequest.TheVariants as book
+use Rattle.command_line.specs.declared.request.Ruling.TheVariants as ruling
 use Rattle.chargectl.specs.Commands.{IsShelfFault}
 use Rattle.chargectl.specs.Faults.{shelf_fault}
 use Rattle.chargectl.proofs.CommandLemmas.{word_gone, word_there}
@@ -11,7 +12,7 @@ returns-in-None g c = word_gone _ IsShelfFault (sym c.name_of_text.ensures.read 
 
 pub returns-in_err-expect : goal.returns-in_err-expect
 returns-in_err-expect g c =
-    none_asked (book.Choose c.args.name) c.from_residual.result
+    none_asked (book.Rule (ruling.Choose c.args.name)) c.from_residual.result
     (shelf_fault c.in_err-expect.field-0.0) c.from_residual.ensures.0 c.from_residual.ensures.1
     (word_there _ c.in-Some.chosen IsShelfFault (shelf_fault c.in_err-expect.field-0.0)
     (sym c.name_of_text.ensures.read ∙ c.in-Some.is) (c.in_err-expect.field-0.0, refl))

@@ -1,11 +1,11 @@
 use Rattle.std.proofs.Common.{◌∙◌, sym}
-use Rattle.command_line.specs.Requests.{request_of}
+use Rattle.command_line.specs.declared.request.BookRequest.TheVariants as book
 use Rattle.chargectl.proofs.CommandLemmas.{day_noticed, none_noticed, not_asked}
 use Rattle.chargectl.proofs.book_commands.rule.Goals as goal
 
 pub returns-in_err-asked : goal.returns-in_err-asked
 returns-in_err-asked g c =
-    not_asked (request_of c.args.ruling) c.args.book.now
+    not_asked (book.Rule c.args.ruling) c.args.book.now
     (g.S.Repository.shelf c.args.repository.now) c.from_residual.result c.in_err-asked.field-0.0
     c.from_residual.ensures.0 c.from_residual.ensures.1 c.in_err-asked.ensures
 

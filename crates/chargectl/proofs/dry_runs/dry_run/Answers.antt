@@ -1,10 +1,10 @@
-use Rattle.command_line.specs.Requests.{request_of}
+use Rattle.command_line.specs.declared.request.BookRequest.TheVariants as book
 use Rattle.chargectl.proofs.DryRunLemmas.{none_tried}
 use Rattle.chargectl.proofs.dry_runs.dry_run.Goals as goal
 
 pub returns-in_err-asked : goal.returns-in_err-asked
 returns-in_err-asked g c =
-    none_tried (request_of c.args.ruling) c.args.book.now
+    none_tried (book.Rule c.args.ruling) c.args.book.now
     (g.S.Repository.shelf c.args.repository.now) c.from_residual.result c.in_err-asked.field-0.0
     c.from_residual.ensures.0 c.from_residual.ensures.1 c.in_err-asked.ensures
 
