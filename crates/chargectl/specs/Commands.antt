@@ -77,8 +77,8 @@ what_if_of form period (Some centre) =
 
 -- The table: what a command asks of the office. The text of a tariff is what its file gave.
 abbrev pub IsAskedBy : BookRequest → Asked → Type 0
-IsAskedBy (book.Rule (ruling.Tariff file)) (asks.Tariff text) = ⊤
 IsAskedBy (book.Import dump) (asks.Import layout) = layout ≡ dump.layout
+IsAskedBy (book.Rule (ruling.Tariff file)) (asks.Tariff text) = ⊤
 IsAskedBy (book.Rule (ruling.Close period date)) (asks.Close number through) =
     (number ≡ period) × (day_of_text_of date.now ≡ Some through)
 IsAskedBy (book.Rule (ruling.Choose name)) (asks.Choose chosen) = name_in name.now ≡ Some chosen
@@ -172,8 +172,8 @@ IsWordFault (Some read) IsLater why = IsLater why
 
 -- why a command asks nothing
 abbrev pub AsksNothing : BookRequest → CommandFault → Type 0
-AsksNothing (book.Rule (ruling.Tariff file)) why = IsTariffFault why
 AsksNothing (book.Import dump) why = IsShelfFault why ⊎ IsFileFault why
+AsksNothing (book.Rule (ruling.Tariff file)) why = IsTariffFault why
 AsksNothing (book.Rule (ruling.Close period date)) why =
     IsWordFault (day_of_text_of date.now) IsShelfFault why
 AsksNothing (book.Rule (ruling.Choose name)) why = IsWordFault (name_in name.now) IsShelfFault why
