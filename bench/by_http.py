@@ -120,7 +120,7 @@ def due_to(request, model):
         status = 200 if stop == "END" else 422
         return Due("SERVED %d" % status, formats.answer(status, line), new=new)
     if asked.report == formats.TARIFF:
-        return Due("SERVED 200", formats.answer(200, TARIFF))
+        return Due("SERVED 200", formats.answer(200, TARIFF, charset="utf-8"))
     may_be_refused = asked.body is not None and asked.body not in inputs.TARIFFS
     if asked.report:
         name, *_ = asked.report

@@ -310,13 +310,13 @@ def asked_by_body(rest, names, lengths, path, last_period):
     return Asked(200, layout="bdw" if path["blocks"] else "rdw", body=body)
 
 
-def answer(status, body=None, kind="plain", allow=None):
+def answer(status, body=None, kind="plain", allow=None, charset="us-ascii"):
     """An answer as it is sent: without a body it gives its status alone."""
     phrase = "%d %s" % (status, PHRASES[status])
     body = (phrase + "\n").encode() if body is None else body
     line = "Allow: %s\r\n" % allow.decode() if allow else PAGE_LINES if kind == "html" else ""
-    return ("HTTP/1.1 %s\r\nContent-Type: text/%s; charset=us-ascii\r\n%sContent-Length: %d\r\n"
-            "Connection: close\r\n\r\n" % (phrase, kind, line, len(body))).encode() + body
+    return ("HTTP/1.1 %s\r\nContent-Type: text/%s; charset=%s\r\n%sContent-Length: %d\r\n"
+            "Connection: close\r\n\r\n" % (phrase, kind, charset, line, len(body))).encode() + body
 
 
 # What stands in the head of a page.
@@ -326,7 +326,7 @@ PAGE_LINES = ("Content-Security-Policy: default-src 'none'; style-src 'unsafe-in
 # The head of an answer of any status.
 STATUSES = "|".join("%d %s" % named for named in PHRASES.items())
 ANSWER = re.compile((
-    "HTTP/1\\.1 (?:%s)\r\nContent-Type: text/(?:plain|csv|html); charset=us-ascii\r\n"
+    "HTTP/1\\.1 (?:%s)\r\nContent-Type: text/(?:(?:plain|csv|html); charset=us-ascii|plain; charset=utf-8)\r\n"
     "(?:Allow: (?:GET|POST)\r\n|Retry-After: 1\r\n|%s)?Content-Length: [0-9]+\r\nConnection: close\r\n\r\n"
     % (STATUSES, re.escape(PAGE_LINES))).encode())
 

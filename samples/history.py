@@ -394,7 +394,7 @@ class History:
         books = self.books
         self.ask("get /rulings", served(200, list(books.rulings())))
         for tariff in books.tariffs:
-            self.ask("get /tariff/%s" % tariff.effective, served(200, tariff.file))
+            self.ask("get /tariff/%s" % tariff.effective, served(200, tariff.file, charset="utf-8"))
         for period in range(1, books.open + 1):
             self.ask("get /adjustments-csv/%d" % period, served(200, list(books.adjustment_table(period)), "csv"))
         self.ask("get /disputes-csv", served(200, list(books.dispute_table()), "csv"))

@@ -209,11 +209,11 @@ def shown_bytes(body):
     return (text if text.endswith("\n") or not text else text + "\\\n").splitlines()
 
 
-def served(status, text, form="plain"):
+def served(status, text, form="plain", charset="us-ascii"):
     """An answer over HTTP, as it is shown. A refusal without a text of its own has its status and phrase."""
     first = "%d %s" % (status, PHRASES[status])
     body = text if isinstance(text, bytes) else bytes_of(text or [first])
-    head = ["HTTP/1.1 " + first, "Content-Type: text/%s; charset=us-ascii" % form, *PAGE_LINES * (form == "html"),
+    head = ["HTTP/1.1 " + first, "Content-Type: text/%s; charset=%s" % (form, charset), *PAGE_LINES * (form == "html"),
             "Content-Length: %d" % len(body), "Connection: close", ""]
     return [line + "\\r" for line in head] + shown_bytes(body) + ["SERVED %d" % status]
 

@@ -28,7 +28,7 @@ use Rattle.office.specs.declared.request.Asked.TheVariants as requests
 use Rattle.office.specs.Requests as tells
 use Rattle.office.specs.Requests.{Response, Asks, Receives, response_outcome, whole_dump, no_dump}
 use Rattle.book_http.specs.declared.answer_head.BodyKind.{BodyKind}
-use Rattle.book_http.specs.declared.answer_head.BodyKind.TheVariants.{Text, Csv, Page}
+use Rattle.book_http.specs.declared.answer_head.BodyKind.TheVariants.{Text, Csv, Page, TariffFile}
 use Rattle.book_http.specs.declared.asked.Asked.{Asked}
 use Rattle.book_http.specs.declared.asked.Asked.TheVariants as asks
 use Rattle.book_http.specs.declared.status.Status.TheVariants.{BadRequest, NotFound, Unavailable}
@@ -44,6 +44,7 @@ body_kind (report.OfCentre StatementTable period centre) = Csv
 body_kind (report.OfCentre AdjustmentTable period centre) = Csv
 body_kind report.OfficePage = Page
 body_kind (report.PeriodPage period) = Page
+body_kind (report.TariffText day) = TariffFile
 body_kind report = Text
 
 -- that of details, and of what a period would have cost

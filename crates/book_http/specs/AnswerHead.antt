@@ -1,7 +1,7 @@
 -- The lines of an answer before its body (RFC 9112, sections 4 and 5).
 use Rattle.std.specs.Prelude.{ℕ, List, [], ◌++◌, codes, decimal, Option, Some, None}
 use Rattle.book_http.specs.declared.answer_head.BodyKind.{BodyKind}
-use Rattle.book_http.specs.declared.answer_head.BodyKind.TheVariants.{Text, Csv, Page}
+use Rattle.book_http.specs.declared.answer_head.BodyKind.TheVariants.{Text, Csv, Page, TariffFile}
 use Rattle.book_http.specs.declared.method.Method.{Method}
 use Rattle.book_http.specs.declared.notice.Notice.{Notice}
 use Rattle.book_http.specs.declared.notice.Notice.TheVariants.{Allow, RetryAfter}
@@ -13,11 +13,12 @@ use Rattle.book_http.specs.Statuses.{status_text}
 abbrev pub crlf : List ℕ
 crlf = codes "\r\n"
 
--- the media type of a body
+-- the media type of a body: all but a tariff file is written in ASCII alone
 abbrev pub media_type : BodyKind → List ℕ
 media_type Text = codes "text/plain; charset=us-ascii"
 media_type Csv = codes "text/csv; charset=us-ascii"
 media_type Page = codes "text/html; charset=us-ascii"
+media_type TariffFile = codes "text/plain; charset=utf-8"
 
 -- What a browser may do with a page: it runs no script and fetches nothing, and takes its style from the
 -- page itself (Content Security Policy Level 3). It takes the page for nothing but HTML (Fetch

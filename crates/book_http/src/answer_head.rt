@@ -25,6 +25,8 @@ pub enum BodyKind {
     Csv,
     /// A page for a browser.
     Page,
+    /// A tariff file as it came: a text in UTF-8.
+    TariffFile,
 }
 
 impl BodyKind {
@@ -36,6 +38,7 @@ impl BodyKind {
             BodyKind::Text => "text/plain; charset=us-ascii",
             BodyKind::Csv => "text/csv; charset=us-ascii",
             BodyKind::Page => "text/html; charset=us-ascii",
+            BodyKind::TariffFile => "text/plain; charset=utf-8",
         }
     }
 }
@@ -65,7 +68,7 @@ fn push_limits(text: &mut AnswerText, kind: BodyKind)
             text.push_str("default-src 'none'; style-src 'unsafe-inline'\r\n");
             text.push_str("X-Content-Type-Options: nosniff\r\n");
         }
-        BodyKind::Text | BodyKind::Csv => {}
+        BodyKind::Text | BodyKind::Csv | BodyKind::TariffFile => {}
     }
 }
 

@@ -37,6 +37,7 @@ fn body_kind(report: &Report) -> BodyKind
             ..
         } => BodyKind::Csv,
         Report::OfficePage | Report::PeriodPage(_) => BodyKind::Page,
+        Report::TariffText(_) => BodyKind::TariffFile,
         _ => BodyKind::Text,
     }
 }
