@@ -1,13 +1,12 @@
 -- Books that calls made are not called unsound.
-use Rattle.std.specs.Prelude.{◌≡◌, ◌≢◌, Bool, false, true, Result, IfOk}
+use Rattle.std.specs.Prelude.{◌≡◌, ◌≢◌, Bool, false, true, List, Result, IfOk}
 use Rattle.sqlite_disk.specs.Disk.{MoreFaults}
 use Rattle.sqlite_trees.specs.Tree.{Trees}
 use Rattle.sqlite_trees.specs.View.{IsClean}
 use Rattle.sqlite_trees.specs.declared.error.StoreError.{StoreError}
 use Rattle.sqlite_trees.specs.declared.store.Store.{Ghosts}
-use Rattle.book_model.specs.Words.{Book}
-use Rattle.table_model.specs.FromCalls.{IsFromCalls}
-use Rattle.table_model.specs.Readable.{HasTexts}
+use Rattle.book_model.specs.Words.{Book, Event, IsMadeByCalls, book_after}
+use Rattle.table_model.specs.Readable.{HasTexts, IsReadable}
 use Rattle.table_model.specs.TablesOf.{tables_of}
 use Rattle.tree_rows.specs.Calls.{IsCausedByStore}
 use Rattle.tree_tables.specs.Holds.{Holds}
@@ -20,10 +19,13 @@ use Rattle.book_audit.specs.declared.finding.Tree.TheVariants.{ChoiceNames, Iden
 use Rattle.book_audit.specs.declared.stop.Stop.{Stop}
 use Rattle.book_audit.specs.declared.stop.Stop.TheVariants.{Unsound}
 
--- The trees hold the tables of a book that calls made.
+-- The trees hold the tables of a book that calls made, and that can be read back.
 pub record AreOwn (trees : Trees) : Type 0 where
   pub book : Book
-  pub calls : IsFromCalls sha_names book
+  pub history : List Event
+  pub answered : IsMadeByCalls sha_names history
+  pub left : book ≡ book_after history
+  pub readable : IsReadable sha_names book
   pub texts : HasTexts book
   pub holds : Holds trees (tables_of sha_names book)
 

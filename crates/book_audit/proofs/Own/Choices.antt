@@ -176,7 +176,7 @@ module _ (trees : Trees) (own : AreOwn trees) where
       sym (length-map its.some (choice_row sha_names)) ∙ ap length its.are
       ∙ length-map made (λ (x : Made). x.1) in
       let up = subst (IsAscending (λ (a : Choice) (b : Choice). a.period ≤ b.period)) its.parts
-      (choices_rise sha_names own.book own.calls) in
+      (choices_rise sha_names own.book own.history own.answered own.left) in
       let later : since_from 1 (said made) ≤ one.period =
       subst (λ (rows : List ChoiceRow). since_from 1 rows ≤ one.period) its.are
       (up_to 1 its.some one its.later up (omega (arith, above))) in
@@ -184,7 +184,7 @@ module _ (trees : Trees) (own : AreOwn trees) where
       || not (is_unrivalled own.book.rulings own.book.held c.chosen)) ≡ true) its.some one its.later
       (subst (AllByRecursion (λ (c : Choice). (parted own.book.rulings.adopted c.period
       || not (is_unrivalled own.book.rulings own.book.held c.chosen)) ≡ true)) its.parts
-      (choices_among sha_names own.book own.calls)) in
+      (choices_among sha_names own.book own.history own.answered own.left)) in
       record {
         one = record {
           chosen = one.chosen;

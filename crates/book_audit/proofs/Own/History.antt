@@ -1,11 +1,13 @@
 -- The choices of books that calls made: each was made no earlier than those before it, among records
 -- that are still its rivals, unless a rule of identity was adopted since.
-use Rattle.std.proofs.Common.{◌≡◌, ◌≤◌, ◌∙◌, ◌∷◌, [], ℕ, List, Bool, true, false, not, ◌||◌, Option}
-use Rattle.std.proofs.Common.{Some, None, ap, arith, length, refl, subst, sym, ◌⊎◌, inl, inr}
-use Rattle.std.proofs.Common.{le-leb, nat_le, unwrap_or}
+use Rattle.std.proofs.Common.{◌≡◌, ◌≤◌, ◌+◌, ◌∙◌, ◌++◌, ◌∷◌, [], ℕ, List, Bool, true, false}
+use Rattle.std.proofs.Common.{not, ◌||◌}
+use Rattle.std.proofs.Common.{Option, Some, None, ap, arith, length, length-append, refl, subst}
+use Rattle.std.proofs.Common.{sym, ◌⊎◌, inl, inr}
+use Rattle.std.specs.Prelude.{nat_le, unwrap_or}
 use Rattle.std.specs.List.{AllByRecursion}
 use Rattle.std.proofs.Math.Bool.{or-true}
-use Rattle.std.proofs.lemmas.List.Elements.{recursion_from_All}
+use Rattle.std.proofs.lemmas.Bool.Decides.{nat_tests}
 use Rattle.sqlite_trees.specs.Tree.{IsAscending}
 use Rattle.sqlite_trees.proofs.ListLemmas.{all-append, all_weaker, ascending-append}
 use Rattle.book_model.specs.Words.{Book, Choice, Event, IsMadeByCalls, Naming, PeriodClosed}
@@ -14,11 +16,8 @@ use Rattle.book_model.specs.Words.{after, book_after, chosen_answer, conflict, h
 use Rattle.book_model.specs.Words.{is_unrivalled, most_choices, open_by, open_number}
 use Rattle.book_model.proofs.RecordSets.{has_with, is}
 use Rattle.table_model.specs.Changed.{IsAnswered}
-use Rattle.table_model.specs.FromCalls.{AreSubmitted, IsFromCalls, IsSubmittedTo}
-use Rattle.table_model.specs.Readable.{IsTimely}
 use Rattle.table_model.proofs.ChoiceChanges.{tests_passed}
 use Rattle.table_model.proofs.EventLemmas.{answered_so}
-use Rattle.table_model.proofs.ReadableLemmas.{calls_read}
 use Rattle.table_model.proofs.RowsWhere.{one_passes, some_passes}
 
 -- a rule that was adopted in a period or later can have parted a record from its rivals
@@ -36,7 +35,12 @@ abbrev WasRival : Book → Choice → Type 0
 WasRival book choice =
     (parted book.rulings.adopted choice.period ≡ true) ⊎ Rival book choice.chosen
 
+-- it was made in a period that has begun
+abbrev WasBegun : Book → Choice → Type 0
+WasBegun book choice = choice.period ≤ open_number book
+
 record AreChosen (book : Book) : Type 0 where
+  begun : AllByRecursion (WasBegun book) book.rulings.choices
   rise : IsAscending (λ (a : Choice) (b : Choice). a.period ≤ b.period) book.rulings.choices
   rivalled : AllByRecursion (WasRival book) book.rulings.choices
 
@@ -55,18 +59,18 @@ or_held a b is = ap (λ t. a || t) is ∙ or-true a
 
 -- each of the periods so far is no later than that which is open
 each_before : (book : Book) (period : ℕ) → open_number book ≤ period → (choices : List Choice)
-    → AllByRecursion (IsTimely book) choices
+    → AllByRecursion (WasBegun book) choices
     → AllByRecursion (λ (a : Choice). AllByRecursion (λ (b : Choice). a.period ≤ b.period)
     (record { chosen = []; period = period } ∷ [])) choices
-each_before book period less [] timely = tt
-each_before book period less (choice ∷ choices) timely =
-    let begun = timely.0.begun in ((omega arith, tt), each_before book period less choices timely.1)
+each_before book period less [] so_far = tt
+each_before book period less (choice ∷ choices) so_far =
+    let begun : choice.period ≤ open_number book = so_far.0 in
+    ((omega arith, tt), each_before book period less choices so_far.1)
 
-event_chosen : (naming : Naming) (book : Book) (event : Event)
-    → AllByRecursion (IsTimely book) book.rulings.choices
-    → AreChosen book → IsSubmittedTo book event → IsAnswered naming event book
-    → AreChosen (after event book)
-event_chosen naming book (RecordKept bytes) timely so_far handed answered = record {
+event_chosen : (naming : Naming) (book : Book) (event : Event) → AreChosen book
+    → IsAnswered naming event book → AreChosen (after event book)
+event_chosen naming book (RecordKept bytes) so_far answered = record {
+  begun = so_far.begun;
   rise = so_far.rise;
   rivalled = all_weaker (WasRival book) (WasRival (after (RecordKept bytes) book))
       (λ choice was. elim was [
@@ -78,24 +82,36 @@ event_chosen naming book (RecordKept bytes) timely so_far handed answered = reco
         )
       ]) book.rulings.choices so_far.rivalled;
 }
-event_chosen naming book (TariffAccepted (Some text) terms) timely so_far handed answered =
-    record { rise = so_far.rise; rivalled = so_far.rivalled }
-event_chosen naming book (TariffAccepted None terms) timely so_far handed answered = absurd handed
-event_chosen naming book (PeriodClosed day) timely so_far handed answered =
-    record { rise = so_far.rise; rivalled = so_far.rivalled }
-event_chosen naming book (RecordChosen bytes) timely so_far handed answered =
+event_chosen naming book (TariffAccepted text terms) so_far answered =
+    record { begun = so_far.begun; rise = so_far.rise; rivalled = so_far.rivalled }
+event_chosen naming book (PeriodClosed day) so_far answered = record {
+  begun = all_weaker (WasBegun book) (WasBegun (after (PeriodClosed day) book))
+      (λ choice was. still choice.period was) book.rulings.choices so_far.begun;
+  rise = so_far.rise;
+  rivalled = so_far.rivalled;
+}
+  where
+    still : (period : ℕ) → period ≤ length book.rulings.closes + 1
+        → period ≤ length (book.rulings.closes ++ day ∷ []) + 1
+    still period was =
+        let more = length-append book.rulings.closes (day ∷ []) in omega (arith, was, more)
+event_chosen naming book (RecordChosen bytes) so_far answered =
     let choice : Choice = record { chosen = bytes; period = open_by book.rulings } in
+    let open_now : open_by book.rulings ≤ open_number book = omega arith in
     let tests = tests_passed (is_unrivalled book.rulings book.held bytes)
     (is_chosen book.rulings bytes) (nat_le most_choices (length book.rulings.choices))
     (ap (chosen_answer book) (sym answered.1) ∙ answered.0) in
     record {
+      begun = all-append (WasBegun book) book.rulings.choices (choice ∷ []) so_far.begun
+          (open_now, tt);
       rise = ascending-append (λ (a : Choice) (b : Choice). a.period ≤ b.period) book.rulings.choices
           (choice ∷ []) so_far.rise (tt, tt)
-          (each_before book (open_by book.rulings) (omega arith) book.rulings.choices timely);
+          (each_before book (open_by book.rulings) open_now book.rulings.choices so_far.begun);
       rivalled = all-append (WasRival book) book.rulings.choices (choice ∷ []) so_far.rivalled
           (inr (no_rival book bytes tests.0), tt);
     }
-event_chosen naming book SecondRuleAdopted timely so_far handed answered = record {
+event_chosen naming book SecondRuleAdopted so_far answered = record {
+  begun = so_far.begun;
   rise = so_far.rise;
   rivalled = adopted_in book.rulings.adopted refl;
 }
@@ -105,11 +121,15 @@ event_chosen naming book SecondRuleAdopted timely so_far handed answered = recor
         (parted (Some (unwrap_or book.rulings.adopted (open_by book.rulings))) choice.period ≡ true)
         ⊎ Rival (after SecondRuleAdopted book) choice.chosen) book.rulings.choices
     adopted_in None none =
-        all_weaker (IsTimely book) (λ (choice : Choice).
+        all_weaker (WasBegun book) (λ (choice : Choice).
         (parted (Some (unwrap_or book.rulings.adopted (open_by book.rulings))) choice.period ≡ true)
         ⊎ Rival (after SecondRuleAdopted book) choice.chosen)
-        (λ choice timely. inl (ap (λ (a : Option ℕ). nat_le choice.period (unwrap_or a (open_by book.rulings))) none
-        ∙ le-leb choice.period (open_by book.rulings) timely.begun)) book.rulings.choices timely
+        (λ choice begun. inl (ap (λ (a : Option ℕ). nat_le choice.period (unwrap_or a (open_by book.rulings))) none
+        ∙ within choice.period begun)) book.rulings.choices so_far.begun
+      where
+        within : (period : ℕ) → period ≤ open_by book.rulings
+            → nat_le period (open_by book.rulings) ≡ true
+        within period less = grind (arith, nat_tests)
     adopted_in (Some other) was =
         subst (λ (a : Option ℕ). AllByRecursion (λ (choice : Choice).
         (parted a choice.period ≡ true)
@@ -120,23 +140,16 @@ event_chosen naming book SecondRuleAdopted timely so_far handed answered = recor
 
 -- the choices of the book of a history
 chosen_after : (naming : Naming) (history : List Event) → IsMadeByCalls naming history
-    → AreSubmitted history → AreChosen (book_after history)
-chosen_after naming [] answered handed = record { rise = tt; rivalled = tt }
-chosen_after naming (event ∷ older) answered handed =
+    → AreChosen (book_after history)
+chosen_after naming [] answered = record { begun = tt; rise = tt; rivalled = tt }
+chosen_after naming (event ∷ older) answered =
     let before = answered_so naming event older answered in
-    let whole = calls_read naming (book_after older) (record {
-      history = older;
-      answered = before.0;
-      submitted = handed.1;
-      left = refl;
-    }) in
-    event_chosen naming (book_after older) event
-    (recursion_from_All (IsTimely (book_after older)) (book_after older).rulings.choices whole.timely)
-    (chosen_after naming older before.0 handed.1) handed.0 before.1
+    event_chosen naming (book_after older) event (chosen_after naming older before.0) before.1
 
-module _ (naming : Naming) (book : Book) (made : IsFromCalls naming book) where
+module _ (naming : Naming) (book : Book) (history : List Event)
+    (answered : IsMadeByCalls naming history) (left : book ≡ book_after history) where
   its_choices : AreChosen book
-  its_choices = subst AreChosen (sym made.left) (chosen_after naming made.history made.answered made.submitted)
+  its_choices = subst AreChosen (sym left) (chosen_after naming history answered)
 
   -- the periods of choices rise,
   pub choices_rise : IsAscending (λ (a : Choice) (b : Choice). a.period ≤ b.period) book.rulings.choices

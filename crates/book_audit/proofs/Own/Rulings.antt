@@ -15,7 +15,6 @@ use Rattle.table_model.specs.Readable.{IsBegun, IsOfCharacters, IsReadable, IsTe
 use Rattle.table_model.specs.Tables.{BookRow, never_adopted}
 use Rattle.table_model.specs.TablesOf.{close_entries, tables_of, tariff_entries}
 use Rattle.table_model.proofs.CloseOrder.{Behind, late_first}
-use Rattle.table_model.proofs.ReadableLemmas.{calls_read}
 use Rattle.table_model.proofs.RulingsReading.{tariffs_kept}
 use Rattle.table_model.proofs.UnderNumbers.{entries-numbers}
 use Rattle.tree_tables.specs.Columns.{book_columns, closed_columns, tariff_columns, tariff_value}
@@ -36,7 +35,7 @@ use Rattle.book_audit.proofs.Rows.Columns.{same_values}
 
 -- books that calls made can be read back
 pub own_readable : (trees : Trees) (own : AreOwn trees) → IsReadable sha_names own.book
-own_readable trees own = calls_read sha_names own.book own.calls
+own_readable trees own = own.readable
 
 -- ---- the row of the book
 
