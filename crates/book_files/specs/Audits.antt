@@ -1,18 +1,20 @@
 -- What an audit says of files.
-use Rattle.std.specs.Prelude.{◌≡◌, Some, None}
+use Rattle.std.specs.Prelude.{◌≡◌, ◌<◌, ℕ, suc, Some, None}
 use Rattle.sqlite_disk.specs.declared.Disk.{Ghosts}
+use Rattle.sqlite_pool.specs.File.{version_in}
 use Rattle.sqlite_wal.specs.Reads.{AreClean}
 use Rattle.sqlite_wal.specs.Recovery.{Image}
+use Rattle.book_model.specs.Words.{Naming}
+use Rattle.book_core.specs.Transition.{Transition}
+use Rattle.tree_tables.specs.Forms.{this_form}
 use Rattle.book_audit.specs.OfBook.{AreOfBook}
-use Rattle.book_audit.specs.Own.{AreOwn}
 use Rattle.book_audit.specs.declared.audited.Audited.{Audited}
 use Rattle.book_audit.specs.declared.audited.Audited.TheVariants.{Unsound}
 use Rattle.book_audit.specs.declared.audited.Counts.{Counts}
 use Rattle.book_audit.specs.declared.finding.Finding.{Finding}
 use Rattle.book_trees.specs.Closing.{HaveFailed}
-use Rattle.book_trees.specs.Forms.{HoldsThisForm}
 use Rattle.book_trees.specs.LedgerFiles.{HoldsBooks, trees_held}
-use Rattle.book_restarts.specs.FileBooks.{file_names}
+use Rattle.book_restarts.specs.FileBooks.{HoldsOwnBook, IsOwnSession, file_names}
 use Rattle.book_files.specs.Causes.{HoldsOurBooks}
 use Rattle.book_files.specs.declared.session.Ended.{Ended}
 use Rattle.book_files.specs.declared.session.Ended.TheVariants.{Closed, Refused}
@@ -29,22 +31,36 @@ SoundAreOurs =
     (counts : Counts) (image : Image) → HoldCounted counts image
     → ∥ HoldsOurBooks file_names image ∥₁
 
--- The files hold, in this form, a book that calls made with what they were given.
-pub record HoldsOwnBook (image : Image) : Type 0 where
-  pub form : HoldsThisForm image
-  pub own : AreOwn (trees_held form.held)
+-- the files hold books, and say that these are of a newer form
+abbrev pub SayNewer : Image → Type 0
+SayNewer image = ∥ ((held : HoldsBooks image) × (this_form < version_in held.pages)) ∥₁
 
--- If books are such, and an audit finds something wrong with them, something failed.
-abbrev pub FindsWrongBy : Type 0 → Type 0 → Audited → Type 0
-FindsWrongBy Own Failed audited =
-    (finding : Finding) → audited ≡ Unsound finding → Own → Failed
+-- what an audit finds wrong it finds for such a reason
+abbrev pub FindsWrongBy : Type 0 → Audited → Type 0
+FindsWrongBy Why audited = (finding : Finding) → audited ≡ Unsound finding → Why
 
--- Files that hold a book which calls made are called unsound only where they were looked through, and a
--- call on them failed, or met a limit of the format.
-abbrev pub WhyUnsound : {D : Type 0} (g : Ghosts D) → Image → Ended D → Audited → Type 0
-WhyUnsound g found (Refused None) audited = FindsWrongBy (HoldsOwnBook found) ⊥ audited
-WhyUnsound g found (Refused (Some files)) audited =
-    AreClean g files.log files.db → FindsWrongBy (HoldsOwnBook found) ⊥ audited
-WhyUnsound g found (Closed closed) audited =
+-- Files are called unsound only where they were looked through, and a call on them failed, or met a
+-- limit of the format; or where they were not, and say that they are of a newer form.
+abbrev pub IsUnsoundBy : {D : Type 0} (g : Ghosts D) → Image → Ended D → Audited → Type 0
+IsUnsoundBy g found (Refused None) audited = FindsWrongBy ⊥ audited
+IsUnsoundBy g found (Refused (Some files)) audited =
+    AreClean g files.log files.db → FindsWrongBy (SayNewer found) audited
+IsUnsoundBy g found (Closed closed) audited =
     AreClean g closed.files.log closed.files.db
-    → FindsWrongBy (HoldsOwnBook found) (HaveFailed g closed.files) audited
+    → FindsWrongBy (HaveFailed g closed.files) audited
+
+-- So it is with files that hold a book which calls made.
+abbrev pub WhyUnsound : {D : Type 0} (g : Ghosts D) → Image → Ended D → Audited → Type 0
+WhyUnsound g found ended audited =
+    HoldsOwnBook file_names found → IsUnsoundBy g found ended audited
+
+-- So it is with files on which such sessions alone worked since they held a book of calls, as new books
+-- do: however many there were, wherever they were stopped, and whatever the files hold now.
+abbrev pub OwnFilesAreNotUnsound : {D : Type 0} (g : Ghosts D) → (ℕ → Naming → Transition)
+    → (ℕ → Image) → Type 0
+OwnFilesAreNotUnsound {D} g work files =
+    (sessions : ℕ) (ended : Ended D) (audited : Audited) → HoldsOwnBook file_names (files 0)
+    → ((session : ℕ) → session < sessions
+    → IsOwnSession file_names (work session file_names) (files session) (files (suc session)))
+    → WhyUnsound g (files sessions) ended audited
+    → IsUnsoundBy g (files sessions) ended audited

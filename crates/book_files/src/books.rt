@@ -311,8 +311,8 @@ fn audit_in<S: Store, W: Watch>(
         → IsClean (S.Store.view result.1)
         → AreOfBook file_names (S.Store.view store).trees counts) }
     ensures own { IfOk result.0 (λ audited. IsClean (S.Store.view result.1)
-        → FindsWrongBy (AreOwn (S.Store.view store).trees)
-        (MoreFaults (S.Store.faults store) (S.Store.faults result.1)) audited) }
+        → AreOwn (S.Store.view store).trees
+        → FindsWrongBy (MoreFaults (S.Store.faults store) (S.Store.faults result.1)) audited) }
     ensures clean { IsClean (S.Store.view result.1) → IsClean (S.Store.view store) }
 {
     let (audited, store) = audit_trees(alloc, store, watch);
@@ -333,8 +333,8 @@ pub(crate) fn audit_and_close<D: Disk, W: Watch>(
         → AreClean D.Disk result.1.files.log result.1.files.db
         → AreOfBook file_names (view store).trees counts) }
     ensures own { IfOk result.0 (λ audited.
-        AreClean D.Disk result.1.files.log result.1.files.db
-        → FindsWrongBy (AreOwn (view store).trees) (HaveFailed D.Disk result.1.files) audited) }
+        AreClean D.Disk result.1.files.log result.1.files.db → AreOwn (view store).trees
+        → FindsWrongBy (HaveFailed D.Disk result.1.files) audited) }
     ensures clean { AreClean D.Disk result.1.files.log result.1.files.db → IsClean (view store) }
 {
     let (audited, store) = audit_in(alloc, store, watch);

@@ -20,9 +20,9 @@ returns g c =
           closed.ensures.honest closed.ensures.left (audited.ensures.held book stands);
       book = ok_so audited.result.0 audited.ensures.book (λ told book counts is honest.
           book counts is (no_doubt _ (closed.ensures.honest honest)));
-      own = ok_so audited.result.0 audited.ensures.own (λ told own honest finding is ours.
+      own = ok_so audited.result.0 audited.ensures.own (λ told own honest ours finding is.
           files_failed store store files files.log closed.ensures.files (omega arith) (omega arith)
           (since_none (faults c.args.store) (faults store)
-          (own (no_doubt _ (closed.ensures.honest honest)) finding is ours)));
+          (own (no_doubt _ (closed.ensures.honest honest)) ours finding is)));
       clean = λ honest. audited.ensures.clean (no_doubt _ (closed.ensures.honest honest));
     }

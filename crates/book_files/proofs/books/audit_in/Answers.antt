@@ -28,10 +28,10 @@ returns g c =
           → IsClean (g.S.Store.view new) → AreOfBook file_names (g.S.Store.view old).trees counts)
           Ledger audited.result.0 c.map_err.result c.map_err.ensures.cases audited.ensures.book;
       own = mapped_ok (λ audited. IsClean (g.S.Store.view new)
-          → FindsWrongBy (AreOwn (g.S.Store.view old).trees)
-          (MoreFaults (g.S.Store.faults old) (g.S.Store.faults new)) audited) Ledger
+          → AreOwn (g.S.Store.view old).trees
+          → FindsWrongBy (MoreFaults (g.S.Store.faults old) (g.S.Store.faults new)) audited) Ledger
           audited.result.0 c.map_err.result c.map_err.ensures.cases
-          (ok_so audited.result.0 audited.ensures.own (λ told own clean finding is ours.
+          (ok_so audited.result.0 audited.ensures.own (λ told own clean ours finding is.
           own finding is clean ours));
       clean = λ clean. clean_before _ _ quiet.clean clean;
     }

@@ -1,5 +1,5 @@
 use Rattle.std.proofs.Common.{◌≡◌, inl, refl, subst, sym}
-use Rattle.std.proofs.Math.Logic.{∥∥₁_map}
+use Rattle.std.proofs.Math.Logic.{∥∥₁_elim, ∥∥₁_map, ∥∥₁_prop}
 use Rattle.std.specs.Prelude.{IfErr, IfOk, ⊤}
 use Rattle.sqlite_disk.specs.contracts.modelled.ModelledDisk.TheImpl as modelled
 use Rattle.sqlite_std_file.specs.contracts.host.Host.{the_row}
@@ -20,7 +20,7 @@ use Rattle.book_files.specs.Audits.{HoldCounted, WhyUnsound}
 use Rattle.book_files.specs.Causes.{WhyNotAudited}
 use Rattle.book_files.specs.Sessions.{MayFollow}
 use Rattle.book_files.specs.declared.session.Ended.TheVariants.{Refused}
-use Rattle.book_files.proofs.AuditParts.{looked_listed, never_sound, never_unsound}
+use Rattle.book_files.proofs.AuditParts.{looked_listed, never_sound, never_unsound, own_trees}
 use Rattle.book_files.proofs.Causes.{err_each, look_cause, ok_each, ok_so}
 use Rattle.book_files.proofs.SessionParts.{found_clean, held_goes_on, refused_goes_on}
 use Rattle.book_files.proofs.session.audit_at.Goals as goal
@@ -54,9 +54,11 @@ returns-in-Err-clause-cause g c =
 pub returns-in-Ok-clause-own : goal.returns-in-Ok-clause-own
 returns-in-Ok-clause-own g c =
     let audited = c.audit_and_close-audited in
-    ok_so audited.result.0 audited.ensures.own (λ told own honest finding is ours.
-    own honest finding is (subst AreOwn
-    (sym (c.in-Ok.ensures.found (clean_of _ (audited.ensures.clean honest)) ours.form.held)) ours.own))
+    ok_so audited.result.0 audited.ensures.own (λ told own ours honest finding is.
+    ∥∥₁_elim ours.held.held ∥∥₁_prop λ kept.
+    own honest (subst AreOwn
+    (sym (c.in-Ok.ensures.found (clean_of _ (audited.ensures.clean honest)) kept.0))
+    (own_trees (image_at g.S.Start) ours kept.0 kept.1)) finding is)
 
 pub returns-in-Err-clause-own : goal.returns-in-Err-clause-own
 returns-in-Err-clause-own g c =
