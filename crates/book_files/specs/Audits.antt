@@ -54,8 +54,8 @@ abbrev pub WhyUnsound : {D : Type 0} (g : Ghosts D) → Image → Ended D → Au
 WhyUnsound g found ended audited =
     HoldsOwnBook file_names found → IsUnsoundBy g found ended audited
 
--- So it is with files on which such sessions alone worked since they held a book of calls, as new books
--- do: however many there were, wherever they were stopped, and whatever the files hold now.
+-- So it is with files that held such a book, as those of new books do, and on which only sessions
+-- of this program worked since, however many, and wherever they were stopped.
 abbrev pub OwnFilesAreNotUnsound : {D : Type 0} (g : Ghosts D) → (ℕ → Naming → Transition)
     → (ℕ → Image) → Type 0
 OwnFilesAreNotUnsound {D} g work files =
