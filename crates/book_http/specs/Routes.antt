@@ -2,7 +2,8 @@
 -- finds what Paths says, and nothing else, is a clause of the function that looks it up.
 use Rattle.std.specs.Prelude.{ℕ, Bool, if◌then◌else◌, List, [], ◌∷◌, ◌==◌, codes, length, drop, nat_eq}
 use Rattle.std.specs.Prelude.{Option, Some, None, option_and_then, option_map, Result, Ok, Err}
-use Rattle.std.specs.List.{before_first, starts_with}
+use Rattle.std.specs.Borrow.{Bor}
+use Rattle.std.specs.List.{before_first, fold, starts_with}
 use Rattle.matchit.specs.Order.{placed}
 use Rattle.matchit.specs.Route.{Scan, parse_route}
 use Rattle.matchit.specs.Rows.{RowsOf}
@@ -155,6 +156,12 @@ with_scan (Err error) value rows = rows
 
 abbrev pub with_route : List ℕ → Page → RowsOf (RouteOf Page) → RowsOf (RouteOf Page)
 with_route text value rows = with_scan (parse_route text) value rows
+
+-- the rows of the router with routes that are put in one after the other
+abbrev pub rows_by : List (Bor (List ℕ) × Page) → RowsOf (RouteOf Page)
+rows_by routes =
+    fold (λ (rows : RowsOf (RouteOf Page)) (it : Bor (List ℕ) × Page).
+    with_route it.0.now it.1 rows) [] routes
 
 -- the eighteen routes
 unfoldable pub route_rows : RowsOf (RouteOf Page)

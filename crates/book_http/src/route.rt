@@ -80,28 +80,51 @@ fn with_page(mut router: Router<Page>, route: &str, page: Page) -> Result<Router
     Ok(router)
 }
 
-/// The pages by their paths. An error means that memory ran out.
+/// The routes of all pages.
+static ROUTES: [(&str, Page); 18] = [
+    ("/periods", Page::Periods),
+    ("/statement/{*rest}", Page::Statement),
+    ("/statement-csv/{*rest}", Page::StatementCsv),
+    ("/adjustments/{*rest}", Page::Adjustments),
+    ("/adjustments-csv/{*rest}", Page::AdjustmentsCsv),
+    ("/details/{*rest}", Page::Details),
+    ("/details-csv/{*rest}", Page::DetailsCsv),
+    ("/disputes", Page::Disputes),
+    ("/disputes-csv", Page::DisputesCsv),
+    ("/record/{*rest}", Page::Record),
+    ("/rulings", Page::Rulings),
+    ("/tariff/{*rest}", Page::Tariff),
+    ("/what-if/{*rest}", Page::WhatIf),
+    ("/what-if-csv/{*rest}", Page::WhatIfCsv),
+    ("/import", Page::Import),
+    ("/import-bdw", Page::ImportBdw),
+    ("/", Page::Office),
+    ("/period/{*rest}", Page::Period),
+];
+
+/// They are read whole here, so that callers need not.
+fn all_routes() -> &'static [(&'static str, Page)]
+    ensures { spec.rows_by result.now ≡ route_rows }
+{
+    ROUTES.as_slice()
+}
+
+/// A router of routes, which are put in one after the other. An error means that memory ran out.
+fn router_of(alloc: Global, routes: &[(&str, Page)]) -> Result<Router<Page>, InsertError>
+    ensures { IfOk result (λ router. router ≡ spec.rows_by routes.now) }
+{
+    let mut router = Router::new(alloc);
+    for route in routes {
+        router = with_page(router, route.0, route.1)?;
+    }
+    Ok(router)
+}
+
+/// The pages by their paths.
 fn pages(alloc: Global) -> Result<Router<Page>, InsertError>
     ensures { IfOk result (λ router. router ≡ route_rows) }
 {
-    let router = with_page(Router::new(alloc), "/periods", Page::Periods)?;
-    let router = with_page(router, "/statement/{*rest}", Page::Statement)?;
-    let router = with_page(router, "/statement-csv/{*rest}", Page::StatementCsv)?;
-    let router = with_page(router, "/adjustments/{*rest}", Page::Adjustments)?;
-    let router = with_page(router, "/adjustments-csv/{*rest}", Page::AdjustmentsCsv)?;
-    let router = with_page(router, "/details/{*rest}", Page::Details)?;
-    let router = with_page(router, "/details-csv/{*rest}", Page::DetailsCsv)?;
-    let router = with_page(router, "/disputes", Page::Disputes)?;
-    let router = with_page(router, "/disputes-csv", Page::DisputesCsv)?;
-    let router = with_page(router, "/record/{*rest}", Page::Record)?;
-    let router = with_page(router, "/rulings", Page::Rulings)?;
-    let router = with_page(router, "/tariff/{*rest}", Page::Tariff)?;
-    let router = with_page(router, "/what-if/{*rest}", Page::WhatIf)?;
-    let router = with_page(router, "/what-if-csv/{*rest}", Page::WhatIfCsv)?;
-    let router = with_page(router, "/import", Page::Import)?;
-    let router = with_page(router, "/import-bdw", Page::ImportBdw)?;
-    let router = with_page(router, "/", Page::Office)?;
-    with_page(router, "/period/{*rest}", Page::Period)
+    router_of(alloc, all_routes())
 }
 
 /// The page of a path, if it has one.
