@@ -1,4 +1,4 @@
--- How prices came about: the rules that are named are those that decided.
+-- How prices came about: the rules that are named have what the price has.
 use Rattle.std.proofs.Common.{◌≡◌, ℕ, suc, ◌-◌, List, length, refl, sym, ap, ◌∙◌, true, false}
 use Rattle.std.proofs.Common.{cond, Option, Some, None, arith}
 use Rattle.std.specs.Prelude.{Bool, find, nat_lt, slice_get}

@@ -54,8 +54,8 @@ pub fn closed_stays()
     ensures { ClosedStays }
 {}
 
-/// The law of the net count is false for periods that reverse nothing, count early records or add
-/// late ones.
+/// The law of the net count is false for periods that reverse nothing, that count records dated no
+/// later than the last close, or that add records dated after it.
 pub fn wrong_periods_fail()
     ensures { WrongPeriodsFail }
 {}

@@ -20,8 +20,8 @@ pub fn trails_net()
     ensures { TrailsNet }
 {}
 
-/// The rules that a reckoning names are those that decided, its numbers come to the price, and that
-/// is what the record is charged at.
+/// The rules that a reckoning names have the shift, the percent and the centre of the price, its
+/// numbers come to the amount, and that is what the record is charged at.
 pub fn prices_are_reckoned()
     ensures { PricesAreReckoned }
 {}
