@@ -36,7 +36,7 @@ impl Help {
     pub(crate) fn text(self) -> &'static str {
         match self {
             Help::Book => "The file of the books",
-            Help::Dump => "The file of the dump",
+            Help::Dump => "The file of the dump of SMF records",
             Help::Tariff => "The file of the tariff",
             Help::Copy => "The file of the copy, which is not there yet",
             Help::Period => "The number of the period, from 1",
@@ -46,23 +46,27 @@ impl Help {
             Help::RecordName => {
                 "The record's name, as details and the lists of disputes and adjustments show it"
             }
-            Help::Names => "A list of names in place of SHA256, one a line",
-            Help::Layout => "How the dump's segments are laid out: one after another, or in blocks",
+            Help::Names => "A file of records' names in place of SHA256, one a line",
+            Help::Layout => {
+                "How the dump is laid out: segments one after another (rdw), or in blocks (bdw)"
+            }
             Help::Quiet => "Shows no progress on a terminal",
             Help::DryRun => "Prints what would change, and changes nothing",
             Help::Csv => "As comma-separated values, without the total",
             Help::DisputeCsv => "As comma-separated values, a line for each record",
-            Help::Wait => "How long to wait while another program uses the books, up to 3600",
+            Help::Wait => {
+                "For how many seconds to wait while another program uses the books, up to 3600"
+            }
             Help::Centre => "Only what is charged to this centre",
-            Help::Cpu => "Ten-thousandths of the money unit for a CPU second",
-            Help::Excp => "Ten-thousandths of the money unit for 1,000 blocks",
-            Help::Record => "Ten-thousandths of the money unit for a record",
+            Help::Cpu => "Ten-thousandths of the money unit for a CPU second, up to 100000000",
+            Help::Excp => "Ten-thousandths of the money unit for 1,000 blocks, up to 100000000",
+            Help::Record => "Ten-thousandths of the money unit for a record, up to 100000000",
             Help::Prices => "A tariff file in place of rates, in force on every day",
             Help::OtherPrices => {
                 "The same records as they would be charged by this tariff file; nothing is written"
             }
-            Help::Port => "The port on 127.0.0.1",
-            Help::Requests => "How many connections to answer, one at a time",
+            Help::Port => "The port on 127.0.0.1, 1 to 65535",
+            Help::Requests => "After how many connections to end, up to 1000000",
             Help::NumberKind => "What kind of number it is, or a word that has none",
             Help::Number => "The number on standard error or in a list; a word has none",
         }

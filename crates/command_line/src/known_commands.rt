@@ -296,7 +296,7 @@ pub(crate) static KNOWN_COMMANDS: [KnownCommand; 23] = [
     },
     KnownCommand {
         name: "adopt",
-        about: "Adopts identity rule 2, for ever",
+        about: "Takes steps that began at different times for different work, for good",
         words: &[BOOK, DRY_RUN, WAIT],
     },
     KnownCommand {
