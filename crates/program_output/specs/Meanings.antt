@@ -178,7 +178,7 @@ tariff_texts =
     -- 2 Missing
     (
       codes "A key is missing; it follows this number.",
-      codes "Add it.",
+      codes "Add it. The key effective stands above the first line in brackets.",
     ) ∷
     -- 3 Range
     (
@@ -281,8 +281,9 @@ word_texts Busy = (
 word_texts Exists = (
   codes "A file that the command would make is there, or a log or journal of it; or books have "
       ++ codes "the name of a log: BOOK-wal, BOOK-journal or BOOK-shm.",
-  codes "Take another name. Rename books that have the name of a log while no command runs, and "
-      ++ codes "delete nothing before you know whose it is.",
+  codes "Take another name. What a stopped dry run left as BOOK-try, or a stopped backup as "
+      ++ codes "FILE-new, may be deleted while no command runs. Rename books that have the name of a "
+      ++ codes "log while no command runs, and delete nothing else before you know whose it is.",
 )
 word_texts Word = (
   codes "What was given is no date, or no name of a record or a centre; of a list, the number "

@@ -37,7 +37,7 @@ fn explanation_of(fault: TariffFault) -> Explanation
         },
         TariffFault::Missing(_) => Explanation {
             meaning: "A key is missing; it follows this number.",
-            advice: "Add it.",
+            advice: "Add it. The key effective stands above the first line in brackets.",
         },
         TariffFault::Range(_) => Explanation {
             meaning: "The value of a key is of the wrong type or out of range; the key follows this \

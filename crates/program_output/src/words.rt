@@ -48,8 +48,10 @@ fn explanation_of(kind: WordKind) -> Explanation
         WordKind::Exists => Explanation {
             meaning: "A file that the command would make is there, or a log or journal of it; or \
                  books have the name of a log: BOOK-wal, BOOK-journal or BOOK-shm.",
-            advice: "Take another name. Rename books that have the name of a log while no command \
-                 runs, and delete nothing before you know whose it is.",
+            advice: "Take another name. What a stopped dry run left as BOOK-try, or a stopped \
+                 backup as FILE-new, may be deleted while no command runs. Rename books that have \
+                 the name of a log while no command runs, and delete nothing else before you know \
+                 whose it is.",
         },
         WordKind::Word => Explanation {
             meaning: "What was given is no date, or no name of a record or a centre; of a list, \
