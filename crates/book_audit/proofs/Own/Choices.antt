@@ -46,7 +46,6 @@ use Rattle.book_audit.specs.declared.identity_rule.IdentityRule.TheVariants.{Fir
 use Rattle.book_audit.proofs.Own.History.{choices_among, choices_rise, parted}
 use Rattle.book_audit.proofs.Held.Looks.{indexed_found, record_looked, shared_looked}
 use Rattle.book_audit.proofs.Rows.Counted.{some_kept}
-use Rattle.book_audit.proofs.Own.Rulings.{own_readable}
 use Rattle.book_audit.proofs.Walks.Keys.{one_of_all}
 use Rattle.book_audit.proofs.Rows.Columns.{long_numbers, same_choice}
 
@@ -159,7 +158,7 @@ module _ (trees : Trees) (own : AreOwn trees) where
       → chosen.count ≡ length made → chosen.since ≡ since_from 1 (said made)
       → IsNextIn own.book rule open_period chosen choice
   own_next_choice rule open_period ruled chosen made choice more read count since =
-      let whole = own_readable trees own in
+      let whole = own.readable in
       let its = behind 1 (said made) choice.number (row_of choice) more choices
       (sym own_choice_rows ∙ read) in
       let one : Choice = its.one in
@@ -223,7 +222,7 @@ choice_rows_fit n (choice ∷ choices) few begun =
 
 pub own_choices_fit : (trees : Trees) → AreOwn trees → AllByRecursion ChoiceFits (trees 8)
 own_choices_fit trees own =
-    let whole = own_readable trees own in
+    let whole = own.readable in
     let few = whole.limits.choices in
     let closes = whole.limits.closes in
     let choices = own.book.rulings.choices in
@@ -236,7 +235,7 @@ own_choices_fit trees own =
 -- and they are no more than can be made
 pub own_choices_few : (trees : Trees) → AreOwn trees → length (trees 8) ≤ most_choices
 own_choices_few trees own =
-    let whole = own_readable trees own in
+    let whole = own.readable in
     let few = whole.limits.choices in
     let choices = own.book.rulings.choices in
     let long : length (trees 8) ≡ length choices =
@@ -260,7 +259,7 @@ module _ (trees : Trees) (own : AreOwn trees) (rule : IdentityRule) (choice : Re
       × (row.identity ≡ identity_by own.book.rulings one.chosen)
   its_record =
       let book = own.book in
-      let held = held_row sha_names book (own_readable trees own).sound one.chosen one.held in (
+      let held = held_row sha_names book own.readable.sound one.chosen one.held in (
         record_row book.rulings (charged_of book) book.posted one.chosen held.0,
         ap (get (tables_of sha_names book).records) one.named ∙ held.2,
         refl,
@@ -294,7 +293,7 @@ module _ (trees : Trees) (own : AreOwn trees) (rule : IdentityRule) (choice : Re
       let alone : not shared ≡ is_unrivalled book.rulings book.held one.chosen =
       shared_looked trees tables own.holds identity next shared looked some
       ∙ ap (λ (id : List ℕ). length (rows_with id tables.records) == 1) named
-      ∙ lone_where sha_names book (own_readable trees own).sound (charged_of book) one.chosen one.held in
+      ∙ lone_where sha_names book own.readable.sound (charged_of book) one.chosen one.held in
       ap (λ b. may_split choice.period rule || b)
       (shared_is shared (is_unrivalled book.rulings book.held one.chosen) alone) ∙ one.among
 

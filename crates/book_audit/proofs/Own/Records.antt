@@ -43,7 +43,7 @@ use Rattle.book_audit.proofs.Rows.Rulings.{closed_is}
 use Rattle.book_audit.proofs.Held.Looks.{alone_looked, entry_looked, line_looked, past_told}
 use Rattle.book_audit.proofs.Held.Looks.{record_looked}
 use Rattle.book_audit.proofs.Held.Rulings.{identity_said, last_said, price_said, same_terms}
-use Rattle.book_audit.proofs.Own.Rulings.{own_closes, own_readable, own_rule}
+use Rattle.book_audit.proofs.Own.Rulings.{own_closes, own_rule}
 use Rattle.book_audit.proofs.Own.Tables.{own_consistent, own_fit, own_record_fits, own_ruled}
 use Rattle.book_audit.proofs.Own.Tables.{own_tables}
 use Rattle.book_audit.proofs.Rows.Columns.{one_line, one_record}
@@ -72,7 +72,7 @@ module _ (trees : Trees) (rulings : Rulings) (own : AreOwn trees) (are : AreRule
   pub price_is : (bytes : List ℕ)
       → price_of rulings.tariffs.items bytes ≡ price_in (ruled (own_tables trees own)) bytes
   price_is bytes =
-      let whole = own_readable trees own in
+      let whole = own.readable in
       let tariffs : List AcceptedTerms = own.book.rulings.tariffs in
       ap (λ all. price_of all bytes) (sym are.tariffs.terms
       ∙ same_terms are.tariffs.accepted tariffs are.tariffs.texts whole.texts

@@ -33,10 +33,6 @@ use Rattle.book_audit.specs.declared.identity_rule.IdentityRule.TheVariants.{Fir
 use Rattle.book_audit.specs.declared.rulings.BookRow.{BookRow as Read}
 use Rattle.book_audit.proofs.Rows.Columns.{same_values}
 
--- books that calls made can be read back
-pub own_readable : (trees : Trees) (own : AreOwn trees) → IsReadable sha_names own.book
-own_readable trees own = own.readable
-
 -- ---- the row of the book
 
 -- a rule that books have, with the period of its adoption
@@ -120,7 +116,7 @@ tariff_rows (tariff ∷ tariffs) texted characters = (
 
 pub own_tariffs : (trees : Trees) → AreOwn trees → AllByRecursion IsTariffRow (trees 1)
 own_tariffs trees own =
-    let whole = own_readable trees own in
+    let whole = own.readable in
     subst (AllByRecursion IsTariffRow)
     (sym (own.holds.tariffs ∙ ap (map tariff_columns) (tariffs_kept own.book.rulings.tariffs whole.rising)))
     (tariff_rows own.book.rulings.tariffs whole.texts own.texts)
@@ -199,7 +195,7 @@ pub own_next_close : (trees : Trees) (own : AreOwn trees) (days : List ℤ) (clo
     ≡ map closed_columns (close_entries 1 days) ++ closed_columns (close_entry close) ∷ more
     → IsNextClose days close
 own_next_close trees own days close more read =
-    let whole = own_readable trees own in
+    let whole = own.readable in
     let next = next_from 1 None days own.book.rulings.closes close more
     (sym (own_close_rows trees own) ∙ read) whole.days whole.in_order tt in
     record { period = next.0; later = next.1; day = next.2 }
@@ -207,7 +203,7 @@ own_next_close trees own days close more read =
 -- and each row of the tree can be read
 pub own_closes_fit : (trees : Trees) → AreOwn trees → AllByRecursion CloseFits (trees 2)
 own_closes_fit trees own =
-    let whole = own_readable trees own in
+    let whole = own.readable in
     let few = whole.limits.closes in
     subst (AllByRecursion CloseFits) (sym (own_close_rows trees own))
     (closes_fit 1 own.book.rulings.closes (omega (arith, few)) whole.days)

@@ -23,7 +23,6 @@ use Rattle.tree_tables.proofs.Layouts.{line_layout}
 use Rattle.book_audit.specs.OfBook.{sha_names}
 use Rattle.book_audit.specs.Own.{AreOwn}
 use Rattle.book_audit.proofs.Held.Looks.{record_looked}
-use Rattle.book_audit.proofs.Own.Rulings.{own_readable}
 
 module _ (trees : Trees) (own : AreOwn trees) where
   -- the tables
@@ -32,15 +31,15 @@ module _ (trees : Trees) (own : AreOwn trees) where
 
   -- The book can be read back, so its rulings are read of the tables,
   pub own_ruled : ruled own_tables ≡ own.book.rulings
-  own_ruled = ruled_back sha_names own.book (own_readable trees own)
+  own_ruled = ruled_back sha_names own.book own.readable
 
   -- the tables fit,
   pub own_fit : TablesFit own_tables
-  own_fit = numbers_fit sha_names own.book (own_readable trees own)
+  own_fit = numbers_fit sha_names own.book own.readable
 
   -- and are consistent
   pub own_consistent : AreConsistent sha_names own_tables
-  own_consistent = readable_are_consistent sha_names own.book (own_readable trees own)
+  own_consistent = readable_are_consistent sha_names own.book own.readable
 
   -- a record's row fits
   pub own_record_fits : (name : List ℕ) (row : RecordRow) → get own_tables.records name ≡ Some row

@@ -15,8 +15,7 @@ use Rattle.book_audit.specs.Rulings.{AreClosed, AreTariffs}
 use Rattle.book_audit.specs.declared.finding.Tree.TheVariants.{ChoiceNames}
 use Rattle.book_audit.specs.declared.identity_rule.IdentityRule.{IdentityRule}
 use Rattle.book_audit.specs.declared.rulings.BookRow.{BookRow}
-use Rattle.book_audit.proofs.Own.Rulings.{known_rule, own_closes, own_readable, own_rule}
-use Rattle.book_audit.proofs.Own.Rulings.{own_rulings}
+use Rattle.book_audit.proofs.Own.Rulings.{known_rule, own_closes, own_rule, own_rulings}
 use Rattle.book_audit.proofs.Own.Stops.{stop_on, stop_passed}
 use Rattle.book_audit.proofs.Walks.Steps.{look_back, looks_on, trees_stay}
 use Rattle.book_audit.proofs.ruled.read_rulings.Goals as goal
@@ -78,7 +77,7 @@ returns-then-len-gt-MAX_CLOSES-clause-own g c finding is clean own =
     (looks_on g.S.Store start c.read_book.new.trees.store two c.in_ok-book.ensures.same
     c.in_ok-tariffs.ensures.same) c.in_ok-closes.ensures.same days c.in_ok-closes.ensures.closed clean own in
     let few : length own.book.rulings.closes < last_period =
-    (own_readable (g.S.Store.view start).trees own).limits.closes in
+    own.readable.limits.closes in
     let long = ap length same in
     let many : c.len.result ≡ length days = search rules in
     let above = c.if-len-gt-MAX_CLOSES.true in
@@ -100,7 +99,7 @@ returns-then-not-is_by-clause-own g c finding is clean own =
     let same = closes_read g.S.Store start two three
     (looks_on g.S.Store start one two c.in_ok-book.ensures.same c.in_ok-tariffs.ensures.same)
     c.in_ok-closes.ensures.same days c.in_ok-closes.ensures.closed clean own in
-    let known = known_rule own.book (own_readable trees own) in
+    let known = known_rule own.book own.readable in
     let its : Some known.0 ≡ Some read.rule =
     sym known.1 ∙ own_rule trees own read (c.in_ok-book.ensures.book at_one) in
     let rule : known.0 ≡ read.rule = (let e = its in cc) in

@@ -10,7 +10,7 @@ use Rattle.book_audit.specs.Own.{IsOwnStop}
 use Rattle.book_audit.specs.Rules.{rule_of}
 use Rattle.book_audit.specs.Walks.{HasWalked, width}
 use Rattle.book_audit.specs.declared.finding.Tree.TheVariants.{Book}
-use Rattle.book_audit.proofs.Own.Rulings.{book_fits, known_rule, own_book_row, own_readable}
+use Rattle.book_audit.proofs.Own.Rulings.{book_fits, known_rule, own_book_row}
 use Rattle.book_audit.proofs.Own.Stops.{each_err, err_said, stop_passed, stop_walked}
 use Rattle.book_audit.proofs.Walks.Steps.{its_place, look_back, no_look, read_all, read_on}
 use Rattle.book_audit.proofs.rulings.read_book.Goals as goal
@@ -88,7 +88,7 @@ returns-in_default-clause-own g c finding said clean own =
     c.row.ensures ∙ (own_book_row (g.S.Store.view start).trees own row place.0 place.1).0 in
     let unknown : (book : BookRow) → c.row.result.now ≡ book_columns book
     → rule_of book.rule book.adopted ≡ None = search rules in
-    let known = known_rule own.book (own_readable (g.S.Store.view start).trees own) in
+    let known = known_rule own.book own.readable in
     absurd (let e = sym (unknown its is) ∙ known.1 in cc)
 
 pub returns-in_err-next-2-clause-own : goal.returns-in_err-next-2-clause-own
