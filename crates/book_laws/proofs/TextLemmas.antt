@@ -1,6 +1,6 @@
 -- The texts of tariffs, after what is asked of books: only a tariff brings one, which is one of
 -- characters.
-use Rattle.std.proofs.Common.{◌≡◌, ℤ, ℕ, All, List, Option, None, Some, Result, Ok, Err, inl, inr}
+use Rattle.std.proofs.Common.{ℤ, ℕ, All, List, Option, None, Some, Result, Ok, Err, inl, inr}
 use Rattle.std.proofs.Common.{string_bytes, subst, sym}
 use Rattle.std.specs.Str.{IsUtf8}
 use Rattle.std.proofs.lemmas.List.Elements.{All-push}
