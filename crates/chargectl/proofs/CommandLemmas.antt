@@ -98,8 +98,7 @@ pub not_written : (text : List ℕ) (output : Output) (told : Result (Unit {0}) 
     → told ≡ Err refused → output.old.holds ≡ held → output.new.holds ≡ holds
     → IsPrinted text held holds (Err (fault.Report refused))
 not_written text output told report.Write held holds written is old new =
-    let wrote = subst (λ told. IsWritten text output told) is written in
-    (
+    let wrote = subst (λ told. IsWritten text output told) is written in (
       inr refl,
       wrote.0,
       subst (λ held. Appends held holds (take wrote.0 text)) old

@@ -10,5 +10,6 @@ returns-in_err-writeln g c =
 
 pub returns-in_err-flush : goal.returns-in_err-flush
 returns-in_err-flush g c =
-    text_untold (explanation_text c.args.meaning.now c.args.advice.now) _ _ c.from_residual-in_err-flush.result
-    (error_kind c.in_err-flush.field-0.0) c.from_residual-in_err-flush.ensures.1
+    text_untold (explanation_text c.args.meaning.now c.args.advice.now) _ _
+    c.from_residual-in_err-flush.result (error_kind c.in_err-flush.field-0.0)
+    c.from_residual-in_err-flush.ensures.1
