@@ -1,4 +1,4 @@
-use Rattle.std.proofs.Common.{◌≡◌, ◌∙◌, List, ℕ, ap, false, rules, subst, sym, is_ok}
+use Rattle.std.proofs.Common.{◌≡◌, ◌∙◌, Bool, List, ℕ, ap, false, rules, subst, sym, is_ok}
 use Rattle.sqlite_trees.specs.Tree.{Trees}
 use Rattle.sqlite_trees.specs.View.{IsClean}
 use Rattle.sqlite_trees.specs.declared.error.StoreError.{StoreError}
@@ -13,8 +13,9 @@ use Rattle.tree_rows.specs.Rows.{Finds}
 use Rattle.tree_tables.specs.Stored.{stored_entry}
 use Rattle.tree_tables.specs.UsageData.{IsUsageData}
 use Rattle.book_audit.specs.Records.{detail_key, spot_of}
+use Rattle.book_audit.specs.declared.finding.DetailKey.{DetailKey}
 use Rattle.book_audit.proofs.Own.Details.{counted_usage, detail_found}
-use Rattle.book_audit.proofs.Own.Stops.{err_fits, met_memory, never_with, passed_with}
+use Rattle.book_audit.proofs.Own.Stops.{err_fits, met_memory, never_with, passed_with, said_ok}
 use Rattle.book_audit.proofs.Walks.Steps.{look_back}
 use Rattle.book_audit.proofs.details.check_has_detail.Goals as goal
 
@@ -51,13 +52,21 @@ returns-in_err-usage-clause-own g c =
 
 -- and it has a row of details
 pub returns-else-found-clause-own : goal.returns-else-found-clause-own
-returns-else-found-clause-own g c premise finding is clean own =
+returns-else-found-clause-own g c premise finding is clean =
     let start = c.args.trees.now.store in
     let new = c.has_detail.new.self.store in
     let trees : Trees = (g.S.Store.view start).trees in
+    let entry : List ℕ × RecordRow = stored_entry c.args.record.now in
     let row : Row = c.has_detail.new.self.found in
     let looks : OnlyLooks g.S.Store start new = search rules in
-    let finds : IsClean (g.S.Store.view new) → Finds (detail_key
-    (spot_of (detail_shown (stored_entry c.args.record.now)))) (trees 10) row false = search rules in
-    absurd (detail_found trees (stored_entry c.args.record.now)
-    (premise (look_back g.S.Store start new looks clean)) row (finds clean))
+    let shown : c.detail_with-shown.result ≡ detail_shown entry = search rules in
+    let spot : c.place_of.result ≡ spot_of c.detail_with-shown.result = search rules in
+    let none : c.in_ok-found.found ≡ false = search rules in
+    let At : Bool → Type 0 =
+    λ hit. IsClean (g.S.Store.view new) → Finds (detail_key c.place_of.result) (trees 10) row hit in
+    let finds = said_ok _ At c.has_detail.result c.map_err-3.result c.in_ok-found.found
+    c.map_err-3.ensures.cases c.in_ok-found.was c.has_detail.ensures.found in
+    λ own. absurd (detail_found trees entry (premise (look_back g.S.Store start new looks clean)) row
+    (subst (Finds (detail_key (spot_of (detail_shown entry))) (trees 10) row) none
+    (subst (λ (at : DetailKey). Finds (detail_key at) (trees 10) row c.in_ok-found.found)
+    (spot ∙ ap spot_of shown) (finds clean))))
