@@ -1,6 +1,6 @@
 -- What commands ask, and what they tell.
 use Rattle.std.proofs.Common.{◌≡◌, List, ℕ, Option, Some, None, Result, Ok, Err, true, false}
-use Rattle.std.proofs.Common.{sym, subst, refl, true≢false, take, length, inl}
+use Rattle.std.proofs.Common.{sym, subst, refl, true≢false, take, length, inl, inr}
 use Rattle.std.proofs.KnownBytes.{Appends-kept}
 use Rattle.std.proofs.Math.Seq.{take-length}
 use Rattle.std.specs.Prelude.{IfErr, IsErr, IsErrAnd}
@@ -12,6 +12,8 @@ use Rattle.book_core.specs.Ledgers.{Books}
 use Rattle.book_core.specs.Transition.{IsTransition}
 use Rattle.book_core.proofs.TransitionLemmas.{work_as}
 use Rattle.book_reports.specs.declared.fault.ReportFault.{ReportFault}
+use Rattle.book_reports.specs.declared.fault.ReportFault.TheVariants as report
+use Rattle.book_reports.specs.declared.report.Report.{Report}
 use Rattle.book_reports.specs.Reports.{IsWritten}
 use Rattle.office.specs.declared.request.Answer.{Answer}
 use Rattle.office.specs.declared.request.Asked.{Asked}
@@ -25,9 +27,10 @@ use Rattle.command_line.specs.declared.request.Ruling.TheVariants as ruling
 use Rattle.chargectl.specs.declared.command_fault.CommandFault.{CommandFault}
 use Rattle.chargectl.specs.declared.command_fault.CommandFault.TheVariants as fault
 use Rattle.chargectl.specs.declared.ended.Answered.{Answered}
-use Rattle.chargectl.specs.Commands.{AsksNothing, AsksOnceBy, ComesOf, IsDated, IsNoticedBy}
-use Rattle.chargectl.specs.Commands.{IsTextFault, IsWordFault, is_dated}
-use Rattle.chargectl.specs.Faults.{io_fault}
+use Rattle.chargectl.specs.Commands.{AsksNothing, AsksOnceBy, ComesOf, IsDated}
+use Rattle.chargectl.specs.Commands.{IsNoticedBy, IsPrinted, IsTextFault, IsWordFault}
+use Rattle.chargectl.specs.Commands.{is_dated}
+use Rattle.chargectl.specs.Faults.{EndsText, io_fault}
 
 -- a request with its answer
 pub asked_once : (asked : Asked) (answer : Result Answer LedgerFault) (books : Books) (input : Input)

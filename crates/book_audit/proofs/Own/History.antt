@@ -1,13 +1,10 @@
 -- The choices of books that calls made: each was made no earlier than those before it, among records
 -- that are still its rivals, unless a rule of identity was adopted since.
-use Rattle.std.proofs.Common.{◌≡◌, ◌≤◌, ◌+◌, ◌∙◌, ◌++◌, ◌∷◌, [], ℕ, List, Bool, true, false}
-use Rattle.std.proofs.Common.{not, ◌||◌}
-use Rattle.std.proofs.Common.{Option, Some, None, ap, arith, length, length-append, refl, subst}
-use Rattle.std.proofs.Common.{sym, ◌⊎◌, inl, inr}
-use Rattle.std.specs.Prelude.{nat_le, unwrap_or}
+use Rattle.std.proofs.Common.{◌≡◌, ◌≤◌, ◌+◌, ◌∙◌, ◌++◌, ◌∷◌, [], ℕ, List, Bool, true, false, not}
+use Rattle.std.proofs.Common.{◌||◌, Option, Some, None, ap, arith, le-leb, length, length-append}
+use Rattle.std.proofs.Common.{nat_le, refl, subst, sym, unwrap_or, ◌⊎◌, inl, inr}
 use Rattle.std.specs.List.{AllByRecursion}
 use Rattle.std.proofs.Math.Bool.{or-true}
-use Rattle.std.proofs.lemmas.Bool.Decides.{nat_tests}
 use Rattle.sqlite_trees.specs.Tree.{IsAscending}
 use Rattle.sqlite_trees.proofs.ListLemmas.{all-append, all_weaker, ascending-append}
 use Rattle.book_model.specs.Words.{Book, Choice, Event, IsMadeByCalls, Naming, PeriodClosed}
@@ -125,11 +122,7 @@ event_chosen naming book SecondRuleAdopted so_far answered = record {
         (parted (Some (unwrap_or book.rulings.adopted (open_by book.rulings))) choice.period ≡ true)
         ⊎ Rival (after SecondRuleAdopted book) choice.chosen)
         (λ choice begun. inl (ap (λ (a : Option ℕ). nat_le choice.period (unwrap_or a (open_by book.rulings))) none
-        ∙ within choice.period begun)) book.rulings.choices so_far.begun
-      where
-        within : (period : ℕ) → period ≤ open_by book.rulings
-            → nat_le period (open_by book.rulings) ≡ true
-        within period less = grind (arith, nat_tests)
+        ∙ le-leb choice.period (open_by book.rulings) begun)) book.rulings.choices so_far.begun
     adopted_in (Some other) was =
         subst (λ (a : Option ℕ). AllByRecursion (λ (choice : Choice).
         (parted a choice.period ≡ true)
