@@ -393,10 +393,9 @@ class Rows:
             return served(503, [])
         if text == office.refused(office.NO_SUCH_PERIOD):
             return served(404, [])
-        whole = served(200, text, form)
-        # Details are read once more, to be sent. A refusal there comes when the head alone was written.
-        is_cut = verb in DETAILS and self.details(verb, *words) == office.refused(office.MEMORY)
-        return whole[:whole.index("\\r") + 1] + ["CUT"] if is_cut else whole
+        # Details are read once more, to be gathered before they are sent: those of these rows are short.
+        is_refused = verb in DETAILS and self.details(verb, *words) == office.refused(office.MEMORY)
+        return served(503, []) if is_refused else served(200, text, form)
 
     def get_page(self, period):
         """The answer to a request for a page."""
@@ -414,7 +413,7 @@ class Rows:
         if any(self.is_refused() for _ in range(days.index(day) + 1 if day in days else len(days) + 1)):
             return served(503, [])
         file = self.books.tariff_text(day)
-        return served(404, []) if file is None else served(200, file)
+        return served(404, []) if file is None else served(200, file, charset="utf-8")
 
     def get_record(self, word):
         """The answer to a request for the trail of a record."""
