@@ -1,6 +1,5 @@
--- What is escaped; what keys cost, one row more at a time, and the days among them; names in order;
--- and rows of periods, the last one first.
-pub mod EscapingLemmas
+-- What keys cost, one row more at a time, and the days among them; names in order; and rows of
+-- periods, the last one first.
 pub mod CostLemmas
 pub mod DayLemmas
 pub mod NameLemmas

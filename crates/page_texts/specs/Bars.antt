@@ -4,7 +4,7 @@ use Rattle.std.specs.Prelude.{List, [], ◌∷◌, ◌++◌, codes, map, unwrap_
 use Rattle.std.specs.Fmt.{decimal}
 use Rattle.std.specs.List.{concat, reduce}
 use Rattle.report_texts.specs.Columns.{amount_text}
-use Rattle.page_texts.specs.Escaping.{escaped}
+use Rattle.html_text.specs.Escaping.{escaped}
 use Rattle.page_texts.specs.Figures.{cost_among}
 use Rattle.page_texts.specs.Markup.{table_row}
 

@@ -1,7 +1,5 @@
--- Read in this order: how texts come into a page, its pieces, the figures of a period and its days,
--- bars, what every page begins and ends with, the page of the office, and that of a period by its
--- parts.
-pub mod Escaping
+-- Read in this order: the pieces of a page, the figures of a period and its days, bars, what every
+-- page begins and ends with, the page of the office, and that of a period by its parts.
 pub mod Markup
 pub mod Figures
 pub mod Closes

@@ -3,8 +3,8 @@ use Rattle.std.specs.Prelude.{ℕ, ℤ, List, [], ◌∷◌, ◌++◌, codes, fl
 use Rattle.std.specs.List.{concat}
 use Rattle.book_model.specs.Words.{day_text_of}
 use Rattle.book_model.specs.declared.row.ChargeRow.{ChargeRow}
+use Rattle.html_text.specs.Escaping.{escaped}
 use Rattle.page_texts.specs.Bars.{bar_row, greatest}
-use Rattle.page_texts.specs.Escaping.{escaped}
 use Rattle.page_texts.specs.Figures.{costs_by_day, costs_of}
 use Rattle.page_texts.specs.Frame.{table_end}
 

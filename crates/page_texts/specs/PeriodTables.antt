@@ -11,8 +11,8 @@ use Rattle.report_texts.specs.AdjustmentLists.{charged_amount, reversed_amount, 
 use Rattle.report_texts.specs.AdjustmentLists.{word_of}
 use Rattle.report_texts.specs.Columns.{amount_text, seconds_text}
 use Rattle.report_texts.specs.DisputeLists.{completion_text, identity_line}
+use Rattle.html_text.specs.Escaping.{escaped}
 use Rattle.page_texts.specs.Closes.{is_between}
-use Rattle.page_texts.specs.Escaping.{escaped}
 use Rattle.page_texts.specs.Frame.{table_end, table_foot}
 use Rattle.page_texts.specs.Markup.{record_link, table_row}
 

@@ -4,8 +4,8 @@ ghost use Rattle.std.specs.Prelude.{◌≡◌, ◌++◌, OnOk, string_bytes, tak
 ghost use Rattle.page_texts.specs.OfficePage as spec;
 
 use crate::bars::COLOURS;
-use crate::escaping::escaped;
 use crate::markup::push_all;
+use html_text::escaped;
 use smf_text::Name;
 use std::alloc::{AllocError, Global};
 

@@ -5,10 +5,8 @@ mod amounts;
 mod bars;
 mod centres;
 mod closes;
-mod escaping;
 mod figures;
 mod frame;
-mod laws;
 mod legend;
 mod markup;
 mod office;
@@ -20,6 +18,5 @@ mod period_pictures;
 mod period_statement;
 
 pub use figures::{PeriodFigures, period_figures};
-pub use laws::data_makes_no_markup;
 pub use office::office_page;
 pub use period::period_page;

@@ -6,10 +6,10 @@ ghost use Rattle.report_texts.specs.AdjustmentLists as lists;
 ghost use Rattle.page_texts.specs.PeriodTables as spec;
 
 use crate::amounts::signed_text;
-use crate::escaping::{escaped, shown};
 use crate::frame::push_table_foot;
 use crate::markup::{push_row, record_link};
 use book_model::Line;
+use html_text::{escaped, shown};
 use report_texts::figures_of;
 use smf_text::day_text;
 use std::alloc::{AllocError, Global};

@@ -11,10 +11,10 @@ ghost use Rattle.page_texts.specs.PeriodTables as spec;
 
 use crate::amounts::money;
 use crate::closes::{close_of, is_between};
-use crate::escaping::{escaped, shown};
 use crate::frame::push_table_end;
 use crate::markup::{joined, push_all, push_row, record_link};
 use book_model::{Dispute, Variant};
+use html_text::{escaped, shown};
 use report_texts::push_dispute;
 use smf_text::day_text;
 use std::alloc::{AllocError, Global};

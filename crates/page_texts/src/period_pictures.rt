@@ -6,11 +6,11 @@ ghost use Rattle.page_texts.specs.Bars.{bar_row, greatest};
 ghost use Rattle.page_texts.specs.PeriodPictures as spec;
 
 use crate::bars::push_bar_row;
-use crate::escaping::escaped;
 use crate::figures::{centre_costs, day_costs};
 use crate::frame::push_table_end;
 use crate::markup::push_all;
 use book_model::ChargeRow;
+use html_text::escaped;
 use smf_text::{Name, day_text};
 use std::alloc::{AllocError, Global};
 

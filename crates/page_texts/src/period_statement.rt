@@ -5,10 +5,10 @@ ghost use Rattle.book_model.specs.Words.{AreRows, IsDay};
 ghost use Rattle.page_texts.specs.PeriodTables as spec;
 
 use crate::amounts::{money, seconds_text};
-use crate::escaping::escaped;
 use crate::frame::push_table_foot;
 use crate::markup::push_row;
 use book_model::ChargeRow;
+use html_text::escaped;
 use smf_text::day_text;
 use std::alloc::{AllocError, Global};
 

@@ -1,5 +1,5 @@
 use Rattle.std.proofs.Common.{◌∙◌, ap}
-use Rattle.page_texts.specs.Escaping.{escaped}
+use Rattle.html_text.specs.Escaping.{escaped}
 use Rattle.page_texts.specs.OfficePage.{legend_item}
 use Rattle.page_texts.proofs.legend.push_item.Goals as goal
 

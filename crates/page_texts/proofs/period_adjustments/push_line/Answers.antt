@@ -1,7 +1,7 @@
 use Rattle.std.proofs.Common.{◌∙◌, ap}
 use Rattle.book_model.proofs.DayLemmas.{day_kept}
 use Rattle.book_model.specs.Words.{day_text_of}
-use Rattle.page_texts.specs.Escaping.{escaped}
+use Rattle.html_text.specs.Escaping.{escaped}
 use Rattle.page_texts.specs.PeriodTables.{adjustment_row}
 use Rattle.page_texts.proofs.period_adjustments.push_line.Goals as goal
 

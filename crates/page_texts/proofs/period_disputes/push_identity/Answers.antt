@@ -1,5 +1,5 @@
 use Rattle.std.proofs.Common.{◌∙◌, ap}
-use Rattle.page_texts.specs.Escaping.{escaped}
+use Rattle.html_text.specs.Escaping.{escaped}
 use Rattle.page_texts.specs.PeriodTables.{identity_row}
 use Rattle.page_texts.proofs.period_disputes.push_identity.Goals as goal
 

@@ -1,8 +1,8 @@
 use Rattle.std.proofs.Common.{◌≡◌, ◌++◌, take}
 use Rattle.std.specs.List.{flat_map}
 use Rattle.std.specs.String.{string_bytes}
+use Rattle.html_text.specs.Escaping.{escaped}
 use Rattle.page_texts.specs.Bars.{bar_row}
-use Rattle.page_texts.specs.Escaping.{escaped}
 use Rattle.page_texts.proofs.period_pictures.push_centre_rows.Given as goal
 
 -- the rows of the centres so far are appended

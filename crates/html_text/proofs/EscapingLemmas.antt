@@ -3,8 +3,8 @@ use Rattle.std.proofs.Common.{◌≡◌, ℕ, Bool, true, false, List, [], ◌�
 use Rattle.std.specs.Prelude.{◌==◌, nat_lt, if◌then◌else◌}
 use Rattle.std.specs.List.{flat_map, list_any}
 use Rattle.std.specs.Str.{byte}
-use Rattle.page_texts.specs.Escaping.{DataMakesNoMarkup, are_references, escape_byte, escaped}
-use Rattle.page_texts.specs.Escaping.{is_markup}
+use Rattle.html_text.specs.Escaping.{DataMakesNoMarkup, are_references, escape_byte, escaped}
+use Rattle.html_text.specs.Escaping.{is_markup}
 
 -- what holds of two texts holds of the one that a test picks
 pick : (P : List ℕ → Type 0) (test : Bool) (one other : List ℕ)

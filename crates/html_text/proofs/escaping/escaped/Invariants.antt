@@ -1,8 +1,8 @@
 use Rattle.std.proofs.Common.{◌≡◌, take}
 use Rattle.std.specs.List.{flat_map}
 use Rattle.std.specs.String.{string_bytes}
-use Rattle.page_texts.specs.Escaping.{escape_byte}
-use Rattle.page_texts.proofs.escaping.escaped.Given as goal
+use Rattle.html_text.specs.Escaping.{escape_byte}
+use Rattle.html_text.proofs.escaping.escaped.Given as goal
 
 -- the bytes so far are shown
 abbrev pub invariant-loop-byte : goal.invariant-loop-byte

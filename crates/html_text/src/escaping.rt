@@ -1,8 +1,8 @@
 //! Texts inside a page: the bytes that markup is made of are written as references to them.
 
 ghost use Rattle.std.specs.Prelude.{◌≡◌, ◌++◌, IfOk, OnOk, string_bytes};
-ghost use Rattle.book_model.specs.Words.{show_text};
-ghost use Rattle.page_texts.specs.Escaping as spec;
+ghost use Rattle.smf_text.specs.CodePage.{show_text};
+ghost use Rattle.html_text.specs.Escaping as spec;
 
 use smf_text::show;
 use std::alloc::{AllocError, Global};
@@ -25,7 +25,7 @@ fn push_escaped(out: &mut String, byte: u8) -> Result<(), AllocError>
 
 /// A text as a page shows it.
 #[tactic(auto, using(std::proofs::lemmas::List::flat_map_more), unfolding(crate::specs::Escaping::escaped))]
-pub(crate) fn escaped(alloc: Global, text: &str) -> Result<String, AllocError>
+pub fn escaped(alloc: Global, text: &str) -> Result<String, AllocError>
     ensures { IfOk result (λ shown. string_bytes shown ≡ spec.escaped text.now) }
 {
     let mut shown = String::new(alloc);
@@ -36,7 +36,7 @@ pub(crate) fn escaped(alloc: Global, text: &str) -> Result<String, AllocError>
 }
 
 /// Bytes of a dump as a page shows them.
-pub(crate) fn shown(alloc: Global, bytes: &[u8]) -> Result<String, AllocError>
+pub fn shown(alloc: Global, bytes: &[u8]) -> Result<String, AllocError>
     ensures { IfOk result (λ text. string_bytes text ≡ spec.escaped (show_text bytes.now)) }
 {
     escaped(alloc, show(alloc, bytes)?.as_str())

@@ -1,0 +1,2 @@
+-- What is escaped makes no markup.
+pub mod EscapingLemmas

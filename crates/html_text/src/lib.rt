@@ -1,0 +1,8 @@
+//! A text inside an HTML page: whatever it is, it makes no markup.
+#![tactic(auto)]
+
+mod escaping;
+mod laws;
+
+pub use escaping::{escaped, shown};
+pub use laws::data_makes_no_markup;

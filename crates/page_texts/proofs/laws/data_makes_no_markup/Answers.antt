@@ -1,5 +1,0 @@
-use Rattle.page_texts.proofs.EscapingLemmas.{data_makes_no_markup}
-use Rattle.page_texts.proofs.laws.data_makes_no_markup.Goals as goal
-
-pub returns : goal.returns
-returns c = data_makes_no_markup
