@@ -153,7 +153,7 @@ none_adopted None done = refl
 none_adopted (Some period) done = cc
 
 -- so the rule was the first until then
-pub first_adopted : (book : Book) → adopt_answer book second_rule ≡ Ok Done
+pub first_adopted : (book : Book) → adopt_answer book.rulings second_rule ≡ Ok Done
     → book.rulings.adopted ≡ None
 first_adopted book done = none_adopted book.rulings.adopted done
 

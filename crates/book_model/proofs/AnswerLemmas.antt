@@ -2,19 +2,14 @@
 use Rattle.std.proofs.Common.{◌≡◌, ℕ, List, Result, Ok, Err, Option, None, refl, sym, ap, ◌∙◌}
 use Rattle.book_model.specs.declared.fault.LedgerFault.{LedgerFault}
 use Rattle.book_model.specs.declared.fault.LedgerFault.TheVariants.{Memory}
-use Rattle.tariff_rules.specs.Terms.{Terms}
-use Rattle.tariff_rules.specs.TariffFile.{terms_in}
-use Rattle.tariff_rules.specs.declared.fault.TariffFault.{TariffFault}
 use Rattle.book_model.specs.declared.answer.Accepted.{Accepted}
 use Rattle.book_model.specs.declared.answer.Ruled.{Ruled}
 use Rattle.book_model.specs.Accept.{accept_answer}
 use Rattle.book_model.specs.Answers.{Answers, IsBookCall}
 use Rattle.book_model.specs.Books.{Book}
 use Rattle.book_model.specs.Events.{Event, after_any}
-use Rattle.book_model.specs.Outcomes.{Outcome, accept_event, accept_outcome, tariff_event}
-use Rattle.book_model.specs.Outcomes.{tariff_outcome}
+use Rattle.book_model.specs.Outcomes.{Outcome, accept_event, accept_outcome, if_done}
 use Rattle.book_model.specs.Records.{Naming}
-use Rattle.book_model.specs.RulingAnswers.{tariff_answer}
 
 -- what is answered as it is
 pub answers_itself : {A : Type 0} (result answer : Result A LedgerFault) → answer ≡ result
@@ -57,19 +52,18 @@ accept_calls naming bytes old new result answer book =
     calls old new result (accept_outcome naming bytes) (accept_event bytes)
     (λ answer is. ap (accept_event bytes) is) (accept_event-refused bytes) answer book
 
--- no refused tariff is an event
-pub tariff_event-refused : (text : List ℕ) (said : Result Terms TariffFault) (fault : LedgerFault)
-    → tariff_event text said (Err fault) ≡ None
-tariff_event-refused text (Ok terms) fault = refl
-tariff_event-refused text (Err refused) fault = refl
+-- no refused ruling is an event
+if_done-refused : (submitted : Option Event) (fault : LedgerFault)
+    → if_done submitted (Err fault) ≡ None
+if_done-refused submitted fault = refl
 
--- a tariff file that was submitted
-pub tariff_calls : (text : List ℕ) (old new : Book) (result : Result Ruled LedgerFault)
-    → Answers (λ (value : Ruled). value) result (tariff_answer old text (terms_in text))
-    → new ≡ after_any (tariff_event text (terms_in text) result) old
-    → IsBookCall (λ (value : Ruled). value) old new result (tariff_outcome text)
-tariff_calls text old new result answer book =
-    calls old new result (tariff_outcome text) (tariff_event text (terms_in text))
-    (λ answer is. ap (tariff_event text (terms_in text)) is)
-    (tariff_event-refused text (terms_in text))
-    answer book
+-- a ruling that was submitted
+pub ruling_calls : (outcome : Book → Outcome Ruled) (submitted : Option Event) (old new : Book)
+    (result : Result Ruled LedgerFault)
+    → (outcome old).event ≡ if_done submitted (outcome old).answer
+    → Answers (λ (value : Ruled). value) result (outcome old).answer
+    → new ≡ after_any (if_done submitted result) old
+    → IsBookCall (λ (value : Ruled). value) old new result outcome
+ruling_calls outcome submitted old new result own answer book =
+    calls old new result outcome (if_done submitted)
+    (λ answer is. own ∙ ap (if_done submitted) is) (if_done-refused submitted) answer book

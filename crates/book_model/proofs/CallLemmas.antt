@@ -106,7 +106,7 @@ after_last None day is = tt
 after_last (Some close) day is = grind (arith, ints)
 
 -- a period is closed through a day after the last close
-close_done : (book : Book) (number : ℕ) (day : ℤ) → close_answer book number day ≡ Ok Done
+close_done : (book : Book) (number : ℕ) (day : ℤ) → close_answer book.rulings number day ≡ Ok Done
     → IsAfterLastClose book.rulings day
 close_done book number day is =
     after_last (last_close book.rulings) day

@@ -1,18 +1,17 @@
 -- Whatever was chosen before a close was held before it.
 use Rattle.std.proofs.Common.{◌≡◌, ℕ, suc, ◌≤◌, ◌<◌, List, [], ◌∷◌, length, refl, sym, ap, ◌∙◌}
 use Rattle.std.proofs.Common.{subst}
-use Rattle.std.proofs.Common.{true, false, arith, Some, None}
+use Rattle.std.proofs.Common.{true, false, arith}
 use Rattle.std.specs.Prelude.{All, nat_le}
 use Rattle.std.proofs.lemmas.Bool.{leb-true, leb-false}
 use Rattle.std.proofs.lemmas.List.Elements.{All-nil}
 use Rattle.book_model.specs.MadeByCalls.{IsMadeByCalls}
 use Rattle.book_model.specs.Books.{Book}
-use Rattle.book_model.specs.Events.{Event, RecordKept, TariffAccepted, PeriodClosed, RecordChosen}
-use Rattle.book_model.specs.Events.{SecondRuleAdopted}
-use Rattle.book_model.specs.History.{rulings, closes, choices, held_before}
+use Rattle.book_model.specs.Events.{Event, RulingGiven}
+use Rattle.book_model.specs.History.{rulings, closes, held_before}
 use Rattle.book_model.specs.Laws.{ChosenWereHeld}
 use Rattle.book_model.specs.Records.{Records, Naming}
-use Rattle.book_model.specs.Rulings.{Rulings, Choice, rulings_before}
+use Rattle.book_model.specs.Rulings.{Rulings, Choice, RecordChosen, rulings_before}
 use Rattle.book_model.specs.Sound.{IsChoiceOf}
 use Rattle.book_model.proofs.MadeByCallsLemmas.{sound_after}
 use Rattle.book_model.proofs.HistoryLemmas.{choices_all, held_all, held_stays, ruled_stays}
@@ -26,7 +25,7 @@ to_come naming history k answered after =
     let all : ℕ = length (closes history) in
     let sound = sound_after naming history answered in
     let follows = books_follow_history history in
-    let now : All (IsChoiceOf (held_before (suc all) history)) (choices history) =
+    let now : All (IsChoiceOf (held_before (suc all) history)) (rulings history).choices =
     subst (λ (book : Book). All (IsChoiceOf book.held) book.rulings.choices) follows sound.chosen in
     let held = held_all (suc all) history (omega arith)
     ∙ sym (held_all (suc k) history (omega arith)) in
@@ -39,30 +38,16 @@ to_come naming history k answered after =
 same_choices : (k : ℕ) (event : Event) (older : List Event) → k < length (closes (event ∷ older))
     → (rulings_before k (rulings (event ∷ older))).choices
     ≡ (rulings_before k (rulings older)).choices
-same_choices k (RecordKept bytes) older came = refl
-same_choices k (TariffAccepted text terms) older came = refl
-same_choices k (PeriodClosed day) older came = refl
-same_choices k (RecordChosen bytes) older came =
-    ap (λ (ruled : Rulings). ruled.choices) (ruled_stays k (RecordChosen bytes) older came)
-same_choices k SecondRuleAdopted older came = refl
-
--- each event was answered, and those before it
-answered_before : (naming : Naming) (event : Event) (older : List Event)
-    → IsMadeByCalls naming (event ∷ older) → IsMadeByCalls naming older
-answered_before naming (RecordKept bytes) older answered = answered.1
-answered_before naming (TariffAccepted (Some text) terms) older answered = answered.1
-answered_before naming (TariffAccepted None terms) older answered =
-    subst (IsMadeByCalls naming) (sym answered) tt
-answered_before naming (PeriodClosed day) older answered = answered.1
-answered_before naming (RecordChosen bytes) older answered = answered.1
-answered_before naming SecondRuleAdopted older answered = answered.1
+same_choices k (RulingGiven (RecordChosen bytes)) older came =
+    ap (λ (ruled : Rulings). ruled.choices)
+    (ruled_stays k (RulingGiven (RecordChosen bytes)) older came)
+same_choices k event older came = refl
 
 -- the law of it
 pub chosen_were_held : ChosenWereHeld
 chosen_were_held naming [] k answered = All-nil (IsChoiceOf (held_before (suc k) []))
 chosen_were_held naming (event ∷ older) k answered =
-    let earlier = chosen_were_held naming older k
-    (answered_before naming event older answered) in
+    let earlier = chosen_were_held naming older k answered.1 in
     let all : ℕ = length (closes (event ∷ older)) in
     elim (nat_le all k) as (λ b. nat_le all k ≡ b
     → All (IsChoiceOf (held_before (suc k) (event ∷ older)))

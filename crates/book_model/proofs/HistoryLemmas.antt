@@ -17,13 +17,13 @@ use Rattle.std.proofs.lemmas.Option.{slice_get_past, slice_get-get_or}
 use Rattle.smf_type30.specs.Usage.{day_of}
 use Rattle.book_model.specs.Charged.{is_undisputed, is_dated_through, is_dated_after, charged_now}
 use Rattle.book_model.specs.Charged.{charged_by}
-use Rattle.book_model.specs.Events.{Event, RecordKept, TariffAccepted, PeriodClosed, RecordChosen}
-use Rattle.book_model.specs.Events.{SecondRuleAdopted}
-use Rattle.book_model.specs.History.{rulings, closes, kept, tariffs, before_close, day_of_close}
-use Rattle.book_model.specs.History.{open_after, choices, adopted, held_before, charged_in}
+use Rattle.book_model.specs.Events.{Event, PeriodClosed, RulingGiven}
+use Rattle.book_model.specs.History.{rulings, closes, kept, before_close, day_of_close}
+use Rattle.book_model.specs.History.{held_before, charged_in}
 use Rattle.book_model.specs.Records.{Records, by_bytes}
 use Rattle.book_model.specs.Rulings.{Rulings, AcceptedTerms, Choice, rulings_before, if_before}
-use Rattle.book_model.specs.Rulings.{last_close}
+use Rattle.book_model.specs.Rulings.{RecordChosen, SecondRuleAdopted, last_close, open_by}
+use Rattle.book_model.specs.Rulings.{with_choice}
 use Rattle.book_model.specs.Sets.{set_of, has}
 use Rattle.book_model.proofs.ListLemmas.{slice_get-front, slice_get-behind, last_or-is}
 use Rattle.book_model.proofs.SetLemmas.{has-those}
@@ -61,41 +61,39 @@ abbrev pub made_before : ℕ → Choice → Bool
 made_before others choice = nat_le choice.period (suc others)
 
 -- a choice that is made then comes after the others before a close to come
-chosen_last : (others : ℕ) (bytes : List ℕ) (older : List Event) → length (closes older) ≤ others
-    → filter (made_before others) (choices (RecordChosen bytes ∷ older))
-    ≡ filter (made_before others) (choices older)
-    ++ record { chosen = bytes; period = open_after older } ∷ []
-chosen_last others bytes older to_come =
-    let choice : Choice = record { chosen = bytes; period = open_after older } in
-    filter-append (made_before others) (choices older) (choice ∷ [])
-    ∙ ap (λ b. filter (made_before others) (choices older) ++ cond b (choice ∷ []) [])
-    (le-leb (open_after older) (suc others) (omega arith))
+chosen_last : (others : ℕ) (bytes : List ℕ) (ruled : Rulings) → length ruled.closes ≤ others
+    → filter (made_before others) (with_choice bytes ruled).choices
+    ≡ filter (made_before others) ruled.choices
+    ++ record { chosen = bytes; period = open_by ruled } ∷ []
+chosen_last others bytes ruled to_come =
+    let choice : Choice = record { chosen = bytes; period = open_by ruled } in
+    filter-append (made_before others) ruled.choices (choice ∷ [])
+    ∙ ap (λ b. filter (made_before others) ruled.choices ++ cond b (choice ∷ []) [])
+    (le-leb (open_by ruled) (suc others) (omega arith))
 
 -- and is not among those before a close that came
-chosen_late : (others : ℕ) (bytes : List ℕ) (older : List Event) → others < length (closes older)
-    → filter (made_before others) (choices (RecordChosen bytes ∷ older))
-    ≡ filter (made_before others) (choices older)
-chosen_late others bytes older came =
-    let choice : Choice = record { chosen = bytes; period = open_after older } in
-    filter-append (made_before others) (choices older) (choice ∷ [])
-    ∙ ap (λ b. filter (made_before others) (choices older) ++ cond b (choice ∷ []) [])
-    (lt-leb (open_after older) (suc others) (omega arith))
-    ∙ append-nil (filter (made_before others) (choices older))
+chosen_late : (others : ℕ) (bytes : List ℕ) (ruled : Rulings) → others < length ruled.closes
+    → filter (made_before others) (with_choice bytes ruled).choices
+    ≡ filter (made_before others) ruled.choices
+chosen_late others bytes ruled came =
+    let choice : Choice = record { chosen = bytes; period = open_by ruled } in
+    filter-append (made_before others) ruled.choices (choice ∷ [])
+    ∙ ap (λ b. filter (made_before others) ruled.choices ++ cond b (choice ∷ []) [])
+    (lt-leb (open_by ruled) (suc others) (omega arith))
+    ∙ append-nil (filter (made_before others) ruled.choices)
 
 -- all choices were made before a close to come
 pub choices_all : (others : ℕ) (history : List Event) → length (closes history) ≤ others
-    → filter (made_before others) (choices history) ≡ choices history
+    → filter (made_before others) (rulings history).choices ≡ (rulings history).choices
 choices_all others [] to_come = refl
-choices_all others (RecordKept bytes ∷ older) to_come = choices_all others older to_come
-choices_all others (TariffAccepted text terms ∷ older) to_come = choices_all others older to_come
 choices_all others (PeriodClosed day ∷ older) to_come =
     let more = length-append (closes older) (day ∷ []) in
     choices_all others older (omega arith)
-choices_all others (RecordChosen bytes ∷ older) to_come =
-    chosen_last others bytes older to_come
-    ∙ ap (λ earlier. earlier ++ record { chosen = bytes; period = open_after older } ∷ [])
+choices_all others (RulingGiven (RecordChosen bytes) ∷ older) to_come =
+    chosen_last others bytes (rulings older) to_come
+    ∙ ap (λ earlier. earlier ++ record { chosen = bytes; period = open_by (rulings older) } ∷ [])
     (choices_all others older to_come)
-choices_all others (SecondRuleAdopted ∷ older) to_come = choices_all others older to_come
+choices_all others (event ∷ older) to_come = choices_all others older to_come
 
 -- a period that was open by then, or is open now
 adopted_then : (others period : ℕ) (was : Option ℕ) → period ≤ suc others
@@ -107,17 +105,15 @@ adopted_then others period (Some first) early stays = stays
 
 -- so was the second rule of identity adopted, if it was
 adopted_all : (others : ℕ) (history : List Event) → length (closes history) ≤ others
-    → option_and_then (if_before others) (adopted history) ≡ adopted history
+    → option_and_then (if_before others) (rulings history).adopted ≡ (rulings history).adopted
 adopted_all others [] to_come = refl
-adopted_all others (RecordKept bytes ∷ older) to_come = adopted_all others older to_come
-adopted_all others (TariffAccepted text terms ∷ older) to_come = adopted_all others older to_come
 adopted_all others (PeriodClosed day ∷ older) to_come =
     let more = length-append (closes older) (day ∷ []) in
     adopted_all others older (omega arith)
-adopted_all others (RecordChosen bytes ∷ older) to_come = adopted_all others older to_come
-adopted_all others (SecondRuleAdopted ∷ older) to_come =
-    adopted_then others (open_after older) (adopted older) (omega arith)
+adopted_all others (RulingGiven SecondRuleAdopted ∷ older) to_come =
+    adopted_then others (open_by (rulings older)) (rulings older).adopted (omega arith)
     (adopted_all others older to_come)
+adopted_all others (event ∷ older) to_come = adopted_all others older to_come
 
 -- and an adoption does not come before a close that came
 adopted_late : (others period : ℕ) (was : Option ℕ) → suc others < period
@@ -136,7 +132,7 @@ rulings_all history =
     let chosen = choices_all all history (omega arith) in
     let rule = adopted_all all history (omega arith) in
     λ i. record {
-      tariffs = tariffs history;
+      tariffs = (rulings history).tariffs;
       closes = days i;
       choices = chosen i;
       adopted = rule i;
@@ -197,11 +193,8 @@ closed_once_more day older = omega (arith, length-append (closes older) (day ∷
 -- an event takes away no close
 closes_stay : (event : Event) (older : List Event)
     → length (closes older) ≤ length (closes (event ∷ older))
-closes_stay (RecordKept bytes) older = omega arith
-closes_stay (TariffAccepted text terms) older = omega arith
 closes_stay (PeriodClosed day) older = omega (arith, closed_once_more day older)
-closes_stay (RecordChosen bytes) older = omega arith
-closes_stay SecondRuleAdopted older = omega arith
+closes_stay event older = omega arith
 
 -- right after a close, its day is that of its number
 pub day_closed : (day : ℤ) (older : List Event)
@@ -234,11 +227,8 @@ last_close-is history = last-at (closes history)
 pub day_stays : (k : ℕ) (event : Event) (older : List Event) → k ≤ length (closes older)
     → day_of_close k (event ∷ older) ≡ day_of_close k older
 day_stays zero event older came = refl
-day_stays (suc k) (RecordKept bytes) older came = refl
-day_stays (suc k) (TariffAccepted text terms) older came = refl
 day_stays (suc k) (PeriodClosed day) older came = slice_get-front (closes older) day k (omega arith)
-day_stays (suc k) (RecordChosen bytes) older came = refl
-day_stays (suc k) SecondRuleAdopted older came = refl
+day_stays (suc k) event older came = refl
 
 -- nor the history before a close that came, or comes with it
 before_stays : (k : ℕ) (event : Event) (older : List Event) → k ≤ length (closes (event ∷ older))
@@ -260,18 +250,17 @@ charged_by-tariffs ruled other (Some day) held = refl
 -- an event changes of the rulings before a close that came the tariffs alone
 pub ruled_stays : (k : ℕ) (event : Event) (older : List Event) → k < length (closes older)
     → rulings_before k (rulings (event ∷ older))
-    ≡ record (rulings_before k (rulings older)) { tariffs = tariffs (event ∷ older) }
-ruled_stays k (RecordKept bytes) older came = refl
-ruled_stays k (TariffAccepted text terms) older came = refl
+    ≡ record (rulings_before k (rulings older)) { tariffs = (rulings (event ∷ older)).tariffs }
 ruled_stays k (PeriodClosed day) older came =
     ap (λ days. record (rulings_before k (rulings older)) { closes = days })
     (take-append-le k (closes older) (day ∷ []) (omega arith))
-ruled_stays k (RecordChosen bytes) older came =
+ruled_stays k (RulingGiven (RecordChosen bytes)) older came =
     ap (λ chosen. record (rulings_before k (rulings older)) { choices = chosen })
-    (chosen_late k bytes older came)
-ruled_stays k SecondRuleAdopted older came =
+    (chosen_late k bytes (rulings older) came)
+ruled_stays k (RulingGiven SecondRuleAdopted) older came =
     ap (λ rule. record (rulings_before k (rulings older)) { adopted = rule })
-    (adopted_late k (open_after older) (adopted older) (omega arith))
+    (adopted_late k (open_by (rulings older)) (rulings older).adopted (omega arith))
+ruled_stays k event older came = refl
 
 -- so an event does not change who was charged at the end of a period before it
 pub charged_stays : (k : ℕ) (event : Event) (older : List Event) → k ≤ length (closes older)
@@ -283,7 +272,7 @@ charged_stays (suc k) event older came =
     let day = day_stays (suc k) event older came in
     let held = held_stays (suc k) event older (omega arith) in
     (λ i. charged_by (ruled i) (day i) (held i))
-    ∙ charged_by-tariffs (rulings_before k (rulings older)) (tariffs (event ∷ older))
+    ∙ charged_by-tariffs (rulings_before k (rulings older)) (rulings (event ∷ older)).tariffs
     (day_of_close (suc k) older) (held_before (suc k) older)
 
 -- the rulings before a close are all that there were when it came
@@ -295,7 +284,7 @@ rulings_closed day older =
     let chosen = choices_all all older (omega arith) in
     let rule = adopted_all all older (omega arith) in
     λ i. record {
-      tariffs = tariffs older;
+      tariffs = (rulings older).tariffs;
       closes = days i;
       choices = chosen i;
       adopted = rule i;

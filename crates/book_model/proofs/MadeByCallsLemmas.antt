@@ -8,15 +8,15 @@ use Rattle.tariff_rules.specs.Terms.{Terms}
 use Rattle.book_model.specs.declared.answer.Ruled.TheVariants.{Done}
 use Rattle.book_model.specs.MadeByCalls.{IsMadeByCalls}
 use Rattle.book_model.specs.Books.{Book, open_number}
-use Rattle.book_model.specs.Events.{Event, RecordKept, TariffAccepted, PeriodClosed, RecordChosen}
-use Rattle.book_model.specs.Events.{SecondRuleAdopted}
-use Rattle.book_model.specs.History.{rulings, tariffs, book_after}
+use Rattle.book_model.specs.Events.{Event, RecordKept, PeriodClosed, RulingGiven, give}
+use Rattle.book_model.specs.History.{rulings, book_after}
 use Rattle.book_model.specs.Laws.{LatestIsLast}
 use Rattle.book_model.specs.Records.{Naming, name_of}
 use Rattle.book_model.specs.RulingAnswers.{has_text, is_effective, is_later, is_too_dear}
 use Rattle.book_model.specs.RulingAnswers.{terms_answer}
 use Rattle.book_model.specs.Rulings.{Rulings, AcceptedTerms, are_rising, with_tariff, with_close}
-use Rattle.book_model.specs.Rulings.{with_choice, with_second_rule, last_close}
+use Rattle.book_model.specs.Rulings.{TariffAccepted, RecordChosen, SecondRuleAdopted, with_ruling}
+use Rattle.book_model.specs.Rulings.{last_close}
 use Rattle.book_model.specs.Sound.{IsSound}
 use Rattle.book_model.proofs.CallLemmas.{passes}
 use Rattle.book_model.proofs.LatestLemmas.{rising-behind, begun-last}
@@ -28,10 +28,8 @@ use Rattle.book_model.proofs.SoundLemmas.{steps_stay_sound}
 pub rulings_are : (history : List Event) → (book_after history).rulings ≡ rulings history
 rulings_are [] = refl
 rulings_are (RecordKept bytes ∷ older) = rulings_are older
-rulings_are (TariffAccepted text terms ∷ older) = ap (with_tariff text terms) (rulings_are older)
 rulings_are (PeriodClosed day ∷ older) = ap (with_close day) (rulings_are older)
-rulings_are (RecordChosen bytes ∷ older) = ap (with_choice bytes) (rulings_are older)
-rulings_are (SecondRuleAdopted ∷ older) = ap with_second_rule (rulings_are older)
+rulings_are (RulingGiven ruling ∷ older) = ap (with_ruling ruling) (rulings_are older)
 
 -- the book is sound after each event that was answered so
 pub sound_after : (naming : Naming) (history : List Event) → IsMadeByCalls naming history
@@ -40,20 +38,19 @@ sound_after naming [] answered = steps_stay_sound.start naming
 sound_after naming (RecordKept bytes ∷ older) answered =
     steps_stay_sound.keep naming (book_after older) bytes (sound_after naming older answered.1)
     answered.0
-sound_after naming (TariffAccepted (Some text) terms ∷ older) answered =
-    steps_stay_sound.tariff naming (book_after older) text terms
-    (sound_after naming older answered.1) answered.0
-sound_after naming (TariffAccepted None terms ∷ older) answered =
-    subst (λ history. IsSound naming (book_after (TariffAccepted None terms ∷ history)))
-    (sym answered)
-    (steps_stay_sound.flat naming terms)
 sound_after naming (PeriodClosed day ∷ older) answered =
     steps_stay_sound.close naming (book_after older) (open_number (book_after older)) day
     (sound_after naming older answered.1) answered.0
-sound_after naming (RecordChosen bytes ∷ older) answered =
+sound_after naming (RulingGiven (TariffAccepted (Some text) terms) ∷ older) answered =
+    steps_stay_sound.tariff naming (book_after older) text terms
+    (sound_after naming older answered.1) answered.0
+sound_after naming (RulingGiven (TariffAccepted None terms) ∷ older) answered =
+    subst (λ before. IsSound naming (give (TariffAccepted None terms) before)) (sym answered.0)
+    (steps_stay_sound.flat naming terms)
+sound_after naming (RulingGiven (RecordChosen bytes) ∷ older) answered =
     steps_stay_sound.choose naming (book_after older) (name_of naming bytes) bytes
-    (sound_after naming older answered.1) answered.2
-sound_after naming (SecondRuleAdopted ∷ older) answered =
+    (sound_after naming older answered.1) answered.0.1
+sound_after naming (RulingGiven SecondRuleAdopted ∷ older) answered =
     steps_stay_sound.adopt naming (book_after older) (sound_after naming older answered.1)
 
 -- a tariff that comes into force begins later than every other one
@@ -73,21 +70,19 @@ begins_later book text terms done =
 
 -- so the tariffs rise
 rising : (naming : Naming) (history : List Event) → IsMadeByCalls naming history
-    → are_rising (tariffs history) ≡ true
+    → are_rising (rulings history).tariffs ≡ true
 rising naming [] answered = refl
-rising naming (RecordKept bytes ∷ older) answered = rising naming older answered.1
-rising naming (TariffAccepted (Some text) terms ∷ older) answered =
+rising naming (RulingGiven (TariffAccepted (Some text) terms) ∷ older) answered =
     let later : AcceptedTerms = record { text = Some text; terms = terms } in
     let day : ℤ = terms.effective in
     let before = begins_later (book_after older) text terms answered.0 in
-    rising-behind (tariffs older) later (rising naming older answered.1)
+    rising-behind (rulings older).tariffs later (rising naming older answered.1)
     (ap (λ (ruled : Rulings). list_all (λ tariff. int_lt tariff.terms.effective day) ruled.tariffs)
     (sym (rulings_are older)) ∙ before)
-rising naming (TariffAccepted None terms ∷ older) answered =
-    ap (λ history. are_rising (tariffs (TariffAccepted None terms ∷ history))) answered
-rising naming (PeriodClosed day ∷ older) answered = rising naming older answered.1
-rising naming (RecordChosen bytes ∷ older) answered = rising naming older answered.1
-rising naming (SecondRuleAdopted ∷ older) answered = rising naming older answered.1
+rising naming (RulingGiven (TariffAccepted None terms) ∷ older) answered =
+    ap (λ (ruled : Rulings). are_rising (with_tariff None terms ruled).tariffs)
+    (sym (rulings_are older) ∙ ap (λ (before : Book). before.rulings) answered.0)
+rising naming (event ∷ older) answered = rising naming older answered.1
 
 -- the law of it
 pub latest_is_last : LatestIsLast

@@ -12,14 +12,15 @@ use Rattle.book_model.specs.declared.answer.Ruled.TheVariants.{Done}
 use Rattle.book_model.specs.Records.{Naming, IsUsageRecord}
 use Rattle.book_model.specs.Rulings.{Rulings, AcceptedTerms, price_in, with_tariff, are_rising}
 use Rattle.book_model.specs.Rulings.{has_begun, in_force, last_close, rulings_before, identity_by}
+use Rattle.book_model.specs.Rulings.{TariffAccepted, RecordChosen, SecondRuleAdopted}
 use Rattle.book_model.specs.Charged.{is_dated_after, is_unrivalled, share_identity}
 use Rattle.book_model.specs.Disputes.{is_settled}
 use Rattle.book_model.specs.Books.{Book, new_book, flat_book, charged_of}
-use Rattle.book_model.specs.Events.{Event, keep, put_in_force, close, choose, adopt, after_all}
+use Rattle.book_model.specs.Events.{Event, keep, give, close, after_all}
 use Rattle.book_model.specs.Accept.{accept_answer}
 use Rattle.book_model.specs.RulingAnswers.{terms_answer, close_answer, record_named, adopt_answer}
 use Rattle.book_model.specs.RulingAnswers.{second_rule}
-use Rattle.book_model.specs.History.{tariffs, rulings, held_before, book_after, book_of}
+use Rattle.book_model.specs.History.{rulings, held_before, book_after, book_of}
 use Rattle.book_model.specs.MadeByCalls.{IsMadeByCalls}
 use Rattle.book_model.specs.RecordBatches.{rulings_in, record_batches}
 use Rattle.book_model.specs.Sets.{members, has}
@@ -43,7 +44,7 @@ pub record CallsGoForward : Type 0 where
       (book : Book) (text : List ℕ) (terms : Terms) → terms_answer book text terms ≡ Ok Done
       → IsAfterLastClose book.rulings terms.effective
   pub close :
-      (book : Book) (number : ℕ) (day : ℤ) → close_answer book number day ≡ Ok Done
+      (book : Book) (number : ℕ) (day : ℤ) → close_answer book.rulings number day ≡ Ok Done
       → IsAfterLastClose book.rulings day
 
 -- so no tariff that is Done changes the price of a record that is dated no later than the last
@@ -59,7 +60,7 @@ ClosedPricesStay =
 -- that has begun; and so are the tariffs of a history that calls made.
 pub record LatestIsLast : Type 0 where
   pub rising : (naming : Naming) (history : List Event) → IsMadeByCalls naming history
-      → are_rising (tariffs history) ≡ true
+      → are_rising (rulings history).tariffs ≡ true
   pub last : (tariffs : List AcceptedTerms) (day : ℤ) → are_rising tariffs ≡ true
       → in_force day tariffs
       ≡ option_map (λ tariff. tariff.terms) (find (has_begun day) (reverse tariffs))
@@ -74,14 +75,16 @@ pub record StepsStaySound : Type 0 where
   pub tariff :
       (naming : Naming) (book : Book) (text : List ℕ) (terms : Terms) → IsSound naming book
       → terms_answer book text terms ≡ Ok Done
-      → IsSound naming (put_in_force (Some text) terms book)
+      → IsSound naming (give (TariffAccepted (Some text) terms) book)
   pub close :
       (naming : Naming) (book : Book) (number : ℕ) (day : ℤ) → IsSound naming book
-      → close_answer book number day ≡ Ok Done → IsSound naming (close day book)
+      → close_answer book.rulings number day ≡ Ok Done → IsSound naming (close day book)
   pub choose :
       (naming : Naming) (book : Book) (name bytes : List ℕ) → IsSound naming book
-      → record_named naming book.held name ≡ Some bytes → IsSound naming (choose bytes book)
-  pub adopt : (naming : Naming) (book : Book) → IsSound naming book → IsSound naming (adopt book)
+      → record_named naming book.held name ≡ Some bytes
+      → IsSound naming (give (RecordChosen bytes) book)
+  pub adopt : (naming : Naming) (book : Book) → IsSound naming book
+      → IsSound naming (give SecondRuleAdopted book)
 
 -- The book that a history leaves, step by step, is the one that the history defines, looked at as a
 -- whole: no later event changes a period that is closed.
@@ -111,8 +114,8 @@ abbrev pub AdoptionTakesNothing : Type 0
 AdoptionTakesNothing =
     (naming : Naming) (book : Book) → IsSound naming book
     → ((bytes : List ℕ) → has book.held bytes ≡ true → IsUsageRecord bytes)
-    → adopt_answer book second_rule ≡ Ok Done
-    → AreAmong (charged_of book) (charged_of (adopt book))
+    → adopt_answer book.rulings second_rule ≡ Ok Done
+    → AreAmong (charged_of book) (charged_of (give SecondRuleAdopted book))
 
 -- It makes no difference in which order, and how often, records came between two rulings: events
 -- with the same rulings in the same order, and the same sets of records between neighbouring

@@ -17,6 +17,13 @@ pub record AcceptedTerms : Type 0 where
   pub text : Option (List ℕ)
   pub terms : Terms
 
+-- A ruling that closes no period: a tariff comes into force, with its text where it came as one; a
+-- record is chosen; the second rule of identity is adopted.
+pub data Ruling : Type 0 where
+  TariffAccepted : Option (List ℕ) → Terms → Ruling
+  RecordChosen : List ℕ → Ruling
+  SecondRuleAdopted : Ruling
+
 -- A record that an operator chose among those of its identity, and the period that was open then.
 pub record Choice : Type 0 where
   pub chosen : List ℕ
@@ -57,6 +64,16 @@ with_choice bytes rulings = record rulings {
 abbrev pub with_second_rule : Rulings → Rulings
 with_second_rule rulings =
     record rulings { adopted = Some (unwrap_or rulings.adopted (open_by rulings)) }
+
+-- what a ruling that closes no period makes of them,
+abbrev pub ruled_more : Ruling → Rulings → Rulings
+ruled_more (TariffAccepted text terms) rulings = with_tariff text terms rulings
+ruled_more (RecordChosen bytes) rulings = with_choice bytes rulings
+ruled_more SecondRuleAdopted rulings = with_second_rule rulings
+
+-- whichever it is: the closes stay
+abbrev pub with_ruling : Ruling → Rulings → Rulings
+with_ruling ruling rulings = record (ruled_more ruling rulings) { closes = rulings.closes }
 
 -- a period, where it was open before the close that came after the given number of others
 abbrev pub if_before : ℕ → ℕ → Option ℕ

@@ -29,10 +29,11 @@ pub use Rattle.book_model.specs.Sets.{Set, has, members, set_of, those, with, wi
 pub use Rattle.book_model.specs.Records.{IsUsageRecord, Naming, Records, by_bytes, name_of}
 pub use Rattle.book_model.specs.Records.{same_bytes}
 pub use Rattle.book_model.specs.Limits.{last_period, most_choices, most_cost, most_held}
+pub use Rattle.book_model.specs.Rulings.{Ruling, TariffAccepted, RecordChosen, SecondRuleAdopted}
 pub use Rattle.book_model.specs.Rulings.{Choice, Rulings, AcceptedTerms, are_rising, has_begun}
 pub use Rattle.book_model.specs.Rulings.{identity_by, in_force, last_close, no_rulings, open_by}
 pub use Rattle.book_model.specs.Rulings.{price_in, price_under, prices, with_choice, with_close}
-pub use Rattle.book_model.specs.Rulings.{with_second_rule, with_tariff}
+pub use Rattle.book_model.specs.Rulings.{with_ruling, with_second_rule, with_tariff}
 pub use Rattle.book_model.specs.Charged.{charged_by, charged_now, charged_through, conflict}
 pub use Rattle.book_model.specs.Charged.{is_chosen, is_dated_after, is_dated_through, is_undisputed}
 pub use Rattle.book_model.specs.Charged.{is_unrivalled, last_chosen, share_identity}
@@ -47,9 +48,8 @@ pub use Rattle.book_model.specs.Disputes.{records_of, variant_of}
 pub use Rattle.book_model.specs.Books.{Book, all_periods, charged_of, flat_book, new_book}
 pub use Rattle.book_model.specs.Books.{open_number, open_period, period_of}
 pub use Rattle.book_model.specs.Counted.{counted_of, is_counted, is_counted_in}
-pub use Rattle.book_model.specs.Events.{Event, PeriodClosed, RecordChosen, RecordKept}
-pub use Rattle.book_model.specs.Events.{SecondRuleAdopted, TariffAccepted, adopt, after, after_all}
-pub use Rattle.book_model.specs.Events.{after_any, choose, close, keep, put_in_force}
+pub use Rattle.book_model.specs.Events.{Event, PeriodClosed, RecordKept, RulingGiven, after}
+pub use Rattle.book_model.specs.Events.{after_all, after_any, close, give, keep}
 pub use Rattle.book_model.specs.Accept.{accept_answer, accept_priced, clashes, is_full, total_of}
 pub use Rattle.book_model.specs.RulingAnswers.{adopt_answer, choose_answer, chosen_answer}
 pub use Rattle.book_model.specs.RulingAnswers.{close_answer, first_rule, has_text, is_closed}
@@ -61,11 +61,11 @@ pub use Rattle.book_model.specs.RulingLists.{AdoptionSeen, ShowsDays, ruling_sho
 pub use Rattle.book_model.specs.RulingLists.{adoption_seen, choice_seen, choices_seen, closes_seen}
 pub use Rattle.book_model.specs.RulingLists.{tariff_seen, tariff_text_on, tariffs_seen, text_on}
 pub use Rattle.book_model.specs.Outcomes.{Outcome, accept_event, accept_outcome}
-pub use Rattle.book_model.specs.Outcomes.{adjustments_outcome, adopt_event, adopt_outcome}
-pub use Rattle.book_model.specs.Outcomes.{charges_outcome, choose_event, choose_outcome}
-pub use Rattle.book_model.specs.Outcomes.{close_event, close_outcome, dispute_outcome}
-pub use Rattle.book_model.specs.Outcomes.{disputes_outcome}
-pub use Rattle.book_model.specs.Outcomes.{periods_outcome, no_event, ruling_outcome, tariff_event}
+pub use Rattle.book_model.specs.Outcomes.{adjustments_outcome, adopt_outcome}
+pub use Rattle.book_model.specs.Outcomes.{charges_outcome, choose_outcome}
+pub use Rattle.book_model.specs.Outcomes.{close_outcome, dispute_outcome}
+pub use Rattle.book_model.specs.Outcomes.{disputes_outcome, if_done}
+pub use Rattle.book_model.specs.Outcomes.{periods_outcome, no_event, ruled_as, ruling_outcome}
 pub use Rattle.book_model.specs.Outcomes.{tariff_outcome, what_if_outcome}
 pub use Rattle.book_model.specs.OtherPrices.{costs_under, rows_if_room, what_if_answer}
 pub use Rattle.book_model.specs.Details.{by_detail, comes_after, detail_by, detail_of, detail_with}
@@ -88,7 +88,7 @@ pub use Rattle.book_model.specs.Bills.{period_by_trail, period_of_line, steps_of
 pub use Rattle.book_model.specs.Bills.{tariffs_from, tariffs_in, tariffs_through, work_rows}
 pub use Rattle.book_model.specs.History.{book_after, book_of, charged_in, closes, day_of_close}
 pub use Rattle.book_model.specs.History.{held_before, period_after, periods, rulings}
-pub use Rattle.book_model.specs.MadeByCalls.{IsMadeByCalls}
+pub use Rattle.book_model.specs.MadeByCalls.{IsAnswered, IsMadeByCalls}
 pub use Rattle.book_model.specs.RecordBatches.{rulings_in, record_batches}
 pub use Rattle.book_model.specs.Sound.{AreAllDatedThrough, AreAmong, AreDatedThrough, AreHeld, IsChoiceOf}
 pub use Rattle.book_model.specs.Sound.{IsSound}
