@@ -14,11 +14,11 @@ use Rattle.book_model.specs.declared.fault.LedgerFault.{LedgerFault}
 use Rattle.book_model.specs.declared.answer.Ruled.TheVariants.{Already, Done}
 use Rattle.book_model.specs.declared.fault.LedgerFault.TheVariants.{NoSuchPeriod}
 use Rattle.book_model.specs.Words.{Book, open_number, open_period, period_of, IsBookCall}
-use Rattle.book_model.specs.Words.{close_event, close_outcome, close_answer}
+use Rattle.book_model.specs.Words.{PeriodClosed, close_outcome, close_answer, if_done}
 use Rattle.book_model.specs.Words.{after_any, keep, close, Period, Naming, by_bytes}
 use Rattle.book_model.specs.Words.{Rulings, are_rising, price_under, with_close}
 use Rattle.book_model.specs.declared.answer.Ruled.{Ruled}
-use Rattle.book_model.proofs.AnswerLemmas.{answers_itself, calls}
+use Rattle.book_model.proofs.AnswerLemmas.{answers_itself, ruling_calls}
 use Rattle.book_core.specs.declared.closed.ClosedPeriod.{ClosedPeriod}
 use Rattle.book_core.specs.declared.period_end.PeriodEnd.{PeriodEnd}
 use Rattle.book_core.specs.declared.held.HeldRecord.{HeldRecord}
@@ -149,16 +149,16 @@ module _ {naming : Naming} {rulings : Rulings} {entries : List Entry} {total : �
 
 -- a close that was asked for, by what it answered and by the event of that answer
 pub close_calls : (number : ℕ) (day : ℤ) (old new : Book) (result : Result Ruled LedgerFault)
-    → close_answer old number day ≡ result → new ≡ after_any (close_event day result) old
+    → close_answer old.rulings number day ≡ result
+    → new ≡ after_any (if_done (Some (PeriodClosed day)) result) old
     → IsBookCall (λ (value : Ruled). value) old new result (close_outcome number day)
 close_calls number day old new result answer book =
-    calls old new result (close_outcome number day) (close_event day)
-    (λ answer is. ap (close_event day) is) (λ fault. refl)
+    ruling_calls (close_outcome number day) (Some (PeriodClosed day)) old new result refl
     (answers_itself result _ answer) book
 
 -- an answer that is not Done changes no book
 pub close_leaves : (day : ℤ) (answer : Result Ruled LedgerFault) (book : Book) → answer ≢ Ok Done
-    → book ≡ after_any (close_event day answer) book
+    → book ≡ after_any (if_done (Some (PeriodClosed day)) answer) book
 close_leaves day (Ok Done) book other = absurd (other refl)
 close_leaves day (Ok Already) book other = refl
 close_leaves day (Err fault) book other = refl

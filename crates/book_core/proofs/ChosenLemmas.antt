@@ -6,6 +6,7 @@ use Rattle.std.specs.Prelude.{if◌then◌else◌, All, nat_le}
 use Rattle.std.specs.BTreeMap.{is_at}
 use Rattle.std.specs.List.Sorted.{IsStrictlySortedBy}
 use Rattle.std.specs.Map.{keys_of, lookup}
+use Rattle.std.specs.Option.{option_map}
 use Rattle.std.specs.Rc.{rc_slice_items}
 use Rattle.std.proofs.lemmas.Bool.Decides.{nat_tests}
 use Rattle.std.proofs.lemmas.List.{map-append}
@@ -17,9 +18,10 @@ use Rattle.book_model.specs.declared.answer.Ruled.TheVariants.{Done, Already}
 use Rattle.book_model.specs.declared.fault.LedgerFault.{LedgerFault}
 use Rattle.book_model.specs.declared.fault.LedgerFault.TheVariants.{Full, NoSuchRecord, NotDisputed}
 use Rattle.book_model.specs.Words.{Book, Choice, IsBookCall, Naming, Rulings, after_any, by_bytes}
-use Rattle.book_model.specs.Words.{choose_event, choose_outcome, with_choice, chosen_answer}
+use Rattle.book_model.specs.Words.{Event, RulingGiven, RecordChosen, if_done}
+use Rattle.book_model.specs.Words.{choose_outcome, with_choice, chosen_answer}
 use Rattle.book_model.specs.Words.{is_chosen, is_unrivalled, most_choices, open_by, record_named}
-use Rattle.book_model.proofs.AnswerLemmas.{answers_itself, calls}
+use Rattle.book_model.proofs.AnswerLemmas.{answers_itself, ruling_calls}
 use Rattle.book_model.proofs.SoundLemmas.{named_held}
 use Rattle.book_core.specs.declared.chosen.ChosenRecord.{ChosenRecord}
 use Rattle.book_core.specs.declared.closed.ClosedPeriod.{ClosedPeriod}
@@ -57,24 +59,19 @@ chosen_by alone chosen full =
     else if full then Err Full
     else Ok Done
 
--- no refused choice is an event
-choose_event-refused : (meant : Option (List ℕ)) (fault : LedgerFault)
-    → choose_event meant (Err fault) ≡ None
-choose_event-refused None fault = refl
-choose_event-refused (Some bytes) fault = refl
+-- the choice of the record that is meant, if there is one
+abbrev pub meant_by : Option (List ℕ) → Option Event
+meant_by meant = option_map (λ bytes. RulingGiven (RecordChosen bytes)) meant
 
--- a choice that was asked for, by the record that is meant, if there is one
+-- a choice that was asked for, by the record that is meant
 choose_calls : (naming : Naming) (name : List ℕ) (old new : Book) (meant : Option (List ℕ))
     (result : Result Ruled LedgerFault) → record_named naming old.held name ≡ meant
-    → chosen_answer old meant ≡ result → new ≡ after_any (choose_event meant result) old
+    → chosen_answer old meant ≡ result → new ≡ after_any (if_done (meant_by meant) result) old
     → IsBookCall (λ (value : Ruled). value) old new result (choose_outcome naming name)
 choose_calls naming name old new meant result found answer changed =
-    calls old new result (choose_outcome naming name)
-    (choose_event (record_named naming old.held name))
-    (λ answer is. ap (choose_event (record_named naming old.held name)) is)
-    (choose_event-refused (record_named naming old.held name))
-    (answers_itself result _ (ap (chosen_answer old) found ∙ answer))
-    (changed ∙ ap (λ one. after_any (choose_event one result) old) (sym found))
+    ruling_calls (choose_outcome naming name) (meant_by (record_named naming old.held name)) old new
+    result refl (answers_itself result _ (ap (chosen_answer old) found ∙ answer))
+    (changed ∙ ap (λ one. after_any (if_done (meant_by one) result) old) (sym found))
 
 -- whether there are that many, by the comparison
 pub at_least : (most n : ℕ) → most ≤ n → true ≡ nat_le most n
@@ -134,7 +131,7 @@ module _ {naming : Naming} {rulings : Rulings} {entries : List Entry} {total : �
       → alone ≡ is_alone rulings entries (name, h)
       → chosen ≡ is_chosen rulings (record_of h)
       → full ≡ nat_le most_choices (length rulings.choices)
-      → new ≡ after_any (choose_event (Some (record_of h)) (chosen_by alone chosen full)) book
+      → new ≡ after_any (if_done (meant_by (Some (record_of h))) (chosen_by alone chosen full)) book
       → IsBookCall (λ (value : Ruled). value) book new (chosen_by alone chosen full)
       (choose_outcome naming name)
   choose_calls-found h new alone chosen full found is_alone' is_chosen' is_full changed =

@@ -2,14 +2,15 @@
 use Rattle.std.proofs.Common.{◌≡◌, ◌∙◌, ℕ, Bool, true, false, List, [], ◌++◌, refl, sym, ap, subst}
 use Rattle.std.proofs.Common.{Result, Ok, Err, ◌⊎◌, inl, inr, append_assoc, not}
 use Rattle.std.proofs.lemmas.Bool.{eqb-true}
-use Rattle.std.specs.Prelude.{ℤ, ◌==◌, if◌then◌else◌, Option, Some, None}
+use Rattle.std.specs.Prelude.{ℤ, ◌==◌, if◌then◌else◌, IfSome, Option, Some, None}
 use Rattle.book_model.specs.Words.{Terms, terms_in, Naming, Book, new_book, open_number, Event}
-use Rattle.book_model.specs.Words.{after_all, accept_answer, tariff_answer, terms_answer}
+use Rattle.book_model.specs.Words.{PeriodClosed, RulingGiven, SecondRuleAdopted}
+use Rattle.book_model.specs.Words.{after_all, accept_answer, tariff_answer}
 use Rattle.book_model.specs.Words.{close_answer, is_closed, is_early, last_period, Outcome}
-use Rattle.book_model.specs.Words.{accept_event, tariff_event, close_event, tariff_outcome}
-use Rattle.book_model.specs.Words.{close_outcome, book_after, book_of, IsMadeByCalls}
-use Rattle.book_model.specs.Words.{choose_answer, choose_event, choose_outcome, record_named}
-use Rattle.book_model.specs.Words.{adopt_answer, adopt_event, adopt_outcome, rule_by, second_rule}
+use Rattle.book_model.specs.Words.{accept_event, if_done, ruled_as, tariff_outcome}
+use Rattle.book_model.specs.Words.{close_outcome, book_after, book_of, IsAnswered, IsMadeByCalls}
+use Rattle.book_model.specs.Words.{choose_answer, choose_outcome, record_named}
+use Rattle.book_model.specs.Words.{adopt_answer, adopt_outcome, rule_by, second_rule}
 use Rattle.tariff_rules.specs.declared.fault.TariffFault.{TariffFault}
 use Rattle.book_model.specs.declared.fault.LedgerFault.{LedgerFault}
 use Rattle.book_model.specs.declared.fault.LedgerFault.TheVariants.{Memory, Store, Reopen}
@@ -24,7 +25,9 @@ use Rattle.book_core.specs.Ledgers.{Seen}
 use Rattle.book_core.specs.Transition.{Transition, NoEvent, Then, IsTransition}
 use Rattle.book_core.specs.Calls.{Makes, Calls, listed}
 use Rattle.book_core.specs.Follow.{FollowsHistory, MakesAnswered}
+use Rattle.book_core.proofs.ChosenLemmas.{meant_by}
 use Rattle.book_core.proofs.NamedLemmas.{its_name}
+use Rattle.book_core.proofs.TariffLemmas.{said_by}
 use Rattle.book_core.proofs.TransitionLemmas.{after_all-append}
 
 -- work without an event makes none
@@ -104,32 +107,44 @@ accept_event-answered naming bytes history (Ok Known) is answered = answered
 accept_event-answered naming bytes history (Ok Unpriced) is answered = answered
 accept_event-answered naming bytes history (Err fault) is answered = answered
 
--- the event of the answer to a tariff's terms
-terms_event-answered : (naming : Naming) (text : List ℕ) (terms : Terms) (history : List Event)
+-- the event of a ruling is answered, where what was submitted is answered if it is done
+if_done-answered : (naming : Naming) (history : List Event) (submitted : Option Event)
     (answer : Result Ruled LedgerFault)
-    → terms_answer (book_after history) text terms ≡ answer → IsMadeByCalls naming history
-    → IsMadeByCalls naming (listed (tariff_event text (Ok terms) answer) ++ history)
-terms_event-answered naming text terms history (Ok Done) is answered = (is, answered)
-terms_event-answered naming text terms history (Ok Already) is answered = answered
-terms_event-answered naming text terms history (Err fault) is answered = answered
+    → (answer ≡ Ok Done
+    → IfSome submitted (λ event. IsAnswered naming event (book_after history)))
+    → IsMadeByCalls naming history
+    → IsMadeByCalls naming (listed (if_done submitted answer) ++ history)
+if_done-answered naming history None (Ok Done) done answered = answered
+if_done-answered naming history (Some event) (Ok Done) done answered = (done refl, answered)
+if_done-answered naming history submitted answer done answered = answered
 
--- the event of the answer to a tariff's text, by the result of reading it
-tariff_event-answered : (naming : Naming) (text : List ℕ) (said : Result Terms TariffFault)
-    (history : List Event) → IsMadeByCalls naming history
-    → IsMadeByCalls naming
-    (listed (tariff_event text said (tariff_answer (book_after history) text said)) ++ history)
-tariff_event-answered naming text (Ok terms) history answered =
-    terms_event-answered naming text terms history
-    (terms_answer (book_after history) text terms) refl answered
-tariff_event-answered naming text (Err fault) history answered = answered
+rulings_answered : {V : Type 0} (naming : Naming) (view : V → Ruled)
+    (submitted : Book → Option Event) (answer : Book → Result Ruled LedgerFault)
+    (result : Result V LedgerFault)
+    → ((book : Book) → answer book ≡ Ok Done
+    → IfSome (submitted book) (λ event. IsAnswered naming event book))
+    → MakesAnswered naming (Calls view (λ book. ruled_as (submitted book) (answer book)) result)
+rulings_answered naming view submitted answer result done =
+    calls_answered naming view (λ book. ruled_as (submitted book) (answer book)) result
+    (λ history.
+    let book : Book = book_after history in
+    if_done-answered naming history (submitted book) (answer book) (done book))
+
+-- a tariff that a text says
+tariff_done : (naming : Naming) (text : List ℕ) (said : Result Terms TariffFault) (book : Book)
+    → tariff_answer book text said ≡ Ok Done
+    → IfSome (said_by text said) (λ event. IsAnswered naming event book)
+tariff_done naming text (Ok terms) book done = done
+tariff_done naming text (Err fault) book done = tt
 
 -- a tariff that is submitted
 pub tariff_answered : {V : Type 0} (naming : Naming) (view : V → Ruled) (text : List ℕ)
     (result : Result V LedgerFault)
     → MakesAnswered naming (Calls view (tariff_outcome text) result)
 tariff_answered naming view text result =
-    calls_answered naming view (tariff_outcome text) result
-    (tariff_event-answered naming text (terms_in text))
+    rulings_answered naming view (λ book. said_by text (terms_in text))
+    (λ book. tariff_answer book text (terms_in text)) result
+    (tariff_done naming text (terms_in text))
 
 -- the answer to a close, by whether the period is closed already and whether it is the open one
 abbrev close_by : Bool → Bool → LedgerFault → Result Ruled LedgerFault → Result Ruled LedgerFault
@@ -144,7 +159,7 @@ done_is_open false true wrong rest is = refl
 done_is_open false false wrong rest is = cc
 
 -- so it is the open one by its number
-closes_open : (number : ℕ) (day : ℤ) (book : Book) → close_answer book number day ≡ Ok Done
+closes_open : (number : ℕ) (day : ℤ) (book : Book) → close_answer book.rulings number day ≡ Ok Done
     → number ≡ open_number book
 closes_open number day book is =
     eqb-true number (open_number book)
@@ -153,58 +168,41 @@ closes_open number day book is =
     (if is_early day book.rulings then Err NotLater
     else if number == last_period then Err Full else Ok Done) is)
 
--- the event of the answer to a close
-close_event-answered : (naming : Naming) (number : ℕ) (day : ℤ) (history : List Event)
-    (answer : Result Ruled LedgerFault)
-    → close_answer (book_after history) number day ≡ answer → IsMadeByCalls naming history
-    → IsMadeByCalls naming (listed (close_event day answer) ++ history)
-close_event-answered naming number day history (Ok Done) is answered =
-    let book : Book = book_after history in
-    let its_number : number ≡ open_number book = closes_open number day book is in
-    (subst (λ number. close_answer book number day ≡ Ok Done) its_number is, answered)
-close_event-answered naming number day history (Ok Already) is answered = answered
-close_event-answered naming number day history (Err fault) is answered = answered
-
 -- a close
 pub close_answered : {V : Type 0} (naming : Naming) (view : V → Ruled) (number : ℕ) (day : ℤ)
     (result : Result V LedgerFault)
     → MakesAnswered naming (Calls view (close_outcome number day) result)
 close_answered naming view number day result =
-    calls_answered naming view (close_outcome number day) result (λ history.
-    close_event-answered naming number day history
-    (close_answer (book_after history) number day) refl)
+    rulings_answered naming view (λ book. Some (PeriodClosed day))
+    (λ book. close_answer book.rulings number day) result (λ book done.
+    subst (λ number. close_answer book.rulings number day ≡ Ok Done)
+    (closes_open number day book done) done)
 
--- the event of the answer to a choice
-choose_event-answered : (naming : Naming) (name : List ℕ) (history : List Event)
-    (meant : Option (List ℕ)) (answer : Result Ruled LedgerFault)
-    → record_named naming (book_after history).held name ≡ meant
-    → choose_answer naming (book_after history) name ≡ answer → IsMadeByCalls naming history
-    → IsMadeByCalls naming (listed (choose_event meant answer) ++ history)
-choose_event-answered naming name history None answer found is answered = answered
-choose_event-answered naming name history (Some bytes) (Ok Done) found is answered =
-    let book : Book = book_after history in
-    let named = sym (its_name naming book.held name bytes found) in
-    let done = subst (λ name. choose_answer naming book name ≡ Ok Done) named is in
-    let held = subst (λ name. record_named naming book.held name ≡ Some bytes) named found in
-    (done, answered, held)
-choose_event-answered naming name history (Some bytes) (Ok Already) found is answered = answered
-choose_event-answered naming name history (Some bytes) (Err fault) found is answered = answered
+-- the choice of a record that is meant
+choice_done : (naming : Naming) (name : List ℕ) (book : Book) (meant : Option (List ℕ))
+    → record_named naming book.held name ≡ meant → choose_answer naming book name ≡ Ok Done
+    → IfSome (meant_by meant) (λ event. IsAnswered naming event book)
+choice_done naming name book None found done = tt
+choice_done naming name book (Some bytes) found done =
+    let named = sym (its_name naming book.held name bytes found) in (
+      subst (λ name. choose_answer naming book name ≡ Ok Done) named done,
+      subst (λ name. record_named naming book.held name ≡ Some bytes) named found,
+    )
 
 -- a choice
 pub choose_answered : {V : Type 0} (naming : Naming) (view : V → Ruled) (name : List ℕ)
     (result : Result V LedgerFault)
     → MakesAnswered naming (Calls view (choose_outcome naming name) result)
 choose_answered naming view name result =
-    calls_answered naming view (choose_outcome naming name) result (λ history.
-    choose_event-answered naming name history
-    (record_named naming (book_after history).held name)
-    (choose_answer naming (book_after history) name) refl refl)
+    rulings_answered naming view (λ book. meant_by (record_named naming book.held name))
+    (λ book. choose_answer naming book name) result
+    (λ book. choice_done naming name book (record_named naming book.held name) refl)
 
 -- a rule that is adopted is the second one
-second_done : (rule : ℕ) (book : Book) → adopt_answer book rule ≡ Ok Done
-    → adopt_answer book second_rule ≡ Ok Done
+second_done : (rule : ℕ) (book : Book) → adopt_answer book.rulings rule ≡ Ok Done
+    → adopt_answer book.rulings second_rule ≡ Ok Done
 second_done rule book done =
-    subst (λ rule. adopt_answer book rule ≡ Ok Done)
+    subst (λ rule. adopt_answer book.rulings rule ≡ Ok Done)
     (by_tests (rule == rule_by book.rulings) (rule == second_rule) refl done) done
   where
     by_tests : (same second : Bool) → (rule == second_rule) ≡ second
@@ -214,20 +212,10 @@ second_done rule book done =
     by_tests false true is done = eqb-true rule second_rule is
     by_tests false false is done = cc
 
--- the event of the answer to a rule of identity
-adopt_event-answered : (naming : Naming) (rule : ℕ) (history : List Event)
-    (answer : Result Ruled LedgerFault)
-    → adopt_answer (book_after history) rule ≡ answer → IsMadeByCalls naming history
-    → IsMadeByCalls naming (listed (adopt_event answer) ++ history)
-adopt_event-answered naming rule history (Ok Done) is answered =
-    (second_done rule (book_after history) is, answered)
-adopt_event-answered naming rule history (Ok Already) is answered = answered
-adopt_event-answered naming rule history (Err fault) is answered = answered
-
 -- an adoption
 pub adopt_answered : {V : Type 0} (naming : Naming) (view : V → Ruled) (rule : ℕ)
     (result : Result V LedgerFault)
     → MakesAnswered naming (Calls view (adopt_outcome rule) result)
 adopt_answered naming view rule result =
-    calls_answered naming view (adopt_outcome rule) result (λ history.
-    adopt_event-answered naming rule history (adopt_answer (book_after history) rule) refl)
+    rulings_answered naming view (λ book. Some (RulingGiven SecondRuleAdopted))
+    (λ book. adopt_answer book.rulings rule) result (second_done rule)

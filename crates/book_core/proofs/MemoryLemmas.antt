@@ -232,7 +232,8 @@ by_day number false true true full = record { store = refl; reopen = refl }
 by_day number false true false true = record { store = refl; reopen = refl }
 by_day number false true false false = record { store = refl; reopen = refl }
 
-pub close-of_books : (book : Book) (number : ℕ) (day : ℤ) → IsOfBooks (close_answer book number day)
+pub close-of_books : (book : Book) (number : ℕ) (day : ℤ)
+    → IsOfBooks (close_answer book.rulings number day)
 close-of_books book number day =
     by_day (open_number book) (is_closed number day book.rulings) (number == open_number book)
     (is_early day book.rulings) (number == last_period)
@@ -245,7 +246,7 @@ by_rule true second = record { store = refl; reopen = refl }
 by_rule false true = record { store = refl; reopen = refl }
 by_rule false false = record { store = refl; reopen = refl }
 
-pub adopt-of_books : (book : Book) (rule : ℕ) → IsOfBooks (adopt_answer book rule)
+pub adopt-of_books : (book : Book) (rule : ℕ) → IsOfBooks (adopt_answer book.rulings rule)
 adopt-of_books book rule = by_rule (rule == rule_by book.rulings) (rule == second_rule)
 
 -- choose

@@ -192,7 +192,7 @@ impl Rulings {
 
     /// What is answered to a close.
     pub fn close_answer(&self, period: u16, through: i32) -> Result<Ruled, LedgerFault>
-        ensures { result ≡ spec.close_ruled (ruled_in self.now) period through }
+        ensures { result ≡ spec.close_answer (ruled_in self.now) period through }
     {
         if self.is_closed(period, through) {
             return Ok(Ruled::Already);
@@ -222,7 +222,7 @@ impl Rulings {
 
     /// What is answered to a rule of identity. The first one is never gone back to.
     pub fn adopt_answer(&self, rule: u8) -> Result<Ruled, LedgerFault>
-        ensures { result ≡ spec.adopt_ruled (ruled_in self.now) rule }
+        ensures { result ≡ spec.adopt_answer (ruled_in self.now) rule }
     {
         if rule == self.rule() {
             return Ok(Ruled::Already);

@@ -13,7 +13,7 @@ use tariff_rules::Tariff;
 impl<N: Naming + Drop> PlainLedger<N> {
     ghost use Rattle.std.specs.Prelude.{◌≡◌, ◌<◌, IfOk, IfSome, Ok, OnErr, OnOk, Some};
     ghost use Rattle.std.specs.BTreeMap.{values};
-    ghost use Rattle.book_model.specs.Words.{IsDay, close, put_in_force, last_period};
+    ghost use Rattle.book_model.specs.Words.{IsDay, TariffAccepted, close, give, last_period};
     ghost use Rattle.book_model.specs.Words.{close_outcome, open_number, tariff_outcome};
     ghost use Rattle.book_core.specs.PlainBook.{IsPlainCall, book_in, naming_in};
     ghost use Rattle.book_core.specs.Repricing.{cost_anew, ruled_by_cost};
@@ -56,7 +56,7 @@ impl<N: Naming + Drop> PlainLedger<N> {
         requires done { spec.terms_answer (book_in self.old) text.now tariff ≡ Ok Ruled.Done }
         requires total { total ≡ cost_anew tariff (values self.old.held) }
         ensures book { OnOk result
-            (book_in self.new ≡ put_in_force (Some text.now) tariff (book_in self.old)) }
+            (book_in self.new ≡ give (TariffAccepted (Some text.now) tariff) (book_in self.old)) }
         ensures refused { OnErr result (book_in self.new ≡ book_in self.old) }
         ensures naming { naming_in self.new ≡ naming_in self.old }
     {

@@ -2,13 +2,13 @@ use Rattle.std.proofs.Common.{◌≡◌, ◌∙◌, [], length, Bool, true, fals
 use Rattle.std.specs.Prelude.{nat_le}
 use Rattle.std.proofs.lemmas.List.{length-map}
 use Rattle.book_model.specs.declared.answer.Ruled.{Ruled}
-use Rattle.book_model.specs.Words.{Book, IsBookCall, after_any, choose_event, choose_outcome}
+use Rattle.book_model.specs.Words.{Book, IsBookCall, after_any, choose_outcome, if_done}
 use Rattle.book_model.specs.Words.{is_chosen, most_choices}
 use Rattle.book_core.specs.Choices.{choice_of}
 use Rattle.book_core.specs.Plain.{is_alone, is_lone, record_of, rulings_of}
 use Rattle.book_core.specs.PlainBook.{book_in, book_with}
 use Rattle.book_core.proofs.ChosenLemmas.{at_least, below, chosen_by, ruled-chosen}
-use Rattle.book_core.proofs.ChosenLemmas.{choose_calls-found, choose_calls-missing}
+use Rattle.book_core.proofs.ChosenLemmas.{choose_calls-found, choose_calls-missing, meant_by}
 use Rattle.book_core.proofs.plain.PlainLedger.choose_named.Given.{Over}
 use Rattle.book_core.proofs.plain.PlainLedger.choose_named.Goals as goal
 use Rattle.book_core.proofs.plain.PlainLedger.choose_named.Goals.{After-is_lone, After-is_chosen}
@@ -39,7 +39,7 @@ found_call : (g : Over) (c : After-is_lone g) (new : Book) (alone chosen full : 
     → c.is_lone.result ≡ alone
     → chosen ≡ is_chosen (book_in c.args.self.now).rulings (record_of c.in-Some.held.now)
     → full ≡ nat_le most_choices (length (book_in c.args.self.now).rulings.choices)
-    → new ≡ after_any (choose_event (Some (record_of c.in-Some.held.now))
+    → new ≡ after_any (if_done (meant_by (Some (record_of c.in-Some.held.now)))
     (chosen_by alone chosen full)) (book_in c.args.self.now)
     → IsBookCall (λ (value : Ruled). value) (book_in c.args.self.now) new
     (chosen_by alone chosen full)

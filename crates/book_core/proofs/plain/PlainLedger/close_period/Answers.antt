@@ -9,10 +9,10 @@ use Rattle.book_core.proofs.plain.PlainLedger.close_period.Goals.{After-close_an
 
 -- the answer is that of the book
 answer_is : (g : Over) (c : After-close_answer-answer g) → c.close_answer-answer.result
-    ≡ close_answer (book_in c.args.self.now) c.args.period c.args.through
+    ≡ close_answer (book_in c.args.self.now).rulings c.args.period c.args.through
 answer_is g c =
     c.close_answer-answer.ensures
-    ∙ ap (close_answer (book_in c.args.self.now) c.args.period) (day_kept c.args.through c.requires)
+    ∙ ap (close_answer (book_in c.args.self.now).rulings c.args.period) (day_kept c.args.through c.requires)
 
 pub returns-then-not-is_done : goal.returns-then-not-is_done
 returns-then-not-is_done g c =
