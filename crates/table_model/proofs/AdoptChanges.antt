@@ -10,7 +10,8 @@ use Rattle.std.proofs.lemmas.Cmp.{nat_list_cmp_total}
 use Rattle.std.proofs.lemmas.Map.Lookups.{exact_bytes}
 use Rattle.std.proofs.lemmas.Option.{same_Some}
 use Rattle.book_model.specs.Words.{identity2_of, Book, open_number, charged_of, is_undisputed}
-use Rattle.book_model.specs.Words.{adopt, Records, Naming, name_of, adopt_answer, second_rule}
+use Rattle.book_model.specs.Words.{give, SecondRuleAdopted, Records, Naming, name_of, adopt_answer}
+use Rattle.book_model.specs.Words.{second_rule}
 use Rattle.book_model.specs.Words.{Rulings, price_in, identity_by, with_second_rule, last_close}
 use Rattle.book_model.specs.Words.{open_by, members, has, IsSound, AreAmong}
 use Rattle.tariff_rules.specs.declared.priced.Priced.{Priced}
@@ -43,13 +44,13 @@ same_mark false true still fails = absurd (true≢false fails)
 same_mark false false still fails = refl
 
 module _ (naming : Naming) (book : Book) (sound : IsSound naming book) (usage : AreUsage book.held)
-    (done : adopt_answer book second_rule ≡ Ok Done) where
+    (done : adopt_answer book.rulings second_rule ≡ Ok Done) where
   -- the rulings with the rule, and the book under it
   abbrev ruled : Rulings
   ruled = with_second_rule book.rulings
 
   abbrev after : Book
-  after = adopt book
+  after = give SecondRuleAdopted book
 
   still : IsSound naming after
   still = steps_stay_sound.adopt naming book sound
@@ -157,7 +158,8 @@ pub adoption_follows : AdoptionFollows
 adoption_follows naming book sound usage done =
     let old : BookRow = book_row book.rulings book.held in
     let period : ℕ = open_number book in
-    let last : Tables = tables naming book sound usage done (charged_of (adopt book)) in
+    let last : Tables =
+    tables naming book sound usage done (charged_of (give SecondRuleAdopted book)) in
     let due : Tables → List ℕ → Bool = is_due_in in
     let over : Tables → Tables = λ named.
     set_rule second_rule period (walk (charge_due_step period (last_close book.rulings) (due named))

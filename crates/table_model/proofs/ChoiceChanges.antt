@@ -18,7 +18,8 @@ use Rattle.tariff_rules.specs.declared.priced.Priced.{Priced}
 use Rattle.book_model.specs.declared.answer.Ruled.TheVariants.{Done, Already}
 use Rattle.book_model.specs.declared.fault.LedgerFault.TheVariants.{NotDisputed, Full}
 use Rattle.book_model.specs.Words.{Book, open_number, charged_of, share_identity, is_unrivalled}
-use Rattle.book_model.specs.Words.{is_chosen, is_undisputed, charged_now, choose, most_choices}
+use Rattle.book_model.specs.Words.{RecordChosen, is_chosen, is_undisputed, charged_now, give}
+use Rattle.book_model.specs.Words.{most_choices}
 use Rattle.book_model.specs.Words.{Records, Naming, name_of, by_bytes, record_named}
 use Rattle.book_model.specs.Words.{Choice, price_in, identity_by, last_close, with_choice, open_by}
 use Rattle.book_model.specs.Words.{has, those, IsSound, AreAmong}
@@ -174,7 +175,7 @@ module _ (naming : Naming) (book : Book) (sound : IsSound naming book) (bytes : 
 
   -- the tables with the choice
   pub choice-tables : (cost : Priced) → price_in book.rulings bytes ≡ Some cost
-      → tables_of naming (choose bytes book)
+      → tables_of naming (give (RecordChosen bytes) book)
       ≡ put_choice (length book.rulings.choices + 1) (open_number book) (name_of naming bytes)
       (choice_effects last (current_of naming book bytes) (member_at_price naming book bytes cost))
       (tables before)
@@ -191,7 +192,7 @@ module _ (naming : Naming) (book : Book) (sound : IsSound naming book) (bytes : 
       let rows = ap (λ rows. from_entries {R = nat_cmp} (under_numbers 1 rows))
       (map-append (choice_row naming) choices (choice ∷ []))
       ∙ next_number earlier row number (omega arith) in
-      let made : tables_of naming (choose bytes book) ≡ with_row (tables now) =
+      let made : tables_of naming (give (RecordChosen bytes) book) ≡ with_row (tables now) =
       λ i. record (with_row (tables now)) { choices = rows i } in
       made
       ∙ ap (λ charged. with_row (tables charged))

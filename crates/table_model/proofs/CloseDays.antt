@@ -60,8 +60,8 @@ ended_open open_one false true false true done = cc
 ended_open open_one false true false false done = (refl, refl)
 
 -- so its number is that of the open period
-pub closed_open : (book : Book) (number : ℕ) (day : ℤ) → close_answer book number day ≡ Ok Done
-    → number ≡ open_number book
+pub closed_open : (book : Book) (number : ℕ) (day : ℤ)
+    → close_answer book.rulings number day ≡ Ok Done → number ≡ open_number book
 closed_open book number day done =
     eqb-true number (open_number book)
     (ended_open (open_number book) (is_closed number day book.rulings) (number == open_number book)

@@ -9,10 +9,10 @@ use Rattle.std.specs.Option.{option_map_or}
 use Rattle.tariff_rules.specs.declared.priced.Priced.{Priced}
 use Rattle.book_model.specs.declared.row.ChargeRow.{ChargeRow}
 use Rattle.book_model.specs.declared.row.RowKey.{RowKey}
-use Rattle.book_model.specs.Words.{IsMadeByCalls, Book, open_number, new_book, is_undisputed}
+use Rattle.book_model.specs.Words.{Book, open_number, new_book, is_undisputed}
 use Rattle.book_model.specs.Words.{is_counted_in, is_dated_after, Event, TariffAccepted}
-use Rattle.book_model.specs.Words.{PeriodClosed, RecordKept}
-use Rattle.book_model.specs.Words.{RecordChosen, SecondRuleAdopted, after, put_in_force, Terms}
+use Rattle.book_model.specs.Words.{PeriodClosed, RecordKept, RulingGiven}
+use Rattle.book_model.specs.Words.{RecordChosen, SecondRuleAdopted, after, give, Terms}
 use Rattle.book_model.specs.Words.{charged_of, chosen_answer, book_after, Records, Naming, name_of}
 use Rattle.book_model.specs.Words.{has_text, is_effective, is_later, is_too_dear, with_tariff}
 use Rattle.book_model.specs.Words.{by_bytes, by_key, row_at, no_rulings, Rulings, price_in}
@@ -25,7 +25,7 @@ use Rattle.book_model.proofs.SetLemmas.{members-empty}
 use Rattle.book_model.proofs.RecordSets.{is, has_with}
 use Rattle.book_model.proofs.SoundLemmas.{none_in, named_held}
 use Rattle.book_core.specs.Effects.{choice_effects, effects_of}
-use Rattle.table_model.specs.Changed.{changed, chosen_at, IsAnswered, kept_at, tariff_at}
+use Rattle.table_model.specs.Changed.{changed, chosen_at, kept_at, tariff_at}
 use Rattle.table_model.specs.Steps.{put_tariff_row, set_sums}
 use Rattle.table_model.specs.TablesAfter.{new_tables}
 use Rattle.table_model.specs.Laws.{EventFollows, TablesFollow}
@@ -100,11 +100,13 @@ no_entries =
 
 -- the tariff that new books begin with
 begun : (naming : Naming) (terms : Terms)
-    → tables_of naming (put_in_force None terms new_book)
-    ≡ changed naming no_rulings (TariffAccepted None terms) (tables_of naming new_book)
+    → tables_of naming (give (TariffAccepted None terms) new_book)
+    ≡ changed naming no_rulings (RulingGiven (TariffAccepted None terms))
+    (tables_of naming new_book)
 begun naming terms =
     new_under naming (record { text = None; terms = terms } ∷ []) ∙ sym no_walk
-    ∙ ap (changed naming no_rulings (TariffAccepted None terms)) (sym (new_under naming []))
+    ∙ ap (changed naming no_rulings (RulingGiven (TariffAccepted None terms)))
+    (sym (new_under naming []))
   where
     made : List (List ℕ × RecordRow) → Tables
     made es =
@@ -112,7 +114,7 @@ begun naming terms =
         (put_tariff_row terms.effective None
         (walk (reprice_step 1 terms) (map (λ (e : List ℕ × RecordRow). e.0) es) new_tables))
 
-    no_walk : changed naming no_rulings (TariffAccepted None terms) new_tables
+    no_walk : changed naming no_rulings (RulingGiven (TariffAccepted None terms)) new_tables
         ≡ record new_tables {
           tariffs = from_entries
               (tariff_entries (record { text = None; terms = terms } ∷ []));
@@ -130,7 +132,9 @@ event_follows naming book (RecordKept bytes) sound usage answered =
     (sym (view_follows naming book bytes sound))
     ∙ ap (λ price. option_map_or (λ priced. kept_at book.rulings name bytes priced tables) price
     tables) (sym cost.1)
-event_follows naming book (TariffAccepted (Some text) terms) sound usage answered =
+event_follows naming book (PeriodClosed day) sound usage answered =
+    close_follows naming book (open_number book) day sound answered
+event_follows naming book (RulingGiven (TariffAccepted (Some text) terms)) sound usage answered =
     let framed = λ (q : List ℕ) (held : has book.held q ≡ true). (usage q held).framed in
     let later = passes (list_any (has_text text) book.rulings.tariffs)
     (list_any (is_effective terms.effective) book.rulings.tariffs)
@@ -139,13 +143,11 @@ event_follows naming book (TariffAccepted (Some text) terms) sound usage answere
     tariff_follows naming book text terms sound framed answered
     ∙ ap (λ amount. tariff_at (open_number book) (Some text) terms amount (tables_of naming book))
     (sym (sum_is_read naming book text terms sound framed later))
-event_follows naming book (TariffAccepted None terms) sound usage answered =
-    subst (λ (book : Book). tables_of naming (put_in_force None terms book)
-    ≡ changed naming book.rulings (TariffAccepted None terms) (tables_of naming book)) (sym answered)
-    (begun naming terms)
-event_follows naming book (PeriodClosed day) sound usage answered =
-    close_follows naming book (open_number book) day sound answered
-event_follows naming book (RecordChosen bytes) sound usage answered =
+event_follows naming book (RulingGiven (TariffAccepted None terms)) sound usage answered =
+    subst (λ (book : Book). tables_of naming (give (TariffAccepted None terms) book)
+    ≡ changed naming book.rulings (RulingGiven (TariffAccepted None terms)) (tables_of naming book))
+    (sym answered) (begun naming terms)
+event_follows naming book (RulingGiven (RecordChosen bytes)) sound usage answered =
     let name : List ℕ = name_of naming bytes in
     let tables : Tables = tables_of naming book in
     let found = answered.1 in
@@ -160,30 +162,15 @@ event_follows naming book (RecordChosen bytes) sound usage answered =
     ∙ ap (λ found. option_map_or (λ row. chosen_at book.rulings name row tables) found tables)
     (sym (row-found naming book sound (price_in book.rulings) (identity_by book.rulings)
     (charged_of book) bytes there cost.0 cost.1))
-event_follows naming book SecondRuleAdopted sound usage answered =
+event_follows naming book (RulingGiven SecondRuleAdopted) sound usage answered =
     adoption_follows naming book sound usage answered
-
--- each event of a history that calls made is answered so
-pub answered_so : (naming : Naming) (event : Event) (older : List Event)
-    → IsMadeByCalls naming (event ∷ older)
-    → IsMadeByCalls naming older × IsAnswered naming event (book_after older)
-answered_so naming (RecordKept bytes) older made = (made.1, made.0)
-answered_so naming (TariffAccepted (Some text) terms) older made = (made.1, made.0)
-answered_so naming (TariffAccepted None terms) older made =
-    (subst (IsMadeByCalls naming) (sym made) tt, ap book_after made)
-answered_so naming (PeriodClosed day) older made = (made.1, made.0)
-answered_so naming (RecordChosen bytes) older made = (made.1, (made.0, made.2))
-answered_so naming SecondRuleAdopted older made = (made.1, made.0)
 
 -- what was held before an event is held
 held_before : (event : Event) (book : Book) (q : List ℕ) → has book.held q ≡ true
     → has (after event book).held q ≡ true
 held_before (RecordKept bytes) book q held = has_with book.held bytes q
     ∙ ap (λ b. is q bytes || b) held ∙ or-true (is q bytes)
-held_before (TariffAccepted text terms) book q held = held
-held_before (PeriodClosed day) book q held = held
-held_before (RecordChosen bytes) book q held = held
-held_before SecondRuleAdopted book q held = held
+held_before event book q held = held
 
 -- the tables of new books are those of the new book
 pub new_follow : (naming : Naming) → new_tables ≡ tables_of naming new_book
@@ -193,10 +180,9 @@ new_follow naming = sym (new_under naming [])
 pub tables_follow : TablesFollow
 tables_follow naming [] made usage = new_follow naming
 tables_follow naming (event ∷ older) made usage =
-    let answered = answered_so naming event older made in
     let before = λ (q : List ℕ) (held : has (book_after older).held q ≡ true).
     usage q (held_before event (book_after older) q held) in
     (λ i. changed naming (sym (rulings_are older) i) event
-    (tables_follow naming older answered.0 before i))
-    ∙ sym (event_follows naming (book_after older) event (sound_after naming older answered.0) before
-    answered.1)
+    (tables_follow naming older made.1 before i))
+    ∙ sym (event_follows naming (book_after older) event (sound_after naming older made.1) before
+    made.0)

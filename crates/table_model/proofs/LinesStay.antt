@@ -54,8 +54,6 @@ lines_stay = record {
   start = start_lines;
   flat = flat_lines;
   keep = keep_lines;
-  tariff = λ book text terms lines. record { framed = lines.framed; apart = lines.apart };
   close = close_lines;
-  choose = λ book bytes lines. record { framed = lines.framed; apart = lines.apart };
-  adopt = λ book lines. record { framed = lines.framed; apart = lines.apart };
+  ruling = λ book ruling lines. record { framed = lines.framed; apart = lines.apart };
 }

@@ -12,7 +12,6 @@ use Rattle.book_model.proofs.SoundLemmas.{none_in, steps_stay_sound}
 use Rattle.table_model.specs.FromCalls.{AreSubmitted}
 use Rattle.table_model.specs.ReadingLaws.{CallsRead}
 use Rattle.table_model.specs.Readable.{IsReadable, IsTexted, IsTimely}
-use Rattle.table_model.proofs.EventLemmas.{answered_so}
 use Rattle.table_model.proofs.LinesStay.{lines_stay}
 use Rattle.table_model.proofs.ReadableStays.{readable_stays}
 
@@ -59,9 +58,8 @@ readable_after : (naming : Naming) (history : List Event) → IsMadeByCalls nami
     → AreSubmitted history → IsReadable naming (book_after history)
 readable_after naming [] made submitted = new_readable naming
 readable_after naming (event ∷ older) made submitted =
-    let answered = answered_so naming event older made in
     readable_stays naming (book_after older) event
-    (readable_after naming older answered.0 submitted.1) submitted.0 answered.1
+    (readable_after naming older made.1 submitted.1) submitted.0 made.0
 
 -- the law
 pub calls_read : CallsRead

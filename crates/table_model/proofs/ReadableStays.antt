@@ -8,14 +8,15 @@ use Rattle.std.proofs.lemmas.Bool.Decides.{nat_tests}
 use Rattle.std.proofs.lemmas.List.{length-append}
 use Rattle.std.proofs.lemmas.List.Elements.{All-push, All-weaker}
 use Rattle.book_model.specs.Words.{AreDatedThrough, AcceptedTerms, Book, Choice, Event, IsDay}
-use Rattle.book_model.specs.Words.{IsSound, IsUsageRecord, Naming, PeriodClosed, RecordChosen}
-use Rattle.book_model.specs.Words.{RecordKept, Records, Rulings, SecondRuleAdopted, TariffAccepted}
-use Rattle.book_model.specs.Words.{Terms, accept_answer, accept_priced, adopt, after, choose}
+use Rattle.book_model.specs.Words.{IsAnswered, IsSound, IsUsageRecord, Naming, PeriodClosed}
+use Rattle.book_model.specs.Words.{RecordChosen, RecordKept, Records, Rulings, RulingGiven}
+use Rattle.book_model.specs.Words.{SecondRuleAdopted, TariffAccepted}
+use Rattle.book_model.specs.Words.{Terms, accept_answer, accept_priced, after, give}
 use Rattle.book_model.specs.Words.{choose_answer, chosen_answer, clashes, close, close_answer, has}
 use Rattle.book_model.specs.Words.{has_text, is_chosen, is_closed, is_early, is_effective, is_later}
 use Rattle.book_model.specs.Words.{is_too_dear, is_unrivalled, keep, last_close, last_period, members}
 use Rattle.book_model.specs.Words.{most_choices, most_cost, most_held, name_of, open_by, open_number}
-use Rattle.book_model.specs.Words.{period_by, price_in, put_in_force, record_named, terms_answer}
+use Rattle.book_model.specs.Words.{period_by, price_in, record_named, terms_answer}
 use Rattle.book_model.specs.Words.{total_of, with, with_tariff}
 use Rattle.book_model.specs.declared.answer.Accepted.TheVariants.{Kept}
 use Rattle.book_model.specs.declared.answer.Ruled.TheVariants.{Done}
@@ -26,7 +27,6 @@ use Rattle.book_model.proofs.ListLemmas.{slice_get-front}
 use Rattle.book_model.proofs.RecordSets.{one_or}
 use Rattle.book_model.proofs.SoundLemmas.{steps_stay_sound}
 use Rattle.table_model.specs.BookIn.{close_after}
-use Rattle.table_model.specs.Changed.{IsAnswered}
 use Rattle.table_model.specs.FromCalls.{ArePriced, IsReadFrom, IsSubmitted, IsSubmittedTo}
 use Rattle.table_model.specs.Readable.{IsBegun, IsChain, IsReadable, IsTexted, IsTimely, chained}
 use Rattle.table_model.specs.Tables.{BookRow}
@@ -198,7 +198,7 @@ module _ (naming : Naming) (book : Book) (whole : IsReadable naming book) where
   tariff_stays : (text : List ℕ) (terms : Terms) → IsReadFrom text terms
       → ArePriced (with_tariff (Some text) terms book.rulings) book.held
       → terms_answer book text terms ≡ Ok Done
-      → IsReadable naming (put_in_force (Some text) terms book)
+      → IsReadable naming (give (TariffAccepted (Some text) terms) book)
   tariff_stays text terms said priced done =
       let later : AcceptedTerms = record { text = Some text; terms = terms } in
       let ruled : Rulings = with_tariff (Some text) terms book.rulings in
@@ -206,10 +206,10 @@ module _ (naming : Naming) (book : Book) (whole : IsReadable naming book) where
       let there : Bool = list_any (is_effective terms.effective) book.rulings.tariffs in
       let after_all : Bool = is_later terms.effective book.rulings in
       let dear : Bool = is_too_dear ruled book.held in
-      let still = still_begun (put_in_force (Some text) terms book) (omega arith) in
+      let still = still_begun (give (TariffAccepted (Some text) terms) book) (omega arith) in
       record {
         sound = steps_stay_sound.tariff naming book text terms whole.sound done;
-        lines = lines_stay.tariff book text terms whole.lines;
+        lines = lines_stay.ruling book (TariffAccepted (Some text) terms) whole.lines;
         usage = whole.usage;
         priced = λ bytes one there price. priced bytes one there price;
         texts = All-push IsTexted book.rulings.tariffs later whole.texts
@@ -220,7 +220,7 @@ module _ (naming : Naming) (book : Book) (whole : IsReadable naming book) where
         in_order = whole.in_order;
         timely = still.0;
         adopted = still.1;
-        past = still_linked (put_in_force (Some text) terms book) refl refl refl;
+        past = still_linked (give (TariffAccepted (Some text) terms) book) refl refl refl;
         limits = record {
           held = whole.limits.held;
           cost = ltb-false most_cost (total_of ruled book.held)
@@ -231,7 +231,7 @@ module _ (naming : Naming) (book : Book) (whole : IsReadable naming book) where
       }
 
   -- a period that is closed
-  close_stays : (number : ℕ) (day : ℤ) → IsDay day → close_answer book number day ≡ Ok Done
+  close_stays : (number : ℕ) (day : ℤ) → IsDay day → close_answer book.rulings number day ≡ Ok Done
       → IsReadable naming (close day book)
   close_stays number day on done =
       let is_open : number ≡ length book.rulings.closes + 1 = closed_open book number day done in
@@ -264,7 +264,8 @@ module _ (naming : Naming) (book : Book) (whole : IsReadable naming book) where
 
   -- a record that is chosen
   choose_stays : (name bytes : List ℕ) → choose_answer naming book name ≡ Ok Done
-      → record_named naming book.held name ≡ Some bytes → IsReadable naming (choose bytes book)
+      → record_named naming book.held name ≡ Some bytes
+      → IsReadable naming (give (RecordChosen bytes) book)
   choose_stays name bytes done found =
       let tests = tests_passed (is_unrivalled book.rulings book.held bytes)
       (is_chosen book.rulings bytes) (nat_le most_choices (length book.rulings.choices))
@@ -273,20 +274,21 @@ module _ (naming : Naming) (book : Book) (whole : IsReadable naming book) where
       let more = length-append book.rulings.choices (choice ∷ []) in
       let room : length book.rulings.choices < most_choices =
       leb-false most_choices (length book.rulings.choices) tests.1 in
-      let still = still_begun (choose bytes book) (omega arith) in
+      let still = still_begun (give (RecordChosen bytes) book) (omega arith) in
       record {
         sound = steps_stay_sound.choose naming book name bytes whole.sound found;
-        lines = lines_stay.choose book bytes whole.lines;
+        lines = lines_stay.ruling book (RecordChosen bytes) whole.lines;
         usage = whole.usage;
         priced = whole.priced;
         texts = whole.texts;
         rising = whole.rising;
         days = whole.days;
         in_order = whole.in_order;
-        timely = All-push (IsTimely (choose bytes book)) book.rulings.choices choice still.0
+        timely = All-push (IsTimely (give (RecordChosen bytes) book)) book.rulings.choices choice
+            still.0
             (record { numbered = omega arith; begun = omega arith });
         adopted = still.1;
-        past = still_linked (choose bytes book) refl refl refl;
+        past = still_linked (give (RecordChosen bytes) book) refl refl refl;
         limits = record {
           held = whole.limits.held;
           cost = whole.limits.cost;
@@ -296,19 +298,19 @@ module _ (naming : Naming) (book : Book) (whole : IsReadable naming book) where
       }
 
   -- the second rule of identity that is adopted: in an earlier period, or in the open one
-  adopt_stays : IsReadable naming (adopt book)
+  adopt_stays : IsReadable naming (give SecondRuleAdopted book)
   adopt_stays = record {
     sound = steps_stay_sound.adopt naming book whole.sound;
-    lines = lines_stay.adopt book whole.lines;
+    lines = lines_stay.ruling book SecondRuleAdopted whole.lines;
     usage = whole.usage;
     priced = whole.priced;
     texts = whole.texts;
     rising = whole.rising;
     days = whole.days;
     in_order = whole.in_order;
-    timely = (still_begun (adopt book) (omega arith)).0;
+    timely = (still_begun (give SecondRuleAdopted book) (omega arith)).0;
     adopted = adopted_in book.rulings.adopted refl;
-    past = still_linked (adopt book) refl refl refl;
+    past = still_linked (give SecondRuleAdopted book) refl refl refl;
     limits = record {
       held = whole.limits.held;
       cost = whole.limits.cost;
@@ -318,23 +320,26 @@ module _ (naming : Naming) (book : Book) (whole : IsReadable naming book) where
   }
     where
       adopted_in : (before : Option ℕ) → book.rulings.adopted ≡ before → (period : ℕ)
-          → Some (unwrap_or before (open_number book)) ≡ Some period → IsBegun (adopt book) period
+          → Some (unwrap_or before (open_number book)) ≡ Some period
+          → IsBegun (give SecondRuleAdopted book) period
       adopted_in None none period is =
           let same : open_number book ≡ period = cc in
           record { numbered = omega arith; begun = omega arith }
       adopted_in (Some other) was period is =
-          (still_begun (adopt book) (omega arith)).1 period (was ∙ is)
+          (still_begun (give SecondRuleAdopted book) (omega arith)).1 period (was ∙ is)
 
 -- an event
 pub readable_stays : (naming : Naming) (book : Book) (event : Event) → IsReadable naming book
     → IsSubmittedTo book event → IsAnswered naming event book → IsReadable naming (after event book)
 readable_stays naming book (RecordKept bytes) whole handed answered =
     keep_stays naming book whole bytes handed answered
-readable_stays naming book (TariffAccepted (Some text) terms) whole handed answered =
-    tariff_stays naming book whole text terms handed.0 handed.1 answered
-readable_stays naming book (TariffAccepted None terms) whole none answered = absurd none
 readable_stays naming book (PeriodClosed day) whole handed answered =
     close_stays naming book whole (open_number book) day handed answered
-readable_stays naming book (RecordChosen bytes) whole handed answered =
+readable_stays naming book (RulingGiven (TariffAccepted (Some text) terms)) whole handed answered =
+    tariff_stays naming book whole text terms handed.0 handed.1 answered
+readable_stays naming book (RulingGiven (TariffAccepted None terms)) whole none answered =
+    absurd none
+readable_stays naming book (RulingGiven (RecordChosen bytes)) whole handed answered =
     choose_stays naming book whole (name_of naming bytes) bytes answered.0 answered.1
-readable_stays naming book SecondRuleAdopted whole handed answered = adopt_stays naming book whole
+readable_stays naming book (RulingGiven SecondRuleAdopted) whole handed answered =
+    adopt_stays naming book whole

@@ -13,7 +13,8 @@ use Rattle.std.proofs.lemmas.Option.{same_Some}
 use Rattle.std.proofs.lemmas.Int.{ints}
 use Rattle.std.proofs.lemmas.List.{map-append}
 use Rattle.book_model.specs.Words.{day_of, Terms, price_by, total_of, Book, open_number, charged_of}
-use Rattle.book_model.specs.Words.{is_dated_after, is_undisputed, put_in_force, Records, Naming}
+use Rattle.book_model.specs.Words.{is_dated_after, is_undisputed, give, TariffAccepted, Records}
+use Rattle.book_model.specs.Words.{Naming}
 use Rattle.book_model.specs.Words.{name_of, is_effective, terms_answer, Rulings, AcceptedTerms, price_in}
 use Rattle.book_model.specs.Words.{with_tariff, identity_by, last_close, has}
 use Rattle.book_model.specs.Words.{IsSound, AreAmong}
@@ -162,7 +163,7 @@ module _ (naming : Naming) (book : Book) (sound : IsSound naming book)
       (reprice_step (open_number book) terms) step_is
 
   -- the tables with the tariff
-  pub tariff-tables : tables_of naming (put_in_force (Some text) terms book)
+  pub tariff-tables : tables_of naming (give (TariffAccepted (Some text) terms) book)
       ≡ tariff_at (open_number book) (Some text) terms (total_of ruled book.held)
       (tables_of naming book)
   tariff-tables =
@@ -175,7 +176,8 @@ module _ (naming : Naming) (book : Book) (sound : IsSound naming book)
       ∙ from_entries_push int_cmp_total int_cmp-IsAntisymmetric
       (tariff_entries book.rulings.tariffs) terms.effective (Some text)
       (day_free terms.effective book.rulings.tariffs (day_free_of book text terms done)) in
-      let made : tables_of naming (put_in_force (Some text) terms book) ≡ row (tables new) =
+      let made : tables_of naming (give (TariffAccepted (Some text) terms) book)
+      ≡ row (tables new) =
       λ i. record (row (tables new)) { tariffs = tariffs i } in
       made ∙ ap row (sym walked)
 

@@ -1,15 +1,11 @@
--- What each event does to the tables, by the rulings before it; and which answer makes it an event.
-use Rattle.std.specs.Prelude.{◌≡◌, ℕ, ℤ, ◌+◌, List, length, Option, Some, None, Ok, sum_by}
+-- What each event does to the tables, by the rulings before it.
+use Rattle.std.specs.Prelude.{ℕ, ℤ, ◌+◌, List, length, Option, sum_by}
 use Rattle.std.specs.FinMap.{get, values}
 use Rattle.std.specs.Option.{option_map_or}
 use Rattle.tariff_rules.specs.declared.priced.Priced.{Priced}
-use Rattle.book_model.specs.Words.{Book, Event, RecordKept, TariffAccepted, PeriodClosed}
-use Rattle.book_model.specs.Words.{RecordChosen, SecondRuleAdopted, new_book, open_number, Naming}
-use Rattle.book_model.specs.Words.{name_of, Rulings, Terms, price_in, identity_by, last_close}
-use Rattle.book_model.specs.Words.{accept_answer, terms_answer, close_answer, choose_answer}
-use Rattle.book_model.specs.Words.{record_named, adopt_answer, second_rule, open_by}
-use Rattle.book_model.specs.declared.answer.Accepted.TheVariants.{Kept}
-use Rattle.book_model.specs.declared.answer.Ruled.TheVariants.{Done}
+use Rattle.book_model.specs.Words.{Event, RecordKept, PeriodClosed, RulingGiven, TariffAccepted}
+use Rattle.book_model.specs.Words.{RecordChosen, SecondRuleAdopted, Naming, name_of, Rulings, Terms}
+use Rattle.book_model.specs.Words.{price_in, identity_by, last_close, second_rule, open_by}
 use Rattle.book_core.specs.Effects.{effects_of, choice_effects}
 use Rattle.table_model.specs.Steps.{move_day_rows, post_rows, put_close_row, put_tariff_row}
 use Rattle.table_model.specs.Steps.{rename_rows, set_rule, set_sums}
@@ -59,23 +55,12 @@ abbrev pub changed : Naming → Rulings → Event → Tables → Tables
 changed naming ruled (RecordKept bytes) tables =
     option_map_or (λ priced. kept_at ruled (name_of naming bytes) bytes priced tables)
     (price_in ruled bytes) tables
-changed naming ruled (TariffAccepted text terms) tables =
+changed naming ruled (PeriodClosed day) tables = closed_at (open_by ruled) day tables
+changed naming ruled (RulingGiven (TariffAccepted text terms)) tables =
     tariff_at (open_by ruled) text terms (sum_by (amount_under terms) (values tables.records))
     tables
-changed naming ruled (PeriodClosed day) tables = closed_at (open_by ruled) day tables
-changed naming ruled (RecordChosen bytes) tables =
+changed naming ruled (RulingGiven (RecordChosen bytes)) tables =
     option_map_or (λ row. chosen_at ruled (name_of naming bytes) row tables)
     (get tables.records (name_of naming bytes)) tables
-changed naming ruled SecondRuleAdopted tables = adopted_at (open_by ruled) (last_close ruled) tables
-
--- The book answers the event Kept or Done. A tariff without a text is the one that new books begin
--- with; a record that is chosen is the one that is held under its name.
-abbrev pub IsAnswered : Naming → Event → Book → Type 0
-IsAnswered naming (RecordKept bytes) book = accept_answer naming book bytes ≡ Ok Kept
-IsAnswered naming (TariffAccepted (Some text) terms) book = terms_answer book text terms ≡ Ok Done
-IsAnswered naming (TariffAccepted None terms) book = book ≡ new_book
-IsAnswered naming (PeriodClosed day) book = close_answer book (open_number book) day ≡ Ok Done
-IsAnswered naming (RecordChosen bytes) book =
-    (choose_answer naming book (name_of naming bytes) ≡ Ok Done)
-    × (record_named naming book.held (name_of naming bytes) ≡ Some bytes)
-IsAnswered naming SecondRuleAdopted book = adopt_answer book second_rule ≡ Ok Done
+changed naming ruled (RulingGiven SecondRuleAdopted) tables =
+    adopted_at (open_by ruled) (last_close ruled) tables

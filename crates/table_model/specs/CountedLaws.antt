@@ -3,7 +3,8 @@ use Rattle.std.specs.Prelude.{◌≡◌, ℕ, true, List, Some, None, Ok, is_som
 use Rattle.std.specs.FinMap.{get}
 use Rattle.book_model.specs.declared.answer.Accepted.TheVariants.{Kept}
 use Rattle.book_model.specs.declared.answer.Ruled.TheVariants.{Done}
-use Rattle.book_model.specs.Words.{Book, IsSound, Naming, accept_answer, choose, chosen_answer}
+use Rattle.book_model.specs.Words.{Book, IsSound, Naming, RecordChosen, accept_answer, give}
+use Rattle.book_model.specs.Words.{chosen_answer}
 use Rattle.book_model.specs.Words.{counted_of, has, keep, last_close, name_of, record_named}
 use Rattle.book_core.specs.Effects.{is_after}
 use Rattle.table_model.specs.Differences.{NamesDifferInAtMost}
@@ -45,4 +46,4 @@ AtMostTwoNamesDiffer =
     → record_named naming book.held name ≡ Some bytes
     → chosen_answer book (Some bytes) ≡ Ok Done
     → NamesDifferInAtMost 2 (tables_of naming book).counted
-    (tables_of naming (choose bytes book)).counted
+    (tables_of naming (give (RecordChosen bytes) book)).counted

@@ -1,8 +1,8 @@
 -- Books that calls made.
 use Rattle.std.specs.Prelude.{◌≡◌, ℕ, true, List, [], ◌∷◌, Some, None, Ok}
 use Rattle.book_model.specs.Words.{IsDay, IsPriced, terms_in, Terms, IsMadeByCalls, Book, Event}
-use Rattle.book_model.specs.Words.{RecordKept, TariffAccepted, PeriodClosed, RecordChosen}
-use Rattle.book_model.specs.Words.{SecondRuleAdopted, book_after, Naming, IsUsageRecord}
+use Rattle.book_model.specs.Words.{RecordKept, PeriodClosed, RulingGiven, TariffAccepted}
+use Rattle.book_model.specs.Words.{book_after, Naming, IsUsageRecord}
 use Rattle.book_model.specs.Words.{Records, Rulings, has, price_in, with_tariff}
 use Rattle.tariff_rules.specs.declared.priced.Priced.{Priced}
 
@@ -27,12 +27,11 @@ ArePriced rulings held =
 -- and for the adoption of a rule nothing more is required than that they were answered so.
 abbrev pub IsSubmittedTo : Book → Event → Type 0
 IsSubmittedTo book (RecordKept bytes) = IsSubmitted book.rulings bytes
-IsSubmittedTo book (TariffAccepted (Some text) terms) =
-    IsReadFrom text terms × ArePriced (with_tariff (Some text) terms book.rulings) book.held
-IsSubmittedTo book (TariffAccepted None terms) = ⊥
 IsSubmittedTo book (PeriodClosed day) = IsDay day
-IsSubmittedTo book (RecordChosen bytes) = Unit {0}
-IsSubmittedTo book SecondRuleAdopted = Unit {0}
+IsSubmittedTo book (RulingGiven (TariffAccepted (Some text) terms)) =
+    IsReadFrom text terms × ArePriced (with_tariff (Some text) terms book.rulings) book.held
+IsSubmittedTo book (RulingGiven (TariffAccepted None terms)) = ⊥
+IsSubmittedTo book (RulingGiven ruling) = Unit {0}
 
 -- each event of a history was submitted to the book before it
 abbrev pub AreSubmitted : List Event → Type 0

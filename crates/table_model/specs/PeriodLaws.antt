@@ -1,8 +1,8 @@
 -- The laws of what is read: charge rows and lines are read back, and what is past stays.
 use Rattle.std.specs.Prelude.{◌≡◌, ℕ, List, Some, Ok, ℤ, slice_get}
 use Rattle.book_model.specs.Words.{IsFramed, Terms, Book, new_book, flat_book, period_of, keep}
-use Rattle.book_model.specs.Words.{put_in_force, close, lines_of, Period, Naming, rows_for}
-use Rattle.book_model.specs.Words.{terms_answer, Rulings, with_tariff, IsSound, choose, adopt}
+use Rattle.book_model.specs.Words.{Ruling, close, give, lines_of, Period, Naming, rows_for}
+use Rattle.book_model.specs.Words.{terms_answer, Rulings, with_tariff, IsSound}
 use Rattle.book_model.specs.declared.answer.Ruled.TheVariants.{Done}
 use Rattle.table_model.specs.PeriodLists.{rows_read, lines_read, HasLines}
 use Rattle.table_model.specs.TablesOf.{tables_of}
@@ -30,11 +30,8 @@ pub record LinesStay : Type 0 where
   pub flat : (terms : Terms) → HasLines (flat_book terms)
   pub keep : (book : Book) (bytes : List ℕ) → HasLines book → IsFramed bytes
       → HasLines (keep bytes book)
-  pub tariff : (book : Book) (text : List ℕ) (terms : Terms) → HasLines book
-      → HasLines (put_in_force (Some text) terms book)
   pub close : (book : Book) (day : ℤ) → HasLines book → HasLines (close day book)
-  pub choose : (book : Book) (bytes : List ℕ) → HasLines book → HasLines (choose bytes book)
-  pub adopt : (book : Book) → HasLines book → HasLines (adopt book)
+  pub ruling : (book : Book) (ruling : Ruling) → HasLines book → HasLines (give ruling book)
 
 -- the rows and lines of a period that are read by some rulings are those read by others
 pub record ReadsAlike (naming : Naming) (one other : Rulings) (period : Period) : Type 0 where

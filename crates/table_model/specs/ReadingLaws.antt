@@ -1,8 +1,7 @@
 -- The laws of books that calls made: each call keeps them so, and they are read back from their
 -- tables.
 use Rattle.std.specs.Prelude.{◌≡◌}
-use Rattle.book_model.specs.Words.{Book, new_book, Event, after, Naming}
-use Rattle.table_model.specs.Changed.{IsAnswered}
+use Rattle.book_model.specs.Words.{Book, IsAnswered, new_book, Event, after, Naming}
 use Rattle.table_model.specs.TablesOf.{tables_of}
 use Rattle.table_model.specs.BookIn.{book_in}
 use Rattle.table_model.specs.FromCalls.{IsFromCalls, IsSubmittedTo}

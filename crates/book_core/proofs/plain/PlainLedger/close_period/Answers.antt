@@ -12,7 +12,8 @@ answer_is : (g : Over) (c : After-close_answer-answer g) → c.close_answer-answ
     ≡ close_answer (book_in c.args.self.now).rulings c.args.period c.args.through
 answer_is g c =
     c.close_answer-answer.ensures
-    ∙ ap (close_answer (book_in c.args.self.now).rulings c.args.period) (day_kept c.args.through c.requires)
+    ∙ ap (close_answer (book_in c.args.self.now).rulings c.args.period)
+    (day_kept c.args.through c.requires)
 
 pub returns-then-not-is_done : goal.returns-then-not-is_done
 returns-then-not-is_done g c =
