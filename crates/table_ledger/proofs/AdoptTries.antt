@@ -1,10 +1,9 @@
 -- A rule of identity that is tried: what it answers, and what it writes.
-use Rattle.std.proofs.Common.{◌≡◌, ◌∙◌, ℕ, refl, sym, ap, Bool, true, false, Option, Ok, Err}
+use Rattle.std.proofs.Common.{◌≡◌, ◌∙◌, ℕ, refl, sym, ap, Bool, true, false, Option, Some, Ok, Err}
 use Rattle.std.specs.Prelude.{ℤ, if◌then◌else◌, ◌==◌}
 use Rattle.sqlite_trees.specs.View.{View}
-use Rattle.book_model.specs.RulingAnswers.{adopt_ruled}
-use Rattle.book_model.specs.Words.{Book, Naming, Rulings, SecondRuleAdopted, adopt_answer}
-use Rattle.book_model.specs.Words.{adopt_event, adopt_outcome, last_close, open_by}
+use Rattle.book_model.specs.Words.{Book, Naming, RulingGiven, Rulings, SecondRuleAdopted}
+use Rattle.book_model.specs.Words.{adopt_answer, adopt_outcome, if_done, last_close, open_by}
 use Rattle.book_model.specs.Words.{rule_by, second_rule, with_second_rule}
 use Rattle.book_model.specs.declared.answer.Ruled.{Ruled}
 use Rattle.book_model.specs.declared.answer.Ruled.TheVariants.{Done, Already}
@@ -22,7 +21,7 @@ use Rattle.table_ledger.proofs.StageLemmas.{IsEvent}
 use Rattle.std.proofs.lemmas.Bool.{eqb-true}
 
 -- it leaves the books open
-pub adopt_plain : (rulings : Rulings) (rule : ℕ) → LeavesOpen (adopt_ruled rulings rule)
+pub adopt_plain : (rulings : Rulings) (rule : ℕ) → LeavesOpen (adopt_answer rulings rule)
 adopt_plain rulings rule =
     opens_if (rule == rule_by rulings) (opens refl refl)
     (opens_if (rule == second_rule) (opens refl refl) (opens refl refl))
@@ -35,25 +34,25 @@ is_second true second done = cc
 is_second false true done = refl
 is_second false false done = cc
 
-done_by : (rulings : Rulings) (rule : ℕ) → adopt_ruled rulings rule ≡ Ok Done → rule ≡ second_rule
+done_by : (rulings : Rulings) (rule : ℕ) → adopt_answer rulings rule ≡ Ok Done → rule ≡ second_rule
 done_by rulings rule done =
     eqb-true rule second_rule (is_second (rule == rule_by rulings) (rule == second_rule) done)
 
 -- An adoption that is answered Done is an event.
 pub adopt_is_event : {naming : Naming} {view : View} (was : Summary) (rule : ℕ)
-    → adopt_ruled (ruled_in was.rulings) rule ≡ Ok Done → (period : ℕ) (through : Option ℤ)
+    → adopt_answer (ruled_in was.rulings) rule ≡ Ok Done → (period : ℕ) (through : Option ℤ)
     → period ≡ open_by (ruled_in was.rulings) → through ≡ last_close (ruled_in was.rulings)
     → (book : Book) → IsAt naming was view book
     → IsEvent (λ (ruled : Ruled). ruled) naming (adopt_outcome rule) Done
     (Says (with_second_rule (ruled_in was.rulings)) was.choices was.held was.total) Always
     (adopted_at period through) book
 adopt_is_event {naming = naming} was rule done period through period_is through_is book at =
-    let adopts : adopt_answer book rule ≡ Ok Done =
-    ap (λ rulings. adopt_ruled rulings rule) (sym at.remembers.rulings) ∙ done in
-    let second = ap (adopt_answer book) (sym (done_by book.rulings rule adopts)) ∙ adopts in
+    let adopts : adopt_answer book.rulings rule ≡ Ok Done =
+    ap (λ rulings. adopt_answer rulings rule) (sym at.remembers.rulings) ∙ done in
+    let second = ap (adopt_answer book.rulings) (sym (done_by book.rulings rule adopts)) ∙ adopts in
     record {
-      event = SecondRuleAdopted;
-      is = ap adopt_event adopts;
+      event = RulingGiven SecondRuleAdopted;
+      is = ap (if_done (Some (RulingGiven SecondRuleAdopted))) adopts;
       answer = adopts;
       answered = second;
       when = tt;

@@ -13,11 +13,10 @@ use Rattle.book_core.specs.Effects.{choice_effects}
 use Rattle.book_core.specs.OfficeRulings.{ruled_in}
 use Rattle.book_core.specs.declared.effects.ChoiceEffects.{ChoiceEffects}
 use Rattle.book_model.specs.Words.{Book, Naming, RecordChosen, last_close, open_by, choose_answer}
-use Rattle.book_model.specs.Words.{choose_event, choose_outcome, chosen_answer, most_choices}
-use Rattle.book_model.specs.Words.{record_named}
+use Rattle.book_model.specs.Words.{choose_outcome, chosen_answer, if_done, most_choices}
+use Rattle.book_model.specs.Words.{RulingGiven, record_named}
 use Rattle.book_model.specs.declared.answer.Ruled.{Ruled}
-use Rattle.book_model.specs.declared.answer.Ruled.TheVariants.{Done, Already}
-use Rattle.book_model.specs.declared.fault.LedgerFault.{LedgerFault}
+use Rattle.book_model.specs.declared.answer.Ruled.TheVariants.{Done}
 use Rattle.book_model.specs.declared.fault.LedgerFault.TheVariants.{NoSuchRecord}
 use Rattle.table_model.specs.Changed.{chosen_at}
 use Rattle.table_model.specs.TableChanges.{put_choice}
@@ -45,6 +44,7 @@ use Rattle.table_ledger.proofs.Answering.{opens, opens_if}
 use Rattle.table_ledger.proofs.Remembered.{Says}
 use Rattle.table_ledger.proofs.StageLemmas.{IsEvent, stage_steps}
 use Rattle.table_ledger.proofs.TryLemmas.{saw_found, saw_so, saw_then}
+use Rattle.book_core.proofs.ChosenLemmas.{meant_by}
 use Rattle.book_core.proofs.NamedLemmas.{its_name}
 
 -- a record that was found is that of its row
@@ -90,15 +90,6 @@ next_is_new : (naming : Naming) (book : Book) (number : ℕ)
 next_is_new naming book number is =
     get-from_entries nat_cmp_total (choice_entries naming 1 book.rulings.choices) number
     ∙ choice_free naming 1 number book.rulings.choices (omega (arith, is))
-
--- a record that was chosen before makes no event
-pub again_none : (found : Option (List ℕ)) (answer : Result Ruled LedgerFault)
-    → answer ≡ Ok Already → choose_event found answer ≡ None
-again_none found answer already = ap (choose_event found) already ∙ none_by found
-  where
-    none_by : (found : Option (List ℕ)) → choose_event found (Ok Already) ≡ None
-    none_by None = refl
-    none_by (Some bytes) = refl
 
 -- ---- the answer
 
@@ -164,9 +155,9 @@ module _ (naming : Naming) (was : Summary) (name : List ℕ) (view : View) (book
         let current = choices_follow.current naming book row.identity readable in
         let count = ap (λ n. n + 1) ready.remembers.choices in
         record {
-          event = RecordChosen one.0;
-          is = ap (choose_event (record_named naming book.held name)) done
-              ∙ ap (λ found. choose_event found (Ok Done)) one.1;
+          event = RulingGiven (RecordChosen one.0);
+          is = ap (if_done (meant_by (record_named naming book.held name))) done
+              ∙ ap meant_by one.1;
           answer = done;
           answered = (
             ap (choose_answer naming book) named ∙ done,

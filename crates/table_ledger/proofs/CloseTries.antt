@@ -1,13 +1,12 @@
 -- A close that is tried: what it answers, and what it writes.
 use Rattle.std.proofs.Common.{◌≡◌, ◌∙◌, ℕ, suc, ◌+◌, ◌≤◌, List, [], ◌∷◌, length, refl, sym, ap}
-use Rattle.std.proofs.Common.{false, not, Ok, Option, None, arith, cond, is_some, map, subst}
+use Rattle.std.proofs.Common.{false, not, Ok, Option, None, Some, arith, cond, is_some, map, subst}
 use Rattle.std.specs.Prelude.{ℤ, ◌==◌}
 use Rattle.std.specs.FinMap.{find, get-from_entries}
 use Rattle.std.specs.declared.cmp.Ordering.{Ordering}
 use Rattle.std.proofs.lemmas.List.{length-append, length-map}
 use Rattle.book_model.specs.Words.{IsDay, Book, all_periods, open_number, open_period, PeriodClosed}
-use Rattle.book_model.specs.Words.{last_period, close_outcome, close_event, Naming, by_key, open_by}
-use Rattle.book_model.specs.RulingAnswers.{close_ruled}
+use Rattle.book_model.specs.Words.{last_period, close_outcome, if_done, Naming, by_key, open_by}
 use Rattle.book_model.specs.Words.{close_answer, is_closed, is_early, IsSound, last_close, Rulings}
 use Rattle.book_model.specs.Words.{with_close}
 use Rattle.book_model.specs.declared.answer.Ruled.{Ruled}
@@ -37,7 +36,7 @@ use Rattle.table_ledger.proofs.StageLemmas.{IsEvent}
 
 -- it leaves the books open
 pub close_plain : (rulings : Rulings) (number : ℕ) (day : ℤ)
-    → LeavesOpen (close_ruled rulings number day)
+    → LeavesOpen (close_answer rulings number day)
 close_plain rulings number day =
     opens_if (is_closed number day rulings) (opens refl refl)
     (opens_if (not (number == open_by rulings)) (opens refl refl)
@@ -74,22 +73,22 @@ none_next naming book number sound is place =
 
 -- A close that is answered Done is an event.
 pub close_is_event : {naming : Naming} (was : Summary) {view : View} (number : ℕ) (day : ℤ)
-    (last : Option ℤ) → IsDay day → close_ruled (ruled_in was.rulings) number day ≡ Ok Done
+    (last : Option ℤ) → IsDay day → close_answer (ruled_in was.rulings) number day ≡ Ok Done
     → last ≡ last_close (ruled_in was.rulings) → (book : Book) → IsAt naming was view book
     → IsEvent (λ (ruled : Ruled). ruled) naming (close_outcome number day) Done
     (Says (with_close day (ruled_in was.rulings)) was.choices was.held was.total)
     (CanClose number last) (closed_at number day) book
 close_is_event {naming = naming} was number day last is_day answer last_is book at =
-    let done : close_answer book number day ≡ Ok Done =
-    ap (λ rulings. close_ruled rulings number day) (sym at.remembers.rulings) ∙ answer in
+    let done : close_answer book.rulings number day ≡ Ok Done =
+    ap (λ rulings. close_answer rulings number day) (sym at.remembers.rulings) ∙ answer in
     let own = closed_open book number day done in
     let sound = at.kept.readable.sound in
     let late = last_is ∙ ap last_close at.remembers.rulings in
     record {
       event = PeriodClosed day;
-      is = ap (close_event day) done;
+      is = ap (if_done (Some (PeriodClosed day))) done;
       answer = done;
-      answered = subst (λ n. close_answer book n day ≡ Ok Done) own done;
+      answered = subst (λ n. close_answer book.rulings n day ≡ Ok Done) own done;
       when = record {
         none_next = none_next naming book number sound own;
         touched = subst (λ n. PostsTouched n last (tables_of naming book)) (sym own)

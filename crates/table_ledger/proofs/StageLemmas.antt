@@ -4,9 +4,9 @@ use Rattle.std.proofs.Common.{ap, subst, true≢false}
 use Rattle.std.specs.Prelude.{IsErr}
 use Rattle.sqlite_trees.specs.declared.error.StoreError.{StoreError}
 use Rattle.book_model.specs.declared.fault.LedgerFault.{LedgerFault}
-use Rattle.book_model.specs.Words.{Book, Event, after, Outcome, Naming}
+use Rattle.book_model.specs.Words.{Book, Event, IsAnswered, after, Outcome, Naming}
 use Rattle.book_core.specs.Calls.{Makes, listed}
-use Rattle.table_model.specs.Changed.{changed, IsAnswered}
+use Rattle.table_model.specs.Changed.{changed}
 use Rattle.table_model.specs.Tables.{Tables}
 use Rattle.table_model.specs.TablesOf.{tables_of}
 use Rattle.table_model.proofs.EventLemmas.{event_follows}

@@ -7,8 +7,8 @@ use Rattle.std.specs.List.{list_any}
 use Rattle.sqlite_trees.specs.View.{View}
 use Rattle.book_model.specs.RulingAnswers.{terms_ruled}
 use Rattle.book_model.specs.Words.{IsDay, Terms, terms_in, Book, TariffAccepted, most_cost, open_by}
-use Rattle.book_model.specs.Words.{open_number, tariff_outcome, tariff_event, Naming, has_text}
-use Rattle.book_model.specs.Words.{is_effective}
+use Rattle.book_model.specs.Words.{open_number, tariff_outcome, if_done, Naming, has_text}
+use Rattle.book_model.specs.Words.{RulingGiven, is_effective}
 use Rattle.book_model.specs.Words.{is_later, tariff_answer, with_tariff, Rulings}
 use Rattle.book_model.specs.declared.answer.Ruled.{Ruled}
 use Rattle.book_model.specs.declared.answer.Ruled.TheVariants.{Done}
@@ -16,7 +16,7 @@ use Rattle.book_model.specs.declared.fault.LedgerFault.{LedgerFault}
 use Rattle.book_model.specs.declared.fault.LedgerFault.TheVariants.{Full}
 use Rattle.book_core.specs.OfficeRulings.{ruled_in}
 use Rattle.book_model.proofs.CallLemmas.{passes}
-use Rattle.book_core.proofs.TariffLemmas.{done_by, other_by}
+use Rattle.book_core.proofs.TariffLemmas.{done_by, other_by, said_by}
 use Rattle.table_model.specs.Changed.{tariff_at}
 use Rattle.table_model.specs.TableChanges.{amount_under}
 use Rattle.table_model.specs.Tables.{Tables}
@@ -138,7 +138,7 @@ module _ (summary : Summary) (text : List ℕ) (terms : Terms) where
           (λ tables. TakesTariff period terms tables × CountsRecords summary.held tables)
           (tariff_at period (Some text) terms amount) book
       tariff_is_event amount known day period number_is =
-          let event = TariffAccepted (Some text) terms in
+          let event = RulingGiven (TariffAccepted (Some text) terms) in
           let under = known can_be in
           let cost_is = room cost amount under.cost in
           let number : period ≡ open_number book =
@@ -147,8 +147,7 @@ module _ (summary : Summary) (text : List ℕ) (terms : Terms) where
           let answer = sym (ap (tariff_answer book text) said) ∙ is_done in
           record {
             event = event;
-            is = ap (λ said. tariff_event text said (tariff_answer book text (terms_in text))) said
-                ∙ ap (tariff_event text (Ok terms)) is_done;
+            is = ap (if_done (said_by text (terms_in text))) is_done ∙ ap (said_by text) said;
             answer = is_done;
             answered = answer;
             when = (

@@ -1,6 +1,5 @@
-use Rattle.std.proofs.Common.{◌∙◌, ap, refl, sym}
-use Rattle.book_model.specs.RulingAnswers.{adopt_ruled}
-use Rattle.book_model.specs.Words.{adopt_event}
+use Rattle.std.proofs.Common.{◌∙◌, Some, ap, refl, sym}
+use Rattle.book_model.specs.Words.{RulingGiven, SecondRuleAdopted, adopt_answer, if_done}
 use Rattle.book_core.specs.OfficeRulings.{ruled_in}
 use Rattle.table_ledger.proofs.AdoptTries.{adopt_is_event, adopt_plain}
 use Rattle.table_ledger.proofs.Answering.{ruled_other}
@@ -17,8 +16,8 @@ returns-then-not-is_done g c = record {
       ruled_other _ c.adopt_answer-answer.ensures
       (adopt_plain (ruled_in c.args.summary.now.rulings) c.args.rule)
       (c.is_done.ensures.other c.if-not-is_done.true) saw_none
-      (λ book at known. ap (λ rulings. adopt_ruled rulings c.args.rule) (sym at.remembers.rulings))
-      (λ book already. ap adopt_event already);
+      (λ book at known. ap (λ rulings. adopt_answer rulings c.args.rule) (sym at.remembers.rulings))
+      (λ book already. ap (if_done (Some (RulingGiven SecondRuleAdopted))) already);
 }
 
 -- the commit is refused

@@ -1,10 +1,11 @@
-use Rattle.std.proofs.Common.{◌∙◌, refl, sym}
+use Rattle.std.proofs.Common.{◌∙◌, ap, refl, sym}
 use Rattle.std.specs.Prelude.{nat_le, ◌==◌}
-use Rattle.book_model.specs.Words.{most_choices, record_named}
+use Rattle.book_model.specs.Words.{if_done, most_choices, record_named}
+use Rattle.book_core.proofs.ChosenLemmas.{meant_by}
 use Rattle.table_ledger.proofs.AcceptTries.{saw_as}
 use Rattle.table_ledger.proofs.Answering.{opens, ruled_other}
-use Rattle.table_ledger.proofs.ChoiceTries.{again_none, choice_plain, choose_none, choose_staged}
-use Rattle.table_ledger.proofs.ChoiceTries.{choose_told, saw_shared}
+use Rattle.table_ledger.proofs.ChoiceTries.{choice_plain, choose_none, choose_staged, choose_told}
+use Rattle.table_ledger.proofs.ChoiceTries.{saw_shared}
 use Rattle.table_ledger.proofs.CommitLemmas.{committed, uncommitted}
 use Rattle.table_ledger.proofs.TryLemmas.{saw_found, saw_none, try_refused}
 use Rattle.table_ledger.proofs.choices.try_choose.Goals as goal
@@ -25,7 +26,7 @@ returns-in_default g c = record {
       ruled_other _ refl (opens refl refl) (λ is. cc)
       (saw_as name c.in_default.is c.in_ok-stored.ensures.looks)
       (λ book at known. choose_none naming c.args.summary.now name _ book at known)
-      (λ book. again_none (record_named naming book.held name) _);
+      (λ book already. ap (if_done (meant_by (record_named naming book.held name))) already);
 }
 
 -- the records of its identity were not looked for
@@ -51,7 +52,7 @@ returns-then-not-is_done g c = record {
       c.in_ok-sharing.ensures.looks)
       (λ book at known. choose_told naming summary name _ book at stored known.0
       c.in_ok-sharing.sharing.items (c.len.ensures ∙ c.in_ok-sharing.sharing.ok.0) known.1)
-      (λ book. again_none (record_named naming book.held name) _);
+      (λ book already. ap (if_done (meant_by (record_named naming book.held name))) already);
 }
 
 -- what it changes was not looked up

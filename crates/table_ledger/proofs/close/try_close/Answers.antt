@@ -1,6 +1,5 @@
-use Rattle.std.proofs.Common.{◌∙◌, refl, sym, ap}
-use Rattle.book_model.specs.RulingAnswers.{close_ruled}
-use Rattle.book_model.specs.Words.{close_event, with_close}
+use Rattle.std.proofs.Common.{◌∙◌, Some, refl, sym, ap}
+use Rattle.book_model.specs.Words.{PeriodClosed, close_answer, if_done, with_close}
 use Rattle.book_core.specs.OfficeRulings.{ruled_in}
 use Rattle.table_ledger.proofs.Answering.{ruled_other}
 use Rattle.table_ledger.proofs.CloseTries.{close_is_event, close_plain}
@@ -20,8 +19,8 @@ returns-then-not-is_done g c = record {
       (close_plain (ruled_in c.args.summary.now.rulings) close.period close.through)
       (c.is_done.ensures.other c.if-not-is_done.true) saw_none
       (λ book at known.
-      ap (λ rulings. close_ruled rulings close.period close.through) (sym at.remembers.rulings))
-      (λ book already. ap (close_event close.through) already);
+      ap (λ rulings. close_answer rulings close.period close.through) (sym at.remembers.rulings))
+      (λ book already. ap (if_done (Some (PeriodClosed close.through))) already);
 }
 
 pub returns-in_err-reserve_close : goal.returns-in_err-reserve_close

@@ -1,6 +1,7 @@
 use Rattle.std.proofs.Common.{◌≢◌, ◌∙◌, Ok, ap, sym}
-use Rattle.book_model.specs.Words.{tariff_event, terms_in}
-use Rattle.book_model.specs.declared.answer.Ruled.TheVariants.{Already, Done}
+use Rattle.book_model.specs.Words.{if_done, terms_in}
+use Rattle.book_model.specs.declared.answer.Ruled.TheVariants.{Done}
+use Rattle.book_core.proofs.TariffLemmas.{said_by}
 use Rattle.table_ledger.proofs.Answering.{ruled_other}
 use Rattle.table_ledger.proofs.TariffTries.{tariff_other, tariff_plain, tariff_unread}
 use Rattle.table_ledger.proofs.TryLemmas.{saw_none}
@@ -25,8 +26,7 @@ returns-then-not-is_done g c = record {
       ruled_other _ is (tariff_plain summary text terms) other saw_none
       (λ book at known.
       tariff_other summary text terms said naming _ book at (λ done. other (is ∙ done)))
-      (λ book already. ap (tariff_event text (terms_in text)) already
-      ∙ ap (λ said. tariff_event text said (Ok Already)) said);
+      (λ book already. ap (if_done (said_by text (terms_in text))) already);
 }
 
 -- the rest is done where the tariff is put in force
