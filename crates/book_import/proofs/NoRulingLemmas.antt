@@ -4,7 +4,6 @@ use Rattle.std.proofs.Common.{Result, Ok, Err}
 use Rattle.smf_type30.specs.declared.record_class.Class.{Class}
 use Rattle.smf_type30.specs.declared.record_class.Class.TheVariants.{Usage}
 use Rattle.book_model.specs.Words.{class_of, Naming, Book, accept_answer, Event, RecordKept}
-use Rattle.book_model.specs.Words.{TariffAccepted, PeriodClosed, RecordChosen, SecondRuleAdopted}
 use Rattle.book_model.specs.Words.{after_all, accept_event}
 use Rattle.book_model.specs.declared.answer.Accepted.{Accepted}
 use Rattle.book_model.specs.declared.answer.Accepted.TheVariants.{Kept}
@@ -29,10 +28,7 @@ pub rulings_stay : (events : List Event) → AreKept events → (book : Book)
     → (after_all events book).rulings ≡ book.rulings
 rulings_stay [] kept book = refl
 rulings_stay (RecordKept bytes ∷ older) kept book = rulings_stay older kept book
-rulings_stay (TariffAccepted text terms ∷ older) kept book = absurd kept
-rulings_stay (PeriodClosed day ∷ older) kept book = absurd kept
-rulings_stay (RecordChosen bytes ∷ older) kept book = absurd kept
-rulings_stay (SecondRuleAdopted ∷ older) kept book = absurd kept
+rulings_stay (event ∷ older) kept book = absurd kept
 
 -- the event of the answer to a record, if it is one, is that it was kept
 event_kept : (bytes : List ℕ) (answer : Result Accepted LedgerFault) (older : List Event)
