@@ -1,7 +1,7 @@
 -- Which records are counted: each at most once, as it is read from its mark and its lines, and in the
 -- period of its day.
 use Rattle.std.proofs.Common.{◌≡◌, ℕ, zero, suc, ◌+◌, ◌≤◌, List, [], ◌∷◌, ◌++◌, length}
-use Rattle.std.proofs.Common.{refl, sym, ap, ◌∙◌, subst, true, false, true≢false, Bool, cond}
+use Rattle.std.proofs.Common.{refl, sym, ap, ◌∙◌, true, false, true≢false, Bool, cond}
 use Rattle.std.proofs.Common.{◌&&◌, Option, Some, None, arith}
 use Rattle.std.specs.Prelude.{All, ℤ, pos, ◌-ℤ◌, count_by, nat_lt, slice_get}
 use Rattle.std.specs.List.Sorted.{IsStrictlySortedBy}
@@ -13,8 +13,8 @@ use Rattle.std.proofs.lemmas.List.Elements.{All-weaker}
 use Rattle.std.proofs.lemmas.List.Sums.{sum_by-cons, sum_by_push}
 use Rattle.book_model.specs.Rulings.{rulings_before}
 use Rattle.book_model.specs.Words.{AreAllDatedThrough, Book, Event, IsMadeByCalls, IsSound}
-use Rattle.book_model.specs.Words.{Naming, Period, PeriodClosed, RecordChosen, RecordKept, Records}
-use Rattle.book_model.specs.Words.{Rulings, SecondRuleAdopted, TariffAccepted, all_periods, book_after}
+use Rattle.book_model.specs.Words.{Naming, Period, PeriodClosed, Records}
+use Rattle.book_model.specs.Words.{Rulings, all_periods, book_after}
 use Rattle.book_model.specs.Words.{charged_by, charged_in, charged_of, charged_through, closes}
 use Rattle.book_model.specs.Words.{counted_of, day_of_close, has, held_before, is_dated_after}
 use Rattle.book_model.specs.Words.{is_dated_in, is_dated_through, is_undisputed, last_close, open_number}
@@ -84,19 +84,11 @@ module _ (naming : Naming) (book : Book) (sound : IsSound naming book) (bytes : 
 past_once : (naming : Naming) (history : List Event) (bytes : List ℕ) → IsMadeByCalls naming history
     → times_counted (book_after history).past bytes ≤ 1
 past_once naming [] bytes answered = omega arith
-past_once naming (RecordKept new ∷ older) bytes answered = past_once naming older bytes answered.1
-past_once naming (TariffAccepted (Some text) terms ∷ older) bytes answered =
-    past_once naming older bytes answered.1
-past_once naming (TariffAccepted None terms ∷ older) bytes none =
-    subst (λ before. times_counted (book_after before).past bytes ≤ 1) (sym none) (omega arith)
-past_once naming (RecordChosen chosen ∷ older) bytes answered =
-    past_once naming older bytes answered.1
-past_once naming (SecondRuleAdopted ∷ older) bytes answered =
-    past_once naming older bytes answered.1
 past_once naming (PeriodClosed day ∷ older) bytes answered =
     let book : Book = book_after older in
     one_more naming book (sound_after naming older answered.1) bytes
     (charged_through book.rulings day book.held) (past_once naming older bytes answered.1)
+past_once naming (event ∷ older) bytes answered = past_once naming older bytes answered.1
 
 -- the law
 pub detailed_once : DetailedOnce
@@ -136,17 +128,11 @@ pub closes_rise : (naming : Naming) (history : List Event) → IsMadeByCalls nam
     → IsStrictlySortedBy int_cmp (book_after history).rulings.closes
 unfolding IsStrictlySortedBy
 closes_rise naming [] answered = tt
-closes_rise naming (RecordKept new ∷ older) answered = closes_rise naming older answered.1
-closes_rise naming (TariffAccepted (Some text) terms ∷ older) answered =
-    closes_rise naming older answered.1
-closes_rise naming (TariffAccepted None terms ∷ older) none =
-    subst (λ before. IsStrictlySortedBy int_cmp (book_after before).rulings.closes) (sym none) tt
-closes_rise naming (RecordChosen chosen ∷ older) answered = closes_rise naming older answered.1
-closes_rise naming (SecondRuleAdopted ∷ older) answered = closes_rise naming older answered.1
 closes_rise naming (PeriodClosed day ∷ older) answered =
     let book : Book = book_after older in
     rise_behind book.rulings.closes day (closes_rise naming older answered.1)
     (calls_go_forward.close book (open_number book) day answered.0)
+closes_rise naming (event ∷ older) answered = closes_rise naming older answered.1
 
 -- what a close charges is dated through it
 charged_dated : (ruled : Rulings) (through : Option ℤ) (held : Records) (bytes : List ℕ)

@@ -7,8 +7,8 @@ use Rattle.std.specs.Fmt.{decimal, signed_decimal}
 use Rattle.std.specs.Option.{ok_or, option_and_then, option_map}
 use Rattle.std.proofs.lemmas.List.{append-nil}
 use Rattle.std.proofs.lemmas.List.Sums.{sum_by-append, sum_by-cons}
-use Rattle.book_model.specs.Words.{Book, Event, Period, PeriodClosed, RecordChosen, RecordKept}
-use Rattle.book_model.specs.Words.{Records, SecondRuleAdopted, TariffAccepted, AreDatedThrough}
+use Rattle.book_model.specs.Words.{Book, Event, Period, PeriodClosed}
+use Rattle.book_model.specs.Words.{Records, AreDatedThrough}
 use Rattle.book_model.specs.Words.{all_periods, book_after, charged_of, charged_through, has}
 use Rattle.book_model.specs.Words.{is_charge, is_dated_after, last_close, life_from, life_of, net_of}
 use Rattle.book_model.specs.Words.{Naming, TrailSeen, period_by, reckoning_in, record_named}
@@ -90,14 +90,11 @@ module _ (bytes : List ℕ) where
       → TakeTurns false (life_from 1 (book_after history).past bytes)
       (has (book_after history).posted bytes)
   past_turns [] = sym (none_in bytes)
-  past_turns (RecordKept new ∷ older) = past_turns older
-  past_turns (TariffAccepted text terms ∷ older) = past_turns older
-  past_turns (RecordChosen chosen ∷ older) = past_turns older
-  past_turns (SecondRuleAdopted ∷ older) = past_turns older
   past_turns (PeriodClosed day ∷ older) =
       let book : Book = book_after older in
       one_more 1 book.past (last_close book.rulings) false book.posted
       (charged_through book.rulings day book.held) (posted_dated older) (past_turns older)
+  past_turns (event ∷ older) = past_turns older
 
 -- the law
 pub lives_take_turns : LivesTakeTurns

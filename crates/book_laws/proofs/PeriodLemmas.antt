@@ -7,8 +7,8 @@ use Rattle.std.proofs.lemmas.Int.{ints}
 use Rattle.std.proofs.lemmas.List.Elements.{All-nil, All-cons, All-append}
 use Rattle.std.proofs.lemmas.List.Sums.{sum_by_push}
 use Rattle.book_model.specs.Words.{Period, period_by, Book, all_periods, charged_of, is_dated_after}
-use Rattle.book_model.specs.Words.{charged_through, Event, RecordKept, TariffAccepted, PeriodClosed}
-use Rattle.book_model.specs.Words.{RecordChosen, SecondRuleAdopted, book_after, Records, by_bytes}
+use Rattle.book_model.specs.Words.{charged_through, Event, PeriodClosed}
+use Rattle.book_model.specs.Words.{book_after, Records, by_bytes}
 use Rattle.book_model.specs.Words.{last_close, AreDatedThrough, Naming}
 use Rattle.book_model.proofs.ListLemmas.{last_or-behind}
 use Rattle.book_model.proofs.SoundLemmas.{through_dated}
@@ -24,14 +24,11 @@ pub posted_dated : (history : List Event)
     → AreDatedThrough (last_close (book_after history).rulings) (book_after history).posted
 posted_dated [] bytes there =
     absurd (true≢false (sym there ∙ ap is_some (map.get-empty by_bytes bytes)))
-posted_dated (RecordKept new ∷ older) bytes there = posted_dated older bytes there
-posted_dated (TariffAccepted text terms ∷ older) bytes there = posted_dated older bytes there
-posted_dated (RecordChosen chosen ∷ older) bytes there = posted_dated older bytes there
-posted_dated (SecondRuleAdopted ∷ older) bytes there = posted_dated older bytes there
 posted_dated (PeriodClosed day ∷ older) bytes there =
     let book : Book = book_after older in
     ap (λ close. is_dated_after close bytes) (last_or-behind None book.rulings.closes day)
     ∙ through_dated book.rulings day book.held bytes there
+posted_dated (event ∷ older) bytes there = posted_dated older bytes there
 
 -- If each period gives and takes the difference of what is charged before it and at its end,
 -- then all periods give what is charged now, and what they take.
@@ -55,14 +52,11 @@ module _ (given taken : Period → ℕ) (standing : Records → ℕ) (none : sta
       → sum_by given (book_after history).past
       ≡ standing (book_after history).posted + sum_by taken (book_after history).past
   past_nets [] = omega arith
-  past_nets (RecordKept new ∷ older) = past_nets older
-  past_nets (TariffAccepted text terms ∷ older) = past_nets older
-  past_nets (RecordChosen chosen ∷ older) = past_nets older
-  past_nets (SecondRuleAdopted ∷ older) = past_nets older
   past_nets (PeriodClosed day ∷ older) =
       let book : Book = book_after older in
       nets_with book.past (last_close book.rulings) book.posted
       (charged_through book.rulings day book.held) (posted_dated older) (past_nets older)
+  past_nets (event ∷ older) = past_nets older
 
   -- and all periods
   pub all_nets : (history : List Event)
@@ -115,14 +109,11 @@ module _ (P : Period → Type 0)
   -- the closed periods
   past_hold : (history : List Event) → All P (book_after history).past
   past_hold [] = All-nil P
-  past_hold (RecordKept new ∷ older) = past_hold older
-  past_hold (TariffAccepted text terms ∷ older) = past_hold older
-  past_hold (RecordChosen chosen ∷ older) = past_hold older
-  past_hold (SecondRuleAdopted ∷ older) = past_hold older
   past_hold (PeriodClosed day ∷ older) =
       let book : Book = book_after older in
       one_more book.past (last_close book.rulings) book.posted
       (charged_through book.rulings day book.held) (past_hold older)
+  past_hold (event ∷ older) = past_hold older
 
   -- and all periods
   pub all_hold : (history : List Event) → All P (all_periods (book_after history))

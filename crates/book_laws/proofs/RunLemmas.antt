@@ -42,7 +42,7 @@ pub runs_make_history : RunsMakeHistory
 runs_make_history = record {
   new = λ naming was is run runs. record { answered = tt; was = was; is = is; runs = runs };
   flat = λ naming terms was is run runs.
-      record { answered = refl; was = was; is = is; runs = runs };
+      record { answered = (refl, tt); was = was; is = is; runs = runs };
   next = next_answered;
 }
 

@@ -9,8 +9,7 @@ use Rattle.std.proofs.lemmas.List.Elements.{filter-append}
 use Rattle.smf_type30.specs.Usage.{day_of}
 use Rattle.book_model.specs.declared.fault.LedgerFault.TheVariants.{NoSuchPeriod}
 use Rattle.book_model.specs.Words.{AreAllDatedThrough, Book, Event, IsMadeByCalls, Naming, Period}
-use Rattle.book_model.specs.Words.{PeriodClosed}
-use Rattle.book_model.specs.Words.{RecordChosen, RecordKept, Rulings, SecondRuleAdopted}
+use Rattle.book_model.specs.Words.{PeriodClosed, RulingGiven, Rulings}
 use Rattle.book_model.specs.Words.{TariffAccepted, book_after, is_dated_after}
 use Rattle.book_model.specs.Words.{last_close, members, no_event, open_number, period_of, period_on}
 use Rattle.book_model.specs.Words.{price_in}
@@ -58,22 +57,6 @@ pub keeps : (naming : Naming) (later earlier : List Event) (bytes : List ℕ)
     → Keeps (book_after earlier) (book_after (later ++ earlier)) bytes
 keeps naming [] earlier bytes answered early =
     record { early = early; price = refl; place = refl }
-keeps naming (RecordKept new ∷ later) earlier bytes answered early =
-    let before = keeps naming later earlier bytes answered.1 early in
-    record { early = before.early; price = before.price; place = before.place }
-keeps naming (TariffAccepted (Some text) terms ∷ later) earlier bytes answered early =
-    let before = keeps naming later earlier bytes answered.1 early in record {
-      early = before.early;
-      price = closed_prices_stay (book_after (later ++ earlier)) text terms bytes answered.0
-          before.early ∙ before.price;
-      place = before.place;
-    }
-keeps naming (TariffAccepted None terms ∷ later) earlier bytes none early =
-    let before = keeps naming later earlier bytes (subst (IsMadeByCalls naming) (sym none) tt) early in
-    let never : true ≡ false =
-    subst (λ history. is_dated_after (last_close (book_after history).rulings) bytes ≡ false) none
-    before.early in
-    absurd (true≢false never)
 keeps naming (PeriodClosed day ∷ later) earlier bytes answered early =
     let before = keeps naming later earlier bytes answered.1 early in
     let book : Book = book_after (later ++ earlier) in
@@ -84,10 +67,21 @@ keeps naming (PeriodClosed day ∷ later) earlier bytes answered early =
       price = before.price;
       place = place_stays book.rulings.closes day (day_of bytes) late ∙ before.place;
     }
-keeps naming (RecordChosen chosen ∷ later) earlier bytes answered early =
+keeps naming (RulingGiven (TariffAccepted (Some text) terms) ∷ later) earlier bytes answered
+    early =
+    let before = keeps naming later earlier bytes answered.1 early in record {
+      early = before.early;
+      price = closed_prices_stay (book_after (later ++ earlier)) text terms bytes answered.0
+          before.early ∙ before.price;
+      place = before.place;
+    }
+keeps naming (RulingGiven (TariffAccepted None terms) ∷ later) earlier bytes answered early =
     let before = keeps naming later earlier bytes answered.1 early in
-    record { early = before.early; price = before.price; place = before.place }
-keeps naming (SecondRuleAdopted ∷ later) earlier bytes answered early =
+    let never : true ≡ false =
+    subst (λ (book : Book). is_dated_after (last_close book.rulings) bytes ≡ false) answered.0
+    before.early in
+    absurd (true≢false never)
+keeps naming (event ∷ later) earlier bytes answered early =
     let before = keeps naming later earlier bytes answered.1 early in
     record { early = before.early; price = before.price; place = before.place }
 
@@ -95,17 +89,7 @@ keeps naming (SecondRuleAdopted ∷ later) earlier bytes answered early =
 pub answered_before : (naming : Naming) (later earlier : List Event)
     → IsMadeByCalls naming (later ++ earlier) → IsMadeByCalls naming earlier
 answered_before naming [] earlier answered = answered
-answered_before naming (RecordKept new ∷ later) earlier answered =
-    answered_before naming later earlier answered.1
-answered_before naming (TariffAccepted (Some text) terms ∷ later) earlier answered =
-    answered_before naming later earlier answered.1
-answered_before naming (TariffAccepted None terms ∷ later) earlier none =
-    answered_before naming later earlier (subst (IsMadeByCalls naming) (sym none) tt)
-answered_before naming (PeriodClosed day ∷ later) earlier answered =
-    answered_before naming later earlier answered.1
-answered_before naming (RecordChosen chosen ∷ later) earlier answered =
-    answered_before naming later earlier answered.1
-answered_before naming (SecondRuleAdopted ∷ later) earlier answered =
+answered_before naming (event ∷ later) earlier answered =
     answered_before naming later earlier answered.1
 
 -- A closed period stays the one of its number, with its details.

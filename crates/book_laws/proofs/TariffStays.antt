@@ -15,7 +15,7 @@ use Rattle.std.proofs.lemmas.List.Folds.{list_any-append}
 use Rattle.std.proofs.lemmas.Map.Keys.{Less-from_sorted}
 use Rattle.std.proofs.lemmas.Option.{get_or_from_slice_get, slice_get-get_or, slice_get_within}
 use Rattle.book_model.specs.Words.{AcceptedTerms, Book, Event, IsMadeByCalls, Naming, PeriodClosed}
-use Rattle.book_model.specs.Words.{RecordChosen, RecordKept, Rulings, RulingSeen, SecondRuleAdopted}
+use Rattle.book_model.specs.Words.{RulingGiven, Rulings, RulingSeen}
 use Rattle.book_model.specs.Words.{TariffAccepted, TariffSeen, Terms, begins_by, book_after}
 use Rattle.book_model.specs.Words.{in_force_from, tariff_seen, tariffs_from, tariffs_in, tariffs_seen}
 use Rattle.book_model.specs.Words.{tariffs_through}
@@ -171,25 +171,6 @@ pub keeps_tariffs : (naming : Naming) (later earlier : List Event) (k : ℕ)
     → k < length (book_after earlier).rulings.closes
     → KeepsTariffs k (book_after earlier) (book_after (later ++ earlier))
 keeps_tariffs naming [] earlier k answered within = record { within = within; same = refl }
-keeps_tariffs naming (RecordKept new ∷ later) earlier k answered within =
-    let before = keeps_tariffs naming later earlier k answered.1 within in
-    record { within = before.within; same = before.same }
-keeps_tariffs naming (TariffAccepted (Some text) terms ∷ later) earlier k answered within =
-    let before = keeps_tariffs naming later earlier k answered.1 within in
-    let book : Book = book_after (later ++ earlier) in record {
-      within = before.within;
-      same =
-          tariff_leaves book.rulings.closes book.rulings.tariffs text terms k
-          (closes_rise naming (later ++ earlier) answered.1) before.within
-          (calls_go_forward.tariff book text terms answered.0)
-          ∙ before.same;
-    }
-keeps_tariffs naming (TariffAccepted None terms ∷ later) earlier k none within =
-    let before =
-    keeps_tariffs naming later earlier k (subst (IsMadeByCalls naming) (sym none) tt) within in
-    let never = subst (λ history. k < length (book_after history).rulings.closes) none
-    before.within in
-    absurd (omega arith)
 keeps_tariffs naming (PeriodClosed day ∷ later) earlier k answered within =
     let before = keeps_tariffs naming later earlier k answered.1 within in
     let book : Book = book_after (later ++ earlier) in
@@ -199,10 +180,22 @@ keeps_tariffs naming (PeriodClosed day ∷ later) earlier k answered within =
       same = close_leaves book.rulings.closes book.rulings.tariffs day k before.within
           ∙ before.same;
     }
-keeps_tariffs naming (RecordChosen chosen ∷ later) earlier k answered within =
+keeps_tariffs naming (RulingGiven (TariffAccepted (Some text) terms) ∷ later) earlier k answered
+    within =
     let before = keeps_tariffs naming later earlier k answered.1 within in
-    record { within = before.within; same = before.same }
-keeps_tariffs naming (SecondRuleAdopted ∷ later) earlier k answered within =
+    let book : Book = book_after (later ++ earlier) in record {
+      within = before.within;
+      same =
+          tariff_leaves book.rulings.closes book.rulings.tariffs text terms k
+          (closes_rise naming (later ++ earlier) answered.1) before.within
+          (calls_go_forward.tariff book text terms answered.0)
+          ∙ before.same;
+    }
+keeps_tariffs naming (RulingGiven (TariffAccepted None terms) ∷ later) earlier k answered within =
+    let before = keeps_tariffs naming later earlier k answered.1 within in
+    let never = subst (λ (book : Book). k < length book.rulings.closes) answered.0 before.within in
+    absurd (omega arith)
+keeps_tariffs naming (event ∷ later) earlier k answered within =
     let before = keeps_tariffs naming later earlier k answered.1 within in
     record { within = before.within; same = before.same }
 

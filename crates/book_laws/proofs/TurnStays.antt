@@ -1,6 +1,6 @@
 -- What a record's life has before a closed period stays.
 use Rattle.std.proofs.Common.{◌≡◌, ℕ, suc, ◌+◌, ◌≤◌, List, [], ◌∷◌, ◌++◌, length, refl, sym, ap, ◌∙◌}
-use Rattle.std.proofs.Common.{subst, true, false, Bool, cond, ◌&&◌, Some, None, arith}
+use Rattle.std.proofs.Common.{true, false, Bool, cond, ◌&&◌, None, arith}
 use Rattle.std.specs.Prelude.{filter, nat_lt}
 use Rattle.std.specs.List.{last_or}
 use Rattle.std.specs.Option.{option_map}
@@ -11,7 +11,6 @@ use Rattle.book_model.specs.declared.trail.Deed.{Deed}
 use Rattle.book_model.specs.declared.trail.Deed.TheVariants.{Added, Charged, Reversed}
 use Rattle.book_model.specs.declared.trail.Turn.{Turn}
 use Rattle.book_model.specs.Words.{Book, Event, IsMadeByCalls, Naming, Period, PeriodClosed}
-use Rattle.book_model.specs.Words.{RecordChosen, RecordKept, SecondRuleAdopted, TariffAccepted}
 use Rattle.book_model.specs.Words.{book_after, charged_before, charged_through, has, is_charge}
 use Rattle.book_model.specs.Words.{last_close, life_from, life_of, open_period, period_by, turn_if}
 use Rattle.book_model.specs.Words.{turns_in}
@@ -74,16 +73,6 @@ module _ (number : ℕ) (bytes : List ℕ) where
       → IsMadeByCalls naming (later ++ earlier) → number ≤ length (book_after earlier).past
       → KeepsTurns number bytes (book_after earlier) (book_after (later ++ earlier))
   keeps_turns naming [] earlier answered long = record { long = long; same = refl }
-  keeps_turns naming (RecordKept new ∷ later) earlier answered long =
-      let before = keeps_turns naming later earlier answered.1 long in
-      record { long = before.long; same = before.same }
-  keeps_turns naming (TariffAccepted (Some text) terms ∷ later) earlier answered long =
-      let before = keeps_turns naming later earlier answered.1 long in
-      record { long = before.long; same = before.same }
-  keeps_turns naming (TariffAccepted None terms ∷ later) earlier none long =
-      let before =
-      keeps_turns naming later earlier (subst (IsMadeByCalls naming) (sym none) tt) long in
-      record { long = before.long; same = before.same }
   keeps_turns naming (PeriodClosed day ∷ later) earlier answered long =
       let before = keeps_turns naming later earlier answered.1 long in
       let book : Book = book_after (later ++ earlier) in
@@ -94,10 +83,7 @@ module _ (number : ℕ) (bytes : List ℕ) where
         long = omega arith;
         same = one_later 1 book.past ended (omega arith) ∙ before.same;
       }
-  keeps_turns naming (RecordChosen chosen ∷ later) earlier answered long =
-      let before = keeps_turns naming later earlier answered.1 long in
-      record { long = before.long; same = before.same }
-  keeps_turns naming (SecondRuleAdopted ∷ later) earlier answered long =
+  keeps_turns naming (event ∷ later) earlier answered long =
       let before = keeps_turns naming later earlier answered.1 long in
       record { long = before.long; same = before.same }
 

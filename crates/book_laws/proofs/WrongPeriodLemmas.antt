@@ -11,8 +11,8 @@ use Rattle.smf_text.specs.PackedDate as packed
 use Rattle.smf_type30.specs.Usage as usage
 use Rattle.book_model.specs.Words.{day_of, Period, period_by, Book, conflict, is_undisputed}
 use Rattle.book_model.specs.Words.{is_dated_through, is_dated_after, charged_now, charged_through, Event}
-use Rattle.book_model.specs.Words.{RecordKept, TariffAccepted, PeriodClosed, RecordChosen}
-use Rattle.book_model.specs.Words.{SecondRuleAdopted, book_after, Records, by_bytes, Rulings}
+use Rattle.book_model.specs.Words.{RecordKept, PeriodClosed}
+use Rattle.book_model.specs.Words.{book_after, Records, by_bytes, Rulings}
 use Rattle.book_model.specs.Words.{no_rulings, last_close, set_of, has, without}
 use Rattle.book_model.proofs.SetLemmas.{has-set_of, any-members}
 use Rattle.book_model.proofs.RecordSets.{is, has_those}
@@ -24,14 +24,11 @@ use Rattle.book_laws.proofs.NetLemmas.{has_without, in_counted, in_added, charge
 -- the periods of the book are made as they are defined
 past_is : (history : List Event) → closed_periods_by as_defined history ≡ (book_after history).past
 past_is [] = refl
-past_is (RecordKept bytes ∷ older) = past_is older
-past_is (TariffAccepted text terms ∷ older) = past_is older
-past_is (RecordChosen bytes ∷ older) = past_is older
-past_is (SecondRuleAdopted ∷ older) = past_is older
 past_is (PeriodClosed day ∷ older) =
     let book : Book = book_after older in
     ap (λ past. past ++ as_defined (last_close book.rulings) book.posted
     (charged_through book.rulings day book.held) ∷ []) (past_is older)
+past_is (event ∷ older) = past_is older
 
 right : ChargedOnceBy as_defined
 right history bytes =

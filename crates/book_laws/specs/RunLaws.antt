@@ -1,7 +1,8 @@
 -- The laws of runs: what any list of requests leaves behind.
 use Rattle.std.specs.Prelude.{◌≡◌, ◌&&◌, ℕ, Bool, List, [], ◌∷◌, None, Some, pos}
 use Rattle.book_model.specs.Words.{Terms, has, Naming, is_undisputed, Book, new_book, flat_book}
-use Rattle.book_model.specs.Words.{all_periods, Event, TariffAccepted, book_after, book_of}
+use Rattle.book_model.specs.Words.{all_periods, Event, RulingGiven, TariffAccepted, book_after}
+use Rattle.book_model.specs.Words.{book_of}
 use Rattle.book_model.specs.Words.{IsMadeByCalls, rulings_in, record_batches}
 use Rattle.book_laws.specs.NetCounts.{net_count, one_if}
 use Rattle.book_laws.specs.HistoryLaws.{IsBalanced}
@@ -17,7 +18,7 @@ pub record RunsMakeHistory : Type 0 where
       → IsRunOn naming new_book was run is → IsRunAfter naming [] run
   pub flat : (naming : Naming) (terms : Terms) (was is : Bool) (run : Run)
       → IsRunOn naming (flat_book terms) was run is
-      → IsRunAfter naming (TariffAccepted None terms ∷ []) run
+      → IsRunAfter naming (RulingGiven (TariffAccepted None terms) ∷ []) run
   pub next : (naming : Naming) (history : List Event) (run : Run)
       → IsRunAfter naming history run → IsMadeByCalls naming (history_with history run)
 

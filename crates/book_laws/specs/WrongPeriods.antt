@@ -2,8 +2,7 @@
 -- false.
 use Rattle.std.specs.Prelude.{◌≡◌, ℕ, List, [], ◌∷◌, ◌++◌, Option, ℤ, pos}
 use Rattle.book_model.specs.Words.{Period, period_by, Book, charged_now, charged_through, Event}
-use Rattle.book_model.specs.Words.{RecordKept, TariffAccepted, PeriodClosed, RecordChosen}
-use Rattle.book_model.specs.Words.{SecondRuleAdopted, book_after, Records, by_bytes, last_close}
+use Rattle.book_model.specs.Words.{PeriodClosed, book_after, Records, by_bytes, last_close}
 use Rattle.book_model.specs.Words.{set_of, has, without}
 use Rattle.book_laws.specs.NetCounts.{net_count, one_if}
 
@@ -15,14 +14,11 @@ PeriodDefinition = Option ℤ → Records → Records → Period
 -- the closed periods of a history, made so
 abbrev pub closed_periods_by : PeriodDefinition → List Event → List Period
 closed_periods_by make [] = []
-closed_periods_by make (RecordKept bytes ∷ older) = closed_periods_by make older
-closed_periods_by make (TariffAccepted text terms ∷ older) = closed_periods_by make older
-closed_periods_by make (RecordChosen bytes ∷ older) = closed_periods_by make older
-closed_periods_by make (SecondRuleAdopted ∷ older) = closed_periods_by make older
 closed_periods_by make (PeriodClosed day ∷ older) =
     let book : Book = book_after older in
     closed_periods_by make older
     ++ make (last_close book.rulings) book.posted (charged_through book.rulings day book.held) ∷ []
+closed_periods_by make (event ∷ older) = closed_periods_by make older
 
 -- all its periods, the open one last
 abbrev pub all_periods_by : PeriodDefinition → List Event → List Period
