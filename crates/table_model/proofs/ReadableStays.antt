@@ -212,8 +212,13 @@ module _ (naming : Naming) (book : Book) (whole : IsReadable naming book) where
         lines = lines_stay.ruling book (TariffAccepted (Some text) terms) whole.lines;
         usage = whole.usage;
         priced = λ bytes one there price. priced bytes one there price;
-        texts = All-push IsTexted book.rulings.tariffs later whole.texts
-            (record { text = text; is = refl; said = said.said; day = said.day });
+        texts = All-push IsTexted book.rulings.tariffs later whole.texts (record {
+          text = text;
+          is = refl;
+          characters = said.characters;
+          said = said.said;
+          day = said.day;
+        });
         rising = rising-behind book.rulings.tariffs later whole.rising
             (later-before terms.effective book.rulings (passes told there after_all dear done));
         days = whole.days;

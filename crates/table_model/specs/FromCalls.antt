@@ -1,5 +1,6 @@
 -- Books that calls made.
 use Rattle.std.specs.Prelude.{◌≡◌, ℕ, true, List, [], ◌∷◌, Some, None, Ok}
+use Rattle.std.specs.Str.{IsUtf8}
 use Rattle.book_model.specs.Words.{IsDay, IsPriced, terms_in, Terms, IsMadeByCalls, Book, Event}
 use Rattle.book_model.specs.Words.{RecordKept, PeriodClosed, RulingGiven, TariffAccepted}
 use Rattle.book_model.specs.Words.{book_after, Naming, IsUsageRecord}
@@ -11,8 +12,9 @@ pub record IsSubmitted (rulings : Rulings) (bytes : List ℕ) : Type 0 where
   pub usage : IsUsageRecord bytes
   pub priced : (priced : Priced) → price_in rulings bytes ≡ Some priced → IsPriced priced
 
--- A tariff that a call submits: its text says its terms, from a day on.
+-- A tariff that a call submits: its text is of characters, and says its terms, from a day on.
 pub record IsReadFrom (text : List ℕ) (terms : Terms) : Type 0 where
+  pub characters : IsUtf8 text
   pub said : terms_in text ≡ Ok terms
   pub day : IsDay terms.effective
 

@@ -12,20 +12,13 @@ use Rattle.tariff_rules.specs.declared.priced.Priced.{Priced}
 use Rattle.table_model.specs.PeriodLists.{HasLines}
 use Rattle.table_model.specs.BookIn.{close_after}
 
--- a tariff has a text, which says its terms, and a first day
+-- a tariff has a text of characters, which says its terms, and a first day
 pub record IsTexted (tariff : AcceptedTerms) : Type 0 where
   pub text : List ℕ
   pub is : tariff.text ≡ Some text
+  pub characters : IsUtf8 text
   pub said : terms_in text ≡ Ok tariff.terms
   pub day : IsDay tariff.terms.effective
-
--- the text of a tariff, if it came with one, consists of characters
-abbrev pub IsOfCharacters : AcceptedTerms → Type 0
-IsOfCharacters tariff = (text : List ℕ) → tariff.text ≡ Some text → IsUtf8 text
-
--- so do the texts of all tariffs, like any text that is given to a call
-abbrev pub HasTexts : Book → Type 0
-HasTexts book = All IsOfCharacters book.rulings.tariffs
 
 -- this many periods, each made of what was charged before it and at its end
 abbrev pub chained : ℕ → List ℤ → (ℕ → Records) → List Period
