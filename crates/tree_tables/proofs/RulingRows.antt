@@ -3,28 +3,26 @@ use Rattle.std.proofs.Common.{◌≤◌, ◌+◌, ◌∷◌, [], ℕ, suc, ℤ, 
 use Rattle.std.specs.List.{AllByRecursion}
 use Rattle.std.proofs.lemmas.List.Elements.{All-head, All-tail}
 use Rattle.book_model.specs.Words.{AcceptedTerms, IsDay, last_period}
-use Rattle.table_model.specs.Readable.{IsOfCharacters, IsTexted}
+use Rattle.table_model.specs.Readable.{IsTexted}
 use Rattle.table_model.specs.TablesOf.{close_entries, tariff_entries}
 use Rattle.tree_tables.specs.Columns.{closed_columns, tariff_columns, tariff_value}
 use Rattle.tree_tables.specs.Fits.{CloseFits, TariffFits}
 
 -- the row of a tariff with a text of characters
-pub tariff_fits : (tariff : AcceptedTerms) → IsTexted tariff → IsOfCharacters tariff
+pub tariff_fits : (tariff : AcceptedTerms) → IsTexted tariff
     → TariffFits (tariff_columns (tariff.terms.effective, tariff.text))
-tariff_fits tariff texted characters = record {
+tariff_fits tariff texted = record {
   day = (tariff.terms.effective, texted.day, refl);
-  text = (texted.text, characters texted.text texted.is, ap tariff_value texted.is);
+  text = (texted.text, texted.characters, ap tariff_value texted.is);
 }
 
 -- so do those of more of them
-pub tariffs_fit : (tariffs : List AcceptedTerms) → All IsTexted tariffs → All IsOfCharacters tariffs
+pub tariffs_fit : (tariffs : List AcceptedTerms) → All IsTexted tariffs
     → AllByRecursion TariffFits (map tariff_columns (tariff_entries tariffs))
-tariffs_fit [] texted characters = tt
-tariffs_fit (tariff ∷ tariffs) texted characters = (
-  tariff_fits tariff (All-head IsTexted tariff tariffs texted)
-      (All-head IsOfCharacters tariff tariffs characters),
-  tariffs_fit tariffs (All-tail IsTexted tariff tariffs texted)
-      (All-tail IsOfCharacters tariff tariffs characters),
+tariffs_fit [] texted = tt
+tariffs_fit (tariff ∷ tariffs) texted = (
+  tariff_fits tariff (All-head IsTexted tariff tariffs texted),
+  tariffs_fit tariffs (All-tail IsTexted tariff tariffs texted),
 )
 
 -- the rows of closes, up to the last possible period
