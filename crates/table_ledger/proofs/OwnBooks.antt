@@ -18,7 +18,7 @@ use Rattle.book_model.specs.declared.fault.LedgerFault.{LedgerFault}
 use Rattle.book_model.specs.declared.fault.LedgerFault.TheVariants.{Memory, Store}
 use Rattle.table_model.specs.Tables.{Tables}
 use Rattle.table_model.specs.TablesOf.{close_entries, tables_of, tariff_entries}
-use Rattle.table_model.specs.Readable.{HasTexts, IsReadable, IsTexted}
+use Rattle.table_model.specs.Readable.{IsReadable, IsTexted}
 use Rattle.table_model.proofs.RulingsReading.{tariffs_kept}
 use Rattle.table_model.proofs.UnderNumbers.{entries-numbers}
 use Rattle.tree_rows.proofs.Failing.{caused_after}
@@ -126,9 +126,9 @@ tariffs_few (tariff ∷ tariffs) rising texted =
     within n day is few = grind (arith, ints)
 
 -- so the rows of books that can be read back can be listed
-pub can_be_listed : (naming : Naming) (book : Book) → IsReadable naming book → HasTexts book
+pub can_be_listed : (naming : Naming) (book : Book) → IsReadable naming book
     → CanBeListed (tables_of naming book)
-can_be_listed naming book whole texts =
+can_be_listed naming book whole =
     let tariffs = book.rulings.tariffs in
     let closes = book.rulings.closes in
     let texted = whole.texts in
@@ -138,7 +138,7 @@ can_be_listed naming book whole texts =
     let many = tariffs_few tariffs whole.rising texted in
     record {
       tariffs = record {
-        fit = subst (AllByRecursion TariffFits) rows (tariffs_fit tariffs texted texts);
+        fit = subst (AllByRecursion TariffFits) rows (tariffs_fit tariffs texted);
         few = subst (λ (rows : List Row). length rows ≤ 2 ^ 32) rows
             (subst (λ n. n ≤ 2 ^ 32) (sym (tariffs_many tariffs)) many);
       };
@@ -196,7 +196,7 @@ cause_told old middle new Unstorable fault rest cause one two clean kind served 
 pub own_answer : (old new : State) (answer : Result Summary LedgerFault)
     → Looks (Ok answer) old new IsLoaded → ReadsItsOwn answer old new
 own_answer old new (Ok summary) looks = tt
-own_answer old new (Err fault) looks = λ naming clean book whole texts keeping.
+own_answer old new (Err fault) looks = λ naming clean book whole keeping.
     let known = (looks.found clean).known (tables_of naming book) keeping.holds in
     elim known.0 [
       | inl memory ↦ inl memory
@@ -213,7 +213,7 @@ pub own_refused : (old middle new : State) (error : StoreError) (fault : LedgerF
     → (HasCleanDisk new → IsTrue new.view.is_open → new.view.is_broken ≡ false)
     → ReadsItsOwn (Err fault) old new
 own_refused old middle new error fault cause one two kind served mended naming clean book whole
-    texts keeping =
+    keeping =
     cause_told old middle new error fault keeping.rest
     (cause (clean_before two clean) (tables_of naming book) keeping.holds
-    (can_be_listed naming book whole texts)) one two clean kind (served clean) (mended clean)
+    (can_be_listed naming book whole)) one two clean kind (served clean) (mended clean)

@@ -4,6 +4,7 @@ use Rattle.std.proofs.Common.{Bool, true, false, not, Ok, Err, Option, Some, Non
 use Rattle.std.specs.Prelude.{if◌then◌else◌, nat_lt, sum_by}
 use Rattle.std.specs.FinMap.{values}
 use Rattle.std.specs.List.{list_any}
+use Rattle.std.specs.Str.{IsUtf8}
 use Rattle.sqlite_trees.specs.View.{View}
 use Rattle.book_model.specs.RulingAnswers.{terms_ruled}
 use Rattle.book_model.specs.Words.{IsDay, Terms, terms_in, Book, TariffAccepted, most_cost, open_by}
@@ -131,13 +132,13 @@ module _ (summary : Summary) (text : List ℕ) (terms : Terms) where
       tariff_full known = decided true (no_room cost (known can_be).cost)
 
       -- A tariff that is answered Done is an event.
-      pub tariff_is_event : (amount : ℕ) → Found (Some amount)
+      pub tariff_is_event : (amount : ℕ) → Found (Some amount) → IsUtf8 text
           → IsDay terms.effective → (period : ℕ) → period ≡ open_by ruled
           → IsEvent (λ (ruled : Ruled). ruled) naming (tariff_outcome text) Done
           (Says (with_tariff (Some text) terms ruled) summary.choices summary.held amount)
           (λ tables. TakesTariff period terms tables × CountsRecords summary.held tables)
           (tariff_at period (Some text) terms amount) book
-      tariff_is_event amount known day period number_is =
+      tariff_is_event amount known utf8 day period number_is =
           let event = RulingGiven (TariffAccepted (Some text) terms) in
           let under = known can_be in
           let cost_is = room cost amount under.cost in
@@ -163,7 +164,7 @@ module _ (summary : Summary) (text : List ℕ) (terms : Terms) where
               sym ready.remembers.held,
             );
             submitted = (
-              record { said = said; day = day },
+              record { characters = utf8; said = said; day = day },
               terms_follow.priced naming book text terms readable answer (under.can refl),
             );
             changes = λ i. tariff_at (number i) (Some text) terms (cost_is.1 i)

@@ -17,7 +17,7 @@ use Rattle.book_core.specs.Ledgers.{IsOpenAt, Seen}
 use Rattle.table_model.specs.Tables.{Tables, first_rule, never_adopted}
 use Rattle.table_model.specs.TablesOf.{close_entries, tables_of}
 use Rattle.table_model.specs.BookIn.{rulings_of_tables, tariff_read}
-use Rattle.table_model.specs.Readable.{HasTexts, IsReadable}
+use Rattle.table_model.specs.Readable.{IsReadable}
 use Rattle.tree_rows.specs.Runs.{RowsFit}
 use Rattle.tree_tables.specs.Answers.{last_number}
 use Rattle.tree_tables.specs.Columns.{closed_columns, tariff_columns}
@@ -168,7 +168,7 @@ OpensStored naming old new seen =
 -- such a book is refused for such a cause alone
 abbrev pub RefusesForCause : Naming → State → State → LedgerFault → Type 0
 RefusesForCause naming old new fault =
-    HasCleanDisk new → (book : Book) → IsReadable naming book → HasTexts book
+    HasCleanDisk new → (book : Book) → IsReadable naming book
     → Stores old.view (tables_of naming book) → IsOpenCause old new fault
 
 -- so it is when the summary is read

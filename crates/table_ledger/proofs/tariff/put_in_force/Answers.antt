@@ -40,7 +40,7 @@ returns-in_err-commit_written g c = record {
       (saw_found (rw c.in-Some.is at c.in_ok-amount.ensures.looks)))
       c.write_tariff-written.ensures
       (λ book at known. tariff_is_event c.args.summary.now c.args.text.now c.args.tariff
-      c.requires.said naming _ book at c.requires.done c.in-Some.amount known.1 day
+      c.requires.said naming _ book at c.requires.done c.in-Some.amount known.1 c.utf8.text day
       c.open_number-period.result c.open_number-period.ensures.number))
       c.in_err-commit_written.ensures
       (remembers_same c.in_ok-own.ensures.same refl refl refl);
@@ -58,7 +58,7 @@ returns g c = record {
       (saw_found (rw c.in-Some.is at c.in_ok-amount.ensures.looks)))
       c.write_tariff-written.ensures
       (λ book at known. tariff_is_event c.args.summary.now c.args.text.now terms
-      c.requires.said naming _ book at c.requires.done c.in-Some.amount known.1 day
+      c.requires.said naming _ book at c.requires.done c.in-Some.amount known.1 c.utf8.text day
       c.open_number-period.result c.open_number-period.ensures.number))
       c.in_ok-commit_written.ensures (record {
         rulings = c.put_tariff.ensures ∙ (λ i. with_tariff (Some (c.in_ok-own.ensures.own i)) terms

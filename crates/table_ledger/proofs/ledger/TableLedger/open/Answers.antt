@@ -26,12 +26,12 @@ returns-in-Err-clause-found g c = λ none clean tables holds.
     (subst (λ store. Holds (g.S.Store.view store).trees tables) (sym c.over-tables.ensures) holds))
 
 pub returns-in-Err-clause-own : goal.returns-in-Err-clause-own
-returns-in-Err-clause-own g c = λ clean book whole texts keeping.
+returns-in-Err-clause-own g c = λ clean book whole keeping.
     let names = g.N.Naming.name_of c.args.naming in
     let fault = c.in-Err.fault in
     let own = c.in-Err.ensures.own names
     (subst (λ store. HasCleanDisk (state g.S.Store store)) c.into_store.ensures.same clean) book
-    whole texts
+    whole
     (subst (λ store. Stores (g.S.Store.view store) (tables_of names book))
     (sym c.over-tables.ensures) keeping) in
     subst (λ store. IsOpenCause (state g.S.Store store) (state g.S.Store c.into_store.result) fault)
