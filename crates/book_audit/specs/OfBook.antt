@@ -4,7 +4,7 @@ use Rattle.std.specs.FinMap.{entries}
 use Rattle.sha2.specs.Sha256.{sha256}
 use Rattle.sqlite_trees.specs.Tree.{Trees}
 use Rattle.book_model.specs.Words.{Book, Naming, members}
-use Rattle.table_model.specs.Readable.{HasTexts, IsReadable}
+use Rattle.table_model.specs.Readable.{IsReadable}
 use Rattle.table_model.specs.TablesOf.{tables_of}
 use Rattle.tree_tables.specs.Holds.{Holds}
 use Rattle.book_audit.specs.declared.audited.Counts.{Counts}
@@ -17,7 +17,6 @@ sha_names = sha256
 pub record AreOfBook (naming : Naming) (trees : Trees) (counts : Counts) : Type 0 where
   pub book : Book
   pub readable : IsReadable naming book
-  pub texts : HasTexts book
   pub holds : Holds trees (tables_of naming book)
   pub records : counts.records ≡ length (members book.held)
   pub tariffs : counts.tariffs ≡ length book.rulings.tariffs

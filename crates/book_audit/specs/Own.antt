@@ -6,7 +6,7 @@ use Rattle.sqlite_trees.specs.View.{IsClean}
 use Rattle.sqlite_trees.specs.declared.error.StoreError.{StoreError}
 use Rattle.sqlite_trees.specs.declared.store.Store.{Ghosts}
 use Rattle.book_model.specs.Words.{Book, Event, IsMadeByCalls, book_after}
-use Rattle.table_model.specs.Readable.{HasTexts, IsReadable}
+use Rattle.table_model.specs.Readable.{IsReadable}
 use Rattle.table_model.specs.TablesOf.{tables_of}
 use Rattle.tree_rows.specs.Calls.{IsCausedByStore}
 use Rattle.tree_tables.specs.Holds.{Holds}
@@ -26,7 +26,6 @@ pub record AreOwn (trees : Trees) : Type 0 where
   pub answered : IsMadeByCalls sha_names history
   pub left : book ≡ book_after history
   pub readable : IsReadable sha_names book
-  pub texts : HasTexts book
   pub holds : Holds trees (tables_of sha_names book)
 
 -- what stops an audit finds nothing wrong

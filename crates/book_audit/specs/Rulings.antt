@@ -6,7 +6,7 @@ use Rattle.std.specs.Option.{option_map_or}
 use Rattle.std.specs.Ordering.{int_cmp}
 use Rattle.sqlite_value.specs.Order.{Row}
 use Rattle.book_model.specs.Words.{AcceptedTerms, IsDay, Terms}
-use Rattle.table_model.specs.Readable.{IsOfCharacters, IsTexted}
+use Rattle.table_model.specs.Readable.{IsTexted}
 use Rattle.table_model.specs.TablesOf.{close_entries, tariff_entries}
 use Rattle.tree_tables.specs.Columns.{book_columns, closed_columns, tariff_columns}
 use Rattle.tree_tables.specs.declared.closed_rows.Close.{Close}
@@ -52,5 +52,4 @@ pub record AreTariffs (rows : List Row) (tariffs : List Terms) : Type 0 where
   pub are : rows ≡ map tariff_columns (tariff_entries accepted)
   pub terms : map (λ tariff. tariff.terms) accepted ≡ tariffs
   pub texts : AllByRecursion IsTexted accepted
-  pub characters : AllByRecursion IsOfCharacters accepted
   pub rising : AreRising Tariffs rows

@@ -11,7 +11,7 @@ use Rattle.sqlite_trees.specs.Tree.{Trees}
 use Rattle.sqlite_value.specs.Order.{Row, column}
 use Rattle.book_model.specs.Words.{AcceptedTerms, Book, IsDay, Terms, first_rule, last_period}
 use Rattle.book_model.specs.Words.{open_number, rule_by, second_rule, terms_in}
-use Rattle.table_model.specs.Readable.{IsBegun, IsOfCharacters, IsReadable, IsTexted}
+use Rattle.table_model.specs.Readable.{IsBegun, IsReadable, IsTexted}
 use Rattle.table_model.specs.Tables.{BookRow, never_adopted}
 use Rattle.table_model.specs.TablesOf.{close_entries, tables_of, tariff_entries}
 use Rattle.table_model.proofs.CloseOrder.{Behind, late_first}
@@ -97,21 +97,14 @@ pub record IsTariffRow (row : Row) : Type 0 where
   pub tariff : AcceptedTerms
   pub is : row ≡ tariff_columns (tariff.terms.effective, tariff.text)
   pub texted : IsTexted tariff
-  pub characters : IsOfCharacters tariff
 
 -- each row of the tree is one
-tariff_rows : (tariffs : List AcceptedTerms) → All IsTexted tariffs → All IsOfCharacters tariffs
+tariff_rows : (tariffs : List AcceptedTerms) → All IsTexted tariffs
     → AllByRecursion IsTariffRow (map tariff_columns (tariff_entries tariffs))
-tariff_rows [] texted characters = tt
-tariff_rows (tariff ∷ tariffs) texted characters = (
-  record {
-    tariff = tariff;
-    is = refl;
-    texted = All-head IsTexted tariff tariffs texted;
-    characters = All-head IsOfCharacters tariff tariffs characters;
-  },
-  tariff_rows tariffs (All-tail IsTexted tariff tariffs texted)
-      (All-tail IsOfCharacters tariff tariffs characters),
+tariff_rows [] texted = tt
+tariff_rows (tariff ∷ tariffs) texted = (
+  record { tariff = tariff; is = refl; texted = All-head IsTexted tariff tariffs texted },
+  tariff_rows tariffs (All-tail IsTexted tariff tariffs texted),
 )
 
 pub own_tariffs : (trees : Trees) → AreOwn trees → AllByRecursion IsTariffRow (trees 1)
@@ -119,12 +112,11 @@ own_tariffs trees own =
     let whole = own.readable in
     subst (AllByRecursion IsTariffRow)
     (sym (own.holds.tariffs ∙ ap (map tariff_columns) (tariffs_kept own.book.rulings.tariffs whole.rising)))
-    (tariff_rows own.book.rulings.tariffs whole.texts own.texts)
+    (tariff_rows own.book.rulings.tariffs whole.texts)
 
 -- such a row can be read,
 pub tariff_fits : (row : Row) → IsTariffRow row → TariffFits row
-tariff_fits row its =
-    subst TariffFits (sym its.is) (row_fits its.tariff its.texted its.characters)
+tariff_fits row its = subst TariffFits (sym its.is) (row_fits its.tariff its.texted)
 
 -- and its text says the terms of a tariff with the row's day
 pub tariff_said : (row : Row) (day : ℤ) (text : List ℕ) → IsTariffRow row

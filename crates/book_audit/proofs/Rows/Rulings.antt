@@ -1,7 +1,7 @@
 -- The rows of closes and of tariffs, one after the other.
 use Rattle.std.proofs.Common.{◌≡◌, ◌∙◌, ◌++◌, ◌∷◌, [], ℕ, suc, List, Option, Some, None, map}
 use Rattle.std.proofs.Common.{length, ap, arith, cond, false, not, refl, sym, true, ◌-◌, ℤ, ◌+◌}
-use Rattle.std.proofs.Common.{◌<ℤ◌, MatchOption, int_lt, nat_lt, int_cmp, Less, Ok, subst}
+use Rattle.std.proofs.Common.{◌<ℤ◌, MatchOption, int_lt, nat_lt, int_cmp, Less, Ok}
 use Rattle.std.specs.List.{AllByRecursion, last_or}
 use Rattle.std.specs.List.Sorted.{IsStrictlySortedBy}
 use Rattle.std.specs.Option.{option_map_or}
@@ -9,11 +9,10 @@ use Rattle.std.specs.Str.{IsUtf8}
 use Rattle.std.proofs.lemmas.Bool.Decides.{nat_tests}
 use Rattle.std.proofs.lemmas.Int.{ints}
 use Rattle.std.proofs.lemmas.List.{map-append}
-use Rattle.std.proofs.lemmas.Option.{same_Some}
 use Rattle.sqlite_value.specs.Order.{Row}
 use Rattle.book_model.specs.Words.{AcceptedTerms, IsDay, Terms, terms_in}
 use Rattle.table_model.specs.TablesOf.{close_entries, tariff_entries}
-use Rattle.table_model.specs.Readable.{IsOfCharacters, IsTexted}
+use Rattle.table_model.specs.Readable.{IsTexted}
 use Rattle.table_model.proofs.CloseOrder.{earlier}
 use Rattle.table_model.proofs.UnderNumbers.{one_more}
 use Rattle.consistent_tables.specs.DueRows.{period_from}
@@ -88,13 +87,15 @@ closed_is closes day rising =
 abbrev pub texted : List ℕ → Terms → AcceptedTerms
 texted text terms = record { text = Some text; terms = terms }
 
-pub is_texted : (text : List ℕ) (terms : Terms) → terms_in text ≡ Ok terms → IsDay terms.effective
-    → IsTexted (texted text terms)
-is_texted text terms said day = record { text = text; is = refl; said = said; day = day }
-
-pub of_characters : (text : List ℕ) (terms : Terms) → IsUtf8 text
-    → IsOfCharacters (texted text terms)
-of_characters text terms utf8 other is = subst IsUtf8 (same_Some text other is) utf8
+pub is_texted : (text : List ℕ) (terms : Terms) → IsUtf8 text → terms_in text ≡ Ok terms
+    → IsDay terms.effective → IsTexted (texted text terms)
+is_texted text terms utf8 said day = record {
+  text = text;
+  is = refl;
+  characters = utf8;
+  said = said;
+  day = day;
+}
 
 -- one row more
 pub tariff_pushed : (accepted : List AcceptedTerms) (text : List ℕ) (day : ℤ) (terms : Terms) (row : Row)

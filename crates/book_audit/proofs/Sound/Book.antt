@@ -1,12 +1,10 @@
 -- Sound trees hold the tables of a book.
-use Rattle.std.proofs.Common.{◌≡◌, ◌∙◌, All, List, ap, length, refl, subst, sym}
+use Rattle.std.proofs.Common.{◌≡◌, ◌∙◌, List, ap, length, refl, subst, sym}
 use Rattle.std.specs.FinMap.{entries}
 use Rattle.std.proofs.lemmas.List.{length-map}
-use Rattle.std.proofs.lemmas.List.Elements.{All-from_recursion}
 use Rattle.sqlite_trees.specs.Tree.{Trees}
 use Rattle.book_model.specs.Words.{AcceptedTerms, rows_of as charge_rows}
 use Rattle.table_model.specs.BookIn.{book_in}
-use Rattle.table_model.specs.Readable.{HasTexts, IsOfCharacters}
 use Rattle.table_model.specs.Tables.{Tables}
 use Rattle.table_model.specs.TablesOf.{tables_of}
 use Rattle.consistent_tables.specs.Consistent.{AreConsistent, ruled}
@@ -64,11 +62,6 @@ module _ (trees : Trees) (numbers : Numbers) (sound : AreSound trees numbers) wh
   accepted = sound.ruled.tariffs.accepted
 
   -- with as many rows as were met
-  texts_are : HasTexts (book_in tables)
-  texts_are =
-      subst (All IsOfCharacters) (sym (tariffs_said trees numbers sound))
-      (All-from_recursion IsOfCharacters accepted sound.ruled.tariffs.characters)
-
   tariffs_met : numbers.tariffs ≡ length (ruled tables).tariffs
   tariffs_met =
       sound.tariffs ∙ ap length (sym sound.ruled.tariffs.terms)
@@ -97,7 +90,6 @@ module _ (trees : Trees) (numbers : Numbers) (sound : AreSound trees numbers) wh
   of_book = record {
     book = book_in tables;
     readable = consistent_are_readable sha_names tables are_consistent;
-    texts = texts_are;
     holds = subst (Holds trees) its (trees_hold trees numbers sound);
     records = sound.held ∙ ap (λ (all : Tables). all.book.held) its;
     tariffs = tariffs_met;

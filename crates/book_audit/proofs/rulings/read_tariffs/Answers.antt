@@ -6,7 +6,7 @@ use Rattle.sqlite_trees.specs.declared.error.StoreError.TheVariants.{OutOfMemory
 use Rattle.sqlite_trees.proofs.ListLemmas.{all-append}
 use Rattle.sqlite_value.specs.Order.{Row}
 use Rattle.book_model.specs.Words.{IsDay, Terms, terms_in}
-use Rattle.table_model.specs.Readable.{IsOfCharacters, IsTexted}
+use Rattle.table_model.specs.Readable.{IsTexted}
 use Rattle.table_model.specs.TablesOf.{tariff_entries}
 use Rattle.tree_rows.specs.Calls.{OnlyLooks}
 use Rattle.tree_rows.proofs.Calls.{quiet_both}
@@ -14,8 +14,7 @@ use Rattle.tree_tables.specs.Columns.{tariff_columns}
 use Rattle.tree_tables.specs.Fits.{TariffFits}
 use Rattle.book_audit.specs.Walks.{AreRising, HasWalked, width}
 use Rattle.book_audit.specs.declared.finding.Tree.TheVariants.{Tariffs}
-use Rattle.book_audit.proofs.Rows.Rulings.{is_texted, of_characters, tariff_pushed, terms_pushed}
-use Rattle.book_audit.proofs.Rows.Rulings.{texted}
+use Rattle.book_audit.proofs.Rows.Rulings.{is_texted, tariff_pushed, terms_pushed, texted}
 use Rattle.book_audit.proofs.Own.Rulings.{IsTariffRow, own_tariffs, tariff_fits, tariff_said}
 use Rattle.book_audit.proofs.Own.Stops.{err_fits, met_memory, stop_passed, stop_walked}
 use Rattle.book_audit.proofs.Walks.Steps.{its_row, look_back, looks_on, no_look, read_all, read_on}
@@ -30,7 +29,6 @@ tariffs-init g c = record {
     [],
     c.over-walk.ensures.start ((g.S.Store.view c.args.trees.now.store).trees 1),
     sym c.new-tariffs.ensures.items,
-    tt,
     tt,
   );
 }
@@ -53,6 +51,7 @@ tariffs-preserved g c =
     let said : terms_in text ≡ Ok terms = c.in_ok-tariff.ensures.says in
     let own : terms.effective ≡ c.in_ok-stored.stored.day = c.in_ok-tariff.ensures.day in
     let valid : IsDay terms.effective = c.in_ok-tariff.ensures.valid in
+    let utf8 = IsUtf8-string_bytes c.in_ok-stored.stored.body in
     let looks : OnlyLooks g.S.Store mid next = c.in_ok-next.ensures.same in
     record {
       tree = c.next.ensures.tree ∙ so_far.tree;
@@ -70,9 +69,7 @@ tariffs-preserved g c =
             terms_pushed read.0 c.tariffs.tariffs.items text terms read.2
                 ∙ sym c.in_ok-push.ensures.items,
             all-append IsTexted read.0 (texted text terms ∷ []) read.3
-                (is_texted text terms said valid, tt),
-            all-append IsOfCharacters read.0 (texted text terms ∷ []) read.4
-                (of_characters text terms (IsUtf8-string_bytes c.in_ok-stored.stored.body), tt),
+                (is_texted text terms utf8 said valid, tt),
           );
     }
 
@@ -94,7 +91,6 @@ returns-then-not-branch-clause-tariffs g c clean =
       are = all;
       terms = read.2;
       texts = read.3;
-      characters = read.4;
       rising = subst (AreRising Tariffs) (sym all) read.1.rising;
     }
 

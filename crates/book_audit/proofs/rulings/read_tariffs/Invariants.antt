@@ -2,7 +2,7 @@ use Rattle.std.proofs.Common.{◌≡◌, List, map}
 use Rattle.std.specs.List.{AllByRecursion}
 use Rattle.sqlite_trees.specs.View.{IsClean}
 use Rattle.book_model.specs.Words.{AcceptedTerms}
-use Rattle.table_model.specs.Readable.{IsOfCharacters, IsTexted}
+use Rattle.table_model.specs.Readable.{IsTexted}
 use Rattle.table_model.specs.TablesOf.{tariff_entries}
 use Rattle.tree_rows.specs.Calls.{CommitsNothing, OnlyLooks}
 use Rattle.tree_tables.specs.Columns.{tariff_columns}
@@ -20,5 +20,5 @@ invariant-tariffs g l = record {
       × HasWalked Tariffs l.walk.key ((g.S.Store.view l.fn.trees.store).trees 1)
       (map tariff_columns (tariff_entries accepted))
       × (map (λ tariff. tariff.terms) accepted ≡ l.tariffs.items)
-      × AllByRecursion IsTexted accepted × AllByRecursion IsOfCharacters accepted;
+      × AllByRecursion IsTexted accepted;
 }
