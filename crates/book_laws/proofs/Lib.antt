@@ -4,7 +4,7 @@
 -- lists of all periods; the lines of a statement; single centres; details, which records are counted,
 -- what is kept of them, and that they stay; bills, and that they stay; pages; rows by another tariff,
 -- and their lines. Single records: their lives, and how their prices came about. Single answers: to calls,
--- reports, imports, and lists of requests. Last, the texts of tariffs.
+-- reports, imports, and lists of requests.
 pub mod PeriodLemmas
 pub mod NetLemmas
 pub mod WrongPeriodLemmas
@@ -39,4 +39,3 @@ pub mod AnswerLemmas
 pub mod ReportLemmas
 pub mod ImportLemmas
 pub mod RunAnswerLemmas
-pub mod TextLemmas

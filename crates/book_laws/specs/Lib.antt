@@ -5,7 +5,7 @@
 -- of all periods, how wide the lines of a statement are, the reports on single centres, details, what
 -- is kept of them and that they stay, bills, pages, and a period's rows by another tariff. Single
 -- records: their lives, and how their prices came about. Single answers: to calls, reports, imports,
--- and lists of requests. Last, the texts of tariffs.
+-- and lists of requests.
 pub mod NetCounts
 pub mod PeriodAmounts
 pub mod PeriodLines
@@ -32,4 +32,3 @@ pub mod AnswerLaws
 pub mod ReportLaws
 pub mod ImportLaws
 pub mod RunAnswers
-pub mod KeptTexts

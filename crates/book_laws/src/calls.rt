@@ -3,7 +3,6 @@
 
 ghost use Rattle.book_laws.specs.AnswerLaws.{OneAnswer, OneBook, OneRefusal, RefusalChangesNothing};
 ghost use Rattle.book_laws.specs.ImportLaws.{OneReceipt};
-ghost use Rattle.book_laws.specs.KeptTexts.{TextsStay};
 ghost use Rattle.book_laws.specs.ReportLaws.{OnePrefix, OneRefusedReport, OneText};
 ghost use Rattle.book_laws.specs.RunAnswers.{OneRun};
 
@@ -27,12 +26,6 @@ pub fn one_book<L: Ledger, V, A>()
 /// A refusal leaves the ledger open with the book that it had, but for a fault of the store.
 pub fn refusal_changes_nothing<L: Ledger, V, A>()
     ensures { RefusalChangesNothing V A L.seen }
-{}
-
-/// Whatever is asked of books, the texts of their tariffs stay texts of characters, as is each text
-/// that is given to a call.
-pub fn texts_stay()
-    ensures { TextsStay }
 {}
 
 /// A report that was written whole is the definitions' text of the book.

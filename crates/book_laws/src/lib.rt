@@ -14,7 +14,7 @@ mod runs;
 pub use bills::{bills_add_up, bills_split_statements, closed_bills_stay, held_back_bounds};
 pub use calls::{
     one_answer, one_book, one_prefix, one_receipt, one_refusal, one_refused_report, one_run,
-    one_text, refusal_changes_nothing, texts_stay,
+    one_text, refusal_changes_nothing,
 };
 pub use centres::centres_add_up;
 pub use details::{
