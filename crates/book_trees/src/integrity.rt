@@ -107,6 +107,10 @@ pub fn look_through<D: Disk>(
     // Their pages are called wrong only of files that list the tables of books.
     ensures listed { IfErr result (λ refusal. refusal.0 ≡ LookFault.Pages
         → AreClean D.Disk refusal.1.log refusal.1.db → ListsBooks (image_of D.Disk files)) }
+
+    // Nor are they called wrong of files that hold books, whatever form these say that they have.
+    ensures wrong { IfErr result (λ refusal. refusal.0 ≡ LookFault.Pages
+        → AreClean D.Disk refusal.1.log refusal.1.db → ¬ HoldsBooks (image_of D.Disk files)) }
     ensures unharmed { IfErr result (λ refusal. AreClean D.Disk refusal.1.log refusal.1.db
         → AreKept D.Disk files refusal.1) }
 {
@@ -163,6 +167,9 @@ pub fn look_through_at<S: Start>(
     ensures listed { IfErr result (λ refusal. refusal.0 ≡ LookFault.Pages
         → IfSome refusal.1 (λ files. AreClean ⟦<FileFrom<S> as Disk>⟧ files.log files.db
         → ListsBooks (image_at S.Start))) }
+    ensures wrong { IfErr result (λ refusal. refusal.0 ≡ LookFault.Pages
+        → IfSome refusal.1 (λ files. AreClean ⟦<FileFrom<S> as Disk>⟧ files.log files.db
+        → ¬ HoldsBooks (image_at S.Start))) }
     ensures kept { IfErr result (λ refusal. IfSome refusal.1 (λ files. (left : Image)
         → MayLeave ⟦<FileFrom<S> as Disk>⟧ files left → IsAsFound (image_at S.Start) left)) }
 {

@@ -1,5 +1,5 @@
 use Rattle.std.proofs.Common.{sym, subst}
-use Rattle.sqlite_store.specs.Unopened.{image, IsFullFile}
+use Rattle.sqlite_store.specs.Unopened.{image, state_of, IsFullFile}
 use Rattle.sqlite_wal.specs.Recovery.{Image}
 use Rattle.book_trees.proofs.FileParts.{end_honest, files_kept, first_image, honest_given}
 use Rattle.book_trees.proofs.FileParts.{kept_still, shows_given, store_honest, store_kept}
@@ -8,8 +8,10 @@ use Rattle.book_trees.proofs.LookCauses.{look_file_cause, told_pages}
 use Rattle.book_trees.proofs.ToldCauses.{look_told_cause}
 use Rattle.book_trees.specs.Forms.{HoldsThisForm}
 use Rattle.book_trees.specs.LedgerFiles.{image_of, HoldsBooks}
+use Rattle.book_trees.specs.Looks.{HasLookCause}
 use Rattle.book_trees.specs.Refusals.{faults_in, AreFull}
 use Rattle.book_trees.specs.StoreView.{ListsBooks}
+use Rattle.book_trees.specs.declared.integrity.LookFault.{LookFault}
 use Rattle.book_trees.proofs.integrity.look_through.Goals as goal
 
 pub returns-clause-honest : goal.returns-clause-honest
@@ -89,3 +91,19 @@ returns-in-Err-look_through_all-clause-listed g c is clean =
     c.told_look.result.1 c.told_look.ensures.told is)
     (end_honest old end c.args.files c.close.result given back
     (c.told_look.ensures.clean clean)))
+
+pub returns-in-Err-look_through_all-clause-wrong : goal.returns-in-Err-look_through_all-clause-wrong
+returns-in-Err-look_through_all-clause-wrong g c is clean =
+    let old = c.in-Ok.files in
+    let end = c.in-Err-look_through_all.files in
+    let given = c.in-Ok.ensures.files in
+    let back = c.close.ensures in
+    let met = told_pages c.in-Err-look_through_all.fault c.close.result c.told_look.result.0
+    c.told_look.result.1 c.told_look.ensures.told is in
+    subst (λ (i : Image). HoldsBooks i → ⊥)
+    (first_image old end c.args.files c.close.result given back)
+    (subst (λ (fault : LookFault). HasLookCause (state_of old).faults (state_of end).faults
+    (IsFullFile end) (HoldsBooks (image old)) fault) met
+    (c.in-Err-look_through_all.ensures.cause
+    (end_honest old end c.args.files c.close.result given back
+    (c.told_look.ensures.clean clean))))

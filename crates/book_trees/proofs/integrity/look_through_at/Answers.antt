@@ -42,3 +42,10 @@ returns-in-Err-look_through-clause-listed g c is clean =
     let fresh = c.in-Ok.ensures.fresh in
     subst ListsBooks (fresh_image g.S.Start.log g.S.Start.db fresh.0 fresh.1)
     (c.in-Err-look_through.ensures.listed is clean)
+
+pub returns-in-Err-look_through-clause-wrong : goal.returns-in-Err-look_through-clause-wrong
+returns-in-Err-look_through-clause-wrong g c is clean =
+    let fresh = c.in-Ok.ensures.fresh in
+    subst (λ (i : Image). HoldsBooks i → ⊥)
+    (fresh_image g.S.Start.log g.S.Start.db fresh.0 fresh.1)
+    (c.in-Err-look_through.ensures.wrong is clean)
