@@ -39,7 +39,7 @@ use Rattle.book_files.proofs.NewParts.{opened_empty}
 use Rattle.book_files.proofs.SessionParts.{opened_stands}
 use Rattle.office.specs.declared.repository.RepositoryFault.{RepositoryFault}
 use Rattle.office.specs.declared.repository.RepositoryFault.TheVariants.{Io, Exists, Busy, Ledger}
-use Rattle.table_model.specs.Readable.{HasTexts, IsReadable}
+use Rattle.table_model.specs.Readable.{IsReadable}
 use Rattle.table_ledger.specs.Commits.{Stores}
 use Rattle.table_ledger.specs.Loaded.{IsOpenCause, IsOpenFault, IsStoreFault, IsToldBy}
 use Rattle.table_model.specs.TablesOf.{tables_of}
@@ -144,11 +144,11 @@ store_failed old new fault is (inr failed) = failed.1
 -- it has one where books are opened that a ledger left
 pub ours_failed : (names : Naming) (old new : State) (fault : LedgerFault) → fault ≡ ledger.Store
     → IsToldBy (has_book old.view.trees) old new fault
-    → ((book : Book) → IsReadable names book → HasTexts book
-    → Stores old.view (tables_of names book) → IsOpenCause old new fault)
+    → ((book : Book) → IsReadable names book → Stores old.view (tables_of names book)
+    → IsOpenCause old new fault)
     → ShowsOurs names old.view → MoreFaults old.faults new.faults
 ours_failed names old new fault is told own (inl ours) =
-    store_failed old new fault is (own ours.book ours.at.kept.readable ours.texts
+    store_failed old new fault is (own ours.book ours.at.kept.readable
     (record { holds = ours.at.kept.holds; rest = ours.at.rest }))
 ours_failed names old new fault is told own (inr empty) =
     elim (told.absent (book_absent old.view.trees empty.none) empty.rest) [
@@ -174,7 +174,6 @@ module _ {D : Type 0} {g : Ghosts D} (names : Naming) (first : Image) (store : F
         ∥∥₁_map ours.held λ kept. record {
           book = ours.book;
           at = opened_stands names ours.book first store ready found kept.0 kept.1 clean;
-          texts = ours.texts;
         }
 
     books_failed : (Failed : Type 0) → (ShowsOurBooks names (view store) → ∥ Failed ∥₁)

@@ -1,12 +1,10 @@
 -- What an audit says of files.
-use Rattle.std.specs.Prelude.{◌≡◌, ◌<◌, ℕ, suc, Some, None}
+use Rattle.std.specs.Prelude.{◌≡◌, ◌<◌, ℕ, suc, List, Some, None}
 use Rattle.sqlite_disk.specs.declared.Disk.{Ghosts}
-use Rattle.sqlite_pool.specs.File.{version_in}
 use Rattle.sqlite_wal.specs.Reads.{AreClean}
 use Rattle.sqlite_wal.specs.Recovery.{Image}
-use Rattle.book_model.specs.Words.{Naming}
+use Rattle.book_model.specs.Words.{Event, Naming}
 use Rattle.book_core.specs.Transition.{Transition}
-use Rattle.tree_tables.specs.Forms.{this_form}
 use Rattle.book_audit.specs.OfBook.{AreOfBook}
 use Rattle.book_audit.specs.declared.audited.Audited.{Audited}
 use Rattle.book_audit.specs.declared.audited.Audited.TheVariants.{Unsound}
@@ -14,12 +12,12 @@ use Rattle.book_audit.specs.declared.audited.Counts.{Counts}
 use Rattle.book_audit.specs.declared.finding.Finding.{Finding}
 use Rattle.book_trees.specs.Closing.{HaveFailed}
 use Rattle.book_trees.specs.LedgerFiles.{HoldsBooks, trees_held}
-use Rattle.book_restarts.specs.FileBooks.{HoldsOwnBook, IsOwnSession, file_names}
+use Rattle.book_restarts.specs.FileBooks.{GoesOn, HoldsHistory, file_names}
 use Rattle.book_files.specs.Causes.{HoldsOurBooks}
 use Rattle.book_files.specs.declared.session.Ended.{Ended}
 use Rattle.book_files.specs.declared.session.Ended.TheVariants.{Closed, Refused}
 
--- The files hold a book that can be read back, whose tariffs are texts, and these are its counts.
+-- The files hold a book that can be read back, and these are its counts.
 abbrev pub HoldCounted : Counts → Image → Type 0
 HoldCounted counts image =
     ∥ ((held : HoldsBooks image) × AreOfBook file_names (trees_held held) counts) ∥₁
@@ -31,36 +29,32 @@ SoundAreOurs =
     (counts : Counts) (image : Image) → HoldCounted counts image
     → ∥ HoldsOurBooks file_names image ∥₁
 
--- the files hold books, and say that these are of a newer form
-abbrev pub SayNewer : Image → Type 0
-SayNewer image = ∥ ((held : HoldsBooks image) × (this_form < version_in held.pages)) ∥₁
-
 -- what an audit finds wrong it finds for such a reason
 abbrev pub FindsWrongBy : Type 0 → Audited → Type 0
 FindsWrongBy Why audited = (finding : Finding) → audited ≡ Unsound finding → Why
 
 -- Files are called unsound only where they were looked through, and a call on them failed, or met a
--- limit of the format; or where they were not, and say that they are of a newer form.
-abbrev pub IsUnsoundBy : {D : Type 0} (g : Ghosts D) → Image → Ended D → Audited → Type 0
-IsUnsoundBy g found (Refused None) audited = FindsWrongBy ⊥ audited
-IsUnsoundBy g found (Refused (Some files)) audited =
-    AreClean g files.log files.db → FindsWrongBy (SayNewer found) audited
-IsUnsoundBy g found (Closed closed) audited =
+-- limit of the format.
+abbrev pub IsUnsoundBy : {D : Type 0} (g : Ghosts D) → Ended D → Audited → Type 0
+IsUnsoundBy g (Refused None) audited = FindsWrongBy ⊥ audited
+IsUnsoundBy g (Refused (Some files)) audited =
+    AreClean g files.log files.db → FindsWrongBy ⊥ audited
+IsUnsoundBy g (Closed closed) audited =
     AreClean g closed.files.log closed.files.db
     → FindsWrongBy (HaveFailed g closed.files) audited
 
--- So it is with files that hold a book which calls made.
+-- So it is with files that hold the book of a history, which calls made.
 abbrev pub WhyUnsound : {D : Type 0} (g : Ghosts D) → Image → Ended D → Audited → Type 0
 WhyUnsound g found ended audited =
-    HoldsOwnBook file_names found → IsUnsoundBy g found ended audited
+    (history : List Event) → HoldsHistory file_names history found → IsUnsoundBy g ended audited
 
 -- So it is with files that held such a book, as those of new books do, and on which only sessions
 -- of this program worked since, however many, and wherever they were stopped.
 abbrev pub OwnFilesAreNotUnsound : {D : Type 0} (g : Ghosts D) → (ℕ → Naming → Transition)
     → (ℕ → Image) → Type 0
 OwnFilesAreNotUnsound {D} g work files =
-    (sessions : ℕ) (ended : Ended D) (audited : Audited) → HoldsOwnBook file_names (files 0)
+    (start : List Event) (sessions : ℕ) (ended : Ended D) (audited : Audited)
+    → HoldsHistory file_names start (files 0)
     → ((session : ℕ) → session < sessions
-    → IsOwnSession file_names (work session file_names) (files session) (files (suc session)))
-    → WhyUnsound g (files sessions) ended audited
-    → IsUnsoundBy g (files sessions) ended audited
+    → GoesOn file_names (work session file_names) (files session) (files (suc session)))
+    → WhyUnsound g (files sessions) ended audited → IsUnsoundBy g ended audited

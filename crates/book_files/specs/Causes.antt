@@ -14,7 +14,6 @@ use Rattle.book_trees.specs.Forms.{HoldsThisForm}
 use Rattle.book_trees.specs.LedgerFiles.{HoldsBooks, HoldsEmptyBooks, HoldsFirstBooks, HoldsNothing}
 use Rattle.book_trees.specs.LedgerFiles.{trees_held}
 use Rattle.book_trees.specs.Refusals.{faults_in, AreFull, StopCreating}
-use Rattle.table_model.specs.Readable.{HasTexts}
 use Rattle.tree_tables.specs.Holds.{has_book}
 use Rattle.book_restarts.specs.FileBooks.{HoldsBook, RestsAt, file_names}
 use Rattle.book_files.specs.NewBooks.{IsEmpty}
@@ -25,19 +24,17 @@ use Rattle.book_files.specs.declared.session.Ended.TheVariants.{Closed, Refused}
 use Rattle.office.specs.declared.repository.RepositoryFault.{RepositoryFault}
 use Rattle.office.specs.declared.repository.RepositoryFault.TheVariants.{Io, Exists, Busy, Ledger}
 
--- the files hold a book that can be read back, whose tariffs are texts, as calls are given them
+-- the files hold a book that can be read back
 pub record HoldsOurBooks (naming : Naming) (image : Image) : Type 0 where
   pub book : Book
   pub held : HoldsBook naming book image
-  pub texts : HasTexts book
 
--- a store is at rest with such books
+-- a store is at rest with such a book
 pub record ShowsOurBooks (naming : Naming) (view : View) : Type 0 where
   pub book : Book
   pub at : RestsAt naming book view
-  pub texts : HasTexts book
 
--- the files hold what a ledger leaves: such books, or tables with no row
+-- the files hold what a ledger leaves: such a book, or tables with no row
 abbrev pub HoldsOurs : Naming → Image → Type 0
 HoldsOurs naming image = HoldsOurBooks naming image ⊎ HoldsEmptyBooks image
 

@@ -13,7 +13,7 @@ pub fn sound_are_ours()
 
 /// Files on which only sessions of this program worked, from new books on and wherever they were
 /// stopped, are called unsound only where they were looked through, and a call on them failed, or
-/// met a limit of the format; or where they were not, and say that they are of a newer form.
+/// met a limit of the format.
 pub fn own_files_are_not_unsound<T: Sessions, D: Disk>()
     ensures { OwnFilesAreNotUnsound D.Disk T.Sessions.work T.Sessions.files }
 {}

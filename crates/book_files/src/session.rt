@@ -175,8 +175,8 @@ pub fn audit_at<S: Start, W: Watch>(
         → MayFollow ⟦<FileFrom<S> as Disk>⟧ result.1 image
         → ∥ ListsBooks (image_at S.Start) ∥₁) }
 
-    // Files that hold a book which calls made are not called unsound, but where a call on them
-    // failed, or where they say that they are of a newer form.
+    // Files that hold a book which calls made are not called unsound, but where they were looked
+    // through, and a call on them failed.
     ensures own { IfOk result.0
         (WhyUnsound ⟦<FileFrom<S> as Disk>⟧ (image_at S.Start) result.1) }
 

@@ -54,11 +54,11 @@ returns-in-Err-clause-cause g c =
 pub returns-in-Ok-clause-own : goal.returns-in-Ok-clause-own
 returns-in-Ok-clause-own g c =
     let audited = c.audit_and_close-audited in
-    ok_so audited.result.0 audited.ensures.own (λ told own ours honest finding is.
-    ∥∥₁_elim ours.held.held ∥∥₁_prop λ kept.
+    ok_so audited.result.0 audited.ensures.own (λ told own history ours honest finding is.
+    ∥∥₁_elim ours.held ∥∥₁_prop λ kept.
     own honest (subst AreOwn
     (sym (c.in-Ok.ensures.found (clean_of _ (audited.ensures.clean honest)) kept.0))
-    (own_trees (image_at g.S.Start) ours kept.0 kept.1)) finding is)
+    (own_trees (image_at g.S.Start) history ours kept.0 kept.1)) finding is)
 
 pub returns-in-Err-clause-own : goal.returns-in-Err-clause-own
 returns-in-Err-clause-own g c =
@@ -67,7 +67,8 @@ returns-in-Err-clause-own g c =
     let first = image_at g.S.Start in
     subst (λ result. IfOk result (WhyUnsound disk first (Refused c.in-Err.files)))
     (sym c.not_looked_through.ensures)
-    (never_unsound disk first (AreFull disk) c.in-Err.fault c.in-Err.files c.in-Err.ensures.cause)
+    (never_unsound disk first (AreFull disk) c.in-Err.fault c.in-Err.files c.in-Err.ensures.cause
+    c.in-Err.ensures.wrong)
 
 pub returns-in-Ok-clause-book : goal.returns-in-Ok-clause-book
 returns-in-Ok-clause-book g c =
