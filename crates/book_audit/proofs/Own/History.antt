@@ -7,14 +7,13 @@ use Rattle.std.specs.List.{AllByRecursion}
 use Rattle.std.proofs.Math.Bool.{or-true}
 use Rattle.sqlite_trees.specs.Tree.{IsAscending}
 use Rattle.sqlite_trees.proofs.ListLemmas.{all-append, all_weaker, ascending-append}
-use Rattle.book_model.specs.Words.{Book, Choice, Event, IsMadeByCalls, Naming, PeriodClosed}
-use Rattle.book_model.specs.Words.{RecordChosen, RecordKept, SecondRuleAdopted, TariffAccepted}
+use Rattle.book_model.specs.Words.{Book, Choice, Event, IsAnswered, IsMadeByCalls, Naming}
+use Rattle.book_model.specs.Words.{PeriodClosed, RecordChosen, RecordKept, RulingGiven}
+use Rattle.book_model.specs.Words.{SecondRuleAdopted, TariffAccepted}
 use Rattle.book_model.specs.Words.{after, book_after, chosen_answer, conflict, has, is_chosen}
 use Rattle.book_model.specs.Words.{is_unrivalled, most_choices, open_by, open_number}
 use Rattle.book_model.proofs.RecordSets.{has_with, is}
-use Rattle.table_model.specs.Changed.{IsAnswered}
 use Rattle.table_model.proofs.ChoiceChanges.{tests_passed}
-use Rattle.table_model.proofs.EventLemmas.{answered_so}
 use Rattle.table_model.proofs.RowsWhere.{one_passes, some_passes}
 
 -- a rule that was adopted in a period or later can have parted a record from its rivals
@@ -79,7 +78,7 @@ event_chosen naming book (RecordKept bytes) so_far answered = record {
         )
       ]) book.rulings.choices so_far.rivalled;
 }
-event_chosen naming book (TariffAccepted text terms) so_far answered =
+event_chosen naming book (RulingGiven (TariffAccepted text terms)) so_far answered =
     record { begun = so_far.begun; rise = so_far.rise; rivalled = so_far.rivalled }
 event_chosen naming book (PeriodClosed day) so_far answered = record {
   begun = all_weaker (WasBegun book) (WasBegun (after (PeriodClosed day) book))
@@ -92,7 +91,7 @@ event_chosen naming book (PeriodClosed day) so_far answered = record {
         → period ≤ length (book.rulings.closes ++ day ∷ []) + 1
     still period was =
         let more = length-append book.rulings.closes (day ∷ []) in omega (arith, was, more)
-event_chosen naming book (RecordChosen bytes) so_far answered =
+event_chosen naming book (RulingGiven (RecordChosen bytes)) so_far answered =
     let choice : Choice = record { chosen = bytes; period = open_by book.rulings } in
     let open_now : open_by book.rulings ≤ open_number book = omega arith in
     let tests = tests_passed (is_unrivalled book.rulings book.held bytes)
@@ -107,7 +106,7 @@ event_chosen naming book (RecordChosen bytes) so_far answered =
       rivalled = all-append (WasRival book) book.rulings.choices (choice ∷ []) so_far.rivalled
           (inr (no_rival book bytes tests.0), tt);
     }
-event_chosen naming book SecondRuleAdopted so_far answered = record {
+event_chosen naming book (RulingGiven SecondRuleAdopted) so_far answered = record {
   begun = so_far.begun;
   rise = so_far.rise;
   rivalled = adopted_in book.rulings.adopted refl;
@@ -116,11 +115,11 @@ event_chosen naming book SecondRuleAdopted so_far answered = record {
     adopted_in : (before : Option ℕ) → book.rulings.adopted ≡ before
         → AllByRecursion (λ (choice : Choice).
         (parted (Some (unwrap_or book.rulings.adopted (open_by book.rulings))) choice.period ≡ true)
-        ⊎ Rival (after SecondRuleAdopted book) choice.chosen) book.rulings.choices
+        ⊎ Rival (after (RulingGiven SecondRuleAdopted) book) choice.chosen) book.rulings.choices
     adopted_in None none =
         all_weaker (WasBegun book) (λ (choice : Choice).
         (parted (Some (unwrap_or book.rulings.adopted (open_by book.rulings))) choice.period ≡ true)
-        ⊎ Rival (after SecondRuleAdopted book) choice.chosen)
+        ⊎ Rival (after (RulingGiven SecondRuleAdopted) book) choice.chosen)
         (λ choice begun. inl (ap (λ (a : Option ℕ). nat_le choice.period (unwrap_or a (open_by book.rulings))) none
         ∙ le-leb choice.period (open_by book.rulings) begun)) book.rulings.choices so_far.begun
     adopted_in (Some other) was =
@@ -136,8 +135,7 @@ chosen_after : (naming : Naming) (history : List Event) → IsMadeByCalls naming
     → AreChosen (book_after history)
 chosen_after naming [] answered = record { begun = tt; rise = tt; rivalled = tt }
 chosen_after naming (event ∷ older) answered =
-    let before = answered_so naming event older answered in
-    event_chosen naming (book_after older) event (chosen_after naming older before.0) before.1
+    event_chosen naming (book_after older) event (chosen_after naming older answered.1) answered.0
 
 module _ (naming : Naming) (book : Book) (history : List Event)
     (answered : IsMadeByCalls naming history) (left : book ≡ book_after history) where
