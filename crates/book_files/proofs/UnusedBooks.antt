@@ -12,8 +12,9 @@ use Rattle.std.proofs.lemmas.List.Elements.{All-pop}
 use Rattle.sqlite_wal.specs.Recovery.{Image}
 use Rattle.book_model.proofs.RecordSets.{first_of, has_with, is, is_itself, second_of}
 use Rattle.book_model.specs.Words.{AcceptedTerms, Book, Choice, Event, Naming, Records}
-use Rattle.book_model.specs.Words.{PeriodClosed, RecordChosen, RecordKept, SecondRuleAdopted}
-use Rattle.book_model.specs.Words.{TariffAccepted, book_after, has, members, open_by}
+use Rattle.book_model.specs.Words.{PeriodClosed, RecordChosen, RecordKept, RulingGiven}
+use Rattle.book_model.specs.Words.{SecondRuleAdopted, TariffAccepted, book_after, has, members}
+use Rattle.book_model.specs.Words.{open_by}
 use Rattle.book_model.specs.Sound.{IsChoiceOf}
 use Rattle.book_trees.specs.LedgerFiles.{HoldsBooks, trees_held}
 use Rattle.table_model.proofs.RulingsReading.{tariffs_kept}
@@ -101,21 +102,21 @@ used naming (RecordKept bytes) older whole unused =
     not_held (book_after (RecordKept bytes ∷ older)).held bytes
     (none naming (book_after (RecordKept bytes ∷ older)) whole unused).held_none
     (has_with before.held bytes bytes ∙ ap (λ t. t || has before.held bytes) (is_itself bytes))
-used naming (TariffAccepted text terms) older whole unused =
-    one_more (book_after older).rulings.tariffs (record { text = text; terms = terms })
-    (no_tariffs naming (book_after (TariffAccepted text terms ∷ older)) whole unused)
 used naming (PeriodClosed day) older whole unused =
     one_more (book_after older).rulings.closes day
     (no_closes naming (book_after (PeriodClosed day ∷ older)) whole unused)
-used naming (RecordChosen bytes) older whole unused =
-    let book = book_after (RecordChosen bytes ∷ older) in
+used naming (RulingGiven (TariffAccepted text terms)) older whole unused =
+    one_more (book_after older).rulings.tariffs (record { text = text; terms = terms })
+    (no_tariffs naming (book_after (RulingGiven (TariffAccepted text terms) ∷ older)) whole unused)
+used naming (RulingGiven (RecordChosen bytes)) older whole unused =
+    let book = book_after (RulingGiven (RecordChosen bytes) ∷ older) in
     let before = (book_after older).rulings in
     let choice : Choice = record { chosen = bytes; period = open_by before } in
     let chosen = (All-pop (IsChoiceOf book.held) book.rulings.choices before.choices (Some choice)
     refl whole.sound.chosen).1 in
     not_held book.held bytes (none naming book whole unused).held_none chosen
-used naming SecondRuleAdopted older whole unused =
-    let book = book_after (SecondRuleAdopted ∷ older) in
+used naming (RulingGiven SecondRuleAdopted) older whole unused =
+    let book = book_after (RulingGiven SecondRuleAdopted ∷ older) in
     let before = (book_after older).rulings in
     let begun = whole.adopted
     (unwrap_or before.adopted (open_by before)) refl in
