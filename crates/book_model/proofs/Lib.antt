@@ -24,6 +24,7 @@ pub mod RowLemmas
 pub mod PricingLemmas
 pub mod LatestLemmas
 pub mod AnswerLemmas
+pub mod TestLemmas
 pub mod CallLemmas
 pub mod ListedLemmas
 pub mod SoundLemmas

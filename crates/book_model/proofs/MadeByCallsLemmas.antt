@@ -12,13 +12,12 @@ use Rattle.book_model.specs.Events.{Event, RecordKept, PeriodClosed, RulingGiven
 use Rattle.book_model.specs.History.{rulings, book_after}
 use Rattle.book_model.specs.Laws.{LatestIsLast}
 use Rattle.book_model.specs.Records.{Naming, name_of}
-use Rattle.book_model.specs.RulingAnswers.{has_text, is_effective, is_later, is_too_dear}
 use Rattle.book_model.specs.RulingAnswers.{terms_answer}
 use Rattle.book_model.specs.Rulings.{Rulings, AcceptedTerms, are_rising, with_tariff, with_close}
 use Rattle.book_model.specs.Rulings.{TariffAccepted, RecordChosen, SecondRuleAdopted, with_ruling}
 use Rattle.book_model.specs.Rulings.{last_close}
 use Rattle.book_model.specs.Sound.{IsSound}
-use Rattle.book_model.proofs.CallLemmas.{passes}
+use Rattle.book_model.proofs.TestLemmas.{tariff_passes}
 use Rattle.book_model.proofs.LatestLemmas.{rising-behind, begun-last}
 use Rattle.book_model.proofs.ListLemmas.{list_all-not_any}
 use Rattle.book_model.proofs.RecordSets.{first_of}
@@ -60,9 +59,7 @@ begins_later : (book : Book) (text : List ℕ) (terms : Terms)
 begins_later book text terms done =
     let day : ℤ = terms.effective in
     let others : List AcceptedTerms = book.rulings.tariffs in
-    let later = passes (list_any (has_text text) others) (list_any (is_effective day) others)
-    (is_later day book.rulings)
-    (is_too_dear (with_tariff (Some text) terms book.rulings) book.held) done in
+    let later = (tariff_passes book text terms done).later in
     let before : AcceptedTerms → Bool = λ tariff. int_lt tariff.terms.effective day in
     let after : Bool = option_map_or (λ close. int_lt close day) (last_close book.rulings) true in
     list_all-not_any before others

@@ -1,0 +1,149 @@
+-- What passed the tests of a call: a record that is kept, and a ruling that is done.
+use Rattle.std.proofs.Common.{◌≡◌, ℕ, List, Bool, true, false, not, Option, Some, None, Result, Ok}
+use Rattle.std.proofs.Common.{Err, refl, length}
+use Rattle.std.specs.Prelude.{if◌then◌else◌, ◌==◌, ℤ, IsSome, nat_le}
+use Rattle.std.specs.List.{list_any}
+use Rattle.std.proofs.lemmas.Bool.{eqb-true}
+use Rattle.tariff_rules.specs.Terms.{Terms}
+use Rattle.tariff_rules.specs.declared.priced.Priced.{Priced}
+use Rattle.book_model.specs.declared.answer.Accepted.{Accepted}
+use Rattle.book_model.specs.declared.answer.Accepted.TheVariants.{Kept, Known}
+use Rattle.book_model.specs.declared.answer.Ruled.{Ruled}
+use Rattle.book_model.specs.declared.answer.Ruled.TheVariants.{Done, Already}
+use Rattle.book_model.specs.declared.fault.LedgerFault.{LedgerFault}
+use Rattle.book_model.specs.declared.fault.LedgerFault.TheVariants.{DigestClash, Full, NotDisputed}
+use Rattle.book_model.specs.declared.fault.LedgerFault.TheVariants.{NotLater, TariffDate}
+use Rattle.book_model.specs.declared.fault.LedgerFault.TheVariants.{TariffExists, WrongPeriod}
+use Rattle.book_model.specs.Accept.{accept_answer, accept_priced, clashes}
+use Rattle.book_model.specs.Books.{Book, open_number}
+use Rattle.book_model.specs.Charged.{is_chosen, is_unrivalled}
+use Rattle.book_model.specs.Limits.{last_period, most_choices}
+use Rattle.book_model.specs.Records.{Naming}
+use Rattle.book_model.specs.RulingAnswers.{chosen_answer, close_answer, has_text, is_closed}
+use Rattle.book_model.specs.RulingAnswers.{is_early, is_effective, is_later, is_too_dear}
+use Rattle.book_model.specs.RulingAnswers.{terms_answer}
+use Rattle.book_model.specs.Rulings.{price_in, with_tariff}
+use Rattle.book_model.specs.Sets.{has}
+
+-- a record that is kept: it is new, no other has its name, and there is room for its price
+pub record KeptPasses (known clash : Bool) (priced : Result Accepted LedgerFault) : Type 0 where
+  pub is_new : known ≡ false
+  pub alone : clash ≡ false
+  pub fits : priced ≡ Ok Kept
+
+kept_tests : (known clash : Bool) (priced : Result Accepted LedgerFault)
+    → (if known then Ok Known else if clash then Err DigestClash else priced) ≡ Ok Kept
+    → KeptPasses known clash priced
+kept_tests true clash priced is = cc
+kept_tests false true priced is = cc
+kept_tests false false priced is = record { is_new = refl; alone = refl; fits = is }
+
+pub kept_passes : (naming : Naming) (book : Book) (bytes : List ℕ)
+    → accept_answer naming book bytes ≡ Ok Kept
+    → KeptPasses (has book.held bytes) (clashes naming book.held bytes)
+    (accept_priced book (price_in book.rulings bytes))
+kept_passes naming book bytes is =
+    kept_tests (has book.held bytes) (clashes naming book.held bytes)
+    (accept_priced book (price_in book.rulings bytes)) is
+
+-- so it has a price
+pub kept_price : (book : Book) (price : Option Priced) → accept_priced book price ≡ Ok Kept
+    → IsSome price
+kept_price book None is = cc
+kept_price book (Some priced) is = refl
+
+-- the answer to a tariff by what each test gives, in their order
+abbrev pub by_tests : Bool → Bool → Bool → Bool → Result Ruled LedgerFault
+by_tests told there late dear =
+    if told then Ok Already
+    else if there then Err TariffExists
+    else if not late then Err TariffDate
+    else if dear then Err Full
+    else Ok Done
+
+-- a tariff that is put in force: its text and its day are new, it is later than all that was ruled,
+-- and there is room for the new prices
+pub record TariffPasses (told there late dear : Bool) : Type 0 where
+  pub is_new : told ≡ false
+  pub free : there ≡ false
+  pub later : late ≡ true
+  pub fits : dear ≡ false
+
+pub tariff_tests : (told there late dear : Bool) → by_tests told there late dear ≡ Ok Done
+    → TariffPasses told there late dear
+tariff_tests true there late dear is = cc
+tariff_tests false true late dear is = cc
+tariff_tests false false false dear is = cc
+tariff_tests false false true true is = cc
+tariff_tests false false true false is =
+    record { is_new = refl; free = refl; later = refl; fits = refl }
+
+pub tariff_passes : (book : Book) (text : List ℕ) (terms : Terms)
+    → terms_answer book text terms ≡ Ok Done
+    → TariffPasses (list_any (has_text text) book.rulings.tariffs)
+    (list_any (is_effective terms.effective) book.rulings.tariffs)
+    (is_later terms.effective book.rulings)
+    (is_too_dear (with_tariff (Some text) terms book.rulings) book.held)
+tariff_passes book text terms is =
+    tariff_tests (list_any (has_text text) book.rulings.tariffs)
+    (list_any (is_effective terms.effective) book.rulings.tariffs)
+    (is_later terms.effective book.rulings)
+    (is_too_dear (with_tariff (Some text) terms book.rulings) book.held) is
+
+-- the answer to a close by the tests in their order
+abbrev pub close_by : ℕ → Bool → Bool → Bool → Bool → Result Ruled LedgerFault
+close_by number_open closed is_open early full =
+    if closed then Ok Already
+    else if not is_open then Err (WrongPeriod number_open)
+    else if early then Err NotLater
+    else if full then Err Full
+    else Ok Done
+
+-- a period that is closed: it was the open one, its day is later, and another can follow
+pub record ClosePasses (is_open early full : Bool) : Type 0 where
+  pub was_open : is_open ≡ true
+  pub later : early ≡ false
+  pub room : full ≡ false
+
+close_tests : (number_open : ℕ) (closed is_open early full : Bool)
+    → close_by number_open closed is_open early full ≡ Ok Done → ClosePasses is_open early full
+close_tests number_open true is_open early full is = cc
+close_tests number_open false false early full is = cc
+close_tests number_open false true true full is = cc
+close_tests number_open false true false true is = cc
+close_tests number_open false true false false is =
+    record { was_open = refl; later = refl; room = refl }
+
+pub close_passes : (book : Book) (number : ℕ) (day : ℤ)
+    → close_answer book.rulings number day ≡ Ok Done
+    → ClosePasses (number == open_number book) (is_early day book.rulings) (number == last_period)
+close_passes book number day is =
+    close_tests (open_number book) (is_closed number day book.rulings) (number == open_number book)
+    (is_early day book.rulings) (number == last_period) is
+
+-- so its number is that of the open period
+pub closed_open : (book : Book) (number : ℕ) (day : ℤ)
+    → close_answer book.rulings number day ≡ Ok Done → number ≡ open_number book
+closed_open book number day is =
+    eqb-true number (open_number book) (close_passes book number day is).was_open
+
+-- a record that is chosen: it has rivals, and there is room for one more choice
+pub record ChoicePasses (lone full : Bool) : Type 0 where
+  pub rivalled : lone ≡ false
+  pub room : full ≡ false
+
+choice_tests : (lone chosen full : Bool)
+    → (if lone then Err NotDisputed else if chosen then Ok Already else if full then Err Full
+    else Ok Done) ≡ Ok Done
+    → ChoicePasses lone full
+choice_tests true chosen full is = cc
+choice_tests false true full is = cc
+choice_tests false false true is = cc
+choice_tests false false false is = record { rivalled = refl; room = refl }
+
+pub choice_passes : (book : Book) (bytes : List ℕ) → chosen_answer book (Some bytes) ≡ Ok Done
+    → ChoicePasses (is_unrivalled book.rulings book.held bytes)
+    (nat_le most_choices (length book.rulings.choices))
+choice_passes book bytes is =
+    choice_tests (is_unrivalled book.rulings book.held bytes) (is_chosen book.rulings bytes)
+    (nat_le most_choices (length book.rulings.choices)) is
