@@ -1,12 +1,12 @@
 -- Work on books that are those of a history continues it.
 use Rattle.std.proofs.Common.{◌≡◌, ◌∙◌, ℕ, Bool, true, false, List, [], ◌++◌, refl, sym, ap, subst}
-use Rattle.std.proofs.Common.{Result, Ok, Err, ◌⊎◌, inl, inr, append_assoc, not}
+use Rattle.std.proofs.Common.{Result, Ok, Err, ◌⊎◌, inl, inr, append_assoc}
 use Rattle.std.proofs.lemmas.Bool.{eqb-true}
 use Rattle.std.specs.Prelude.{ℤ, ◌==◌, if◌then◌else◌, IfSome, Option, Some, None}
-use Rattle.book_model.specs.Words.{Terms, terms_in, Naming, Book, new_book, open_number, Event}
+use Rattle.book_model.specs.Words.{Terms, terms_in, Naming, Book, new_book, Event}
 use Rattle.book_model.specs.Words.{PeriodClosed, RulingGiven, SecondRuleAdopted}
 use Rattle.book_model.specs.Words.{after_all, accept_answer, tariff_answer}
-use Rattle.book_model.specs.Words.{close_answer, is_closed, is_early, last_period, Outcome}
+use Rattle.book_model.specs.Words.{close_answer, Outcome}
 use Rattle.book_model.specs.Words.{accept_event, if_done, ruled_as, tariff_outcome}
 use Rattle.book_model.specs.Words.{close_outcome, book_after, book_of, IsAnswered, IsMadeByCalls}
 use Rattle.book_model.specs.Words.{choose_answer, choose_outcome, record_named}
@@ -14,13 +14,13 @@ use Rattle.book_model.specs.Words.{adopt_answer, adopt_outcome, rule_by, second_
 use Rattle.tariff_rules.specs.declared.fault.TariffFault.{TariffFault}
 use Rattle.book_model.specs.declared.fault.LedgerFault.{LedgerFault}
 use Rattle.book_model.specs.declared.fault.LedgerFault.TheVariants.{Memory, Store, Reopen}
-use Rattle.book_model.specs.declared.fault.LedgerFault.TheVariants.{WrongPeriod, NotLater, Full}
 use Rattle.book_model.specs.declared.fault.LedgerFault.TheVariants.{OldRule}
 use Rattle.book_model.specs.declared.answer.Accepted.{Accepted}
 use Rattle.book_model.specs.declared.answer.Accepted.TheVariants.{Kept, Known, Unpriced}
 use Rattle.book_model.specs.declared.answer.Ruled.{Ruled}
 use Rattle.book_model.specs.declared.answer.Ruled.TheVariants.{Done, Already}
 use Rattle.book_model.proofs.StepLemmas.{books_follow_history}
+use Rattle.book_model.proofs.TestLemmas.{closed_open}
 use Rattle.book_core.specs.Ledgers.{Seen}
 use Rattle.book_core.specs.Transition.{Transition, NoEvent, Then, IsTransition}
 use Rattle.book_core.specs.Calls.{Makes, Calls, listed}
@@ -146,28 +146,6 @@ tariff_answered naming view text result =
     (λ book. tariff_answer book text (terms_in text)) result
     (tariff_done naming text (terms_in text))
 
--- the answer to a close, by whether the period is closed already and whether it is the open one
-abbrev close_by : Bool → Bool → LedgerFault → Result Ruled LedgerFault → Result Ruled LedgerFault
-close_by closed is_open wrong rest =
-    if closed then Ok Already else if not is_open then Err wrong else rest
-
--- a period that is closed now was the open one
-done_is_open : (closed is_open : Bool) (wrong : LedgerFault) (rest : Result Ruled LedgerFault)
-    → close_by closed is_open wrong rest ≡ Ok Done → is_open ≡ true
-done_is_open true is_open wrong rest is = cc
-done_is_open false true wrong rest is = refl
-done_is_open false false wrong rest is = cc
-
--- so it is the open one by its number
-closes_open : (number : ℕ) (day : ℤ) (book : Book) → close_answer book.rulings number day ≡ Ok Done
-    → number ≡ open_number book
-closes_open number day book is =
-    eqb-true number (open_number book)
-    (done_is_open (is_closed number day book.rulings) (number == open_number book)
-    (WrongPeriod (open_number book))
-    (if is_early day book.rulings then Err NotLater
-    else if number == last_period then Err Full else Ok Done) is)
-
 -- a close
 pub close_answered : {V : Type 0} (naming : Naming) (view : V → Ruled) (number : ℕ) (day : ℤ)
     (result : Result V LedgerFault)
@@ -176,7 +154,7 @@ close_answered naming view number day result =
     rulings_answered naming view (λ book. Some (PeriodClosed day))
     (λ book. close_answer book.rulings number day) result (λ book done.
     subst (λ number. close_answer book.rulings number day ≡ Ok Done)
-    (closes_open number day book done) done)
+    (closed_open book number day done) done)
 
 -- the choice of a record that is meant
 choice_done : (naming : Naming) (name : List ℕ) (book : Book) (meant : Option (List ℕ))

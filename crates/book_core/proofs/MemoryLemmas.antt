@@ -18,7 +18,7 @@ use Rattle.book_model.specs.declared.fault.LedgerFault.TheVariants.{Memory, Stor
 use Rattle.book_model.specs.declared.fault.LedgerFault.TheVariants.{DigestClash, NoSuchPeriod}
 use Rattle.book_model.specs.declared.fault.LedgerFault.TheVariants.{OldRule}
 use Rattle.book_model.specs.declared.answer.Ruled.TheVariants.{Done, Already}
-use Rattle.book_model.proofs.CallLemmas.{by_tests, close_by}
+use Rattle.book_model.proofs.TestLemmas.{by_tests, close_by}
 use Rattle.book_core.proofs.ChosenLemmas.{chosen_by}
 use Rattle.book_model.specs.declared.naming.Naming.{Ghosts}
 use Rattle.book_core.specs.declared.plain.PlainLedger.{PlainLedger}

@@ -6,7 +6,8 @@ use Rattle.book_core.specs.CachedRecords.{AllPass}
 use Rattle.book_core.specs.PlainBook.{book_in, book_with}
 use Rattle.book_core.proofs.RepricingLemmas.{book_stays, held_stay, names_stay, still_named-anew}
 use Rattle.book_model.proofs.LatestLemmas.{later-before}
-use Rattle.book_core.proofs.TariffLemmas.{fits_anew, kept_anew, terms_taken}
+use Rattle.book_model.proofs.TestLemmas.{tariff_passes}
+use Rattle.book_core.proofs.TariffLemmas.{fits_anew, kept_anew}
 use Rattle.book_core.proofs.plain.PlainLedger.keep_tariff.Given.{Over}
 use Rattle.book_core.proofs.plain.PlainLedger.keep_tariff.Goals as goal
 use Rattle.book_core.proofs.plain.PlainLedger.keep_tariff.Goals.{After-put_tariff}
@@ -17,7 +18,7 @@ put_tariff-requires g c =
     record {
       room = c.in_ok-reserve_tariff.ensures.room;
       later = ap (is_later terms.effective) c.reserve_tariff.ensures.same
-          ∙ (terms_taken (book_in c.args.self.now) c.args.text.now terms c.requires.done).passes;
+          ∙ (tariff_passes (book_in c.args.self.now) c.args.text.now terms c.requires.done).later;
     }
 
 -- the rulings then
@@ -44,8 +45,8 @@ invariant_of-self-2 g c =
     let ledger = c.args.self.now in
     let names = g.N.Naming.name_of ledger.naming in
     let terms = c.args.tariff in
-    let taken = terms_taken (book_in ledger) c.args.text.now terms c.requires.done in
-    let later = later-before terms.effective (book_in ledger).rulings taken.passes in
+    let taken = tariff_passes (book_in ledger) c.args.text.now terms c.requires.done in
+    let later = later-before terms.effective (book_in ledger).rulings taken.later in
     let small = fits_anew ledger.kept (Some c.args.text.now) terms later ledger.rising taken.fits in
     let anew = c.reprice.new.held.entries in
     let rulings = sym (ruled g (goal.at.invariant_of-self-2 g c).After-put_tariff) in
