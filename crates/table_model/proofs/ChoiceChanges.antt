@@ -1,9 +1,9 @@
 -- The tables of a book with one more choice are those without it, with its row and its
 -- effects.
 use Rattle.std.proofs.Common.{◌≡◌, ℕ, ◌+◌, ◌≤◌, List, [], ◌∷◌, map, length, refl, sym, ap}
-use Rattle.std.proofs.Common.{◌∙◌, subst, true, false, true≢false, Bool, not, ◌&&◌}
-use Rattle.std.proofs.Common.{arith, Option, None, Some, Ok, Err}
-use Rattle.std.specs.Prelude.{ℤ, filter, if◌then◌else◌, nat_le}
+use Rattle.std.proofs.Common.{◌∙◌, subst, true, false, true≢false, not, ◌&&◌}
+use Rattle.std.proofs.Common.{arith, Option, None, Some}
+use Rattle.std.specs.Prelude.{ℤ, filter}
 use Rattle.std.specs.FinMap.{find, from_entries}
 use Rattle.std.specs.List.{list_any}
 use Rattle.std.specs.List.Sorted.{IsStrictlySortedBy}
@@ -15,11 +15,8 @@ use Rattle.std.proofs.lemmas.List.Kept.{IsStrictlySortedBy-filter}
 use Rattle.std.proofs.lemmas.Map.Keys.{sorted_head}
 use Rattle.std.proofs.lemmas.Option.{same_Some}
 use Rattle.tariff_rules.specs.declared.priced.Priced.{Priced}
-use Rattle.book_model.specs.declared.answer.Ruled.TheVariants.{Done, Already}
-use Rattle.book_model.specs.declared.fault.LedgerFault.TheVariants.{NotDisputed, Full}
 use Rattle.book_model.specs.Words.{Book, open_number, charged_of, share_identity, is_unrivalled}
-use Rattle.book_model.specs.Words.{RecordChosen, is_chosen, is_undisputed, charged_now, give}
-use Rattle.book_model.specs.Words.{most_choices}
+use Rattle.book_model.specs.Words.{RecordChosen, is_undisputed, charged_now, give}
 use Rattle.book_model.specs.Words.{Records, Naming, name_of, by_bytes, record_named}
 use Rattle.book_model.specs.Words.{Choice, price_in, identity_by, last_close, with_choice, open_by}
 use Rattle.book_model.specs.Words.{has, those, IsSound, AreAmong}
@@ -30,6 +27,7 @@ use Rattle.book_model.proofs.RecordSets.{second_of, is_first, is_second}
 use Rattle.book_model.proofs.SetChanges.{is_back}
 use Rattle.book_model.proofs.SetLemmas.{members_rise}
 use Rattle.book_model.proofs.SoundLemmas.{named_held}
+use Rattle.book_model.proofs.TestLemmas.{choice_passes}
 use Rattle.book_core.specs.declared.effects.Member.{Member}
 use Rattle.book_core.specs.Effects.{withdraw, charge_held, choice_effects}
 use Rattle.table_model.specs.Laws.{ChoiceFollows}
@@ -44,16 +42,6 @@ use Rattle.table_model.proofs.StatusSteps.{charge-step, withdraw-step}
 use Rattle.table_model.proofs.TableParts.{what_is}
 use Rattle.table_model.proofs.UnderNumbers.{next_number, number_free}
 use Rattle.book_core.proofs.NamedLemmas.{its_name}
-
--- a choice that is Done is of a record that has a rival, and there is room for it
-pub tests_passed : (lone chosen full : Bool)
-    → (if lone then Err NotDisputed else if chosen then Ok Already else if full then Err Full
-    else Ok Done) ≡ Ok Done
-    → (lone ≡ false) × (full ≡ false)
-tests_passed true chosen full done = cc
-tests_passed false true full done = cc
-tests_passed false false true done = cc
-tests_passed false false false done = (refl, refl)
 
 -- a record that is held as a member, at a price
 abbrev member_at_price : Naming → Book → List ℕ → Priced → Member
@@ -207,13 +195,12 @@ module _ (naming : Naming) (book : Book) (sound : IsSound naming book) (bytes : 
 pub choice_follows : ChoiceFollows
 choice_follows naming book name bytes chosen sound found done is_member =
     let there = named_held naming book.held name bytes found in
-    let rivalled = tests_passed (is_unrivalled book.rulings book.held bytes)
-    (is_chosen book.rulings bytes) (nat_le most_choices (length book.rulings.choices)) done in
+    let tests = choice_passes book bytes done in
     let cost = what_is (price_in book.rulings bytes) (sound.priced bytes there) in
     let same = same_Some (member_at_price naming book bytes cost.0) chosen
     (sym (ap (member_by naming book bytes) cost.1) ∙ is_member) in
     let named = its_name naming book.held name bytes found in
-    choice-tables naming book sound bytes there rivalled.0 cost.0 cost.1
+    choice-tables naming book sound bytes there tests.rivalled cost.0 cost.1
     ∙ (λ i. put_choice (length book.rulings.choices + 1) (open_number book) (named i)
     (choice_effects (last_close book.rulings) (current_of naming book bytes) (same i))
     (tables_of naming book))

@@ -1,14 +1,11 @@
 -- The days of closes in their order, the periods that they end and open, and what they post.
 use Rattle.std.proofs.Common.{◌≡◌, ℕ, List, [], ◌∷◌, ◌++◌, refl, ap}
-use Rattle.std.proofs.Common.{true, false, true≢false, Bool, Option, Some, None, Ok, arith}
-use Rattle.std.specs.Prelude.{ℤ, int_lt, ◌<ℤ◌, ◌==◌, MatchOption}
-use Rattle.std.proofs.lemmas.Bool.{eqb-true}
+use Rattle.std.proofs.Common.{true, false, true≢false, Bool, Option, Some, None, arith}
+use Rattle.std.specs.Prelude.{ℤ, int_lt, ◌<ℤ◌, MatchOption}
 use Rattle.std.proofs.lemmas.Int.{ints}
-use Rattle.book_model.specs.declared.answer.Ruled.TheVariants.{Done}
-use Rattle.book_model.specs.Words.{Book, open_number, all_periods, close, last_period, is_closed}
-use Rattle.book_model.specs.Words.{close_answer, last_close, Records, Period, period_by, charged_of}
-use Rattle.book_model.specs.Words.{charged_through, is_dated_after, is_early}
-use Rattle.book_model.proofs.CallLemmas.{close_by}
+use Rattle.book_model.specs.Words.{Book, all_periods, close}
+use Rattle.book_model.specs.Words.{last_close, Records, Period, period_by, charged_of}
+use Rattle.book_model.specs.Words.{charged_through, is_dated_after}
 use Rattle.book_model.proofs.ListLemmas.{last_or-behind}
 use Rattle.book_core.specs.Effects.{is_after}
 
@@ -49,20 +46,3 @@ pub not_after_both : (last : Option ℤ) (close day : ℤ)
     → int_lt close day ≡ false
 not_after_both None close day forward early = absurd (true≢false early)
 not_after_both (Some before) close day forward early = grind (arith, ints)
-
--- a close that is done closed the open period, and left room for another
-pub ended_open : (open_one : ℕ) (closed is_open early full : Bool)
-    → close_by open_one closed is_open early full ≡ Ok Done → (is_open ≡ true) × (full ≡ false)
-ended_open open_one true is_open early full done = cc
-ended_open open_one false false early full done = cc
-ended_open open_one false true true full done = cc
-ended_open open_one false true false true done = cc
-ended_open open_one false true false false done = (refl, refl)
-
--- so its number is that of the open period
-pub closed_open : (book : Book) (number : ℕ) (day : ℤ)
-    → close_answer book.rulings number day ≡ Ok Done → number ≡ open_number book
-closed_open book number day done =
-    eqb-true number (open_number book)
-    (ended_open (open_number book) (is_closed number day book.rulings) (number == open_number book)
-    (is_early day book.rulings) (number == last_period) done).0

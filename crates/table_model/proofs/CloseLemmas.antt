@@ -21,7 +21,8 @@ use Rattle.table_model.specs.RowChanges.{post_by}
 use Rattle.table_model.specs.Tables.{RecordRow}
 use Rattle.table_model.specs.TablesOf.{record_row, record_entry, record_entries}
 use Rattle.table_model.specs.TablesOf.{tables_of}
-use Rattle.table_model.proofs.CloseDays.{posted_by, closed_open}
+use Rattle.book_model.proofs.TestLemmas.{closed_open}
+use Rattle.table_model.proofs.CloseDays.{posted_by}
 use Rattle.table_model.proofs.ClosedLines.{is_late, lines_closed}
 use Rattle.table_model.proofs.ClosedRows.{days_closed}
 use Rattle.table_model.proofs.CostLemmas.{day-price}

@@ -109,7 +109,7 @@ two_differ number period name last (Some gone) member tables =
 -- the laws
 pub at_most_one_name_differs : AtMostOneNameDiffers
 at_most_one_name_differs naming book bytes sound kept =
-    let cost = kept_cost naming book bytes sound kept in
+    let cost = kept_cost naming book bytes kept in
     let view : View = view_of naming book bytes in
     (subst (λ (tables : Tables). Within (tables_of naming book).counted 1 tables.counted)
     (sym (kept_follows naming book bytes cost.0 sound kept cost.1))

@@ -225,7 +225,7 @@ five_differ number period name last (Some gone) member tables =
 -- the laws
 pub at_most_four_differ : AtMostFourDiffer
 at_most_four_differ naming book bytes sound kept =
-    let cost = kept_cost naming book bytes sound kept in
+    let cost = kept_cost naming book bytes kept in
     let view : View = view_of naming book bytes in
     let few = few_effects (none_differ (tables_of naming book)) (open_number book) view.through
     view.members view.only (name_of naming bytes) cost.0 in

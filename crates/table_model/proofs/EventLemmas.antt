@@ -4,7 +4,7 @@ use Rattle.std.proofs.Common.{false, Bool, not, ◌||◌, Option, Some, None, su
 use Rattle.std.proofs.Math.Bool.{or-true}
 use Rattle.std.specs.Prelude.{sum_by}
 use Rattle.std.specs.FinMap.{from_entries}
-use Rattle.std.specs.List.{filter_map, list_any}
+use Rattle.std.specs.List.{filter_map}
 use Rattle.std.specs.Option.{option_map_or}
 use Rattle.tariff_rules.specs.declared.priced.Priced.{Priced}
 use Rattle.book_model.specs.declared.row.ChargeRow.{ChargeRow}
@@ -14,16 +14,15 @@ use Rattle.book_model.specs.Words.{is_counted_in, is_dated_after, Event, TariffA
 use Rattle.book_model.specs.Words.{PeriodClosed, RecordKept, RulingGiven}
 use Rattle.book_model.specs.Words.{RecordChosen, SecondRuleAdopted, after, give, Terms}
 use Rattle.book_model.specs.Words.{charged_of, chosen_answer, book_after, Records, Naming, name_of}
-use Rattle.book_model.specs.Words.{has_text, is_effective, is_later, is_too_dear, with_tariff}
 use Rattle.book_model.specs.Words.{by_bytes, by_key, row_at, no_rulings, Rulings, price_in}
 use Rattle.book_model.specs.Words.{AcceptedTerms, identity_by, last_close, members, has, those}
-use Rattle.book_model.proofs.CallLemmas.{passes}
 use Rattle.book_model.proofs.MadeByCallsLemmas.{rulings_are, sound_after}
 use Rattle.book_model.proofs.FilterLemmas.{no_length}
 use Rattle.book_model.proofs.SetChanges.{not_those}
 use Rattle.book_model.proofs.SetLemmas.{members-empty}
 use Rattle.book_model.proofs.RecordSets.{is, has_with}
 use Rattle.book_model.proofs.SoundLemmas.{none_in, named_held}
+use Rattle.book_model.proofs.TestLemmas.{tariff_passes}
 use Rattle.book_core.specs.Effects.{choice_effects, effects_of}
 use Rattle.table_model.specs.Changed.{changed, chosen_at, kept_at, tariff_at}
 use Rattle.table_model.specs.Steps.{put_tariff_row, set_sums}
@@ -124,7 +123,7 @@ begun naming terms =
 -- the law of events
 pub event_follows : EventFollows
 event_follows naming book (RecordKept bytes) sound usage answered =
-    let cost = kept_cost naming book bytes sound answered in
+    let cost = kept_cost naming book bytes answered in
     let name : List ℕ = name_of naming bytes in
     let tables : Tables = tables_of naming book in
     kept_follows naming book bytes cost.0 sound answered cost.1
@@ -136,10 +135,7 @@ event_follows naming book (PeriodClosed day) sound usage answered =
     close_follows naming book (open_number book) day sound answered
 event_follows naming book (RulingGiven (TariffAccepted (Some text) terms)) sound usage answered =
     let framed = λ (q : List ℕ) (held : has book.held q ≡ true). (usage q held).framed in
-    let later = passes (list_any (has_text text) book.rulings.tariffs)
-    (list_any (is_effective terms.effective) book.rulings.tariffs)
-    (is_later terms.effective book.rulings)
-    (is_too_dear (with_tariff (Some text) terms book.rulings) book.held) answered in
+    let later = (tariff_passes book text terms answered).later in
     tariff_follows naming book text terms sound framed answered
     ∙ ap (λ amount. tariff_at (open_number book) (Some text) terms amount (tables_of naming book))
     (sym (sum_is_read naming book text terms sound framed later))

@@ -1,6 +1,6 @@
 -- The tables of a book with one more record are those without it, changed by its effects.
 use Rattle.std.proofs.Common.{◌≡◌, ℕ, List, [], ◌∷◌, refl, sym, ap, ◌∙◌, true, false}
-use Rattle.std.proofs.Common.{Bool, ◌&&◌, Option, Some, None, Ok, Err, Result, subst}
+use Rattle.std.proofs.Common.{Bool, ◌&&◌, Option, Some, None, subst}
 use Rattle.std.specs.Prelude.{ℤ, if◌then◌else◌}
 use Rattle.std.specs.List.{list_any}
 use Rattle.std.specs.List.Sorted.{IsStrictlySortedBy}
@@ -10,11 +10,7 @@ use Rattle.std.proofs.lemmas.Cmp.{nat_list_cmp_total}
 use Rattle.std.proofs.lemmas.Map.Keys.{sorted_head}
 use Rattle.std.proofs.lemmas.Map.Lookups.{exact_bytes}
 use Rattle.tariff_rules.specs.declared.priced.Priced.{Priced}
-use Rattle.book_model.specs.declared.answer.Accepted.{Accepted}
-use Rattle.book_model.specs.declared.answer.Accepted.TheVariants.{Kept, Known}
-use Rattle.book_model.specs.declared.fault.LedgerFault.{LedgerFault}
-use Rattle.book_model.specs.declared.fault.LedgerFault.TheVariants.{DigestClash}
-use Rattle.book_model.specs.Words.{clashes, accept_priced, Book, share_identity}
+use Rattle.book_model.specs.Words.{Book, share_identity}
 use Rattle.book_model.specs.Words.{is_chosen, keep, Naming, name_of, by_bytes}
 use Rattle.book_model.specs.Words.{same_bytes, price_in, last_close, has, those, IsSound}
 use Rattle.book_model.proofs.ChargedChanges.{charged-new, charged-alone, charged-only}
@@ -31,18 +27,11 @@ use Rattle.table_model.specs.Tables.{Tables}
 use Rattle.table_model.specs.TablesOf.{tables_of}
 use Rattle.table_model.specs.Views.{member_by, member_of, sharing, members_of, only_by}
 use Rattle.table_model.specs.Views.{lone_members}
+use Rattle.book_model.proofs.TestLemmas.{kept_passes}
 use Rattle.table_model.proofs.KeptCases.{kept-charged, kept-disputed, kept-withdrawn}
 use Rattle.table_model.proofs.TableParts.{what_is}
 use Rattle.table_model.proofs.ViewLemmas.{held_too}
 use Rattle.std.specs.FinMap as fin
-
--- a record that is kept was not held, did not have the name of one that is, and passed the rest
-pub kept_tests : (known clash : Bool) (rest : Result Accepted LedgerFault)
-    → (if known then Ok Known else if clash then Err DigestClash else rest) ≡ Ok Kept
-    → (known ≡ false) × (clash ≡ false) × (rest ≡ Ok Kept)
-kept_tests true clash rest kept = cc
-kept_tests false true rest kept = cc
-kept_tests false false rest kept = (refl, refl, kept)
 
 module _ (naming : Naming) (book : Book) (sound : IsSound naming book) (bytes : List ℕ)
     (priced : Priced) (still : IsSound naming (keep bytes book))
@@ -129,14 +118,12 @@ module _ (naming : Naming) (book : Book) (sound : IsSound naming book) (bytes : 
 -- the law
 pub kept_follows : KeptFollows
 kept_follows naming book bytes priced sound kept price =
-    let tests =
-    kept_tests (has book.held bytes) (clashes naming book.held bytes)
-    (accept_priced book (price_in book.rulings bytes)) kept in
+    let tests = kept_passes naming book bytes kept in
     let same_name : List ℕ → Bool =
     λ other. same_bytes (name_of naming other) (name_of naming bytes) in
     let unnamed = λ (other : List ℕ) (there : has book.held other ≡ true).
     is_back (name_of naming bytes) (name_of naming other)
     ∙ (λ i. sym same_bytes-by_cmp i (name_of naming other) (name_of naming bytes))
-    ∙ fails_too nat_list_cmp_total exact_bytes same_name book.held other tests.1 there in
+    ∙ fails_too nat_list_cmp_total exact_bytes same_name book.held other tests.alone there in
     kept-as naming book sound bytes priced (steps_stay_sound.keep naming book bytes sound kept)
-    tests.0 unnamed price (sharing book bytes) refl
+    tests.is_new unnamed price (sharing book bytes) refl

@@ -9,12 +9,12 @@ use Rattle.std.specs.List.{list_any}
 use Rattle.std.proofs.lemmas.Bool.{false_from_ne_true}
 use Rattle.std.proofs.lemmas.Option.{same_Some}
 use Rattle.tariff_rules.specs.declared.priced.Priced.{Priced}
-use Rattle.book_model.specs.Words.{Book, IsSound, Naming, Rulings, Terms, day_of, has, has_text}
-use Rattle.book_model.specs.Words.{is_dated_after, is_effective, is_later, is_too_dear, last_close}
+use Rattle.book_model.specs.Words.{Book, IsSound, Naming, Rulings, Terms, day_of, has}
+use Rattle.book_model.specs.Words.{is_dated_after, last_close}
 use Rattle.book_model.specs.Words.{name_of, open_number, price_by, price_in, record_with}
 use Rattle.book_model.specs.Words.{terms_answer, with_tariff}
 use Rattle.book_model.specs.declared.answer.Ruled.TheVariants.{Done}
-use Rattle.book_model.proofs.CallLemmas.{passes}
+use Rattle.book_model.proofs.TestLemmas.{tariff_passes}
 use Rattle.book_model.proofs.PricingLemmas.{price_in-behind}
 use Rattle.book_model.proofs.RecordSets.{is}
 use Rattle.book_core.specs.Effects.{is_after}
@@ -98,10 +98,7 @@ module _ (naming : Naming) (book : Book) (sound : IsSound naming book)
       → int_lt row.priced.day terms.effective ≡ false
       → contains_key (tables_of naming book).counted name ≡ row.charged
   first_counted =
-      late_counted naming book terms sound
-      (passes (list_any (has_text text) book.rulings.tariffs)
-      (list_any (is_effective terms.effective) book.rulings.tariffs)
-      (is_later terms.effective book.rulings) (is_too_dear ruled book.held) done)
+      late_counted naming book terms sound (tariff_passes book text terms done).later
 
   -- at first none has its price by the tariff
   pub partly_none : IsPartlyPriced (tables_of naming book)

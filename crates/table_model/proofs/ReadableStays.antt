@@ -1,8 +1,7 @@
 -- Each call that is an event leaves a book that can be read back.
 use Rattle.std.proofs.Common.{◌≡◌, ◌∙◌, ◌++◌, ◌+◌, ◌∷◌, [], ℕ, zero, suc, List, length, refl, sym}
 use Rattle.std.proofs.Common.{ap, subst, true, false, Bool, ◌||◌, Option, Some, None, Ok, Err, arith}
-use Rattle.std.specs.Prelude.{◌≤◌, ◌<◌, ◌==◌, nat_le, nat_lt, if◌then◌else◌, All, unwrap_or, ℤ}
-use Rattle.std.specs.List.{list_any}
+use Rattle.std.specs.Prelude.{◌≤◌, ◌<◌, nat_le, nat_lt, if◌then◌else◌, All, unwrap_or, ℤ}
 use Rattle.std.proofs.lemmas.Bool.{ltb-false, leb-false}
 use Rattle.std.proofs.lemmas.Bool.Decides.{nat_tests}
 use Rattle.std.proofs.lemmas.List.{length-append}
@@ -12,29 +11,28 @@ use Rattle.book_model.specs.Words.{IsAnswered, IsSound, IsUsageRecord, Naming, P
 use Rattle.book_model.specs.Words.{RecordChosen, RecordKept, Records, Rulings, RulingGiven}
 use Rattle.book_model.specs.Words.{SecondRuleAdopted, TariffAccepted}
 use Rattle.book_model.specs.Words.{Terms, accept_answer, accept_priced, after, give}
-use Rattle.book_model.specs.Words.{choose_answer, chosen_answer, clashes, close, close_answer, has}
-use Rattle.book_model.specs.Words.{has_text, is_chosen, is_closed, is_early, is_effective, is_later}
-use Rattle.book_model.specs.Words.{is_too_dear, is_unrivalled, keep, last_close, last_period, members}
+use Rattle.book_model.specs.Words.{choose_answer, chosen_answer, close, close_answer}
+use Rattle.book_model.specs.Words.{keep, last_close, members}
 use Rattle.book_model.specs.Words.{most_choices, most_cost, most_held, name_of, open_by, open_number}
 use Rattle.book_model.specs.Words.{period_by, price_in, record_named, terms_answer}
 use Rattle.book_model.specs.Words.{total_of, with, with_tariff}
 use Rattle.book_model.specs.declared.answer.Accepted.TheVariants.{Kept}
 use Rattle.book_model.specs.declared.answer.Ruled.TheVariants.{Done}
 use Rattle.book_model.specs.declared.fault.LedgerFault.TheVariants.{Full}
-use Rattle.book_model.proofs.CallLemmas.{calls_go_forward, leaves_room, passes}
+use Rattle.book_model.proofs.CallLemmas.{calls_go_forward}
 use Rattle.book_model.proofs.LatestLemmas.{later-before, rising-behind}
 use Rattle.book_model.proofs.ListLemmas.{slice_get-front}
 use Rattle.book_model.proofs.RecordSets.{one_or}
 use Rattle.book_model.proofs.SoundLemmas.{steps_stay_sound}
+use Rattle.book_model.proofs.TestLemmas.{choice_passes, close_passes, closed_open, kept_passes}
+use Rattle.book_model.proofs.TestLemmas.{tariff_passes}
 use Rattle.table_model.specs.BookIn.{close_after}
 use Rattle.table_model.specs.FromCalls.{ArePriced, IsReadFrom, IsSubmitted, IsSubmittedTo}
 use Rattle.table_model.specs.Readable.{IsBegun, IsChain, IsReadable, IsTexted, IsTimely, chained}
 use Rattle.table_model.specs.Tables.{BookRow}
-use Rattle.table_model.proofs.ChoiceChanges.{tests_passed}
-use Rattle.table_model.proofs.CloseDays.{closed_open, ended_open, posted_by}
+use Rattle.table_model.proofs.CloseDays.{posted_by}
 use Rattle.table_model.proofs.CloseOrder.{rise_behind}
 use Rattle.table_model.proofs.CountedReading.{last_after}
-use Rattle.table_model.proofs.KeptLemmas.{kept_tests}
 use Rattle.table_model.proofs.KeptPrice.{kept_cost}
 use Rattle.table_model.proofs.LinesStay.{lines_stay}
 use Rattle.table_model.proofs.RecordChanges.{book_row-with}
@@ -154,17 +152,15 @@ module _ (naming : Naming) (book : Book) (whole : IsReadable naming book) where
   keep_stays : (bytes : List ℕ) → IsSubmitted book.rulings bytes
       → accept_answer naming book bytes ≡ Ok Kept → IsReadable naming (keep bytes book)
   keep_stays bytes handed kept =
-      let cost = kept_cost naming book bytes whole.sound kept in
+      let cost = kept_cost naming book bytes kept in
       let held : ℕ = length (members book.held) in
       let total : ℕ = total_of book.rulings book.held + cost.0.amount in
-      let tests =
-      kept_tests (has book.held bytes) (clashes naming book.held bytes)
-      (accept_priced book (price_in book.rulings bytes)) kept in
+      let tests = kept_passes naming book bytes kept in
       let room = leaves_both (nat_le most_held held) (nat_lt most_cost total)
-      (ap (accept_priced book) (sym cost.1) ∙ tests.2) in
+      (ap (accept_priced book) (sym cost.1) ∙ tests.fits) in
       let few : held + 1 ≤ most_held = omega (arith, leb-false most_held held room.0) in
       let still = still_begun (keep bytes book) (omega arith) in
-      let row = book_row-with book.rulings book.held bytes cost.0 tests.0 cost.1 in
+      let row = book_row-with book.rulings book.held bytes cost.0 tests.is_new cost.1 in
       let count : length (members (with book.held bytes)) ≡ length (members book.held) + 1 =
       ap (λ (row : BookRow). row.held) row in
       let amount : total_of book.rulings (with book.held bytes)
@@ -202,10 +198,7 @@ module _ (naming : Naming) (book : Book) (whole : IsReadable naming book) where
   tariff_stays text terms said priced done =
       let later : AcceptedTerms = record { text = Some text; terms = terms } in
       let ruled : Rulings = with_tariff (Some text) terms book.rulings in
-      let told : Bool = list_any (has_text text) book.rulings.tariffs in
-      let there : Bool = list_any (is_effective terms.effective) book.rulings.tariffs in
-      let after_all : Bool = is_later terms.effective book.rulings in
-      let dear : Bool = is_too_dear ruled book.held in
+      let tests = tariff_passes book text terms done in
       let still = still_begun (give (TariffAccepted (Some text) terms) book) (omega arith) in
       record {
         sound = steps_stay_sound.tariff naming book text terms whole.sound done;
@@ -220,7 +213,7 @@ module _ (naming : Naming) (book : Book) (whole : IsReadable naming book) where
           day = said.day;
         });
         rising = rising-behind book.rulings.tariffs later whole.rising
-            (later-before terms.effective book.rulings (passes told there after_all dear done));
+            (later-before terms.effective book.rulings tests.later);
         days = whole.days;
         in_order = whole.in_order;
         timely = still.0;
@@ -228,8 +221,7 @@ module _ (naming : Naming) (book : Book) (whole : IsReadable naming book) where
         past = still_linked (give (TariffAccepted (Some text) terms) book) refl refl refl;
         limits = record {
           held = whole.limits.held;
-          cost = ltb-false most_cost (total_of ruled book.held)
-              (leaves_room told there after_all dear done);
+          cost = ltb-false most_cost (total_of ruled book.held) tests.fits;
           closes = whole.limits.closes;
           choices = whole.limits.choices;
         };
@@ -240,8 +232,7 @@ module _ (naming : Naming) (book : Book) (whole : IsReadable naming book) where
       → IsReadable naming (close day book)
   close_stays number day on done =
       let is_open : number ≡ length book.rulings.closes + 1 = closed_open book number day done in
-      let full = (ended_open (open_number book) (is_closed number day book.rulings)
-      (number == open_number book) (is_early day book.rulings) (number == last_period) done).1 in
+      let full = (close_passes book number day done).room in
       let more = length-append book.rulings.closes (day ∷ []) in
       let few = whole.limits.closes in
       let still = still_begun (close day book) (omega arith) in
@@ -272,13 +263,11 @@ module _ (naming : Naming) (book : Book) (whole : IsReadable naming book) where
       → record_named naming book.held name ≡ Some bytes
       → IsReadable naming (give (RecordChosen bytes) book)
   choose_stays name bytes done found =
-      let tests = tests_passed (is_unrivalled book.rulings book.held bytes)
-      (is_chosen book.rulings bytes) (nat_le most_choices (length book.rulings.choices))
-      (ap (chosen_answer book) (sym found) ∙ done) in
+      let tests = choice_passes book bytes (ap (chosen_answer book) (sym found) ∙ done) in
       let choice : Choice = record { chosen = bytes; period = open_by book.rulings } in
       let more = length-append book.rulings.choices (choice ∷ []) in
       let room : length book.rulings.choices < most_choices =
-      leb-false most_choices (length book.rulings.choices) tests.1 in
+      leb-false most_choices (length book.rulings.choices) tests.room in
       let still = still_begun (give (RecordChosen bytes) book) (omega arith) in
       record {
         sound = steps_stay_sound.choose naming book name bytes whole.sound found;

@@ -11,9 +11,9 @@ use Rattle.book_model.specs.Words.{is_effective, is_later, is_too_dear, terms_an
 use Rattle.book_model.specs.Words.{most_cost, with_tariff, has}
 use Rattle.book_model.specs.Words.{IsSound}
 use Rattle.book_model.specs.declared.answer.Ruled.TheVariants.{Done}
-use Rattle.book_model.proofs.CallLemmas.{by_tests, passes}
 use Rattle.book_model.proofs.LatestLemmas.{later-before, later_price}
 use Rattle.book_model.proofs.PricingLemmas.{price_in-behind}
+use Rattle.book_model.proofs.TestLemmas.{by_tests, tariff_passes}
 use Rattle.table_model.specs.PeriodLists.{AreFramed}
 use Rattle.table_model.specs.Tables.{RecordRow}
 use Rattle.table_model.specs.TablesOf.{record_row, tables_of}
@@ -55,10 +55,7 @@ module _ (naming : Naming) (book : Book) (whole : IsReadable naming book) (text 
     ruled = with_tariff (Some text) terms book.rulings
 
     is_late : is_later terms.effective book.rulings ≡ true
-    is_late =
-        passes (list_any (has_text text) book.rulings.tariffs)
-        (list_any (is_effective terms.effective) book.rulings.tariffs)
-        (is_later terms.effective book.rulings) (is_too_dear ruled book.held) done
+    is_late = (tariff_passes book text terms done).later
 
     -- what a record that the tariff is for costs under it is within the limits
     late_priced : (bytes : List ℕ) → has book.held bytes ≡ true
