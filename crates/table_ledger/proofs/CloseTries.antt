@@ -13,12 +13,12 @@ use Rattle.book_model.specs.declared.answer.Ruled.{Ruled}
 use Rattle.book_model.specs.declared.answer.Ruled.TheVariants.{Done}
 use Rattle.book_model.proofs.MapLemmas.{else_find, find-both}
 use Rattle.book_model.proofs.RowLemmas.{by_key_total}
+use Rattle.book_model.proofs.TestLemmas.{closed_open}
 use Rattle.book_core.specs.OfficeRulings.{ruled_in}
 use Rattle.table_model.specs.Changed.{closed_at}
 use Rattle.table_model.specs.PeriodRows.{by_period, under, numbered}
 use Rattle.table_model.specs.PostedLaws.{PostsTouched}
 use Rattle.table_model.specs.TablesOf.{tables_of, day_entries}
-use Rattle.table_model.proofs.CloseDays.{closed_open}
 use Rattle.table_model.proofs.MoveLemmas.{not_number}
 use Rattle.table_model.proofs.NumberedLemmas.{by_period_total, find-under, is_number}
 use Rattle.table_model.proofs.TouchedRecords.{posts_few}

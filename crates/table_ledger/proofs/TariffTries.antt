@@ -16,7 +16,7 @@ use Rattle.book_model.specs.declared.answer.Ruled.TheVariants.{Done}
 use Rattle.book_model.specs.declared.fault.LedgerFault.{LedgerFault}
 use Rattle.book_model.specs.declared.fault.LedgerFault.TheVariants.{Full}
 use Rattle.book_core.specs.OfficeRulings.{ruled_in}
-use Rattle.book_model.proofs.CallLemmas.{passes}
+use Rattle.book_model.proofs.TestLemmas.{tariff_tests}
 use Rattle.book_core.proofs.TariffLemmas.{done_by, other_by, said_by}
 use Rattle.table_model.specs.Changed.{tariff_at}
 use Rattle.table_model.specs.TableChanges.{amount_under}
@@ -119,7 +119,7 @@ module _ (summary : Summary) (text : List ℕ) (terms : Terms) where
         sum = ready.remembers.total ∙ sym (amount_is_read naming book readable.sound);
         counted = late_counted naming book terms readable.sound
             (ap (is_later terms.effective) (sym ready.remembers.rulings)
-            ∙ passes told there later false done);
+            ∙ (tariff_tests told there later false done).later);
       }
 
       -- what looks have found of it
