@@ -10,10 +10,10 @@ use Rattle.sqlite_trees.proofs.ListLemmas.{all-append, all_weaker, ascending-app
 use Rattle.book_model.specs.Words.{Book, Choice, Event, IsAnswered, IsMadeByCalls, Naming}
 use Rattle.book_model.specs.Words.{PeriodClosed, RecordChosen, RecordKept, RulingGiven}
 use Rattle.book_model.specs.Words.{SecondRuleAdopted, TariffAccepted}
-use Rattle.book_model.specs.Words.{after, book_after, chosen_answer, conflict, has, is_chosen}
-use Rattle.book_model.specs.Words.{is_unrivalled, most_choices, open_by, open_number}
+use Rattle.book_model.specs.Words.{after, book_after, chosen_answer, conflict, has}
+use Rattle.book_model.specs.Words.{is_unrivalled, open_by, open_number}
 use Rattle.book_model.proofs.RecordSets.{has_with, is}
-use Rattle.table_model.proofs.ChoiceChanges.{tests_passed}
+use Rattle.book_model.proofs.TestLemmas.{choice_passes}
 use Rattle.table_model.proofs.RowsWhere.{one_passes, some_passes}
 
 -- a rule that was adopted in a period or later can have parted a record from its rivals
@@ -94,9 +94,7 @@ event_chosen naming book (PeriodClosed day) so_far answered = record {
 event_chosen naming book (RulingGiven (RecordChosen bytes)) so_far answered =
     let choice : Choice = record { chosen = bytes; period = open_by book.rulings } in
     let open_now : open_by book.rulings ≤ open_number book = omega arith in
-    let tests = tests_passed (is_unrivalled book.rulings book.held bytes)
-    (is_chosen book.rulings bytes) (nat_le most_choices (length book.rulings.choices))
-    (ap (chosen_answer book) (sym answered.1) ∙ answered.0) in
+    let tests = choice_passes book bytes (ap (chosen_answer book) (sym answered.1) ∙ answered.0) in
     record {
       begun = all-append (WasBegun book) book.rulings.choices (choice ∷ []) so_far.begun
           (open_now, tt);
@@ -104,7 +102,7 @@ event_chosen naming book (RulingGiven (RecordChosen bytes)) so_far answered =
           (choice ∷ []) so_far.rise (tt, tt)
           (each_before book (open_by book.rulings) open_now book.rulings.choices so_far.begun);
       rivalled = all-append (WasRival book) book.rulings.choices (choice ∷ []) so_far.rivalled
-          (inr (no_rival book bytes tests.0), tt);
+          (inr (no_rival book bytes tests.rivalled), tt);
     }
 event_chosen naming book (RulingGiven SecondRuleAdopted) so_far answered = record {
   begun = so_far.begun;
