@@ -1,5 +1,5 @@
 -- The texts about books: each is read from a book, which is no event.
-use Rattle.std.specs.Prelude.{◌≡◌, ℕ, if◌then◌else◌, List, Option, Some, None, Result}
+use Rattle.std.specs.Prelude.{◌≡◌, ℕ, ℤ, if◌then◌else◌, List, Option, Some, None, Result}
 use Rattle.std.specs.Prelude.{Ok, Err, IfOk, IfErr}
 use Rattle.std.specs.Option.{ok_or}
 use Rattle.std.specs.Result.{MatchResult}
@@ -8,6 +8,8 @@ use Rattle.sha2.specs.Sha256.{sha256}
 use Rattle.smf_text.specs.Names.{is_name}
 use Rattle.book_model.specs.declared.fault.LedgerFault.{LedgerFault}
 use Rattle.book_model.specs.declared.fault.LedgerFault.TheVariants.{Memory, NoSuchTariff}
+use Rattle.book_model.specs.declared.line.Line.{Line}
+use Rattle.book_model.specs.declared.row.ChargeRow.{ChargeRow}
 use Rattle.book_model.specs.Words.{Book, open_period, disputes_in, Outcome, no_event}
 use Rattle.book_model.specs.Words.{charges_outcome, adjustments_outcome, disputes_outcome}
 use Rattle.book_model.specs.Words.{periods_outcome, Naming, rows_for}
@@ -24,41 +26,56 @@ use Rattle.report_texts.specs.PeriodLists.{period_list_text}
 use Rattle.report_texts.specs.RulingLists.{ruling_list_text}
 use Rattle.report_texts.specs.RecordTexts.{record_text}
 use Rattle.book_reports.specs.declared.report.PeriodReport.{PeriodReport}
-use Rattle.book_reports.specs.declared.report.PeriodReport.TheVariants as of_period
+use Rattle.book_reports.specs.declared.report.PeriodReport.TheVariants.{AdjustmentList, Statement}
+use Rattle.book_reports.specs.declared.report.PeriodReport.TheVariants.{AdjustmentTable}
+use Rattle.book_reports.specs.declared.report.PeriodReport.TheVariants.{StatementTable}
 use Rattle.book_reports.specs.declared.report.Report.{Report}
-use Rattle.book_reports.specs.declared.report.Report.TheVariants.{Statement, StatementTable}
-use Rattle.book_reports.specs.declared.report.Report.TheVariants.{AdjustmentList, AdjustmentTable}
-use Rattle.book_reports.specs.declared.report.Report.TheVariants.{DisputeList, DisputeTable}
-use Rattle.book_reports.specs.declared.report.Report.TheVariants.{OfCentre, PeriodList}
-use Rattle.book_reports.specs.declared.report.Report.TheVariants.{Record, RulingList, TariffText}
-use Rattle.book_reports.specs.declared.report.Report.TheVariants.{Bill, OfficePage, PeriodPage}
+use Rattle.book_reports.specs.declared.report.Report.TheVariants.{Bill, DisputeList, DisputeTable}
+use Rattle.book_reports.specs.declared.report.Report.TheVariants.{OfPeriod, OfficePage, PeriodList}
+use Rattle.book_reports.specs.declared.report.Report.TheVariants.{PeriodPage, Record, RulingList}
+use Rattle.book_reports.specs.declared.report.Report.TheVariants.{TariffText}
 use Rattle.book_reports.specs.Bills.{bill_answer}
 use Rattle.book_reports.specs.Pages.{office_page_answer, period_page_answer}
 pub use Rattle.book_reports.specs.Shown.{closed_through, closed_through_outcome, shown_by}
-
--- what a period has of the whole office
-abbrev pub report_of_all : PeriodReport → ℕ → Report
-report_of_all of_period.Statement period = Statement period
-report_of_all of_period.StatementTable period = StatementTable period
-report_of_all of_period.AdjustmentList period = AdjustmentList period
-report_of_all of_period.AdjustmentTable period = AdjustmentTable period
 
 -- the centre that a text names, if it is a name
 abbrev pub centre_named : List ℕ → Option (List ℕ)
 centre_named text = if is_name text then Some text else None
 
--- what a book answers about one centre in a period
-abbrev pub centre_answer : Naming → PeriodReport → ℕ → List ℕ → Book → Result (List ℕ) LedgerFault
-centre_answer naming of_period.Statement period centre book =
-    shown_by (centre_statement_text centre period (closed_through book period))
+-- what a period has, of the whole office or of one centre: its statement, with the day that it was
+-- closed through, if it was,
+abbrev pub period_statement : Option (List ℕ) → ℕ → Option ℤ → List ChargeRow → List ℕ
+period_statement None = statement_text
+period_statement (Some centre) = centre_statement_text centre
+
+-- the same as a table,
+abbrev pub period_statement_table : Option (List ℕ) → ℕ → List ChargeRow → List ℕ
+period_statement_table None = statement_table
+period_statement_table (Some centre) = centre_statement_table centre
+
+-- its adjustments,
+abbrev pub period_adjustments : Option (List ℕ) → ℕ → Option ℤ → List Line → List ℕ
+period_adjustments None = adjustment_list_text
+period_adjustments (Some centre) = centre_adjustments_text centre
+
+-- and these as a table
+abbrev pub period_adjustment_table : Option (List ℕ) → ℕ → List Line → List ℕ
+period_adjustment_table None = adjustment_table
+period_adjustment_table (Some centre) = centre_adjustment_table centre
+
+-- what a book answers to that
+abbrev pub period_answer :
+    Naming → PeriodReport → ℕ → Option (List ℕ) → Book → Result (List ℕ) LedgerFault
+period_answer naming Statement period centre book =
+    shown_by (period_statement centre period (closed_through book period))
     (charges_outcome period book).answer
-centre_answer naming of_period.StatementTable period centre book =
-    shown_by (centre_statement_table centre period) (charges_outcome period book).answer
-centre_answer naming of_period.AdjustmentList period centre book =
-    shown_by (centre_adjustments_text centre period (closed_through book period))
+period_answer naming StatementTable period centre book =
+    shown_by (period_statement_table centre period) (charges_outcome period book).answer
+period_answer naming AdjustmentList period centre book =
+    shown_by (period_adjustments centre period (closed_through book period))
     (adjustments_outcome naming period book).answer
-centre_answer naming of_period.AdjustmentTable period centre book =
-    shown_by (centre_adjustment_table centre period) (adjustments_outcome naming period book).answer
+period_answer naming AdjustmentTable period centre book =
+    shown_by (period_adjustment_table centre period) (adjustments_outcome naming period book).answer
 
 -- the list of a book's rulings
 abbrev pub ruling_text : Naming → Book → List ℕ
@@ -67,17 +84,8 @@ ruling_text naming book = ruling_list_text (rulings_listed naming book.rulings)
 -- what a book answers to a report: its text, or the refusal of a period, a tariff or a record that is
 -- not there
 abbrev pub report_answer : Naming → Report → Book → Result (List ℕ) LedgerFault
-report_answer naming (Statement period) book =
-    shown_by (statement_text period (closed_through book period)) (charges_outcome period book).answer
-report_answer naming (StatementTable period) book =
-    shown_by (statement_table period) (charges_outcome period book).answer
-report_answer naming (AdjustmentList period) book =
-    shown_by (adjustment_list_text period (closed_through book period))
-    (adjustments_outcome naming period book).answer
-report_answer naming (AdjustmentTable period) book =
-    shown_by (adjustment_table period) (adjustments_outcome naming period book).answer
-report_answer naming (OfCentre report period centre) book =
-    centre_answer naming report period centre book
+report_answer naming (OfPeriod report period centre) book =
+    period_answer naming report period centre book
 report_answer naming DisputeList book =
     shown_by dispute_list_text (disputes_outcome naming book).answer
 report_answer naming DisputeTable book =
@@ -90,11 +98,6 @@ report_answer naming (Record name) book =
 report_answer naming (Bill form period centre) book = bill_answer naming form period centre book
 report_answer naming OfficePage book = office_page_answer naming book
 report_answer naming (PeriodPage period) book = period_page_answer naming period book
-
--- what a ledger is asked about one centre
-abbrev pub centre_outcome : Naming → PeriodReport → ℕ → List ℕ → Book → Outcome (List ℕ)
-centre_outcome naming report period centre book =
-    no_event (centre_answer naming report period centre book)
 
 -- a report, as a ledger is asked for it
 abbrev pub report_outcome : Naming → Report → Book → Outcome (List ℕ)

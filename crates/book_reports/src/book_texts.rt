@@ -1,9 +1,9 @@
 //! The texts that a ledger answers about its books, by calls of the ledger that change nothing: each
 //! is as one call.
 
-ghost use Rattle.std.specs.Prelude.{IfOk};
+ghost use Rattle.std.specs.Prelude.{◌≡◌, IfOk};
 ghost use Rattle.std.specs.Option.{ForSome};
-ghost use Rattle.book_model.specs.Words.{IsDay};
+ghost use Rattle.book_model.specs.Words.{AreLines, AreRows, IsDay};
 ghost use Rattle.book_core.specs.Calls.{IsCall};
 ghost use Rattle.book_reports.specs.BookTexts as spec;
 
@@ -11,7 +11,7 @@ use crate::bills::bill_report;
 use crate::pages::{office_page_report, period_page_report};
 use crate::report::{PeriodReport, Report};
 use crate::ruling_texts::{ruling_list, tariff_text};
-use book_core::{Ledger, LedgerFault};
+use book_core::{ChargeRow, Ledger, LedgerFault, Line};
 use report_texts::{
     adjustment_list_text, adjustment_table, centre_adjustment_table, centre_adjustments_text,
     centre_statement_table, centre_statement_text, dispute_list_text, dispute_table,
@@ -44,71 +44,117 @@ pub(crate) fn made_of<V, T, F: FnOnce(V) -> Result<T, AllocError>>(
     Ok(make(answer?)?)
 }
 
-/// The text of a report on one centre.
-fn centre_text<L: Ledger>(
+/// The statement of a period, of the whole office or of one centre.
+fn period_statement(
+    alloc: Global,
+    centre: Option<Name>,
+    period: u16,
+    through: Option<i32>,
+    rows: Vec<ChargeRow>,
+) -> Result<Vec<u8>, AllocError>
+    requires through { ForSome through IsDay }
+    requires rows { AreRows rows.items }
+    ensures { IfOk result (λ text.
+        text.items ≡ spec.period_statement centre period through rows.items) }
+{
+    match centre {
+        None => Ok(statement_text(alloc, period, through, &rows)?.into_bytes()),
+        Some(centre) => {
+            Ok(centre_statement_text(alloc, centre, period, through, rows)?.into_bytes())
+        }
+    }
+}
+
+/// The same as a table.
+fn period_statement_table(
+    alloc: Global,
+    centre: Option<Name>,
+    period: u16,
+    rows: Vec<ChargeRow>,
+) -> Result<Vec<u8>, AllocError>
+    requires { AreRows rows.items }
+    ensures { IfOk result (λ table.
+        table.items ≡ spec.period_statement_table centre period rows.items) }
+{
+    match centre {
+        None => statement_table(alloc, period, &rows),
+        Some(centre) => centre_statement_table(alloc, centre, period, rows),
+    }
+}
+
+/// The adjustments of a period, of the whole office or of one centre.
+fn period_adjustments(
+    alloc: Global,
+    centre: Option<Name>,
+    period: u16,
+    through: Option<i32>,
+    lines: Vec<Line>,
+) -> Result<Vec<u8>, AllocError>
+    requires through { ForSome through IsDay }
+    requires lines { AreLines lines.items }
+    ensures { IfOk result (λ text.
+        text.items ≡ spec.period_adjustments centre period through lines.items) }
+{
+    match centre {
+        None => Ok(adjustment_list_text(alloc, period, through, &lines)?.into_bytes()),
+        Some(centre) => {
+            Ok(centre_adjustments_text(alloc, centre, period, through, lines)?.into_bytes())
+        }
+    }
+}
+
+/// The same as a table.
+fn period_adjustment_table(
+    alloc: Global,
+    centre: Option<Name>,
+    period: u16,
+    lines: Vec<Line>,
+) -> Result<Vec<u8>, AllocError>
+    requires { AreLines lines.items }
+    ensures { IfOk result (λ table.
+        table.items ≡ spec.period_adjustment_table centre period lines.items) }
+{
+    match centre {
+        None => adjustment_table(alloc, period, &lines),
+        Some(centre) => centre_adjustment_table(alloc, centre, period, lines),
+    }
+}
+
+/// The text of what a period has.
+fn period_text<L: Ledger>(
     alloc: Global,
     ledger: &mut L,
     report: PeriodReport,
     period: u16,
-    centre: Name,
+    centre: Option<Name>,
 ) -> Result<Vec<u8>, LedgerFault>
     ensures { IsCall (λ text. text.items) (L.seen ledger.old) (L.seen ledger.new) result
-        (spec.centre_outcome (L.seen ledger.old).naming report period centre) }
+        (spec.report_outcome (L.seen ledger.old).naming (Report.OfPeriod report period centre)) }
 {
     match report {
         PeriodReport::Statement => {
             let through = closed_through(ledger, period)?;
-            made_of(ledger.charges(period), |rows| {
-                Ok(centre_statement_text(alloc, centre, period, through, rows)?.into_bytes())
-            })
+            made_of(
+                ledger.charges(period),
+                |rows| period_statement(alloc, centre, period, through, rows),
+            )
         }
         PeriodReport::StatementTable => made_of(
             ledger.charges(period),
-            |rows| centre_statement_table(alloc, centre, period, rows),
+            |rows| period_statement_table(alloc, centre, period, rows),
         ),
         PeriodReport::AdjustmentList => {
             let through = closed_through(ledger, period)?;
-            made_of(ledger.adjustments(period), |lines| {
-                Ok(centre_adjustments_text(alloc, centre, period, through, lines)?.into_bytes())
-            })
+            made_of(
+                ledger.adjustments(period),
+                |lines| period_adjustments(alloc, centre, period, through, lines),
+            )
         }
         PeriodReport::AdjustmentTable => made_of(
             ledger.adjustments(period),
-            |lines| centre_adjustment_table(alloc, centre, period, lines),
+            |lines| period_adjustment_table(alloc, centre, period, lines),
         ),
     }
-}
-
-/// The statement of a period.
-fn statement_report<L: Ledger>(
-    alloc: Global,
-    ledger: &mut L,
-    period: u16,
-) -> Result<Vec<u8>, LedgerFault>
-    ensures { IsCall (λ text. text.items) (L.seen ledger.old) (L.seen ledger.new) result
-        (spec.report_outcome (L.seen ledger.old).naming (Report.Statement period)) }
-{
-    let through = closed_through(ledger, period)?;
-    made_of(
-        ledger.charges(period),
-        |rows| Ok(statement_text(alloc, period, through, &rows)?.into_bytes()),
-    )
-}
-
-/// The adjustments of a period.
-fn adjustment_report<L: Ledger>(
-    alloc: Global,
-    ledger: &mut L,
-    period: u16,
-) -> Result<Vec<u8>, LedgerFault>
-    ensures { IsCall (λ text. text.items) (L.seen ledger.old) (L.seen ledger.new) result
-        (spec.report_outcome (L.seen ledger.old).naming (Report.AdjustmentList period)) }
-{
-    let through = closed_through(ledger, period)?;
-    made_of(
-        ledger.adjustments(period),
-        |lines| Ok(adjustment_list_text(alloc, period, through, &lines)?.into_bytes()),
-    )
 }
 
 /// The text of a report.
@@ -121,21 +167,11 @@ pub fn report_text<L: Ledger>(
         (spec.report_outcome (L.seen ledger.old).naming report) }
 {
     match report {
-        Report::Statement(period) => statement_report(alloc, ledger, period),
-        Report::StatementTable(period) => made_of(
-            ledger.charges(period),
-            |rows| statement_table(alloc, period, &rows),
-        ),
-        Report::AdjustmentList(period) => adjustment_report(alloc, ledger, period),
-        Report::AdjustmentTable(period) => made_of(
-            ledger.adjustments(period),
-            |lines| adjustment_table(alloc, period, &lines),
-        ),
-        Report::OfCentre {
+        Report::OfPeriod {
             report,
             period,
             centre,
-        } => centre_text(alloc, ledger, report, period, centre),
+        } => period_text(alloc, ledger, report, period, centre),
         Report::DisputeList => made_of(
             ledger.disputes(),
             |disputes| Ok(dispute_list_text(alloc, &disputes)?.into_bytes()),

@@ -34,7 +34,7 @@ pub use figures::{OpenPeriod, open_period, period_figures, rows_of_period};
 pub use output::{write_bytes, write_text};
 pub use receipt_lines::receipt_line_text;
 pub use record_names::name_of_text;
-pub use report::{PeriodReport, Report, centre_named, report_of_all};
+pub use report::{PeriodReport, Report, centre_named};
 pub use report_texts::{
     adjustment_list_text, adjustment_table, centre_adjustment_table, centre_adjustments_text,
     centre_statement_table, centre_statement_text, dispute_list_text, dispute_table,

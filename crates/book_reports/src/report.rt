@@ -6,7 +6,7 @@ ghost use Rattle.book_reports.specs.BookTexts as spec;
 use crate::what_if::StatementForm;
 use smf_text::Name;
 
-/// What a period has of the whole office, and of each centre.
+/// What a period has, of the whole office and of each centre.
 #[derive(Clone, Copy, Debug, PartialEq, Eq)]
 pub enum PeriodReport {
     /// The statement.
@@ -22,19 +22,11 @@ pub enum PeriodReport {
 /// A report of the books.
 #[derive(Clone, Copy, Debug, PartialEq, Eq)]
 pub enum Report {
-    /// The statement of a period.
-    Statement(u16),
-    /// The statement of a period as a table of comma-separated values.
-    StatementTable(u16),
-    /// The adjustments of a period.
-    AdjustmentList(u16),
-    /// The adjustments of a period as a table of comma-separated values.
-    AdjustmentTable(u16),
-    /// What a period has of one centre.
-    OfCentre {
+    /// What a period has: of one centre, or where none is named of the whole office.
+    OfPeriod {
         report: PeriodReport,
         period: u16,
-        centre: Name,
+        centre: Option<Name>,
     },
     /// The disputes.
     DisputeList,
@@ -58,18 +50,6 @@ pub enum Report {
     OfficePage,
     /// The page of a period, for a browser.
     PeriodPage(u16),
-}
-
-/// What a period has of the whole office.
-pub fn report_of_all(report: PeriodReport, period: u16) -> Report
-    ensures { result ≡ spec.report_of_all report period }
-{
-    match report {
-        PeriodReport::Statement => Report::Statement(period),
-        PeriodReport::StatementTable => Report::StatementTable(period),
-        PeriodReport::AdjustmentList => Report::AdjustmentList(period),
-        PeriodReport::AdjustmentTable => Report::AdjustmentTable(period),
-    }
 }
 
 /// The centre that a text names, `None` where the text is no name.

@@ -1,7 +1,7 @@
 //! Reports, written to any writer. The text is made before its first byte is written: if the
 //! books refuse, or memory runs out, nothing is written.
 
-ghost use Rattle.std.specs.Prelude.{◌≡◌, ◌∷◌, [], false, IfErr};
+ghost use Rattle.std.specs.Prelude.{◌≡◌, ◌∷◌, [], false, IfErr, None};
 ghost use Rattle.streams.specs.InputOutput.{output};
 ghost use Rattle.streams.specs.Sinks.{writer_of, has_failed};
 ghost use Rattle.book_core.specs.Ledgers.{books};
@@ -14,7 +14,7 @@ use crate::book_texts::report_text;
 use crate::fault::ReportFault;
 use crate::output::{write_bytes, write_text};
 use crate::receipt_lines::receipt_line_text;
-use crate::report::Report;
+use crate::report::{PeriodReport, Report};
 use book_core::{Ledger, LedgerFault, Sink};
 use book_import::Receipt;
 use std::alloc::Global;
@@ -73,11 +73,16 @@ pub fn statement<L: Ledger, W: Write + Drop>(
     sink: &mut Sink<W>,
 ) -> Result<(), ReportFault>
     requires { has_failed sink.old ≡ false }
-    ensures report { IsReport (Report.Statement period) (books L.seen ledger.old ledger.new)
-        (output W.contents sink.old sink.new) result }
+    ensures report { IsReport (Report.OfPeriod PeriodReport.Statement period None)
+        (books L.seen ledger.old ledger.new) (output W.contents sink.old sink.new) result }
     ensures failed { has_failed sink.new ≡ is_write_fault result }
 {
-    write_report(alloc, ledger, Report::Statement(period), sink)
+    let asked = Report::OfPeriod {
+        report: PeriodReport::Statement,
+        period,
+        centre: None,
+    };
+    write_report(alloc, ledger, asked, sink)
 }
 
 /// Writes the statement of a period as a table of comma-separated values.
@@ -88,11 +93,16 @@ pub fn statement_csv<L: Ledger, W: Write + Drop>(
     sink: &mut Sink<W>,
 ) -> Result<(), ReportFault>
     requires { has_failed sink.old ≡ false }
-    ensures report { IsReport (Report.StatementTable period) (books L.seen ledger.old ledger.new)
-        (output W.contents sink.old sink.new) result }
+    ensures report { IsReport (Report.OfPeriod PeriodReport.StatementTable period None)
+        (books L.seen ledger.old ledger.new) (output W.contents sink.old sink.new) result }
     ensures failed { has_failed sink.new ≡ is_write_fault result }
 {
-    write_report(alloc, ledger, Report::StatementTable(period), sink)
+    let asked = Report::OfPeriod {
+        report: PeriodReport::StatementTable,
+        period,
+        centre: None,
+    };
+    write_report(alloc, ledger, asked, sink)
 }
 
 /// Writes the adjustments of a period.
@@ -103,11 +113,16 @@ pub fn adjustment_list<L: Ledger, W: Write + Drop>(
     sink: &mut Sink<W>,
 ) -> Result<(), ReportFault>
     requires { has_failed sink.old ≡ false }
-    ensures report { IsReport (Report.AdjustmentList period) (books L.seen ledger.old ledger.new)
-        (output W.contents sink.old sink.new) result }
+    ensures report { IsReport (Report.OfPeriod PeriodReport.AdjustmentList period None)
+        (books L.seen ledger.old ledger.new) (output W.contents sink.old sink.new) result }
     ensures failed { has_failed sink.new ≡ is_write_fault result }
 {
-    write_report(alloc, ledger, Report::AdjustmentList(period), sink)
+    let asked = Report::OfPeriod {
+        report: PeriodReport::AdjustmentList,
+        period,
+        centre: None,
+    };
+    write_report(alloc, ledger, asked, sink)
 }
 
 /// Writes the disputes.

@@ -1,7 +1,5 @@
 use Rattle.std.proofs.Common.{SFits, refl, rules, w32}
 use Rattle.std.proofs.lemmas.Int.{to_z-of_z}
-use Rattle.report_texts.specs.StatementTables.{statement_table}
-use Rattle.report_texts.specs.AdjustmentTables.{adjustment_table}
 use Rattle.report_texts.specs.DisputeLists.{dispute_list_text}
 use Rattle.report_texts.specs.DisputeTables.{dispute_table}
 use Rattle.report_texts.specs.PeriodLists.{period_list_text}
@@ -9,26 +7,11 @@ use Rattle.report_texts.specs.RecordTexts.{record_text}
 use Rattle.book_reports.proofs.ReadingLemmas.{call_made}
 use Rattle.book_reports.proofs.book_texts.report_text.Goals as goal
 
--- the dated ones are texts of their own
-pub returns-in-Statement : goal.returns-in-Statement
-returns-in-Statement g c = rw c.in-Statement.is c.statement_report.ensures
+-- what a period has is a text of its own
+pub returns-in-OfPeriod : goal.returns-in-OfPeriod
+returns-in-OfPeriod g c = rw c.in-OfPeriod.is c.period_text.ensures
 
-pub returns-in-AdjustmentList : goal.returns-in-AdjustmentList
-returns-in-AdjustmentList g c = rw c.in-AdjustmentList.is c.adjustment_report.ensures
-
--- of each other list that was asked for its text is made
-pub returns-in-StatementTable : goal.returns-in-StatementTable
-returns-in-StatementTable g c =
-    rw c.in-StatementTable.is (call_made (statement_table c.in-StatementTable.period) (λ book. refl)
-    c.charges.ensures.rows c.made_of.ensures
-    λ rows table made. search rules)
-
-pub returns-in-AdjustmentTable : goal.returns-in-AdjustmentTable
-returns-in-AdjustmentTable g c =
-    rw c.in-AdjustmentTable.is (call_made (adjustment_table c.in-AdjustmentTable.period)
-    (λ book. refl) c.adjustments.ensures.lines
-    c.made_of-in-AdjustmentTable.ensures λ lines table made. search rules)
-
+-- of each list that was asked for its text is made
 pub returns-in-DisputeTable : goal.returns-in-DisputeTable
 returns-in-DisputeTable g c =
     rw c.in-DisputeTable.is (call_made dispute_table (λ book. refl)
@@ -38,7 +21,7 @@ returns-in-DisputeTable g c =
 pub returns-in-DisputeList : goal.returns-in-DisputeList
 returns-in-DisputeList g c =
     rw c.in-DisputeList.is (call_made dispute_list_text (λ book. refl) c.disputes.ensures.disputes
-    c.made_of-in-DisputeList.ensures λ disputes text made. search rules)
+    c.made_of.ensures λ disputes text made. search rules)
 
 pub returns-in-PeriodList : goal.returns-in-PeriodList
 returns-in-PeriodList g c =
@@ -49,10 +32,6 @@ pub returns-in-Record : goal.returns-in-Record
 returns-in-Record g c =
     rw c.in-Record.is (call_made (record_text c.in-Record.name) (λ book. refl)
     c.trail_of.ensures.trail c.made_of-in-Record.ensures λ trail text made. search rules)
-
--- a report on one centre is a text of its own
-pub returns-in-OfCentre : goal.returns-in-OfCentre
-returns-in-OfCentre g c = rw c.in-OfCentre.is c.centre_text.ensures
 
 -- the rulings are texts of their own
 pub returns-in-RulingList : goal.returns-in-RulingList

@@ -1,8 +1,8 @@
 use Rattle.std.proofs.Common.{refl, rules}
-use Rattle.report_texts.specs.Centres.{centre_adjustment_table, centre_adjustments_text}
-use Rattle.report_texts.specs.Centres.{centre_statement_table, centre_statement_text}
+use Rattle.book_reports.specs.BookTexts.{period_adjustment_table, period_adjustments}
+use Rattle.book_reports.specs.BookTexts.{period_statement, period_statement_table}
 use Rattle.book_reports.proofs.ReadingLemmas.{call_failed, call_made, period_made}
-use Rattle.book_reports.proofs.book_texts.centre_text.Goals as goal
+use Rattle.book_reports.proofs.book_texts.period_text.Goals as goal
 
 -- the books did not say through which day the period was closed
 pub returns-in_err-through-in-Statement : goal.returns-in_err-through-in-Statement
@@ -20,13 +20,13 @@ returns-in_err-through-in-AdjustmentList g c =
 -- each list that was asked for is made its text
 pub returns-in_ok-through-in-Statement : goal.returns-in_ok-through-in-Statement
 returns-in_ok-through-in-Statement g c =
-    rw c.in-Statement.is (period_made _ (centre_statement_text c.args.centre c.args.period)
+    rw c.in-Statement.is (period_made _ (period_statement c.args.centre c.args.period)
     (λ book. refl) c.in_ok-through-in-Statement.ensures.through c.charges.ensures.rows
     c.made_of.ensures λ rows text made. search rules)
 
 pub returns-in-StatementTable : goal.returns-in-StatementTable
 returns-in-StatementTable g c =
-    rw c.in-StatementTable.is (call_made (centre_statement_table c.args.centre c.args.period)
+    rw c.in-StatementTable.is (call_made (period_statement_table c.args.centre c.args.period)
     (λ book. refl) c.charges-in-StatementTable.ensures.rows
     c.made_of-in-StatementTable.ensures λ rows table made. search rules)
 
@@ -34,12 +34,12 @@ pub returns-in_ok-through-in-AdjustmentList : goal.returns-in_ok-through-in-Adju
 returns-in_ok-through-in-AdjustmentList g c =
     let day = c.in_ok-through-in-AdjustmentList.ensures.through in
     rw c.in-AdjustmentList.is
-    (period_made _ (centre_adjustments_text c.args.centre c.args.period) (λ book. refl) day
+    (period_made _ (period_adjustments c.args.centre c.args.period) (λ book. refl) day
     (rw day.work.naming at c.adjustments.ensures.lines) c.made_of-in-AdjustmentList.ensures
     λ lines text made. search rules)
 
 pub returns-in-AdjustmentTable : goal.returns-in-AdjustmentTable
 returns-in-AdjustmentTable g c =
-    rw c.in-AdjustmentTable.is (call_made (centre_adjustment_table c.args.centre c.args.period)
+    rw c.in-AdjustmentTable.is (call_made (period_adjustment_table c.args.centre c.args.period)
     (λ book. refl) c.adjustments-in-AdjustmentTable.ensures.lines
     c.made_of-in-AdjustmentTable.ensures λ lines table made. search rules)
