@@ -14,7 +14,7 @@ mod running;
 pub use answering::{answer_lines, write_answer};
 pub use asking::{ask, ask_without_reader};
 pub use away::AwayBooks;
-pub use book_reports::{PeriodReport, Report, StatementForm, WhatIf, centre_named, report_of_all};
+pub use book_reports::{PeriodReport, Report, StatementForm, WhatIf, centre_named};
 pub use choosing::{Chosen, choose_each};
 pub use laws::{answers_are_free, answers_follow_book, answers_follow_history, run_twice_is_once};
 pub use looks::Look;
