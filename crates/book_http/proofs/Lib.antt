@@ -2,7 +2,7 @@ pub mod AnswerLemmas
 pub mod AskedLemmas
 pub mod BodyLemmas
 pub mod ServedPathLemmas
-pub mod FormPathLemmas
+pub mod PeriodPathLemmas
 pub mod FramingLemmas
 pub mod GatherLemmas
 pub mod HeadLemmas

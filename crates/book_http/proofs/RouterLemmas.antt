@@ -12,6 +12,7 @@ use Rattle.matchit.specs.Router.{RouteOf}
 use Rattle.matchit.specs.Rows.{RowsOf, param_token, catch_all_token}
 use Rattle.matchit.specs.Seek.{own, step, or_else, seek, first, param_step, longest_suffix, segment}
 use Rattle.matchit.specs.Seek.{with_suffix, same_text, has_slash}
+use Rattle.smf_frames.specs.declared.dump.Layout.TheVariants.{Rdw, Bdw}
 use Rattle.book_http.specs.declared.route.Page.{Page}
 use Rattle.book_http.specs.declared.route.Page.TheVariants as page
 use Rattle.book_http.specs.Routes.{page_of, route_rows}
@@ -189,8 +190,8 @@ plain_path page.Periods = Some (codes "/periods")
 plain_path page.Disputes = Some (codes "/disputes")
 plain_path page.DisputesCsv = Some (codes "/disputes-csv")
 plain_path page.Rulings = Some (codes "/rulings")
-plain_path page.Import = Some (codes "/import")
-plain_path page.ImportBdw = Some (codes "/import-bdw")
+plain_path (page.Import Rdw) = Some (codes "/import")
+plain_path (page.Import Bdw) = Some (codes "/import-bdw")
 plain_path found = None
 
 -- a key's text is the path of its page, where that names no period

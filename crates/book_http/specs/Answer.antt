@@ -37,11 +37,9 @@ use Rattle.book_http.specs.Head.{HasHead, HasNoHead}
 use Rattle.book_http.specs.Replies.{Reply, success, refusal, other_method, receipt_reply}
 
 abbrev pub body_kind : Report → BodyKind
-body_kind (report.StatementTable period) = Csv
-body_kind (report.AdjustmentTable period) = Csv
+body_kind (report.OfPeriod StatementTable period centre) = Csv
+body_kind (report.OfPeriod AdjustmentTable period centre) = Csv
 body_kind report.DisputeTable = Csv
-body_kind (report.OfCentre StatementTable period centre) = Csv
-body_kind (report.OfCentre AdjustmentTable period centre) = Csv
 body_kind report.OfficePage = Page
 body_kind (report.PeriodPage period) = Page
 body_kind (report.TariffText day) = TariffFile

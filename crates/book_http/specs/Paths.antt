@@ -23,11 +23,8 @@ abbrev pub IsServedRoute : Route → Type 0
 IsServedRoute (route_to.Report report_of.OfficePage) = ⊤
 IsServedRoute (route_to.Report (report_of.PeriodPage n)) = IsPathPeriod n
 IsServedRoute (route_to.Report report_of.PeriodList) = ⊤
-IsServedRoute (route_to.Report (report_of.Statement n)) = IsPathPeriod n
-IsServedRoute (route_to.Report (report_of.StatementTable n)) = IsPathPeriod n
-IsServedRoute (route_to.Report (report_of.AdjustmentList n)) = IsPathPeriod n
-IsServedRoute (route_to.Report (report_of.AdjustmentTable n)) = IsPathPeriod n
-IsServedRoute (route_to.Report (report_of.OfCentre asked n centre)) = IsPathPeriod n × IsName centre
+IsServedRoute (route_to.Report (report_of.OfPeriod asked n centre)) =
+    IsPathPeriod n × IfSome centre IsName
 IsServedRoute (route_to.Report report_of.DisputeList) = ⊤
 IsServedRoute (route_to.Report report_of.DisputeTable) = ⊤
 IsServedRoute (route_to.Report (report_of.Record name)) = ⊤
@@ -70,16 +67,8 @@ abbrev pub HasPath : Route → List ℕ → Type 0
 HasPath (route_to.Report report_of.OfficePage) path = path ≡ codes "/"
 HasPath (route_to.Report (report_of.PeriodPage n)) path = path ≡ codes "/period/" ++ decimal n
 HasPath (route_to.Report report_of.PeriodList) path = path ≡ codes "/periods"
-HasPath (route_to.Report (report_of.Statement n)) path =
-    path ≡ period_path of_period.Statement ++ decimal n
-HasPath (route_to.Report (report_of.StatementTable n)) path =
-    path ≡ period_path of_period.StatementTable ++ decimal n
-HasPath (route_to.Report (report_of.AdjustmentList n)) path =
-    path ≡ period_path of_period.AdjustmentList ++ decimal n
-HasPath (route_to.Report (report_of.AdjustmentTable n)) path =
-    path ≡ period_path of_period.AdjustmentTable ++ decimal n
-HasPath (route_to.Report (report_of.OfCentre asked n centre)) path =
-    path ≡ period_path asked ++ period_text n (Some centre)
+HasPath (route_to.Report (report_of.OfPeriod asked n centre)) path =
+    path ≡ period_path asked ++ period_text n centre
 HasPath (route_to.Report report_of.DisputeList) path = path ≡ codes "/disputes"
 HasPath (route_to.Report report_of.DisputeTable) path = path ≡ codes "/disputes-csv"
 HasPath (route_to.Report (report_of.Record name)) path = IsPathOfRecord name path

@@ -12,11 +12,10 @@ use Rattle.matchit.specs.Seek.{first}
 use Rattle.matchit.specs.declared.error.InsertError.{InsertError}
 use Rattle.smf_frames.specs.declared.dump.Layout.TheVariants.{Rdw, Bdw}
 use Rattle.smf_text.specs.Day.{day_of_text_of}
-use Rattle.book_reports.specs.BookTexts.{centre_named, report_of_all}
+use Rattle.book_reports.specs.BookTexts.{centre_named}
 use Rattle.book_reports.specs.RecordNames.{name_in}
 use Rattle.book_reports.specs.declared.report.PeriodReport.{PeriodReport}
 use Rattle.book_reports.specs.declared.report.PeriodReport.TheVariants as of_period
-use Rattle.book_reports.specs.declared.report.Report.{Report}
 use Rattle.book_reports.specs.declared.report.Report.TheVariants as report_of
 use Rattle.book_reports.specs.declared.what_if.StatementForm.{StatementForm}
 use Rattle.book_reports.specs.declared.what_if.StatementForm.TheVariants as shown_as
@@ -25,6 +24,7 @@ use Rattle.book_http.specs.declared.route.Page.TheVariants as page
 use Rattle.book_http.specs.declared.route.Route.{Route}
 use Rattle.book_http.specs.declared.route.Route.TheVariants as route_to
 use Rattle.book_http.specs.Numbers.{decimal_value}
+use Rattle.book_http.specs.Paths.{details_path, period_path, what_if_path}
 
 -- a target up to a question mark; nothing is decoded
 abbrev pub path_of : List ℕ → List ℕ
@@ -76,35 +76,23 @@ period_in text = period_by (period (before_slash text)) (after_slash text)
 abbrev pub period_after : List ℕ → List ℕ → Option (ℕ × Option (List ℕ))
 period_after prefix path = option_and_then period_in (path_rest prefix path)
 
--- what is asked of a period, of the whole office or of a centre
-abbrev pub report_on : PeriodReport → ℕ → Option (List ℕ) → Report
-report_on asked number None = report_of_all asked number
-report_on asked number (Some centre) = report_of.OfCentre asked number centre
+-- what a period has, of the whole office or of a centre
+abbrev pub report_on : PeriodReport → ℕ → Option (List ℕ) → Route
+report_on asked number centre = route_to.Report (report_of.OfPeriod asked number centre)
 
--- what a path asks of a period after its prefix
-abbrev pub report_after : PeriodReport → List ℕ → List ℕ → Option Route
-report_after asked prefix path =
-    option_map (λ named. route_to.Report (report_on asked named.0 named.1)) (period_after prefix path)
-
--- the details of a period, of the whole office or of a centre
+-- its details
 abbrev pub details_on : StatementForm → ℕ → Option (List ℕ) → Route
 details_on form number centre =
     route_to.Details (record { form = form; period = number; centre = centre })
 
--- those that a path asks for after its prefix
-abbrev pub details_after : StatementForm → List ℕ → List ℕ → Option Route
-details_after form prefix path =
-    option_map (λ named. details_on form named.0 named.1) (period_after prefix path)
-
--- what is asked of a period and a tariff, of the whole office or of a centre
+-- and what it would have cost by a tariff
 abbrev pub what_if_on : StatementForm → ℕ → Option (List ℕ) → Route
 what_if_on form number centre =
     route_to.WhatIf (record { form = form; period = number; centre = centre })
 
--- what a path asks of a period and a tariff after its prefix
-abbrev pub what_if_after : StatementForm → List ℕ → List ℕ → Option Route
-what_if_after form prefix path =
-    option_map (λ named. what_if_on form named.0 named.1) (period_after prefix path)
+-- what a path asks for by the period, and the centre if there is one, after its prefix
+abbrev pub named_after : (ℕ → Option (List ℕ) → Route) → List ℕ → List ℕ → Option Route
+named_after on prefix path = option_map (λ named. on named.0 named.1) (period_after prefix path)
 
 -- the period whose page a path asks for after its prefix
 abbrev pub page_after : List ℕ → List ℕ → Option Route
@@ -129,24 +117,15 @@ unfoldable pub route_at : Page → List ℕ → Option Route
 route_at page.Office path = Some (route_to.Report report_of.OfficePage)
 route_at page.Period path = page_after (codes "/period/") path
 route_at page.Periods path = Some (route_to.Report report_of.PeriodList)
-route_at page.Statement path = report_after of_period.Statement (codes "/statement/") path
-route_at page.StatementCsv path =
-    report_after of_period.StatementTable (codes "/statement-csv/") path
-route_at page.Adjustments path =
-    report_after of_period.AdjustmentList (codes "/adjustments/") path
-route_at page.AdjustmentsCsv path =
-    report_after of_period.AdjustmentTable (codes "/adjustments-csv/") path
-route_at page.Details path = details_after shown_as.Text (codes "/details/") path
-route_at page.DetailsCsv path = details_after shown_as.Table (codes "/details-csv/") path
+route_at (page.OfPeriod asked) path = named_after (report_on asked) (period_path asked) path
+route_at (page.Details form) path = named_after (details_on form) (details_path form) path
 route_at page.Disputes path = Some (route_to.Report report_of.DisputeList)
 route_at page.DisputesCsv path = Some (route_to.Report report_of.DisputeTable)
 route_at page.Record path = record_after (codes "/record/") path
 route_at page.Rulings path = Some (route_to.Report report_of.RulingList)
 route_at page.Tariff path = tariff_after (codes "/tariff/") path
-route_at page.WhatIf path = what_if_after shown_as.Text (codes "/what-if/") path
-route_at page.WhatIfCsv path = what_if_after shown_as.Table (codes "/what-if-csv/") path
-route_at page.Import path = Some (route_to.Import Rdw)
-route_at page.ImportBdw path = Some (route_to.Import Bdw)
+route_at (page.WhatIf form) path = named_after (what_if_on form) (what_if_path form) path
+route_at (page.Import layout) path = Some (route_to.Import layout)
 
 -- the rows of the router with one more route, as matchit reads its text
 abbrev pub with_scan :
@@ -168,21 +147,21 @@ unfoldable pub route_rows : RowsOf (RouteOf Page)
 route_rows =
     with_route (codes "/period/{*rest}") page.Period
     (with_route (codes "/") page.Office
-    (with_route (codes "/import-bdw") page.ImportBdw
-    (with_route (codes "/import") page.Import
-    (with_route (codes "/what-if-csv/{*rest}") page.WhatIfCsv
-    (with_route (codes "/what-if/{*rest}") page.WhatIf
+    (with_route (codes "/import-bdw") (page.Import Bdw)
+    (with_route (codes "/import") (page.Import Rdw)
+    (with_route (codes "/what-if-csv/{*rest}") (page.WhatIf shown_as.Table)
+    (with_route (codes "/what-if/{*rest}") (page.WhatIf shown_as.Text)
     (with_route (codes "/tariff/{*rest}") page.Tariff
     (with_route (codes "/rulings") page.Rulings
     (with_route (codes "/record/{*rest}") page.Record
     (with_route (codes "/disputes-csv") page.DisputesCsv
     (with_route (codes "/disputes") page.Disputes
-    (with_route (codes "/details-csv/{*rest}") page.DetailsCsv
-    (with_route (codes "/details/{*rest}") page.Details
-    (with_route (codes "/adjustments-csv/{*rest}") page.AdjustmentsCsv
-    (with_route (codes "/adjustments/{*rest}") page.Adjustments
-    (with_route (codes "/statement-csv/{*rest}") page.StatementCsv
-    (with_route (codes "/statement/{*rest}") page.Statement
+    (with_route (codes "/details-csv/{*rest}") (page.Details shown_as.Table)
+    (with_route (codes "/details/{*rest}") (page.Details shown_as.Text)
+    (with_route (codes "/adjustments-csv/{*rest}") (page.OfPeriod of_period.AdjustmentTable)
+    (with_route (codes "/adjustments/{*rest}") (page.OfPeriod of_period.AdjustmentList)
+    (with_route (codes "/statement-csv/{*rest}") (page.OfPeriod of_period.StatementTable)
+    (with_route (codes "/statement/{*rest}") (page.OfPeriod of_period.Statement)
     (with_route (codes "/periods") page.Periods [])))))))))))))))))
 
 -- the page of a path

@@ -29,10 +29,8 @@ fn body_kind(report: &Report) -> BodyKind
     ensures { result ≡ spec.body_kind report.now }
 {
     match report {
-        Report::StatementTable(_)
-        | Report::AdjustmentTable(_)
-        | Report::DisputeTable
-        | Report::OfCentre {
+        Report::DisputeTable
+        | Report::OfPeriod {
             report: PeriodReport::StatementTable | PeriodReport::AdjustmentTable,
             ..
         } => BodyKind::Csv,

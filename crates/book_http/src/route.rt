@@ -1,6 +1,7 @@
 //! The paths that are served.
 
 ghost use Rattle.std.specs.Prelude.{◌≡◌, IfOk, IfSome, IsUtf8, Some, option_map};
+ghost use Rattle.book_http.specs.Paths as paths;
 ghost use Rattle.book_http.specs.Paths.{IsPathOf};
 ghost use Rattle.book_http.specs.declared.route.Route.{Route};
 ghost use Rattle.book_http.specs.Routes as spec;
@@ -9,7 +10,7 @@ ghost use Rattle.book_http.specs.Routes.{route_rows};
 use crate::decimal_value::decimal_value;
 use book_reports::{DetailReport, name_of_text};
 use matchit::{InsertError, Router};
-use office::{PeriodReport, Report, StatementForm, WhatIf, centre_named, report_of_all};
+use office::{PeriodReport, Report, StatementForm, WhatIf, centre_named};
 use smf_frames::Layout;
 use smf_text::{Name, day_of_text};
 use std::alloc::{AllocError, Global};
@@ -37,18 +38,10 @@ pub enum Page {
     Period,
     /// The list of the periods.
     Periods,
-    /// A statement, of the whole office or of one centre.
-    Statement,
-    /// A statement as rows with commas.
-    StatementCsv,
-    /// The adjustments of a period.
-    Adjustments,
-    /// The adjustments of a period as rows with commas.
-    AdjustmentsCsv,
+    /// What a period has, of the whole office or of one centre.
+    OfPeriod(PeriodReport),
     /// The details of a period.
-    Details,
-    /// The details of a period as rows with commas.
-    DetailsCsv,
+    Details(StatementForm),
     /// The list of the disputes.
     Disputes,
     /// The records in dispute as rows with commas.
@@ -60,13 +53,9 @@ pub enum Page {
     /// The file of a tariff.
     Tariff,
     /// What a period would have cost by a tariff that is submitted.
-    WhatIf,
-    /// The same as rows with commas.
-    WhatIfCsv,
-    /// Dumps of segments are submitted.
-    Import,
-    /// Dumps of blocks are submitted.
-    ImportBdw,
+    WhatIf(StatementForm),
+    /// Dumps in this layout are submitted.
+    Import(Layout),
 }
 
 /// The most digits of a period.
@@ -83,21 +72,33 @@ fn with_page(mut router: Router<Page>, route: &str, page: Page) -> Result<Router
 /// The routes of all pages.
 static ROUTES: [(&str, Page); 18] = [
     ("/periods", Page::Periods),
-    ("/statement/{*rest}", Page::Statement),
-    ("/statement-csv/{*rest}", Page::StatementCsv),
-    ("/adjustments/{*rest}", Page::Adjustments),
-    ("/adjustments-csv/{*rest}", Page::AdjustmentsCsv),
-    ("/details/{*rest}", Page::Details),
-    ("/details-csv/{*rest}", Page::DetailsCsv),
+    (
+        "/statement/{*rest}",
+        Page::OfPeriod(PeriodReport::Statement),
+    ),
+    (
+        "/statement-csv/{*rest}",
+        Page::OfPeriod(PeriodReport::StatementTable),
+    ),
+    (
+        "/adjustments/{*rest}",
+        Page::OfPeriod(PeriodReport::AdjustmentList),
+    ),
+    (
+        "/adjustments-csv/{*rest}",
+        Page::OfPeriod(PeriodReport::AdjustmentTable),
+    ),
+    ("/details/{*rest}", Page::Details(StatementForm::Text)),
+    ("/details-csv/{*rest}", Page::Details(StatementForm::Table)),
     ("/disputes", Page::Disputes),
     ("/disputes-csv", Page::DisputesCsv),
     ("/record/{*rest}", Page::Record),
     ("/rulings", Page::Rulings),
     ("/tariff/{*rest}", Page::Tariff),
-    ("/what-if/{*rest}", Page::WhatIf),
-    ("/what-if-csv/{*rest}", Page::WhatIfCsv),
-    ("/import", Page::Import),
-    ("/import-bdw", Page::ImportBdw),
+    ("/what-if/{*rest}", Page::WhatIf(StatementForm::Text)),
+    ("/what-if-csv/{*rest}", Page::WhatIf(StatementForm::Table)),
+    ("/import", Page::Import(Layout::Rdw)),
+    ("/import-bdw", Page::Import(Layout::Bdw)),
     ("/", Page::Office),
     ("/period/{*rest}", Page::Period),
 ];
@@ -198,31 +199,53 @@ fn period_after(prefix: &str, path: &str) -> Option<(u16, Option<Name>)>
     period_in(rest)
 }
 
-/// What is asked of a period, of one centre or of the whole office.
-fn report_on(asked: PeriodReport, period: u16, centre: Option<Name>) -> Report
-    ensures { result ≡ spec.report_on asked period centre }
+/// Where what a period has is served.
+fn period_path(report: PeriodReport) -> &'static str
+    ensures { result.now ≡ paths.period_path report }
 {
-    match centre {
-        None => report_of_all(asked, period),
-        Some(centre) => Report::OfCentre {
-            report: asked,
-            period,
-            centre,
-        },
+    match report {
+        PeriodReport::Statement => "/statement/",
+        PeriodReport::StatementTable => "/statement-csv/",
+        PeriodReport::AdjustmentList => "/adjustments/",
+        PeriodReport::AdjustmentTable => "/adjustments-csv/",
+    }
+}
+
+/// Where its details are.
+fn details_path(form: StatementForm) -> &'static str
+    ensures { result.now ≡ paths.details_path form }
+{
+    match form {
+        StatementForm::Text => "/details/",
+        StatementForm::Table => "/details-csv/",
+    }
+}
+
+/// Where it is served what a period would have cost.
+fn what_if_path(form: StatementForm) -> &'static str
+    ensures { result.now ≡ paths.what_if_path form }
+{
+    match form {
+        StatementForm::Text => "/what-if/",
+        StatementForm::Table => "/what-if-csv/",
     }
 }
 
 /// What a path asks of a period after its prefix.
-fn report_after(asked: PeriodReport, prefix: &str, path: &str) -> Option<Route>
-    ensures { result ≡ spec.report_after asked prefix.now path.now }
+fn report_after(report: PeriodReport, prefix: &str, path: &str) -> Option<Route>
+    ensures { result ≡ spec.named_after (spec.report_on report) prefix.now path.now }
 {
     let (period, centre) = period_after(prefix, path)?;
-    Some(Route::Report(report_on(asked, period, centre)))
+    Some(Route::Report(Report::OfPeriod {
+        report,
+        period,
+        centre,
+    }))
 }
 
 /// The details that a path asks for after its prefix.
 fn details_after(form: StatementForm, prefix: &str, path: &str) -> Option<Route>
-    ensures { result ≡ spec.details_after form prefix.now path.now }
+    ensures { result ≡ spec.named_after (spec.details_on form) prefix.now path.now }
 {
     let (period, centre) = period_after(prefix, path)?;
     Some(Route::Details(DetailReport {
@@ -234,7 +257,7 @@ fn details_after(form: StatementForm, prefix: &str, path: &str) -> Option<Route>
 
 /// What a path asks of a period and a tariff after its prefix.
 fn what_if_after(form: StatementForm, prefix: &str, path: &str) -> Option<Route>
-    ensures { result ≡ spec.what_if_after form prefix.now path.now }
+    ensures { result ≡ spec.named_after (spec.what_if_on form) prefix.now path.now }
 {
     let (period, centre) = period_after(prefix, path)?;
     Some(Route::WhatIf(WhatIf {
@@ -280,23 +303,15 @@ fn route_at(page: Page, path: &str) -> Option<Route>
         Page::Office => Some(Route::Report(Report::OfficePage)),
         Page::Period => page_after("/period/", path),
         Page::Periods => Some(Route::Report(Report::PeriodList)),
-        Page::Statement => report_after(PeriodReport::Statement, "/statement/", path),
-        Page::StatementCsv => report_after(PeriodReport::StatementTable, "/statement-csv/", path),
-        Page::Adjustments => report_after(PeriodReport::AdjustmentList, "/adjustments/", path),
-        Page::AdjustmentsCsv => {
-            report_after(PeriodReport::AdjustmentTable, "/adjustments-csv/", path)
-        }
-        Page::Details => details_after(StatementForm::Text, "/details/", path),
-        Page::DetailsCsv => details_after(StatementForm::Table, "/details-csv/", path),
+        Page::OfPeriod(report) => report_after(report, period_path(report), path),
+        Page::Details(form) => details_after(form, details_path(form), path),
         Page::Disputes => Some(Route::Report(Report::DisputeList)),
         Page::DisputesCsv => Some(Route::Report(Report::DisputeTable)),
         Page::Record => record_after("/record/", path),
         Page::Rulings => Some(Route::Report(Report::RulingList)),
         Page::Tariff => tariff_after("/tariff/", path),
-        Page::WhatIf => what_if_after(StatementForm::Text, "/what-if/", path),
-        Page::WhatIfCsv => what_if_after(StatementForm::Table, "/what-if-csv/", path),
-        Page::Import => Some(Route::Import(Layout::Rdw)),
-        Page::ImportBdw => Some(Route::Import(Layout::Bdw)),
+        Page::WhatIf(form) => what_if_after(form, what_if_path(form), path),
+        Page::Import(layout) => Some(Route::Import(layout)),
     }
 }
 
