@@ -26,8 +26,8 @@ use Rattle.page_texts.specs.PeriodPictures.{centre_part, day_part}
 use Rattle.page_texts.specs.PeriodTables.{adjustment_part, dispute_part, statement_part}
 use Rattle.book_reports.specs.BookTexts.{closed_through, report_answer, shown_by}
 use Rattle.book_reports.specs.Pages.{first_figures, page_figures}
-use Rattle.book_reports.specs.declared.report.Report.TheVariants.{AdjustmentList, OfficePage}
-use Rattle.book_reports.specs.declared.report.Report.TheVariants.{PeriodPage, Statement}
+use Rattle.book_reports.specs.declared.report.PeriodReport.TheVariants.{AdjustmentList, Statement}
+use Rattle.book_reports.specs.declared.report.Report.TheVariants.{OfPeriod, OfficePage, PeriodPage}
 use Rattle.book_laws.specs.PageLaws.{EndsWith, HasPart, PageTotalsAreTheReports, adjustments_end}
 use Rattle.book_laws.specs.PageLaws.{statement_end}
 
@@ -89,7 +89,7 @@ module _ (naming : Naming) (book : Book) (number : ℕ) (period : Period)
         by false e found = grind (arith, nat_tests)
 
     statement_ends : (cpu : ℕ) × (blocks : ℕ) × EndsWith (statement_end its_figures cpu blocks)
-        (report_answer naming (Statement number) book)
+        (report_answer naming (OfPeriod Statement number None) book)
     statement_ends =
         let through = closed_through book number in
         let title = title_line (codes "STATEMENT") number through in
@@ -106,7 +106,7 @@ module _ (naming : Naming) (book : Book) (number : ℕ) (period : Period)
         )
 
     adjustments_end_so : EndsWith (adjustments_end its_figures)
-        (report_answer naming (AdjustmentList number) book)
+        (report_answer naming (OfPeriod AdjustmentList number None) book)
     unfolding sum_line
     adjustments_end_so =
         let through = closed_through book number in (

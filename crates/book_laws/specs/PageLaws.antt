@@ -1,5 +1,5 @@
 -- The law of pages: their amounts are those of the reports.
-use Rattle.std.specs.Prelude.{◌≡◌, ℕ, ◌≤◌, List, [], ◌++◌, codes, Some, Result, Ok}
+use Rattle.std.specs.Prelude.{◌≡◌, ℕ, ◌≤◌, List, [], ◌++◌, codes, Some, None, Result, Ok}
 use Rattle.book_model.specs.declared.fault.LedgerFault.{LedgerFault}
 use Rattle.book_model.specs.Words.{Book, Naming, Period, lines_of, period_of, rows_for}
 use Rattle.report_texts.specs.AdjustmentLists.{action_columns, signed_column}
@@ -11,8 +11,8 @@ use Rattle.page_texts.specs.Figures.{FiguresSeen, figures_of}
 use Rattle.page_texts.specs.OfficePage.{office_row}
 use Rattle.page_texts.specs.PeriodHead.{period_head, period_title}
 use Rattle.book_reports.specs.BookTexts.{report_answer}
-use Rattle.book_reports.specs.declared.report.Report.TheVariants.{AdjustmentList, OfficePage}
-use Rattle.book_reports.specs.declared.report.Report.TheVariants.{PeriodPage, Statement}
+use Rattle.book_reports.specs.declared.report.PeriodReport.TheVariants.{AdjustmentList, Statement}
+use Rattle.book_reports.specs.declared.report.Report.TheVariants.{OfPeriod, OfficePage, PeriodPage}
 
 -- a text is answered that ends with this one
 abbrev pub EndsWith : List ℕ → Result (List ℕ) LedgerFault → Type 0
@@ -37,9 +37,11 @@ adjustments_end figures =
 pub record AreShown (naming : Naming) (book : Book) (number : ℕ) (figures : FiguresSeen) : Type 0
   where
     pub statement : (cpu : ℕ) × (blocks : ℕ)
-        × EndsWith (statement_end figures cpu blocks) (report_answer naming (Statement number) book)
+        × EndsWith (statement_end figures cpu blocks)
+        (report_answer naming (OfPeriod Statement number None) book)
     pub adjustments :
-        EndsWith (adjustments_end figures) (report_answer naming (AdjustmentList number) book)
+        EndsWith (adjustments_end figures)
+        (report_answer naming (OfPeriod AdjustmentList number None) book)
     pub page : HasPart
         (period_head (period_title number) (close_of number book.rulings.closes) figures)
         (report_answer naming (PeriodPage number) book)
