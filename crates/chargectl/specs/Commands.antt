@@ -10,13 +10,12 @@ use Rattle.book_model.specs.declared.fault.LedgerFault.{LedgerFault}
 use Rattle.book_model.specs.Words.{Book, Event, Naming}
 use Rattle.book_core.specs.Follow.{MakesAnswered}
 use Rattle.book_core.specs.Transition.{Transition}
-use Rattle.book_reports.specs.declared.report.PeriodReport.{PeriodReport}
 use Rattle.book_reports.specs.declared.report.Report.{Report}
-use Rattle.book_reports.specs.declared.report.Report.TheVariants.{OfCentre, PeriodList, TariffText}
+use Rattle.book_reports.specs.declared.report.Report.TheVariants.{OfPeriod, PeriodList, TariffText}
 use Rattle.book_reports.specs.declared.report.Report.TheVariants.{Bill, PeriodPage, Record}
 use Rattle.book_reports.specs.declared.what_if.StatementForm.{StatementForm}
 use Rattle.book_reports.specs.declared.what_if.WhatIf.{WhatIf}
-use Rattle.book_reports.specs.BookTexts.{centre_named, report_of_all}
+use Rattle.book_reports.specs.BookTexts.{centre_named}
 use Rattle.office.specs.declared.repository.RepositoryFault.{RepositoryFault}
 use Rattle.office.specs.declared.request.Asked.{Asked}
 use Rattle.office.specs.declared.request.Asked.TheVariants as asks
@@ -44,22 +43,16 @@ pub use Rattle.chargectl.specs.Faults.{IsFileFault, IsTextFault}
 use Rattle.chargectl.specs.Faults.{IsOutputFault, end_of, shelf_fault, without_log}
 use Rattle.chargectl.specs.FirstBytes.{IsLookedAt, layout_notice}
 
--- what a period has of the whole office, or of the centre that is named, if that is a name
-abbrev pub period_report : PeriodReport → ℕ → Option (Bor (List ℕ)) → Option Report
-period_report report period None = Some (report_of_all report period)
-period_report report period (Some centre) =
-    option_map (OfCentre report period) (centre_named centre.now)
-
--- the bill of the centre that is named, if that is a name, or that of the whole office
-abbrev pub bill_report : StatementForm → ℕ → Option (Bor (List ℕ)) → Option Report
-bill_report form period None = Some (Bill form period None)
-bill_report form period (Some centre) =
-    option_map (λ named. Bill form period (Some named)) (centre_named centre.now)
+-- the centre that is asked for, if that is a name; or none, for the whole office
+abbrev pub asked_centre : Option (Bor (List ℕ)) → Option (Option (List ℕ))
+asked_centre None = Some None
+asked_centre (Some text) = option_map Some (centre_named text.now)
 
 -- the report that words ask for, if each of them is what it has to be
 abbrev pub report_of : ReportWords → Option Report
-report_of (worded.OfPeriod report period centre) = period_report report period centre
-report_of (worded.Bill form period centre) = bill_report form period centre
+report_of (worded.OfPeriod report period centre) =
+    option_map (OfPeriod report period) (asked_centre centre)
+report_of (worded.Bill form period centre) = option_map (Bill form period) (asked_centre centre)
 report_of (worded.Page period) = Some (PeriodPage period)
 report_of (worded.Record name) = option_map Record (name_in name.now)
 report_of worded.Periods = Some PeriodList
@@ -69,11 +62,9 @@ report_of (worded.TariffText date) = option_map TariffText (day_of_text_of date.
 abbrev pub what_if_for : StatementForm → ℕ → Option (List ℕ) → WhatIf
 what_if_for form period centre = record { form = form; period = period; centre = centre }
 
--- that of the whole office, or of the centre that is named, if that is a name
+-- the one that words ask for, if the centre is what it has to be
 abbrev pub what_if_of : StatementForm → ℕ → Option (Bor (List ℕ)) → Option WhatIf
-what_if_of form period None = Some (what_if_for form period None)
-what_if_of form period (Some centre) =
-    option_map (λ named. what_if_for form period (Some named)) (centre_named centre.now)
+what_if_of form period centre = option_map (what_if_for form period) (asked_centre centre)
 
 -- The table: what a command asks of the office. The text of a tariff is what its file gave.
 abbrev pub IsAskedBy : BookRequest → Asked → Type 0

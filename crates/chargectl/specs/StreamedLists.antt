@@ -12,7 +12,7 @@ use Rattle.book_reports.specs.declared.fault.ReportFault.{ReportFault}
 use Rattle.book_reports.specs.declared.streamed_disputes.DisputeForm.TheVariants as form
 use Rattle.book_reports.specs.declared.what_if.StatementForm.{StatementForm}
 use Rattle.book_reports.specs.declared.what_if.StatementForm.TheVariants as shown_as
-use Rattle.book_reports.specs.BookTexts.{centre_named, ruling_text}
+use Rattle.book_reports.specs.BookTexts.{ruling_text}
 use Rattle.book_reports.specs.StreamedAnswers.{WritesAnswer, answered_by}
 use Rattle.book_reports.specs.StreamedDetails.{WritesSomeDetails, detail_answer}
 use Rattle.book_reports.specs.StreamedDisputes.{WritesSomeDisputes, dispute_report}
@@ -24,7 +24,7 @@ use Rattle.chargectl.specs.declared.command_fault.CommandFault.TheVariants as fa
 use Rattle.chargectl.specs.declared.ended.Ended.{Ended}
 use Rattle.chargectl.specs.declared.streamed_lists.StreamedList.{StreamedList}
 use Rattle.chargectl.specs.declared.streamed_lists.StreamedList.TheVariants as list
-use Rattle.chargectl.specs.Commands.{IsShelfFault, first_fault}
+use Rattle.chargectl.specs.Commands.{IsShelfFault, asked_centre, first_fault}
 use Rattle.chargectl.specs.Faults.{shelf_fault}
 
 -- the text of a list, or why the books have none: only of a period that is not there
@@ -52,11 +52,9 @@ details_for csv period centre = list.Details (record {
   centre = centre;
 })
 
--- those of the whole office, or of the centre that is named, if that is a name
+-- those that words ask for, if the centre is what it has to be
 abbrev pub details_by : Bool → ℕ → Option (Bor (List ℕ)) → Option StreamedList
-details_by csv period None = Some (details_for csv period None)
-details_by csv period (Some centre) =
-    option_map (λ named. details_for csv period (Some named)) (centre_named centre.now)
+details_by csv period centre = option_map (details_for csv period) (asked_centre centre)
 
 -- the disputes, as a table or as a list for people
 abbrev pub disputes_by : Bool → StreamedList

@@ -12,11 +12,9 @@ use crate::book_commands::{ask_books, tariff_text};
 use crate::command_fault::CommandFault;
 use crate::ended::Answered;
 use command_line::{BookRequest, ReportWords};
-use office::{
-    Asked, PeriodReport, Report, Repository, StatementForm, WhatIf, centre_named, report_of_all,
-};
+use office::{Asked, Report, Repository, StatementForm, WhatIf, centre_named};
 use program_output::name_of_text;
-use smf_text::day_of_text;
+use smf_text::{Name, day_of_text};
 use std::io;
 
 /// Asks the books of a name for a report.
@@ -47,12 +45,26 @@ fn report_of(words: ReportWords<'_>) -> Option<Report>
             report,
             period,
             centre,
-        } => period_report(report, period, centre),
+        } => {
+            let centre = asked_centre(centre)?;
+            Some(Report::OfPeriod {
+                report,
+                period,
+                centre,
+            })
+        }
         ReportWords::Bill {
             form,
             period,
             centre,
-        } => bill_of(form, period, centre),
+        } => {
+            let centre = asked_centre(centre)?;
+            Some(Report::Bill {
+                form,
+                period,
+                centre,
+            })
+        }
         ReportWords::Page { period } => Some(Report::PeriodPage(period)),
         ReportWords::Record { name } => record_report(name),
         ReportWords::Periods => Some(Report::PeriodList),
@@ -80,41 +92,13 @@ fn tariff_report(date: &str) -> Option<Report>
     }
 }
 
-/// What a period has, of the whole office where no centre is named. `None`: the text is no name.
-fn period_report(report: PeriodReport, period: u16, centre: Option<&str>) -> Option<Report>
-    ensures { result ≡ spec.period_report report period centre.entry }
+/// The centre that is asked for, or none for the whole office. `None`: the text is no name.
+pub(crate) fn asked_centre(centre: Option<&str>) -> Option<Option<Name>>
+    ensures { result ≡ spec.asked_centre centre.entry }
 {
     match centre {
-        Some(text) => match centre_named(text) {
-            Some(centre) => Some(Report::OfCentre {
-                report,
-                period,
-                centre,
-            }),
-            None => None,
-        },
-        None => Some(report_of_all(report, period)),
-    }
-}
-
-/// The bill, of the whole office where no centre is named. `None`: the text is no name.
-fn bill_of(form: StatementForm, period: u16, centre: Option<&str>) -> Option<Report>
-    ensures { result ≡ spec.bill_report form period centre.entry }
-{
-    match centre {
-        Some(text) => {
-            let centre = centre_named(text)?;
-            Some(Report::Bill {
-                form,
-                period,
-                centre: Some(centre),
-            })
-        }
-        None => Some(Report::Bill {
-            form,
-            period,
-            centre: None,
-        }),
+        Some(text) => Some(Some(centre_named(text)?)),
+        None => Some(None),
     }
 }
 
@@ -142,24 +126,14 @@ pub(crate) fn what_if<S: Repository>(
     Ok(ask_books(rt, repository, book, asked, io::empty()))
 }
 
-/// What the books are asked for, of the whole office where no centre is named. `None`: the text is
-/// no name.
+/// What the books are asked for. `None`: the text of the centre is no name.
 fn what_if_of(form: StatementForm, period: u16, centre: Option<&str>) -> Option<WhatIf>
     ensures { result ≡ spec.what_if_of form period centre.entry }
 {
-    match centre {
-        Some(text) => {
-            let centre = centre_named(text)?;
-            Some(WhatIf {
-                form,
-                period,
-                centre: Some(centre),
-            })
-        }
-        None => Some(WhatIf {
-            form,
-            period,
-            centre: None,
-        }),
-    }
+    let centre = asked_centre(centre)?;
+    Some(WhatIf {
+        form,
+        period,
+        centre,
+    })
 }

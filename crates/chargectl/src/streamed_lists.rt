@@ -14,11 +14,12 @@ ghost use Rattle.chargectl.specs.StreamedLists.{ListsAsked, ListsBy, WritesSomeO
 
 use crate::command_fault::CommandFault;
 use crate::ended::Ended;
+use crate::report_commands::asked_centre;
 use book_core::{Ledger, Sink};
 use book_reports::{
     DetailReport, DisputeForm, ReportFault, write_details, write_disputes, write_rulings,
 };
-use office::{Opened, Repository, RepositoryFault, StatementForm, Visit, centre_named};
+use office::{Opened, Repository, RepositoryFault, StatementForm, Visit};
 use std::alloc::Global;
 use std::io::Write;
 
@@ -40,27 +41,17 @@ fn details_form(csv: bool) -> StatementForm
     }
 }
 
-/// The details of a period, of the whole office where no centre is named. `None`: the text is no
-/// name.
+/// The details of a period. `None`: the text of the centre is no name.
 fn details_by(csv: bool, period: u16, centre: Option<&str>) -> Option<StreamedList>
     ensures { result ≡ spec.details_by csv period centre.entry }
 {
     let form = details_form(csv);
-    match centre {
-        Some(text) => {
-            let centre = centre_named(text)?;
-            Some(StreamedList::Details(DetailReport {
-                form,
-                period,
-                centre: Some(centre),
-            }))
-        }
-        None => Some(StreamedList::Details(DetailReport {
-            form,
-            period,
-            centre: None,
-        })),
-    }
+    let centre = asked_centre(centre)?;
+    Some(StreamedList::Details(DetailReport {
+        form,
+        period,
+        centre,
+    }))
 }
 
 /// The disputes as a table of comma-separated values, or as a list for people.
