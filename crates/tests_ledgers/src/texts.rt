@@ -73,10 +73,10 @@ impl PeriodText {
             PeriodText::Bill(form) => return Ok(bill(form, period, Some(centre))),
             PeriodText::Page => return Err(LineFault::NotUnderstood),
         };
-        Ok(BookText::Report(Report::OfCentre {
+        Ok(BookText::Report(Report::OfPeriod {
             report,
             period,
-            centre,
+            centre: Some(centre),
         }))
     }
 }
