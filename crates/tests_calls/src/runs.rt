@@ -10,7 +10,7 @@ use crate::tariffs::{NEXT_YEAR, TO_PAYROLL, tariff_text};
 use crate::test_streams::has_lines;
 use book_core::{Ledger, LedgerFault, Ruled};
 use book_import::{Receipt, Stop};
-use office::{Answer, Asked, Report, StatementForm, WhatIf, run};
+use office::{Answer, Asked, PeriodReport, Report, StatementForm, WhatIf, run};
 use smf_frames::Layout;
 use smf_text::day_of_text;
 use std::alloc::{AllocError, Global};
@@ -28,12 +28,21 @@ pub(crate) enum OfficeReport {
     PeriodList,
 }
 
+/// What a period has of the whole office.
+fn of_period(report: PeriodReport, period: u16) -> Report {
+    Report::OfPeriod {
+        report,
+        period,
+        centre: None,
+    }
+}
+
 impl OfficeReport {
     pub(crate) fn report(self) -> Report {
         match self {
-            OfficeReport::Statement(period) => Report::Statement(period),
-            OfficeReport::StatementTable(period) => Report::StatementTable(period),
-            OfficeReport::AdjustmentList(period) => Report::AdjustmentList(period),
+            OfficeReport::Statement(period) => of_period(PeriodReport::Statement, period),
+            OfficeReport::StatementTable(period) => of_period(PeriodReport::StatementTable, period),
+            OfficeReport::AdjustmentList(period) => of_period(PeriodReport::AdjustmentList, period),
             OfficeReport::DisputeList => Report::DisputeList,
             OfficeReport::PeriodList => Report::PeriodList,
         }
