@@ -1,25 +1,33 @@
--- Books that were copied to another name.
-use Rattle.std.proofs.Common.{ℕ, List, Result, Ok, Err}
+-- What an audit says, and books that were copied to another name, where nothing is known of them.
+use Rattle.std.proofs.Common.{ℕ, List, Result, Ok, Err, inl}
 use Rattle.book_model.specs.Words.{Naming}
 use Rattle.office.specs.declared.repository.RepositoryFault.{RepositoryFault}
 use Rattle.office.specs.Shelves.{unknown}
 use Rattle.office.proofs.ShelfLemmas.{unknown_untouched}
-use Rattle.book_audit.specs.Copies.{IsCopied}
+use Rattle.book_audit.specs.Copies.{IsAudited, IsCopied}
 use Rattle.book_audit.specs.declared.audited.Audited.{Audited}
 use Rattle.book_audit.specs.declared.audited.Audited.TheVariants.{Sound, Unsound}
 
--- where nothing is known of them
+pub unknown_audited : (book : List ℕ) (naming : Naming) (answer : Result Audited RepositoryFault)
+    → IsAudited book (unknown naming) answer
+unknown_audited book naming (Ok (Sound counts)) = λ history held. absurd held
+unknown_audited book naming (Ok (Unsound finding)) = tt
+unknown_audited book naming (Err fault) = tt
+
 pub unknown_copied : (book copy : List ℕ) (naming : Naming) (answer : Result Audited RepositoryFault)
     → IsCopied book copy (unknown naming) (unknown naming) answer
 unknown_copied book copy naming (Ok (Sound counts)) = record {
   kept = unknown_untouched copy naming;
   copied = λ free. absurd free;
+  why = tt;
 }
 unknown_copied book copy naming (Ok (Unsound finding)) = record {
   kept = unknown_untouched copy naming;
   copied = λ free. absurd free;
+  why = tt;
 }
 unknown_copied book copy naming (Err fault) = record {
   kept = unknown_untouched copy naming;
   copied = λ free. absurd free;
+  why = inl tt;
 }

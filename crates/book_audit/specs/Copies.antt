@@ -1,20 +1,40 @@
--- Books that were copied to another name.
-use Rattle.std.specs.Prelude.{ℕ, List, Result, Ok, Err}
-use Rattle.book_model.specs.Words.{Event}
+-- What an audit of books says of them, and books that were copied to another name.
+use Rattle.std.specs.Prelude.{◌≡◌, ◌⊎◌, ℕ, List, IfErr, Result, Ok, Err}
+use Rattle.sqlite_trees.specs.Tree.{Trees}
+use Rattle.book_model.specs.Words.{Event, Naming, book_of}
 use Rattle.office.specs.declared.repository.RepositoryFault.{RepositoryFault}
 use Rattle.office.specs.Shelves.{Shelf, IsUntouched}
+use Rattle.book_audit.specs.OfBook.{AreOfBook}
 use Rattle.book_audit.specs.declared.audited.Audited.{Audited}
 use Rattle.book_audit.specs.declared.audited.Audited.TheVariants.{Sound, Unsound}
+use Rattle.book_audit.specs.declared.audited.Counts.{Counts}
 
--- A copy that is sound has the name that was free, and holds the history of the books.
+-- these are the counts of the book of a history, as trees hold it
+abbrev pub AreCountsOf : Naming → List Event → Counts → Type 0
+AreCountsOf naming history counts =
+    (trees : Trees) × (it : AreOfBook naming trees counts) × (it.book ≡ book_of history)
+
+-- Books that are sound have the counts of their history. Of those that are called unsound nothing
+-- is said, since a disk may have failed meanwhile. Others were refused.
+abbrev pub IsAudited : List ℕ → Shelf → Result Audited RepositoryFault → Type 0
+IsAudited book shelf (Ok (Sound counts)) =
+    (history : List Event) → shelf.holds book history → AreCountsOf shelf.naming history counts
+IsAudited book shelf (Ok (Unsound finding)) = Unit {0}
+IsAudited book shelf (Err fault) = shelf.refuses book fault
+
+-- A copy that is sound has the name that was free, and holds the history of the books, which has
+-- these counts.
 abbrev pub HoldsCopy : List ℕ → List ℕ → Shelf → Shelf → Result Audited RepositoryFault → Type 0
 HoldsCopy book copy old new (Ok (Sound counts)) =
-    old.is_free copy → (history : List Event) → old.holds book history → new.holds copy history
+    old.is_free copy → (history : List Event) → old.holds book history
+    → new.holds copy history × AreCountsOf old.naming history counts
 HoldsCopy book copy old new (Ok (Unsound finding)) = old.is_free copy → new.is_free copy
 HoldsCopy book copy old new (Err fault) = old.is_free copy → new.is_free copy
 
--- All books that were there are as they were, and the copy is another.
+-- All books that were there are as they were, and the copy is another; or one of the two names was
+-- refused.
 pub record IsCopied (book copy : List ℕ) (old new : Shelf) (answer : Result Audited RepositoryFault)
     : Type 0 where
   pub kept : IsUntouched copy old new
   pub copied : HoldsCopy book copy old new answer
+  pub why : IfErr answer (λ fault. old.refuses book fault ⊎ old.refuses copy fault)

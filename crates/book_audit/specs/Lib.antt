@@ -1,7 +1,7 @@
 -- The trees and what is looked up in them; the rule of identity; what the data of a record say;
 -- which record of an identity was chosen last; how a record is charged and posted; trees that are
--- sound, that hold a book, and that hold one which calls made; books that were copied; and what is
--- printed.
+-- sound, that hold a book, and that hold one which calls made; what an audit says, and books that
+-- were copied; and what is printed.
 pub mod Trees
 pub mod Walks
 pub mod Rulings

@@ -4,11 +4,12 @@ use office::{Opened, Repository};
 
 /// Where books are kept by their names, and can be looked through.
 pub trait AuditedRepository: Repository {
-    ghost use Rattle.book_audit.specs.Copies.{IsCopied};
+    ghost use Rattle.book_audit.specs.Copies.{IsAudited, IsCopied};
 
     /// Looks through the books of a name, and says what came of it. Nothing is written.
     fn audit<W: Watch>(&self, book: &str, watch: &mut W) -> Opened<Audited>
-        ensures { (Self.shelf self.now).has_log book.now result.has_log };
+        ensures audited { IsAudited book.now (Self.shelf self.now) result.answer }
+        ensures log { (Self.shelf self.now).has_log book.now result.has_log };
 
     /// Copies the books of a name to another, which nothing has, and looks through the copy. The
     /// name is given to a copy that is sound, and to no other.

@@ -47,11 +47,11 @@ pub audit_unsound : (audited : Audited) (finding : Finding) (held holds : Option
 audit_unsound audited finding held holds is =
     subst (λ audited. EndsAudit (Ok audited) held holds (Err fault.Unsound)) (sym is) (inl refl)
 
--- there is nothing of that name
+-- the place refused them
 pub audits_none : (IsDone : Result Audited RepositoryFault → Type 0) (book : List ℕ) (shelf : Shelf)
     (held : Option (List ℕ)) (why : RepositoryFault) (result : Result Ended CommandFault)
-    → IsErr result → IsErrAnd result (λ fault. fault ≡ shelf_fault why)
+    → shelf.refuses book why → IsErr result → IsErrAnd result (λ fault. fault ≡ shelf_fault why)
     → AuditsBy IsDone book shelf shelf held held result
-audits_none IsDone book shelf held why (Ok ended) bad is = absurd (true≢false (sym bad))
-audits_none IsDone book shelf held why (Err fault) bad is =
-    ((why, is), untouched book shelf, refl)
+audits_none IsDone book shelf held why (Ok ended) refused bad is = absurd (true≢false (sym bad))
+audits_none IsDone book shelf held why (Err fault) refused bad is =
+    ((why, refused, is), untouched book shelf, refl)

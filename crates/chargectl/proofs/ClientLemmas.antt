@@ -250,11 +250,11 @@ module _ (book : List ℕ) (old new : Shelf) (bytes : List ℕ) (request : Reque
         subst (λ what. Fits what due) (sym ends.0) (sent_fits due held shown so sent),
       ))
       done
-  request_done (Err shelf.Unseen) (inl seen) ends =
+  request_done (Err shelf.Unseen) (refused, inl seen) ends =
       done_away seen.0 (unseen_fits (is_streamed request) ends) seen.1
-  request_done (Err shelf.Unseen) (inr none) ends =
+  request_done (Err shelf.Unseen) (refused, inr none) ends =
       none_away (refusal Unavailable) refl (unseen_fits (is_streamed request) ends) none
-  request_done (Err why) none ends = unopened_away why refl ends none
+  request_done (Err why) (refused, none) ends = unopened_away why refl ends none
 
 replied_done : {S : Type 0} (seen : S → Shelf) (old new : S) (book taken : List ℕ) (ended : Bool)
     (held holds : Option (List ℕ)) (what : Served)

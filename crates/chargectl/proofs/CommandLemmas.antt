@@ -1,11 +1,12 @@
 -- What commands ask, and what they tell.
 use Rattle.std.proofs.Common.{◌≡◌, List, ℕ, Option, Some, None, Result, Ok, Err, true, false}
-use Rattle.std.proofs.Common.{sym, subst, refl, true≢false, take, length, inl, inr}
+use Rattle.std.proofs.Common.{◌⊎◌, sym, subst, refl, true≢false, take, length, inl, inr}
 use Rattle.std.proofs.KnownBytes.{Appends-kept}
 use Rattle.std.proofs.Math.Seq.{take-length}
 use Rattle.std.specs.Prelude.{IfErr, IsErr, IsErrAnd}
 use Rattle.std.specs.declared.io.ErrorKind.{ErrorKind}
 use Rattle.std.specs.Io.KnownBytes.{Appends, Keeps}
+use Rattle.smf_text.specs.Day.{day_of_text_of}
 use Rattle.streams.specs.InputOutput.{Input, Output}
 use Rattle.book_model.specs.declared.fault.LedgerFault.{LedgerFault}
 use Rattle.book_core.specs.Ledgers.{Books}
@@ -15,6 +16,7 @@ use Rattle.book_reports.specs.declared.fault.ReportFault.{ReportFault}
 use Rattle.book_reports.specs.declared.fault.ReportFault.TheVariants as report
 use Rattle.book_reports.specs.declared.report.Report.{Report}
 use Rattle.book_reports.specs.Reports.{IsWritten}
+use Rattle.office.specs.declared.repository.RepositoryFault.{RepositoryFault}
 use Rattle.office.specs.declared.request.Answer.{Answer}
 use Rattle.office.specs.declared.request.Asked.{Asked}
 use Rattle.office.specs.Requests.{Asks, IsAsked, response_by}
@@ -24,12 +26,14 @@ use Rattle.command_line.specs.declared.request.BookRequest.{BookRequest}
 use Rattle.command_line.specs.declared.request.BookRequest.TheVariants as to_books
 use Rattle.command_line.specs.declared.request.Ruling.{Ruling}
 use Rattle.command_line.specs.declared.request.Ruling.TheVariants as ruling
+use Rattle.program_output.specs.Names.{name_in}
 use Rattle.chargectl.specs.declared.command_fault.CommandFault.{CommandFault}
 use Rattle.chargectl.specs.declared.command_fault.CommandFault.TheVariants as fault
 use Rattle.chargectl.specs.declared.ended.Answered.{Answered}
 use Rattle.chargectl.specs.Commands.{AsksNothing, AsksOnceBy, ComesOf, IsDated}
-use Rattle.chargectl.specs.Commands.{IsNoticedBy, IsPrinted, IsTextFault, IsWordFault}
-use Rattle.chargectl.specs.Commands.{is_dated}
+use Rattle.chargectl.specs.Commands.{IsFileFault, IsNoticedBy, IsPrinted, IsShelfFault}
+use Rattle.chargectl.specs.Commands.{IsTariffFault, IsTextFault, IsWordFault, is_dated, report_of}
+use Rattle.chargectl.specs.Commands.{what_if_of}
 use Rattle.chargectl.specs.Faults.{EndsText, io_fault}
 
 -- a request with its answer
@@ -45,11 +49,44 @@ asked_once asked answer books input it =
 -- nothing was asked, and this is why
 pub not_asked : (request : BookRequest) (book : List ℕ) (shelf : Shelf)
     (result : Result Answered CommandFault) (found : CommandFault) → IsErr result
-    → IsErrAnd result (λ why. why ≡ found) → AsksNothing request found
+    → IsErrAnd result (λ why. why ≡ found) → AsksNothing request (shelf.refuses book) found
     → ComesOf request book shelf shelf result
 not_asked request book shelf (Ok answered) found bad is why = absurd is
 not_asked request book shelf (Err fault) found bad is why =
-    (subst (AsksNothing request) (sym is) why, untouched book shelf)
+    (subst (AsksNothing request (shelf.refuses book)) (sym is) why, untouched book shelf)
+
+-- ---- why the books were refused, where the reasons are among others
+
+module _ (One Other : RepositoryFault → Type 0)
+    (follow : (fault : RepositoryFault) → One fault → Other fault) where
+  pub shelf_as : (why : CommandFault) → IsShelfFault One why → IsShelfFault Other why
+  shelf_as why it = (it.0, follow it.0 it.1, it.2)
+
+  pub either_as : (Rest : Type 0) (why : CommandFault) → IsShelfFault One why ⊎ Rest
+      → IsShelfFault Other why ⊎ Rest
+  either_as Rest why (inl shelf) = inl (shelf_as why shelf)
+  either_as Rest why (inr rest) = inr rest
+
+  word_as : {A : Type 0} (read : Option A) (Is So : CommandFault → Type 0) (why : CommandFault)
+      → (Is why → So why) → IsWordFault read Is why → IsWordFault read So why
+  word_as None Is So why goes it = it
+  word_as (Some found) Is So why goes it = goes it
+
+  pub nothing_as : (request : BookRequest) (why : CommandFault) → AsksNothing request One why
+      → AsksNothing request Other why
+  nothing_as (to_books.Import dump) why it = either_as (IsFileFault why) why it
+  nothing_as (to_books.Rule (ruling.Tariff file)) why it = either_as (IsTextFault why) why it
+  nothing_as (to_books.Rule (ruling.Close period date)) why it =
+      word_as (day_of_text_of date.now) (IsShelfFault One) (IsShelfFault Other) why (shelf_as why)
+      it
+  nothing_as (to_books.Rule (ruling.Choose name)) why it =
+      word_as (name_in name.now) (IsShelfFault One) (IsShelfFault Other) why (shelf_as why) it
+  nothing_as (to_books.Report said) why it =
+      word_as (report_of said) (IsShelfFault One) (IsShelfFault Other) why (shelf_as why) it
+  nothing_as (to_books.WhatIf form period centre file) why it =
+      word_as (what_if_of form period centre) (IsTariffFault One) (IsTariffFault Other) why
+      (either_as (IsTextFault why) why) it
+  nothing_as request why it = shelf_as why it
 
 -- what was noticed of a ruling of a day
 pub day_noticed : (ruled : Ruling) (asked : Asked) (book : List ℕ) (old new : Shelf)

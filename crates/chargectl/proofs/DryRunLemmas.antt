@@ -27,6 +27,7 @@ use Rattle.book_reports.proofs.ReadingLemmas.{IsReading, goes_on}
 use Rattle.book_reports.proofs.WritingLemmas.{same_value}
 use Rattle.office.specs.declared.request.Asked.{Asked}
 use Rattle.office.specs.declared.request.Asked.TheVariants as asks
+use Rattle.office.specs.declared.repository.RepositoryFault.{RepositoryFault}
 use Rattle.office.specs.declared.request.Answer.{Answer}
 use Rattle.office.specs.declared.request.Answer.TheVariants as answers
 use Rattle.office.specs.Outcomes.{AskedOutcome, is_hindered}
@@ -62,20 +63,22 @@ no_text : {ruled : Ruled} {text : List ℕ}
 no_text is = cc is
 
 -- nothing is asked for, and this is why
-pub none_asked : (request : BookRequest) (result : Result Asked CommandFault) (found : CommandFault)
-    → IsErr result → IsErrAnd result (λ why. why ≡ found) → AsksNothing request found
-    → IsAskedFor request result
-none_asked request (Ok asked) found bad is why = absurd is
-none_asked request (Err fault) found bad is why = subst (AsksNothing request) (sym is) why
+pub none_asked : (request : BookRequest) (Refuses : RepositoryFault → Type 0)
+    (result : Result Asked CommandFault) (found : CommandFault)
+    → IsErr result → IsErrAnd result (λ why. why ≡ found) → AsksNothing request Refuses found
+    → IsAskedFor request Refuses result
+none_asked request Refuses (Ok asked) found bad is why = absurd is
+none_asked request Refuses (Err fault) found bad is why =
+    subst (AsksNothing request Refuses) (sym is) why
 
 -- nothing was tried, and this is why
 pub none_tried : (request : BookRequest) (book : List ℕ) (shelf : Shelf)
     (result : Result Answered CommandFault) (found : CommandFault)
-    → IsErr result → IsErrAnd result (λ why. why ≡ found) → AsksNothing request found
-    → ComesOfDryRun request book shelf shelf result
+    → IsErr result → IsErrAnd result (λ why. why ≡ found)
+    → AsksNothing request (shelf.refuses book) found → ComesOfDryRun request book shelf shelf result
 none_tried request book shelf (Ok answered) found bad is why = absurd is
 none_tried request book shelf (Err fault) found bad is why =
-    (subst (AsksNothing request) (sym is) why, untouched book shelf)
+    (subst (AsksNothing request (shelf.refuses book)) (sym is) why, untouched book shelf)
 
 -- the fault that `?` hands on: of a refusal nothing is noticed
 pub handed_on : {old new : Seen} {naming : Naming} {asked : Asked} {fault : LedgerFault}

@@ -199,7 +199,7 @@ pub once_opened : (asked : Asked) (book : List ℕ) (old new : Shelf)
     → IsOpened (AsksDatedBy old.naming asked) book old new told
     → IsOpened (AsksOnceBy old.naming asked) book old new (answer_told told)
 once_opened asked book old new (Ok dated) done = once_done asked book old new dated done
-once_opened asked book old new (Err Unseen) (inl seen) =
-    inl (seen.0.answer, once_done asked book old new seen.0 seen.1)
-once_opened asked book old new (Err Unseen) (inr none) = inr none
+once_opened asked book old new (Err Unseen) (refused, inl seen) =
+    (refused, inl (seen.0.answer, once_done asked book old new seen.0 seen.1))
+once_opened asked book old new (Err Unseen) (refused, inr none) = (refused, inr none)
 once_opened asked book old new (Err fault) none = none

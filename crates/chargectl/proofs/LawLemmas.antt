@@ -1,7 +1,7 @@
 -- Commands, one after the other, and the history that they make.
 use Rattle.std.proofs.Common.{◌≡◌, ◌≢◌, ◌∙◌, ◌⊎◌, Bool, true, false, true≢false, ℕ, List, [], ◌∷◌}
 use Rattle.std.proofs.Common.{◌++◌, Option, Some, None, Result, Ok, Err, ap, inl, inr, refl, subst, sym}
-use Rattle.std.specs.Prelude.{IfOk}
+use Rattle.std.specs.Prelude.{IfErr, IfOk}
 use Rattle.std.specs.Cmp.Lexicographic.{bytes_decides}
 use Rattle.std.specs.declared.alloc.AllocError.{AllocError}
 use Rattle.book_model.specs.Records.{same_bytes}
@@ -37,8 +37,9 @@ use Rattle.chargectl.specs.declared.ended.Answered.{Answered}
 use Rattle.chargectl.specs.declared.ended.Ended.{Ended}
 use Rattle.chargectl.specs.declared.streamed_lists.StreamedList.{StreamedList}
 use Rattle.chargectl.specs.declared.streamed_lists.StreamedList.TheVariants as list
-use Rattle.chargectl.specs.Choices.{ChoosesBy, ChoosesListed, ComesOfList, list_answered}
-use Rattle.chargectl.specs.Commands.{AsksAndTells, AsksOnceBy, ComesOf, once_answered}
+use Rattle.chargectl.specs.Choices.{ChoosesBy, ChoosesListed, ComesOfList, IsListFault}
+use Rattle.chargectl.specs.Choices.{list_answered}
+use Rattle.chargectl.specs.Commands.{AsksAndTells, AsksNothing, AsksOnceBy, ComesOf, once_answered}
 use Rattle.chargectl.specs.Audits.{AuditsBooks, BacksUp}
 use Rattle.chargectl.specs.CommandLaws.{AreCommanded, AskedBy, AsksOfHistory, Commanded}
 use Rattle.chargectl.specs.CommandLaws.{ChoicesFollow, CommandsFollowHistory, DoesToHistory, Follows}
@@ -53,6 +54,7 @@ use Rattle.chargectl.specs.StreamedLists.{ListsAsked, ListsBy, WritesSomeOf, det
 use Rattle.chargectl.specs.StreamedLists.{list_answer, listing_answered}
 use Rattle.chargectl.specs.Upgrades.{UpgradesBy}
 use Rattle.chargectl.specs.Serving.{ServesSome}
+use Rattle.chargectl.proofs.CommandLemmas.{either_as, nothing_as, shelf_as}
 use Rattle.chargectl.proofs.ServingLemmas.{some_answered}
 
 by_test : {P : Type 0} (is : Bool) → (is ≡ true → P) → (P → is ≡ true) → P ⊎ (P → ⊥)
@@ -229,20 +231,24 @@ module _ (naming : Naming) (history : List Event) (name : List ℕ) (old new : S
       step_as (λ made so. (λ same. (so.0 same).made_so.none, so.1))
       (work_on book NoEvent (none_answered naming) done)
 
-  -- or the books were not opened
-  opened_on : {A : Type 0} (book : List ℕ) (work : A → Transition) (So : A → List Event → Type 0)
+  -- or the place refused them, for such a reason
+  opened_on : {A : Type 0} (book : List ℕ) (Refuses : RepositoryFault → Type 0)
+      → ((fault : RepositoryFault) → old.refuses book fault → Refuses fault)
+      → (work : A → Transition) (So : A → List Event → Type 0)
       → ((told : A) → IsDoneTo book (work told) old new
       → Step naming history name old new (Where book name (So told)))
       → (told : Result A RepositoryFault) → IsOpened work book old new told
-      → Step naming history name old new (Where book name (OpenedSo So told))
-  opened_on book work So so_of (Ok told) done = so_of told done
-  opened_on book work So so_of (Err Unseen) done = elim done [
-    | inl seen ↦ step_as (λ made so. (λ same. inl (seen.0, so.0 same), so.1))
+      → Step naming history name old new (Where book name (OpenedSo Refuses So told))
+  opened_on book Refuses follow work So so_of (Ok told) done = so_of told done
+  opened_on book Refuses follow work So so_of (Err Unseen) done = elim done.1 [
+    | inl seen ↦
+        step_as (λ made so. (λ same. (follow Unseen done.0, inl (seen.0, so.0 same)), so.1))
         (so_of seen.0 seen.1)
-    | inr none ↦ step_as (λ made is. (λ _. inr is, λ _. is)) (none_on book none)
+    | inr none ↦
+        step_as (λ made is. (λ _. (follow Unseen done.0, inr is), λ _. is)) (none_on book none)
   ]
-  opened_on book work So so_of (Err fault) done =
-      step_as (λ made is. (λ _. is, λ _. is)) (none_on book done)
+  opened_on book Refuses follow work So so_of (Err fault) done =
+      step_as (λ made is. (λ _. (follow fault done.0, is), λ _. is)) (none_on book done.1)
 
 -- no connections make no events
 none_served : (naming : Naming) (history made : List Event) → made ≡ []
@@ -253,12 +259,20 @@ none_served naming history made is = record {
 }
 
 module _ (history : List Event) (name : List ℕ) (old new : Shelf)
-    (answered : IsMadeByCalls old.naming history) (held : old.holds name history) where
+    (answered : IsMadeByCalls old.naming history) (held : old.holds name history)
+    (Refuses : List ℕ → RepositoryFault → Type 0)
+    (follow : (book : List ℕ) (fault : RepositoryFault) → old.refuses book fault
+    → Refuses book fault) where
+  -- why nothing is asked
+  nothing : (book : List ℕ) (request : BookRequest) (why : CommandFault)
+      → AsksNothing request (old.refuses book) why → AsksNothing request (Refuses book) why
+  nothing book = nothing_as (old.refuses book) (Refuses book) (follow book)
+
   -- a command that asks the office, or nothing
   comes_on : (book : List ℕ) (request : BookRequest) (came : Result Answered CommandFault)
       → ComesOf request book old new came
       → Step old.naming history name old new
-      (Where book name (AskedBy old.naming history request came))
+      (Where book name (AskedBy old.naming history (Refuses book) request came))
   comes_on book request (Ok told) comes =
       step_as (λ made so. (
         λ same. record {
@@ -270,18 +284,18 @@ module _ (history : List Event) (name : List ℕ) (old new : Shelf)
         },
         so.1,
       ))
-      (opened_on old.naming history name old new answered held book
+      (opened_on old.naming history name old new answered held book (Refuses book) (follow book)
       (AsksOnceBy old.naming comes.asked) (Follows old.naming history comes.asked)
       (asked_on old.naming history name old new answered held book comes.asked) comes.came.told
       comes.came.done)
   comes_on book request (Err why) comes =
-      step_as (λ made is. (λ _. (comes.0, is), λ _. is))
+      step_as (λ made is. (λ _. (nothing book request why comes.0, is), λ _. is))
       (none_on old.naming history name old new answered held book comes.1)
 
   asks_on : (book : List ℕ) (request : BookRequest) (has holds : Option (List ℕ)) (ended : Ended)
       → AsksAndTells request book old new has holds ended
       → Step old.naming history name old new
-      (Where book name (AsksOfHistory old.naming history request has holds ended))
+      (Where book name (AsksOfHistory old.naming history (Refuses book) request has holds ended))
   asks_on book request has holds ended it =
       step_as (λ made so. (
         λ same. record { came = it.answered; asked = so.0 same; tells = it.tells },
@@ -291,7 +305,8 @@ module _ (history : List Event) (name : List ℕ) (old new : Shelf)
   -- a list of choices
   list_comes_on : (book : List ℕ) (came : Result ListAnswered CommandFault)
       → ComesOfList book old new came
-      → Step old.naming history name old new (Where book name (ListBy old.naming history came))
+      → Step old.naming history name old new
+      (Where book name (ListBy old.naming history (Refuses book) came))
   list_comes_on book (Ok told) comes =
       step_as (λ made so. (
         λ same. record {
@@ -303,18 +318,24 @@ module _ (history : List Event) (name : List ℕ) (old new : Shelf)
         },
         so.1,
       ))
-      (opened_on old.naming history name old new answered held book
+      (opened_on old.naming history name old new answered held book (Refuses book) (follow book)
       (ChoosesBy old.naming comes.names) (ChoicesFollow old.naming history comes.names)
       (chosen_on old.naming history name old new answered held book comes.names) comes.came.told
       comes.came.done)
   list_comes_on book (Err why) comes =
-      step_as (λ made is. (λ _. (comes.0, is), λ _. is))
+      step_as (λ made is. (
+        λ _. (
+          either_as (old.refuses book) (Refuses book) (follow book) (IsListFault why) why comes.0,
+          is,
+        ),
+        λ _. is,
+      ))
       (none_on old.naming history name old new answered held book comes.1)
 
   list_on : (book : List ℕ) (has holds : Option (List ℕ)) (ended : Ended)
       → ChoosesListed book old new has holds ended
       → Step old.naming history name old new
-      (Where book name (ListOfHistory old.naming history has holds ended))
+      (Where book name (ListOfHistory old.naming history (Refuses book) has holds ended))
   list_on book has holds ended it =
       step_as (λ made so. (
         λ same. record { came = it.answered; listed = so.0 same; tells = it.tells },
@@ -332,7 +353,7 @@ module _ (history : List Event) (name : List ℕ) (old new : Shelf)
   list_written : (list : StreamedList) (book : List ℕ) (has holds : Option (List ℕ)) (ended : Ended)
       → SettlesBy (ListsBy list book old new has holds) ended
       → Step old.naming history name old new
-      (Where book name (ListsOfHistory list old.naming history has holds ended))
+      (Where book name (ListsOfHistory list old.naming history (Refuses book) has holds ended))
   list_written list book has holds ended does =
       step_as (λ made so. (
         λ same. record {
@@ -349,25 +370,27 @@ module _ (history : List Event) (name : List ℕ) (old new : Shelf)
           → IsOpened (WritesAnswer (list_answer list) old.naming has holds) book old new told
           → ComesBy (WritesSomeOf list has holds) (holds ≡ has) told
           → Step old.naming history name old new
-          (λ made. (book ≡ name → IsListed list (list_answer list old.naming (book_of history)) has holds told)
-          × (made ≡ []))
+          (λ made. (book ≡ name
+          → IsListed list (list_answer list old.naming (book_of history)) (Refuses book) has holds
+          told) × (made ≡ []))
       by_told (Ok written) done some =
           listed_on old.naming history name old new answered held (list_answer list) book has holds written
           done
-      by_told (Err Unseen) (inl seen) some =
-          step_as (λ made so. (λ _. some, so.1))
+      by_told (Err Unseen) (refused, inl seen) some =
+          step_as (λ made so. (λ _. (follow book Unseen refused, some), so.1))
           (listed_on old.naming history name old new answered held (list_answer list) book has holds seen.0
           seen.1)
-      by_told (Err Unseen) (inr none) some =
-          step_as (λ made is. (λ _. some, is))
+      by_told (Err Unseen) (refused, inr none) some =
+          step_as (λ made is. (λ _. (follow book Unseen refused, some), is))
           (none_on old.naming history name old new answered held book none)
-      by_told (Err fault) none same =
-          step_as (λ made is. (λ _. same, is))
+      by_told (Err fault) (refused, none) same =
+          step_as (λ made is. (λ _. (follow book fault refused, same), is))
           (none_on old.naming history name old new answered held book none)
 
       by_came : (came : Result Ended CommandFault) → ListsBy list book old new has holds came
           → Step old.naming history name old new
-          (λ made. (book ≡ name → ListsHistoryBy list old.naming history has holds came) × (made ≡ []))
+          (λ made. (book ≡ name
+          → ListsHistoryBy list old.naming history (Refuses book) has holds came) × (made ≡ []))
       by_came (Ok ended) it =
           step_as (λ made so. (
             λ same. record {
@@ -380,14 +403,18 @@ module _ (history : List Event) (name : List ℕ) (old new : Shelf)
           ))
           (by_told it.told it.done it.some)
       by_came (Err why) it =
-          step_as (λ made is. (λ _. (it.0, it.2), is))
+          step_as (λ made is. (
+            λ _. (shelf_as (old.refuses book) (Refuses book) (follow book) why it.0, it.2),
+            is,
+          ))
           (none_on old.naming history name old new answered held book it.1)
 
   -- one that words ask for
   list_asked : (asked : Option StreamedList) (book : List ℕ) (has holds : Option (List ℕ))
       (ended : Ended) → SettlesBy (ListsAsked asked book old new has holds) ended
       → Step old.naming history name old new
-      (Where book name (ListsAskedOfHistory asked old.naming history has holds ended))
+      (Where book name
+      (ListsAskedOfHistory asked old.naming history (Refuses book) has holds ended))
   list_asked (Some list) book has holds ended does =
       list_written list book has holds ended
       (record { came = does.came; does = does.does; ends = does.ends })
@@ -404,9 +431,9 @@ module _ (history : List Event) (name : List ℕ) (old new : Shelf)
       → Step old.naming history name old new (λ made. (book ≡ name
       → IfOk told (λ dated. is_hindered (response_by dated.answer) ≡ false
       → ShowsDry old.naming asked (book_of history) (response_by dated.answer) dated.notice))
-      × (made ≡ []))
+      × IfErr told (Refuses book) × (made ≡ []))
   tried_on book asked (Ok dated) tried =
-      step_as (λ made is. (λ same. follows same, is))
+      step_as (λ made is. (λ same. follows same, tt, is))
       (none_on old.naming history name old new answered held book tried.0)
     where
       follows : book ≡ name → is_hindered (response_by dated.answer) ≡ false
@@ -416,13 +443,13 @@ module _ (history : List Event) (name : List ℕ) (old new : Shelf)
           subst (λ book. ShowsDry old.naming asked book (response_by dated.answer) dated.notice)
           (books_follow_history history) (found.2.shows refl free)
   tried_on book asked (Err fault) tried =
-      step_as (λ made is. (λ _. tt, is))
-      (none_on old.naming history name old new answered held book tried)
+      step_as (λ made is. (λ _. tt, follow book fault tried.0, is))
+      (none_on old.naming history name old new answered held book tried.1)
 
   tries_on : (book : List ℕ) (ruling : Ruling) (has holds : Option (List ℕ)) (ended : Ended)
       → TriesAndTells ruling book old new has holds ended
       → Step old.naming history name old new
-      (Where book name (TriesOfHistory old.naming history ruling has holds ended))
+      (Where book name (TriesOfHistory old.naming history (Refuses book) ruling has holds ended))
   tries_on book ruling has holds ended it =
       step_as (λ made so. (
         λ same. record {
@@ -438,7 +465,8 @@ module _ (history : List Event) (name : List ℕ) (old new : Shelf)
       by_came : (came : Result Answered CommandFault)
           → ComesOfDryRun (asks.Rule ruling) book old new came
           → Step old.naming history name old new
-          (λ made. (book ≡ name → TriedBy old.naming history (asks.Rule ruling) came) × (made ≡ []))
+          (λ made. (book ≡ name
+          → TriedBy old.naming history (Refuses book) (asks.Rule ruling) came) × (made ≡ []))
       by_came (Ok answered) comes =
           step_as (λ made so. (
             λ same. record {
@@ -446,20 +474,21 @@ module _ (history : List Event) (name : List ℕ) (old new : Shelf)
               words = comes.words;
               told = comes.came.told;
               follows = so.0 same;
+              refused = so.1;
               says = comes.came.says;
               notice = comes.came.notice;
             },
-            so.1,
+            so.2,
           ))
           (tried_on book comes.asked comes.came.told comes.came.tried)
       by_came (Err why) comes =
-          step_as (λ made is. (λ _. comes.0, is))
+          step_as (λ made is. (λ _. nothing book (asks.Rule ruling) why comes.0, is))
           (none_on old.naming history name old new answered held book comes.1)
 
   does_on : (book : List ℕ) (request : BookRequest) (has holds : Option (List ℕ)) (ended : Ended)
       → Does request book old new has holds ended
       → Step old.naming history name old new
-      (Where book name (DoesToHistory old.naming history request has holds ended))
+      (Where book name (DoesToHistory old.naming history (Refuses book) request has holds ended))
   does_on book asks.Init has holds ended does = still_on book book does.done.kept
   does_on book asks.Upgrade has holds ended does = by_came does.came does.does
     where
@@ -471,7 +500,7 @@ module _ (history : List Event) (name : List ℕ) (old new : Shelf)
     where
       by_came : (came : Result Ended CommandFault) → AuditsBooks book old new has holds came
           → Step old.naming history name old new (Where book name (λ made. made ≡ []))
-      by_came (Ok ended) it = still_on book book it.done
+      by_came (Ok ended) it = still_on book book it.done.0
       by_came (Err why) it = still_on book book it.1
   does_on book (asks.BackUp copy quiet) has holds ended does = by_came does.came does.does
     where
@@ -524,17 +553,19 @@ runs_on : {S : Type 0} (shelf : S → Shelf) (waits : S → ℕ → Type 0) (his
     (Says : List (List ℕ) → Type 0) (status : Status)
     → DoesOrRefuses shelf waits old new asked had has holds Says status
     → Step (shelf old).naming history name (shelf old) (shelf new)
-    (RunsOn (shelf old).naming name history asked has holds status)
+    (RunsOn (shelf old).naming name history (shelf old).refuses asked has holds status)
 runs_on shelf waits history name old new answered held (Ok (request.OfBooks book wait asked)) had has
     holds Says status done =
     let it = done.1 in
     let same = it.same.naming in
     let calls = subst (λ naming. IsMadeByCalls naming history) (sym same) answered in
     let step = does_on history name (shelf it.waiting) (shelf new) calls
-    (it.same.holds name history held) book.now asked has holds done.0 it.does in
+    (it.same.holds name history held) (shelf old).refuses it.same.refuses book.now asked has holds
+    done.0 it.does in
     step_as (λ made so. record { ended = done.0; ends = done.2; here = so.0; elsewhere = so.1 })
     (subst (λ naming. Step naming history name (shelf old) (shelf new)
-    (Where book.now name (DoesToHistory naming history asked has holds done.0))) same
+    (Where book.now name
+    (DoesToHistory naming history ((shelf old).refuses book.now) asked has holds done.0))) same
     (step_from same step))
 runs_on shelf waits history name old new answered held (Ok (request.Trial layout cpu excp fee)) had has holds
     Says status done =
@@ -560,13 +591,14 @@ in_turn : {S E : Type 0} (shelf : S → Shelf) (waits : S → ℕ → Type 0)
     (naming : Naming) (name : List ℕ) (start : List Event) (before : S) (commands : List (Commanded S E))
     → (shelf before).naming ≡ naming → IsMadeByCalls naming start → (shelf before).holds name start
     → AreCommanded shelf waits Says before commands
-    → LeaveHistory shelf naming name start commands (place_after before commands)
+    → LeaveHistory shelf before naming name start commands (place_after before commands)
 in_turn shelf waits Says naming name start before [] names answered held done =
     record { end = start; done = refl; held = held }
 in_turn shelf waits Says naming name start before (command ∷ later) names answered held done =
     let one = done.0 in
     let step = subst (λ naming. Step naming start name (shelf before) (shelf command.after)
-    (RunsOn naming name start one.asked command.held command.holds command.status)) names
+    (RunsOn naming name start (shelf before).refuses one.asked command.held command.holds
+    command.status)) names
     (runs_on shelf waits start name before command.after
     (subst (λ naming. IsMadeByCalls naming start) (sym names) answered) held one.asked command.had
     command.held command.holds (λ lines. Says lines command.quiet command.said) command.status

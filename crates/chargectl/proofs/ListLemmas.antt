@@ -53,10 +53,10 @@ choices_made seen old new names (Err fault) made none =
 -- nothing was chosen, and this is why
 pub not_listed : (book : List ℕ) (shelf : Shelf) (result : Result ListAnswered CommandFault)
     (found : CommandFault) → IsErr result → IsErrAnd result (λ why. why ≡ found)
-    → ChoosesNothing found → ComesOfList book shelf shelf result
+    → ChoosesNothing (shelf.refuses book) found → ComesOfList book shelf shelf result
 not_listed book shelf (Ok answered) found bad is why = absurd (true≢false (sym bad))
 not_listed book shelf (Err fault) found bad is why =
-    (subst ChoosesNothing (sym is) why, untouched book shelf)
+    (subst (ChoosesNothing (shelf.refuses book)) (sym is) why, untouched book shelf)
 
 -- the tariff of a text, or why it is none
 refused_text : (said : Result Terms TariffFault) (why : CommandFault) → lasting said ≡ Err why

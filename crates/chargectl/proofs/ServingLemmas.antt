@@ -14,15 +14,17 @@ use Rattle.book_http.specs.declared.served.Served.{Served}
 use Rattle.book_http.specs.declared.served.Served.TheVariants as served
 use Rattle.book_http.proofs.LawLemmas.{requests_make_history}
 use Rattle.office.specs.declared.repository.RepositoryFault.{RepositoryFault}
-use Rattle.office.specs.Shelves.{Shelf, IsDoneTo, IsUntouched, OpenedAnew}
-use Rattle.office.proofs.ShelfLemmas.{done_after, done_as, done_then, untouched}
+use Rattle.office.specs.Shelves.{Shelf, IsDoneTo, IsOpened, IsUntouched, OpenedAnew}
+use Rattle.office.proofs.ShelfLemmas.{done_after, done_as, done_then, opened_refused}
+use Rattle.office.proofs.ShelfLemmas.{opened_untouched, untouched}
 use Rattle.chargectl.specs.declared.command_fault.CommandFault.{CommandFault}
 use Rattle.chargectl.specs.declared.ended.Ended.{Ended}
-use Rattle.chargectl.specs.Faults.{io_fault, shelf_fault}
+use Rattle.chargectl.specs.Faults.{IsFileFault, io_fault, shelf_fault}
 use Rattle.chargectl.specs.Requests.{IsServiceFault, Serves}
 use Rattle.chargectl.specs.ServedLines.{Gains, unfailed}
 use Rattle.chargectl.specs.Serving.{IsServing, Replies, ServesEach, ServesOne, ServesSome, left_by}
 use Rattle.chargectl.specs.Serving.{line_of, lines_of, ready, service_end}
+use Rattle.chargectl.proofs.CommandLemmas.{either_as}
 use Rattle.chargectl.proofs.ServedLineLemmas.{gains_nil, gains_then}
 
 -- ---- connections make events that the books answered
@@ -113,26 +115,28 @@ none_served book old new none =
     done_as book NoEvent (ServesSome old.naming) old new
     (λ before events is made. record { told = []; made = made }) none
 
--- the place of the books failed
-pub shelf_failed : {T : Type 0} (result : Result T CommandFault) (why : RepositoryFault)
-    → IsErrAnd result (λ fault. fault ≡ shelf_fault why) → IfErr result IsServiceFault
-shelf_failed (Ok value) why is = absurd is
-shelf_failed (Err fault) why is = inl (why, is)
+-- the place of the books refused them
+pub shelf_failed : {T : Type 0} (Refuses : RepositoryFault → Type 0)
+    (result : Result T CommandFault) (why : RepositoryFault) → Refuses why
+    → IsErrAnd result (λ fault. fault ≡ shelf_fault why) → IfErr result (IsServiceFault Refuses)
+shelf_failed Refuses (Ok value) why refused is = absurd is
+shelf_failed Refuses (Err fault) why refused is = inl (why, refused, is)
 
 -- or the port
-pub port_failed : {T : Type 0} (result : Result T CommandFault) (kind : ErrorKind)
-    → IsErrAnd result (λ fault. fault ≡ io_fault kind) → IfErr result IsServiceFault
-port_failed (Ok value) kind is = absurd is
-port_failed (Err fault) kind is = inr (kind, is)
+pub port_failed : {T : Type 0} (Refuses : RepositoryFault → Type 0) (result : Result T CommandFault)
+    (kind : ErrorKind) → IsErrAnd result (λ fault. fault ≡ io_fault kind)
+    → IfErr result (IsServiceFault Refuses)
+port_failed Refuses (Ok value) kind is = absurd is
+port_failed Refuses (Err fault) kind is = inr (kind, is)
 
 -- a service that ended with a fault
-cut_by : (book : List ℕ) (old new : Shelf) (requests : ℕ) (held holds : Option (List ℕ))
-    (ended : Ended) (why : CommandFault) (has_log : Bool)
+cut_by : (Refuses : RepositoryFault → Type 0) (book : List ℕ) (old new : Shelf) (requests : ℕ)
+    (held holds : Option (List ℕ)) (ended : Ended) (why : CommandFault) (has_log : Bool)
     → ended ≡ record { came = Err why; has_log = has_log; is_change = true; notice = None }
-    → IsServiceFault why → IsDoneTo book (ServesSome old.naming) old new → new.has_log book has_log
-    → Serves requests book old new held holds ended
-cut_by book old new requests held holds ended why has_log is known some log =
-    subst (λ ended. Serves requests book old new held holds ended) (sym is)
+    → IsServiceFault Refuses why → IsDoneTo book (ServesSome old.naming) old new
+    → new.has_log book has_log → Serves Refuses requests book old new held holds ended
+cut_by Refuses book old new requests held holds ended why has_log is known some log =
+    subst (λ ended. Serves Refuses requests book old new held holds ended) (sym is)
     (record {
       served = Err why;
       some = some;
@@ -145,25 +149,31 @@ cut_by book old new requests held holds ended why has_log is known some log =
     })
 
 -- a connection did not come
-pub serves_cut : (book : List ℕ) (old new : Shelf) (requests due left : ℕ)
-    (held holds : Option (List ℕ)) (before after : WriterSeen) (ended : Ended) (why : CommandFault)
-    (has_log : Bool)
-    → ended ≡ record { came = Err why; has_log = has_log; is_change = true; notice = None }
-    → IsServiceFault why → IsServing [] due left book old new before after → new.has_log book has_log
-    → Serves requests book old new held holds ended
-serves_cut book old new requests due left held holds before after ended why has_log is known it log =
-    cut_by book old new requests held holds ended why has_log is known
-    (serving_some [] due left book old new before after it) log
-
--- or the books were in the way, or the port
-pub serves_none : (book : List ℕ) (old new : Shelf) (requests : ℕ) (held holds : Option (List ℕ))
+pub serves_cut : (Refuses : RepositoryFault → Type 0) (book : List ℕ) (old new : Shelf)
+    (requests due left : ℕ) (held holds : Option (List ℕ)) (before after : WriterSeen)
     (ended : Ended) (why : CommandFault) (has_log : Bool)
     → ended ≡ record { came = Err why; has_log = has_log; is_change = true; notice = None }
-    → IsServiceFault why → IsUntouched book old new → new.has_log book has_log
-    → Serves requests book old new held holds ended
-serves_none book old new requests held holds ended why has_log is known none log =
-    cut_by book old new requests held holds ended why has_log is known
-    (none_served book old new none) log
+    → IsServiceFault Refuses why → IsServing [] due left book old new before after
+    → new.has_log book has_log → Serves Refuses requests book old new held holds ended
+serves_cut Refuses book old new requests due left held holds before after ended why has_log is
+    known it log =
+    cut_by Refuses book old new requests held holds ended why has_log is known
+    (serving_some [] due left book old new before after it) log
+
+-- or the books were refused, or the port was in the way
+pub serves_none : (book : List ℕ) (old new : Shelf) (requests : ℕ)
+    (held holds : Option (List ℕ)) (ended : Ended) (why : CommandFault) (has_log : Bool)
+    (opened : Result (Unit {0}) RepositoryFault)
+    → ended ≡ record { came = Err why; has_log = has_log; is_change = true; notice = None }
+    → IsServiceFault (λ fault. opened ≡ Err fault) why
+    → IsOpened (λ told. NoEvent) book old new opened → new.has_log book has_log
+    → Serves (old.refuses book) requests book old new held holds ended
+serves_none book old new requests held holds ended why has_log opened is known none log =
+    cut_by (old.refuses book) book old new requests held holds ended why has_log is
+    (either_as (λ fault. opened ≡ Err fault) (old.refuses book)
+    (λ fault told. opened_refused (λ told. NoEvent) book old new opened fault none told)
+    (IsFileFault why) why known)
+    (none_served book old new (opened_untouched book old new opened none)) log
 
 -- a service of all connections, whose lines were written, or lost from one on
 pub serves_all : (book : List ℕ) (old new : Shelf) (requests due left : ℕ)
@@ -178,10 +188,10 @@ pub serves_all : (book : List ℕ) (old new : Shelf) (requests due left : ℕ)
       is_change = true;
       notice = None;
     }
-    → new.has_log book has_log → Serves requests book old new held holds ended
+    → new.has_log book has_log → Serves (λ _. ⊥) requests book old new held holds ended
 serves_all book old new requests due left held holds first before after failed ended has_log begun
     said all none it bytes flag is log =
-    subst (λ ended. Serves requests book old new held holds ended) (sym is)
+    subst (λ ended. Serves (λ _. ⊥) requests book old new held holds ended) (sym is)
     (record {
       served = Ok failed;
       some = serving_some [] due left book old new before after it;
@@ -219,15 +229,22 @@ all_after book one two three requests held holds (Ok failed) none it = record {
 }
 all_after book one two three requests held holds (Err why) none it = tt
 
+-- there the books were not in the way
+cause_after : (Refuses : RepositoryFault → Type 0) (served : Result Bool CommandFault)
+    → IfErr served (IsServiceFault (λ _. ⊥)) → IfErr served (IsServiceFault Refuses)
+cause_after Refuses (Ok failed) cause = tt
+cause_after Refuses (Err why) cause =
+    either_as (λ _. ⊥) Refuses (λ fault none. absurd none) (IsFileFault why) why cause
+
 pub serves_after : (book : List ℕ) (one two three : Shelf) (requests : ℕ)
     (held holds : Option (List ℕ)) (ended : Ended) → IsUntouched book one two
-    → Serves requests book two three held holds ended
-    → Serves requests book one three held holds ended
+    → Serves (λ _. ⊥) requests book two three held holds ended
+    → Serves (one.refuses book) requests book one three held holds ended
 serves_after book one two three requests held holds ended none it = record {
   served = it.served;
   some = done_after book ServesSome one two three none it.some;
   all = all_after book one two three requests held holds it.served none it.all;
-  cause = it.cause;
+  cause = cause_after (one.refuses book) it.served it.cause;
   ends = it.ends;
   log = it.log;
   change = it.change;

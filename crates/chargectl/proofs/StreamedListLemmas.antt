@@ -91,9 +91,9 @@ module _ (list : StreamedList) (book : List ℕ) (old new : Shelf) (held has hol
         → IsOpened (WritesAnswer (list_answer list) old.naming held has) book old new told
         → IsOpened (WritesAnswer (list_answer list) old.naming held holds) book old new told
     opened_kept (Ok written) still done = done_kept written (still_of written still) done
-    opened_kept (Err Unseen) still (inl seen) =
-        inl (seen.0, done_kept seen.0 (λ _. still refl) seen.1)
-    opened_kept (Err Unseen) still (inr none) = inr none
+    opened_kept (Err Unseen) still (refused, inl seen) =
+        (refused, inl (seen.0, done_kept seen.0 (λ _. still refl) seen.1))
+    opened_kept (Err Unseen) still (refused, inr none) = (refused, inr none)
     opened_kept (Err fault) still none = none
 
     -- of a list that was not begun nothing is flushed

@@ -9,10 +9,11 @@ use Rattle.chargectl.specs.declared.ended.Ended.{Ended}
 use Rattle.chargectl.specs.Faults.{shelf_fault}
 use Rattle.chargectl.specs.Upgrades.{UpgradesBy}
 
--- there is nothing of that name
+-- the place refused them
 pub upgrades_none : (book : List ℕ) (shelf : Shelf) (held : Option (List ℕ)) (why : RepositoryFault)
-    (result : Result Ended CommandFault) → IsErr result
+    (result : Result Ended CommandFault) → shelf.refuses book why → IsErr result
     → IsErrAnd result (λ fault. fault ≡ shelf_fault why)
     → UpgradesBy book shelf shelf held held result
-upgrades_none book shelf held why (Ok ended) bad is = absurd (true≢false (sym bad))
-upgrades_none book shelf held why (Err fault) bad is = ((why, is), untouched book shelf, refl)
+upgrades_none book shelf held why (Ok ended) refused bad is = absurd (true≢false (sym bad))
+upgrades_none book shelf held why (Err fault) refused bad is =
+    ((why, refused, is), untouched book shelf, refl)

@@ -3,14 +3,14 @@ use Rattle.std.specs.Prelude.{◌≡◌, ◌⊎◌, false, ℕ, List, Option, No
 use Rattle.book_model.specs.declared.fault.LedgerFault.TheVariants as ledger
 use Rattle.book_audit.specs.declared.audited.Audited.{Audited}
 use Rattle.book_audit.specs.declared.audited.Audited.TheVariants.{Sound, Unsound}
-use Rattle.book_audit.specs.Copies.{IsCopied}
+use Rattle.book_audit.specs.Copies.{IsAudited, IsCopied}
 use Rattle.book_audit.specs.Texts.{sound_text}
 use Rattle.office.specs.declared.repository.RepositoryFault.{RepositoryFault}
 use Rattle.office.specs.Shelves.{Shelf, IsUntouched}
 use Rattle.chargectl.specs.declared.command_fault.CommandFault.{CommandFault}
 use Rattle.chargectl.specs.declared.command_fault.CommandFault.TheVariants as fault
 use Rattle.chargectl.specs.declared.ended.Ended.{Ended}
-use Rattle.chargectl.specs.Commands.{IsShelfFault}
+use Rattle.chargectl.specs.Commands.{IsRefusedBy}
 use Rattle.chargectl.specs.Faults.{EndsText, shelf_fault}
 
 -- Of sound books the lines are written, unless the output failed or there was no memory for them. Books
@@ -33,18 +33,18 @@ pub record Audits (IsDone : Result Audited RepositoryFault → Type 0) (book : L
   pub change : ended.is_change ≡ false
   pub notice : ended.notice ≡ None
 
--- or there was nothing of that name
+-- or the place refused them before
 abbrev pub AuditsBy : (Result Audited RepositoryFault → Type 0) → List ℕ → Shelf → Shelf
     → Option (List ℕ) → Option (List ℕ) → Result Ended CommandFault → Type 0
 AuditsBy IsDone book old new held holds (Ok ended) = Audits IsDone book new held holds ended
-AuditsBy IsDone book old new held holds (Err why) =
-    IsShelfFault why × IsUntouched book old new × (holds ≡ held)
+AuditsBy IsDone book old new held holds (Err why) = IsRefusedBy book old new held holds why
 
 -- the books of a name were audited where they are, and stay as they are
 abbrev pub AuditsBooks : List ℕ → Shelf → Shelf → Option (List ℕ) → Option (List ℕ)
     → Result Ended CommandFault → Type 0
 AuditsBooks book old new held holds result =
-    AuditsBy (λ audited. IsUntouched book old new) book old new held holds result
+    AuditsBy (λ audited. IsUntouched book old new × IsAudited book old audited) book old new held
+    holds result
 
 -- they were copied to another name, and the copy was audited
 abbrev pub BacksUp : List ℕ → List ℕ → Shelf → Shelf → Option (List ℕ) → Option (List ℕ)

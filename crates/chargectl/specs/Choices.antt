@@ -72,14 +72,15 @@ pub record AnswersList (book : List ℕ) (old new : Shelf) (answered : ListAnswe
   pub listed : AreListed names
   pub came : IsListAnswered names book old new answered
 
--- why nothing is chosen
-abbrev pub ChoosesNothing : CommandFault → Type 0
-ChoosesNothing why = IsShelfFault why ⊎ IsListFault why
+-- why nothing is chosen, of books that are refused for these reasons
+abbrev pub ChoosesNothing : (RepositoryFault → Type 0) → CommandFault → Type 0
+ChoosesNothing Refuses why = IsShelfFault Refuses why ⊎ IsListFault why
 
 -- what came of a list
 abbrev pub ComesOfList : List ℕ → Shelf → Shelf → Result ListAnswered CommandFault → Type 0
 ComesOfList book old new (Ok answered) = AnswersList book old new answered
-ComesOfList book old new (Err why) = ChoosesNothing why × IsUntouched book old new
+ComesOfList book old new (Err why) =
+    ChoosesNothing (old.refuses book) why × IsUntouched book old new
 
 -- the refusal of the choice on the line of this number, if it was refused
 abbrev pub refusal_end : Option LedgerFault → ℕ → Result (Unit {0}) CommandFault

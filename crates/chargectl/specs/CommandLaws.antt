@@ -1,7 +1,7 @@
 -- Commands, one after the other, on books that are kept by their names: each tells what the definitions
 -- give for the whole history before it.
 use Rattle.std.specs.Prelude.{◌≡◌, ◌≢◌, Bool, false, ℕ, List, [], ◌∷◌, ◌++◌, Option, None, Some}
-use Rattle.std.specs.Prelude.{IfOk, Result, Ok, Err, String}
+use Rattle.std.specs.Prelude.{IfErr, IfOk, Result, Ok, Err, String}
 use Rattle.std.specs.Global.{Global}
 use Rattle.std.specs.declared.alloc.AllocError.{AllocError}
 use Rattle.streams.specs.InputOutput.{Input}
@@ -82,57 +82,65 @@ pub record Follows (naming : Naming) (history : List Event) (asked : Asked)
       → asked_outcome naming asked dump (book_of history)
       ≡ record { told = response_by told; events = made }
 
--- so it is of the answer of a visit and the events that it made; where the books were not opened,
--- none were made
-abbrev pub OpenedSo : {A : Type 0} → (A → List Event → Type 0) → Result A RepositoryFault → List Event
-    → Type 0
-OpenedSo So (Ok told) made = So told made
-OpenedSo {A} So (Err fault) made = WhereUnopened ((told : A) × So told made) (made ≡ []) fault
+-- so it is of the answer of a visit and the events that it made; where the place refused the books,
+-- for such a reason, none were made
+abbrev pub OpenedSo : {A : Type 0} → (RepositoryFault → Type 0) → (A → List Event → Type 0)
+    → Result A RepositoryFault → List Event → Type 0
+OpenedSo Refuses So (Ok told) made = So told made
+OpenedSo {A} Refuses So (Err fault) made = Refuses fault
+    × WhereUnopened ((told : A) × So told made) (made ≡ []) fault
 
 -- what the words ask of the books was asked, and so it was told
-pub record AskedOf (naming : Naming) (history : List Event) (request : BookRequest)
-    (answered : Answered) (made : List Event) : Type 0 where
+pub record AskedOf (naming : Naming) (history : List Event) (Refuses : RepositoryFault → Type 0)
+    (request : BookRequest) (answered : Answered) (made : List Event) : Type 0 where
   pub asked : Asked
   pub words : IsAskedBy request asked
   pub told : Result (Result Answer LedgerFault) RepositoryFault
-  pub follows : OpenedSo (Follows naming history asked) told made
+  pub follows : OpenedSo Refuses (Follows naming history asked) told made
   pub says : answered.answer ≡ answer_of told
 
 -- or nothing was asked
-abbrev pub AskedBy : Naming → List Event → BookRequest → Result Answered CommandFault → List Event
-    → Type 0
-AskedBy naming history request (Ok answered) made = AskedOf naming history request answered made
-AskedBy naming history request (Err why) made = AsksNothing request why × (made ≡ [])
+abbrev pub AskedBy : Naming → List Event → (RepositoryFault → Type 0) → BookRequest
+    → Result Answered CommandFault → List Event → Type 0
+AskedBy naming history Refuses request (Ok answered) made =
+    AskedOf naming history Refuses request answered made
+AskedBy naming history Refuses request (Err why) made =
+    AsksNothing request Refuses why × (made ≡ [])
 
 -- and that was written
-pub record AsksOfHistory (naming : Naming) (history : List Event) (request : BookRequest)
-    (held holds : Option (List ℕ)) (ended : Ended) (made : List Event) : Type 0 where
+pub record AsksOfHistory (naming : Naming) (history : List Event)
+    (Refuses : RepositoryFault → Type 0) (request : BookRequest) (held holds : Option (List ℕ))
+    (ended : Ended) (made : List Event) : Type 0 where
   pub came : Result Answered CommandFault
-  pub asked : AskedBy naming history request came made
+  pub asked : AskedBy naming history Refuses request came made
   pub tells : Tells came held holds ended
 
 -- What the words ask was tried on the books of a history, and so it was told and noticed: unless a lack of
 -- memory or the store hindered it, that is what the definitions say of the history.
-pub record TriedOn (naming : Naming) (history : List Event) (request : BookRequest) (answered : Answered)
-    : Type 0 where
+pub record TriedOn (naming : Naming) (history : List Event) (Refuses : RepositoryFault → Type 0)
+    (request : BookRequest) (answered : Answered) : Type 0 where
   pub asked : Asked
   pub words : IsAskedBy request asked
   pub told : Result DatedAnswer RepositoryFault
   pub follows : IfOk told (λ dated. is_hindered (response_by dated.answer) ≡ false
       → ShowsDry naming asked (book_of history) (response_by dated.answer) dated.notice)
+  pub refused : IfErr told Refuses
   pub says : answered.answer ≡ answer_of (answer_told told)
   pub notice : answered.notice ≡ notice_of told
 
 -- or nothing was tried
-abbrev pub TriedBy : Naming → List Event → BookRequest → Result Answered CommandFault → Type 0
-TriedBy naming history request (Ok answered) = TriedOn naming history request answered
-TriedBy naming history request (Err why) = AsksNothing request why
+abbrev pub TriedBy : Naming → List Event → (RepositoryFault → Type 0) → BookRequest
+    → Result Answered CommandFault → Type 0
+TriedBy naming history Refuses request (Ok answered) =
+    TriedOn naming history Refuses request answered
+TriedBy naming history Refuses request (Err why) = AsksNothing request Refuses why
 
 -- that was written, and no event was made
-pub record TriesOfHistory (naming : Naming) (history : List Event) (ruling : Ruling)
-    (held holds : Option (List ℕ)) (ended : Ended) (made : List Event) : Type 0 where
+pub record TriesOfHistory (naming : Naming) (history : List Event)
+    (Refuses : RepositoryFault → Type 0) (ruling : Ruling) (held holds : Option (List ℕ))
+    (ended : Ended) (made : List Event) : Type 0 where
   pub came : Result Answered CommandFault
-  pub tried : TriedBy naming history (book.Rule ruling) came
+  pub tried : TriedBy naming history Refuses (book.Rule ruling) came
   pub tells : Tells came held holds ended
   pub none : made ≡ []
 
@@ -150,24 +158,26 @@ ChoicesFollow naming history names (Ok chosen) made = are_hindered chosen.refusa
 ChoicesFollow naming history names (Err none) made = made ≡ []
 
 -- the names of a list were chosen, and so it was told
-pub record ListOf (naming : Naming) (history : List Event) (answered : ListAnswered) (made : List Event)
-    : Type 0 where
+pub record ListOf (naming : Naming) (history : List Event) (Refuses : RepositoryFault → Type 0)
+    (answered : ListAnswered) (made : List Event) : Type 0 where
   pub names : List (List ℕ)
   pub listed : AreListed names
   pub told : Result (Result Chosen AllocError) RepositoryFault
-  pub follows : OpenedSo (ChoicesFollow naming history names) told made
+  pub follows : OpenedSo Refuses (ChoicesFollow naming history names) told made
   pub says : answered.chosen ≡ chosen_of told
 
 -- or none were
-abbrev pub ListBy : Naming → List Event → Result ListAnswered CommandFault → List Event → Type 0
-ListBy naming history (Ok answered) made = ListOf naming history answered made
-ListBy naming history (Err why) made = ChoosesNothing why × (made ≡ [])
+abbrev pub ListBy : Naming → List Event → (RepositoryFault → Type 0)
+    → Result ListAnswered CommandFault → List Event → Type 0
+ListBy naming history Refuses (Ok answered) made = ListOf naming history Refuses answered made
+ListBy naming history Refuses (Err why) made = ChoosesNothing Refuses why × (made ≡ [])
 
 -- and that was written
-pub record ListOfHistory (naming : Naming) (history : List Event) (held holds : Option (List ℕ))
-    (ended : Ended) (made : List Event) : Type 0 where
+pub record ListOfHistory (naming : Naming) (history : List Event)
+    (Refuses : RepositoryFault → Type 0) (held holds : Option (List ℕ)) (ended : Ended)
+    (made : List Event) : Type 0 where
   pub came : Result ListAnswered CommandFault
-  pub listed : ListBy naming history came made
+  pub listed : ListBy naming history Refuses came made
   pub tells : TellsList came held holds ended
 
 -- Connections made these events of the books of a history.
@@ -175,114 +185,124 @@ pub record ServesOfHistory (naming : Naming) (history made : List Event) : Type 
   pub is : Bool
   pub made_so : ServesSome naming false (book_after history) made is
 
--- This text was written, whole or up to a fault, or refused. Where the books were not opened none was;
--- where it was not seen that their closed files hold them, it may be the list of other books.
-abbrev pub IsListed : StreamedList → Result (List ℕ) LedgerFault → Option (List ℕ) → Option (List ℕ)
-    → Result (Result (Unit {0}) ReportFault) RepositoryFault → Type 0
-IsListed list answer held holds (Ok written) = WritesOrRefuses answer held holds written
-IsListed list answer held holds (Err fault) =
-    WhereUnopened ((written : _) × WritesSomeOf list held holds written) (holds ≡ held) fault
+-- This text was written, whole or up to a fault, or refused. Where the place refused the books none
+-- was; where it was not seen that their closed files hold them, it may be the list of other books.
+abbrev pub IsListed : StreamedList → Result (List ℕ) LedgerFault → (RepositoryFault → Type 0)
+    → Option (List ℕ) → Option (List ℕ) → Result (Result (Unit {0}) ReportFault) RepositoryFault
+    → Type 0
+IsListed list answer Refuses held holds (Ok written) = WritesOrRefuses answer held holds written
+IsListed list answer Refuses held holds (Err fault) = Refuses fault
+    × WhereUnopened ((written : _) × WritesSomeOf list held holds written) (holds ≡ held) fault
 
 -- A list of the books of a history was written while they were open.
-pub record ListsHistory (list : StreamedList) (naming : Naming) (history : List Event) (held holds : Option (List ℕ))
-    (ended : Ended) : Type 0 where
+pub record ListsHistory (list : StreamedList) (naming : Naming) (history : List Event)
+    (Refuses : RepositoryFault → Type 0) (held holds : Option (List ℕ)) (ended : Ended)
+    : Type 0 where
   pub told : Result (Result (Unit {0}) ReportFault) RepositoryFault
   pub flushed : Result (Unit {0}) CommandFault
-  pub listed : IsListed list (list_answer list naming (book_of history)) held holds told
+  pub listed : IsListed list (list_answer list naming (book_of history)) Refuses held holds told
   pub ends : ended.came ≡ first_fault (list_end told) flushed
 
--- or there was nothing of that name
-abbrev pub ListsHistoryBy : StreamedList → Naming → List Event → Option (List ℕ) → Option (List ℕ)
-    → Result Ended CommandFault → Type 0
-ListsHistoryBy list naming history held holds (Ok ended) =
-    ListsHistory list naming history held holds ended
-ListsHistoryBy list naming history held holds (Err why) = IsShelfFault why × (holds ≡ held)
+-- or the place refused them before
+abbrev pub ListsHistoryBy : StreamedList → Naming → List Event → (RepositoryFault → Type 0)
+    → Option (List ℕ) → Option (List ℕ) → Result Ended CommandFault → Type 0
+ListsHistoryBy list naming history Refuses held holds (Ok ended) =
+    ListsHistory list naming history Refuses held holds ended
+ListsHistoryBy list naming history Refuses held holds (Err why) =
+    IsShelfFault Refuses why × (holds ≡ held)
 
 -- and no event was made
-pub record ListsOfHistory (list : StreamedList) (naming : Naming) (history : List Event) (held holds : Option (List ℕ))
-    (ended : Ended) (made : List Event) : Type 0 where
+pub record ListsOfHistory (list : StreamedList) (naming : Naming) (history : List Event)
+    (Refuses : RepositoryFault → Type 0) (held holds : Option (List ℕ)) (ended : Ended)
+    (made : List Event) : Type 0 where
   pub came : Result Ended CommandFault
-  pub lists : ListsHistoryBy list naming history held holds came
+  pub lists : ListsHistoryBy list naming history Refuses held holds came
   pub ends : ended ≡ settled_as came
   pub none : made ≡ []
 
 -- A list that words ask for; or a word is not what it has to be.
-abbrev pub ListsAskedOfHistory : Option StreamedList → Naming → List Event → Option (List ℕ)
-    → Option (List ℕ) → Ended → List Event → Type 0
-ListsAskedOfHistory (Some list) naming history held holds ended made =
-    ListsOfHistory list naming history held holds ended made
-ListsAskedOfHistory None naming history held holds ended made =
+abbrev pub ListsAskedOfHistory : Option StreamedList → Naming → List Event
+    → (RepositoryFault → Type 0) → Option (List ℕ) → Option (List ℕ) → Ended → List Event → Type 0
+ListsAskedOfHistory (Some list) naming history Refuses held holds ended made =
+    ListsOfHistory list naming history Refuses held holds ended made
+ListsAskedOfHistory None naming history Refuses held holds ended made =
     (ended ≡ settled_as (Err fault.Argument)) × (holds ≡ held) × (made ≡ [])
 
--- what each command on books does to the history that they hold
-abbrev pub DoesToHistory : Naming → List Event → BookRequest → Option (List ℕ) → Option (List ℕ)
-    → Ended → List Event → Type 0
-DoesToHistory naming history book.Init held holds ended made = made ≡ []
-DoesToHistory naming history book.Upgrade held holds ended made = made ≡ []
-DoesToHistory naming history (book.Audit quiet) held holds ended made = made ≡ []
-DoesToHistory naming history (book.BackUp copy quiet) held holds ended made = made ≡ []
-DoesToHistory naming history (book.Serve port requests) held holds ended made =
+-- what each command on books does to the history that they hold, where the place refuses them for
+-- such reasons
+abbrev pub DoesToHistory : Naming → List Event → (RepositoryFault → Type 0) → BookRequest
+    → Option (List ℕ) → Option (List ℕ) → Ended → List Event → Type 0
+DoesToHistory naming history Refuses book.Init held holds ended made = made ≡ []
+DoesToHistory naming history Refuses book.Upgrade held holds ended made = made ≡ []
+DoesToHistory naming history Refuses (book.Audit quiet) held holds ended made = made ≡ []
+DoesToHistory naming history Refuses (book.BackUp copy quiet) held holds ended made = made ≡ []
+DoesToHistory naming history Refuses (book.Serve port requests) held holds ended made =
     ServesOfHistory naming history made
-DoesToHistory naming history (book.Details csv period centre) held holds ended made =
-    ListsAskedOfHistory (details_by csv period centre) naming history held holds ended made
-DoesToHistory naming history book.Rulings held holds ended made =
-    ListsOfHistory list.Rulings naming history held holds ended made
-DoesToHistory naming history (book.Disputes csv) held holds ended made =
-    ListsOfHistory (disputes_by csv) naming history held holds ended made
-DoesToHistory naming history (book.ChooseListed file) held holds ended made =
-    ListOfHistory naming history held holds ended made
-DoesToHistory naming history (book.DryRun ruling) held holds ended made =
-    TriesOfHistory naming history ruling held holds ended made
-DoesToHistory naming history asked held holds ended made =
-    AsksOfHistory naming history asked held holds ended made
+DoesToHistory naming history Refuses (book.Details csv period centre) held holds ended made =
+    ListsAskedOfHistory (details_by csv period centre) naming history Refuses held holds ended made
+DoesToHistory naming history Refuses book.Rulings held holds ended made =
+    ListsOfHistory list.Rulings naming history Refuses held holds ended made
+DoesToHistory naming history Refuses (book.Disputes csv) held holds ended made =
+    ListsOfHistory (disputes_by csv) naming history Refuses held holds ended made
+DoesToHistory naming history Refuses (book.ChooseListed file) held holds ended made =
+    ListOfHistory naming history Refuses held holds ended made
+DoesToHistory naming history Refuses (book.DryRun ruling) held holds ended made =
+    TriesOfHistory naming history Refuses ruling held holds ended made
+DoesToHistory naming history Refuses asked held holds ended made =
+    AsksOfHistory naming history Refuses asked held holds ended made
 
 -- it does so to the books that its words name, and nothing to others
 pub record OnBooks (naming : Naming) (name book : List ℕ) (history : List Event)
-    (request : BookRequest) (held holds : Option (List ℕ)) (status : Status) (made : List Event)
-    : Type 0 where
+    (Refuses : RepositoryFault → Type 0) (request : BookRequest) (held holds : Option (List ℕ))
+    (status : Status) (made : List Event) : Type 0 where
   pub ended : Ended
   pub ends : status ≡ status_by ended
-  pub here : book ≡ name → DoesToHistory naming history request held holds ended made
+  pub here : book ≡ name → DoesToHistory naming history Refuses request held holds ended made
   pub elsewhere : book ≢ name → made ≡ []
 
 -- so with all requests: only those on books do anything to them
-abbrev pub RunsOn : Naming → List ℕ → List Event → Result Request ArgumentFault → Option (List ℕ)
-    → Option (List ℕ) → Status → List Event → Type 0
-RunsOn naming name history (Ok (request.OfBooks book wait asked)) held holds status made =
-    OnBooks naming name book.now history asked held holds status made
-RunsOn naming name history asked held holds status made = made ≡ []
+abbrev pub RunsOn : Naming → List ℕ → List Event → (List ℕ → RepositoryFault → Type 0)
+    → Result Request ArgumentFault → Option (List ℕ) → Option (List ℕ) → Status → List Event
+    → Type 0
+RunsOn naming name history Refuses (Ok (request.OfBooks book wait asked)) held holds status made =
+    OnBooks naming name book.now history (Refuses book.now) asked held holds status made
+RunsOn naming name history Refuses asked held holds status made = made ≡ []
 
--- What a command did to the books of a name, which held this history, by its words; calls made all of
--- what they hold now.
+-- What a command did to the books of a name, which held this history, by its words, at a place that
+-- refuses books for such reasons; calls made all of what they hold now.
 pub record DoneAfter {S E : Type 0} (naming : Naming) (name : List ℕ) (history : List Event)
-    (command : Commanded S E) (made : List Event) : Type 0 where
+    (Refuses : List ℕ → RepositoryFault → Type 0) (command : Commanded S E) (made : List Event)
+    : Type 0 where
   pub asked : Result Request ArgumentFault
   pub read : AreReadAs program_name most_rate (as_texts command.words) asked
-  pub runs : RunsOn naming name history asked command.held command.holds command.status made
+  pub runs : RunsOn naming name history Refuses asked command.held command.holds command.status made
   pub answered : IsMadeByCalls naming (made ++ history)
 
--- so it is with each, after the history that goes on with what those before it made
-abbrev pub AreDoneAfter : {S E : Type 0} → Naming → List ℕ → List Event → List (Commanded S E)
-    → List Event → Type 0
-AreDoneAfter naming name history [] end = end ≡ history
-AreDoneAfter naming name history (command ∷ later) end =
-    (made : List Event) × DoneAfter naming name history command made
-    × AreDoneAfter naming name (made ++ history) later end
+-- so it is with each, after the history that goes on with what those before it made, at the place
+-- that they left
+abbrev pub AreDoneAfter : {S E : Type 0} → (S → Shelf) → S → Naming → List ℕ → List Event
+    → List (Commanded S E) → List Event → Type 0
+AreDoneAfter shelf before naming name history [] end = end ≡ history
+AreDoneAfter shelf before naming name history (command ∷ later) end =
+    (made : List Event) × DoneAfter naming name history (shelf before).refuses command made
+    × AreDoneAfter shelf command.after naming name (made ++ history) later end
 
 -- and the books hold the history with all of it
-pub record LeaveHistory {S E : Type 0} (shelf : S → Shelf) (naming : Naming) (name : List ℕ)
-    (start : List Event) (commands : List (Commanded S E)) (after : S) : Type 0 where
+pub record LeaveHistory {S E : Type 0} (shelf : S → Shelf) (before : S) (naming : Naming)
+    (name : List ℕ) (start : List Event) (commands : List (Commanded S E)) (after : S)
+    : Type 0 where
   pub end : List Event
-  pub done : AreDoneAfter naming name start commands end
+  pub done : AreDoneAfter shelf before naming name start commands end
   pub held : (shelf after).holds name end
 
 -- The headline: after any commands, the books of a name that held a history which calls made hold it
 -- with what the commands made of it; and each told what the definitions give for the whole history
--- before it.
+-- before it, or why the place that it found refused the books.
 abbrev pub CommandsFollowHistory : {S E : Type 0} → (S → Shelf) → (S → ℕ → Type 0)
     → (List (List ℕ) → E → E → Type 0) → Type 0
 CommandsFollowHistory {S} {E} shelf waits Says =
     (name : List ℕ) (start : List Event) (before : S) (commands : List (Commanded S E))
     → IsMadeByCalls (shelf before).naming start → (shelf before).holds name start
     → AreCommanded shelf waits Says before commands
-    → LeaveHistory shelf (shelf before).naming name start commands (place_after before commands)
+    → LeaveHistory shelf before (shelf before).naming name start commands
+    (place_after before commands)

@@ -148,30 +148,39 @@ pub record IsAnswered (asked : Asked) (book : List ℕ) (old new : Shelf) (answe
     pub log : new.has_log book answered.has_log
     pub change : answered.is_change ≡ may_change asked
 
--- the place of the books failed, or there is nothing of that name
-abbrev pub IsShelfFault : CommandFault → Type 0
-IsShelfFault why = (shelf : RepositoryFault) × (why ≡ shelf_fault shelf)
+-- The place of the books refused them for such a reason: it failed, others have them, or there is
+-- nothing of that name.
+abbrev pub IsShelfFault : (RepositoryFault → Type 0) → CommandFault → Type 0
+IsShelfFault Refuses why = (shelf : RepositoryFault) × Refuses shelf × (why ≡ shelf_fault shelf)
+
+-- so it was, and nothing was done or written
+abbrev pub IsRefusedBy : List ℕ → Shelf → Shelf → Option (List ℕ) → Option (List ℕ) → CommandFault
+    → Type 0
+IsRefusedBy book old new held holds why =
+    IsShelfFault (old.refuses book) why × IsUntouched book old new × (holds ≡ held)
 
 -- that, or the file of a tariff failed, or its text is none
-abbrev pub IsTariffFault : CommandFault → Type 0
-IsTariffFault why = IsShelfFault why ⊎ IsTextFault why
+abbrev pub IsTariffFault : (RepositoryFault → Type 0) → CommandFault → Type 0
+IsTariffFault Refuses why = IsShelfFault Refuses why ⊎ IsTextFault why
 
 -- a word is not what it has to be, before anything else; or else there is a fault of this kind
 abbrev pub IsWordFault : {A : Type 0} → Option A → (CommandFault → Type 0) → CommandFault → Type 0
 IsWordFault None IsLater why = why ≡ fault.Argument
 IsWordFault (Some read) IsLater why = IsLater why
 
--- why a command asks nothing
-abbrev pub AsksNothing : BookRequest → CommandFault → Type 0
-AsksNothing (book.Import dump) why = IsShelfFault why ⊎ IsFileFault why
-AsksNothing (book.Rule (ruling.Tariff file)) why = IsTariffFault why
-AsksNothing (book.Rule (ruling.Close period date)) why =
-    IsWordFault (day_of_text_of date.now) IsShelfFault why
-AsksNothing (book.Rule (ruling.Choose name)) why = IsWordFault (name_in name.now) IsShelfFault why
-AsksNothing (book.Report said) why = IsWordFault (report_of said) IsShelfFault why
-AsksNothing (book.WhatIf form period centre file) why =
-    IsWordFault (what_if_of form period centre) IsTariffFault why
-AsksNothing request why = IsShelfFault why
+-- why a command asks nothing, of books that are refused for these reasons
+abbrev pub AsksNothing : BookRequest → (RepositoryFault → Type 0) → CommandFault → Type 0
+AsksNothing (book.Import dump) Refuses why = IsShelfFault Refuses why ⊎ IsFileFault why
+AsksNothing (book.Rule (ruling.Tariff file)) Refuses why = IsTariffFault Refuses why
+AsksNothing (book.Rule (ruling.Close period date)) Refuses why =
+    IsWordFault (day_of_text_of date.now) (IsShelfFault Refuses) why
+AsksNothing (book.Rule (ruling.Choose name)) Refuses why =
+    IsWordFault (name_in name.now) (IsShelfFault Refuses) why
+AsksNothing (book.Report said) Refuses why =
+    IsWordFault (report_of said) (IsShelfFault Refuses) why
+AsksNothing (book.WhatIf form period centre file) Refuses why =
+    IsWordFault (what_if_of form period centre) (IsTariffFault Refuses) why
+AsksNothing request Refuses why = IsShelfFault Refuses why
 
 -- what an import notices of a dump that looked misread or not
 abbrev pub answer_notice : Bool → Result Answer CommandFault → Option Notice
@@ -216,7 +225,8 @@ pub record Asking (request : BookRequest) (book : List ℕ) (old new : Shelf) (a
 -- What came of a command: the office was asked just what its words ask, once; or nothing was asked.
 abbrev pub ComesOf : BookRequest → List ℕ → Shelf → Shelf → Result Answered CommandFault → Type 0
 ComesOf request book old new (Ok answered) = Asking request book old new answered
-ComesOf request book old new (Err why) = AsksNothing request why × IsUntouched book old new
+ComesOf request book old new (Err why) =
+    AsksNothing request (old.refuses book) why × IsUntouched book old new
 
 -- the first fault
 abbrev pub first_fault : Result (Unit {0}) CommandFault → Result (Unit {0}) CommandFault

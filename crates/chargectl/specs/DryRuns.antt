@@ -38,9 +38,10 @@ use Rattle.chargectl.specs.Commands.{AsksNothing, IsAskedBy, Tells, answer_of, a
 use Rattle.chargectl.specs.Far.{far_notice, notice_by}
 
 -- what the office is asked for a ruling is just what its words ask, or there was a fault before
-abbrev pub IsAskedFor : BookRequest → Result Asked CommandFault → Type 0
-IsAskedFor request (Ok asked) = IsAskedBy request asked × IsAskableRuling asked
-IsAskedFor request (Err why) = AsksNothing request why
+abbrev pub IsAskedFor : BookRequest → (RepositoryFault → Type 0) → Result Asked CommandFault
+    → Type 0
+IsAskedFor request Refuses (Ok asked) = IsAskedBy request asked × IsAskableRuling asked
+IsAskedFor request Refuses (Err why) = AsksNothing request Refuses why
 
 -- A ruling, as its dry run names it: a tariff by its first day.
 abbrev pub IsNamedBy : Asked → TriedRuling → Type 0
@@ -156,7 +157,8 @@ pub record Trying (request : BookRequest) (book : List ℕ) (old new : Shelf) (a
 -- the command without a dry run would have found.
 abbrev pub ComesOfDryRun : BookRequest → List ℕ → Shelf → Shelf → Result Answered CommandFault → Type 0
 ComesOfDryRun request book old new (Ok answered) = Trying request book old new answered
-ComesOfDryRun request book old new (Err why) = AsksNothing request why × IsUntouched book old new
+ComesOfDryRun request book old new (Err why) =
+    AsksNothing request (old.refuses book) why × IsUntouched book old new
 
 -- A dry run of a ruling: what came of it, and what was told of that.
 pub record TriesAndTells (ruling : Ruling) (book : List ℕ) (old new : Shelf)

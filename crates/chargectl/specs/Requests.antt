@@ -6,7 +6,7 @@ use Rattle.std.specs.Io.KnownBytes.{Appends}
 use Rattle.tariff_rules.specs.Limits.{most_rate}
 use Rattle.book_model.specs.declared.fault.LedgerFault.TheVariants as ledger
 use Rattle.office.specs.declared.repository.RepositoryFault.{RepositoryFault}
-use Rattle.office.specs.Shelves.{Shelf, IsDoneTo, IsMade, IsSameShelf, IsUntouched}
+use Rattle.office.specs.Shelves.{Shelf, IsDoneTo, IsMade, IsSameShelf}
 use Rattle.command_line.specs.declared.request.BookRequest.{BookRequest}
 use Rattle.command_line.specs.declared.request.BookRequest.TheVariants as book
 use Rattle.command_line.specs.declared.request.Request.{Request}
@@ -22,7 +22,7 @@ use Rattle.chargectl.specs.declared.command_fault.CommandFault.TheVariants as fa
 use Rattle.chargectl.specs.declared.ended.Ended.{Ended}
 use Rattle.chargectl.specs.Audits.{AuditsBooks, BacksUp}
 use Rattle.chargectl.specs.Choices.{ChoosesListed}
-use Rattle.chargectl.specs.Commands.{AsksAndTells, IsShelfFault}
+use Rattle.chargectl.specs.Commands.{AsksAndTells, IsRefusedBy, IsShelfFault}
 use Rattle.chargectl.specs.DryRuns.{TriesAndTells}
 use Rattle.chargectl.specs.Faults.{IsFileFault, error_lines, settled_as, shelf_end, status_by}
 use Rattle.chargectl.specs.Faults.{without_log}
@@ -41,31 +41,32 @@ pub record Makes (book : List ℕ) (old new : Shelf) (held holds : Option (List 
   pub ends : ended ≡ without_log (shelf_end made)
   pub none : holds ≡ held
 
--- why a service did not answer all: the books were in the way, or the port, or a connection did not come
-abbrev pub IsServiceFault : CommandFault → Type 0
-IsServiceFault why = IsShelfFault why ⊎ IsFileFault why
+-- why a service did not answer all: the books were refused for such a reason, the port was in the
+-- way, or a connection did not come
+abbrev pub IsServiceFault : (RepositoryFault → Type 0) → CommandFault → Type 0
+IsServiceFault Refuses why = IsShelfFault Refuses why ⊎ IsFileFault why
 
 -- What a service came to: some connections were answered; and all, with their lines, unless one did not
 -- come or the books were in the way. A write of a line that failed is told at the end, and ends nothing
 -- before. And whether a log is left.
-pub record Serves (requests : ℕ) (book : List ℕ) (old new : Shelf) (held holds : Option (List ℕ))
-    (ended : Ended) : Type 0 where
+pub record Serves (Refuses : RepositoryFault → Type 0) (requests : ℕ) (book : List ℕ)
+    (old new : Shelf) (held holds : Option (List ℕ)) (ended : Ended) : Type 0 where
   pub served : Result Bool CommandFault
   pub some : IsDoneTo book (ServesSome old.naming) old new
   pub all : IfOk served (λ failed. IsServing ready requests 0 book old new (unfailed held)
       (record { holds = holds; has_failed = failed }))
-  pub cause : IfErr served IsServiceFault
+  pub cause : IfErr served (IsServiceFault Refuses)
   pub ends : ended.came ≡ service_end served
   pub log : new.has_log book ended.has_log
   pub change : ended.is_change ≡ true
   pub notice : ended.notice ≡ None
 
--- or there was nothing of that name
+-- or the place refused them before
 abbrev pub ServesBy : ℕ → List ℕ → Shelf → Shelf → Option (List ℕ) → Option (List ℕ)
     → Result Ended CommandFault → Type 0
-ServesBy requests book old new held holds (Ok ended) = Serves requests book old new held holds ended
-ServesBy requests book old new held holds (Err why) =
-    IsShelfFault why × IsUntouched book old new × (holds ≡ held)
+ServesBy requests book old new held holds (Ok ended) =
+    Serves (old.refuses book) requests book old new held holds ended
+ServesBy requests book old new held holds (Err why) = IsRefusedBy book old new held holds why
 
 -- a command that may have found a fault before it opened any books
 pub record SettlesBy (Does : Result Ended CommandFault → Type 0) (ended : Ended) : Type 0 where

@@ -24,7 +24,7 @@ use Rattle.chargectl.specs.declared.command_fault.CommandFault.TheVariants as fa
 use Rattle.chargectl.specs.declared.ended.Ended.{Ended}
 use Rattle.chargectl.specs.declared.streamed_lists.StreamedList.{StreamedList}
 use Rattle.chargectl.specs.declared.streamed_lists.StreamedList.TheVariants as list
-use Rattle.chargectl.specs.Commands.{IsShelfFault, asked_centre, first_fault}
+use Rattle.chargectl.specs.Commands.{IsRefusedBy, asked_centre, first_fault}
 use Rattle.chargectl.specs.Faults.{shelf_fault}
 
 -- the text of a list, or why the books have none: only of a period that is not there
@@ -87,12 +87,11 @@ pub record Lists (list : StreamedList) (book : List ℕ) (old new : Shelf)
   pub change : ended.is_change ≡ false
   pub notice : ended.notice ≡ None
 
--- or there was nothing of that name
+-- or the place refused them before
 abbrev pub ListsBy : StreamedList → List ℕ → Shelf → Shelf → Option (List ℕ) → Option (List ℕ)
     → Result Ended CommandFault → Type 0
 ListsBy list book old new held holds (Ok ended) = Lists list book old new held holds ended
-ListsBy list book old new held holds (Err why) =
-    IsShelfFault why × IsUntouched book old new × (holds ≡ held)
+ListsBy list book old new held holds (Err why) = IsRefusedBy book old new held holds why
 
 -- A list that words ask for; or a word is not what it has to be, and the books are not looked at.
 abbrev pub ListsAsked : Option StreamedList → List ℕ → Shelf → Shelf → Option (List ℕ)

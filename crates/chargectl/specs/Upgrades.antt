@@ -1,5 +1,5 @@
 -- Books of an older form, which are brought over to the present one.
-use Rattle.std.specs.Prelude.{◌≡◌, true, ℕ, List, ◌++◌, codes, Option, None, Result, Ok, Err}
+use Rattle.std.specs.Prelude.{◌≡◌, true, ℕ, List, ◌++◌, codes, IfErr, Option, None, Result, Ok, Err}
 use Rattle.std.specs.Fmt.{decimal}
 use Rattle.office.specs.declared.repository.RepositoryFault.{RepositoryFault}
 use Rattle.office.specs.declared.repository.Upgraded.{Upgraded}
@@ -7,7 +7,7 @@ use Rattle.office.specs.declared.repository.Upgraded.TheVariants.{To, Already}
 use Rattle.office.specs.Shelves.{Shelf, IsUntouched}
 use Rattle.chargectl.specs.declared.command_fault.CommandFault.{CommandFault}
 use Rattle.chargectl.specs.declared.ended.Ended.{Ended}
-use Rattle.chargectl.specs.Commands.{IsShelfFault}
+use Rattle.chargectl.specs.Commands.{IsRefusedBy}
 use Rattle.chargectl.specs.Faults.{EndsText, shelf_fault}
 
 -- what is written of them, by what came of it: the number of the form that they have now, or that they
@@ -28,14 +28,14 @@ pub record Upgrades (book : List ℕ) (old new : Shelf) (held holds : Option (Li
     : Type 0 where
   pub upgraded : Result Upgraded RepositoryFault
   pub done : IsUntouched book old new
+  pub refused : IfErr upgraded (old.refuses book)
   pub ends : EndsUpgrade upgraded held holds ended.came
   pub log : new.has_log book ended.has_log
   pub change : ended.is_change ≡ true
   pub notice : ended.notice ≡ None
 
--- or there was nothing of that name
+-- or the place refused them before
 abbrev pub UpgradesBy : List ℕ → Shelf → Shelf → Option (List ℕ) → Option (List ℕ)
     → Result Ended CommandFault → Type 0
 UpgradesBy book old new held holds (Ok ended) = Upgrades book old new held holds ended
-UpgradesBy book old new held holds (Err why) =
-    IsShelfFault why × IsUntouched book old new × (holds ≡ held)
+UpgradesBy book old new held holds (Err why) = IsRefusedBy book old new held holds why

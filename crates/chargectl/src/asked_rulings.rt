@@ -20,7 +20,8 @@ pub(crate) fn asked_ruling<S: Repository>(
     book: &str,
     ruling: Ruling<'_>,
 ) -> Result<Asked, CommandFault>
-    ensures { IsAskedFor (BookRequest.Rule ruling.entry) result }
+    ensures { IsAskedFor (BookRequest.Rule ruling.entry)
+        ((S.shelf repository.now).refuses book.now) result }
 {
     match ruling {
         Ruling::Tariff { file } => asked_tariff(rt, repository, book, file),
@@ -37,7 +38,8 @@ fn asked_tariff<S: Repository>(
     book: &str,
     file: &str,
 ) -> Result<Asked, CommandFault>
-    ensures { IsAskedFor (BookRequest.Rule (Ruling.Tariff file.entry)) result }
+    ensures { IsAskedFor (BookRequest.Rule (Ruling.Tariff file.entry))
+        ((S.shelf repository.now).refuses book.now) result }
 {
     repository.expect(book)?;
     let text = tariff_text(rt, file)?;
@@ -51,7 +53,8 @@ fn asked_close<S: Repository>(
     period: u16,
     date: &str,
 ) -> Result<Asked, CommandFault>
-    ensures { IsAskedFor (BookRequest.Rule (Ruling.Close period date.entry)) result }
+    ensures { IsAskedFor (BookRequest.Rule (Ruling.Close period date.entry))
+        ((S.shelf repository.now).refuses book.now) result }
 {
     let through = match day_of_text(date) {
         Some(through) => through,
@@ -67,7 +70,8 @@ fn asked_choice<S: Repository>(
     book: &str,
     name: &str,
 ) -> Result<Asked, CommandFault>
-    ensures { IsAskedFor (BookRequest.Rule (Ruling.Choose name.entry)) result }
+    ensures { IsAskedFor (BookRequest.Rule (Ruling.Choose name.entry))
+        ((S.shelf repository.now).refuses book.now) result }
 {
     let chosen = match name_of_text(name) {
         Some(chosen) => chosen,
@@ -79,7 +83,8 @@ fn asked_choice<S: Repository>(
 
 /// What is asked for the adoption of the later rule of identity.
 fn asked_adoption<S: Repository>(repository: &S, book: &str) -> Result<Asked, CommandFault>
-    ensures { IsAskedFor (BookRequest.Rule Ruling.Adopt) result }
+    ensures { IsAskedFor (BookRequest.Rule Ruling.Adopt)
+        ((S.shelf repository.now).refuses book.now) result }
 {
     repository.expect(book)?;
     Ok(Asked::Adopt(LATER_RULE))

@@ -1,6 +1,7 @@
 //! Serves the books over HTTP, to this machine only.
 
-ghost use Rattle.std.specs.Prelude.{◌≡◌, ◌++◌, [], codes, decimal, IfErr, None, Ok, OnOk, true};
+ghost use Rattle.std.specs.Prelude.{◌≡◌, ◌++◌, [], codes, decimal, IfErr};
+ghost use Rattle.std.specs.Prelude.{Err, None, Ok, OnOk, true};
 ghost use Rattle.chargectl.specs.Requests.{IsServiceFault, Serves, ServesBy};
 ghost use Rattle.chargectl.specs.ServedLines.{Gains, seen_of};
 ghost use Rattle.chargectl.specs.Serving.{IsServing, NoneCame, left_by, line_of, service_end};
@@ -57,7 +58,7 @@ fn listen(
     port: u16,
     opened: Result<(), RepositoryFault>,
 ) -> Result<TcpListener, CommandFault>
-    ensures { IfErr result IsServiceFault }
+    ensures { IfErr result (IsServiceFault (λ why. opened ≡ Err why)) }
 {
     opened?;
     Ok(listen_here(rt, port)?)
@@ -102,7 +103,9 @@ fn serve_here<S: Repository, O: Write + Drop>(
     output: O,
 ) -> (Ended, O)
     requires { (S.shelf repository.old).has_log book.now has_log }
-    ensures { Serves requests book.now (S.shelf repository.old) (S.shelf repository.new)
+
+    // The books are not in the way any more.
+    ensures { Serves (λ _. ⊥) requests book.now (S.shelf repository.old) (S.shelf repository.new)
         (O.contents output) (O.contents result.1) result.0 }
 {
     let mut port = Port::over(rt, listener, requests);

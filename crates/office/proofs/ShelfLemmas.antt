@@ -1,6 +1,7 @@
 -- What is done to books that are kept by their names.
 use Rattle.std.proofs.Common.{◌≡◌, ◌∙◌, ℕ, Bool, false, List, [], ◌++◌, refl, sym, subst, inl, inr}
 use Rattle.std.proofs.Common.{Result, Ok, Err, append_assoc}
+use Rattle.std.specs.Prelude.{IfErr}
 use Rattle.book_model.specs.Words.{Book, Event, Naming, book_after, new_book}
 use Rattle.book_core.specs.Transition.{Transition, NoEvent, Then}
 use Rattle.book_core.proofs.TransitionLemmas.{after_all-append}
@@ -26,8 +27,12 @@ untouched book shelf = record {
 }
 
 pub same_shelf : (shelf : Shelf) → IsSameShelf shelf shelf
-same_shelf shelf =
-    record { naming = refl; holds = λ book history held. held; free = λ book free. free }
+same_shelf shelf = record {
+  naming = refl;
+  holds = λ book history held. held;
+  free = λ book free. free;
+  refuses = λ book fault refused. refused;
+}
 
 -- work, seen as other work
 pub done_as : (book : List ℕ) (Made Other : Transition) (old new : Shelf)
@@ -107,9 +112,16 @@ done_after book Made one two three first next = record {
 pub opened_untouched : {A : Type 0} (book : List ℕ) (old new : Shelf) (answer : Result A RepositoryFault)
     → IsOpened (λ told. NoEvent) book old new answer → IsUntouched book old new
 opened_untouched book old new (Ok told) done = done
-opened_untouched book old new (Err Unseen) (inl seen) = seen.1
-opened_untouched book old new (Err Unseen) (inr none) = none
-opened_untouched book old new (Err fault) none = none
+opened_untouched book old new (Err Unseen) (refused, inl seen) = seen.1
+opened_untouched book old new (Err Unseen) (refused, inr none) = none
+opened_untouched book old new (Err fault) (refused, none) = none
+
+-- why they were not opened
+pub opened_refused : {A : Type 0} (work : A → Transition) (book : List ℕ) (old new : Shelf)
+    (answer : Result A RepositoryFault) (fault : RepositoryFault)
+    → IsOpened work book old new answer → answer ≡ Err fault → old.refuses book fault
+opened_refused work book old new answer fault opened is =
+    (subst (λ answer. IsOpened work book old new answer) is opened).0
 
 -- where nothing is known of books
 pub unknown_done : (book : List ℕ) (naming : Naming) (Made : Transition)
@@ -135,14 +147,14 @@ pub unknown_opened : {A : Type 0} (work : A → Transition) (book : List ℕ) (n
     (answer : Result A RepositoryFault)
     → IsOpened work book (unknown naming) (unknown naming) answer
 unknown_opened work book naming (Ok answer) = unknown_done book naming (work answer)
-unknown_opened work book naming (Err fault) = unknown_unopened work book naming fault
+unknown_opened work book naming (Err fault) = (tt, unknown_unopened work book naming fault)
 
 pub unknown_tried : {A : Type 0} (work : A → Transition) (book : List ℕ) (naming : Naming)
     (answer : Result A RepositoryFault)
     → IsTried work book (unknown naming) (unknown naming) answer
 unknown_tried work book naming (Ok answer) =
     (unknown_untouched book naming, λ history held. absurd held)
-unknown_tried work book naming (Err fault) = unknown_untouched book naming
+unknown_tried work book naming (Err fault) = (tt, unknown_untouched book naming)
 
 pub unknown_made : (book : List ℕ) (naming : Naming) (result : Result (Unit {0}) RepositoryFault)
     → IsMade book (unknown naming) (unknown naming) result
@@ -150,12 +162,19 @@ unknown_made book naming (Ok made) = record {
   kept = unknown_untouched book naming;
   made = λ free. absurd free;
   refused = tt;
+  why = tt;
 }
 unknown_made book naming (Err fault) = record {
   kept = unknown_untouched book naming;
   made = tt;
   refused = λ free. absurd free;
+  why = tt;
 }
+
+pub unknown_refused : {A : Type 0} (book : List ℕ) (naming : Naming)
+    (answer : Result A RepositoryFault) → IfErr answer ((unknown naming).refuses book)
+unknown_refused book naming (Ok answer) = tt
+unknown_refused book naming (Err fault) = tt
 
 -- a visit that was not made is as it is, whatever the fault
 pub same_where : (Visited Same : Type 0) (fault : RepositoryFault) → Same

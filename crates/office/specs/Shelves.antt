@@ -1,18 +1,21 @@
 -- What is done to books that are kept by their names.
-use Rattle.std.specs.Prelude.{◌≡◌, ◌≢◌, ◌⊎◌, ℕ, Bool, false, List, [], ◌++◌, Result, Ok, Err, OnOk, OnErr}
+use Rattle.std.specs.Prelude.{◌≡◌, ◌≢◌, ◌⊎◌, ℕ, Bool, false, List, [], ◌++◌, Result, Ok, Err}
+use Rattle.std.specs.Prelude.{IfErr, OnOk, OnErr}
 use Rattle.book_model.specs.Words.{Book, Event, Naming, book_after}
 use Rattle.book_core.specs.Transition.{Transition, NoEvent}
 use Rattle.office.specs.declared.repository.RepositoryFault.{RepositoryFault}
 use Rattle.office.specs.declared.repository.RepositoryFault.TheVariants.{Unseen}
 
 -- What is known of the books that are kept somewhere: how they name records; which history the books
--- of a name hold, as the next opening finds them; that there is nothing under a name; and whether a
--- log beside the books of a name holds a part of them.
+-- of a name hold, as the next opening finds them; that there is nothing under a name; whether a log
+-- beside the books of a name holds a part of them; and why a call on a name may be refused. Only a
+-- call shows that, so a clause can say that nothing else is told as a refusal.
 pub record Shelf : Type 1 where
   pub naming : Naming
   pub holds : List ℕ → List Event → Type 0
   pub is_free : List ℕ → Type 0
   pub has_log : List ℕ → Bool → Type 0
+  pub refuses : List ℕ → RepositoryFault → Type 0
 
 -- where they are kept in files nothing is known, whatever the files hold
 abbrev pub unknown : Naming → Shelf
@@ -21,13 +24,17 @@ unknown naming = record {
   holds = λ book history. ⊥;
   is_free = λ book. ⊥;
   has_log = λ book is. Unit {0};
+  refuses = λ book fault. Unit {0};
 }
 
--- The same is known of books: they are where they were, and a name that was free is free.
+-- The same is known of books: they are where they were, a name that was free is free, and a call is
+-- refused for no other reasons.
 pub record IsSameShelf (old new : Shelf) : Type 0 where
   pub naming : new.naming ≡ old.naming
   pub holds : (book : List ℕ) (history : List Event) → old.holds book history → new.holds book history
   pub free : (book : List ℕ) → old.is_free book → new.is_free book
+  pub refuses : (book : List ℕ) (fault : RepositoryFault) → new.refuses book fault
+      → old.refuses book fault
 
 -- Work on books that were opened anew, whatever was before, and whatever is left to be opened again.
 pub record OpenedAnew (Made : Transition) (was : Bool) (before : Book) (events : List Event) (is : Bool)
@@ -63,12 +70,13 @@ abbrev pub WhereUnopened : Type 0 → Type 0 → RepositoryFault → Type 0
 WhereUnopened Visited Untouched Unseen = Visited ⊎ Untouched
 WhereUnopened Visited Untouched fault = Untouched
 
--- The books of a name were opened, visited once and closed, and this came of it; or they were not.
+-- The books of a name were opened, visited once and closed, and this came of it; or the place
+-- refused them, as it was before.
 abbrev pub IsOpened : {A : Type 0} → (A → Transition) → List ℕ → Shelf → Shelf
     → Result A RepositoryFault → Type 0
 IsOpened work book old new (Ok answer) = IsDoneTo book (work answer) old new
-IsOpened {A} work book old new (Err fault) =
-    WhereUnopened ((answer : A) × IsDoneTo book (work answer) old new)
+IsOpened {A} work book old new (Err fault) = old.refuses book fault
+    × WhereUnopened ((answer : A) × IsDoneTo book (work answer) old new)
     (IsUntouched book old new) fault
 
 -- Books of a name were visited as a copy: what a visit did, it did to the book that they hold, whatever
@@ -81,17 +89,18 @@ TriesOn Made book shelf = (history : List Event) → shelf.holds book history
 abbrev pub IsTried : {A : Type 0} → (A → Transition) → List ℕ → Shelf → Shelf
     → Result A RepositoryFault → Type 0
 IsTried work book old new (Ok answer) = IsUntouched book old new × TriesOn (work answer) book old
-IsTried work book old new (Err fault) = IsUntouched book old new
+IsTried work book old new (Err fault) = old.refuses book fault × IsUntouched book old new
 
 -- What is so by what came of an opening: this of the visit's answer; or the visit is as it was.
 abbrev pub ComesBy : {A : Type 0} → (A → Type 0) → Type 0 → Result A RepositoryFault → Type 0
 ComesBy Came Same (Ok answer) = Came answer
 ComesBy {A} Came Same (Err fault) = WhereUnopened ((answer : A) × Came answer) Same fault
 
--- New books were made under a name, if it was free: they hold no history. Where they were not made it
--- is free still. Books that were there are as they were.
+-- New books were made under a name, if it was free: they hold no history. Or the place refused it,
+-- and it is free still. Books that were there are as they were.
 pub record IsMade (book : List ℕ) (old new : Shelf) (result : Result (Unit {0}) RepositoryFault)
     : Type 0 where
   pub kept : IsUntouched book old new
   pub made : OnOk result (old.is_free book → new.holds book [])
   pub refused : OnErr result (old.is_free book → new.is_free book)
+  pub why : IfErr result (old.refuses book)

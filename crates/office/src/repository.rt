@@ -71,7 +71,7 @@ pub enum Upgraded {
 
 /// Where books are kept by their names.
 pub trait Repository {
-    ghost use Rattle.std.specs.Prelude.{◌≡◌, ℕ};
+    ghost use Rattle.std.specs.Prelude.{◌≡◌, IfErr, ℕ};
     ghost use Rattle.office.specs.Shelves.{Shelf, ComesBy, IsMade, IsOpened, IsSameShelf, IsTried};
     ghost use Rattle.office.specs.Shelves.{IsUntouched};
 
@@ -88,7 +88,8 @@ pub trait Repository {
         ensures same { IsSameShelf (shelf self.old) (shelf self.new) };
 
     /// Says whether there is something with that name.
-    fn expect(&self, book: &str) -> Result<(), RepositoryFault>;
+    fn expect(&self, book: &str) -> Result<(), RepositoryFault>
+        ensures { IfErr result ((shelf self.now).refuses book.now) };
 
     /// Makes new books under a name that is not there yet.
     fn make(&mut self, book: &str) -> Result<(), RepositoryFault>
@@ -114,5 +115,6 @@ pub trait Repository {
     /// Brings the books of a name to the form that this program keeps: they hold the same history.
     fn upgrade(&mut self, book: &str) -> Opened<Upgraded>
         ensures same { IsUntouched book.now (shelf self.old) (shelf self.new) }
+        ensures refused { IfErr result.answer ((shelf self.old).refuses book.now) }
         ensures log { (shelf self.new).has_log book.now result.has_log };
 }

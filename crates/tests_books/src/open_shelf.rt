@@ -9,7 +9,7 @@ pub(crate) struct OpenShelf<'a, L: Ledger> {
     pub(crate) ledger: &'a mut L,
 }
 
-#[tactic(auto, using(office::proofs::ShelfLemmas::unknown_made, office::proofs::ShelfLemmas::unknown_opened, office::proofs::ShelfLemmas::unknown_tried, office::proofs::ShelfLemmas::unknown_untouched, office::proofs::ShelfLemmas::same_shelf, office::proofs::ShelfLemmas::came_by, office::proofs::ShelfLemmas::same_by))]
+#[tactic(auto, using(office::proofs::ShelfLemmas::unknown_made, office::proofs::ShelfLemmas::unknown_opened, office::proofs::ShelfLemmas::unknown_refused, office::proofs::ShelfLemmas::unknown_tried, office::proofs::ShelfLemmas::unknown_untouched, office::proofs::ShelfLemmas::same_shelf, office::proofs::ShelfLemmas::came_by, office::proofs::ShelfLemmas::same_by))]
 impl<L: Ledger> Repository for OpenShelf<'_, L> {
     ghost use Rattle.std.specs.Prelude.{replicate};
     ghost use Rattle.office.specs.Shelves.{unknown};

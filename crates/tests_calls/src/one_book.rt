@@ -49,7 +49,7 @@ impl OneBook {
     }
 }
 
-#[tactic(auto, using(office::proofs::ShelfLemmas::unknown_made, office::proofs::ShelfLemmas::unknown_opened, office::proofs::ShelfLemmas::unknown_tried, office::proofs::ShelfLemmas::unknown_untouched, office::proofs::ShelfLemmas::same_shelf, office::proofs::ShelfLemmas::came_by, office::proofs::ShelfLemmas::same_by))]
+#[tactic(auto, using(office::proofs::ShelfLemmas::unknown_made, office::proofs::ShelfLemmas::unknown_opened, office::proofs::ShelfLemmas::unknown_refused, office::proofs::ShelfLemmas::unknown_tried, office::proofs::ShelfLemmas::unknown_untouched, office::proofs::ShelfLemmas::same_shelf, office::proofs::ShelfLemmas::came_by, office::proofs::ShelfLemmas::same_by))]
 impl Repository for OneBook {
     ghost use Rattle.std.specs.Prelude.{replicate};
     ghost use Rattle.office.specs.Shelves.{unknown};
@@ -87,7 +87,7 @@ impl Repository for OneBook {
     }
 }
 
-#[tactic(auto, using(book_audit::proofs::CopyLemmas::unknown_copied))]
+#[tactic(auto, using(book_audit::proofs::CopyLemmas::unknown_audited, book_audit::proofs::CopyLemmas::unknown_copied))]
 impl AuditedRepository for OneBook {
     fn audit<W: Watch>(&self, _book: &str, _watch: &mut W) -> Opened<Audited> {
         without_log(Err(RepositoryFault::Io))

@@ -7,6 +7,7 @@ use Rattle.chargectl.proofs.asked_rulings.asked_adoption.Goals as goal
 
 pub returns-in_err-expect : goal.returns-in_err-expect
 returns-in_err-expect g c =
-    none_asked (book.Rule ruling.Adopt) c.from_residual.result
+    none_asked (book.Rule ruling.Adopt)
+    ((g.S.Repository.shelf c.args.repository.now).refuses c.args.book.now) c.from_residual.result
     (shelf_fault c.in_err-expect.field-0.0) c.from_residual.ensures.0 c.from_residual.ensures.1
-    (c.in_err-expect.field-0.0, refl)
+    (c.in_err-expect.field-0.0, c.in_err-expect.ensures, refl)

@@ -8,14 +8,19 @@ use Rattle.chargectl.proofs.DryRunLemmas.{none_asked}
 use Rattle.chargectl.proofs.asked_rulings.asked_choice.Goals as goal
 
 pub returns-in-None : goal.returns-in-None
-returns-in-None g c = word_gone _ IsShelfFault (sym c.name_of_text.ensures.read ∙ c.in-None.is)
+returns-in-None g c =
+    word_gone _
+    (IsShelfFault ((g.S.Repository.shelf c.args.repository.now).refuses c.args.book.now))
+    (sym c.name_of_text.ensures.read ∙ c.in-None.is)
 
 pub returns-in_err-expect : goal.returns-in_err-expect
 returns-in_err-expect g c =
-    none_asked (book.Rule (ruling.Choose c.args.name)) c.from_residual.result
+    let refuses = (g.S.Repository.shelf c.args.repository.now).refuses c.args.book.now in
+    none_asked (book.Rule (ruling.Choose c.args.name)) refuses c.from_residual.result
     (shelf_fault c.in_err-expect.field-0.0) c.from_residual.ensures.0 c.from_residual.ensures.1
-    (word_there _ c.in-Some.chosen IsShelfFault (shelf_fault c.in_err-expect.field-0.0)
-    (sym c.name_of_text.ensures.read ∙ c.in-Some.is) (c.in_err-expect.field-0.0, refl))
+    (word_there _ c.in-Some.chosen (IsShelfFault refuses) (shelf_fault c.in_err-expect.field-0.0)
+    (sym c.name_of_text.ensures.read ∙ c.in-Some.is)
+    (c.in_err-expect.field-0.0, c.in_err-expect.ensures, refl))
 
 pub returns : goal.returns
 returns g c = (sym c.name_of_text.ensures.read ∙ c.in-Some.is, tt)

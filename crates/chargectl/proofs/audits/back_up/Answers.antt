@@ -8,7 +8,7 @@ returns-in_err-expect g c =
     let shelf = g.S.Repository.shelf c.args.repository.now in
     audits_none (IsCopied c.args.book.now c.args.copy.now shelf shelf) c.args.book.now shelf
     (g.O.Write.contents c.args.output.now) c.in_err-expect.field-0.0 c.from_residual.result
-    c.from_residual.ensures.0 c.from_residual.ensures.1
+    c.in_err-expect.ensures c.from_residual.ensures.0 c.from_residual.ensures.1
 
 pub returns : goal.returns
 returns g c = record {

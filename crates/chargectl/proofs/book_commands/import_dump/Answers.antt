@@ -12,7 +12,7 @@ returns-in_err-expect g c =
     not_asked (book.Import c.args.dump) c.args.book.now
     (g.S.Repository.shelf c.args.repository.now) c.from_residual.result
     (shelf_fault c.in_err-expect.field-0.0) c.from_residual.ensures.0
-    c.from_residual.ensures.1 (inl (c.in_err-expect.field-0.0, refl))
+    c.from_residual.ensures.1 (inl (c.in_err-expect.field-0.0, c.in_err-expect.ensures, refl))
 
 pub returns-in_err-input : goal.returns-in_err-input
 returns-in_err-input g c =

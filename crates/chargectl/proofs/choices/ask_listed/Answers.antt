@@ -7,7 +7,7 @@ pub returns-in_err-expect : goal.returns-in_err-expect
 returns-in_err-expect g c =
     not_listed c.args.book.now (g.S.Repository.shelf c.args.repository.now) c.from_residual.result
     (shelf_fault c.in_err-expect.field-0.0) c.from_residual.ensures.0 c.from_residual.ensures.1
-    (inl (c.in_err-expect.field-0.0, refl))
+    (inl (c.in_err-expect.field-0.0, c.in_err-expect.ensures, refl))
 
 pub returns-in_err-names : goal.returns-in_err-names
 returns-in_err-names g c =

@@ -9,18 +9,19 @@ use Rattle.chargectl.proofs.report_commands.report.Goals as goal
 
 pub returns-in-None : goal.returns-in-None
 returns-in-None g c = (
-  word_gone _ IsShelfFault (sym c.report_of.ensures ∙ c.in-None.is),
+  word_gone _ (IsShelfFault ((g.S.Repository.shelf c.args.repository.now).refuses c.args.book.now))
+      (sym c.report_of.ensures ∙ c.in-None.is),
   untouched c.args.book.now (g.S.Repository.shelf c.args.repository.now),
 )
 
 pub returns-in_err-expect : goal.returns-in_err-expect
 returns-in_err-expect g c =
-    not_asked (book.Report c.args.words) c.args.book.now
-    (g.S.Repository.shelf c.args.repository.now) c.from_residual.result
-    (shelf_fault c.in_err-expect.field-0.0) c.from_residual.ensures.0
-    c.from_residual.ensures.1
-    (word_there _ c.in-Some.made IsShelfFault (shelf_fault c.in_err-expect.field-0.0)
-    (sym c.report_of.ensures ∙ c.in-Some.is) (c.in_err-expect.field-0.0, refl))
+    let shelf = g.S.Repository.shelf c.args.repository.now in
+    not_asked (book.Report c.args.words) c.args.book.now shelf c.from_residual.result
+    (shelf_fault c.in_err-expect.field-0.0) c.from_residual.ensures.0 c.from_residual.ensures.1
+    (word_there _ c.in-Some.made (IsShelfFault (shelf.refuses c.args.book.now))
+    (shelf_fault c.in_err-expect.field-0.0) (sym c.report_of.ensures ∙ c.in-Some.is)
+    (c.in_err-expect.field-0.0, c.in_err-expect.ensures, refl))
 
 pub returns : goal.returns
 returns g c = record {

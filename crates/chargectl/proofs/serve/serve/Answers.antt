@@ -5,7 +5,7 @@ use Rattle.chargectl.proofs.serve.serve.Goals as goal
 
 pub returns-in-Err : goal.returns-in-Err
 returns-in-Err g c = (
-  (c.in-Err.fault, c.from.ensures),
+  (c.in-Err.fault, c.in-Err.ensures, c.from.ensures),
   untouched c.args.book.now (g.S.Repository.shelf c.args.repository.now),
   refl,
 )
@@ -30,6 +30,5 @@ returns-in-Err-listen g c =
     let new = shelf c.open-answer.new.self in
     let held = g.O.Write.contents c.args.output in
     serves_none book old new c.args.requests held held c.ended.result c.in-Err-listen.fault
-    c.open-answer.result.has_log c.ended.ensures c.in-Err-listen.ensures
-    (opened_untouched book old new c.open-answer.result.answer c.open-answer.ensures.opened)
-    c.open-answer.ensures.log
+    c.open-answer.result.has_log c.open-answer.result.answer c.ended.ensures c.in-Err-listen.ensures
+    c.open-answer.ensures.opened c.open-answer.ensures.log

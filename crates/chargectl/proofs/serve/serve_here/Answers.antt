@@ -22,8 +22,9 @@ returns-in-Err g c =
     let contents = g.O.Write.contents in
     let seen = seen_of contents in
     let shelf = g.S.Repository.shelf in
-    serves_cut c.args.book.now (shelf c.args.repository.now) (shelf c.serve_each.new.repository)
-    c.args.requests c.over-port.result.left _ (contents c.args.output)
+    serves_cut (λ _. ⊥) c.args.book.now (shelf c.args.repository.now)
+    (shelf c.serve_each.new.repository) c.args.requests c.over-port.result.left _
+    (contents c.args.output)
     (contents c.into_inner-in-Err.result) (seen c.say_ready.new.lines) (seen c.serve_each.new.lines)
     c.ended-in-Err.result c.from-fault.result c.serve_each.new.has_log c.ended-in-Err.ensures
     (inr (error_kind c.in-Err.error, c.from-fault.ensures)) c.in-Err.ensures.served

@@ -10,7 +10,7 @@ use Rattle.chargectl.proofs.streamed_lists.write_list.Goals as goal
 
 pub returns-in-Err : goal.returns-in-Err
 returns-in-Err g c = (
-  (c.in-Err.fault, c.from.ensures),
+  (c.in-Err.fault, c.in-Err.ensures, c.from.ensures),
   untouched c.args.book.now (g.S.Repository.shelf c.args.repository.now),
   refl,
 )
