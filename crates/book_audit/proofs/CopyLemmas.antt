@@ -1,9 +1,9 @@
 -- What an audit says, and books that were copied to another name, where nothing is known of them.
 use Rattle.std.proofs.Common.{ℕ, List, Result, Ok, Err, inl}
 use Rattle.book_model.specs.Words.{Naming}
-use Rattle.office.specs.declared.repository.RepositoryFault.{RepositoryFault}
-use Rattle.office.specs.Shelves.{unknown}
-use Rattle.office.proofs.ShelfLemmas.{unknown_untouched}
+use Rattle.named_books.specs.declared.repository.RepositoryFault.{RepositoryFault}
+use Rattle.named_books.specs.Shelves.{unknown}
+use Rattle.named_books.proofs.ShelfLemmas.{unknown_untouched}
 use Rattle.book_audit.specs.Copies.{IsAudited, IsCopied}
 use Rattle.book_audit.specs.declared.audited.Audited.{Audited}
 use Rattle.book_audit.specs.declared.audited.Audited.TheVariants.{Sound, Unsound}

@@ -1,6 +1,6 @@
 use crate::audited::Audited;
 use crate::watch::Watch;
-use office::{Opened, Repository};
+use named_books::{Opened, Repository};
 
 /// Where books are kept by their names, and can be looked through.
 pub trait AuditedRepository: Repository {

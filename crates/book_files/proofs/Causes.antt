@@ -37,8 +37,8 @@ use Rattle.book_files.specs.Faults.{store_fault}
 use Rattle.book_files.specs.declared.session.Ended.TheVariants.{Refused}
 use Rattle.book_files.proofs.NewParts.{opened_empty}
 use Rattle.book_files.proofs.SessionParts.{opened_stands}
-use Rattle.office.specs.declared.repository.RepositoryFault.{RepositoryFault}
-use Rattle.office.specs.declared.repository.RepositoryFault.TheVariants.{Io, Exists, Busy, Ledger}
+use Rattle.named_books.specs.declared.repository.RepositoryFault.{RepositoryFault}
+use Rattle.named_books.specs.declared.repository.RepositoryFault.TheVariants.{Io, Exists, Busy, Ledger}
 use Rattle.table_model.specs.Readable.{IsReadable}
 use Rattle.table_ledger.specs.Commits.{Stores}
 use Rattle.table_ledger.specs.Loaded.{IsOpenCause, IsOpenFault, IsStoreFault, IsToldBy}

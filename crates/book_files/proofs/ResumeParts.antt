@@ -10,7 +10,7 @@ use Rattle.sqlite_trees.specs.declared.error.StoreError.{StoreError}
 use Rattle.book_model.specs.Words.{Book, Naming}
 use Rattle.table_model.specs.Tables.{Tables}
 use Rattle.table_model.specs.TablesOf.{tables_of}
-use Rattle.office.specs.declared.repository.RepositoryFault.{RepositoryFault}
+use Rattle.named_books.specs.declared.repository.RepositoryFault.{RepositoryFault}
 use Rattle.tree_rows.specs.Rows.{IsUnchanged}
 use Rattle.tree_tables.proofs.Looking.{looks_also, was_clean}
 use Rattle.tree_tables.proofs.TheBook.{book_absent, book_held}

@@ -3,10 +3,10 @@ use Rattle.std.proofs.Common.{◌≡◌, IsTrue, List, ◌++◌, ℕ, sym, ap, s
 use Rattle.std.proofs.Common.{Option, None, Some, Result, Ok, Err}
 use Rattle.std.proofs.Math.Logic.{∥∥₁_elim, ∥∥₁_map, ∥∥₁_prop}
 use Rattle.std.specs.Prelude.{IfOk, IfSome, MatchResult}
-use Rattle.office.specs.declared.repository.RepositoryFault.{RepositoryFault}
-use Rattle.office.specs.declared.repository.RepositoryFault.TheVariants.{Busy}
-use Rattle.office.specs.Shelves.{ComesBy}
-use Rattle.office.proofs.ShelfLemmas.{same_where}
+use Rattle.named_books.specs.declared.repository.RepositoryFault.{RepositoryFault}
+use Rattle.named_books.specs.declared.repository.RepositoryFault.TheVariants.{Busy}
+use Rattle.named_books.specs.Shelves.{ComesBy}
+use Rattle.named_books.proofs.ShelfLemmas.{same_where}
 use Rattle.book_files.specs.Faults.{IsReleased}
 use Rattle.sqlite_disk.specs.declared.Disk.{Ghosts}
 use Rattle.sqlite_disk.specs.declared.files.Files.{Files}

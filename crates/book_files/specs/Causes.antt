@@ -21,8 +21,8 @@ use Rattle.book_files.specs.declared.copies.CopyFault.{CopyFault}
 use Rattle.book_files.specs.declared.copies.CopyFault.TheVariants as copies
 use Rattle.book_files.specs.declared.session.Ended.{Ended}
 use Rattle.book_files.specs.declared.session.Ended.TheVariants.{Closed, Refused}
-use Rattle.office.specs.declared.repository.RepositoryFault.{RepositoryFault}
-use Rattle.office.specs.declared.repository.RepositoryFault.TheVariants.{Io, Exists, Busy, Ledger}
+use Rattle.named_books.specs.declared.repository.RepositoryFault.{RepositoryFault}
+use Rattle.named_books.specs.declared.repository.RepositoryFault.TheVariants.{Io, Exists, Busy, Ledger}
 
 -- the files hold a book that can be read back
 pub record HoldsOurBooks (naming : Naming) (image : Image) : Type 0 where

@@ -17,10 +17,10 @@ use Rattle.book_trees.specs.declared.integrity.LookFault.{LookFault}
 use Rattle.book_trees.specs.declared.integrity.LookFault.TheVariants.{Pages, Open}
 use Rattle.book_files.specs.declared.copies.CopyFault.{CopyFault}
 use Rattle.book_files.specs.declared.copies.CopyFault.TheVariants as copies
-use Rattle.office.specs.declared.repository.RepositoryFault.{RepositoryFault}
-use Rattle.office.specs.declared.repository.RepositoryFault.TheVariants.{Io, Exists, Busy, Ledger, Unseen}
-use Rattle.office.specs.declared.repository.Upgraded.{Upgraded}
-use Rattle.office.specs.declared.repository.Upgraded.TheVariants.{Already}
+use Rattle.named_books.specs.declared.repository.RepositoryFault.{RepositoryFault}
+use Rattle.named_books.specs.declared.repository.RepositoryFault.TheVariants.{Io, Exists, Busy, Ledger, Unseen}
+use Rattle.named_books.specs.declared.repository.Upgraded.{Upgraded}
+use Rattle.named_books.specs.declared.repository.Upgraded.TheVariants.{Already}
 
 -- what the failure of a file means
 abbrev pub file_fault : ErrorKind → RepositoryFault

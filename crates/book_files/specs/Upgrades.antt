@@ -16,9 +16,9 @@ use Rattle.book_files.specs.Sessions.{MayFollow}
 use Rattle.book_files.specs.declared.session.Ended.{Ended}
 use Rattle.table_ledger.specs.FirstForm.{IsStoredInFirst, RestsAtFirst}
 use Rattle.table_ledger.specs.Ready.{IsStoredIn}
-use Rattle.office.specs.declared.repository.RepositoryFault.{RepositoryFault}
-use Rattle.office.specs.declared.repository.Upgraded.{Upgraded}
-use Rattle.office.specs.declared.repository.Upgraded.TheVariants.{Already, To}
+use Rattle.named_books.specs.declared.repository.RepositoryFault.{RepositoryFault}
+use Rattle.named_books.specs.declared.repository.Upgraded.{Upgraded}
+use Rattle.named_books.specs.declared.repository.Upgraded.TheVariants.{Already, To}
 
 -- The files hold this book, which calls made, in the first form.
 abbrev pub HoldsFirstBook : Naming → Book → Image → Type 0

@@ -8,7 +8,7 @@ use crate::repository::{Files, failed, not_looked_through, released, unopened, w
 use book_audit::{Audited, Watch};
 use book_core::LedgerFault;
 use book_trees::LookFault;
-use office::{Opened, RepositoryFault};
+use named_books::{Opened, RepositoryFault};
 use sqlite_disk::Unknown;
 use std::fs;
 use std::fs::File;

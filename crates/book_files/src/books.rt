@@ -31,7 +31,7 @@ ghost use Rattle.tree_tables.specs.Steps.{FailsByStore, Looks};
 use book_audit::{Audited, Watch, audit_trees};
 use book_core::{LedgerFault, ShaNames};
 use book_trees::{Closed, add_details, close_books, close_first, close_unchanged, commit_form};
-use office::{RepositoryFault, Visit};
+use named_books::{RepositoryFault, Visit};
 use sqlite_disk::Disk;
 use sqlite_store::FileStore;
 use sqlite_trees::error::StoreError;

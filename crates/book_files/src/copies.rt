@@ -13,7 +13,7 @@ use crate::repository::refused;
 use crate::session::Ended;
 use book_core::LedgerFault;
 use book_trees::{LookFault, copy_to, lock_at};
-use office::{Look, RepositoryFault, Visit};
+use named_books::{Look, RepositoryFault, Visit};
 use sqlite_disk::{Disk, Files, Start};
 use sqlite_std_file::FileFrom;
 

@@ -1,12 +1,12 @@
 //! What a visit would make of books is tried on a copy of them, which is removed.
 
 ghost use Rattle.std.specs.Prelude.{◌≡◌};
-ghost use Rattle.office.specs.Shelves.{ComesBy};
+ghost use Rattle.named_books.specs.Shelves.{ComesBy};
 
 use crate::copies::{Copied, tried_answer, visit_copy_at};
 use crate::log::Log;
 use crate::repository::{Files, failed, released, unopened, without_log};
-use office::{Opened, RepositoryFault, Visit};
+use named_books::{Opened, RepositoryFault, Visit};
 use sqlite_disk::Unknown;
 use std::fs;
 

@@ -2,7 +2,7 @@
 
 use crate::repository::{failed, refused};
 use book_trees::{Closed, LogLeft, is_short, is_unused, lock_at, needs_no_log};
-use office::RepositoryFault;
+use named_books::RepositoryFault;
 use sqlite_disk::{Disk, Files, Unknown};
 use std::fs::File;
 use std::io::{ErrorKind, Read};

@@ -6,7 +6,7 @@ use crate::names::is_log_name;
 use crate::repository::{Files, failed};
 use crate::session::{Ended, make_at, resume_at};
 use book_core::LedgerFault;
-use office::RepositoryFault;
+use named_books::RepositoryFault;
 use sqlite_disk::{Disk, Files as Pair, Unknown};
 use sqlite_std_file::FileFrom;
 use std::fs::File;

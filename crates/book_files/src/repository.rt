@@ -3,7 +3,7 @@
 ghost use Rattle.std.specs.Prelude.{◌≡◌, Err};
 ghost use Rattle.std.specs.IoError.{error_kind};
 ghost use Rattle.book_files.specs.Faults.{IsReleased, file_fault, look_answer, open_fault};
-ghost use Rattle.office.specs.Shelves.{ComesBy};
+ghost use Rattle.named_books.specs.Shelves.{ComesBy};
 
 use crate::log::{Log, begins_as_books};
 use crate::session::{Ended, audit_at, upgrade_at, visit_at};
@@ -11,7 +11,7 @@ use crate::waiting::Visited;
 use book_audit::{Audited, AuditedRepository, Finding, Place, Watch, Wrong};
 use book_core::LedgerFault;
 use book_trees::{LookFault, OpenFault};
-use office::{Opened, Repository, RepositoryFault, Upgraded, Visit};
+use named_books::{Opened, Repository, RepositoryFault, Upgraded, Visit};
 use sqlite_disk::{Disk, Unknown};
 use std::hash::{BuildHasher, RandomState};
 use std::io::ErrorKind;
@@ -143,7 +143,7 @@ pub(crate) fn not_looked_through(fault: LookFault) -> Result<Audited, Repository
 impl Repository for Files<'_> {
     ghost use Rattle.std.specs.Prelude.{◌≡◌};
     ghost use Rattle.book_restarts.specs.FileBooks.{file_names};
-    ghost use Rattle.office.specs.Shelves.{unknown};
+    ghost use Rattle.named_books.specs.Shelves.{unknown};
 
     ghost shelf = { λ _. unknown file_names };
 

@@ -29,7 +29,7 @@ use book_trees::{
     CACHE_PAGES, Closed, FirstFault, LeftByLedger, OpenFault, create_at, look_through_at, open_at,
     open_first_at,
 };
-use office::{RepositoryFault, Upgraded, Visit};
+use named_books::{RepositoryFault, Upgraded, Visit};
 use sqlite_disk::{Disk, Files, Start};
 use sqlite_std_file::FileFrom;
 use tree_tables::THIS_FORM;

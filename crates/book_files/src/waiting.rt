@@ -2,11 +2,11 @@
 //! use has touched nothing of theirs: their file is locked before their log is opened, or made.
 
 ghost use Rattle.std.specs.Prelude.{◌≡◌, Err, MatchOption};
-ghost use Rattle.office.specs.Shelves.{ComesBy};
+ghost use Rattle.named_books.specs.Shelves.{ComesBy};
 
 use crate::repository::Files;
 use book_audit::{Audited, Watch};
-use office::{Opened, RepositoryFault, Upgraded, Visit};
+use named_books::{Opened, RepositoryFault, Upgraded, Visit};
 use std::thread;
 use std::time::{Duration, Instant};
 

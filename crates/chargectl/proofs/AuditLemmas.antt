@@ -9,9 +9,9 @@ use Rattle.book_audit.specs.declared.audited.Audited.TheVariants.{Sound, Unsound
 use Rattle.book_audit.specs.declared.audited.Counts.{Counts}
 use Rattle.book_audit.specs.declared.finding.Finding.{Finding}
 use Rattle.book_audit.specs.Texts.{IsAuditText, sound_text}
-use Rattle.office.specs.declared.repository.RepositoryFault.{RepositoryFault}
-use Rattle.office.specs.Shelves.{Shelf}
-use Rattle.office.proofs.ShelfLemmas.{untouched}
+use Rattle.named_books.specs.declared.repository.RepositoryFault.{RepositoryFault}
+use Rattle.named_books.specs.Shelves.{Shelf}
+use Rattle.named_books.proofs.ShelfLemmas.{untouched}
 use Rattle.chargectl.specs.declared.command_fault.CommandFault.{CommandFault}
 use Rattle.chargectl.specs.declared.command_fault.CommandFault.TheVariants as fault
 use Rattle.chargectl.specs.declared.ended.Ended.{Ended}

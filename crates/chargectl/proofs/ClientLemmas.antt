@@ -18,10 +18,10 @@ use Rattle.book_http.specs.Requested.{AreAsking, RequestSeen, headed, headless, 
 use Rattle.book_http.specs.Served.{IsSent, IsSentAsRead, SendsReplyAsRead, is_unanswered}
 use Rattle.book_http.proofs.ServeLemmas.{bytes_answered}
 use Rattle.book_http.proofs.StreamLemmas.{AnswersSized}
-use Rattle.office.specs.declared.repository.RepositoryFault.{RepositoryFault}
-use Rattle.office.specs.declared.repository.RepositoryFault.TheVariants as shelf
-use Rattle.office.specs.Shelves.{ComesBy, IsDoneTo, IsOpened, IsUntouched, Shelf}
-use Rattle.office.proofs.ShelfLemmas.{done_as, untouched}
+use Rattle.named_books.specs.declared.repository.RepositoryFault.{RepositoryFault}
+use Rattle.named_books.specs.declared.repository.RepositoryFault.TheVariants as shelf
+use Rattle.named_books.specs.Shelves.{ComesBy, IsDoneTo, IsOpened, IsUntouched, Shelf}
+use Rattle.named_books.proofs.ShelfLemmas.{done_as, untouched}
 use Rattle.chargectl.specs.declared.client_requests.Told.{Told}
 use Rattle.chargectl.specs.declared.client_requests.Told.TheVariants as tells
 use Rattle.chargectl.specs.ClientRequests.{AsksOpen, EndsBy, EndsUnseen, IsAnsweredFrom, IsReplied}

@@ -16,12 +16,12 @@ use Rattle.book_reports.specs.declared.fault.ReportFault.{ReportFault}
 use Rattle.book_reports.specs.declared.fault.ReportFault.TheVariants as report
 use Rattle.book_reports.specs.declared.report.Report.{Report}
 use Rattle.book_reports.specs.Reports.{IsWritten}
-use Rattle.office.specs.declared.repository.RepositoryFault.{RepositoryFault}
+use Rattle.named_books.specs.declared.repository.RepositoryFault.{RepositoryFault}
 use Rattle.office.specs.declared.request.Answer.{Answer}
 use Rattle.office.specs.declared.request.Asked.{Asked}
 use Rattle.office.specs.Requests.{Asks, IsAsked, response_by}
-use Rattle.office.specs.Shelves.{Shelf}
-use Rattle.office.proofs.ShelfLemmas.{untouched}
+use Rattle.named_books.specs.Shelves.{Shelf}
+use Rattle.named_books.proofs.ShelfLemmas.{untouched}
 use Rattle.command_line.specs.declared.request.BookRequest.{BookRequest}
 use Rattle.command_line.specs.declared.request.BookRequest.TheVariants as to_books
 use Rattle.command_line.specs.declared.request.Ruling.{Ruling}

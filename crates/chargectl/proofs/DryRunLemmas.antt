@@ -27,7 +27,7 @@ use Rattle.book_reports.proofs.ReadingLemmas.{IsReading, goes_on}
 use Rattle.book_reports.proofs.WritingLemmas.{same_value}
 use Rattle.office.specs.declared.request.Asked.{Asked}
 use Rattle.office.specs.declared.request.Asked.TheVariants as asks
-use Rattle.office.specs.declared.repository.RepositoryFault.{RepositoryFault}
+use Rattle.named_books.specs.declared.repository.RepositoryFault.{RepositoryFault}
 use Rattle.office.specs.declared.request.Answer.{Answer}
 use Rattle.office.specs.declared.request.Answer.TheVariants as answers
 use Rattle.office.specs.Outcomes.{AskedOutcome, is_hindered}
@@ -35,9 +35,9 @@ use Rattle.office.specs.Requests as office
 use Rattle.office.specs.Requests.{IsAskableRuling, Response, Text, response_by, response_of}
 use Rattle.office.specs.Requests.{response_outcome}
 use Rattle.office.specs.Runs.{AsksWithoutReader, dump_here}
-use Rattle.office.specs.Shelves.{Shelf}
+use Rattle.named_books.specs.Shelves.{Shelf}
 use Rattle.office.proofs.LawLemmas.{asks_done}
-use Rattle.office.proofs.ShelfLemmas.{untouched}
+use Rattle.named_books.proofs.ShelfLemmas.{untouched}
 use Rattle.command_line.specs.declared.request.BookRequest.{BookRequest}
 use Rattle.chargectl.specs.declared.command_fault.CommandFault.{CommandFault}
 use Rattle.chargectl.specs.declared.ended.Answered.{Answered}

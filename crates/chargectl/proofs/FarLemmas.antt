@@ -15,14 +15,14 @@ use Rattle.book_reports.specs.declared.figures.OpenPeriod.{OpenPeriod}
 use Rattle.book_reports.specs.Figures.{open_outcome}
 use Rattle.book_reports.proofs.ReadingLemmas.{IsReading, Tells, goes_on, read_as, read_then}
 use Rattle.book_reports.proofs.WritingLemmas.{same_value}
-use Rattle.office.specs.declared.repository.RepositoryFault.{RepositoryFault}
-use Rattle.office.specs.declared.repository.RepositoryFault.TheVariants.{Unseen}
+use Rattle.named_books.specs.declared.repository.RepositoryFault.{RepositoryFault}
+use Rattle.named_books.specs.declared.repository.RepositoryFault.TheVariants.{Unseen}
 use Rattle.office.specs.declared.request.Answer.{Answer}
 use Rattle.office.specs.declared.request.Asked.{Asked}
 use Rattle.office.specs.declared.request.Asked.TheVariants.{Tariff, Close, Choose, Adopt}
 use Rattle.office.specs.Requests.{IsAskableRuling, IsAskableUnread, no_dump, response_by}
-use Rattle.office.specs.Shelves.{IsDoneTo, IsOpened, Shelf}
-use Rattle.office.proofs.ShelfLemmas.{done_as}
+use Rattle.named_books.specs.Shelves.{IsDoneTo, IsOpened, Shelf}
+use Rattle.named_books.proofs.ShelfLemmas.{done_as}
 use Rattle.chargectl.specs.declared.dated_rulings.DatedAnswer.{DatedAnswer}
 use Rattle.chargectl.specs.Commands.{AsksDated, AsksDatedBy, AsksOnceBy, answer_told}
 use Rattle.chargectl.specs.Far.{day_asked, far_on_outcome, far_outcome, is_far_asked, is_far_on}

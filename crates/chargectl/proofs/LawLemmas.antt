@@ -14,13 +14,13 @@ use Rattle.book_reports.specs.declared.fault.ReportFault.{ReportFault}
 use Rattle.book_reports.specs.StreamedAnswers.{WritesAnswer, WritesOrRefuses}
 use Rattle.book_core.proofs.FollowLemmas.{none_answered}
 use Rattle.office.specs.declared.choosing.Chosen.{Chosen}
-use Rattle.office.specs.declared.repository.RepositoryFault.{RepositoryFault}
-use Rattle.office.specs.declared.repository.RepositoryFault.TheVariants.{Unseen}
+use Rattle.named_books.specs.declared.repository.RepositoryFault.{RepositoryFault}
+use Rattle.named_books.specs.declared.repository.RepositoryFault.TheVariants.{Unseen}
 use Rattle.office.specs.declared.request.Answer.{Answer}
 use Rattle.office.specs.declared.request.Asked.{Asked}
 use Rattle.office.specs.Outcomes.{is_hindered}
 use Rattle.office.specs.Requests.{Asks, response_by}
-use Rattle.office.specs.Shelves.{ComesBy, Shelf, HoldsMore, IsDoneTo, IsOpened, IsTried, IsUntouched}
+use Rattle.named_books.specs.Shelves.{ComesBy, Shelf, HoldsMore, IsDoneTo, IsOpened, IsTried, IsUntouched}
 use Rattle.office.proofs.ChoiceLemmas.{choices_done}
 use Rattle.office.proofs.LawLemmas.{asks_done}
 use Rattle.command_line.specs.declared.request.BookRequest.{BookRequest}

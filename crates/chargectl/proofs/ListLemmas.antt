@@ -12,8 +12,8 @@ use Rattle.book_core.specs.Transition.{IsTransition, NoEvent}
 use Rattle.book_core.proofs.TransitionLemmas.{no_work}
 use Rattle.office.specs.declared.choosing.Chosen.{Chosen}
 use Rattle.office.specs.Choices.{ChoosesEach}
-use Rattle.office.specs.Shelves.{Shelf}
-use Rattle.office.proofs.ShelfLemmas.{untouched}
+use Rattle.named_books.specs.Shelves.{Shelf}
+use Rattle.named_books.proofs.ShelfLemmas.{untouched}
 use Rattle.program_output.specs.declared.names.NamesFault.{NamesFault}
 use Rattle.program_output.specs.declared.names.NamesFault.TheVariants as names
 use Rattle.program_output.specs.Names.{IsNamesFault, names_in}

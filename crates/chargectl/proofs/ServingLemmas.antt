@@ -13,10 +13,10 @@ use Rattle.book_core.proofs.FollowLemmas.{none_answered, then_answered}
 use Rattle.book_http.specs.declared.served.Served.{Served}
 use Rattle.book_http.specs.declared.served.Served.TheVariants as served
 use Rattle.book_http.proofs.LawLemmas.{requests_make_history}
-use Rattle.office.specs.declared.repository.RepositoryFault.{RepositoryFault}
-use Rattle.office.specs.Shelves.{Shelf, IsDoneTo, IsOpened, IsUntouched, OpenedAnew}
-use Rattle.office.proofs.ShelfLemmas.{done_after, done_as, done_then, opened_refused}
-use Rattle.office.proofs.ShelfLemmas.{opened_untouched, untouched}
+use Rattle.named_books.specs.declared.repository.RepositoryFault.{RepositoryFault}
+use Rattle.named_books.specs.Shelves.{Shelf, IsDoneTo, IsOpened, IsUntouched, OpenedAnew}
+use Rattle.named_books.proofs.ShelfLemmas.{done_after, done_as, done_then, opened_refused}
+use Rattle.named_books.proofs.ShelfLemmas.{opened_untouched, untouched}
 use Rattle.chargectl.specs.declared.command_fault.CommandFault.{CommandFault}
 use Rattle.chargectl.specs.declared.ended.Ended.{Ended}
 use Rattle.chargectl.specs.Faults.{IsFileFault, io_fault, shelf_fault}

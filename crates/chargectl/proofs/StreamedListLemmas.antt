@@ -13,10 +13,10 @@ use Rattle.book_reports.specs.declared.fault.ReportFault.{ReportFault}
 use Rattle.book_reports.specs.StreamedAnswers.{WritesAnswer, WritesOrRefuses, answered_by}
 use Rattle.book_reports.specs.StreamedRulings.{WritesReport}
 use Rattle.book_reports.specs.Writing.{WritesPrefix}
-use Rattle.office.specs.declared.repository.RepositoryFault.{RepositoryFault}
-use Rattle.office.specs.declared.repository.RepositoryFault.TheVariants.{Unseen}
-use Rattle.office.specs.Shelves.{ComesBy, IsDoneTo, IsOpened, Shelf}
-use Rattle.office.proofs.ShelfLemmas.{done_as}
+use Rattle.named_books.specs.declared.repository.RepositoryFault.{RepositoryFault}
+use Rattle.named_books.specs.declared.repository.RepositoryFault.TheVariants.{Unseen}
+use Rattle.named_books.specs.Shelves.{ComesBy, IsDoneTo, IsOpened, Shelf}
+use Rattle.named_books.proofs.ShelfLemmas.{done_as}
 use Rattle.chargectl.specs.declared.streamed_lists.StreamedList.{StreamedList}
 use Rattle.chargectl.specs.declared.streamed_lists.StreamedList.TheVariants as list
 use Rattle.chargectl.specs.StreamedLists.{WritesSomeOf, list_answer, list_end}

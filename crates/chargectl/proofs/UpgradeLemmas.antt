@@ -1,9 +1,9 @@
 -- How books are brought over to the present form.
 use Rattle.std.proofs.Common.{◌≡◌, ℕ, List, Option, Result, Ok, Err, refl, sym, true≢false}
 use Rattle.std.specs.Prelude.{IsErr, IsErrAnd}
-use Rattle.office.specs.declared.repository.RepositoryFault.{RepositoryFault}
-use Rattle.office.specs.Shelves.{Shelf}
-use Rattle.office.proofs.ShelfLemmas.{untouched}
+use Rattle.named_books.specs.declared.repository.RepositoryFault.{RepositoryFault}
+use Rattle.named_books.specs.Shelves.{Shelf}
+use Rattle.named_books.proofs.ShelfLemmas.{untouched}
 use Rattle.chargectl.specs.declared.command_fault.CommandFault.{CommandFault}
 use Rattle.chargectl.specs.declared.ended.Ended.{Ended}
 use Rattle.chargectl.specs.Faults.{shelf_fault}

@@ -10,9 +10,9 @@ use Rattle.book_core.specs.Follow.{MakesAnswered}
 use Rattle.book_core.specs.Transition.{NoEvent, Transition}
 use Rattle.book_core.proofs.FollowLemmas.{none_answered}
 use Rattle.office.specs.declared.choosing.Chosen.{Chosen}
-use Rattle.office.specs.declared.repository.RepositoryFault.{RepositoryFault}
+use Rattle.named_books.specs.declared.repository.RepositoryFault.{RepositoryFault}
 use Rattle.office.specs.Choices.{ChoosesEach, answer_lines}
-use Rattle.office.specs.Shelves.{Shelf, IsOpened, IsUntouched}
+use Rattle.named_books.specs.Shelves.{Shelf, IsOpened, IsUntouched}
 use Rattle.office.proofs.ChoiceLemmas.{choices_answered}
 use Rattle.program_output.specs.declared.names.NamesFault.{NamesFault}
 use Rattle.program_output.specs.Names.{names_in}

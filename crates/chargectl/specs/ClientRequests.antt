@@ -14,9 +14,9 @@ use Rattle.book_http.specs.Replies.{Reply, busy, refusal, reply_of}
 use Rattle.book_http.specs.Requested.{AnswersRequest, IsAsking, request_seen}
 use Rattle.book_http.specs.Served.{IsSent, IsSentAsRead, is_unanswered}
 use Rattle.book_http.proofs.LawLemmas.{wanted_answered}
-use Rattle.office.specs.declared.repository.RepositoryFault.{RepositoryFault}
-use Rattle.office.specs.declared.repository.RepositoryFault.TheVariants as shelf
-use Rattle.office.specs.Shelves.{Shelf, IsOpened}
+use Rattle.named_books.specs.declared.repository.RepositoryFault.{RepositoryFault}
+use Rattle.named_books.specs.declared.repository.RepositoryFault.TheVariants as shelf
+use Rattle.named_books.specs.Shelves.{Shelf, IsOpened}
 use Rattle.chargectl.specs.declared.client_requests.Told.{Told}
 use Rattle.chargectl.specs.declared.client_requests.Told.TheVariants as tells
 

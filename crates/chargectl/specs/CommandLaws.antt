@@ -11,13 +11,13 @@ use Rattle.book_model.specs.Words.{Event, IsMadeByCalls, Naming, book_after, boo
 use Rattle.book_reports.specs.declared.fault.ReportFault.{ReportFault}
 use Rattle.book_reports.specs.StreamedAnswers.{WritesOrRefuses}
 use Rattle.office.specs.declared.choosing.Chosen.{Chosen}
-use Rattle.office.specs.declared.repository.RepositoryFault.{RepositoryFault}
+use Rattle.named_books.specs.declared.repository.RepositoryFault.{RepositoryFault}
 use Rattle.office.specs.declared.request.Answer.{Answer}
 use Rattle.office.specs.declared.request.Asked.{Asked}
 use Rattle.office.specs.Choices.{are_hindered, choices_outcome}
 use Rattle.office.specs.Outcomes.{asked_outcome, is_hindered}
 use Rattle.office.specs.Requests.{Dump, Gives, response_by}
-use Rattle.office.specs.Shelves.{Shelf, WhereUnopened}
+use Rattle.named_books.specs.Shelves.{Shelf, WhereUnopened}
 use Rattle.command_line.specs.declared.request.BookRequest.{BookRequest}
 use Rattle.command_line.specs.declared.request.BookRequest.TheVariants as book
 use Rattle.command_line.specs.declared.request.Request.{Request}

@@ -16,14 +16,14 @@ use Rattle.book_reports.specs.declared.report.Report.TheVariants.{Bill, PeriodPa
 use Rattle.book_reports.specs.declared.what_if.StatementForm.{StatementForm}
 use Rattle.book_reports.specs.declared.what_if.WhatIf.{WhatIf}
 use Rattle.book_reports.specs.BookTexts.{centre_named}
-use Rattle.office.specs.declared.repository.RepositoryFault.{RepositoryFault}
+use Rattle.named_books.specs.declared.repository.RepositoryFault.{RepositoryFault}
 use Rattle.office.specs.declared.request.Asked.{Asked}
 use Rattle.office.specs.declared.request.Asked.TheVariants as asks
 use Rattle.office.specs.declared.request.Answer.{Answer}
 use Rattle.office.specs.declared.request.Answer.TheVariants as answers
 use Rattle.office.specs.Requests.{Dump, Response, Asks, Gives, response_of, response_by}
 use Rattle.office.specs.Answers.{answer_text}
-use Rattle.office.specs.Shelves.{Shelf, IsOpened, IsUntouched}
+use Rattle.named_books.specs.Shelves.{Shelf, IsOpened, IsUntouched}
 use Rattle.office.proofs.LawLemmas.{asks_answered}
 use Rattle.command_line.specs.declared.request.BookRequest.{BookRequest}
 use Rattle.command_line.specs.declared.request.BookRequest.TheVariants as book

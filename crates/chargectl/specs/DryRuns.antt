@@ -15,7 +15,7 @@ use Rattle.report_texts.specs.declared.dry_runs.TriedRuling.TheVariants as tried
 use Rattle.report_texts.specs.declared.figures.Figures.{Figures}
 use Rattle.report_texts.specs.DryRuns.{dry_answer, dry_run_text}
 use Rattle.book_reports.specs.BookTexts.{shown_by}
-use Rattle.office.specs.declared.repository.RepositoryFault.{RepositoryFault}
+use Rattle.named_books.specs.declared.repository.RepositoryFault.{RepositoryFault}
 use Rattle.office.specs.declared.request.Asked.{Asked}
 use Rattle.office.specs.declared.request.Asked.TheVariants as asks
 use Rattle.office.specs.declared.request.Answer.{Answer}
@@ -24,7 +24,7 @@ use Rattle.office.specs.Outcomes.{asked_outcome, is_hindered}
 use Rattle.office.specs.Requests as office
 use Rattle.office.specs.Requests.{IsAskableRuling, Response, Text, response_by, response_of}
 use Rattle.office.specs.Runs.{AsksWithoutReader, dump_here}
-use Rattle.office.specs.Shelves.{Shelf, IsTried, IsUntouched}
+use Rattle.named_books.specs.Shelves.{Shelf, IsTried, IsUntouched}
 use Rattle.office.proofs.LawLemmas.{asks_answered}
 use Rattle.command_line.specs.declared.request.BookRequest.{BookRequest}
 use Rattle.command_line.specs.declared.request.BookRequest.TheVariants as to_books

@@ -12,8 +12,8 @@ use Rattle.book_import.specs.declared.receipt.Stop.TheVariants.{End}
 use Rattle.book_reports.specs.declared.fault.ReportFault.TheVariants as report
 use Rattle.command_line.specs.declared.request.Unclear.{Unclear}
 use Rattle.command_line.specs.declared.request.Unclear.TheVariants as unclear
-use Rattle.office.specs.declared.repository.RepositoryFault.{RepositoryFault}
-use Rattle.office.specs.declared.repository.RepositoryFault.TheVariants as shelf
+use Rattle.named_books.specs.declared.repository.RepositoryFault.{RepositoryFault}
+use Rattle.named_books.specs.declared.repository.RepositoryFault.TheVariants as shelf
 use Rattle.program_output.specs.declared.names.NamesFault.{NamesFault}
 use Rattle.program_output.specs.declared.names.NamesFault.TheVariants as names
 use Rattle.program_output.specs.declared.status.Status.{Status}

@@ -17,7 +17,7 @@ use Rattle.book_http.specs.Answer.{Answers}
 use Rattle.book_http.specs.Replies.{Reply}
 use Rattle.book_http.specs.Statuses.{status_code}
 use Rattle.book_reports.specs.declared.fault.ReportFault.TheVariants.{Write}
-use Rattle.office.specs.Shelves.{Shelf, IsDoneTo, OpenedAnew}
+use Rattle.named_books.specs.Shelves.{Shelf, IsDoneTo, OpenedAnew}
 use Rattle.chargectl.specs.declared.command_fault.CommandFault.{CommandFault}
 use Rattle.chargectl.specs.declared.command_fault.CommandFault.TheVariants as fault
 use Rattle.chargectl.specs.ServedLines.{Gains}

@@ -1,10 +1,10 @@
 -- Books of an older form, which are brought over to the present one.
 use Rattle.std.specs.Prelude.{◌≡◌, true, ℕ, List, ◌++◌, codes, IfErr, Option, None, Result, Ok, Err}
 use Rattle.std.specs.Fmt.{decimal}
-use Rattle.office.specs.declared.repository.RepositoryFault.{RepositoryFault}
-use Rattle.office.specs.declared.repository.Upgraded.{Upgraded}
-use Rattle.office.specs.declared.repository.Upgraded.TheVariants.{To, Already}
-use Rattle.office.specs.Shelves.{Shelf, IsUntouched}
+use Rattle.named_books.specs.declared.repository.RepositoryFault.{RepositoryFault}
+use Rattle.named_books.specs.declared.repository.Upgraded.{Upgraded}
+use Rattle.named_books.specs.declared.repository.Upgraded.TheVariants.{To, Already}
+use Rattle.named_books.specs.Shelves.{Shelf, IsUntouched}
 use Rattle.chargectl.specs.declared.command_fault.CommandFault.{CommandFault}
 use Rattle.chargectl.specs.declared.ended.Ended.{Ended}
 use Rattle.chargectl.specs.Commands.{IsRefusedBy}

@@ -6,7 +6,8 @@ ghost use Rattle.chargectl.specs.DryRuns.{IsAskedFor};
 use crate::book_commands::tariff_text;
 use crate::command_fault::CommandFault;
 use command_line::{BookRequest, Ruling};
-use office::{Asked, Repository};
+use named_books::Repository;
+use office::Asked;
 use program_output::name_of_text;
 use smf_text::day_of_text;
 

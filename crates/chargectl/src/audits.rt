@@ -8,7 +8,7 @@ use crate::command_fault::CommandFault;
 use crate::ended::Ended;
 use crate::progress::WatchedRows;
 use book_audit::{Audited, AuditedRepository, audit_text};
-use office::{Opened, RepositoryFault};
+use named_books::{Opened, RepositoryFault};
 use std::alloc::Global;
 use std::io::{IsTerminal, Write};
 

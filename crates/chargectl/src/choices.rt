@@ -13,9 +13,8 @@ use crate::book_commands::print;
 use crate::command_fault::CommandFault;
 use crate::ended::Ended;
 use book_core::{Ledger, LedgerFault, Ruled};
-use office::{
-    Answer, Chosen, Opened, Repository, RepositoryFault, Visit, answer_lines, choose_each,
-};
+use named_books::{Opened, Repository, RepositoryFault, Visit};
+use office::{Answer, Chosen, answer_lines, choose_each};
 use program_output::{MAX_NAMES, NameList};
 use std::alloc::{AllocError, Global};
 use std::fs;

@@ -18,7 +18,7 @@ use book_http::{
     Answer, OfficeRequest, Requested, Served, Status, Unanswered, ask_details, ask_office,
     read_request, send, send_details,
 };
-use office::{Opened, Repository, RepositoryFault, Visit};
+use named_books::{Opened, Repository, RepositoryFault, Visit};
 use std::alloc::Global;
 use std::mem;
 use streams::Reader;

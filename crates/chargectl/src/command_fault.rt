@@ -6,7 +6,7 @@ use book_core::LedgerFault;
 use book_import::Stop;
 use book_reports::ReportFault;
 use command_line::Unclear;
-use office::RepositoryFault;
+use named_books::RepositoryFault;
 use program_output::{
     NamesFault, Status, books_busy, books_unsound, input_refused, input_refused_at, io_failed,
     ledger_refused, ledger_refused_at, no_such_number, report_failed, stopped, words_refused,

@@ -15,7 +15,8 @@ use crate::ended::Answered;
 use crate::far::{is_far_asked, notice_by};
 use crate::notice::Notice;
 use book_core::{Ledger, LedgerFault};
-use office::{Answer, Asked, Opened, Repository, RepositoryFault, Visit};
+use named_books::{Opened, Repository, RepositoryFault, Visit};
+use office::{Answer, Asked};
 use std::alloc::Global;
 use std::io;
 

@@ -20,7 +20,8 @@ use crate::notice::Notice;
 use book_core::{Ledger, LedgerFault, Ruled, Tariff};
 use book_reports::{open_period, period_figures};
 use command_line::{BookRequest, Ruling};
-use office::{Answer, Asked, Opened, Repository, Visit, ask_without_reader};
+use named_books::{Opened, Repository, Visit};
+use office::{Answer, Asked, ask_without_reader};
 use report_texts::{Figures, TriedRuling, dry_run_text};
 use std::alloc::Global;
 

@@ -3,7 +3,7 @@
 ghost use Rattle.program_output.specs.Messages.{AreSaid};
 ghost use Rattle.chargectl.specs.CommandLaws.{CommandsFollowHistory};
 
-use office::Repository;
+use named_books::Repository;
 use streams::Writer;
 
 /// Whatever commands, one after the other: the books of a name that held a history which calls made

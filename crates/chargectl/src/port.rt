@@ -2,14 +2,14 @@
 
 ghost use Rattle.std.specs.Prelude.{◌≡◌, true};
 ghost use Rattle.book_http.specs.Served.{is_unanswered};
-ghost use Rattle.office.specs.Shelves.{IsDoneTo};
+ghost use Rattle.named_books.specs.Shelves.{IsDoneTo};
 ghost use Rattle.chargectl.specs.Serving.{IsLoopback, ServesOne, is_answered};
 
 use crate::client_requests::serve_request;
 use crate::connection::Client;
 use book_core::Source;
 use book_http::Served;
-use office::Repository;
+use named_books::Repository;
 use std::alloc::Global;
 use std::io;
 use std::io::{Read, Write};
@@ -19,7 +19,7 @@ use std::net::{IpAddr, Ipv4Addr, SocketAddr, TcpListener, TcpStream};
 pub trait Connections {
     ghost use Rattle.std.specs.Prelude.{ℕ, ◌≡◌, ◌<◌, ◌+◌, ◌==◌, IfErr, IfOk, OnErr};
     ghost use Rattle.std.specs.declared.io.Error.{Error};
-    ghost use Rattle.office.specs.Shelves.{IsDoneTo};
+    ghost use Rattle.named_books.specs.Shelves.{IsDoneTo};
     ghost use Rattle.chargectl.specs.Serving.{ServesOne};
 
     /// How many are left to be answered.

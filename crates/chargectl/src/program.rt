@@ -28,7 +28,7 @@ use book_core::{LedgerFault, Sink, Source};
 use book_import::{MAX_READS, Receipt, Stop};
 use book_reports::ReportFault;
 use command_line::{ArgumentFault, BookRequest, DumpFile, NumberKind, Request, requested_by};
-use office::RepositoryFault;
+use named_books::RepositoryFault;
 use program_output::{
     Explanation, FaultKind, PROGRAM, Status, WordKind, check_list, explained, io_failed,
     out_of_memory, say, trial,

@@ -15,7 +15,7 @@ use arrayvec::ArrayString;
 use book_http::Served;
 use book_reports::ReportFault;
 use itoa::Buffer;
-use office::{Look, Opened, Repository, RepositoryFault};
+use named_books::{Look, Opened, Repository, RepositoryFault};
 use std::io;
 use std::io::Write;
 use std::net::TcpListener;

@@ -19,7 +19,8 @@ use book_core::{Ledger, Sink};
 use book_reports::{
     DetailReport, DisputeForm, ReportFault, write_details, write_disputes, write_rulings,
 };
-use office::{Opened, Repository, RepositoryFault, StatementForm, Visit};
+use named_books::{Opened, Repository, RepositoryFault, Visit};
+use office::StatementForm;
 use std::alloc::Global;
 use std::io::Write;
 

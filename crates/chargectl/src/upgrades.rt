@@ -6,7 +6,7 @@ ghost use Rattle.chargectl.specs.Upgrades.{EndsUpgrade, UpgradesBy, upgrade_text
 
 use crate::command_fault::CommandFault;
 use crate::ended::Ended;
-use office::{Opened, Repository, RepositoryFault, Upgraded};
+use named_books::{Opened, Repository, RepositoryFault, Upgraded};
 use std::io;
 use std::io::Write;
 

@@ -1,5 +1,5 @@
 -- Read in this order: what is asked and what the books answer, also with no reader at hand; what
--- is written of it; choices, one after the other; the laws; books that can't be opened now; and books that are kept by their names.
+-- is written of it; choices, one after the other; the laws; and books that can't be opened now.
 pub mod Requests
 pub mod Runs
 pub mod Answers
@@ -8,4 +8,3 @@ pub mod Outcomes
 pub mod Laws
 pub mod Repeats
 pub mod Away
-pub mod Shelves

@@ -6,8 +6,6 @@ mod asking;
 mod away;
 mod choosing;
 mod laws;
-mod looks;
-mod repository;
 mod request;
 mod running;
 
@@ -17,7 +15,5 @@ pub use away::AwayBooks;
 pub use book_reports::{PeriodReport, Report, StatementForm, WhatIf, centre_named};
 pub use choosing::{Chosen, choose_each};
 pub use laws::{answers_are_free, answers_follow_book, answers_follow_history, run_twice_is_once};
-pub use looks::Look;
-pub use repository::{Opened, Repository, RepositoryFault, Upgraded, Visit};
 pub use request::{Answer, Asked};
 pub use running::run;

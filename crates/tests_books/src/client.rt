@@ -4,7 +4,7 @@ ghost use Rattle.std.specs.Prelude.{length};
 
 use book_http::Served;
 use chargectl::{Connections, Peer, answer_peer};
-use office::Repository;
+use named_books::Repository;
 use std::alloc::Global;
 use std::cell::{Cell, RefCell};
 use std::io;

@@ -1,7 +1,7 @@
 //! A shelf with books that are open already.
 
 use book_core::Ledger;
-use office::{Opened, Repository, RepositoryFault, Upgraded, Visit};
+use named_books::{Opened, Repository, RepositoryFault, Upgraded, Visit};
 
 /// Open books, whatever they are called: each visit finds them as the one before it left them.
 #[derive(Drop)]
@@ -9,10 +9,10 @@ pub(crate) struct OpenShelf<'a, L: Ledger> {
     pub(crate) ledger: &'a mut L,
 }
 
-#[tactic(auto, using(office::proofs::ShelfLemmas::unknown_made, office::proofs::ShelfLemmas::unknown_opened, office::proofs::ShelfLemmas::unknown_refused, office::proofs::ShelfLemmas::unknown_tried, office::proofs::ShelfLemmas::unknown_untouched, office::proofs::ShelfLemmas::same_shelf, office::proofs::ShelfLemmas::came_by, office::proofs::ShelfLemmas::same_by))]
+#[tactic(auto, using(named_books::proofs::ShelfLemmas::unknown_made, named_books::proofs::ShelfLemmas::unknown_opened, named_books::proofs::ShelfLemmas::unknown_refused, named_books::proofs::ShelfLemmas::unknown_tried, named_books::proofs::ShelfLemmas::unknown_untouched, named_books::proofs::ShelfLemmas::same_shelf, named_books::proofs::ShelfLemmas::came_by, named_books::proofs::ShelfLemmas::same_by))]
 impl<L: Ledger> Repository for OpenShelf<'_, L> {
     ghost use Rattle.std.specs.Prelude.{replicate};
-    ghost use Rattle.office.specs.Shelves.{unknown};
+    ghost use Rattle.named_books.specs.Shelves.{unknown};
 
     ghost shelf = { λ _. unknown (λ _. replicate 32 0) };
 

@@ -4,7 +4,8 @@ ghost use Rattle.std.specs.Prelude.{◌≡◌};
 
 use book_audit::{Audited, AuditedRepository, Watch};
 use book_core::{Naming, PlainLedger};
-use office::{AwayBooks, Opened, Repository, RepositoryFault, Upgraded, Visit};
+use named_books::{Opened, Repository, RepositoryFault, Upgraded, Visit};
+use office::AwayBooks;
 use std::alloc::Global;
 use tariff_rules::Tariff;
 
@@ -49,10 +50,10 @@ impl OneBook {
     }
 }
 
-#[tactic(auto, using(office::proofs::ShelfLemmas::unknown_made, office::proofs::ShelfLemmas::unknown_opened, office::proofs::ShelfLemmas::unknown_refused, office::proofs::ShelfLemmas::unknown_tried, office::proofs::ShelfLemmas::unknown_untouched, office::proofs::ShelfLemmas::same_shelf, office::proofs::ShelfLemmas::came_by, office::proofs::ShelfLemmas::same_by))]
+#[tactic(auto, using(named_books::proofs::ShelfLemmas::unknown_made, named_books::proofs::ShelfLemmas::unknown_opened, named_books::proofs::ShelfLemmas::unknown_refused, named_books::proofs::ShelfLemmas::unknown_tried, named_books::proofs::ShelfLemmas::unknown_untouched, named_books::proofs::ShelfLemmas::same_shelf, named_books::proofs::ShelfLemmas::came_by, named_books::proofs::ShelfLemmas::same_by))]
 impl Repository for OneBook {
     ghost use Rattle.std.specs.Prelude.{replicate};
-    ghost use Rattle.office.specs.Shelves.{unknown};
+    ghost use Rattle.named_books.specs.Shelves.{unknown};
 
     ghost shelf = { λ _. unknown (λ _. replicate 32 7) };
 

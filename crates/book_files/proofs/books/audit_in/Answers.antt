@@ -7,7 +7,7 @@ use Rattle.book_audit.specs.declared.audited.Audited.TheVariants.{Sound}
 use Rattle.book_audit.specs.declared.audited.Counts.{Counts}
 use Rattle.book_restarts.proofs.OpenStores.{clean_before}
 use Rattle.book_restarts.specs.FileBooks.{file_names}
-use Rattle.office.specs.declared.repository.RepositoryFault.TheVariants.{Ledger}
+use Rattle.named_books.specs.declared.repository.RepositoryFault.TheVariants.{Ledger}
 use Rattle.table_ledger.specs.Ready.{IsStoredIn}
 use Rattle.book_files.specs.Audits.{FindsWrongBy}
 use Rattle.book_files.proofs.Causes.{mapped_ok, ok_so}

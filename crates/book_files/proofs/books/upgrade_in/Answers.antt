@@ -7,7 +7,7 @@ use Rattle.tree_tables.specs.Holds.{has_book}
 use Rattle.tree_tables.specs.States.{state}
 use Rattle.table_ledger.proofs.SurvivalLemmas.{clean_before, survives_both, survives_so}
 use Rattle.book_model.specs.declared.fault.LedgerFault.TheVariants as ledger
-use Rattle.office.specs.declared.repository.RepositoryFault.TheVariants.{Ledger}
+use Rattle.named_books.specs.declared.repository.RepositoryFault.TheVariants.{Ledger}
 use Rattle.book_restarts.specs.FileBooks.{file_names}
 use Rattle.book_files.specs.Causes.{HasFaultCause}
 use Rattle.book_files.proofs.Causes.{error_cause}

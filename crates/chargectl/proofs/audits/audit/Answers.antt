@@ -1,7 +1,7 @@
 use Rattle.std.proofs.Common.{refl}
 use Rattle.book_audit.specs.Copies.{IsAudited}
-use Rattle.office.specs.Shelves.{IsUntouched}
-use Rattle.office.proofs.ShelfLemmas.{untouched}
+use Rattle.named_books.specs.Shelves.{IsUntouched}
+use Rattle.named_books.proofs.ShelfLemmas.{untouched}
 use Rattle.chargectl.proofs.AuditLemmas.{audits_none}
 use Rattle.chargectl.proofs.audits.audit.Goals as goal
 

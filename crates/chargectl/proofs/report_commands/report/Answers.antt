@@ -4,7 +4,7 @@ use Rattle.chargectl.specs.Commands.{IsShelfFault}
 use Rattle.chargectl.specs.Faults.{shelf_fault}
 use Rattle.chargectl.proofs.CommandLemmas.{not_asked, word_gone, word_there}
 use Rattle.office.specs.declared.request.Asked.TheVariants as asks
-use Rattle.office.proofs.ShelfLemmas.{untouched}
+use Rattle.named_books.proofs.ShelfLemmas.{untouched}
 use Rattle.chargectl.proofs.report_commands.report.Goals as goal
 
 pub returns-in-None : goal.returns-in-None

@@ -1,5 +1,5 @@
 use Rattle.std.proofs.Common.{refl}
-use Rattle.office.proofs.ShelfLemmas.{opened_untouched, untouched}
+use Rattle.named_books.proofs.ShelfLemmas.{opened_untouched, untouched}
 use Rattle.chargectl.proofs.ServingLemmas.{serves_after, serves_none}
 use Rattle.chargectl.proofs.serve.serve.Goals as goal
 

@@ -1,5 +1,5 @@
 use Rattle.std.proofs.Common.{◌∙◌, Err, refl, subst, sym}
-use Rattle.office.proofs.ShelfLemmas.{untouched}
+use Rattle.named_books.proofs.ShelfLemmas.{untouched}
 use Rattle.chargectl.specs.declared.command_fault.CommandFault.TheVariants as fault
 use Rattle.chargectl.specs.StreamedLists.{ListsAsked}
 use Rattle.chargectl.proofs.streamed_lists.list_details.Goals as goal

@@ -2,7 +2,7 @@ use Rattle.std.proofs.Common.{◌≡◌, ◌∙◌, None, Ok, false, ap, refl, s
 use Rattle.std.specs.Prelude.{IsErr}
 use Rattle.std.specs.Io.KnownBytes.{Keeps}
 use Rattle.streams.specs.Sinks.{writer_of}
-use Rattle.office.proofs.ShelfLemmas.{untouched}
+use Rattle.named_books.proofs.ShelfLemmas.{untouched}
 use Rattle.chargectl.specs.Commands.{first_fault}
 use Rattle.chargectl.specs.StreamedLists.{ListsBy, list_end}
 use Rattle.chargectl.proofs.StreamedListLemmas.{came_kept, opened_kept}

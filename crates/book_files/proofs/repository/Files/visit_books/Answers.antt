@@ -1,5 +1,5 @@
 use Rattle.std.proofs.Common.{◌≡◌, refl}
-use Rattle.office.proofs.ShelfLemmas.{same_by}
+use Rattle.named_books.proofs.ShelfLemmas.{same_by}
 use Rattle.book_files.proofs.SessionParts.{comes_on}
 use Rattle.book_files.proofs.repository.Files.visit_books.Goals as goal
 

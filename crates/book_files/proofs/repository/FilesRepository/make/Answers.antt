@@ -1,5 +1,5 @@
 use Rattle.book_restarts.specs.FileBooks.{file_names}
-use Rattle.office.proofs.ShelfLemmas.{unknown_made}
+use Rattle.named_books.proofs.ShelfLemmas.{unknown_made}
 use Rattle.book_files.proofs.repository.FilesRepository.make.Goals as goal
 
 pub returns : goal.returns

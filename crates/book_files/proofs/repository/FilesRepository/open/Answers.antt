@@ -1,5 +1,5 @@
 use Rattle.book_restarts.specs.FileBooks.{file_names}
-use Rattle.office.proofs.ShelfLemmas.{unknown_opened}
+use Rattle.named_books.proofs.ShelfLemmas.{unknown_opened}
 use Rattle.book_files.proofs.repository.FilesRepository.open.Goals as goal
 
 pub returns-clause-opened : goal.returns-clause-opened

@@ -1,5 +1,5 @@
 use Rattle.book_restarts.specs.FileBooks.{file_names}
-use Rattle.office.proofs.ShelfLemmas.{unknown_tried}
+use Rattle.named_books.proofs.ShelfLemmas.{unknown_tried}
 use Rattle.book_files.proofs.repository.FilesRepository.try_out.Goals as goal
 
 pub returns-clause-tried : goal.returns-clause-tried

@@ -1,5 +1,5 @@
 use Rattle.book_restarts.specs.FileBooks.{file_names}
-use Rattle.office.proofs.ShelfLemmas.{unknown_refused, unknown_untouched}
+use Rattle.named_books.proofs.ShelfLemmas.{unknown_refused, unknown_untouched}
 use Rattle.book_files.proofs.repository.FilesRepository.upgrade.Goals as goal
 
 pub returns-clause-same : goal.returns-clause-same

@@ -3,8 +3,8 @@ use Rattle.std.specs.Prelude.{◌≡◌, ◌≢◌, ◌⊎◌, ℕ, Bool, false,
 use Rattle.std.specs.Prelude.{IfErr, OnOk, OnErr}
 use Rattle.book_model.specs.Words.{Book, Event, Naming, book_after}
 use Rattle.book_core.specs.Transition.{Transition, NoEvent}
-use Rattle.office.specs.declared.repository.RepositoryFault.{RepositoryFault}
-use Rattle.office.specs.declared.repository.RepositoryFault.TheVariants.{Unseen}
+use Rattle.named_books.specs.declared.repository.RepositoryFault.{RepositoryFault}
+use Rattle.named_books.specs.declared.repository.RepositoryFault.TheVariants.{Unseen}
 
 -- What is known of the books that are kept somewhere: how they name records; which history the books
 -- of a name hold, as the next opening finds them; that there is nothing under a name; whether a log

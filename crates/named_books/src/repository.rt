@@ -72,8 +72,8 @@ pub enum Upgraded {
 /// Where books are kept by their names.
 pub trait Repository {
     ghost use Rattle.std.specs.Prelude.{◌≡◌, IfErr, ℕ};
-    ghost use Rattle.office.specs.Shelves.{Shelf, ComesBy, IsMade, IsOpened, IsSameShelf, IsTried};
-    ghost use Rattle.office.specs.Shelves.{IsUntouched};
+    ghost use Rattle.named_books.specs.Shelves.{Shelf, ComesBy, IsMade, IsOpened, IsSameShelf, IsTried};
+    ghost use Rattle.named_books.specs.Shelves.{IsUntouched};
 
     /// What is known of them.
     ghost shelf: { Self → Shelf };

@@ -5,10 +5,10 @@ use Rattle.std.specs.Prelude.{IfErr}
 use Rattle.book_model.specs.Words.{Book, Event, Naming, book_after, new_book}
 use Rattle.book_core.specs.Transition.{Transition, NoEvent, Then}
 use Rattle.book_core.proofs.TransitionLemmas.{after_all-append}
-use Rattle.office.specs.declared.repository.RepositoryFault.{RepositoryFault}
-use Rattle.office.specs.declared.repository.RepositoryFault.TheVariants.{Unseen}
-use Rattle.office.specs.Shelves.{Shelf, unknown, OpenedAnew, GoOn, IsDoneTo, IsOpened, IsMade}
-use Rattle.office.specs.Shelves.{ComesBy, IsSameShelf, IsTried, IsUntouched, WhereUnopened}
+use Rattle.named_books.specs.declared.repository.RepositoryFault.{RepositoryFault}
+use Rattle.named_books.specs.declared.repository.RepositoryFault.TheVariants.{Unseen}
+use Rattle.named_books.specs.Shelves.{Shelf, unknown, OpenedAnew, GoOn, IsDoneTo, IsOpened, IsMade}
+use Rattle.named_books.specs.Shelves.{ComesBy, IsSameShelf, IsTried, IsUntouched, WhereUnopened}
 
 -- books that nothing was done to
 pub stays : (Held : List Event → Type 0) → GoOn NoEvent Held Held

@@ -1,0 +1,2 @@
+-- Calls on books that are kept by their names, one after another.
+pub mod ShelfLemmas

@@ -1,0 +1,8 @@
+//! Books by their names, as a program keeps them: what is done with them while they are open.
+#![tactic(auto)]
+
+mod looks;
+mod repository;
+
+pub use looks::Look;
+pub use repository::{Opened, Repository, RepositoryFault, Upgraded, Visit};
