@@ -29,50 +29,43 @@ fn of_number(number: u16) -> Option<Damage>
     }
 }
 
-/// What a damage of a record means, and what to do about it.
+/// What a damage of a record means.
 #[tactic(auto, unfolding(crate::specs::Meanings::damage_texts))]
+fn meaning_of(damage: Damage) -> &'static str
+    ensures { texts_of (damage_number damage) spec.damage_texts
+        ≡ Some (result.now, spec.not_charged) }
+{
+    match damage {
+        Damage::Short => {
+            "The record is shorter than its header, or is of type 30 and shorter than its triplets."
+        }
+        Damage::Date => "The date in the record's header is not a valid date.",
+        Damage::Time => "The time in the record's header is not before midnight.",
+        Damage::NoIdentification => "The record has no identification section, so it names no job.",
+        Damage::Identification => {
+            "The identification section is too short, or runs past the end of the record."
+        }
+        Damage::Processor => {
+            "The processor section is too short, or runs past the end of the record."
+        }
+        Damage::InputOutput => {
+            "The section on I/O activity is too short, or runs past the end of the record."
+        }
+        Damage::Completion => {
+            "The completion section is too short, or runs past the end of the record."
+        }
+        Damage::Accounting => "The accounting fields do not lie inside the record.",
+    }
+}
+
+/// What a damage of a record means, and what to do about it.
 fn explanation_of(damage: Damage) -> Explanation
     ensures { texts_of (damage_number damage) spec.damage_texts
         ≡ Some (result.meaning.now, result.advice.now) }
 {
-    match damage {
-        Damage::Short => Explanation {
-            meaning: "The record is shorter than its header, or is of type 30 and shorter than its \
-                 triplets.",
-            advice: NOT_CHARGED,
-        },
-        Damage::Date => Explanation {
-            meaning: "The date in the record's header is not a valid date.",
-            advice: NOT_CHARGED,
-        },
-        Damage::Time => Explanation {
-            meaning: "The time in the record's header is not before midnight.",
-            advice: NOT_CHARGED,
-        },
-        Damage::NoIdentification => Explanation {
-            meaning: "The record has no identification section, so it names no job.",
-            advice: NOT_CHARGED,
-        },
-        Damage::Identification => Explanation {
-            meaning: "The identification section is too short, or runs past the end of the record.",
-            advice: NOT_CHARGED,
-        },
-        Damage::Processor => Explanation {
-            meaning: "The processor section is too short, or runs past the end of the record.",
-            advice: NOT_CHARGED,
-        },
-        Damage::InputOutput => Explanation {
-            meaning: "The section on I/O activity is too short, or runs past the end of the record.",
-            advice: NOT_CHARGED,
-        },
-        Damage::Completion => Explanation {
-            meaning: "The completion section is too short, or runs past the end of the record.",
-            advice: NOT_CHARGED,
-        },
-        Damage::Accounting => Explanation {
-            meaning: "The accounting fields do not lie inside the record.",
-            advice: NOT_CHARGED,
-        },
+    Explanation {
+        meaning: meaning_of(damage),
+        advice: NOT_CHARGED,
     }
 }
 

@@ -27,64 +27,75 @@ pub enum WordKind {
     Far,
 }
 
+const IO: Explanation = Explanation {
+    meaning: "A file or the port could not be opened, or reading or writing failed.",
+    advice: "Check the path, the permissions and the disk: a file may be missing, a folder or a \
+         second hard link, the port in use, the output full. On a terminal the path and the cause \
+         follow.",
+};
+
+const BUSY: Explanation = Explanation {
+    meaning: "Another program has the books open, and had them for as long as the command waited; \
+         nothing was done.",
+    advice: "Wait until it has ended, and run the command again, or run it with a longer --wait.",
+};
+
+const EXISTS: Explanation = Explanation {
+    meaning: "A file that the command would make is there, or a log or journal of it; or books \
+         have the name of a log: BOOK-wal, BOOK-journal or BOOK-shm.",
+    advice: "Take another name. What a stopped dry run left as BOOK-try, or a stopped backup as \
+         FILE-new, may be deleted while no command runs. Rename books that have the name of a log \
+         while no command runs, and delete nothing else before you know whose it is.",
+};
+
+const WORD: Explanation = Explanation {
+    meaning: "What was given is no date, or no name of a record or a centre; of a list, the number \
+         of the line follows.",
+    advice: "Write a date as 2024-01-31, and copy all 64 digits of a record's name; a centre has 1 \
+         to 16 characters of A to Z, 0 to 9 and the hyphen.",
+};
+
+const UNSOUND: Explanation = Explanation {
+    meaning: "An audit found the books, or a copy of them, unsound; it printed what is wrong \
+         first.",
+    advice: "Restore the last sound backup, and import later dumps again; nothing is counted \
+         twice.",
+};
+
+const LOG: Explanation = Explanation {
+    meaning: "The books are in two files, BOOK and BOOK-wal, since the log BOOK-wal could not be \
+         brought into BOOK; or a log of no use to them was kept aside as BOOK-wal-kept.",
+    advice: "Keep both files together; make room on the disk, and read any report of the books. To \
+         copy them, use backup. Find out whose log BOOK-wal-kept is before you delete it.",
+};
+
+const LAYOUT: Explanation = Explanation {
+    meaning: "The dump was read as segments one after another, and what was taken for its first \
+         record is a block.",
+    advice: "The dump reads as blocks: give --layout bdw, and run the command again; nothing is \
+         counted twice.",
+};
+
+const FAR: Explanation = Explanation {
+    meaning: "The day of a close or a tariff lies more than 366 days after the newest record's.",
+    advice: "Check the year: neither can be taken back. If it is wrong, restore the backup from \
+         before it; --dry-run shows first what a ruling changes.",
+};
+
 /// What a word means, and what to do about it.
 #[tactic(auto, unfolding(crate::specs::Meanings::word_texts))]
 fn explanation_of(kind: WordKind) -> Explanation
     ensures { spec.word_texts kind ≡ (result.meaning.now, result.advice.now) }
 {
     match kind {
-        WordKind::Io => Explanation {
-            meaning: "A file or the port could not be opened, or reading or writing failed.",
-            advice: "Check the path, the permissions and the disk: a file may be missing, a folder \
-                 or a second hard link, the port in use, the output full. On a terminal the path \
-                 and the cause follow.",
-        },
-        WordKind::Busy => Explanation {
-            meaning: "Another program has the books open, and had them for as long as the command \
-                 waited; nothing was done.",
-            advice: "Wait until it has ended, and run the command again, or run it with a longer \
-                 --wait.",
-        },
-        WordKind::Exists => Explanation {
-            meaning: "A file that the command would make is there, or a log or journal of it; or \
-                 books have the name of a log: BOOK-wal, BOOK-journal or BOOK-shm.",
-            advice: "Take another name. What a stopped dry run left as BOOK-try, or a stopped \
-                 backup as FILE-new, may be deleted while no command runs. Rename books that have \
-                 the name of a log while no command runs, and delete nothing else before you know \
-                 whose it is.",
-        },
-        WordKind::Word => Explanation {
-            meaning: "What was given is no date, or no name of a record or a centre; of a list, \
-                 the number of the line follows.",
-            advice: "Write a date as 2024-01-31, and copy all 64 digits of a record's name; a \
-                 centre has 1 to 16 characters of A to Z, 0 to 9 and the hyphen.",
-        },
-        WordKind::Unsound => Explanation {
-            meaning: "An audit found the books, or a copy of them, unsound; it printed what is \
-                 wrong first.",
-            advice: "Restore the last sound backup, and import later dumps again; nothing is \
-                 counted twice.",
-        },
-        WordKind::Log => Explanation {
-            meaning: "The books are in two files, BOOK and BOOK-wal, since the log BOOK-wal could \
-                 not be brought into BOOK; or a log of no use to them was kept aside as \
-                 BOOK-wal-kept.",
-            advice: "Keep both files together; make room on the disk, and read any report of the \
-                 books. To copy them, use backup. Find out whose log BOOK-wal-kept is before you \
-                 delete it.",
-        },
-        WordKind::Layout => Explanation {
-            meaning: "The dump was read as segments one after another, and what was taken for its \
-                 first record is a block.",
-            advice: "The dump reads as blocks: give --layout bdw, and run the command again; \
-                 nothing is counted twice.",
-        },
-        WordKind::Far => Explanation {
-            meaning: "The day of a close or a tariff lies more than 366 days after the newest \
-                 record's.",
-            advice: "Check the year: neither can be taken back. If it is wrong, restore the backup \
-                 from before it; --dry-run shows first what a ruling changes.",
-        },
+        WordKind::Io => IO,
+        WordKind::Busy => BUSY,
+        WordKind::Exists => EXISTS,
+        WordKind::Word => WORD,
+        WordKind::Unsound => UNSOUND,
+        WordKind::Log => LOG,
+        WordKind::Layout => LAYOUT,
+        WordKind::Far => FAR,
     }
 }
 
