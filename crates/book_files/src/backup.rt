@@ -15,7 +15,7 @@ use std::fs::File;
 
 impl Files<'_> {
     /// Copies the books of a file to a name that nothing has. Where the copy is not sound, or can't
-    /// be made, nothing is left of it.
+    /// be made, or its name does not reach the disk, nothing is left of it.
     pub(crate) fn copy_books<W: Watch>(
         &self,
         book: &str,
@@ -99,11 +99,23 @@ impl Files<'_> {
     ) -> Result<Audited, RepositoryFault> {
         let audited = self.audit_books(begun, watch).answer?;
         if let Audited::Sound(_) = &audited {
-            self.expect_none(copy)?;
-            fs::rename(self.rt, begun, copy).map_err(|error| failed(&error))?;
-            sync_folder(self.rt, copy).map_err(|error| failed(&error))?;
+            self.name_copy(begun, copy)?;
         }
         Ok(audited)
+    }
+
+    /// Gives a copy its name, which has to reach the disk: a copy that is acknowledged outlasts a
+    /// power cut. Where that is not seen, the name is free again.
+    fn name_copy(&self, begun: &str, copy: &str) -> Result<(), RepositoryFault> {
+        self.expect_none(copy)?;
+        fs::rename(self.rt, begun, copy).map_err(|error| failed(&error))?;
+        match sync_folder(self.rt, copy) {
+            Ok(()) => Ok(()),
+            Err(error) => {
+                let _ = fs::remove_file(self.rt, copy);
+                Err(failed(&error))
+            }
+        }
     }
 }
 
