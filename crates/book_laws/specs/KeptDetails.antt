@@ -46,7 +46,7 @@ pub record CountedFollows : Type 0 where
       → has (counted_of book) bytes ≡ is_counted_in book.past bytes
   pub close :
       (naming : Naming) (book : Book) (number : ℕ) (day : ℤ) → IsSound naming book
-      → close_answer book number day ≡ Ok Done
+      → close_answer book.rulings number day ≡ Ok Done
       → counted_of (close day book) ≡ counted_of book
 
 -- The records that a tariff is for have a kept row or are not charged: so a tariff that comes late
