@@ -95,6 +95,7 @@ notice_topic notice.Far = word_topic word.Far
 -- what a fault is about, in the words of the command
 abbrev pub place_text : Place → List ℕ
 place_text (place.File path) = path.now
+place_text (place.Beside path ending) = path.now ++ ending.now
 place_text (place.Port number) = codes "port " ++ decimal number
 place_text place.Input = codes "standard input"
 place_text place.Output = codes "standard output"

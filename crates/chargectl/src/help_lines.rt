@@ -185,6 +185,7 @@ fn write_place<W: Write>(terminal: &mut W, place: Place<'_>) -> io::Result<()>
 {
     match place {
         Place::File(path) => write!(terminal, "{path}"),
+        Place::Beside(path, ending) => write!(terminal, "{path}{ending}"),
         Place::Port(number) => write!(terminal, "port {number}"),
         Place::Input => write!(terminal, "standard input"),
         Place::Output => write!(terminal, "standard output"),

@@ -9,13 +9,23 @@ use book_import::Stop;
 use book_reports::ReportFault;
 use command_line::{BookRequest, Request, Ruling};
 use program_output::Cause;
+use std::fs;
 use tariff_rules::{Entry, Tariff};
+
+/// What may be in the way of a file that is made, by what follows its path: it, its log and its
+/// journal, and the file in which it is begun, with those of that.
+const NEW_FILES: [&str; 6] = ["", "-wal", "-journal", "-new", "-new-wal", "-new-journal"];
+
+/// The same of the copy of books on which a dry run works.
+const TRIAL_FILES: [&str; 3] = ["-try", "-try-wal", "-try-journal"];
 
 /// What a fault is about, in the words of the command.
 #[derive(Clone, Copy)]
 pub(crate) enum Place<'a> {
     /// A file, by its path.
     File(&'a str),
+    /// A file beside another, by the path of that and what follows it.
+    Beside(&'a str, &'static str),
     /// A port of this machine.
     Port(u16),
     /// Standard input.
@@ -57,6 +67,8 @@ pub(crate) struct Places<'a> {
     read: Option<&'a str>,
     /// The file that is made: new books, or a copy of books.
     new: Option<&'a str>,
+    /// What may be in the way of a file that is made, by what follows this path.
+    made: Option<(&'a str, &'static [&'static str])>,
     port: Option<u16>,
     /// Where a dump comes from.
     dump: Place<'a>,
@@ -79,6 +91,7 @@ impl<'a> Places<'a> {
             books: None,
             read,
             new: None,
+            made: None,
             port: None,
             dump,
         }
@@ -89,6 +102,7 @@ impl<'a> Places<'a> {
             books: Some(book),
             read: read_by(asked),
             new: None,
+            made: made_by(book, asked),
             port: None,
             dump: Place::Input,
         };
@@ -110,9 +124,8 @@ impl<'a> Places<'a> {
         match fault {
             CommandFault::Io => Some(self.failed(rt)),
             CommandFault::Busy => { Spot::of_file(self.books.or(self.new), Some(Cause::Taken)) }
-            CommandFault::Exists | CommandFault::Unsound => {
-                Spot::of_file(self.new.or(self.books), None)
-            }
+            CommandFault::Exists => self.in_the_way(rt),
+            CommandFault::Unsound => Spot::of_file(self.new.or(self.books), None),
             CommandFault::ArgumentAt(_) | CommandFault::LedgerAt(_, _) => {
                 Spot::of_file(self.read, None)
             }
@@ -122,6 +135,18 @@ impl<'a> Places<'a> {
             CommandFault::Stopped(stop) => self.stopped(rt, stop),
             _ => None,
         }
+    }
+
+    /// The file that is in the way of one that was to be made: the first that a second look finds.
+    fn in_the_way(self, rt: &HostRuntime) -> Option<Spot<'a>> {
+        if let Some((path, endings)) = self.made {
+            for &ending in endings {
+                if is_there(rt, path, ending) {
+                    return Some(Spot::at(Place::Beside(path, ending), None));
+                }
+            }
+        }
+        Spot::of_file(self.new.or(self.books), None)
     }
 
     /// The first of the places that a second look finds at fault. Where there is none, the file that
@@ -213,6 +238,27 @@ fn read_by<'a>(asked: BookRequest<'a>) -> Option<&'a str> {
         | BookRequest::WhatIf { file, .. } => Some(file),
         BookRequest::Import(dump) => Some(dump.file),
         _ => None,
+    }
+}
+
+/// What may be in the way of a file that a request to books makes, by what follows a path.
+fn made_by<'a>(
+    book: &'a str,
+    asked: BookRequest<'a>,
+) -> Option<(&'a str, &'static [&'static str])> {
+    match asked {
+        BookRequest::Init => Some((book, &NEW_FILES)),
+        BookRequest::BackUp { copy, .. } => Some((copy, &NEW_FILES)),
+        BookRequest::DryRun(_) => Some((book, &TRIAL_FILES)),
+        _ => None,
+    }
+}
+
+/// Whether something lies at a path with this ending, if only a link that leads nowhere.
+fn is_there(rt: &HostRuntime, path: &str, ending: &str) -> bool {
+    match format!(in rt.alloc(); "{path}{ending}") {
+        Ok(file) => fs::symlink_metadata(rt, file.as_str()).is_ok(),
+        Err(_) => false,
     }
 }
 
