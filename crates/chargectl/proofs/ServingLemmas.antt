@@ -1,7 +1,7 @@
 -- How connections are served.
 use Rattle.std.proofs.Common.{◌≡◌, Bool, true, false, List, [], ◌∷◌, ℕ, ◌+◌, refl, sym, subst}
-use Rattle.std.proofs.Common.{Option, None, Result, Ok, Err, true≢false, length, add-zero, arith}
-use Rattle.std.proofs.Common.{inl, inr}
+use Rattle.std.proofs.Common.{Option, Some, None, Result, Ok, Err, true≢false, length, add-zero}
+use Rattle.std.proofs.Common.{arith, inl, inr, unwrap_or}
 use Rattle.std.specs.Prelude.{IfErr, IfOk, IsErr, IsErrAnd}
 use Rattle.std.specs.declared.io.Error.{Error}
 use Rattle.std.specs.declared.io.ErrorKind.{ErrorKind}
@@ -17,12 +17,14 @@ use Rattle.named_books.specs.declared.repository.RepositoryFault.{RepositoryFaul
 use Rattle.named_books.specs.Shelves.{Shelf, IsDoneTo, IsOpened, IsUntouched, OpenedAnew}
 use Rattle.named_books.proofs.ShelfLemmas.{done_after, done_as, done_then, opened_refused}
 use Rattle.named_books.proofs.ShelfLemmas.{opened_untouched, untouched}
+use Rattle.chargectl.specs.declared.client_requests.Attended.{Attended}
 use Rattle.chargectl.specs.declared.command_fault.CommandFault.{CommandFault}
 use Rattle.chargectl.specs.declared.ended.Ended.{Ended}
+use Rattle.chargectl.specs.ClientRequests.{LeavesLog}
 use Rattle.chargectl.specs.Faults.{IsFileFault, io_fault, shelf_fault}
 use Rattle.chargectl.specs.Requests.{IsServiceFault, Serves}
 use Rattle.chargectl.specs.ServedLines.{Gains, unfailed}
-use Rattle.chargectl.specs.Serving.{IsServing, Replies, ServesEach, ServesOne, ServesSome, left_by}
+use Rattle.chargectl.specs.Serving.{IsServing, Replies, ServesEach, ServesOne, ServesSome}
 use Rattle.chargectl.specs.Serving.{line_of, lines_of, ready, service_end}
 use Rattle.chargectl.proofs.CommandLemmas.{either_as}
 use Rattle.chargectl.proofs.ServedLineLemmas.{gains_nil, gains_then}
@@ -59,7 +61,8 @@ some_answered naming history was events is it answered =
 -- ---- one after the other
 
 -- a connection that did not come is none
-pub none_came : (So : Served → Type 0) (result : Result Served Error) → IsErr result → IfOk result So
+pub none_came : (So : Attended → Type 0) (result : Result Attended Error) → IsErr result
+    → IfOk result So
 none_came So (Ok what) bad = absurd (true≢false (sym bad))
 none_came So (Err error) bad = tt
 
@@ -89,15 +92,20 @@ serving_more book old between new due left less held has holds what before serve
 
 -- one did not come
 pub serving_cut : {S : Type 0} (shelf : S → Shelf) (book : List ℕ) (old between new : S)
-    (due left less : ℕ) (held holds : WriterSeen) (result : Result (Unit {0}) Error) → IsErr result
-    → new ≡ between → less + 1 ≡ left
+    (due left less : ℕ) (held holds : WriterSeen) → new ≡ between → less + 1 ≡ left
     → IsServing [] due left book (shelf old) (shelf between) held holds
-    → IsServing [] due (left_by result less) book (shelf old) (shelf new) held holds
-serving_cut shelf book old between new due left less held holds (Ok done) bad same one it =
-    absurd (true≢false (sym bad))
-serving_cut shelf book old between new due left less held holds (Err error) bad same one it =
+    → IsServing [] due (less + 1) book (shelf old) (shelf new) held holds
+serving_cut shelf book old between new due left less held holds same one it =
     subst (λ left. IsServing [] due left book (shelf old) (shelf new) held holds) (sym one)
     (subst (λ place. IsServing [] due left book (shelf old) (shelf place) held holds) (sym same) it)
+
+-- a log is as the last client left it, or as it was before
+pub log_left : {S : Type 0} (shelf : S → Shelf) (book : List ℕ) (old new : S) (was : Bool)
+    (left : Option Bool) → (shelf old).has_log book was → LeavesLog shelf book old new left
+    → (shelf new).has_log book (unwrap_or left was)
+log_left shelf book old new was (Some is) before log = log
+log_left shelf book old new was None before same =
+    subst (λ place. (shelf place).has_log book was) (sym same) before
 
 -- ---- a whole service
 

@@ -1,6 +1,6 @@
 -- One request of a client. The books are open only while they are asked.
 use Rattle.std.specs.Prelude.{◌≡◌, ◌<◌, ℕ, Bool, true, false, List, [], length}
-use Rattle.std.specs.Prelude.{Option, Result, Ok, Err}
+use Rattle.std.specs.Prelude.{Option, Some, None, Result, Ok, Err}
 use Rattle.book_model.specs.Words.{Book, Event, Naming}
 use Rattle.book_core.specs.Transition.{Transition}
 use Rattle.book_core.specs.Follow.{MakesAnswered}
@@ -84,6 +84,11 @@ pub record IsAnsweredFrom (book : List ℕ) (old new : Shelf) (request : Request
   pub done : IsOpened (AsksOpen old.naming request held shown) book old new told
   pub quiet : is_streamed request ≡ false → shown ≡ held
   pub ends : EndsBy (is_streamed request) told shown holds what
+
+-- the log that is left beside books that were opened; the place of those that were not is as it was
+abbrev pub LeavesLog : {S : Type 0} → (S → Shelf) → List ℕ → S → S → Option Bool → Type 0
+LeavesLog shelf book old new (Some is) = (shelf new).has_log book is
+LeavesLog shelf book old new None = new ≡ old
 
 -- a request came whole, by the bytes that were taken, and was answered
 pub record IsReplied (book : List ℕ) (old new : Shelf) (taken : List ℕ) (ended : Bool)

@@ -18,8 +18,10 @@ use Rattle.book_http.specs.Replies.{Reply}
 use Rattle.book_http.specs.Statuses.{status_code}
 use Rattle.book_reports.specs.declared.fault.ReportFault.TheVariants.{Write}
 use Rattle.named_books.specs.Shelves.{Shelf, IsDoneTo, OpenedAnew}
+use Rattle.chargectl.specs.declared.client_requests.Attended.{Attended}
 use Rattle.chargectl.specs.declared.command_fault.CommandFault.{CommandFault}
 use Rattle.chargectl.specs.declared.command_fault.CommandFault.TheVariants as fault
+use Rattle.chargectl.specs.ClientRequests.{LeavesLog}
 use Rattle.chargectl.specs.ServedLines.{Gains}
 
 -- an address of this machine alone
@@ -48,6 +50,12 @@ abbrev pub ServesOne : Naming → Served → Transition
 ServesOne naming served.Closed = NoEvent
 ServesOne naming served.ReadFault = NoEvent
 ServesOne naming what = Replies naming what
+
+-- what one client did to the books of a name, and whether it left a log beside them
+pub record Attends {S : Type 0} (shelf : S → Shelf) (book : List ℕ) (old new : S)
+    (attended : Attended) : Type 0 where
+  pub done : IsDoneTo book (ServesOne (shelf old).naming attended.served) (shelf old) (shelf new)
+  pub log : LeavesLog shelf book old new attended.log
 
 -- connections in turn, the newest first; the books are opened anew for each
 abbrev pub ServesEach : Naming → List Served → Transition

@@ -10,7 +10,7 @@ ghost use Rattle.book_http.specs.Replies.{reply_of};
 ghost use Rattle.book_http.specs.Served.{IsSent, is_read_fault, is_unanswered};
 ghost use Rattle.chargectl.specs.ClientRequests as spec;
 ghost use Rattle.chargectl.specs.ClientRequests.{AsksOpen, EndsBy, IsAnsweredFrom, IsServedFrom};
-ghost use Rattle.chargectl.specs.ClientRequests.{SendsOpen};
+ghost use Rattle.chargectl.specs.ClientRequests.{LeavesLog, SendsOpen};
 
 use crate::port::Peer;
 use book_core::{Ledger, Sink, Source};
@@ -22,6 +22,14 @@ use named_books::{Opened, Repository, RepositoryFault, Visit};
 use std::alloc::Global;
 use std::mem;
 use streams::Reader;
+
+/// What became of a client.
+#[derive(Clone, Copy)]
+pub struct Attended {
+    pub served: Served,
+    /// Whether a log is left beside the books. None where they were not opened for it.
+    pub log: Option<bool>,
+}
 
 /// What came of a request while the books were open.
 #[derive(Drop)]
@@ -159,12 +167,11 @@ fn answer_from_books<W: Peer + Drop, S: Repository>(
     writer: W,
     repository: &mut S,
     book: &str,
-    has_log: &mut bool,
-) -> (Served, W)
+) -> (Attended, W)
     ensures from { IsAnsweredFrom book.now (S.shelf repository.old) (S.shelf repository.new) request
-        (W.contents writer) (W.contents result.1) result.0 }
-    ensures answered { is_unanswered result.0 ≡ false }
-    ensures log { (S.shelf repository.new).has_log book.now has_log.new }
+        (W.contents writer) (W.contents result.1) result.0.served }
+    ensures answered { is_unanswered result.0.served ≡ false }
+    ensures log { LeavesLog S.shelf book.now repository.old repository.new result.0.log }
 {
     let streamed = is_streamed(&request);
     let mut open_request = OpenRequest {
@@ -172,44 +179,52 @@ fn answer_from_books<W: Peer + Drop, S: Repository>(
         request,
         writer,
     };
-    let Opened {
-        answer,
-        has_log: is_left,
-    } = repository.open(book, &mut open_request);
-    *has_log = is_left;
+    let Opened { answer, has_log } = repository.open(book, &mut open_request);
     let OpenRequest { writer, .. } = open_request;
-    end_request(streamed, answer, writer)
+    let (served, writer) = end_request(streamed, answer, writer);
+    let attended = Attended {
+        served,
+        log: Some(has_log),
+    };
+    (attended, writer)
 }
 
 /// Serves one request as `book_http::serve_one` does, from the books of a name, which are opened for
-/// it once it came whole. Whether a log is left beside them is handed on.
+/// it once it came whole.
 pub fn serve_request<R: Reader + Drop, W: Peer + Drop, S: Repository>(
     alloc: Global,
     source: &mut Source<R>,
     writer: W,
     repository: &mut S,
     book: &str,
-    has_log: &mut bool,
-) -> (Served, W)
+) -> (Attended, W)
     requires asked { reads_of source.old ≤ 2 ^ 62 }
     requires failed { has_failed source.old ≡ false }
     requires ended { has_ended source.old ≡ false }
-    requires log { (S.shelf repository.old).has_log book.now has_log.old }
     ensures served { ReadsOn R.remaining R.may_answer IsDue source.old source.new
         (IsServedFrom S.shelf repository.old repository.new book.now (has_ended source.new)
-        (W.contents writer) (W.contents result.1) result.0) }
+        (W.contents writer) (W.contents result.1) result.0.served) }
 
     // The books are not opened before a request is whole.
-    ensures closed { is_unanswered result.0 ≡ true → repository.new ≡ repository.old }
-    ensures log { (S.shelf repository.new).has_log book.now has_log.new }
+    ensures closed { is_unanswered result.0.served ≡ true → repository.new ≡ repository.old }
+    ensures log { LeavesLog S.shelf book.now repository.old repository.new result.0.log }
 
     // That reading failed is said where a read did, and nowhere else.
-    ensures read { has_failed source.new ≡ is_read_fault result.0 }
+    ensures read { has_failed source.new ≡ is_read_fault result.0.served }
 {
     match read_request(alloc, source) {
-        Ok(Requested::Settled(answer)) => send_to(writer, &answer),
-        Ok(request) => answer_from_books(alloc, request, writer, repository, book, has_log),
-        Err(Unanswered::Closed) => (Served::Closed, writer),
-        Err(Unanswered::Failed) => (Served::ReadFault, writer),
+        Ok(Requested::Settled(answer)) => {
+            let (served, writer) = send_to(writer, &answer);
+            (Attended { served, log: None }, writer)
+        }
+        Ok(request) => answer_from_books(alloc, request, writer, repository, book),
+        Err(Unanswered::Closed) => {
+            let served = Served::Closed;
+            (Attended { served, log: None }, writer)
+        }
+        Err(Unanswered::Failed) => {
+            let served = Served::ReadFault;
+            (Attended { served, log: None }, writer)
+        }
     }
 }

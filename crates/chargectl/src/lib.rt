@@ -27,7 +27,7 @@ mod served_lines;
 mod streamed_lists;
 mod upgrades;
 
-pub use client_requests::serve_request;
+pub use client_requests::{Attended, serve_request};
 pub use laws::commands_follow_history;
 pub use port::{Connections, Peer, answer_peer};
 pub use program::command;

@@ -2,10 +2,9 @@
 
 ghost use Rattle.std.specs.Prelude.{◌≡◌, true};
 ghost use Rattle.book_http.specs.Served.{is_unanswered};
-ghost use Rattle.named_books.specs.Shelves.{IsDoneTo};
-ghost use Rattle.chargectl.specs.Serving.{IsLoopback, ServesOne, is_answered};
+ghost use Rattle.chargectl.specs.Serving.{Attends, IsLoopback, is_answered};
 
-use crate::client_requests::serve_request;
+use crate::client_requests::{Attended, serve_request};
 use crate::connection::Client;
 use book_core::Source;
 use book_http::Served;
@@ -19,8 +18,7 @@ use std::net::{IpAddr, Ipv4Addr, SocketAddr, TcpListener, TcpStream};
 pub trait Connections {
     ghost use Rattle.std.specs.Prelude.{ℕ, ◌≡◌, ◌<◌, ◌+◌, ◌==◌, IfErr, IfOk, OnErr};
     ghost use Rattle.std.specs.declared.io.Error.{Error};
-    ghost use Rattle.named_books.specs.Shelves.{IsDoneTo};
-    ghost use Rattle.chargectl.specs.Serving.{ServesOne};
+    ghost use Rattle.chargectl.specs.Serving.{Attends};
 
     /// How many are left to be answered.
     ghost left: { Self → ℕ };
@@ -34,22 +32,12 @@ pub trait Connections {
         ensures { result ≡ (left self.now == 0) };
 
     /// Waits for the next one, and answers it from the books of a name, which are open only while
-    /// they are asked. Whether a log is left beside them is handed on. An error means that none came;
-    /// it counts as one of those that were left.
-    fn next<S: Repository>(
-        &mut self,
-        repository: &mut S,
-        book: &str,
-        has_log: &mut bool,
-    ) -> io::Result<Served>
-        requires some { 0 < left self.old }
-        requires log { (S.shelf repository.old).has_log book.now has_log.old }
+    /// they are asked. An error means that none came; it counts as one of those that were left.
+    fn next<S: Repository>(&mut self, repository: &mut S, book: &str) -> io::Result<Attended>
+        requires { 0 < left self.old }
         ensures left { left self.new + 1 ≡ left self.old }
-        ensures served { IfOk result (λ what. IsDoneTo book.now
-            (ServesOne (S.shelf repository.old).naming what)
-            (S.shelf repository.old) (S.shelf repository.new)) }
+        ensures served { IfOk result (Attends S.shelf book.now repository.old repository.new) }
         ensures none { OnErr result (repository.new ≡ repository.old) }
-        ensures log { (S.shelf repository.new).has_log book.now has_log.new }
         ensures failed { IfErr result (λ error. may_fail self.old error self.new) };
 }
 
@@ -116,15 +104,10 @@ impl Connections for Port<'_> {
         self.left == 0
     }
 
-    fn next<S: Repository>(
-        &mut self,
-        repository: &mut S,
-        book: &str,
-        has_log: &mut bool,
-    ) -> io::Result<Served> {
+    fn next<S: Repository>(&mut self, repository: &mut S, book: &str) -> io::Result<Attended> {
         self.left -= 1;
         let (stream, _) = self.listener.accept()?;
-        Ok(answer_stream(self.rt, &stream, repository, book, has_log))
+        Ok(answer_stream(self.rt, &stream, repository, book))
     }
 }
 
@@ -134,19 +117,16 @@ fn answer_stream<S: Repository>(
     stream: &TcpStream,
     repository: &mut S,
     book: &str,
-    has_log: &mut bool,
-) -> Served
-    requires { (S.shelf repository.old).has_log book.now has_log.old }
-    ensures served { IsDoneTo book.now (ServesOne (S.shelf repository.old).naming result)
-        (S.shelf repository.old) (S.shelf repository.new) }
-    ensures log { (S.shelf repository.new).has_log book.now has_log.new }
+) -> Attended
+    ensures { Attends S.shelf book.now repository.old repository.new result }
 {
     let patience = Client::patience();
     let Ok(client) = Client::accepted(rt, stream, &patience) else {
-        return Served::ReadFault;
+        let served = Served::ReadFault;
+        return Attended { served, log: None };
     };
-    let (served, _) = answer_peer(rt.alloc(), client, repository, book, has_log);
-    served
+    let (attended, _) = answer_peer(rt.alloc(), client, repository, book);
+    attended
 }
 
 /// Reads one request of a client, asks it of the books of a name, and answers. A client that was
@@ -156,21 +136,17 @@ pub fn answer_peer<P: Peer + Drop, S: Repository>(
     peer: P,
     repository: &mut S,
     book: &str,
-    has_log: &mut bool,
-) -> (Served, P)
-    requires { (S.shelf repository.old).has_log book.now has_log.old }
-    ensures served { IsDoneTo book.now (ServesOne (S.shelf repository.old).naming result.0)
-        (S.shelf repository.old) (S.shelf repository.new) }
+) -> (Attended, P)
+    ensures served { Attends S.shelf book.now repository.old repository.new result.0 }
 
     // The books are not opened for a client that asks nothing of them.
-    ensures closed { is_unanswered result.0 ≡ true → repository.new ≡ repository.old }
-    ensures drained { is_answered result.0 ≡ true → P.is_drained result.1 ≡ true }
-    ensures log { (S.shelf repository.new).has_log book.now has_log.new }
+    ensures closed { is_unanswered result.0.served ≡ true → repository.new ≡ repository.old }
+    ensures drained { is_answered result.0.served ≡ true → P.is_drained result.1 ≡ true }
 {
     let mut source = Source::new(peer);
-    let (served, peer) = serve_request(alloc, &mut source, peer, repository, book, has_log);
-    match served {
-        Served::Answered(_) => (served, peer.drain()),
-        _ => (served, peer),
+    let (attended, peer) = serve_request(alloc, &mut source, peer, repository, book);
+    match attended.served {
+        Served::Answered(_) => (attended, peer.drain()),
+        _ => (attended, peer),
     }
 }

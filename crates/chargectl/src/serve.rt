@@ -109,10 +109,10 @@ fn serve_here<S: Repository, O: Write + Drop>(
         (O.contents output) (O.contents result.1) result.0 }
 {
     let mut port = Port::over(rt, listener, requests);
-    let mut has_log = has_log;
     let mut lines = ServedLines::new(output);
     say_ready(&mut lines);
-    match serve_each(&mut port, repository, book, &mut has_log, &mut lines) {
+    let (answered, has_log) = serve_each(&mut port, repository, book, has_log, &mut lines);
+    match answered {
         Ok(()) => {
             let came = told_end(lines.has_failed());
             (ended(came, has_log), lines.into_inner())
@@ -127,30 +127,36 @@ fn serve_here<S: Repository, O: Write + Drop>(
 /// Answers the connections that are left, one after the other, and writes a line for each, at once. A
 /// line that can't be written is lost, and so are those after it; the connections are answered all
 /// the same. An error means that a connection did not come; what was asked of the books till then is
-/// done.
+/// done. Whether a log is left beside them is handed on.
 pub fn serve_each<C: Connections, S: Repository, O: Write + Drop>(
     connections: &mut C,
     repository: &mut S,
     book: &str,
-    has_log: &mut bool,
+    has_log: bool,
     lines: &mut ServedLines<O>,
-) -> io::Result<()>
-    requires { (S.shelf repository.old).has_log book.now has_log.old }
+) -> (io::Result<()>, bool)
+    requires { (S.shelf repository.old).has_log book.now has_log }
     ensures served { IsServing [] (C.left connections.old)
-        (left_by result (C.left connections.new)) book.now
+        (left_by result.0 (C.left connections.new)) book.now
         (S.shelf repository.old) (S.shelf repository.new)
         (seen_of O.contents lines.old) (seen_of O.contents lines.new) }
-    ensures all { OnOk result (C.left connections.new ≡ 0) }
-    ensures log { (S.shelf repository.new).has_log book.now has_log.new }
+    ensures all { OnOk result.0 (C.left connections.new ≡ 0) }
+    ensures log { (S.shelf repository.new).has_log book.now result.1 }
 
     // No fault of the output or of the books ends it early.
-    ensures failed { IfErr result (λ error. NoneCame C.may_fail error connections.new) }
+    ensures failed { IfErr result.0 (λ error. NoneCame C.may_fail error connections.new) }
 {
+    let mut has_log = has_log;
     while !connections.is_over() {
-        let served = connections.next(repository, book, has_log)?;
-        say_served(lines, served);
+        match connections.next(repository, book) {
+            Ok(attended) => {
+                has_log = attended.log.unwrap_or(has_log);
+                say_served(lines, attended.served);
+            }
+            Err(error) => return (Err(error), has_log),
+        }
     }
-    Ok(())
+    (Ok(()), has_log)
 }
 
 /// Says that connections are answered from now on.

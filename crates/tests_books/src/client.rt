@@ -2,8 +2,7 @@
 
 ghost use Rattle.std.specs.Prelude.{length};
 
-use book_http::Served;
-use chargectl::{Connections, Peer, answer_peer};
+use chargectl::{Attended, Connections, Peer, answer_peer};
 use named_books::Repository;
 use std::alloc::Global;
 use std::cell::{Cell, RefCell};
@@ -128,12 +127,7 @@ impl Connections for Queue<'_, '_> {
         self.left.is_empty()
     }
 
-    fn next<S: Repository>(
-        &mut self,
-        repository: &mut S,
-        book: &str,
-        has_log: &mut bool,
-    ) -> io::Result<Served> {
+    fn next<S: Repository>(&mut self, repository: &mut S, book: &str) -> io::Result<Attended> {
         let left = self.left;
         let [client, later @ ..] = left else {
             unreachable!()
@@ -143,7 +137,7 @@ impl Connections for Queue<'_, '_> {
             client,
             is_drained: false,
         };
-        let (served, _) = answer_peer(self.alloc, peer, repository, book, has_log);
-        Ok(served)
+        let (attended, _) = answer_peer(self.alloc, peer, repository, book);
+        Ok(attended)
     }
 }

@@ -113,8 +113,8 @@ fn serve_clients<L: Ledger>(
         taken: Vec::new(named.alloc()),
     });
     let mut shelf = OpenShelf { ledger };
-    let mut has_log = false;
-    serve_each(&mut queue, &mut shelf, "books", &mut has_log, &mut lines)?;
+    let (answered, _) = serve_each(&mut queue, &mut shelf, "books", false, &mut lines);
+    answered?;
     let are_lost = lines.has_failed();
     out.bytes(&lines.into_inner().taken);
     let left = queue.left.len();

@@ -8,7 +8,7 @@ returns-clause-from g c =
     let contents = g.W.Write.contents in
     let held = contents c.args.writer in
     let shown = contents c.open-answer.new.visit.writer in
-    let ended = c.end_request.result in
+    let ended = c.end_request-served.result in
     record {
       told = c.open-answer.result.answer;
       shown = shown;
@@ -16,15 +16,15 @@ returns-clause-from g c =
       quiet = quiet_open c.args.request held shown _ c.open-answer.result.answer
           (λ same. ap (λ request. contents request.writer) same) c.open-answer.ensures.came;
       ends = subst (λ streamed. EndsBy streamed c.open-answer.result.answer shown (contents ended.1)
-          ended.0) c.is_streamed-streamed.ensures c.end_request.ensures;
+          ended.0) c.is_streamed-streamed.ensures c.end_request-served.ensures;
     }
 
 pub returns-clause-answered : goal.returns-clause-answered
 returns-clause-answered g c =
     let contents = g.W.Write.contents in
     let shown = contents c.open-answer.new.visit.writer in
-    let ended = c.end_request.result in
+    let ended = c.end_request-served.result in
     end_answered c.args.request (contents c.args.writer) shown (contents ended.1) _
     c.open-answer.result.answer ended.0 c.open-answer.ensures.came
     (subst (λ streamed. EndsBy streamed c.open-answer.result.answer shown (contents ended.1) ended.0)
-    c.is_streamed-streamed.ensures c.end_request.ensures)
+    c.is_streamed-streamed.ensures c.end_request-served.ensures)

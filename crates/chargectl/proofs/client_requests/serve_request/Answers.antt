@@ -13,7 +13,7 @@ returns-in-Ok-Settled-clause-served g c =
     let old = c.args.repository.now in
     let ended = has_ended c.read_request.new.source in
     let held = contents c.args.writer in
-    let sent = c.send_to in
+    let sent = c.send_to-served in
     let holds = contents sent.result.1 in
     gave_as c.in-Ok-Settled.ensures.asks
     (λ taken asking. served_from shelf old old c.args.book.now taken ended held holds sent.result.0
@@ -32,7 +32,7 @@ returns-in-Ok-clause-served g c =
     gave_as c.in-Ok.ensures.asks
     (λ taken asking. served_from g.S.Repository.shelf c.args.repository.now from.new.repository
     c.args.book.now taken (has_ended c.read_request.new.source) (contents c.args.writer)
-    (contents from.result.1) from.result.0 from.ensures.answered
+    (contents from.result.1) from.result.0.served from.ensures.answered
     (record { request = c.in-Ok.request; asks = asking; answered = from.ensures.from }))
 
 pub returns-in-Err-Closed-clause-served : goal.returns-in-Err-Closed-clause-served

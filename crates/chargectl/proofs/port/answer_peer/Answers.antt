@@ -5,19 +5,27 @@ use Rattle.chargectl.proofs.port.answer_peer.Goals as goal
 
 pub returns-in-Answered-clause-served : goal.returns-in-Answered-clause-served
 returns-in-Answered-clause-served g c =
-    let told = c.serve_request-served.ensures.served in
-    served_one g.S.Repository.shelf c.args.repository.now c.serve_request-served.new.repository
-    c.args.book.now (bytes_read told.reads) (has_ended c.serve_request-served.new.source) _ _
-    c.serve_request-served.result.0 told.gave c.serve_request-served.ensures.closed
+    let came = c.serve_request-attended in
+    let told = came.ensures.served in
+    record {
+      done = served_one g.S.Repository.shelf c.args.repository.now came.new.repository
+          c.args.book.now (bytes_read told.reads) (has_ended came.new.source) _ _
+          came.result.0.served told.gave came.ensures.closed;
+      log = came.ensures.log;
+    }
 
 pub returns-in_default-clause-served : goal.returns-in_default-clause-served
 returns-in_default-clause-served g c =
-    let told = c.serve_request-served.ensures.served in
-    served_one g.S.Repository.shelf c.args.repository.now c.serve_request-served.new.repository
-    c.args.book.now (bytes_read told.reads) (has_ended c.serve_request-served.new.source) _ _
-    c.serve_request-served.result.0 told.gave c.serve_request-served.ensures.closed
+    let came = c.serve_request-attended in
+    let told = came.ensures.served in
+    record {
+      done = served_one g.S.Repository.shelf c.args.repository.now came.new.repository
+          c.args.book.now (bytes_read told.reads) (has_ended came.new.source) _ _
+          came.result.0.served told.gave came.ensures.closed;
+      log = came.ensures.log;
+    }
 
 pub returns-in_default-clause-drained : goal.returns-in_default-clause-drained
 returns-in_default-clause-drained g c = λ answered.
-    let status = status_of c.serve_request-served.result.0 answered in
+    let status = status_of c.serve_request-attended.result.0.served answered in
     absurd (c.in_default.not-Answered status.0 status.1)

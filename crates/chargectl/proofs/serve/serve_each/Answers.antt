@@ -1,5 +1,6 @@
+use Rattle.std.proofs.Common.{subst, sym}
 use Rattle.chargectl.specs.ServedLines.{seen_of}
-use Rattle.chargectl.proofs.ServingLemmas.{serving_cut, serving_more, serving_none}
+use Rattle.chargectl.proofs.ServingLemmas.{log_left, serving_cut, serving_more, serving_none}
 use Rattle.chargectl.proofs.serve.serve_each.Goals as goal
 
 pub loop-connections-init : goal.loop-connections-init
@@ -9,16 +10,21 @@ loop-connections-init g c = record {
   log = c.requires;
 }
 
-pub returns-in_err-served-clause-served : goal.returns-in_err-served-clause-served
-returns-in_err-served-clause-served g c =
+pub returns-in-Err-clause-served : goal.returns-in-Err-clause-served
+returns-in-Err-clause-served g c =
     serving_cut g.S.Repository.shelf c.args.book.now c.args.repository.now
     c.loop-connections.repository c.next.new.repository
     (g.C.Connections.left c.args.connections.now)
     (g.C.Connections.left c.loop-connections.connections) (g.C.Connections.left c.next.new.self)
     (seen_of g.O.Write.contents c.args.lines.now)
-    (seen_of g.O.Write.contents c.loop-connections.lines) c.from_residual.result
-    c.from_residual.ensures.0 c.in_err-served.ensures.none c.next.ensures.left
-    c.loop-connections.invariant.serving
+    (seen_of g.O.Write.contents c.loop-connections.lines) c.in-Err.ensures.none
+    c.next.ensures.left c.loop-connections.invariant.serving
+
+pub returns-in-Err-clause-log : goal.returns-in-Err-clause-log
+returns-in-Err-clause-log g c =
+    subst
+    (λ place. (g.S.Repository.shelf place).has_log c.args.book.now c.loop-connections.has_log)
+    (sym c.in-Err.ensures.none) c.loop-connections.invariant.log
 
 pub loop-connections-preserved : goal.loop-connections-preserved
 loop-connections-preserved g c =
@@ -30,7 +36,11 @@ loop-connections-preserved g c =
           (shelf c.loop-connections.repository) (shelf c.next.new.repository)
           (left c.args.connections.now) (left c.loop-connections.connections) (left c.next.new.self)
           (seen c.args.lines.now) (seen c.loop-connections.lines) (seen c.say_served.new.lines)
-          c.in_ok-served.served c.loop-connections.invariant.serving c.in_ok-served.ensures.served
+          c.in-Ok.attended.served c.loop-connections.invariant.serving c.in-Ok.ensures.served.done
           c.say_served.ensures c.next.ensures.left;
-      log = c.next.ensures.log;
+      log = subst (λ is. (shelf c.next.new.repository).has_log c.args.book.now is)
+          (sym c.unwrap_or-has_log.ensures)
+          (log_left shelf c.args.book.now c.loop-connections.repository c.next.new.repository
+          c.loop-connections.has_log c.in-Ok.attended.log c.loop-connections.invariant.log
+          c.in-Ok.ensures.served.log);
     }

@@ -9,23 +9,24 @@ returns-in-Ok g c =
     let contents = g.O.Write.contents in
     let seen = seen_of contents in
     let shelf = g.S.Repository.shelf in
-    serves_all c.args.book.now (shelf c.args.repository.now) (shelf c.serve_each.new.repository)
-    c.args.requests c.over-port.result.left c.serve_each.new.connections.left
-    (contents c.args.output) (contents c.into_inner.result) (seen c.new-lines.result)
-    (seen c.say_ready.new.lines) (seen c.serve_each.new.lines) c.has_failed.result c.ended.result
-    c.serve_each.new.has_log c.new-lines.ensures c.say_ready.ensures c.over-port.ensures
-    c.in-Ok.ensures.all c.in-Ok.ensures.served c.into_inner.ensures c.has_failed.ensures
-    (rw c.told_end-came.ensures at c.ended.ensures) c.serve_each.ensures.log
+    let each = c.serve_each-answered in
+    serves_all c.args.book.now (shelf c.args.repository.now) (shelf each.new.repository)
+    c.args.requests c.over-port.result.left each.new.connections.left (contents c.args.output)
+    (contents c.into_inner.result) (seen c.new-lines.result) (seen c.say_ready.new.lines)
+    (seen each.new.lines) c.has_failed.result c.ended.result each.result.1 c.new-lines.ensures
+    c.say_ready.ensures c.over-port.ensures (rw c.in-Ok.is at each.ensures.all)
+    (rw c.in-Ok.is at each.ensures.served) c.into_inner.ensures c.has_failed.ensures
+    (rw c.told_end-came.ensures at c.ended.ensures) each.ensures.log
 
 pub returns-in-Err : goal.returns-in-Err
 returns-in-Err g c =
     let contents = g.O.Write.contents in
     let seen = seen_of contents in
     let shelf = g.S.Repository.shelf in
-    serves_cut (λ _. ⊥) c.args.book.now (shelf c.args.repository.now)
-    (shelf c.serve_each.new.repository) c.args.requests c.over-port.result.left _
-    (contents c.args.output)
-    (contents c.into_inner-in-Err.result) (seen c.say_ready.new.lines) (seen c.serve_each.new.lines)
-    c.ended-in-Err.result c.from-fault.result c.serve_each.new.has_log c.ended-in-Err.ensures
-    (inr (error_kind c.in-Err.error, c.from-fault.ensures)) c.in-Err.ensures.served
-    c.serve_each.ensures.log
+    let each = c.serve_each-answered in
+    serves_cut (λ _. ⊥) c.args.book.now (shelf c.args.repository.now) (shelf each.new.repository)
+    c.args.requests c.over-port.result.left _ (contents c.args.output)
+    (contents c.into_inner-in-Err.result) (seen c.say_ready.new.lines) (seen each.new.lines)
+    c.ended-in-Err.result c.from-fault.result each.result.1 c.ended-in-Err.ensures
+    (inr (error_kind c.in-Err.error, c.from-fault.ensures)) (rw c.in-Err.is at each.ensures.served)
+    each.ensures.log
