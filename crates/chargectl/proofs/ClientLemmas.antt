@@ -1,7 +1,7 @@
 -- One request of a client, from books that are open only while they are asked.
 use Rattle.std.proofs.Common.{◌≡◌, ◌∙◌, ◌<◌, Bool, true, false, List, [], ◌++◌, ℕ, refl, sym, ap, subst}
-use Rattle.std.proofs.Common.{◌⊎◌, inl, inr, Option, Result, Ok, Err, true≢false}
-use Rattle.book_model.specs.Words.{Book, Event, Naming}
+use Rattle.std.proofs.Common.{inl, inr, Option, Result, Ok, Err, true≢false}
+use Rattle.book_model.specs.Words.{Book, Event}
 use Rattle.book_core.specs.Ledgers.{Seen}
 use Rattle.book_core.specs.Transition.{IsTransition, NoEvent}
 use Rattle.book_core.proofs.TransitionLemmas.{work_as}
@@ -11,10 +11,10 @@ use Rattle.book_http.specs.declared.requested.Requested.{Requested}
 use Rattle.book_http.specs.declared.requested.Requested.TheVariants as requested
 use Rattle.book_http.specs.declared.served.Served.{Served}
 use Rattle.book_http.specs.declared.served.Served.TheVariants as served
-use Rattle.book_http.specs.declared.status.Status.TheVariants.{BadRequest, Unavailable}
-use Rattle.book_http.specs.Answer.{Answers, RefusesRequest, a_head, most_gathered, no_head, no_memory}
+use Rattle.book_http.specs.declared.status.Status.TheVariants.{Unavailable}
+use Rattle.book_http.specs.Answer.{RefusesRequest, most_gathered}
 use Rattle.book_http.specs.Replies.{Reply, refusal, reply_of}
-use Rattle.book_http.specs.Requested.{AreAsking, RequestSeen, headed, headless, request_seen}
+use Rattle.book_http.specs.Requested.{AnswersRequest, AreAsking, request_seen}
 use Rattle.book_http.specs.Served.{IsSent, IsSentAsRead, SendsReplyAsRead, is_unanswered}
 use Rattle.book_http.proofs.ServeLemmas.{bytes_answered}
 use Rattle.book_http.proofs.StreamLemmas.{AnswersSized}
@@ -27,16 +27,9 @@ use Rattle.chargectl.specs.declared.client_requests.Told.TheVariants as tells
 use Rattle.chargectl.specs.ClientRequests.{AsksOpen, EndsBy, EndsUnseen, IsAnsweredFrom, IsReplied}
 use Rattle.chargectl.specs.ClientRequests.{IsServedFrom, SendsOpen, StreamsAnswer, away_reply}
 use Rattle.chargectl.specs.ClientRequests.{is_streamed}
-use Rattle.chargectl.specs.Serving.{Fits, Replies, ServesOne, is_answered}
+use Rattle.chargectl.specs.Serving.{AnswersSome, Fits, Replies, ServesOne, is_answered}
 
 -- ---- what is sent
-
--- an answer was sent as a whole
-as_read : (reply : Reply) (held holds : Option (List ℕ)) (what : Served)
-    → IsSent reply held holds what → IsSentAsRead reply held holds what
-as_read reply held holds (served.Answered status) sent = sent
-as_read reply held holds served.WriteFault sent = sent
-as_read reply held holds what sent = absurd sent
 
 -- long details were answered, and sent while they were read
 pub details_open : (old new : Seen) (details : DetailReport) (size : ℕ)
@@ -134,132 +127,92 @@ sent_fits : (reply : Reply) (held holds : Option (List ℕ)) (what : Served)
 sent_fits reply held holds (served.Answered status) sent = sent.0
 sent_fits reply held holds what sent = tt
 
--- where nothing was done to the books, they were in the way of what the bytes ask
-away_is : (naming : Naming) (bytes : List ℕ) (request : RequestSeen) (was : Bool) (before : Book)
-    (events : List Event) (is : Bool) → AreAsking bytes request → NoEvent was before events is
-    → (due : Reply) × Answers naming bytes due was before events is
-away_is naming bytes request was before events is (headless some never same) none =
-    (refusal BadRequest, no_head some never (record { none = none; replied = refl }))
-away_is naming bytes request was before events is (headed head behind stands due) none =
-    (refusal Unavailable, a_head head behind stands (no_memory (record { none = none; replied = refl })))
+whole_fits : (reply : Reply) (held holds : Option (List ℕ)) (what : Served)
+    → IsSent reply held holds what → Fits what reply
+whole_fits reply held holds (served.Answered status) sent = sent.0
+whole_fits reply held holds what sent = tt
 
 module _ (book : List ℕ) (old new : Shelf) (bytes : List ℕ) (request : Requested)
     (asks : AreAsking bytes (request_seen request)) (held shown holds : Option (List ℕ))
     (what : Served) where
-  -- this is due, and was replied; or the reply says that the books were in the way
-  due_done : (answer : Answer) (reply : Reply)
-      → (reply ≡ reply_of answer) ⊎ (reply.status ≡ Unavailable) → Fits what reply
+  -- a request that was answered answers its bytes
+  some_answers : (so : Served) (due : Reply) (before : Book) (events : List Event) (left is : Bool)
+      → Fits so due → AnswersRequest old.naming (request_seen request) due false before events left
+      → AnswersSome old.naming so false before events is
+  some_answers so due before events left is fits made = record {
+    bytes = bytes;
+    due = due;
+    left = left;
+    made = bytes_answered old.naming bytes (request_seen request) due asks false before events left
+        made;
+    fits = fits;
+  }
+
+  due_answers : (so : Served) (answer : Answer) → Fits so (reply_of answer)
       → IsDoneTo book (AsksOpen old.naming request held shown (tells.Due answer)) old new
-      → IsDoneTo book (Replies old.naming what) old new
-  due_done answer reply told fits done =
+      → IsDoneTo book (AnswersSome old.naming so) old new
+  due_answers so answer fits done =
       done_as book (AsksOpen old.naming request held shown (tells.Due answer))
-      (Replies old.naming what) old new
-      (λ before events is made. record {
-        bytes = bytes;
-        due = reply_of answer;
-        left = is;
-        made = bytes_answered old.naming bytes (request_seen request) (reply_of answer) asks false
-            before events is made;
-        reply = reply;
-        told = told;
-        fits = fits;
-      })
-      done
+      (AnswersSome old.naming so) old new
+      (λ before events is made. some_answers so (reply_of answer) before events is is fits made) done
 
   -- so with details, which were sent while the books were open
-  sent_done : (so : Served)
-      → ((due : Reply) → IsSentAsRead due held shown so
-      → (reply : Reply) × ((reply ≡ due) ⊎ (reply.status ≡ Unavailable)) × Fits what reply)
-      → IsDoneTo book (AsksOpen old.naming request held shown (tells.Sent so)) old new
-      → IsDoneTo book (Replies old.naming what) old new
-  sent_done so told done =
-      done_as book (AsksOpen old.naming request held shown (tells.Sent so))
-      (Replies old.naming what) old new
-      (λ before events is it.
-      let replied = told it.reply it.sent in
-      record {
-        bytes = bytes;
-        due = it.reply;
-        left = it.left;
-        made = bytes_answered old.naming bytes (request_seen request) it.reply asks false before
-            events it.left it.answer;
-        reply = replied.0;
-        told = replied.1;
-        fits = replied.2;
-      })
+  sent_answers : (so sent : Served) → ((due : Reply) → IsSentAsRead due held shown sent → Fits so due)
+      → IsDoneTo book (AsksOpen old.naming request held shown (tells.Sent sent)) old new
+      → IsDoneTo book (AnswersSome old.naming so) old new
+  sent_answers so sent fits done =
+      done_as book (AsksOpen old.naming request held shown (tells.Sent sent))
+      (AnswersSome old.naming so) old new
+      (λ before events is it. some_answers so it.reply before events it.left is
+      (fits it.reply it.sent) it.answer)
       done
 
-  -- it was done, and another reply says that the books were in the way
-  done_away : (told : Told) → Fits what (refusal Unavailable)
-      → IsDoneTo book (AsksOpen old.naming request held shown told) old new
-      → IsDoneTo book (Replies old.naming what) old new
-  done_away (tells.Due answer) fits done =
-      due_done answer (refusal Unavailable) (inr refl) fits done
-  done_away (tells.Sent so) fits done =
-      sent_done so (λ due sent. (refusal Unavailable, inr refl, fits)) done
-
-  -- nothing was done
-  none_away : (reply : Reply) → reply.status ≡ Unavailable → Fits what reply
-      → IsUntouched book old new → IsDoneTo book (Replies old.naming what) old new
-  none_away reply away fits none =
-      done_as book NoEvent (Replies old.naming what) old new
-      (λ before events is nothing.
-      let due = away_is old.naming bytes (request_seen request) false before events is asks nothing
-      in
-      record {
-        bytes = bytes;
-        due = due.0;
-        left = is;
-        made = due.1;
-        reply = reply;
-        told = inr away;
-        fits = fits;
-      })
-      none
+  -- no answer was told
+  untold_answers : (told : Told) → IsDoneTo book (AsksOpen old.naming request held shown told) old new
+      → IsDoneTo book (AnswersSome old.naming served.Cut) old new
+  untold_answers (tells.Due answer) done = due_answers served.Cut answer tt done
+  untold_answers (tells.Sent sent) done = sent_answers served.Cut sent (λ due as_read. tt) done
 
   unseen_fits : (streamed : Bool) → EndsUnseen streamed shown holds what
       → Fits what (refusal Unavailable)
   unseen_fits true ends = subst (λ what. Fits what (refusal Unavailable)) (sym ends.0) tt
-  unseen_fits false ends =
-      sent_fits (refusal Unavailable) shown holds what
-      (as_read (refusal Unavailable) shown holds what ends)
-
-  -- the books were not opened
-  unopened_away : (why : RepositoryFault) → (away_reply why).status ≡ Unavailable
-      → IsSent (away_reply why) shown holds what → IsUntouched book old new
-      → IsDoneTo book (Replies old.naming what) old new
-  unopened_away why away sent none =
-      none_away (away_reply why) away
-      (sent_fits (away_reply why) shown holds what (as_read (away_reply why) shown holds what sent))
-      none
+  unseen_fits false ends = whole_fits (refusal Unavailable) shown holds what ends
 
   pub request_done : (told : Result Told RepositoryFault)
       → IsOpened (AsksOpen old.naming request held shown) book old new told
-      → EndsBy (is_streamed request) told shown holds what
-      → IsDoneTo book (Replies old.naming what) old new
-  request_done (Ok (tells.Due answer)) done ends =
-      due_done answer (reply_of answer) (inl refl)
-      (sent_fits (reply_of answer) shown holds what
-      (as_read (reply_of answer) shown holds what ends))
-      done
-  request_done (Ok (tells.Sent so)) done ends =
-      sent_done so
-      (λ due sent. (
-        due,
-        inl refl,
-        subst (λ what. Fits what due) (sym ends.0) (sent_fits due held shown so sent),
-      ))
-      done
-  request_done (Err shelf.Unseen) (refused, inl seen) ends =
-      done_away seen.0 (unseen_fits (is_streamed request) ends) seen.1
-  request_done (Err shelf.Unseen) (refused, inr none) ends =
-      none_away (refusal Unavailable) refl (unseen_fits (is_streamed request) ends) none
-  request_done (Err why) (refused, none) ends = unopened_away why refl ends none
+      → EndsBy (is_streamed request) told shown holds what → Replies book what old new
+  request_done (Ok (tells.Due answer)) done ends = record {
+    came = Ok what;
+    done = due_answers what answer (whole_fits (reply_of answer) shown holds what ends) done;
+    told = refl;
+  }
+  request_done (Ok (tells.Sent sent)) done ends = record {
+    came = Ok what;
+    done = sent_answers what sent
+        (λ due as_read. subst (λ what. Fits what due) (sym ends.0)
+        (sent_fits due held shown sent as_read)) done;
+    told = refl;
+  }
+  request_done (Err shelf.Unseen) (refused, inl seen) ends = record {
+    came = Err shelf.Unseen;
+    done = (refused, inl (served.Cut, untold_answers seen.0 seen.1));
+    told = unseen_fits (is_streamed request) ends;
+  }
+  request_done (Err shelf.Unseen) (refused, inr none) ends = record {
+    came = Err shelf.Unseen;
+    done = (refused, inr none);
+    told = unseen_fits (is_streamed request) ends;
+  }
+  request_done (Err why) (refused, none) ends = record {
+    came = Err why;
+    done = (refused, none);
+    told = whole_fits (away_reply why) shown holds what ends;
+  }
 
 replied_done : {S : Type 0} (seen : S → Shelf) (old new : S) (book taken : List ℕ) (ended : Bool)
     (held holds : Option (List ℕ)) (what : Served)
     → IsReplied book (seen old) (seen new) taken ended held holds what
-    → IsDoneTo book (Replies (seen old).naming what) (seen old) (seen new)
+    → Replies book what (seen old) (seen new)
 replied_done seen old new book taken ended held holds what it =
     request_done book (seen old) (seen new) (taken ++ []) it.request (it.asks [] (λ _. refl)) held
     it.answered.shown holds what it.answered.told it.answered.done it.answered.ends
@@ -269,7 +222,7 @@ pub served_one : {S : Type 0} (seen : S → Shelf) (old new : S) (book taken : L
     (held holds : Option (List ℕ)) (what : Served)
     → IsServedFrom seen old new book ended held holds what taken
     → (is_unanswered what ≡ true → new ≡ old)
-    → IsDoneTo book (ServesOne (seen old).naming what) (seen old) (seen new)
+    → ServesOne book what (seen old) (seen new)
 served_one seen old new book taken ended held holds served.Closed it none =
     subst (λ place. IsUntouched book (seen old) (seen place)) (sym (none refl))
     (untouched book (seen old))

@@ -45,7 +45,7 @@ use Rattle.chargectl.specs.CommandLaws.{AreCommanded, AskedBy, AsksOfHistory, Co
 use Rattle.chargectl.specs.CommandLaws.{ChoicesFollow, CommandsFollowHistory, DoesToHistory, Follows}
 use Rattle.chargectl.specs.CommandLaws.{IsListed, LeaveHistory, ListBy, ListOfHistory, ListsHistoryBy}
 use Rattle.chargectl.specs.CommandLaws.{ListsAskedOfHistory, ListsOfHistory, OpenedSo, RunsOn}
-use Rattle.chargectl.specs.CommandLaws.{ServesOfHistory}
+use Rattle.chargectl.specs.CommandLaws.{ServesEach, ServesOfHistory}
 use Rattle.chargectl.specs.CommandLaws.{TriedBy, TriesOfHistory, place_after}
 use Rattle.chargectl.specs.DryRuns.{ComesOfDryRun, ShowsDry, TriesAndTells, TriesOnceBy}
 use Rattle.chargectl.specs.Requests.{Does, DoesOrRefuses, ServesBy, SettlesBy}
@@ -53,9 +53,8 @@ use Rattle.chargectl.specs.Faults.{settled_as}
 use Rattle.chargectl.specs.StreamedLists.{ListsAsked, ListsBy, WritesSomeOf, details_by, disputes_by}
 use Rattle.chargectl.specs.StreamedLists.{list_answer, listing_answered}
 use Rattle.chargectl.specs.Upgrades.{UpgradesBy}
-use Rattle.chargectl.specs.Serving.{ServesSome}
 use Rattle.chargectl.proofs.CommandLemmas.{either_as, nothing_as, shelf_as}
-use Rattle.chargectl.proofs.ServingLemmas.{some_answered}
+use Rattle.chargectl.proofs.ServingLemmas.{each_answered, turn_done}
 
 by_test : {P : Type 0} (is : Bool) → (is ≡ true → P) → (P → is ≡ true) → P ⊎ (P → ⊥)
 by_test true same back = inl (same refl)
@@ -254,8 +253,9 @@ module _ (naming : Naming) (history : List Event) (name : List ℕ) (old new : S
 none_served : (naming : Naming) (history made : List Event) → made ≡ []
     → ServesOfHistory naming history made
 none_served naming history made is = record {
+  told = [];
   is = false;
-  made_so = record { told = []; made = record { none = is; same = refl } };
+  made_so = record { none = is; same = refl };
 }
 
 module _ (history : List Event) (name : List ℕ) (old new : Shelf)
@@ -485,55 +485,86 @@ module _ (history : List Event) (name : List ℕ) (old new : Shelf)
           step_as (λ made is. (λ _. nothing book (asks.Rule ruling) why comes.0, is))
           (none_on old.naming history name old new answered held book comes.1)
 
+  upgrades_on : (book : List ℕ) (has holds : Option (List ℕ)) (came : Result Ended CommandFault)
+      → UpgradesBy book old new has holds came
+      → Step old.naming history name old new (Where book name (λ made. made ≡ []))
+  upgrades_on book has holds (Ok ended) it = still_on book book it.done
+  upgrades_on book has holds (Err why) it = still_on book book it.1
+
+  audits_on : (book : List ℕ) (has holds : Option (List ℕ)) (came : Result Ended CommandFault)
+      → AuditsBooks book old new has holds came
+      → Step old.naming history name old new (Where book name (λ made. made ≡ []))
+  audits_on book has holds (Ok ended) it = still_on book book it.done.0
+  audits_on book has holds (Err why) it = still_on book book it.1
+
+  backs_up_on : (book copy : List ℕ) (has holds : Option (List ℕ))
+      (came : Result Ended CommandFault) → BacksUp book copy old new has holds came
+      → Step old.naming history name old new (Where book name (λ made. made ≡ []))
+  backs_up_on book copy has holds (Ok ended) it = still_on book copy it.done.kept
+  backs_up_on book copy has holds (Err why) it = still_on book book it.1
+
+-- from one place to another
+module _ {S : Type 0} (shelf : S → Shelf) (history : List Event) (name : List ℕ) (before after : S)
+    (answered : IsMadeByCalls (shelf before).naming history) (held : (shelf before).holds name history)
+    (Refuses : List ℕ → RepositoryFault → Type 0)
+    (follow : (book : List ℕ) (fault : RepositoryFault) → (shelf before).refuses book fault
+    → Refuses book fault) where
+  -- connections in turn, or none
+  serves_on : (book : List ℕ) (requests : ℕ) (has holds : Option (List ℕ))
+      (came : Result Ended CommandFault) → ServesBy shelf requests book before after has holds came
+      → Step (shelf before).naming history name (shelf before) (shelf after)
+      (Where book name (ServesOfHistory (shelf before).naming history))
+  serves_on book requests has holds (Ok ended) it =
+      step_as (λ made so. (
+        λ same.
+            let made_it = so.0 same in
+            record { told = it.told; is = made_it.is; made_so = made_it.made_so },
+        so.1,
+      ))
+      (work_on (shelf before).naming history name (shelf before) (shelf after) answered held book
+      (ServesEach (shelf before).naming it.told) (each_answered (shelf before).naming it.told)
+      (turn_done shelf book before after it.told it.turn))
+  serves_on book requests has holds (Err why) it =
+      step_as (λ made is. (λ _. none_served (shelf before).naming history made is, λ _. is))
+      (none_on (shelf before).naming history name (shelf before) (shelf after) answered held book it.1)
+
   does_on : (book : List ℕ) (request : BookRequest) (has holds : Option (List ℕ)) (ended : Ended)
-      → Does request book old new has holds ended
-      → Step old.naming history name old new
-      (Where book name (DoesToHistory old.naming history (Refuses book) request has holds ended))
-  does_on book asks.Init has holds ended does = still_on book book does.done.kept
-  does_on book asks.Upgrade has holds ended does = by_came does.came does.does
-    where
-      by_came : (came : Result Ended CommandFault) → UpgradesBy book old new has holds came
-          → Step old.naming history name old new (Where book name (λ made. made ≡ []))
-      by_came (Ok ended) it = still_on book book it.done
-      by_came (Err why) it = still_on book book it.1
-  does_on book (asks.Audit quiet) has holds ended does = by_came does.came does.does
-    where
-      by_came : (came : Result Ended CommandFault) → AuditsBooks book old new has holds came
-          → Step old.naming history name old new (Where book name (λ made. made ≡ []))
-      by_came (Ok ended) it = still_on book book it.done.0
-      by_came (Err why) it = still_on book book it.1
-  does_on book (asks.BackUp copy quiet) has holds ended does = by_came does.came does.does
-    where
-      by_came : (came : Result Ended CommandFault) → BacksUp book copy.now old new has holds came
-          → Step old.naming history name old new (Where book name (λ made. made ≡ []))
-      by_came (Ok ended) it = still_on book copy.now it.done.kept
-      by_came (Err why) it = still_on book book it.1
-  does_on book (asks.Serve port requests) has holds ended does = by_came does.came does.does
-    where
-      by_came : (came : Result Ended CommandFault) → ServesBy requests book old new has holds came
-          → Step old.naming history name old new
-          (Where book name (ServesOfHistory old.naming history))
-      by_came (Ok ended) it =
-          step_as (λ made so. (
-            λ same.
-                let made_it = so.0 same in
-                record { is = made_it.is; made_so = made_it.made_so },
-            so.1,
-          ))
-          (work_on old.naming history name old new answered held book (ServesSome old.naming)
-          (some_answered old.naming) it.some)
-      by_came (Err why) it =
-          step_as (λ made is. (λ _. none_served old.naming history made is, λ _. is))
-          (none_on old.naming history name old new answered held book it.1)
+      → Does shelf request book before after has holds ended
+      → Step (shelf before).naming history name (shelf before) (shelf after)
+      (Where book name
+      (DoesToHistory (shelf before).naming history (Refuses book) request has holds ended))
+  does_on book asks.Init has holds ended does =
+      still_on history name (shelf before) (shelf after) answered held Refuses follow book book
+      does.done.kept
+  does_on book asks.Upgrade has holds ended does =
+      upgrades_on history name (shelf before) (shelf after) answered held Refuses follow book has holds
+      does.came does.does
+  does_on book (asks.Audit quiet) has holds ended does =
+      audits_on history name (shelf before) (shelf after) answered held Refuses follow book has holds
+      does.came does.does
+  does_on book (asks.BackUp copy quiet) has holds ended does =
+      backs_up_on history name (shelf before) (shelf after) answered held Refuses follow book copy.now has
+      holds does.came does.does
+  does_on book (asks.Serve port requests) has holds ended does =
+      serves_on book requests has holds does.came does.does
   does_on book (asks.Details csv period centre) has holds ended does =
-      list_asked (details_by csv period centre) book has holds ended does
+      list_asked history name (shelf before) (shelf after) answered held Refuses follow
+      (details_by csv period centre) book has holds ended does
   does_on book asks.Rulings has holds ended does =
-      list_written list.Rulings book has holds ended does
+      list_written history name (shelf before) (shelf after) answered held Refuses follow list.Rulings book
+      has holds ended does
   does_on book (asks.Disputes csv) has holds ended does =
-      list_written (disputes_by csv) book has holds ended does
-  does_on book (asks.ChooseListed file) has holds ended does = list_on book has holds ended does
-  does_on book (asks.DryRun ruling) has holds ended does = tries_on book ruling has holds ended does
-  does_on book request has holds ended does = asks_on book request has holds ended does
+      list_written history name (shelf before) (shelf after) answered held Refuses follow (disputes_by csv)
+      book has holds ended does
+  does_on book (asks.ChooseListed file) has holds ended does =
+      list_on history name (shelf before) (shelf after) answered held Refuses follow book has holds ended
+      does
+  does_on book (asks.DryRun ruling) has holds ended does =
+      tries_on history name (shelf before) (shelf after) answered held Refuses follow book ruling has holds
+      ended does
+  does_on book request has holds ended does =
+      asks_on history name (shelf before) (shelf after) answered held Refuses follow book request has holds
+      ended does
 
 -- the place of the books is as it was
 same_place : {S : Type 0} (shelf : S → Shelf) (history : List Event) (name : List ℕ) (old new : S)
@@ -559,9 +590,8 @@ runs_on shelf waits history name old new answered held (Ok (request.OfBooks book
     let it = done.1 in
     let same = it.same.naming in
     let calls = subst (λ naming. IsMadeByCalls naming history) (sym same) answered in
-    let step = does_on history name (shelf it.waiting) (shelf new) calls
-    (it.same.holds name history held) (shelf old).refuses it.same.refuses book.now asked has holds
-    done.0 it.does in
+    let step = does_on shelf history name it.waiting new calls (it.same.holds name history held)
+    (shelf old).refuses it.same.refuses book.now asked has holds done.0 it.does in
     step_as (λ made so. record { ended = done.0; ends = done.2; here = so.0; elsewhere = so.1 })
     (subst (λ naming. Step naming history name (shelf old) (shelf new)
     (Where book.now name

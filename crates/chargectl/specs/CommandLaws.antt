@@ -7,7 +7,10 @@ use Rattle.std.specs.declared.alloc.AllocError.{AllocError}
 use Rattle.streams.specs.InputOutput.{Input}
 use Rattle.tariff_rules.specs.Limits.{most_rate}
 use Rattle.book_model.specs.declared.fault.LedgerFault.{LedgerFault}
-use Rattle.book_model.specs.Words.{Event, IsMadeByCalls, Naming, book_after, book_of}
+use Rattle.book_model.specs.Words.{Book, Event, IsMadeByCalls, Naming, book_after, book_of}
+use Rattle.book_core.specs.Transition.{Transition, NoEvent, Then}
+use Rattle.book_http.specs.declared.served.Served.{Served}
+use Rattle.book_http.specs.declared.served.Served.TheVariants as served
 use Rattle.book_reports.specs.declared.fault.ReportFault.{ReportFault}
 use Rattle.book_reports.specs.StreamedAnswers.{WritesOrRefuses}
 use Rattle.office.specs.declared.choosing.Chosen.{Chosen}
@@ -17,7 +20,7 @@ use Rattle.office.specs.declared.request.Asked.{Asked}
 use Rattle.office.specs.Choices.{are_hindered, choices_outcome}
 use Rattle.office.specs.Outcomes.{asked_outcome, is_hindered}
 use Rattle.office.specs.Requests.{Dump, Gives, response_by}
-use Rattle.named_books.specs.Shelves.{Shelf, WhereUnopened}
+use Rattle.named_books.specs.Shelves.{Shelf, OpenedAnew, WhereUnopened}
 use Rattle.command_line.specs.declared.request.BookRequest.{BookRequest}
 use Rattle.command_line.specs.declared.request.BookRequest.TheVariants as book
 use Rattle.command_line.specs.declared.request.Request.{Request}
@@ -42,7 +45,7 @@ use Rattle.chargectl.specs.DryRuns.{ShowsDry}
 use Rattle.chargectl.specs.Faults.{settled_as, status_by}
 use Rattle.chargectl.specs.Requests.{CommandsBy}
 use Rattle.chargectl.specs.StreamedLists.{WritesSomeOf, details_by, disputes_by, list_answer, list_end}
-use Rattle.chargectl.specs.Serving.{ServesSome}
+use Rattle.chargectl.specs.Serving.{AnswersSome, IsToldOf}
 
 -- a command: its words, its input, its output and standard error before and after it, its status, and
 -- the place of the books after it
@@ -180,10 +183,30 @@ pub record ListOfHistory (naming : Naming) (history : List Event)
   pub listed : ListBy naming history Refuses came made
   pub tells : TellsList came held holds ended
 
--- Connections made these events of the books of a history.
+-- One client was replied to, and these events were made; or the place refused the books, for any reason.
+pub record AnswersOrNot (naming : Naming) (what : Served) (was : Bool) (before : Book)
+    (events : List Event) (is : Bool) : Type 0 where
+  pub came : Result Served RepositoryFault
+  pub made : OpenedSo (λ why. Unit {0}) (λ so made. AnswersSome naming so was before made is) came
+      events
+  pub told : IsToldOf came what
+
+abbrev pub ServesAny : Naming → Served → Transition
+ServesAny naming served.Closed = NoEvent
+ServesAny naming served.ReadFault = NoEvent
+ServesAny naming what = AnswersOrNot naming what
+
+-- connections in turn, the newest first; the books are opened anew for each
+abbrev pub ServesEach : Naming → List Served → Transition
+ServesEach naming [] = NoEvent
+ServesEach naming (what ∷ before) =
+    Then (ServesEach naming before) (OpenedAnew (ServesAny naming what))
+
+-- connections made these events of the books of a history
 pub record ServesOfHistory (naming : Naming) (history made : List Event) : Type 0 where
+  pub told : List Served
   pub is : Bool
-  pub made_so : ServesSome naming false (book_after history) made is
+  pub made_so : ServesEach naming told false (book_after history) made is
 
 -- This text was written, whole or up to a fault, or refused. Where the place refused the books none
 -- was; where it was not seen that their closed files hold them, it may be the list of other books.

@@ -1,12 +1,13 @@
 -- What the program does: for each request, and for words that are none.
-use Rattle.std.specs.Prelude.{◌≡◌, ◌⊎◌, Bool, true, ℕ, List, [], ◌∷◌, Option, None, Result, Ok, Err}
-use Rattle.std.specs.Prelude.{IfErr, IfOk, String, string_bytes}
+use Rattle.std.specs.Prelude.{◌≡◌, ◌⊎◌, Bool, true, ℕ, List, [], ◌∷◌, ◌++◌, length, Option, None}
+use Rattle.std.specs.Prelude.{IfErr, IfOk, Result, Ok, Err, String, string_bytes}
 use Rattle.std.specs.Global.{Global}
 use Rattle.std.specs.Io.KnownBytes.{Appends}
 use Rattle.tariff_rules.specs.Limits.{most_rate}
 use Rattle.book_model.specs.declared.fault.LedgerFault.TheVariants as ledger
+use Rattle.book_http.specs.declared.served.Served.{Served}
 use Rattle.named_books.specs.declared.repository.RepositoryFault.{RepositoryFault}
-use Rattle.named_books.specs.Shelves.{Shelf, IsDoneTo, IsMade, IsSameShelf}
+use Rattle.named_books.specs.Shelves.{Shelf, IsMade, IsSameShelf}
 use Rattle.command_line.specs.declared.request.BookRequest.{BookRequest}
 use Rattle.command_line.specs.declared.request.BookRequest.TheVariants as book
 use Rattle.command_line.specs.declared.request.Request.{Request}
@@ -30,8 +31,8 @@ use Rattle.chargectl.specs.Reading.{Checks, TellsOf, TriesAt, TriesUnder, kind_o
 use Rattle.chargectl.specs.declared.streamed_lists.StreamedList.TheVariants as list
 use Rattle.chargectl.specs.StreamedLists.{ListsAsked, ListsBy, details_by, disputes_by}
 use Rattle.chargectl.specs.Upgrades.{UpgradesBy}
-use Rattle.chargectl.specs.ServedLines.{unfailed}
-use Rattle.chargectl.specs.Serving.{IsServing, ServesSome, ready, service_end}
+use Rattle.chargectl.specs.ServedLines.{Gains, unfailed}
+use Rattle.chargectl.specs.Serving.{ServesInTurn, lines_of, ready, service_end}
 
 -- new books were made, or not, and nothing was written
 pub record Makes (book : List ℕ) (old new : Shelf) (held holds : Option (List ℕ)) (ended : Ended)
@@ -46,27 +47,29 @@ pub record Makes (book : List ℕ) (old new : Shelf) (held holds : Option (List 
 abbrev pub IsServiceFault : (RepositoryFault → Type 0) → CommandFault → Type 0
 IsServiceFault Refuses why = IsShelfFault Refuses why ⊎ IsFileFault why
 
--- What a service came to: some connections were answered; and all, with their lines, unless one did not
--- come or the books were in the way. A write of a line that failed is told at the end, and ends nothing
--- before. And whether a log is left.
-pub record Serves (Refuses : RepositoryFault → Type 0) (requests : ℕ) (book : List ℕ)
-    (old new : Shelf) (held holds : Option (List ℕ)) (ended : Ended) : Type 0 where
+-- What a service came to: these connections were answered; and all that were due, with their lines, unless
+-- one did not come or the books were in the way. A write of a line that failed is told at the end, and
+-- ends nothing before. And whether a log is left.
+pub record Serves {S : Type 0} (shelf : S → Shelf) (Refuses : RepositoryFault → Type 0) (requests : ℕ)
+    (book : List ℕ) (old new : S) (held holds : Option (List ℕ)) (ended : Ended) : Type 0 where
+  pub told : List Served
+  pub turn : ServesInTurn shelf book old new told
   pub served : Result Bool CommandFault
-  pub some : IsDoneTo book (ServesSome old.naming) old new
-  pub all : IfOk served (λ failed. IsServing ready requests 0 book old new (unfailed held)
-      (record { holds = holds; has_failed = failed }))
+  pub all : IfOk served (λ failed. (length told ≡ requests) × Gains (unfailed held)
+      (record { holds = holds; has_failed = failed }) (ready ++ lines_of told))
   pub cause : IfErr served (IsServiceFault Refuses)
   pub ends : ended.came ≡ service_end served
-  pub log : new.has_log book ended.has_log
+  pub log : (shelf new).has_log book ended.has_log
   pub change : ended.is_change ≡ true
   pub notice : ended.notice ≡ None
 
 -- or the place refused them before
-abbrev pub ServesBy : ℕ → List ℕ → Shelf → Shelf → Option (List ℕ) → Option (List ℕ)
-    → Result Ended CommandFault → Type 0
-ServesBy requests book old new held holds (Ok ended) =
-    Serves (old.refuses book) requests book old new held holds ended
-ServesBy requests book old new held holds (Err why) = IsRefusedBy book old new held holds why
+abbrev pub ServesBy : {S : Type 0} → (S → Shelf) → ℕ → List ℕ → S → S → Option (List ℕ)
+    → Option (List ℕ) → Result Ended CommandFault → Type 0
+ServesBy shelf requests book old new held holds (Ok ended) =
+    Serves shelf ((shelf old).refuses book) requests book old new held holds ended
+ServesBy shelf requests book old new held holds (Err why) =
+    IsRefusedBy book (shelf old) (shelf new) held holds why
 
 -- a command that may have found a fault before it opened any books
 pub record SettlesBy (Does : Result Ended CommandFault → Type 0) (ended : Ended) : Type 0 where
@@ -75,28 +78,30 @@ pub record SettlesBy (Does : Result Ended CommandFault → Type 0) (ended : Ende
   pub ends : ended ≡ settled_as came
 
 -- Each command on books.
-abbrev pub Does : BookRequest → List ℕ → Shelf → Shelf → Option (List ℕ) → Option (List ℕ) → Ended
-    → Type 0
-Does book.Init name old new held holds ended = Makes name old new held holds ended
-Does book.Upgrade name old new held holds ended =
-    SettlesBy (UpgradesBy name old new held holds) ended
-Does (book.Audit quiet) name old new held holds ended =
-    SettlesBy (AuditsBooks name old new held holds) ended
-Does (book.BackUp copy quiet) name old new held holds ended =
-    SettlesBy (BacksUp name copy.now old new held holds) ended
-Does (book.Serve port requests) name old new held holds ended =
-    SettlesBy (ServesBy requests name old new held holds) ended
-Does (book.Details csv period centre) name old new held holds ended =
-    SettlesBy (ListsAsked (details_by csv period centre) name old new held holds) ended
-Does book.Rulings name old new held holds ended =
-    SettlesBy (ListsBy list.Rulings name old new held holds) ended
-Does (book.Disputes csv) name old new held holds ended =
-    SettlesBy (ListsBy (disputes_by csv) name old new held holds) ended
-Does (book.ChooseListed file) name old new held holds ended =
-    ChoosesListed name old new held holds ended
-Does (book.DryRun ruling) name old new held holds ended =
-    TriesAndTells ruling name old new held holds ended
-Does asked name old new held holds ended = AsksAndTells asked name old new held holds ended
+abbrev pub Does : {S : Type 0} → (S → Shelf) → BookRequest → List ℕ → S → S → Option (List ℕ)
+    → Option (List ℕ) → Ended → Type 0
+Does shelf book.Init name old new held holds ended =
+    Makes name (shelf old) (shelf new) held holds ended
+Does shelf book.Upgrade name old new held holds ended =
+    SettlesBy (UpgradesBy name (shelf old) (shelf new) held holds) ended
+Does shelf (book.Audit quiet) name old new held holds ended =
+    SettlesBy (AuditsBooks name (shelf old) (shelf new) held holds) ended
+Does shelf (book.BackUp copy quiet) name old new held holds ended =
+    SettlesBy (BacksUp name copy.now (shelf old) (shelf new) held holds) ended
+Does shelf (book.Serve port requests) name old new held holds ended =
+    SettlesBy (ServesBy shelf requests name old new held holds) ended
+Does shelf (book.Details csv period centre) name old new held holds ended =
+    SettlesBy (ListsAsked (details_by csv period centre) name (shelf old) (shelf new) held holds) ended
+Does shelf book.Rulings name old new held holds ended =
+    SettlesBy (ListsBy list.Rulings name (shelf old) (shelf new) held holds) ended
+Does shelf (book.Disputes csv) name old new held holds ended =
+    SettlesBy (ListsBy (disputes_by csv) name (shelf old) (shelf new) held holds) ended
+Does shelf (book.ChooseListed file) name old new held holds ended =
+    ChoosesListed name (shelf old) (shelf new) held holds ended
+Does shelf (book.DryRun ruling) name old new held holds ended =
+    TriesAndTells ruling name (shelf old) (shelf new) held holds ended
+Does shelf asked name old new held holds ended =
+    AsksAndTells asked name (shelf old) (shelf new) held holds ended
 
 -- a command that opens no books and reads no dump
 pub record EndsAt (Does : Result (Unit {0}) CommandFault → Type 0) (ended : Ended) : Type 0 where
@@ -121,7 +126,7 @@ pub record WaitsAndDoes {S : Type 0} (shelf : S → Shelf) (waits : S → ℕ �
   pub waiting : S
   pub set : waits waiting seconds
   pub same : IsSameShelf (shelf old) (shelf waiting)
-  pub does : Does asked name (shelf waiting) (shelf new) held holds ended
+  pub does : Does shelf asked name waiting new held holds ended
 
 -- The table of the commands.
 abbrev pub Runs : {S : Type 0} → (S → Shelf) → (S → ℕ → Type 0) → S → S → Request

@@ -1,6 +1,6 @@
 -- How connections are served: each in turn, with one line for each. A line that can't be written is
 -- lost, and so are those after it; the connections are served all the same.
-use Rattle.std.specs.Prelude.{◌≡◌, ◌⊎◌, ◌+◌, Bool, true, false, ℕ, List, [], ◌∷◌, ◌++◌, codes, length}
+use Rattle.std.specs.Prelude.{◌≡◌, ◌+◌, Bool, true, false, ℕ, List, [], ◌∷◌, ◌++◌, codes, length}
 use Rattle.std.specs.Prelude.{Result, Ok, Err}
 use Rattle.std.specs.declared.io.Error.{Error}
 use Rattle.std.specs.Fmt.{decimal}
@@ -9,19 +9,18 @@ use Rattle.std.specs.Net.Addr.{IsLoopbackV4, MatchIp}
 use Rattle.std.specs.Net.Socket.{socket_ip}
 use Rattle.std.specs.declared.net.socket_addr.SocketAddr.{SocketAddr}
 use Rattle.book_model.specs.Words.{Book, Event, Naming}
-use Rattle.book_core.specs.Transition.{Transition, NoEvent, Then}
 use Rattle.book_http.specs.declared.served.Served.{Served}
 use Rattle.book_http.specs.declared.served.Served.TheVariants as served
-use Rattle.book_http.specs.declared.status.Status.TheVariants.{Unavailable}
 use Rattle.book_http.specs.Answer.{Answers}
 use Rattle.book_http.specs.Replies.{Reply}
 use Rattle.book_http.specs.Statuses.{status_code}
 use Rattle.book_reports.specs.declared.fault.ReportFault.TheVariants.{Write}
-use Rattle.named_books.specs.Shelves.{Shelf, IsDoneTo, OpenedAnew}
+use Rattle.named_books.specs.declared.repository.RepositoryFault.{RepositoryFault}
+use Rattle.named_books.specs.Shelves.{Shelf, IsOpened, IsUntouched}
 use Rattle.chargectl.specs.declared.client_requests.Attended.{Attended}
 use Rattle.chargectl.specs.declared.command_fault.CommandFault.{CommandFault}
 use Rattle.chargectl.specs.declared.command_fault.CommandFault.TheVariants as fault
-use Rattle.chargectl.specs.ClientRequests.{LeavesLog}
+use Rattle.chargectl.specs.ClientRequests.{LeavesLog, away_reply}
 use Rattle.chargectl.specs.ServedLines.{Gains}
 
 -- an address of this machine alone
@@ -33,41 +32,45 @@ abbrev pub Fits : Served → Reply → Type 0
 Fits (served.Answered status) reply = status ≡ status_code reply.status
 Fits what reply = Unit {0}
 
--- Some bytes came, and the books did what they ask, to which this is due. That was the reply; or the
--- books were in the way, and the reply says so.
-pub record Replies (naming : Naming) (what : Served) (was : Bool) (before : Book)
+-- some bytes came, the books did what they ask, and what is due to that fits what is told
+pub record AnswersSome (naming : Naming) (what : Served) (was : Bool) (before : Book)
     (events : List Event) (is : Bool) : Type 0 where
   pub bytes : List ℕ
   pub due : Reply
   pub left : Bool
   pub made : Answers naming bytes due was before events left
-  pub reply : Reply
-  pub told : (reply ≡ due) ⊎ (reply.status ≡ Unavailable)
-  pub fits : Fits what reply
+  pub fits : Fits what due
 
--- What one connection does to the books, by what became of it.
-abbrev pub ServesOne : Naming → Served → Transition
-ServesOne naming served.Closed = NoEvent
-ServesOne naming served.ReadFault = NoEvent
-ServesOne naming what = Replies naming what
+-- what is told of a client that was answered so, or where the place refused the books, as the reply says
+abbrev pub IsToldOf : Result Served RepositoryFault → Served → Type 0
+IsToldOf (Ok so) what = what ≡ so
+IsToldOf (Err why) what = Fits what (away_reply why)
 
--- what one client did to the books of a name, and whether it left a log beside them
+-- One client was replied to: what its bytes ask was done to the books of a name; or their place, as it
+-- was before, refused them.
+pub record Replies (book : List ℕ) (what : Served) (old new : Shelf) : Type 0 where
+  pub came : Result Served RepositoryFault
+  pub done : IsOpened (AnswersSome old.naming) book old new came
+  pub told : IsToldOf came what
+
+-- What one connection does to the books of a name, by what became of it.
+abbrev pub ServesOne : List ℕ → Served → Shelf → Shelf → Type 0
+ServesOne book served.Closed old new = IsUntouched book old new
+ServesOne book served.ReadFault old new = IsUntouched book old new
+ServesOne book what old new = Replies book what old new
+
+-- so it is with one client; and whether it left a log beside the books
 pub record Attends {S : Type 0} (shelf : S → Shelf) (book : List ℕ) (old new : S)
     (attended : Attended) : Type 0 where
-  pub done : IsDoneTo book (ServesOne (shelf old).naming attended.served) (shelf old) (shelf new)
+  pub done : ServesOne book attended.served (shelf old) (shelf new)
   pub log : LeavesLog shelf book old new attended.log
 
--- connections in turn, the newest first; the books are opened anew for each
-abbrev pub ServesEach : Naming → List Served → Transition
-ServesEach naming [] = NoEvent
-ServesEach naming (what ∷ before) =
-    Then (ServesEach naming before) (OpenedAnew (ServesOne naming what))
-
--- some connections in turn
-pub record ServesSome (naming : Naming) (was : Bool) (before : Book) (events : List Event) (is : Bool)
-    : Type 0 where
-  pub told : List Served
-  pub made : ServesEach naming told was before events is
+-- Connections in turn, the newest first: each found the books where the one before it left them.
+abbrev pub ServesInTurn : {S : Type 0} → (S → Shelf) → List ℕ → S → S → List Served → Type 0
+ServesInTurn shelf book old new [] = IsUntouched book (shelf old) (shelf new)
+ServesInTurn {S} shelf book old new (what ∷ before) =
+    (between : S) × ServesInTurn shelf book old between before
+    × ServesOne book what (shelf between) (shelf new)
 
 abbrev pub is_answered : Served → Bool
 is_answered (served.Answered status) = true
@@ -91,13 +94,13 @@ abbrev pub ready : List ℕ
 ready = codes "READY\n"
 
 -- So many connections were due, and so many are left. The others were served one after the other, whatever
--- is known of the books, and each has its line after this text, up to a write that failed, if one did.
-pub record IsServing (first : List ℕ) (due left : ℕ) (book : List ℕ) (old new : Shelf)
+-- is known of the books, and each has its line, up to a write that failed, if one did.
+pub record IsServing {S : Type 0} (shelf : S → Shelf) (due left : ℕ) (book : List ℕ) (old new : S)
     (held holds : WriterSeen) : Type 0 where
   pub told : List Served
-  pub work : IsDoneTo book (ServesEach old.naming told) old new
+  pub turn : ServesInTurn shelf book old new told
   pub count : left + length told ≡ due
-  pub lines : Gains held holds (first ++ lines_of told)
+  pub lines : Gains held holds (lines_of told)
 
 -- one that did not come is among those that are left
 abbrev pub left_by : Result (Unit {0}) Error → ℕ → ℕ

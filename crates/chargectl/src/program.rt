@@ -122,7 +122,7 @@ fn run_on_books<S: AuditedRepository, O: Write + Drop>(
     asked: BookRequest<'_>,
     mut output: O,
 ) -> (Ended, O)
-    ensures { Does asked.entry book.now (S.shelf repository.old) (S.shelf repository.new)
+    ensures { Does S.shelf asked.entry book.now repository.old repository.new
         (O.contents output) (O.contents result.1) result.0 }
 {
     match asked {

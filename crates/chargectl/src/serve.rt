@@ -1,6 +1,6 @@
 //! Serves the books over HTTP, to this machine only.
 
-ghost use Rattle.std.specs.Prelude.{◌≡◌, ◌++◌, [], codes, decimal, IfErr};
+ghost use Rattle.std.specs.Prelude.{◌≡◌, ◌++◌, codes, decimal, IfErr};
 ghost use Rattle.std.specs.Prelude.{Err, None, Ok, OnOk, true};
 ghost use Rattle.chargectl.specs.Requests.{IsServiceFault, Serves, ServesBy};
 ghost use Rattle.chargectl.specs.ServedLines.{Gains, seen_of};
@@ -34,7 +34,7 @@ pub(crate) fn serve<S: Repository, O: Write + Drop>(
     requests: u32,
     output: O,
 ) -> (Result<Ended, CommandFault>, O)
-    ensures { ServesBy requests book.now (S.shelf repository.old) (S.shelf repository.new)
+    ensures { ServesBy S.shelf requests book.now repository.old repository.new
         (O.contents output) (O.contents result.1) result.0 }
 {
     if let Err(fault) = repository.expect(book) {
@@ -105,7 +105,7 @@ fn serve_here<S: Repository, O: Write + Drop>(
     requires { (S.shelf repository.old).has_log book.now has_log }
 
     // The books are not in the way any more.
-    ensures { Serves (λ _. ⊥) requests book.now (S.shelf repository.old) (S.shelf repository.new)
+    ensures { Serves S.shelf (λ _. ⊥) requests book.now repository.old repository.new
         (O.contents output) (O.contents result.1) result.0 }
 {
     let mut port = Port::over(rt, listener, requests);
@@ -136,9 +136,8 @@ pub fn serve_each<C: Connections, S: Repository, O: Write + Drop>(
     lines: &mut ServedLines<O>,
 ) -> (io::Result<()>, bool)
     requires { (S.shelf repository.old).has_log book.now has_log }
-    ensures served { IsServing [] (C.left connections.old)
-        (left_by result.0 (C.left connections.new)) book.now
-        (S.shelf repository.old) (S.shelf repository.new)
+    ensures served { IsServing S.shelf (C.left connections.old)
+        (left_by result.0 (C.left connections.new)) book.now repository.old repository.new
         (seen_of O.contents lines.old) (seen_of O.contents lines.new) }
     ensures all { OnOk result.0 (C.left connections.new ≡ 0) }
     ensures log { (S.shelf repository.new).has_log book.now result.1 }

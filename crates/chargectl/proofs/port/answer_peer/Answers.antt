@@ -5,7 +5,7 @@ use Rattle.chargectl.proofs.port.answer_peer.Goals as goal
 
 pub returns-in-Answered-clause-served : goal.returns-in-Answered-clause-served
 returns-in-Answered-clause-served g c =
-    let came = c.serve_request-attended in
+    let came = c.serve_request-peer in
     let told = came.ensures.served in
     record {
       done = served_one g.S.Repository.shelf c.args.repository.now came.new.repository
@@ -16,7 +16,7 @@ returns-in-Answered-clause-served g c =
 
 pub returns-in_default-clause-served : goal.returns-in_default-clause-served
 returns-in_default-clause-served g c =
-    let came = c.serve_request-attended in
+    let came = c.serve_request-peer in
     let told = came.ensures.served in
     record {
       done = served_one g.S.Repository.shelf c.args.repository.now came.new.repository
@@ -27,5 +27,5 @@ returns-in_default-clause-served g c =
 
 pub returns-in_default-clause-drained : goal.returns-in_default-clause-drained
 returns-in_default-clause-drained g c = λ answered.
-    let status = status_of c.serve_request-attended.result.0.served answered in
+    let status = status_of c.serve_request-peer.result.0.served answered in
     absurd (c.in_default.not-Answered status.0 status.1)

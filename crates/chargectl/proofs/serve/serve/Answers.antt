@@ -15,20 +15,18 @@ returns-in-Ok g c =
     let shelf = g.S.Repository.shelf in
     let contents = g.O.Write.contents in
     let book = c.args.book.now in
-    let old = shelf c.args.repository.now in
-    let between = shelf c.open-answer.new.self in
-    serves_after book old between (shelf c.serve_here-output.new.repository) c.args.requests
+    let old = c.args.repository.now in
+    let between = c.open-answer.new.self in
+    serves_after shelf book old between c.serve_here-output.new.repository c.args.requests
     (contents c.args.output) (contents c.serve_here-output.result.1) c.serve_here-output.result.0
-    (opened_untouched book old between c.open-answer.result.answer c.open-answer.ensures.opened)
+    (opened_untouched book (shelf old) (shelf between) c.open-answer.result.answer
+    c.open-answer.ensures.opened)
     c.serve_here-output.ensures
 
 pub returns-in-Err-listen : goal.returns-in-Err-listen
 returns-in-Err-listen g c =
-    let shelf = g.S.Repository.shelf in
-    let book = c.args.book.now in
-    let old = shelf c.args.repository.now in
-    let new = shelf c.open-answer.new.self in
     let held = g.O.Write.contents c.args.output in
-    serves_none book old new c.args.requests held held c.ended.result c.in-Err-listen.fault
+    serves_none g.S.Repository.shelf c.args.book.now c.args.repository.now c.open-answer.new.self
+    c.args.requests held held c.ended.result c.in-Err-listen.fault
     c.open-answer.result.has_log c.open-answer.result.answer c.ended.ensures c.in-Err-listen.ensures
     c.open-answer.ensures.opened c.open-answer.ensures.log

@@ -5,7 +5,7 @@ use Rattle.chargectl.proofs.serve.serve_each.Goals as goal
 
 pub loop-connections-init : goal.loop-connections-init
 loop-connections-init g c = record {
-  serving = serving_none c.args.book.now (g.S.Repository.shelf c.args.repository.now)
+  serving = serving_none g.S.Repository.shelf c.args.book.now c.args.repository.now
       (g.C.Connections.left c.args.connections.now) (seen_of g.O.Write.contents c.args.lines.now);
   log = c.requires;
 }
@@ -32,8 +32,8 @@ loop-connections-preserved g c =
     let left = g.C.Connections.left in
     let seen = seen_of g.O.Write.contents in
     record {
-      serving = serving_more c.args.book.now (shelf c.args.repository.now)
-          (shelf c.loop-connections.repository) (shelf c.next.new.repository)
+      serving = serving_more shelf c.args.book.now c.args.repository.now
+          c.loop-connections.repository c.next.new.repository
           (left c.args.connections.now) (left c.loop-connections.connections) (left c.next.new.self)
           (seen c.args.lines.now) (seen c.loop-connections.lines) (seen c.say_served.new.lines)
           c.in-Ok.attended.served c.loop-connections.invariant.serving c.in-Ok.ensures.served.done

@@ -8,9 +8,8 @@ pub returns-in-Ok : goal.returns-in-Ok
 returns-in-Ok g c =
     let contents = g.O.Write.contents in
     let seen = seen_of contents in
-    let shelf = g.S.Repository.shelf in
     let each = c.serve_each-answered in
-    serves_all c.args.book.now (shelf c.args.repository.now) (shelf each.new.repository)
+    serves_all g.S.Repository.shelf c.args.book.now c.args.repository.now each.new.repository
     c.args.requests c.over-port.result.left each.new.connections.left (contents c.args.output)
     (contents c.into_inner.result) (seen c.new-lines.result) (seen c.say_ready.new.lines)
     (seen each.new.lines) c.has_failed.result c.ended.result each.result.1 c.new-lines.ensures
@@ -22,10 +21,9 @@ pub returns-in-Err : goal.returns-in-Err
 returns-in-Err g c =
     let contents = g.O.Write.contents in
     let seen = seen_of contents in
-    let shelf = g.S.Repository.shelf in
     let each = c.serve_each-answered in
-    serves_cut (λ _. ⊥) c.args.book.now (shelf c.args.repository.now) (shelf each.new.repository)
-    c.args.requests c.over-port.result.left _ (contents c.args.output)
+    serves_cut g.S.Repository.shelf (λ _. ⊥) c.args.book.now c.args.repository.now
+    each.new.repository c.args.requests c.over-port.result.left _ (contents c.args.output)
     (contents c.into_inner-in-Err.result) (seen c.say_ready.new.lines) (seen each.new.lines)
     c.ended-in-Err.result c.from-fault.result each.result.1 c.ended-in-Err.ensures
     (inr (error_kind c.in-Err.error, c.from-fault.ensures)) (rw c.in-Err.is at each.ensures.served)
