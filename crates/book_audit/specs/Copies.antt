@@ -1,24 +1,17 @@
 -- What an audit of books says of them, and books that were copied to another name.
-use Rattle.std.specs.Prelude.{◌≡◌, ◌⊎◌, ℕ, List, IfErr, Result, Ok, Err}
-use Rattle.sqlite_trees.specs.Tree.{Trees}
-use Rattle.book_model.specs.Words.{Event, Naming, book_of}
+use Rattle.std.specs.Prelude.{◌⊎◌, ℕ, List, IfErr, Result, Ok, Err}
+use Rattle.book_model.specs.Words.{Event, book_of}
 use Rattle.named_books.specs.declared.repository.RepositoryFault.{RepositoryFault}
 use Rattle.named_books.specs.Shelves.{Shelf, IsUntouched}
-use Rattle.book_audit.specs.OfBook.{AreOfBook}
+use Rattle.book_audit.specs.Counts.{AreCountsOf}
 use Rattle.book_audit.specs.declared.audited.Audited.{Audited}
 use Rattle.book_audit.specs.declared.audited.Audited.TheVariants.{Sound, Unsound}
-use Rattle.book_audit.specs.declared.audited.Counts.{Counts}
-
--- these are the counts of the book of a history, as trees hold it
-abbrev pub AreCountsOf : Naming → List Event → Counts → Type 0
-AreCountsOf naming history counts =
-    (trees : Trees) × (it : AreOfBook naming trees counts) × (it.book ≡ book_of history)
 
 -- Books that are sound have the counts of their history. Of those that are called unsound nothing
 -- is said, since a disk may have failed meanwhile. Others were refused.
 abbrev pub IsAudited : List ℕ → Shelf → Result Audited RepositoryFault → Type 0
 IsAudited book shelf (Ok (Sound counts)) =
-    (history : List Event) → shelf.holds book history → AreCountsOf shelf.naming history counts
+    (history : List Event) → shelf.holds book history → AreCountsOf (book_of history) counts
 IsAudited book shelf (Ok (Unsound finding)) = Unit {0}
 IsAudited book shelf (Err fault) = shelf.refuses book fault
 
@@ -27,7 +20,7 @@ IsAudited book shelf (Err fault) = shelf.refuses book fault
 abbrev pub HoldsCopy : List ℕ → List ℕ → Shelf → Shelf → Result Audited RepositoryFault → Type 0
 HoldsCopy book copy old new (Ok (Sound counts)) =
     old.is_free copy → (history : List Event) → old.holds book history
-    → new.holds copy history × AreCountsOf old.naming history counts
+    → new.holds copy history × AreCountsOf (book_of history) counts
 HoldsCopy book copy old new (Ok (Unsound finding)) = old.is_free copy → new.is_free copy
 HoldsCopy book copy old new (Err fault) = old.is_free copy → new.is_free copy
 

@@ -1,7 +1,7 @@
 -- The trees and what is looked up in them; the rule of identity; what the data of a record say;
 -- which record of an identity was chosen last; how a record is charged and posted; trees that are
--- sound, that hold a book, and that hold one which calls made; what an audit says, and books that
--- were copied; and what is printed.
+-- sound; how much a book has; trees that hold a book, and that hold one which calls made; what an
+-- audit says, and books that were copied; and what is printed.
 pub mod Trees
 pub mod Walks
 pub mod Rulings
@@ -16,6 +16,7 @@ pub mod Lines
 pub mod Details
 pub mod ChoiceRows
 pub mod SoundTrees
+pub mod Counts
 pub mod OfBook
 pub mod Own
 pub mod Looks

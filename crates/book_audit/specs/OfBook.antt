@@ -1,12 +1,11 @@
 -- Trees that hold a book.
-use Rattle.std.specs.Prelude.{◌≡◌, length}
-use Rattle.std.specs.FinMap.{entries}
 use Rattle.sha2.specs.Sha256.{sha256}
 use Rattle.sqlite_trees.specs.Tree.{Trees}
-use Rattle.book_model.specs.Words.{Book, Naming, members}
+use Rattle.book_model.specs.Words.{Book, Naming}
 use Rattle.table_model.specs.Readable.{IsReadable}
 use Rattle.table_model.specs.TablesOf.{tables_of}
 use Rattle.tree_tables.specs.Holds.{Holds}
+use Rattle.book_audit.specs.Counts.{AreCountsOf}
 use Rattle.book_audit.specs.declared.audited.Counts.{Counts}
 
 -- records are named by the SHA-256 of their data
@@ -18,9 +17,4 @@ pub record AreOfBook (naming : Naming) (trees : Trees) (counts : Counts) : Type 
   pub book : Book
   pub readable : IsReadable naming book
   pub holds : Holds trees (tables_of naming book)
-  pub records : counts.records ≡ length (members book.held)
-  pub tariffs : counts.tariffs ≡ length book.rulings.tariffs
-  pub closes : counts.closes ≡ length book.rulings.closes
-  pub choices : counts.choices ≡ length book.rulings.choices
-  pub rows : counts.rows ≡ length (entries (tables_of naming book).days)
-  pub lines : counts.lines ≡ length (entries (tables_of naming book).lines)
+  pub counted : AreCountsOf book counts

@@ -77,7 +77,7 @@ module _ {K V : Type 0} {R : K → K → Ordering} (layout : Layout K V R) where
         are ∙ ap (map (row_of layout)) (sym (entries_kept es (subst (AreRising tree) are rising)))
 
 -- a test that all pass leaves all
-all_pass : {X : Type 0} (xs : List X) → filter (λ (x : X). true) xs ≡ xs
+pub all_pass : {X : Type 0} (xs : List X) → filter (λ (x : X). true) xs ≡ xs
 all_pass [] = refl
 all_pass (x ∷ xs) = ap (λ more. x ∷ more) (all_pass xs)
 

@@ -5,6 +5,7 @@ use Rattle.std.proofs.lemmas.List.{length-map}
 use Rattle.sqlite_trees.specs.Tree.{Trees}
 use Rattle.book_model.specs.Words.{AcceptedTerms, rows_of as charge_rows}
 use Rattle.table_model.specs.BookIn.{book_in}
+use Rattle.table_model.specs.Readable.{IsReadable}
 use Rattle.table_model.specs.Tables.{Tables}
 use Rattle.table_model.specs.TablesOf.{tables_of}
 use Rattle.consistent_tables.specs.Consistent.{AreConsistent, ruled}
@@ -13,6 +14,7 @@ use Rattle.consistent_tables.proofs.ReadableBook.{consistent_are_readable}
 use Rattle.consistent_tables.proofs.Tables.{consistent_are_tables}
 use Rattle.tree_tables.specs.Holds.{Holds}
 use Rattle.tree_tables.proofs.Layouts.{day_layout, line_layout}
+use Rattle.book_audit.specs.Counts.{AreCountsOf}
 use Rattle.book_audit.specs.OfBook.{AreOfBook, sha_names}
 use Rattle.book_audit.specs.Records.{counted_prices}
 use Rattle.book_audit.specs.SoundTrees.{AreSound}
@@ -20,6 +22,7 @@ use Rattle.book_audit.specs.Walks.{AreRising}
 use Rattle.book_audit.specs.declared.audited.Counts.{Counts as Numbers}
 use Rattle.book_audit.specs.declared.finding.Tree.TheVariants.{Days, Lines}
 use Rattle.book_audit.proofs.Held.Maps.{entries_kept}
+use Rattle.book_audit.proofs.Sound.Counts.{lines_many, rows_many}
 use Rattle.book_audit.proofs.Sound.Records.{own_row}
 use Rattle.book_audit.proofs.Sound.Rows.{amount_is, days_are, held_are, held_few, names_are}
 use Rattle.book_audit.proofs.Sound.Rows.{own_line}
@@ -86,15 +89,25 @@ module _ (trees : Trees) (numbers : Numbers) (sound : AreSound trees numbers) wh
   its : tables ≡ tables_of sha_names (book_in tables)
   its = consistent_are_tables sha_names tables are_consistent
 
-  pub of_book : AreOfBook sha_names trees numbers
-  of_book = record {
-    book = book_in tables;
-    readable = consistent_are_readable sha_names tables are_consistent;
-    holds = subst (Holds trees) its (trees_hold trees numbers sound);
+  can_be_read : IsReadable sha_names (book_in tables)
+  can_be_read = consistent_are_readable sha_names tables are_consistent
+
+  are_counts : AreCountsOf (book_in tables) numbers
+  are_counts = record {
     records = sound.held ∙ ap (λ (all : Tables). all.book.held) its;
     tariffs = tariffs_met;
     closes = sound.closes ∙ ap length (sym (closes_said trees numbers sound));
     choices = sound.choices ∙ choices_counted trees numbers sound;
-    rows = rows_met ∙ ap (λ (all : Tables). length (entries all.days)) its;
-    lines = lines_met ∙ ap (λ (all : Tables). length (entries all.lines)) its;
+    rows = rows_met ∙ ap (λ (all : Tables). length (entries all.days)) its
+        ∙ rows_many sha_names (book_in tables) can_be_read;
+    lines = lines_met ∙ ap (λ (all : Tables). length (entries all.lines)) its
+        ∙ lines_many sha_names (book_in tables) can_be_read;
+  }
+
+  pub of_book : AreOfBook sha_names trees numbers
+  of_book = record {
+    book = book_in tables;
+    readable = can_be_read;
+    holds = subst (Holds trees) its (trees_hold trees numbers sound);
+    counted = are_counts;
   }
