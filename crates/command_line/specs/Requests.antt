@@ -17,8 +17,11 @@ use Rattle.book_reports.specs.declared.what_if.StatementForm.TheVariants as form
 use Rattle.command_line.specs.declared.request.BookRequest.{BookRequest}
 use Rattle.command_line.specs.declared.request.BookRequest.TheVariants as book
 use Rattle.command_line.specs.declared.request.DumpFile.{DumpFile}
+use Rattle.command_line.specs.declared.request.ListWords.{ListWords}
+use Rattle.command_line.specs.declared.request.ListWords.TheVariants as list
 use Rattle.command_line.specs.declared.request.NumberKind.{NumberKind}
 use Rattle.command_line.specs.declared.request.NumberKind.TheVariants as number
+use Rattle.command_line.specs.declared.request.PeriodWords.{PeriodWords}
 use Rattle.command_line.specs.declared.request.ReportWords.{ReportWords}
 use Rattle.command_line.specs.declared.request.ReportWords.TheVariants as worded
 use Rattle.command_line.specs.declared.request.Request.{Request}
@@ -94,23 +97,24 @@ pub record IsDump (rows : List Row) (dump : DumpFile) : Type 0 where
   pub layout : IsLayout rows dump.layout
   pub quiet : IsFlag rows (codes "quiet") dump.quiet
 
--- what is printed of a period: a statement, where no tariff is named, is of what was charged
-abbrev pub IsOfPeriod : Text → List Row → PeriodReport → ℕ → Type 0
-IsOfPeriod name rows of_period.Statement period =
-    (name ≡ codes "statement") × IsPeriod rows period × IsCsv rows false
-    × IsLeftOut rows (codes "tariff")
-IsOfPeriod name rows of_period.StatementTable period =
-    (name ≡ codes "statement") × IsPeriod rows period × IsCsv rows true
-    × IsLeftOut rows (codes "tariff")
-IsOfPeriod name rows of_period.AdjustmentList period =
-    (name ≡ codes "adjustments") × IsPeriod rows period × IsCsv rows false
-IsOfPeriod name rows of_period.AdjustmentTable period =
-    (name ≡ codes "adjustments") × IsPeriod rows period × IsCsv rows true
-
--- of the centre that is named, or of the whole office where none is
+-- the centre that is named, or the whole office where none is
 abbrev pub IsCentre : List Row → Option (Bor Text) → Type 0
 IsCentre rows (Some centre) = IsText rows (codes "centre") centre
 IsCentre rows None = IsLeftOut rows (codes "centre")
+
+-- a period, of the one or the other
+pub record NamesPeriod (rows : List Row) (period : PeriodWords) : Type 0 where
+  pub number : IsPeriod rows period.number
+  pub centre : IsCentre rows period.centre
+
+-- what is printed of it: a statement, where no tariff is named, is of what was charged
+abbrev pub IsOfPeriod : Text → List Row → PeriodReport → Type 0
+IsOfPeriod name rows of_period.Statement =
+    (name ≡ codes "statement") × IsCsv rows false × IsLeftOut rows (codes "tariff")
+IsOfPeriod name rows of_period.StatementTable =
+    (name ≡ codes "statement") × IsCsv rows true × IsLeftOut rows (codes "tariff")
+IsOfPeriod name rows of_period.AdjustmentList = (name ≡ codes "adjustments") × IsCsv rows false
+IsOfPeriod name rows of_period.AdjustmentTable = (name ≡ codes "adjustments") × IsCsv rows true
 
 -- a statement is a table where `--csv` asks for one, or else a text
 abbrev pub is_table : StatementForm → Bool
@@ -122,16 +126,23 @@ IsForm rows value = IsCsv rows (is_table value)
 
 -- a report
 abbrev pub AsksReport : Text → List Row → ReportWords → Type 0
-AsksReport name rows (worded.OfPeriod asked period centre) =
-    IsOfPeriod name rows asked period × IsCentre rows centre
-AsksReport name rows (worded.Bill form period centre) =
-    (name ≡ codes "bill") × IsPeriod rows period × IsForm rows form × IsCentre rows centre
+AsksReport name rows (worded.OfPeriod asked period) =
+    IsOfPeriod name rows asked × NamesPeriod rows period
+AsksReport name rows (worded.Bill form period) =
+    (name ≡ codes "bill") × NamesPeriod rows period × IsForm rows form
 AsksReport name rows (worded.Page period) = (name ≡ codes "page") × IsPeriod rows period
 AsksReport name rows (worded.Record digest) =
     (name ≡ codes "record") × IsText rows (codes "sha256") digest
 AsksReport name rows worded.Periods = name ≡ codes "periods"
 AsksReport name rows (worded.TariffText date) =
     (name ≡ codes "tariff-text") × IsText rows (codes "date") date
+
+-- a list
+abbrev pub AsksList : Text → List Row → ListWords → Type 0
+AsksList name rows (list.Details csv period) =
+    (name ≡ codes "details") × NamesPeriod rows period × IsCsv rows csv
+AsksList name rows (list.Disputes csv) = (name ≡ codes "disputes") × IsCsv rows csv
+AsksList name rows list.Rulings = name ≡ codes "rulings"
 
 -- a ruling
 abbrev pub IsRuling : Text → List Row → Ruling → Type 0
@@ -159,14 +170,10 @@ IsOfBooks name rows (book.ChooseListed file) =
     × IsText rows (codes "from") file × IsDryRun rows false
 IsOfBooks name rows (book.DryRun ruled) = IsRuling name rows ruled × IsDryRun rows true
 IsOfBooks name rows (book.Report asked) = AsksReport name rows asked
-IsOfBooks name rows (book.WhatIf form period centre file) =
-    (name ≡ codes "statement") × IsPeriod rows period × IsForm rows form
-    × IsCentre rows centre × IsText rows (codes "tariff") file
-IsOfBooks name rows (book.Details csv period centre) =
-    (name ≡ codes "details") × IsPeriod rows period × IsCsv rows csv × IsCentre rows centre
-IsOfBooks name rows (book.Disputes csv) =
-    (name ≡ codes "disputes") × IsCsv rows csv
-IsOfBooks name rows book.Rulings = name ≡ codes "rulings"
+IsOfBooks name rows (book.List asked) = AsksList name rows asked
+IsOfBooks name rows (book.WhatIf form period file) =
+    (name ≡ codes "statement") × NamesPeriod rows period × IsForm rows form
+    × IsText rows (codes "tariff") file
 IsOfBooks name rows book.Upgrade = name ≡ codes "upgrade"
 IsOfBooks name rows (book.Audit quiet) =
     (name ≡ codes "audit") × IsFlag rows (codes "quiet") quiet

@@ -11,4 +11,7 @@ mod request;
 
 pub use command_line::requested_by;
 pub use fault::ArgumentFault;
-pub use request::{BookRequest, DumpFile, NumberKind, ReportWords, Request, Ruling, Unclear};
+pub use request::{
+    BookRequest, DumpFile, ListWords, NumberKind, PeriodWords, ReportWords, Request, Ruling,
+    Unclear,
+};

@@ -6,13 +6,16 @@ ghost use Rattle.clap.specs.Walk.{first_of};
 ghost use Rattle.command_line.specs.Given.{HasNumber, HasRate, HasWord, HasWords, HasWordsOf};
 ghost use Rattle.command_line.specs.Given.{NoneIs, bookless, changes, services};
 ghost use Rattle.command_line.specs.Known as known;
-ghost use Rattle.command_line.specs.Requests.{IsAtOnce, IsCsv, IsDump, IsFlag, IsForm, IsKind};
+ghost use Rattle.command_line.specs.Requests.{IsAtOnce, IsCsv, IsDump, IsFlag, IsKind};
 ghost use Rattle.command_line.specs.Requests.{IsLayout, IsLeftOut, IsNumber, IsOfBooks, IsOfCommand};
-ghost use Rattle.command_line.specs.Requests.{IsOfPeriod, IsPeriod, IsRequest, IsRuling, IsText};
+ghost use Rattle.command_line.specs.Requests.{IsOfPeriod, IsRequest, IsRuling, IsText, NamesPeriod};
 ghost use Rattle.command_line.specs.Requests.{is_table, rows_in};
 ghost use Rattle.command_line.specs.Requests as spec;
 
-use crate::request::{BookRequest, DumpFile, NumberKind, ReportWords, Request, Ruling, Unclear};
+use crate::request::{
+    BookRequest, DumpFile, ListWords, NumberKind, PeriodWords, ReportWords, Request, Ruling,
+    Unclear,
+};
 use book_reports::{PeriodReport, StatementForm};
 use clap::ArgMatches;
 use smf_frames::Layout;
@@ -110,7 +113,7 @@ fn list_in<'a>(name: &str, found: &ArgMatches<'a>) -> Option<Request<'a>>
         "page" => of_books_in(found, page_in(found)),
         "record" => of_books_in(found, record_in(found)),
         "periods" => of_books_in(found, Some(BookRequest::Report(ReportWords::Periods))),
-        "rulings" => of_books_in(found, Some(BookRequest::Rulings)),
+        "rulings" => of_books_in(found, Some(BookRequest::List(ListWords::Rulings))),
         "tariff-text" => of_books_in(found, tariff_text_in(found)),
         _ => None,
     }
@@ -327,17 +330,22 @@ fn listed_in<'a>(found: &ArgMatches<'a>, file: &'a str) -> Option<Request<'a>>
     }
 }
 
-/// What a period has of the centre that is named, or else of the whole office.
-fn of_period_in<'a>(found: &ArgMatches<'a>, report: PeriodReport, period: u16) -> BookRequest<'a>
-    ensures { (name : _) → IsOfPeriod name (rows_in found.now) report period
-        → IsOfBooks name (rows_in found.now) result }
+/// The period that is named, of the centre that is named or else of the whole office.
+fn period_in<'a>(found: &ArgMatches<'a>) -> Option<PeriodWords<'a>>
+    ensures period { IfSome result (NamesPeriod (rows_in found.now)) }
+    ensures some { HasWord (rows_in found.now) known.period → IsSome result }
 {
+    let number = number_in(found, "period")?;
     let centre = text_in(found, "centre");
-    BookRequest::Report(ReportWords::OfPeriod {
-        report,
-        period,
-        centre,
-    })
+    Some(PeriodWords { number, centre })
+}
+
+/// What a period has.
+fn of_period<'a>(report: PeriodReport, period: PeriodWords<'a>) -> BookRequest<'a>
+    ensures { (name : _) (rows : _) → IsOfPeriod name rows report → NamesPeriod rows period.entry
+        → IsOfBooks name rows result }
+{
+    BookRequest::Report(ReportWords::OfPeriod { report, period })
 }
 
 fn adjustments_in<'a>(found: &ArgMatches<'a>) -> Option<BookRequest<'a>>
@@ -345,11 +353,11 @@ fn adjustments_in<'a>(found: &ArgMatches<'a>) -> Option<BookRequest<'a>>
     ensures some { HasWord (rows_in found.now) known.period
         → HasWord (rows_in found.now) known.csv → IsSome result }
 {
-    let period = number_in(found, "period")?;
+    let period = period_in(found)?;
     if flag_in(found, "csv")? {
-        Some(of_period_in(found, PeriodReport::AdjustmentTable, period))
+        Some(of_period(PeriodReport::AdjustmentTable, period))
     } else {
-        Some(of_period_in(found, PeriodReport::AdjustmentList, period))
+        Some(of_period(PeriodReport::AdjustmentList, period))
     }
 }
 
@@ -359,11 +367,14 @@ fn statement_in<'a>(found: &ArgMatches<'a>) -> Option<BookRequest<'a>>
     ensures some { HasWord (rows_in found.now) known.period
         → HasWord (rows_in found.now) known.csv → IsSome result }
 {
-    let period = number_in(found, "period")?;
+    let period = period_in(found)?;
     let csv = flag_in(found, "csv")?;
     match text_in(found, "tariff") {
-        Some(file) => Some(what_if_in(found, statement_form(csv), period, file)),
-        None => Some(charged_in(found, csv, period)),
+        Some(file) => {
+            let form = statement_form(csv);
+            Some(BookRequest::WhatIf { form, period, file })
+        }
+        None => Some(charged(csv, period)),
     }
 }
 
@@ -377,58 +388,26 @@ fn statement_form(csv: bool) -> StatementForm
     }
 }
 
-fn what_if_in<'a>(
-    found: &ArgMatches<'a>,
-    form: StatementForm,
-    period: u16,
-    file: &'a str,
-) -> BookRequest<'a>
-    ensures { IsPeriod (rows_in found.now) period → IsForm (rows_in found.now) form
-        → IsText (rows_in found.now) (codes "tariff") file.entry
-        → IsOfBooks (codes "statement") (rows_in found.now) result }
-{
-    let centre = text_in(found, "centre");
-    BookRequest::WhatIf {
-        form,
-        period,
-        centre,
-        file,
-    }
-}
-
-fn charged_in<'a>(found: &ArgMatches<'a>, csv: bool, period: u16) -> BookRequest<'a>
-    ensures { IsPeriod (rows_in found.now) period → IsCsv (rows_in found.now) csv
-        → IsLeftOut (rows_in found.now) (codes "tariff")
-        → IsOfBooks (codes "statement") (rows_in found.now) result }
+fn charged<'a>(csv: bool, period: PeriodWords<'a>) -> BookRequest<'a>
+    ensures { (rows : _) → NamesPeriod rows period.entry → IsCsv rows csv
+        → IsLeftOut rows (codes "tariff") → IsOfBooks (codes "statement") rows result }
 {
     if csv {
-        of_period_in(found, PeriodReport::StatementTable, period)
+        of_period(PeriodReport::StatementTable, period)
     } else {
-        of_period_in(found, PeriodReport::Statement, period)
+        of_period(PeriodReport::Statement, period)
     }
 }
 
-/// The records that a period counts, of the centre that is named or of the whole office.
+/// The records that a period counts.
 fn details_in<'a>(found: &ArgMatches<'a>) -> Option<BookRequest<'a>>
     ensures asked { IfSome result (IsOfBooks (codes "details") (rows_in found.now)) }
     ensures some { HasWord (rows_in found.now) known.period
         → HasWord (rows_in found.now) known.csv → IsSome result }
 {
-    let period = number_in(found, "period")?;
+    let period = period_in(found)?;
     let csv = flag_in(found, "csv")?;
-    Some(details_of(found, csv, period))
-}
-
-fn details_of<'a>(found: &ArgMatches<'a>, csv: bool, period: u16) -> BookRequest<'a>
-    ensures { IsPeriod (rows_in found.now) period → IsCsv (rows_in found.now) csv
-        → IsOfBooks (codes "details") (rows_in found.now) result }
-{
-    let centre = text_in(found, "centre");
-    BookRequest::Details {
-        csv,
-        period,
-        centre,
-    }
+    Some(BookRequest::List(ListWords::Details { csv, period }))
 }
 
 /// The bill of the centre that is named, or what each centre owes.
@@ -437,21 +416,10 @@ fn bill_in<'a>(found: &ArgMatches<'a>) -> Option<BookRequest<'a>>
     ensures some { HasWord (rows_in found.now) known.period
         → HasWord (rows_in found.now) known.csv → IsSome result }
 {
-    let period = number_in(found, "period")?;
+    let period = period_in(found)?;
     let csv = flag_in(found, "csv")?;
-    Some(bill_of(found, statement_form(csv), period))
-}
-
-fn bill_of<'a>(found: &ArgMatches<'a>, form: StatementForm, period: u16) -> BookRequest<'a>
-    ensures { IsPeriod (rows_in found.now) period → IsForm (rows_in found.now) form
-        → IsOfBooks (codes "bill") (rows_in found.now) result }
-{
-    let centre = text_in(found, "centre");
-    BookRequest::Report(ReportWords::Bill {
-        form,
-        period,
-        centre,
-    })
+    let form = statement_form(csv);
+    Some(BookRequest::Report(ReportWords::Bill { form, period }))
 }
 
 fn page_in<'a>(found: &ArgMatches<'_>) -> Option<BookRequest<'a>>
@@ -467,7 +435,7 @@ fn disputes_in<'a>(found: &ArgMatches<'_>) -> Option<BookRequest<'a>>
     ensures some { HasWord (rows_in found.now) known.csv → IsSome result }
 {
     let csv = flag_in(found, "csv")?;
-    Some(BookRequest::Disputes { csv })
+    Some(BookRequest::List(ListWords::Disputes { csv }))
 }
 
 fn record_in<'a>(found: &ArgMatches<'a>) -> Option<BookRequest<'a>>

@@ -79,24 +79,27 @@ pub enum Ruling<'a> {
     Adopt,
 }
 
+/// The words that name a period, of the whole office or of one centre.
+#[derive(Clone, Copy)]
+pub struct PeriodWords<'a> {
+    /// The number of the period.
+    pub number: u16,
+    /// The name of the one centre; None stands for the whole office.
+    pub centre: Option<&'a str>,
+}
+
 /// The words that ask for a report. A text may turn out to be no name and no day.
 #[derive(Clone, Copy)]
 pub enum ReportWords<'a> {
     /// What a period has.
     OfPeriod {
         report: PeriodReport,
-        /// The number of the period.
-        period: u16,
-        /// The name of the one centre that it is of; None stands for the whole office.
-        centre: Option<&'a str>,
+        period: PeriodWords<'a>,
     },
     /// A bill: that of a centre, or what each centre owes.
     Bill {
         form: StatementForm,
-        /// The number of the period.
-        period: u16,
-        /// The name of the one centre that it is of; None stands for the whole office.
-        centre: Option<&'a str>,
+        period: PeriodWords<'a>,
     },
     /// A period as a page for a browser.
     Page {
@@ -117,6 +120,24 @@ pub enum ReportWords<'a> {
     },
 }
 
+/// The words that ask for a list. The text of a centre may turn out to be no name.
+#[derive(Clone, Copy)]
+pub enum ListWords<'a> {
+    /// The records that a period counts, each with what it costs.
+    Details {
+        /// As a table of comma-separated values.
+        csv: bool,
+        period: PeriodWords<'a>,
+    },
+    /// The disputes.
+    Disputes {
+        /// As a table of comma-separated values.
+        csv: bool,
+    },
+    /// The rulings.
+    Rulings,
+}
+
 /// What is asked of books in a file.
 #[derive(Clone, Copy)]
 pub enum BookRequest<'a> {
@@ -135,32 +156,15 @@ pub enum BookRequest<'a> {
     DryRun(Ruling<'a>),
     /// A report printed.
     Report(ReportWords<'a>),
+    /// A list printed.
+    List(ListWords<'a>),
     /// A period's statement printed as it would be by other prices.
     WhatIf {
         form: StatementForm,
-        /// The number of the period.
-        period: u16,
-        /// The name of the one centre that it is of; None stands for the whole office.
-        centre: Option<&'a str>,
+        period: PeriodWords<'a>,
         /// The path of the tariff.
         file: &'a str,
     },
-    /// The records that a period counts printed, each with what it costs.
-    Details {
-        /// As a table of comma-separated values.
-        csv: bool,
-        /// The number of the period.
-        period: u16,
-        /// The name of the one centre that they are of; None stands for the whole office.
-        centre: Option<&'a str>,
-    },
-    /// The disputes printed.
-    Disputes {
-        /// As a table of comma-separated values.
-        csv: bool,
-    },
-    /// The list of rulings printed.
-    Rulings,
     /// The books brought over to the form in which books are written now.
     Upgrade,
     /// The whole file audited.
