@@ -82,8 +82,8 @@ module _ (One Other : RepositoryFault → Type 0)
       word_as (name_in name.now) (IsShelfFault One) (IsShelfFault Other) why (shelf_as why) it
   nothing_as (to_books.Report said) why it =
       word_as (report_of said) (IsShelfFault One) (IsShelfFault Other) why (shelf_as why) it
-  nothing_as (to_books.WhatIf form period centre file) why it =
-      word_as (what_if_of form period centre) (IsTariffFault One) (IsTariffFault Other) why
+  nothing_as (to_books.WhatIf form period file) why it =
+      word_as (what_if_of form period) (IsTariffFault One) (IsTariffFault Other) why
       (either_as (IsTextFault why) why) it
   nothing_as request why it = shelf_as why it
 

@@ -36,7 +36,6 @@ use Rattle.chargectl.specs.declared.dated_rulings.DatedAnswer.{DatedAnswer}
 use Rattle.chargectl.specs.declared.ended.Answered.{Answered}
 use Rattle.chargectl.specs.declared.ended.Ended.{Ended}
 use Rattle.chargectl.specs.declared.streamed_lists.StreamedList.{StreamedList}
-use Rattle.chargectl.specs.declared.streamed_lists.StreamedList.TheVariants as list
 use Rattle.chargectl.specs.Choices.{ChoosesBy, ChoosesListed, ComesOfList, IsListFault}
 use Rattle.chargectl.specs.Choices.{list_answered}
 use Rattle.chargectl.specs.Commands.{AsksAndTells, AsksNothing, AsksOnceBy, ComesOf, once_answered}
@@ -50,8 +49,8 @@ use Rattle.chargectl.specs.CommandLaws.{TriedBy, TriesOfHistory, place_after}
 use Rattle.chargectl.specs.DryRuns.{ComesOfDryRun, ShowsDry, TriesAndTells, TriesOnceBy}
 use Rattle.chargectl.specs.Requests.{Does, DoesOrRefuses, ServesBy, SettlesBy}
 use Rattle.chargectl.specs.Faults.{settled_as}
-use Rattle.chargectl.specs.StreamedLists.{ListsAsked, ListsBy, WritesSomeOf, details_by, disputes_by}
-use Rattle.chargectl.specs.StreamedLists.{list_answer, listing_answered}
+use Rattle.chargectl.specs.StreamedLists.{ListsAsked, ListsBy, WritesSomeOf, list_answer, list_of}
+use Rattle.chargectl.specs.StreamedLists.{listing_answered}
 use Rattle.chargectl.specs.Upgrades.{UpgradesBy}
 use Rattle.chargectl.proofs.CommandLemmas.{either_as, nothing_as, shelf_as}
 use Rattle.chargectl.proofs.ServingLemmas.{each_answered, turn_done}
@@ -547,15 +546,9 @@ module _ {S : Type 0} (shelf : S → Shelf) (history : List Event) (name : List 
       holds does.came does.does
   does_on book (asks.Serve port requests) has holds ended does =
       serves_on book requests has holds does.came does.does
-  does_on book (asks.Details csv period centre) has holds ended does =
-      list_asked history name (shelf before) (shelf after) answered held Refuses follow
-      (details_by csv period centre) book has holds ended does
-  does_on book asks.Rulings has holds ended does =
-      list_written history name (shelf before) (shelf after) answered held Refuses follow list.Rulings book
+  does_on book (asks.List asked) has holds ended does =
+      list_asked history name (shelf before) (shelf after) answered held Refuses follow (list_of asked) book
       has holds ended does
-  does_on book (asks.Disputes csv) has holds ended does =
-      list_written history name (shelf before) (shelf after) answered held Refuses follow (disputes_by csv)
-      book has holds ended does
   does_on book (asks.ChooseListed file) has holds ended does =
       list_on history name (shelf before) (shelf after) answered held Refuses follow book has holds ended
       does

@@ -37,14 +37,13 @@ use Rattle.chargectl.specs.declared.dated_rulings.DatedAnswer.{DatedAnswer}
 use Rattle.chargectl.specs.declared.ended.Answered.{Answered}
 use Rattle.chargectl.specs.declared.ended.Ended.{Ended}
 use Rattle.chargectl.specs.declared.streamed_lists.StreamedList.{StreamedList}
-use Rattle.chargectl.specs.declared.streamed_lists.StreamedList.TheVariants as list
 use Rattle.chargectl.specs.Choices.{AreListed, ChoosesNothing, TellsList, chosen_of}
 use Rattle.chargectl.specs.Commands.{AsksNothing, IsAskedBy, IsShelfFault, Tells, answer_of}
 use Rattle.chargectl.specs.Commands.{answer_told, first_fault, notice_of}
 use Rattle.chargectl.specs.DryRuns.{ShowsDry}
 use Rattle.chargectl.specs.Faults.{settled_as, status_by}
 use Rattle.chargectl.specs.Requests.{CommandsBy}
-use Rattle.chargectl.specs.StreamedLists.{WritesSomeOf, details_by, disputes_by, list_answer, list_end}
+use Rattle.chargectl.specs.StreamedLists.{WritesSomeOf, list_answer, list_end, list_of}
 use Rattle.chargectl.specs.Serving.{AnswersSome, IsToldOf}
 
 -- a command: its words, its input, its output and standard error before and after it, its status, and
@@ -261,12 +260,8 @@ DoesToHistory naming history Refuses (book.Audit quiet) held holds ended made = 
 DoesToHistory naming history Refuses (book.BackUp copy quiet) held holds ended made = made ≡ []
 DoesToHistory naming history Refuses (book.Serve port requests) held holds ended made =
     ServesOfHistory naming history made
-DoesToHistory naming history Refuses (book.Details csv period centre) held holds ended made =
-    ListsAskedOfHistory (details_by csv period centre) naming history Refuses held holds ended made
-DoesToHistory naming history Refuses book.Rulings held holds ended made =
-    ListsOfHistory list.Rulings naming history Refuses held holds ended made
-DoesToHistory naming history Refuses (book.Disputes csv) held holds ended made =
-    ListsOfHistory (disputes_by csv) naming history Refuses held holds ended made
+DoesToHistory naming history Refuses (book.List asked) held holds ended made =
+    ListsAskedOfHistory (list_of asked) naming history Refuses held holds ended made
 DoesToHistory naming history Refuses (book.ChooseListed file) held holds ended made =
     ListOfHistory naming history Refuses held holds ended made
 DoesToHistory naming history Refuses (book.DryRun ruling) held holds ended made =

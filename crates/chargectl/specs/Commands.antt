@@ -27,6 +27,7 @@ use Rattle.named_books.specs.Shelves.{Shelf, IsOpened, IsUntouched}
 use Rattle.office.proofs.LawLemmas.{asks_answered}
 use Rattle.command_line.specs.declared.request.BookRequest.{BookRequest}
 use Rattle.command_line.specs.declared.request.BookRequest.TheVariants as book
+use Rattle.command_line.specs.declared.request.PeriodWords.{PeriodWords}
 use Rattle.command_line.specs.declared.request.ReportWords.{ReportWords}
 use Rattle.command_line.specs.declared.request.ReportWords.TheVariants as worded
 use Rattle.command_line.specs.declared.request.Ruling.{Ruling}
@@ -50,9 +51,10 @@ asked_centre (Some text) = option_map Some (centre_named text.now)
 
 -- the report that words ask for, if each of them is what it has to be
 abbrev pub report_of : ReportWords → Option Report
-report_of (worded.OfPeriod report period centre) =
-    option_map (OfPeriod report period) (asked_centre centre)
-report_of (worded.Bill form period centre) = option_map (Bill form period) (asked_centre centre)
+report_of (worded.OfPeriod report period) =
+    option_map (OfPeriod report period.number) (asked_centre period.centre)
+report_of (worded.Bill form period) =
+    option_map (Bill form period.number) (asked_centre period.centre)
 report_of (worded.Page period) = Some (PeriodPage period)
 report_of (worded.Record name) = option_map Record (name_in name.now)
 report_of worded.Periods = Some PeriodList
@@ -63,8 +65,8 @@ abbrev pub what_if_for : StatementForm → ℕ → Option (List ℕ) → WhatIf
 what_if_for form period centre = record { form = form; period = period; centre = centre }
 
 -- the one that words ask for, if the centre is what it has to be
-abbrev pub what_if_of : StatementForm → ℕ → Option (Bor (List ℕ)) → Option WhatIf
-what_if_of form period centre = option_map (what_if_for form period) (asked_centre centre)
+abbrev pub what_if_of : StatementForm → PeriodWords → Option WhatIf
+what_if_of form period = option_map (what_if_for form period.number) (asked_centre period.centre)
 
 -- The table: what a command asks of the office. The text of a tariff is what its file gave.
 abbrev pub IsAskedBy : BookRequest → Asked → Type 0
@@ -75,8 +77,8 @@ IsAskedBy (book.Rule (ruling.Close period date)) (asks.Close number through) =
 IsAskedBy (book.Rule (ruling.Choose name)) (asks.Choose chosen) = name_in name.now ≡ Some chosen
 IsAskedBy (book.Rule ruling.Adopt) (asks.Adopt rule) = rule ≡ 2
 IsAskedBy (book.Report said) (asks.Report printed) = report_of said ≡ Some printed
-IsAskedBy (book.WhatIf form period centre file) (asks.WhatIf report text) =
-    what_if_of form period centre ≡ Some report
+IsAskedBy (book.WhatIf form period file) (asks.WhatIf report text) =
+    what_if_of form period ≡ Some report
 IsAskedBy request asked = ⊥
 
 -- it may change the books: a report may not, by whatever prices it is
@@ -178,8 +180,8 @@ AsksNothing (book.Rule (ruling.Choose name)) Refuses why =
     IsWordFault (name_in name.now) (IsShelfFault Refuses) why
 AsksNothing (book.Report said) Refuses why =
     IsWordFault (report_of said) (IsShelfFault Refuses) why
-AsksNothing (book.WhatIf form period centre file) Refuses why =
-    IsWordFault (what_if_of form period centre) (IsTariffFault Refuses) why
+AsksNothing (book.WhatIf form period file) Refuses why =
+    IsWordFault (what_if_of form period) (IsTariffFault Refuses) why
 AsksNothing request Refuses why = IsShelfFault Refuses why
 
 -- what an import notices of a dump that looked misread or not

@@ -28,8 +28,7 @@ use Rattle.chargectl.specs.DryRuns.{TriesAndTells}
 use Rattle.chargectl.specs.Faults.{IsFileFault, error_lines, settled_as, shelf_end, status_by}
 use Rattle.chargectl.specs.Faults.{without_log}
 use Rattle.chargectl.specs.Reading.{Checks, TellsOf, TriesAt, TriesUnder, kind_of}
-use Rattle.chargectl.specs.declared.streamed_lists.StreamedList.TheVariants as list
-use Rattle.chargectl.specs.StreamedLists.{ListsAsked, ListsBy, details_by, disputes_by}
+use Rattle.chargectl.specs.StreamedLists.{ListsAsked, list_of}
 use Rattle.chargectl.specs.Upgrades.{UpgradesBy}
 use Rattle.chargectl.specs.ServedLines.{Gains, unfailed}
 use Rattle.chargectl.specs.Serving.{ServesInTurn, lines_of, ready, service_end}
@@ -90,12 +89,8 @@ Does shelf (book.BackUp copy quiet) name old new held holds ended =
     SettlesBy (BacksUp name copy.now (shelf old) (shelf new) held holds) ended
 Does shelf (book.Serve port requests) name old new held holds ended =
     SettlesBy (ServesBy shelf requests name old new held holds) ended
-Does shelf (book.Details csv period centre) name old new held holds ended =
-    SettlesBy (ListsAsked (details_by csv period centre) name (shelf old) (shelf new) held holds) ended
-Does shelf book.Rulings name old new held holds ended =
-    SettlesBy (ListsBy list.Rulings name (shelf old) (shelf new) held holds) ended
-Does shelf (book.Disputes csv) name old new held holds ended =
-    SettlesBy (ListsBy (disputes_by csv) name (shelf old) (shelf new) held holds) ended
+Does shelf (book.List asked) name old new held holds ended =
+    SettlesBy (ListsAsked (list_of asked) name (shelf old) (shelf new) held holds) ended
 Does shelf (book.ChooseListed file) name old new held holds ended =
     ChoosesListed name (shelf old) (shelf new) held holds ended
 Does shelf (book.DryRun ruling) name old new held holds ended =

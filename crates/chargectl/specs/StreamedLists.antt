@@ -3,7 +3,6 @@
 use Rattle.std.specs.Prelude.{◌≡◌, Bool, false, if◌then◌else◌, ℕ, List, ◌++◌, Option, Some, None, Result}
 use Rattle.std.specs.Prelude.{Ok, Err}
 use Rattle.std.proofs.Common.{sym, subst}
-use Rattle.std.specs.Borrow.{Bor}
 use Rattle.std.specs.Option.{option_map}
 use Rattle.book_model.specs.declared.fault.LedgerFault.{LedgerFault}
 use Rattle.book_model.specs.Words.{Book, IsMadeByCalls, Naming}
@@ -17,6 +16,9 @@ use Rattle.book_reports.specs.StreamedAnswers.{WritesAnswer, answered_by}
 use Rattle.book_reports.specs.StreamedDetails.{WritesSomeDetails, detail_answer}
 use Rattle.book_reports.specs.StreamedDisputes.{WritesSomeDisputes, dispute_report}
 use Rattle.book_reports.specs.StreamedRulings.{WritesSomeRulings}
+use Rattle.command_line.specs.declared.request.ListWords.{ListWords}
+use Rattle.command_line.specs.declared.request.ListWords.TheVariants as worded
+use Rattle.command_line.specs.declared.request.PeriodWords.{PeriodWords}
 use Rattle.named_books.specs.declared.repository.RepositoryFault.{RepositoryFault}
 use Rattle.named_books.specs.Shelves.{Shelf, ComesBy, IsOpened, IsUntouched}
 use Rattle.chargectl.specs.declared.command_fault.CommandFault.{CommandFault}
@@ -53,12 +55,18 @@ details_for csv period centre = list.Details (record {
 })
 
 -- those that words ask for, if the centre is what it has to be
-abbrev pub details_by : Bool → ℕ → Option (Bor (List ℕ)) → Option StreamedList
-details_by csv period centre = option_map (details_for csv period) (asked_centre centre)
+abbrev pub details_by : Bool → PeriodWords → Option StreamedList
+details_by csv period = option_map (details_for csv period.number) (asked_centre period.centre)
 
 -- the disputes, as a table or as a list for people
 abbrev pub disputes_by : Bool → StreamedList
 disputes_by csv = list.Disputes (if csv then form.Table else form.List)
+
+-- the list that words ask for, if each of them is what it has to be
+abbrev pub list_of : ListWords → Option StreamedList
+list_of (worded.Details csv period) = details_by csv period
+list_of (worded.Disputes csv) = Some (disputes_by csv)
+list_of worded.Rulings = Some list.Rulings
 
 -- a list makes events that the books answered, since it makes none
 pub listing_answered : (answer : Naming → Book → Result (List ℕ) LedgerFault) (naming : Naming)

@@ -64,16 +64,6 @@ impl Ended {
         }
     }
 
-    /// How a command ended that may have found a fault before it opened any books.
-    pub(crate) fn settled(came: Result<Ended, CommandFault>) -> Ended
-        ensures { result ≡ settled_as came }
-    {
-        match came {
-            Ok(ended) => ended,
-            Err(fault) => Ended::without_log(Err(fault)),
-        }
-    }
-
     /// Says on standard error why it was not done, what it noticed, and where the books are in two
     /// files.
     #[tactic(auto, using(program_output::proofs::MessageLemmas::said_then))]
@@ -87,6 +77,16 @@ impl Ended {
         } else {
             status
         }
+    }
+}
+
+/// How a command ended that may have found a fault before it opened any books.
+pub(crate) fn settled(came: Result<Ended, CommandFault>) -> Ended
+    ensures { result ≡ settled_as came }
+{
+    match came {
+        Ok(ended) => ended,
+        Err(fault) => Ended::without_log(Err(fault)),
     }
 }
 

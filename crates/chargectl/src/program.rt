@@ -15,13 +15,13 @@ use crate::book_commands::{import_dump, rule, tariff_text, tell};
 use crate::choices::choose_listed;
 use crate::command_fault::CommandFault;
 use crate::dry_runs::dry_run;
-use crate::ended::Ended;
+use crate::ended::{Ended, settled};
 use crate::first_bytes::{LookedAt, look_at};
 use crate::help_lines::{Said, help};
 use crate::progress::{WatchedReader, clear_line};
 use crate::report_commands::{report, what_if};
 use crate::serve::serve;
-use crate::streamed_lists::{StreamedList, disputes_by, list_details, write_list};
+use crate::streamed_lists::list;
 use crate::upgrades::upgrade;
 use book_audit::AuditedRepository;
 use book_core::{LedgerFault, Sink, Source};
@@ -126,55 +126,31 @@ fn run_on_books<S: AuditedRepository, O: Write + Drop>(
         (O.contents output) (O.contents result.1) result.0 }
 {
     match asked {
-        BookRequest::Init => {
-            let came = made(repository.make(book));
-            (Ended::without_log(came), output)
-        }
+        BookRequest::Init => (Ended::without_log(made(repository.make(book))), output),
         BookRequest::Rule(ruling) => tell(rule(rt, repository, book, ruling), output),
         BookRequest::Import(dump) => tell(import_dump(rt, repository, book, dump), output),
         BookRequest::ChooseListed { file } => choose_listed(rt, repository, book, file, output),
         BookRequest::DryRun(ruling) => tell(dry_run(rt, repository, book, ruling), output),
         BookRequest::Report(words) => tell(report(rt, repository, book, words), output),
-        BookRequest::WhatIf {
-            form,
-            period,
-            centre,
-            file,
-        } => tell(
-            what_if(rt, repository, book, form, period, centre, file),
-            output,
-        ),
-        BookRequest::Details {
-            csv,
-            period,
-            centre,
-        } => {
-            let (listed, output) = list_details(rt, repository, book, csv, period, centre, output);
-            (Ended::settled(listed), output)
+        BookRequest::List(words) => {
+            let (listed, output) = list(rt, repository, book, words, output);
+            (settled(listed), output)
         }
-        BookRequest::Disputes { csv } => {
-            let (listed, output) = write_list(rt, repository, book, disputes_by(csv), output);
-            (Ended::settled(listed), output)
+        BookRequest::WhatIf { form, period, file } => {
+            tell(what_if(rt, repository, book, form, period, file), output)
         }
-        BookRequest::Rulings => {
-            let (listed, output) = write_list(rt, repository, book, StreamedList::Rulings, output);
-            (Ended::settled(listed), output)
-        }
-        BookRequest::Upgrade => {
-            let upgraded = upgrade(repository, book, &mut output);
-            (Ended::settled(upgraded), output)
-        }
+        BookRequest::Upgrade => (settled(upgrade(repository, book, &mut output)), output),
         BookRequest::Audit { quiet } => {
             let audited = audit(rt, repository, book, quiet, &mut output);
-            (Ended::settled(audited), output)
+            (settled(audited), output)
         }
         BookRequest::BackUp { copy, quiet } => {
             let audited = back_up(rt, repository, book, copy, quiet, &mut output);
-            (Ended::settled(audited), output)
+            (settled(audited), output)
         }
         BookRequest::Serve { port, requests } => {
             let (served, output) = serve(rt, repository, book, port, requests, output);
-            (Ended::settled(served), output)
+            (settled(served), output)
         }
     }
 }

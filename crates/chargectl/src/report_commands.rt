@@ -11,7 +11,7 @@ ghost use Rattle.chargectl.specs.Commands.{ComesOf};
 use crate::book_commands::{ask_books, tariff_text};
 use crate::command_fault::CommandFault;
 use crate::ended::Answered;
-use command_line::{BookRequest, ReportWords};
+use command_line::{BookRequest, PeriodWords, ReportWords};
 use named_books::Repository;
 use office::{Asked, Report, StatementForm, WhatIf, centre_named};
 use program_output::name_of_text;
@@ -42,27 +42,19 @@ fn report_of(words: ReportWords<'_>) -> Option<Report>
     ensures { result ≡ spec.report_of words.entry }
 {
     match words {
-        ReportWords::OfPeriod {
-            report,
-            period,
-            centre,
-        } => {
-            let centre = asked_centre(centre)?;
+        ReportWords::OfPeriod { report, period } => {
+            let centre = asked_centre(period.centre)?;
             Some(Report::OfPeriod {
                 report,
-                period,
+                period: period.number,
                 centre,
             })
         }
-        ReportWords::Bill {
-            form,
-            period,
-            centre,
-        } => {
-            let centre = asked_centre(centre)?;
+        ReportWords::Bill { form, period } => {
+            let centre = asked_centre(period.centre)?;
             Some(Report::Bill {
                 form,
-                period,
+                period: period.number,
                 centre,
             })
         }
@@ -110,14 +102,13 @@ pub(crate) fn what_if<S: Repository>(
     repository: &mut S,
     book: &str,
     form: StatementForm,
-    period: u16,
-    centre: Option<&str>,
+    period: PeriodWords<'_>,
     file: &str,
 ) -> Result<Answered, CommandFault>
-    ensures { ComesOf (BookRequest.WhatIf form period centre.entry file.entry) book.now
+    ensures { ComesOf (BookRequest.WhatIf form period.entry file.entry) book.now
         (S.shelf repository.old) (S.shelf repository.new) result }
 {
-    let report = match what_if_of(form, period, centre) {
+    let report = match what_if_of(form, period) {
         Some(report) => report,
         None => return Err(CommandFault::Argument),
     };
@@ -128,13 +119,13 @@ pub(crate) fn what_if<S: Repository>(
 }
 
 /// What the books are asked for. `None`: the text of the centre is no name.
-fn what_if_of(form: StatementForm, period: u16, centre: Option<&str>) -> Option<WhatIf>
-    ensures { result ≡ spec.what_if_of form period centre.entry }
+fn what_if_of(form: StatementForm, period: PeriodWords<'_>) -> Option<WhatIf>
+    ensures { result ≡ spec.what_if_of form period.entry }
 {
-    let centre = asked_centre(centre)?;
+    let centre = asked_centre(period.centre)?;
     Some(WhatIf {
         form,
-        period,
+        period: period.number,
         centre,
     })
 }

@@ -19,6 +19,7 @@ use book_core::{Ledger, Sink};
 use book_reports::{
     DetailReport, DisputeForm, ReportFault, write_details, write_disputes, write_rulings,
 };
+use command_line::{ListWords, PeriodWords};
 use named_books::{Opened, Repository, RepositoryFault, Visit};
 use office::StatementForm;
 use std::alloc::Global;
@@ -43,26 +44,37 @@ fn details_form(csv: bool) -> StatementForm
 }
 
 /// The details of a period. `None`: the text of the centre is no name.
-fn details_by(csv: bool, period: u16, centre: Option<&str>) -> Option<StreamedList>
-    ensures { result ≡ spec.details_by csv period centre.entry }
+fn details_by(csv: bool, period: PeriodWords<'_>) -> Option<StreamedList>
+    ensures { result ≡ spec.details_by csv period.entry }
 {
     let form = details_form(csv);
-    let centre = asked_centre(centre)?;
+    let centre = asked_centre(period.centre)?;
     Some(StreamedList::Details(DetailReport {
         form,
-        period,
+        period: period.number,
         centre,
     }))
 }
 
 /// The disputes as a table of comma-separated values, or as a list for people.
-pub(crate) fn disputes_by(csv: bool) -> StreamedList
+fn disputes_by(csv: bool) -> StreamedList
     ensures { result ≡ spec.disputes_by csv }
 {
     if csv {
         StreamedList::Disputes(DisputeForm::Table)
     } else {
         StreamedList::Disputes(DisputeForm::List)
+    }
+}
+
+/// The list that words ask for. `None`: one of them is not what it has to be.
+fn list_of(words: ListWords<'_>) -> Option<StreamedList>
+    ensures { result ≡ spec.list_of words.entry }
+{
+    match words {
+        ListWords::Details { csv, period } => details_by(csv, period),
+        ListWords::Disputes { csv } => Some(disputes_by(csv)),
+        ListWords::Rulings => Some(StreamedList::Rulings),
     }
 }
 
@@ -118,7 +130,7 @@ impl<O: Write + Drop> Visit for Listing<O> {
 }
 
 /// Writes a list of the books of a name.
-pub(crate) fn write_list<S: Repository, O: Write + Drop>(
+fn write_list<S: Repository, O: Write + Drop>(
     rt: &HostRuntime,
     repository: &mut S,
     book: &str,
@@ -148,21 +160,19 @@ pub(crate) fn write_list<S: Repository, O: Write + Drop>(
     (Ok(ended), output)
 }
 
-/// Writes the details of a period, of one centre or of the whole office.
-pub(crate) fn list_details<S: Repository, O: Write + Drop>(
+/// Writes the list that words ask for.
+pub(crate) fn list<S: Repository, O: Write + Drop>(
     rt: &HostRuntime,
     repository: &mut S,
     book: &str,
-    csv: bool,
-    period: u16,
-    centre: Option<&str>,
+    words: ListWords<'_>,
     output: O,
 ) -> (Result<Ended, CommandFault>, O)
-    ensures { ListsAsked (spec.details_by csv period centre.entry) book.now
+    ensures { ListsAsked (spec.list_of words.entry) book.now
         (S.shelf repository.old) (S.shelf repository.new)
         (O.contents output) (O.contents result.1) result.0 }
 {
-    match details_by(csv, period, centre) {
+    match list_of(words) {
         Some(list) => write_list(rt, repository, book, list, output),
         None => (Err(CommandFault::Argument), output),
     }

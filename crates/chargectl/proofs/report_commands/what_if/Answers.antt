@@ -17,8 +17,8 @@ returns-in-None g c = (
 pub returns-in_err-expect : goal.returns-in_err-expect
 returns-in_err-expect g c =
     let shelf = g.S.Repository.shelf c.args.repository.now in
-    not_asked (book.WhatIf c.args.form c.args.period c.args.centre c.args.file) c.args.book.now
-    shelf c.from_residual.result (shelf_fault c.in_err-expect.field-0.0) c.from_residual.ensures.0
+    not_asked (book.WhatIf c.args.form c.args.period c.args.file) c.args.book.now shelf
+    c.from_residual.result (shelf_fault c.in_err-expect.field-0.0) c.from_residual.ensures.0
     c.from_residual.ensures.1
     (word_there _ c.in-Some.report (IsTariffFault (shelf.refuses c.args.book.now))
     (shelf_fault c.in_err-expect.field-0.0) (sym c.what_if_of.ensures ∙ c.in-Some.is)
@@ -27,8 +27,8 @@ returns-in_err-expect g c =
 pub returns-in_err-tariff : goal.returns-in_err-tariff
 returns-in_err-tariff g c =
     let shelf = g.S.Repository.shelf c.args.repository.now in
-    not_asked (book.WhatIf c.args.form c.args.period c.args.centre c.args.file) c.args.book.now
-    shelf c.from_residual-in_err-tariff.result c.in_err-tariff.field-0.0
+    not_asked (book.WhatIf c.args.form c.args.period c.args.file) c.args.book.now shelf
+    c.from_residual-in_err-tariff.result c.in_err-tariff.field-0.0
     c.from_residual-in_err-tariff.ensures.0 c.from_residual-in_err-tariff.ensures.1
     (word_there _ c.in-Some.report (IsTariffFault (shelf.refuses c.args.book.now))
     c.in_err-tariff.field-0.0 (sym c.what_if_of.ensures ∙ c.in-Some.is)
