@@ -2,7 +2,7 @@ use crate::audited::Audited;
 use crate::watch::Watch;
 use named_books::{Opened, Repository};
 
-/// Where books are kept by their names, and can be looked through.
+/// Where books are kept by their names, and can be looked through and copied.
 pub trait AuditedRepository: Repository {
     ghost use Rattle.book_audit.specs.Copies.{IsAudited, IsCopied};
 

@@ -43,7 +43,8 @@ IsUnsoundBy g (Closed closed) audited =
     AreClean g closed.files.log closed.files.db
     → FindsWrongBy (HaveFailed g closed.files) audited
 
--- So it is with files that hold the book of a history, which calls made.
+-- Files that hold the book of a history, which calls made, are called unsound only where they were
+-- looked through, and a call on them failed or met a limit.
 abbrev pub WhyUnsound : {D : Type 0} (g : Ghosts D) → Image → Ended D → Audited → Type 0
 WhyUnsound g found ended audited =
     (history : List Event) → HoldsHistory file_names history found → IsUnsoundBy g ended audited

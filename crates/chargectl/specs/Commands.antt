@@ -150,8 +150,8 @@ pub record IsAnswered (asked : Asked) (book : List ℕ) (old new : Shelf) (answe
     pub log : new.has_log book answered.has_log
     pub change : answered.is_change ≡ may_change asked
 
--- The place of the books refused them for such a reason: it failed, others have them, or there is
--- nothing of that name.
+-- The place of the books refused them for such a reason: it failed, others have them, there is
+-- nothing of that name or something already, or what is there are no books that can be read.
 abbrev pub IsShelfFault : (RepositoryFault → Type 0) → CommandFault → Type 0
 IsShelfFault Refuses why = (shelf : RepositoryFault) × Refuses shelf × (why ≡ shelf_fault shelf)
 

@@ -164,8 +164,8 @@ DoesOrRefuses shelf waits old new (Err fault) had held holds Says status =
 -- The program: its words ask for something by the table of the commands, and that was done. These
 -- lines, and no others, were said on standard error.
 pub record CommandsBy {S E : Type 0} (shelf : S → Shelf) (waits : S → ℕ → Type 0) (old new : S)
-    (words : List (String Global)) (had held holds : Option (List ℕ)) (Says : List (List ℕ) → E → E → Type 0) (quiet said : E)
-    (status : Status) : Type 0 where
+    (words : List (String Global)) (had held holds : Option (List ℕ))
+    (Says : List (List ℕ) → E → E → Type 0) (quiet said : E) (status : Status) : Type 0 where
   pub asked : Result Request ArgumentFault
   pub read : AreReadAs program_name most_rate (as_texts words) asked
   pub done : DoesOrRefuses shelf waits old new asked had held holds (λ lines. Says lines quiet said) status

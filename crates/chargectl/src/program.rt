@@ -42,8 +42,9 @@ use tariff_rules::{MAX_RATE, Tariff, TariffFault};
 /// For how many seconds a client of a service is kept waiting for books that others have in use.
 const SERVICE_WAIT: u16 = 2;
 
-/// Does what the words ask for, the first of which is the program's name. Books are kept on a
-/// shelf. Why it was not done is said on standard error; where that is a terminal, a person is told more.
+/// Does what the words ask for, the first of which is the program's name. Books are kept at a
+/// place. Why it was not done is said on standard error; where that is a terminal, a person is told
+/// more.
 pub fn command<S: AuditedRepository, I: Read + Drop, O: Write + Drop, E: Writer>(
     rt: &HostRuntime,
     repository: &mut S,

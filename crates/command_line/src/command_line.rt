@@ -147,8 +147,8 @@ fn fault_in(alloc: Global, error: &Error) -> ArgumentFault
 }
 
 /// The command that the words ask for, the first of which is the program's name, where no rate is
-/// above `highest`; help and faults call the program by the name that is given. None are wrong
-/// without a text: what `command_line` lets pass is a request.
+/// above `highest`; help and faults call the program by the name that is given. Words are never
+/// refused without a text, but for lack of memory.
 pub fn requested_by<'a>(
     alloc: Global,
     program: &'a str,
