@@ -1,5 +1,5 @@
 -- One request of a client, from books that are open only while they are asked.
-use Rattle.std.proofs.Common.{◌≡◌, ◌∙◌, ◌<◌, Bool, true, false, List, [], ◌++◌, ℕ, refl, sym, ap, subst}
+use Rattle.std.proofs.Common.{◌≡◌, ◌<◌, Bool, true, false, List, [], ◌++◌, ℕ, refl, sym, subst}
 use Rattle.std.proofs.Common.{inl, inr, Option, Result, Ok, Err, true≢false}
 use Rattle.book_model.specs.Words.{Book, Event}
 use Rattle.book_core.specs.Ledgers.{Seen}
@@ -20,12 +20,12 @@ use Rattle.book_http.proofs.ServeLemmas.{bytes_answered}
 use Rattle.book_http.proofs.StreamLemmas.{AnswersSized}
 use Rattle.named_books.specs.declared.repository.RepositoryFault.{RepositoryFault}
 use Rattle.named_books.specs.declared.repository.RepositoryFault.TheVariants as shelf
-use Rattle.named_books.specs.Shelves.{ComesBy, IsDoneTo, IsOpened, IsUntouched, Shelf}
+use Rattle.named_books.specs.Shelves.{IsDoneTo, IsOpened, IsUntouched, Shelf}
 use Rattle.named_books.proofs.ShelfLemmas.{done_as, untouched}
 use Rattle.chargectl.specs.declared.client_requests.Told.{Told}
 use Rattle.chargectl.specs.declared.client_requests.Told.TheVariants as tells
 use Rattle.chargectl.specs.ClientRequests.{AsksOpen, EndsBy, EndsUnseen, IsAnsweredFrom, IsReplied}
-use Rattle.chargectl.specs.ClientRequests.{IsServedFrom, SendsOpen, StreamsAnswer, away_reply}
+use Rattle.chargectl.specs.ClientRequests.{IsServedFrom, StreamsAnswer, away_reply}
 use Rattle.chargectl.specs.ClientRequests.{is_streamed}
 use Rattle.chargectl.specs.Serving.{AnswersSome, Fits, Replies, ServesOne, is_answered}
 
@@ -47,51 +47,6 @@ details_open old new details size held holds what long sends =
       sent = it.sent;
     })
     sends
-
--- what was sent was answered
-sent_answered : (reply : Reply) (held holds : Option (List ℕ)) (what : Served)
-    → IsSent reply held holds what → is_unanswered what ≡ false
-sent_answered reply held holds (served.Answered status) sent = refl
-sent_answered reply held holds served.WriteFault sent = refl
-sent_answered reply held holds served.Cut sent = refl
-sent_answered reply held holds what sent = absurd sent
-
-unseen_answered : (streamed : Bool) (shown holds : Option (List ℕ)) (what : Served)
-    → EndsUnseen streamed shown holds what → is_unanswered what ≡ false
-unseen_answered true shown holds what ends = ap is_unanswered ends.0
-unseen_answered false shown holds what ends =
-    sent_answered (refusal Unavailable) shown holds what ends
-
--- so was what the books were opened for
-pub end_answered : (request : Requested) (held shown holds : Option (List ℕ)) (Same : Type 0)
-    (told : Result Told RepositoryFault) (what : Served)
-    → ComesBy (SendsOpen request held shown) Same told
-    → EndsBy (is_streamed request) told shown holds what → is_unanswered what ≡ false
-end_answered request held shown holds Same (Ok (tells.Due answer)) what came ends =
-    sent_answered (reply_of answer) shown holds what ends
-end_answered request held shown holds Same (Ok (tells.Sent so)) what came ends =
-    ap is_unanswered ends.0 ∙ came.1
-end_answered request held shown holds Same (Err shelf.Unseen) what came ends =
-    unseen_answered (is_streamed request) shown holds what ends
-end_answered request held shown holds Same (Err why) what came ends =
-    sent_answered (away_reply why) shown holds what ends
-
--- nothing but details was sent while they were open
-quiet_by : (request : Requested) (held shown : Option (List ℕ)) (told : Told)
-    → is_streamed request ≡ false → SendsOpen request held shown told → shown ≡ held
-quiet_by request held shown (tells.Due answer) quiet came = came
-quiet_by request held shown (tells.Sent so) quiet came = absurd (true≢false (sym came.0 ∙ quiet))
-
-pub quiet_open : (request : Requested) (held shown : Option (List ℕ)) (Same : Type 0)
-    (told : Result Told RepositoryFault) → (Same → shown ≡ held)
-    → ComesBy (SendsOpen request held shown) Same told → is_streamed request ≡ false
-    → shown ≡ held
-quiet_open request held shown Same (Ok told) same came quiet =
-    quiet_by request held shown told quiet came
-quiet_open request held shown Same (Err shelf.Unseen) same (inl came) quiet =
-    quiet_by request held shown came.0 quiet came.1
-quiet_open request held shown Same (Err shelf.Unseen) same (inr none) quiet = same none
-quiet_open request held shown Same (Err why) same none quiet = same none
 
 -- ---- what was served
 

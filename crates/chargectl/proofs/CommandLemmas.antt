@@ -1,6 +1,6 @@
 -- What commands ask, and what they tell.
-use Rattle.std.proofs.Common.{◌≡◌, List, ℕ, Option, Some, None, Result, Ok, Err, true, false}
-use Rattle.std.proofs.Common.{◌⊎◌, sym, subst, refl, true≢false, take, length, inl, inr}
+use Rattle.std.proofs.Common.{◌≡◌, List, ℕ, Option, Some, None, Result, Ok, Err}
+use Rattle.std.proofs.Common.{◌⊎◌, sym, subst, refl, take, length, inl, inr}
 use Rattle.std.proofs.KnownBytes.{Appends-kept}
 use Rattle.std.proofs.Math.Seq.{take-length}
 use Rattle.std.specs.Prelude.{IfErr, IsErr, IsErrAnd}
@@ -13,7 +13,6 @@ use Rattle.book_core.specs.Ledgers.{Books}
 use Rattle.book_core.specs.Transition.{IsTransition}
 use Rattle.book_core.proofs.TransitionLemmas.{work_as}
 use Rattle.book_reports.specs.declared.fault.ReportFault.{ReportFault}
-use Rattle.book_reports.specs.declared.fault.ReportFault.TheVariants as report
 use Rattle.book_reports.specs.Reports.{IsWritten}
 use Rattle.named_books.specs.declared.repository.RepositoryFault.{RepositoryFault}
 use Rattle.office.specs.declared.request.Answer.{Answer}
@@ -23,17 +22,15 @@ use Rattle.named_books.specs.Shelves.{Shelf}
 use Rattle.named_books.proofs.ShelfLemmas.{untouched}
 use Rattle.command_line.specs.declared.request.BookRequest.{BookRequest}
 use Rattle.command_line.specs.declared.request.BookRequest.TheVariants as to_books
-use Rattle.command_line.specs.declared.request.Ruling.{Ruling}
 use Rattle.command_line.specs.declared.request.Ruling.TheVariants as ruling
 use Rattle.program_output.specs.Names.{name_in}
 use Rattle.chargectl.specs.declared.command_fault.CommandFault.{CommandFault}
-use Rattle.chargectl.specs.declared.command_fault.CommandFault.TheVariants as fault
 use Rattle.chargectl.specs.declared.ended.Answered.{Answered}
-use Rattle.chargectl.specs.Commands.{AsksNothing, AsksOnceBy, ComesOf, IsDated}
-use Rattle.chargectl.specs.Commands.{IsFileFault, IsNoticedBy, IsPrinted, IsShelfFault}
-use Rattle.chargectl.specs.Commands.{IsTariffFault, IsTextFault, IsWordFault, is_dated, report_of}
+use Rattle.chargectl.specs.Commands.{AsksNothing, AsksOnceBy, ComesOf}
+use Rattle.chargectl.specs.Commands.{IsFileFault, IsShelfFault}
+use Rattle.chargectl.specs.Commands.{IsTariffFault, IsTextFault, IsWordFault, report_of}
 use Rattle.chargectl.specs.Commands.{what_if_of}
-use Rattle.chargectl.specs.Faults.{EndsText, io_fault}
+use Rattle.chargectl.specs.Faults.{io_fault}
 
 -- a request with its answer
 pub asked_once : (asked : Asked) (answer : Result Answer LedgerFault) (books : Books) (input : Input)
@@ -87,64 +84,17 @@ module _ (One Other : RepositoryFault → Type 0)
       (either_as (IsTextFault why) why) it
   nothing_as request why it = shelf_as why it
 
--- what was noticed of a ruling of a day
-pub day_noticed : (ruled : Ruling) (asked : Asked) (book : List ℕ) (old new : Shelf)
-    (answered : Answered) → is_dated ruled ≡ true → IsDated asked book old new answered
-    → IsNoticedBy (to_books.Rule ruled) asked book old new answered
-day_noticed (ruling.Tariff file) asked book old new answered is dated = dated
-day_noticed (ruling.Close period date) asked book old new answered is dated = dated
-day_noticed (ruling.Choose digest) asked book old new answered is dated =
-    absurd (true≢false (sym is))
-day_noticed ruling.Adopt asked book old new answered is dated = absurd (true≢false (sym is))
-
--- and nothing was of another
-pub none_noticed : (ruled : Ruling) (asked : Asked) (book : List ℕ) (old new : Shelf)
-    (answered : Answered) → is_dated ruled ≡ false → answered.notice ≡ None
-    → IsNoticedBy (to_books.Rule ruled) asked book old new answered
-none_noticed (ruling.Tariff file) asked book old new answered is none = absurd (true≢false is)
-none_noticed (ruling.Close period date) asked book old new answered is none =
-    absurd (true≢false is)
-none_noticed (ruling.Choose digest) asked book old new answered is none = none
-none_noticed ruling.Adopt asked book old new answered is none = none
-
 -- the file of a tariff failed
 pub file_fault : {T : Type 0} (result : Result T CommandFault) (kind : ErrorKind)
     → IsErrAnd result (λ why. why ≡ io_fault kind) → IfErr result IsTextFault
 file_fault (Ok text) kind is = absurd is
 file_fault (Err why) kind is = inl (kind, is)
 
--- the output failed
-pub text_untold : (text : List ℕ) (held holds : Option (List ℕ))
-    (result : Result (Unit {0}) CommandFault) (kind : ErrorKind)
-    → IsErrAnd result (λ why. why ≡ io_fault kind) → EndsText text held holds result
-text_untold text held holds (Ok done) kind is = absurd is
-text_untold text held holds (Err why) kind is = (kind, is)
-
 -- a word that is there is no fault
 pub word_there : {A : Type 0} (read : Option A) (found : A) (IsLater : CommandFault → Type 0)
     (why : CommandFault) → read ≡ Some found → IsLater why → IsWordFault read IsLater why
 word_there read found IsLater why is later =
     subst (λ read. IsWordFault read IsLater why) (sym is) later
-
--- and one that is not there is
-pub word_gone : {A : Type 0} (read : Option A) (IsLater : CommandFault → Type 0) → read ≡ None
-    → IsWordFault read IsLater fault.Argument
-word_gone read IsLater is = subst (λ read. IsWordFault read IsLater fault.Argument) (sym is) refl
-
--- an answer was not written
-pub not_written : (text : List ℕ) (output : Output) (told : Result (Unit {0}) ReportFault)
-    (refused : ReportFault) (held holds : Option (List ℕ)) → IsWritten text output told
-    → told ≡ Err refused → output.old.holds ≡ held → output.new.holds ≡ holds
-    → IsPrinted text held holds (Err (fault.Report refused))
-not_written text output told report.Write held holds written is old new =
-    let wrote = subst (λ told. IsWritten text output told) is written in (
-      inr refl,
-      wrote.0,
-      subst (λ held. Appends held holds (take wrote.0 text)) old
-          (subst (λ holds. Appends output.old.holds holds (take wrote.0 text)) new wrote.2),
-    )
-not_written text output told refused held holds written is old new =
-    absurd (subst (λ told. IsWritten text output told) is written)
 
 -- or it was written, and not seen to have left the program
 pub not_flushed : (text : List ℕ) (output : Output) (told : Result (Unit {0}) ReportFault)

@@ -35,15 +35,12 @@ use Rattle.office.specs.Requests as office
 use Rattle.office.specs.Requests.{IsAskableRuling, Response, Text, response_by, response_of}
 use Rattle.office.specs.Requests.{response_outcome}
 use Rattle.office.specs.Runs.{AsksWithoutReader, dump_here}
-use Rattle.named_books.specs.Shelves.{Shelf}
 use Rattle.office.proofs.LawLemmas.{asks_done}
-use Rattle.named_books.proofs.ShelfLemmas.{untouched}
 use Rattle.command_line.specs.declared.request.BookRequest.{BookRequest}
 use Rattle.chargectl.specs.declared.command_fault.CommandFault.{CommandFault}
-use Rattle.chargectl.specs.declared.ended.Answered.{Answered}
 use Rattle.chargectl.specs.declared.notice.Notice.{Notice}
 use Rattle.chargectl.specs.Commands.{AsksNothing}
-use Rattle.chargectl.specs.DryRuns.{ComesOfDryRun, IsAskedFor, IsNamedBy, IsRuled, IsShown, IsUnnamed}
+use Rattle.chargectl.specs.DryRuns.{IsAskedFor, IsNamedBy, IsRuled, IsShown, IsUnnamed}
 use Rattle.chargectl.specs.DryRuns.{ShowsDry, TellsDry, TriesOnce, TriesOnceBy, dated_by, ruled_told}
 use Rattle.chargectl.specs.DryRuns.{tariff_tried}
 use Rattle.chargectl.specs.Far.{far_notice, far_outcome, is_far_asked, notice_by}
@@ -70,15 +67,6 @@ pub none_asked : (request : BookRequest) (Refuses : RepositoryFault → Type 0)
 none_asked request Refuses (Ok asked) found bad is why = absurd is
 none_asked request Refuses (Err fault) found bad is why =
     subst (AsksNothing request Refuses) (sym is) why
-
--- nothing was tried, and this is why
-pub none_tried : (request : BookRequest) (book : List ℕ) (shelf : Shelf)
-    (result : Result Answered CommandFault) (found : CommandFault)
-    → IsErr result → IsErrAnd result (λ why. why ≡ found)
-    → AsksNothing request (shelf.refuses book) found → ComesOfDryRun request book shelf shelf result
-none_tried request book shelf (Ok answered) found bad is why = absurd is
-none_tried request book shelf (Err fault) found bad is why =
-    (subst (AsksNothing request (shelf.refuses book)) (sym is) why, untouched book shelf)
 
 -- the fault that `?` hands on: of a refusal nothing is noticed
 pub handed_on : {old new : Seen} {naming : Naming} {asked : Asked} {fault : LedgerFault}

@@ -2,11 +2,10 @@
 use Rattle.std.proofs.Common.{◌≡◌, ◌∙◌, ◌+◌, ◌-◌, ◌≤◌, ℕ, List, [], ◌++◌, true, true≢false, Option, Some, None}
 use Rattle.std.proofs.Common.{length, take, take_all, append-nil, ap, le_refl, subst, sym}
 use Rattle.std.proofs.lemmas.Slice.{take-put_mid_below}
-use Rattle.std.specs.Io.KnownBytes.{Consumes, IsAtEnd, Keeps}
-use Rattle.std.proofs.KnownBytes.{Consumes-kept, Consumes-trans}
+use Rattle.std.specs.Io.KnownBytes.{Consumes}
+use Rattle.std.proofs.KnownBytes.{Consumes-trans}
 use lib.Seq.{take-append_seam}
 use borrow.Rule.Slice.PartMut.{put_mid}
-use Rattle.std.specs.Fmt.{option_append}
 use Rattle.book_http.proofs.PieceLemmas.{grown_front}
 use Rattle.chargectl.specs.declared.first_bytes.FirstEnd.{FirstEnd}
 use Rattle.chargectl.specs.declared.first_bytes.FirstEnd.TheVariants.{Full, AtEnd, Failed}
@@ -21,15 +20,6 @@ more_taken had has left room given count came within few before more =
     subst (Consumes had left) (sym (grown_front count (length room - count) came room given within few))
     (Consumes-trans had has left (take count room) (take came given) before more)
 
--- a read that failed took none
-pub kept_taken : (had has left : Option (List ℕ)) (room given : List ℕ) (count : ℕ)
-    → count ≤ length room → Consumes had has (take count room) → Keeps has left
-    → Consumes had left (take count (put_mid count (length room - count) room given))
-kept_taken had has left room given count within before kept =
-    subst (Consumes had left)
-    (sym (take-put_mid_below count (length room - count) room given count (le_refl count) within))
-    (Consumes-kept had has left (take count room) before kept)
-
 -- neither did one that gave none
 pub none_taken : (had has left : Option (List ℕ)) (room given : List ℕ) (count came : ℕ)
     → count ≤ length room → came ≡ 0 → Consumes had has (take count room)
@@ -41,11 +31,6 @@ none_taken had has left room given count came within none before more =
     (sym (take-put_mid_below count (length room - count) room given count (le_refl count) within))
     (subst (Consumes had left) (append-nil (take count room))
     (Consumes-trans had has left (take count room) [] before nothing))
-
--- the reader is at its end where its end was met
-pub at_its_end : (end : FirstEnd) (count most : ℕ) (left : Option (List ℕ))
-    → IsFilled end count most left → end ≡ AtEnd → IsAtEnd left
-at_its_end end count most left filled is = subst (λ end. IsFilled end count most left) is filled
 
 -- the first bytes that were read are those of the dump
 pub are_first : (end : FirstEnd) (had left : Option (List ℕ)) (first : List ℕ) → is_whole end ≡ true
@@ -62,22 +47,8 @@ are_first AtEnd (Some bytes) (Some rest) first whole few filled taken =
 are_first (Failed error) (Some bytes) (Some rest) first whole few filled taken =
     absurd (true≢false (sym whole))
 
--- nothing is left of a reader at its end
-pub end_kept : (left : Option (List ℕ)) → IsAtEnd left → Keeps left (Some [])
-end_kept None end = tt
-end_kept (Some bytes) end = sym end
-
 -- what was written by a writer was written by the one that it was taken from
 pub written_so : (Is : Option (List ℕ) → Option (List ℕ) → Type 0)
     (old held has holds : Option (List ℕ)) → old ≡ held → holds ≡ has → Is old has → Is held holds
 written_so Is old held has holds one two is =
     subst (λ held. Is held holds) one (subst (λ holds. Is old holds) (sym two) is)
-
--- the first bytes and the rest are the dump
-pub whole_kept : (had left rest : Option (List ℕ)) (first : List ℕ) → Consumes had left first
-    → Keeps left rest → Keeps had (option_append (Some first) rest)
-whole_kept None left rest first taken kept = tt
-whole_kept (Some bytes) None rest first taken kept = absurd taken
-whole_kept (Some bytes) (Some more) None first taken kept = absurd kept
-whole_kept (Some bytes) (Some more) (Some same) first taken kept =
-    ap (λ rest. first ++ rest) kept ∙ sym taken

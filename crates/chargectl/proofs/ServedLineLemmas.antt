@@ -1,31 +1,11 @@
 -- Lines that are written up to the first write that fails.
-use Rattle.std.proofs.Common.{◌≡◌, ◌∙◌, ◌≤◌, Bool, true, false, List, ◌++◌, [], ℕ, Option, ap, sym, subst}
-use Rattle.std.proofs.Common.{true≢false, append-nil, append_assoc, drop, length, take, take_all}
+use Rattle.std.proofs.Common.{◌∙◌, Bool, true, false, List, ◌++◌, ℕ, Option, ap, sym}
+use Rattle.std.proofs.Common.{append_assoc, drop, take}
 use Rattle.std.proofs.Common.{take-append-drop}
-use Rattle.std.proofs.KnownBytes.{Appends-kept, Appends-nil, Appends-trans, Keeps-refl, Keeps-trans}
-use Rattle.std.specs.Io.KnownBytes.{Appends, Keeps}
+use Rattle.std.proofs.KnownBytes.{Appends-kept, Appends-trans, Keeps-trans}
+use Rattle.std.specs.Io.KnownBytes.{Appends}
 use Rattle.streams.specs.InputOutput.{WriterSeen}
 use Rattle.chargectl.specs.ServedLines.{Gains, GainsBy}
-
-nil_by : (failed : Bool) (held : Option (List ℕ)) → GainsBy failed failed held held []
-nil_by false held = Appends-nil held
-nil_by true held = Keeps-refl held
-
--- no text was to be written
-pub gains_nil : (seen : WriterSeen) → Gains seen seen []
-gains_nil seen = nil_by seen.has_failed seen.holds
-
--- nothing is written after a write that failed
-pub gains_none : (failed : Bool) (held : Option (List ℕ)) (text : List ℕ) → failed ≡ true
-    → GainsBy failed failed held held text
-gains_none true held text is = Keeps-refl held
-gains_none false held text is = absurd (true≢false (sym is))
-
--- before one, this is
-pub gains_now : (had failed : Bool) (held holds : Option (List ℕ)) (text : List ℕ) → had ≡ false
-    → GainsBy false failed held holds text → GainsBy had failed held holds text
-gains_now had failed held holds text well it =
-    subst (λ had. GainsBy had failed held holds text) (sym well) it
 
 then_by : (one two three : Bool) (held has holds : Option (List ℕ)) (first next : List ℕ)
     → GainsBy one two held has first → GainsBy two three has holds next
@@ -65,20 +45,3 @@ front_gained held after text written so_far = record {
   parts = sym (take-append-drop written text);
   grown = so_far;
 }
-
--- all of a text was written, and then it was to leave the program
-pub whole_gained : (failed : Bool) (held before after : Option (List ℕ)) (text : List ℕ) (written : ℕ)
-    → length text ≤ written → Appends held before (take written text) → Keeps before after
-    → GainsBy false failed held after text
-whole_gained failed held before after text written all so_far kept =
-    by_flush failed (Appends-kept held before after text
-    (subst (Appends held before) (take_all written text all) so_far) kept)
-  where
-    by_flush : (failed : Bool) → Appends held after text → GainsBy false failed held after text
-    by_flush false grown = grown
-    by_flush true grown = record {
-      front = text;
-      rest = [];
-      parts = sym (append-nil text);
-      grown = grown;
-    }

@@ -1,10 +1,9 @@
 -- How connections are served.
 use Rattle.std.proofs.Common.{◌≡◌, Bool, true, false, List, [], ◌∷◌, ◌++◌, ℕ, ◌+◌, refl, sym, subst}
-use Rattle.std.proofs.Common.{Option, Some, None, Result, Ok, Err, true≢false, length, add-zero}
+use Rattle.std.proofs.Common.{Option, Some, None, Result, Ok, Err, true≢false, length}
 use Rattle.std.proofs.Common.{arith, inl, inr, unwrap_or}
-use Rattle.std.specs.Prelude.{IfErr, IfOk, IsErr, IsErrAnd}
+use Rattle.std.specs.Prelude.{IfErr, IfOk, IsErr}
 use Rattle.std.specs.declared.io.Error.{Error}
-use Rattle.std.specs.declared.io.ErrorKind.{ErrorKind}
 use Rattle.streams.specs.InputOutput.{WriterSeen}
 use Rattle.book_model.specs.Words.{Event, IsMadeByCalls, Naming, book_after}
 use Rattle.book_core.specs.Follow.{MakesAnswered}
@@ -17,19 +16,19 @@ use Rattle.named_books.specs.declared.repository.RepositoryFault.{RepositoryFaul
 use Rattle.named_books.specs.declared.repository.RepositoryFault.TheVariants.{Unseen}
 use Rattle.named_books.specs.Shelves.{Shelf, IsDoneTo, IsOpened, IsUntouched, OpenedAnew}
 use Rattle.named_books.proofs.ShelfLemmas.{done_after, done_as, done_then, opened_refused}
-use Rattle.named_books.proofs.ShelfLemmas.{opened_untouched, untouched}
+use Rattle.named_books.proofs.ShelfLemmas.{opened_untouched}
 use Rattle.chargectl.specs.declared.client_requests.Attended.{Attended}
 use Rattle.chargectl.specs.declared.command_fault.CommandFault.{CommandFault}
 use Rattle.chargectl.specs.declared.ended.Ended.{Ended}
 use Rattle.chargectl.specs.ClientRequests.{LeavesLog}
 use Rattle.chargectl.specs.CommandLaws.{AnswersOrNot, OpenedSo, ServesAny, ServesEach}
-use Rattle.chargectl.specs.Faults.{IsFileFault, io_fault, shelf_fault}
+use Rattle.chargectl.specs.Faults.{IsFileFault}
 use Rattle.chargectl.specs.Requests.{IsServiceFault, Serves}
 use Rattle.chargectl.specs.ServedLines.{Gains, unfailed}
 use Rattle.chargectl.specs.Serving.{AnswersSome, IsServing, IsToldOf, ServesInTurn, ServesOne}
 use Rattle.chargectl.specs.Serving.{line_of, lines_of, ready, service_end}
 use Rattle.chargectl.proofs.CommandLemmas.{either_as}
-use Rattle.chargectl.proofs.ServedLineLemmas.{gains_nil, gains_then}
+use Rattle.chargectl.proofs.ServedLineLemmas.{gains_then}
 
 -- ---- connections make events that the books answered
 
@@ -130,16 +129,6 @@ pub none_came : (So : Attended → Type 0) (result : Result Attended Error) → 
 none_came So (Ok what) bad = absurd (true≢false (sym bad))
 none_came So (Err error) bad = tt
 
--- nothing was served yet
-pub serving_none : {S : Type 0} (shelf : S → Shelf) (book : List ℕ) (place : S) (due : ℕ)
-    (held : WriterSeen) → IsServing shelf due due book place place held held
-serving_none shelf book place due held = record {
-  told = [];
-  turn = untouched book (shelf place);
-  count = add-zero due;
-  lines = gains_nil held;
-}
-
 -- one more connection was served
 pub serving_more : {S : Type 0} (shelf : S → Shelf) (book : List ℕ) (old between new : S)
     (due left less : ℕ) (held has holds : WriterSeen) (what : Served)
@@ -154,15 +143,6 @@ serving_more shelf book old between new due left less held has holds what before
       lines = gains_then held has holds (lines_of before.told) (line_of what) before.lines line;
     }
 
--- one did not come
-pub serving_cut : {S : Type 0} (shelf : S → Shelf) (book : List ℕ) (old between new : S)
-    (due left less : ℕ) (held holds : WriterSeen) → new ≡ between → less + 1 ≡ left
-    → IsServing shelf due left book old between held holds
-    → IsServing shelf due (less + 1) book old new held holds
-serving_cut shelf book old between new due left less held holds same one it =
-    subst (λ left. IsServing shelf due left book old new held holds) (sym one)
-    (subst (λ place. IsServing shelf due left book old place held holds) (sym same) it)
-
 -- a log is as the last client left it, or as it was before
 pub log_left : {S : Type 0} (shelf : S → Shelf) (book : List ℕ) (old new : S) (was : Bool)
     (left : Option Bool) → (shelf old).has_log book was → LeavesLog shelf book old new left
@@ -172,20 +152,6 @@ log_left shelf book old new was None before same =
     subst (λ place. (shelf place).has_log book was) (sym same) before
 
 -- ---- a whole service
-
--- the place of the books refused them
-pub shelf_failed : {T : Type 0} (Refuses : RepositoryFault → Type 0)
-    (result : Result T CommandFault) (why : RepositoryFault) → Refuses why
-    → IsErrAnd result (λ fault. fault ≡ shelf_fault why) → IfErr result (IsServiceFault Refuses)
-shelf_failed Refuses (Ok value) why refused is = absurd is
-shelf_failed Refuses (Err fault) why refused is = inl (why, refused, is)
-
--- or the port
-pub port_failed : {T : Type 0} (Refuses : RepositoryFault → Type 0) (result : Result T CommandFault)
-    (kind : ErrorKind) → IsErrAnd result (λ fault. fault ≡ io_fault kind)
-    → IfErr result (IsServiceFault Refuses)
-port_failed Refuses (Ok value) kind is = absurd is
-port_failed Refuses (Err fault) kind is = inr (kind, is)
 
 -- a service that ended with a fault
 cut_by : {S : Type 0} (shelf : S → Shelf) (Refuses : RepositoryFault → Type 0) (book : List ℕ)

@@ -1,4 +1,4 @@
-use Rattle.std.proofs.Common.{ap, refl}
+use Rattle.std.proofs.Common.{ap}
 use Rattle.streams.specs.Sinks.{writer_of}
 use Rattle.book_core.specs.Transition.{IsTransition}
 use Rattle.book_http.specs.declared.requested.Requested.TheVariants as requested
@@ -14,12 +14,6 @@ pub returns-in-Settled-clause-done : goal.returns-in-Settled-clause-done
 returns-in-Settled-clause-done g c =
     rw c.in-Settled.is
     (refuses (g.L.Ledger.seen c.args.books.now) (reply_of c.in-Settled.settled))
-
-pub returns-in-Office-clause-done : goal.returns-in-Office-clause-done
-returns-in-Office-clause-done g c = rw c.in-Office.is c.ask_office-answer.ensures
-
-pub returns-in-Err-clause-done : goal.returns-in-Err-clause-done
-returns-in-Err-clause-done g c = rw c.in-Details.is c.in-Err.ensures.asked
 
 pub returns-in-Ok-clause-done : goal.returns-in-Ok-clause-done
 returns-in-Ok-clause-done g c =
@@ -39,7 +33,3 @@ returns-in-Ok-clause-done g c =
     c.in-Ok.ensures.long
     (sized_sent old (seen c.ask_details.new.ledger) new c.in-Details.details c.in-Ok.size
     held holds sent.result c.in-Ok.ensures.asked sent.ensures.sent)))
-
-pub returns-in-Ok-clause-came : goal.returns-in-Ok-clause-came
-returns-in-Ok-clause-came g c =
-    rw c.in-Details.is (refl, c.send_details-what.ensures.answered)

@@ -1,4 +1,4 @@
-use Rattle.std.proofs.Common.{Err, ap, subst}
+use Rattle.std.proofs.Common.{subst}
 use Rattle.streams.specs.Sources.{has_ended}
 use Rattle.book_http.specs.declared.requested.Requested.TheVariants as requested
 use Rattle.book_http.specs.Requested.{IsAsking}
@@ -24,23 +24,3 @@ returns-in-Ok-Settled-clause-served g c =
       answered = settled c.args.book.now (shelf old) c.in-Ok-Settled.answer held holds sent.result.0
           sent.ensures.sent;
     }))
-
-pub returns-in-Ok-clause-served : goal.returns-in-Ok-clause-served
-returns-in-Ok-clause-served g c =
-    let contents = g.W.Write.contents in
-    let from = c.answer_from_books in
-    gave_as c.in-Ok.ensures.asks
-    (λ taken asking. served_from g.S.Repository.shelf c.args.repository.now from.new.repository
-    c.args.book.now taken (has_ended c.read_request.new.source) (contents c.args.writer)
-    (contents from.result.1) from.result.0.served from.ensures.answered
-    (record { request = c.in-Ok.request; asks = asking; answered = from.ensures.from }))
-
-pub returns-in-Err-Closed-clause-served : goal.returns-in-Err-Closed-clause-served
-returns-in-Err-Closed-clause-served g c =
-    let closed = c.in-Err-Closed in
-    gave_as (rw closed.field-0-is at closed.ensures.asks)
-    (λ taken none. (none, closed.ensures.closed (ap Err closed.field-0-is)))
-
-pub returns-in-Err-Failed-clause-served : goal.returns-in-Err-Failed-clause-served
-returns-in-Err-Failed-clause-served g c =
-    gave_as c.in-Err-Failed.ensures.asks (λ taken failed. tt)

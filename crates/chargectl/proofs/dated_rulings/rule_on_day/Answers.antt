@@ -3,14 +3,6 @@ use Rattle.chargectl.specs.Commands.{answer_told}
 use Rattle.chargectl.proofs.FarLemmas.{once_opened}
 use Rattle.chargectl.proofs.dated_rulings.rule_on_day.Goals as goal
 
-pub returns-clause-dated : goal.returns-clause-dated
-returns-clause-dated g c = record {
-  told = c.open-answer.result.answer;
-  done = c.open-answer.ensures.opened;
-  says = ap (λ both. both.0) c.told_in-answer.ensures;
-  notice = ap (λ both. both.1) c.told_in-answer.ensures;
-}
-
 pub returns-clause-answered : goal.returns-clause-answered
 returns-clause-answered g c = record {
   told = answer_told c.open-answer.result.answer;

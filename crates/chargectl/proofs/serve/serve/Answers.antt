@@ -1,14 +1,6 @@
-use Rattle.std.proofs.Common.{refl}
-use Rattle.named_books.proofs.ShelfLemmas.{opened_untouched, untouched}
+use Rattle.named_books.proofs.ShelfLemmas.{opened_untouched}
 use Rattle.chargectl.proofs.ServingLemmas.{serves_after, serves_none}
 use Rattle.chargectl.proofs.serve.serve.Goals as goal
-
-pub returns-in-Err : goal.returns-in-Err
-returns-in-Err g c = (
-  (c.in-Err.fault, c.in-Err.ensures, c.from.ensures),
-  untouched c.args.book.now (g.S.Repository.shelf c.args.repository.now),
-  refl,
-)
 
 pub returns-in-Ok : goal.returns-in-Ok
 returns-in-Ok g c =

@@ -1,30 +1,7 @@
 use Rattle.std.proofs.Common.{subst, sym}
 use Rattle.chargectl.specs.ServedLines.{seen_of}
-use Rattle.chargectl.proofs.ServingLemmas.{log_left, serving_cut, serving_more, serving_none}
+use Rattle.chargectl.proofs.ServingLemmas.{log_left, serving_more}
 use Rattle.chargectl.proofs.serve.serve_each.Goals as goal
-
-pub loop-connections-init : goal.loop-connections-init
-loop-connections-init g c = record {
-  serving = serving_none g.S.Repository.shelf c.args.book.now c.args.repository.now
-      (g.C.Connections.left c.args.connections.now) (seen_of g.O.Write.contents c.args.lines.now);
-  log = c.requires;
-}
-
-pub returns-in-Err-clause-served : goal.returns-in-Err-clause-served
-returns-in-Err-clause-served g c =
-    serving_cut g.S.Repository.shelf c.args.book.now c.args.repository.now
-    c.loop-connections.repository c.next.new.repository
-    (g.C.Connections.left c.args.connections.now)
-    (g.C.Connections.left c.loop-connections.connections) (g.C.Connections.left c.next.new.self)
-    (seen_of g.O.Write.contents c.args.lines.now)
-    (seen_of g.O.Write.contents c.loop-connections.lines) c.in-Err.ensures.none
-    c.next.ensures.left c.loop-connections.invariant.serving
-
-pub returns-in-Err-clause-log : goal.returns-in-Err-clause-log
-returns-in-Err-clause-log g c =
-    subst
-    (λ place. (g.S.Repository.shelf place).has_log c.args.book.now c.loop-connections.has_log)
-    (sym c.in-Err.ensures.none) c.loop-connections.invariant.log
 
 pub loop-connections-preserved : goal.loop-connections-preserved
 loop-connections-preserved g c =

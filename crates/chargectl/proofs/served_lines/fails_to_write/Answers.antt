@@ -1,4 +1,4 @@
-use Rattle.chargectl.proofs.ServedLineLemmas.{front_gained, whole_gained}
+use Rattle.chargectl.proofs.ServedLineLemmas.{front_gained}
 use Rattle.chargectl.proofs.served_lines.fails_to_write.Goals as goal
 
 pub returns-then-written-size : goal.returns-then-written-size
@@ -6,10 +6,3 @@ returns-then-written-size g c =
     front_gained (g.O.Write.contents c.args.output.now)
     (g.O.Write.contents c.hand_all-written.new.writer) c.args.bytes.now c.hand_all-written.result
     c.hand_all-written.ensures.grown
-
-pub returns : goal.returns
-returns g c =
-    whole_gained c.is_err.result (g.O.Write.contents c.args.output.now)
-    (g.O.Write.contents c.hand_all-written.new.writer) (g.O.Write.contents c.flush.new.self)
-    c.args.bytes.now c.hand_all-written.result c.if-written-size.false
-    c.hand_all-written.ensures.grown c.flush.ensures.bytes

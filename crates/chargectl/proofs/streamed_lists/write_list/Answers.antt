@@ -2,18 +2,10 @@ use Rattle.std.proofs.Common.{◌≡◌, ◌∙◌, None, Ok, false, ap, refl, s
 use Rattle.std.specs.Prelude.{IsErr}
 use Rattle.std.specs.Io.KnownBytes.{Keeps}
 use Rattle.streams.specs.Sinks.{writer_of}
-use Rattle.named_books.proofs.ShelfLemmas.{untouched}
 use Rattle.chargectl.specs.Commands.{first_fault}
 use Rattle.chargectl.specs.StreamedLists.{ListsBy, list_end}
 use Rattle.chargectl.proofs.StreamedListLemmas.{came_kept, opened_kept}
 use Rattle.chargectl.proofs.streamed_lists.write_list.Goals as goal
-
-pub returns-in-Err : goal.returns-in-Err
-returns-in-Err g c = (
-  (c.in-Err.fault, c.in-Err.ensures, c.from.ensures),
-  untouched c.args.book.now (g.S.Repository.shelf c.args.repository.now),
-  refl,
-)
 
 pub returns : goal.returns
 returns g c =
