@@ -13,12 +13,11 @@ use Rattle.std.proofs.lemmas.Option.{slice_get-map, slice_get_past, slice_get_ca
 use Rattle.book_model.specs.declared.fault.LedgerFault.{LedgerFault}
 use Rattle.book_model.specs.declared.answer.Ruled.TheVariants.{Already, Done}
 use Rattle.book_model.specs.declared.fault.LedgerFault.TheVariants.{NoSuchPeriod}
-use Rattle.book_model.specs.Words.{Book, open_number, open_period, period_of, IsBookCall}
-use Rattle.book_model.specs.Words.{PeriodClosed, close_outcome, close_answer, if_done}
+use Rattle.book_model.specs.Words.{Book, open_number, open_period, period_of}
+use Rattle.book_model.specs.Words.{PeriodClosed, if_done}
 use Rattle.book_model.specs.Words.{after_any, keep, close, Period, Naming, by_bytes}
 use Rattle.book_model.specs.Words.{Rulings, are_rising, price_under, with_close}
 use Rattle.book_model.specs.declared.answer.Ruled.{Ruled}
-use Rattle.book_model.proofs.AnswerLemmas.{answers_itself, ruling_calls}
 use Rattle.book_core.specs.declared.closed.ClosedPeriod.{ClosedPeriod}
 use Rattle.book_core.specs.declared.period_end.PeriodEnd.{PeriodEnd}
 use Rattle.book_core.specs.declared.held.HeldRecord.{HeldRecord}
@@ -146,15 +145,6 @@ module _ {naming : Naming} {rulings : Rulings} {entries : List Entry} {total : �
         posted = now i;
         past = past i;
       })
-
--- a close that was asked for, by what it answered and by the event of that answer
-pub close_calls : (number : ℕ) (day : ℤ) (old new : Book) (result : Result Ruled LedgerFault)
-    → close_answer old.rulings number day ≡ result
-    → new ≡ after_any (if_done (Some (PeriodClosed day)) result) old
-    → IsBookCall (λ (value : Ruled). value) old new result (close_outcome number day)
-close_calls number day old new result answer book =
-    ruling_calls (close_outcome number day) (Some (PeriodClosed day)) old new result refl
-    (answers_itself result _ answer) book
 
 -- an answer that is not Done changes no book
 pub close_leaves : (day : ℤ) (answer : Result Ruled LedgerFault) (book : Book) → answer ≢ Ok Done

@@ -11,9 +11,9 @@ use Rattle.std.proofs.lemmas.Bool.Decides.{nat_tests}
 use Rattle.std.proofs.lemmas.Simd.{map-map}
 use Rattle.tariff_rules.specs.declared.priced.Priced.{Priced}
 use Rattle.book_model.specs.declared.fault.LedgerFault.{LedgerFault}
-use Rattle.book_model.specs.declared.fault.LedgerFault.TheVariants.{Full, Memory, NoSuchPeriod}
+use Rattle.book_model.specs.declared.fault.LedgerFault.TheVariants.{Full, NoSuchPeriod}
 use Rattle.book_model.specs.declared.row.ChargeRow.{ChargeRow}
-use Rattle.book_model.specs.Words.{Answers, AreRows, FitSums, IsPriced, Naming, Period, Rulings}
+use Rattle.book_model.specs.Words.{AreRows, FitSums, IsPriced, Naming, Period, Rulings}
 use Rattle.book_model.specs.Words.{Terms, by_bytes, costs_under, most_cost, most_held, price_by}
 use Rattle.book_model.specs.Words.{rows_if_room, rows_of, what_if_answer}
 use Rattle.book_model.proofs.RowLemmas.{rows_if_room-alike}
@@ -59,14 +59,6 @@ refused terms None fault is = ap (λ (of : Result Period LedgerFault). again of)
     again (Ok period) = Err NoSuchPeriod
     again (Err fault) = Err fault
 refused terms (Some period) fault is = cc
-
--- a refusal of the period is one of its rows
-pub refused_under : {P V : Type 0} (view : P → Period) (rows : V → List ChargeRow) (terms : Terms)
-    (found : Option Period) (fault : LedgerFault)
-    → Answers view (Err fault) (ok_or found NoSuchPeriod)
-    → Answers rows (Err fault) (what_if_answer terms found)
-refused_under view rows terms found Memory is = is
-refused_under view rows terms found fault is = refused terms found fault is
 
 module _ {naming : Naming} {rulings : Rulings} {entries : List Entry} {total : ℕ}
     (kept : AreBooked naming rulings entries total)

@@ -1,6 +1,6 @@
 -- The trail of a record of a plain ledger.
 use Rattle.std.proofs.Common.{◌≡◌, ◌∙◌, ℕ, List, [], ◌∷◌, ◌++◌, map, refl, sym, ap, Bool, true, false}
-use Rattle.std.proofs.Common.{Option, None, Some, Ok, Err, ◌+◌, ◌<◌, length, take, get_or, cond}
+use Rattle.std.proofs.Common.{Option, None, Some, Err, ◌+◌, ◌<◌, length, take, get_or, cond}
 use Rattle.std.specs.Prelude.{All, ℤ, filter, find, reverse}
 use Rattle.std.specs.BTreeMap.{is_at}
 use Rattle.std.specs.List.Sorted.{IsStrictlySortedBy}
@@ -14,7 +14,6 @@ use Rattle.std.proofs.lemmas.Simd.{map-map}
 use Rattle.tariff_rules.specs.declared.reckoning.Reckoning.{Reckoning}
 use Rattle.book_model.specs.declared.dispute.Variant.{Variant}
 use Rattle.book_model.specs.declared.fault.LedgerFault.TheVariants.{NoSuchRecord}
-use Rattle.book_model.specs.declared.trail.NamedChoice.{NamedChoice}
 use Rattle.book_model.specs.Words.{AcceptedTerms, Book, Choice, IsDay, Naming, TrailSeen, are_rising}
 use Rattle.book_model.specs.Words.{by_bytes, choice_named, choices_among, day_of, has_begun}
 use Rattle.book_model.specs.Words.{identity_by, in_force, life_of, period_on, reckoning_by}
@@ -27,7 +26,7 @@ use Rattle.book_core.specs.declared.closed.ClosedPeriod.{ClosedPeriod}
 use Rattle.book_core.specs.declared.held.HeldRecord.{HeldRecord}
 use Rattle.book_core.specs.declared.rulings.Rulings.{Rulings as OfficeRulings}
 use Rattle.book_core.specs.Choices.{choice_of, is_of}
-use Rattle.book_core.specs.Plain.{AreBooked, Entry, dispute_among, entry_has_identity, record_of}
+use Rattle.book_core.specs.Plain.{AreBooked, Entry, entry_has_identity, record_of}
 use Rattle.book_core.specs.Plain.{ruled_by, variant_at}
 use Rattle.book_core.specs.PlainBook.{book_with}
 use Rattle.book_core.specs.Treatments.{Names, under_name}

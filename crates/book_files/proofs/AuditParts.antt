@@ -11,8 +11,6 @@ use Rattle.book_core.specs.Transition.{Transition}
 use Rattle.table_ledger.specs.Ready.{IsStoredIn}
 use Rattle.book_audit.specs.Own.{AreOwn}
 use Rattle.book_audit.specs.declared.audited.Audited.{Audited}
-use Rattle.book_audit.specs.declared.audited.Audited.TheVariants.{Sound}
-use Rattle.book_audit.specs.declared.audited.Counts.{Counts}
 use Rattle.book_trees.specs.Forms.{HoldsThisForm}
 use Rattle.book_trees.specs.LedgerFiles.{HoldsBooks, trees_held}
 use Rattle.book_trees.specs.Looks.{IsLookRefusedFor, IsUnopenedLook}
@@ -26,12 +24,6 @@ use Rattle.book_files.specs.Sessions.{MayFollow}
 use Rattle.book_files.specs.declared.session.Ended.{Ended}
 use Rattle.book_files.specs.declared.session.Ended.TheVariants.{Closed, Refused}
 use Rattle.book_files.proofs.SessionParts.{found_clean}
-
--- files that were not looked through are not called sound
-pub never_sound : (Says : Counts → Type 0) (fault : LookFault)
-    → IfOk (look_answer fault) (λ audited. (counts : Counts) → audited ≡ Sound counts → Says counts)
-never_sound Says Pages = λ counts is. absurd (cc)
-never_sound Says (Open fault) = tt
 
 -- nor unsound, where they hold a book that calls made
 pub never_unsound : {D : Type 0} (g : Ghosts D) (found : Image) (AtLimit : Files D → Type 0)

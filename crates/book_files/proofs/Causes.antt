@@ -2,7 +2,7 @@
 use Rattle.std.proofs.Common.{◌≡◌, ◌∙◌, ℕ, Bool, Result, Ok, Err, Option, None, Some, inl, inr, refl}
 use Rattle.std.proofs.Common.{◌⊎◌, arith, false, subst, sym, IsTrue}
 use Rattle.std.proofs.Math.Logic.{∥∥₁_elim, ∥∥₁_map, ∥∥₁_prop}
-use Rattle.std.specs.Prelude.{IfErr, IfOk, IsErrAnd, MatchOption, MatchResult, ⊤}
+use Rattle.std.specs.Prelude.{IfErr, IfOk, IsErrAnd, MatchOption, MatchResult}
 use Rattle.sqlite_disk.specs.Disk.{MoreFaults}
 use Rattle.sqlite_disk.specs.declared.Disk.{Ghosts}
 use Rattle.sqlite_disk.specs.declared.files.Files.{Files}
@@ -11,8 +11,6 @@ use Rattle.sqlite_store.specs.declared.store.FileStore.{FileStore}
 use Rattle.sqlite_trees.proofs.Doubt.{clean_of}
 use Rattle.sqlite_trees.specs.Tree.{Trees}
 use Rattle.sqlite_trees.specs.View.{IsClean}
-use Rattle.sqlite_trees.specs.declared.error.StoreError.{StoreError}
-use Rattle.sqlite_trees.specs.declared.error.StoreError.TheVariants.{OutOfMemory}
 use Rattle.sqlite_wal.specs.Recovery.{Image}
 use Rattle.book_model.specs.Words.{Book, Naming}
 use Rattle.book_model.specs.declared.fault.LedgerFault.{LedgerFault}
@@ -22,7 +20,7 @@ use Rattle.book_trees.specs.Copies.{IsCopyRefusedFor}
 use Rattle.book_trees.specs.FirstForm.{IsFirstRefusedFor, IsUnopenedFirst}
 use Rattle.book_trees.specs.Forms.{HoldsThisForm}
 use Rattle.book_trees.specs.LedgerFiles.{image_of, HoldsBooks, trees_held}
-use Rattle.book_trees.specs.Looks.{IsLookRefusedFor, IsUnopenedLook}
+use Rattle.book_trees.specs.Looks.{IsUnopenedLook}
 use Rattle.book_trees.specs.Refusals.{IsRefusedFor, IsUnopened}
 use Rattle.book_trees.specs.declared.faults.OpenFault.{OpenFault}
 use Rattle.book_trees.specs.declared.faults.OpenFault.TheVariants as opening
@@ -32,8 +30,7 @@ use Rattle.book_trees.specs.declared.integrity.LookFault.{LookFault}
 use Rattle.book_trees.specs.declared.integrity.LookFault.TheVariants.{Pages, Open}
 use Rattle.book_files.specs.Causes.{HasFaultCause, HasNoAnswerFor, HaveNoBookRow, HoldsOurBooks}
 use Rattle.book_files.specs.Causes.{HoldsOurs, IsWithoutFiles, ShowsOurBooks, ShowsOurs, WhyNotCopied}
-use Rattle.book_files.specs.Faults.{first_answer, look_answer, not_copied, open_fault, resume_fault}
-use Rattle.book_files.specs.Faults.{store_fault}
+use Rattle.book_files.specs.Faults.{first_answer, not_copied, open_fault}
 use Rattle.book_files.specs.declared.session.Ended.TheVariants.{Refused}
 use Rattle.book_files.proofs.NewParts.{opened_empty}
 use Rattle.book_files.proofs.SessionParts.{opened_stands}
@@ -41,7 +38,7 @@ use Rattle.named_books.specs.declared.repository.RepositoryFault.{RepositoryFaul
 use Rattle.named_books.specs.declared.repository.RepositoryFault.TheVariants.{Io, Exists, Busy, Ledger}
 use Rattle.table_model.specs.Readable.{IsReadable}
 use Rattle.table_ledger.specs.Commits.{Stores}
-use Rattle.table_ledger.specs.Loaded.{IsOpenCause, IsOpenFault, IsStoreFault, IsToldBy}
+use Rattle.table_ledger.specs.Loaded.{IsOpenCause, IsOpenFault, IsToldBy}
 use Rattle.table_model.specs.TablesOf.{tables_of}
 use Rattle.tree_tables.proofs.TheBook.{book_absent}
 use Rattle.tree_tables.specs.Holds.{has_book}
@@ -58,11 +55,6 @@ pub ok_each : {A E : Type 0} {Says : A → Type 0} (result : Result A E)
     → ((answer : A) → Says answer) → IfOk result Says
 ok_each (Ok answer) each = each answer
 ok_each (Err fault) each = tt
-
-pub err_each : {A E : Type 0} {Says : E → Type 0} (result : Result A E)
-    → ((fault : E) → Says fault) → IfErr result Says
-err_each (Ok answer) each = tt
-err_each (Err fault) each = each fault
 
 -- and so may what is said of an error that is taken for another
 pub mapped_err : {A E F : Type 0} {One : E → Type 0} (Other : F → Type 0) (to : E → F)
@@ -84,17 +76,6 @@ mapped_ok Says to (Ok answer) mapped is one = subst (λ mapped. IfOk mapped Says
 mapped_ok Says to (Err fault) (Ok answer) is one = absurd is
 mapped_ok Says to (Err fault) (Err other) is one = tt
 
--- and so is what came of a visit
-pub mapped_came : {A E F : Type 0} (Came : A → Type 0) (Same : Type 0) (to : E → F)
-    (result : Result A E) (mapped : Result A F)
-    → MatchResult result (λ answer. mapped ≡ Ok answer)
-    (λ fault. IsErrAnd mapped (λ other. other ≡ to fault))
-    → MatchResult result Came (λ fault. Same) → MatchResult mapped Came (λ fault. Same)
-mapped_came Came Same to (Ok answer) mapped is came =
-    subst (λ mapped. MatchResult mapped Came (λ fault. Same)) (sym is) came
-mapped_came Came Same to (Err fault) (Ok answer) is same = absurd is
-mapped_came Came Same to (Err fault) (Err other) is same = same
-
 -- a count that rose is not 0
 pub since_none : (old new : ℕ) → MoreFaults old new → MoreFaults 0 new
 since_none old new more = omega arith
@@ -115,14 +96,6 @@ cause_so Absent Absent' There There' Failed Failed' absent there failed (Ledger 
     failed cause
 cause_so Absent Absent' There There' Failed Failed' absent there failed Exists cause = there cause
 cause_so Absent Absent' There There' Failed Failed' absent there failed other cause = cause
-
--- a fault of the store has a cause
-pub store_cause : (Absent There : Type 0) (fault : LedgerFault) → IsStoreFault fault
-    → HasFaultCause Absent There ⊤ (Ledger fault)
-store_cause Absent There fault (inl memory) =
-    subst (λ fault. HasFaultCause Absent There ⊤ (Ledger fault)) (sym memory) tt
-store_cause Absent There fault (inr store) =
-    subst (λ fault. HasFaultCause Absent There ⊤ (Ledger fault)) (sym store) tt
 
 -- and so has the fault of books that were not opened
 pub opened_cause : (Absent There Failed : Type 0) (fault : LedgerFault)
@@ -155,12 +128,6 @@ ours_failed names old new fault is told own (inr empty) =
       | inl none ↦ absurd (let both = sym is ∙ none in cc)
       | inr cause ↦ store_failed old new fault is cause
     ]
-
--- an error of a store has a cause
-pub error_cause : (Absent There : Type 0) (error : StoreError)
-    → HasFaultCause Absent There ⊤ (store_fault error)
-error_cause Absent There OutOfMemory = tt
-error_cause Absent There other = tt
 
 -- A store that was opened on files is at rest with what a ledger left of them.
 module _ {D : Type 0} {g : Ghosts D} (names : Naming) (first : Image) (store : FileStore D g)
@@ -229,14 +196,6 @@ module _ {D : Type 0} (g : Ghosts D) (Held : Type 0) (AtLimit : Files D → Type
   refused_cause opening.Busy (Some files) cause = cause
   refused_cause opening.Path (Some files) cause = cause
 
-  -- and so have those that were not looked through
-  pub look_cause : (fault : LookFault) (files : Option (Files D))
-      → MatchOption files (IsUnopenedLook fault) (IsLookRefusedFor g Held AtLimit fault)
-      → IfErr (look_answer fault) (λ fault.
-      HasNoAnswerFor g AtLimit (HasFaultCause (¬ Held) ⊥) Opened fault (Refused files))
-  look_cause Pages files cause = tt
-  look_cause (Open fault) files cause = refused_cause fault files cause
-
   -- and so have those that were to be brought to this form
   pub first_cause : (why : FirstFault) (files : Option (Files D))
       → MatchOption files (IsUnopenedFirst why) (IsFirstRefusedFor g Held AtLimit why)
@@ -253,20 +212,6 @@ module _ {D : Type 0} (g : Ghosts D) (Held : Type 0) (AtLimit : Files D → Type
   first_cause (form.Open opening.Store) (Some files) cause = λ clean. inl (cause clean)
   first_cause (form.Open opening.Busy) (Some files) cause = cause
   first_cause (form.Open opening.Path) (Some files) cause = cause
-
-  -- and so have those that were to be continued
-  pub unresumed_cause : (fault : OpenFault) (files : Option (Files D))
-      → MatchOption files (IsUnopened fault) (IsRefusedFor g Held AtLimit fault)
-      → HasNoAnswerFor g AtLimit (HasFaultCause ⊥ (¬ Held)) Opened (resume_fault fault)
-      (Refused files)
-  unresumed_cause fault None cause = without_files resume_fault refl refl refl fault cause
-  unresumed_cause opening.NotBooks (Some files) cause = cause
-  unresumed_cause opening.OldForm (Some files) cause = cause
-  unresumed_cause opening.NewForm (Some files) cause = cause
-  unresumed_cause opening.Memory (Some files) cause = λ clean. tt
-  unresumed_cause opening.Store (Some files) cause = cause
-  unresumed_cause opening.Busy (Some files) cause = cause
-  unresumed_cause opening.Path (Some files) cause = cause
 
 -- files of which there is no copy have the cause of the copying
 pub uncopied_cause : {A B : Type 0} (one : Ghosts A) (two : Ghosts B) (found : Image)

@@ -16,12 +16,11 @@ use Rattle.book_model.proofs.SoundLemmas.{none_in}
 use Rattle.book_model.specs.Words.{Book, Naming, new_book}
 use Rattle.book_core.specs.Ledgers.{IsOpenAt}
 use Rattle.sqlite_trees.proofs.Doubt.{clean_of}
-use Rattle.book_trees.specs.Forms.{IsSaid}
 use Rattle.book_trees.specs.LedgerFiles.{HoldsBooks, trees_held, AreEmptyTables, HoldsEmptyBooks}
 use Rattle.book_trees.specs.Refusals.{IsAsFound, IsBegun, MayLeave}
 use Rattle.book_trees.specs.Schema.{books_schema}
 use Rattle.book_restarts.specs.FileBooks.{HoldsHistory}
-use Rattle.book_files.specs.NewBooks.{HaveSameTables, IsEmpty, LeavesNew, LeavesNewBooks, MakesBooks}
+use Rattle.book_files.specs.NewBooks.{HaveSameTables, IsEmpty, LeavesNewBooks, MakesBooks}
 use Rattle.book_files.specs.NewBooks.{MayBeMade}
 use Rattle.book_files.specs.declared.session.Ended.TheVariants.{Refused}
 use Rattle.book_files.proofs.SessionParts.{held_still}
@@ -30,7 +29,6 @@ use Rattle.table_model.specs.TablesAfter.{new_tables}
 use Rattle.table_model.specs.TablesOf.{tables_of}
 use Rattle.table_model.proofs.CallsLemmas.{calls_stay}
 use Rattle.table_model.proofs.ReadableLemmas.{calls_read}
-use Rattle.tree_tables.specs.Forms.{this_form}
 use Rattle.tree_tables.specs.Holds.{Holds}
 use Rattle.table_ledger.specs.LedgerState.{seen_of}
 use Rattle.table_ledger.specs.Ready.{IsStoredIn}
@@ -64,32 +62,6 @@ open_leaves naming view may_leave must_reopen summary last start opened trees le
 -- each table is as it was under another form
 pub said_tables : (trees : Trees) (form : ℕ) → HaveSameTables trees (with_version trees form)
 said_tables trees form tree low = past_version tree low trees form
-
--- a store that says another form is as empty as it was
-pub said_empty : (old new : View) → IsSaid old new → IsEmpty old → IsEmpty new
-said_empty old new said empty = record {
-  rest = record {
-    is_open = said.is_open ∙ empty.rest.is_open;
-    sound = said.sound;
-    settled = said.settled;
-  };
-  none = record {
-    empty = λ tree low. ap (λ (trees : Trees). trees tree) said.trees
-        ∙ said_tables old.trees this_form tree (omega (arith, low)) ∙ empty.none.empty tree low;
-  };
-}
-
--- and what is left of it then, is left of it as it was
-pub said_leaves : {A F : Type 0} (names : Naming) (old new : View) (result : Result A F)
-    (trees : Trees) → IsClean old → IsSaid old new → LeavesNew names new result trees
-    → LeavesNew names old result trees
-said_leaves names old new (Ok made) trees clean said left = left
-said_leaves names old new (Err fault) trees clean said (inl was) = inl (
-  clean,
-  λ tree low. was.1 tree low ∙ ap (λ (trees : Trees). trees tree) said.trees
-      ∙ said_tables old.trees this_form tree low,
-)
-said_leaves names old new (Err fault) trees clean said (inr kept) = inr kept
 
 -- a store whose tables were just made is empty
 pub made_empty : {D : Type 0} {g : Ghosts D} (store : FileStore D g) → IsReady store

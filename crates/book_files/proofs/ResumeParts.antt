@@ -1,40 +1,29 @@
 -- New books are continued: a look whether anything was submitted to them, and what is left.
-use Rattle.std.proofs.Common.{◌≡◌, ◌∙◌, Bool, true, false, IsTrue, List, Option, None, Some, Result, Ok}
-use Rattle.std.proofs.Common.{Err, length, ap, inl, inr, is_some, subst, sym, true≢false}
+use Rattle.std.proofs.Common.{◌≡◌, ◌∙◌, Bool, true, false, List, Option, None, Some, Result, Ok}
+use Rattle.std.proofs.Common.{Err, length, ap, is_some, subst, sym, true≢false}
 use Rattle.std.proofs.lemmas.List.{length-map}
 use Rattle.std.specs.Prelude.{IfOk}
 use Rattle.std.specs.Option.{option_map}
-use Rattle.sqlite_trees.specs.Tree.{Trees}
 use Rattle.sqlite_trees.specs.View.{View, IsClean}
 use Rattle.sqlite_trees.specs.declared.error.StoreError.{StoreError}
 use Rattle.book_model.specs.Words.{Book, Naming}
 use Rattle.table_model.specs.Tables.{Tables}
 use Rattle.table_model.specs.TablesOf.{tables_of}
 use Rattle.named_books.specs.declared.repository.RepositoryFault.{RepositoryFault}
-use Rattle.tree_rows.specs.Rows.{IsUnchanged}
 use Rattle.tree_tables.proofs.Looking.{looks_also, was_clean}
 use Rattle.tree_tables.proofs.TheBook.{book_absent, book_held}
 use Rattle.tree_tables.specs.Answers.{FindsBook, ListsCloses, ListsTariffs}
 use Rattle.tree_tables.specs.Holds.{has_book}
-use Rattle.tree_tables.specs.States.{State, HasCleanDisk, Survives}
+use Rattle.tree_tables.specs.States.{State, HasCleanDisk}
 use Rattle.tree_tables.specs.Steps.{Looks, Sees}
 use Rattle.tree_tables.specs.Stored.{book_entry, close_entry, tariff_of}
 use Rattle.tree_tables.specs.declared.book_row.StoredBook.{StoredBook}
 use Rattle.tree_tables.specs.declared.closed_rows.Close.{Close}
 use Rattle.tree_tables.specs.declared.tariff_rows.StoredTariff.{StoredTariff}
-use Rattle.table_ledger.specs.Commits.{IsAtRest}
-use Rattle.table_ledger.specs.Ready.{IsStoredIn}
 use Rattle.book_restarts.specs.FileBooks.{RestsAt, StandsAt, file_names}
 use Rattle.book_files.specs.Causes.{IsResumed}
-use Rattle.book_files.specs.NewBooks.{IsEmpty, LeavesNew}
-use Rattle.book_files.specs.Stores.{StopKeepsBook, StopLeaves}
+use Rattle.book_files.specs.NewBooks.{IsEmpty}
 use Rattle.book_files.specs.Unused.{SaysUnused, are_unused, unused_by}
-
--- no tables are without the row of their book
-pub never_absent : (tables : Tables) (found : Option StoredBook) → found ≡ None
-    → FindsBook tables found → SaysUnused tables None
-never_absent tables found none finds =
-    absurd (let here = sym finds ∙ ap (option_map book_entry) none in cc)
 
 -- what the row and the two lists say
 pub says_unused : (tables : Tables) (found : Option StoredBook) (book : StoredBook)
@@ -62,52 +51,10 @@ looks_unused {found = found} {tariffs = tariffs} {Texts = Texts} book texts days
     × Texts tables tariffs} {third = found} book texts (λ tables finds lists. (finds, lists))) days
     (λ tables known lists. says tables known.0 known.1 lists)
 
--- A look at a store leaves it as it was.
-module _ (old new : State)
-    (settled : (trees : Trees) → IsTrue old.view.is_open → old.may_leave trees
-    → trees ≡ old.view.committed)
-    (survives : Survives old new (λ trees. ⊥))
-  where
-    pub looked_leaves : IsAtRest old.view → StopLeaves new (λ trees. trees ≡ old.view.trees)
-    looked_leaves rest clean trees left =
-        elim (survives.crash clean trees left) [
-          | inl was ↦ settled trees rest.is_open was ∙ sym rest.settled
-          | inr none ↦ absurd none
-        ]
-
-    -- so the book that it held is held
-    pub looked_keeps : StopKeepsBook old.view new
-    looked_keeps book stands clean trees left =
-        let at = stands (was_clean survives clean) in
-        subst (IsStoredIn file_names book) (sym (looked_leaves at.rest clean trees left)) at.kept
-
 -- a row that was looked for is that of the book
 pub row_of_book : (names : Naming) (book : Book) (view : View) → RestsAt names book view
     → has_book view.trees ≡ true
 row_of_book names book view at = book_held view.trees (tables_of names book) at.kept.holds
-
--- a store with no rows has none after a look
-pub empty_after : (old new : View) → IsUnchanged old new → IsEmpty old → IsEmpty new
-empty_after old new same empty = record {
-  rest = record {
-    is_open = ap (λ (v : View). v.is_open) same ∙ empty.rest.is_open;
-    sound = ap (λ (v : View). v.is_broken) same ∙ empty.rest.sound;
-    settled = ap (λ (v : View). v.trees) same ∙ empty.rest.settled
-        ∙ sym (ap (λ (v : View). v.committed) same);
-  };
-  none = record {
-    empty = λ tree low. ap (λ (v : View). v.trees tree) same ∙ empty.none.empty tree low;
-  };
-}
-
--- and what is left of it then, is left of it as it was
-pub leaves_before : {A F : Type 0} (names : Naming) (old new : View) (result : Result A F)
-    (trees : Trees) → IsClean old → IsUnchanged old new → LeavesNew names new result trees
-    → LeavesNew names old result trees
-leaves_before names old new (Ok made) trees clean same left = left
-leaves_before names old new (Err fault) trees clean same (inl was) =
-    inl (clean, λ tree low. was.1 tree low ∙ ap (λ (v : View). v.trees tree) same)
-leaves_before names old new (Err fault) trees clean same (inr kept) = inr kept
 
 -- a row in a store with no rows
 pub never_there : {X : Type 0} (view : View) → IsEmpty view → true ≡ has_book view.trees → X
@@ -139,10 +86,6 @@ module _ (old new : State) (found : Result (Option Bool) StoreError)
     seen there is clean =
         subst (λ (found : Result (Option Bool) StoreError). IfOk found (λ there.
         Sees old.view new.view (λ tables. SaysUnused tables there))) is (looks.found clean)
-
-    pub looked_same : (there : Option Bool) → found ≡ Ok there → HasCleanDisk new
-        → IsUnchanged old.view new.view
-    looked_same there is clean = (seen there is clean).same
 
     -- whether anything was submitted to the book at which it stood
     pub told_resumed : (unused : Bool) → found ≡ Ok (Some unused) → (book : Book)

@@ -4,7 +4,6 @@ use Rattle.std.proofs.Common.{Option, None, Some, Result, Ok, Err}
 use Rattle.std.proofs.Math.Logic.{∥∥₁_elim, ∥∥₁_map, ∥∥₁_prop}
 use Rattle.std.specs.Prelude.{IfOk, IfSome, MatchResult}
 use Rattle.named_books.specs.declared.repository.RepositoryFault.{RepositoryFault}
-use Rattle.named_books.specs.declared.repository.RepositoryFault.TheVariants.{Busy}
 use Rattle.named_books.specs.Shelves.{ComesBy}
 use Rattle.named_books.proofs.ShelfLemmas.{same_where}
 use Rattle.book_files.specs.Faults.{IsReleased}
@@ -24,7 +23,7 @@ use Rattle.book_core.specs.Follow.{MakesAnswered}
 use Rattle.book_core.specs.Transition.{Transition, NoEvent}
 use Rattle.book_trees.proofs.ClosedFiles.{both_true, first_true, second_true}
 use Rattle.book_trees.specs.Copies.{AreOnlyRead}
-use Rattle.book_trees.specs.Closing.{IsShort, IsWithoutLog, LeavesLog, MayBeFound}
+use Rattle.book_trees.specs.Closing.{IsShort, IsWithoutLog, MayBeFound}
 use Rattle.book_trees.specs.declared.closing.Closed.{Closed}
 use Rattle.book_trees.specs.LedgerFiles.{HoldsBooks, HoldsTables, page_size, trees_held, without_log}
 use Rattle.book_trees.specs.Refusals.{IsAsFound, MayLeave}
@@ -56,11 +55,6 @@ pub close_leaves : {D : Type 0} (g : Ghosts D) (store : FileStore D g) (closed :
 close_leaves g store closed So honest left each = λ kept image may.
     let clean = no_doubt _ (honest (found_clean g closed.files image may)) in
     ∥∥₁_map (left kept image may) λ found. (found.0, each clean (trees_held found.0) found.1)
-
--- a log that is said to be short is short
-pub closed_short : {D : Type 0} (g : Ghosts D) (store : FileStore D g) (closed : Closed D)
-    → LeavesLog g store closed.files closed.log → IsShort g closed
-closed_short g store closed leaves = λ is. subst (LeavesLog g store closed.files) is leaves
 
 -- so what is found of the file alone may be found
 pub alone_follows : {D : Type 0} (g : Ghosts D) (closed : Closed D) (image : Image)
@@ -211,17 +205,3 @@ comes_on {A} Came Same (Ok answer) told (inr is) came =
     subst (λ told. ComesBy Came Same told) (sym is) (inl (answer, came))
 comes_on {A} Came Same (Err fault) told (inr is) same =
     subst (λ told. ComesBy Came Same told) (sym is) (inr same)
-
--- a visit of books that another program was using is as it was
-pub same_in_use : {A : Type 0} (Came : A → Type 0) (Same : Type 0)
-    (answer : Result A RepositoryFault) → answer ≡ Err Busy → ComesBy Came Same answer → Same
-same_in_use Came Same answer is came = subst (λ told. ComesBy Came Same told) is came
-
--- what came of the last of several openings, before which the visit was as it was first
-pub came_at_last : {V A : Type 0} (Comes : V → V → A → Type 0) (first last left : V) → last ≡ first
-    → (answer told : Result A RepositoryFault) → told ≡ answer
-    → ComesBy (Comes last left) (left ≡ last) answer
-    → ComesBy (Comes first left) (left ≡ first) told
-came_at_last Comes first last left same answer told is came =
-    subst (λ told. ComesBy (Comes first left) (left ≡ first) told) (sym is)
-    (subst (λ one. ComesBy (Comes one left) (left ≡ one) answer) same came)

@@ -22,14 +22,10 @@ use Rattle.named_books.specs.declared.repository.RepositoryFault.{RepositoryFaul
 use Rattle.named_books.specs.declared.repository.Upgraded.TheVariants.{Already}
 use Rattle.table_model.specs.Tables.{Tables}
 use Rattle.table_model.specs.TablesOf.{tables_of}
-use Rattle.tree_rows.specs.Rows.{IsUnchanged}
 use Rattle.tree_tables.specs.Forms.{this_form}
 use Rattle.tree_tables.specs.Holds.{Holds}
-use Rattle.tree_tables.specs.States.{State, HasCleanDisk, Survives}
 use Rattle.tree_tables.specs.Steps.{Changes}
 use Rattle.table_ledger.proofs.FirstDetails.{details_are}
-use Rattle.table_ledger.proofs.SurvivalLemmas.{clean_before}
-use Rattle.table_ledger.proofs.UnchangedStores.{rest_on, trees_same}
 use Rattle.table_ledger.specs.FirstForm.{IsStoredInFirst, RestsAtFirst, StandsAtFirst, uncounted}
 use Rattle.table_ledger.specs.FirstForm.{with_details}
 use Rattle.table_ledger.specs.Ready.{IsStoredIn}
@@ -42,7 +38,6 @@ use Rattle.book_trees.specs.Refusals.{IsAsFound, MayLeave}
 use Rattle.book_trees.specs.Schema.{first_schema}
 use Rattle.book_trees.specs.declared.first_form.FirstFault.{FirstFault}
 use Rattle.book_trees.specs.declared.first_form.FirstFault.TheVariants as fault
-use Rattle.book_restarts.specs.FileBooks.{RestsAt}
 use Rattle.book_files.specs.Faults.{first_answer}
 use Rattle.book_files.specs.Sessions.{MayFollow}
 use Rattle.book_files.specs.Upgrades.{BringsOver, HoldsFirstHistory, HoldsUpgraded}
@@ -51,36 +46,6 @@ use Rattle.book_files.specs.Upgrades.{RestsBroughtOver, upgrade_answer}
 use Rattle.book_files.specs.declared.session.Ended.TheVariants.{Refused}
 use Rattle.book_files.proofs.NewParts.{said_tables}
 use Rattle.book_files.proofs.SessionParts.{found_clean, refused_tables}
-
--- ---- a look
-
--- the trees of the first form are there after a look
-pub first_on : (old new : View) → IsUnchanged old new → HasFirstTrees old → HasFirstTrees new
-first_on old new same first = record {
-  numbered = ap (λ (v : View). v.is_numbered) same ∙ first.numbered;
-  listed = ap (λ (v : View). v.trees catalog_tree) same ∙ first.listed;
-  shapes = λ tree small. ap (λ (v : View). v.shape tree) same ∙ first.shapes tree small;
-  none = ap (λ (v : View). v.shape 10) same ∙ first.none;
-  settled = ap (λ (v : View). v.committed_shape) same ∙ first.settled
-      ∙ sym (ap (λ (v : View). v.shape) same);
-}
-
--- and so is a book
-rests_on : (names : Naming) (book : Book) (old new : View) → IsUnchanged old new
-    → RestsAtFirst names book old → RestsAtFirst names book new
-rests_on names book old new same at = record {
-  rest = rest_on old new same at.rest;
-  kept = subst (IsStoredInFirst names book) (sym (trees_same old new same)) at.kept;
-}
-
--- so what was brought over after it, was so before it
-pub over_before : (names : Naming) (old new : View) → IsUnchanged old new → (trees : Trees)
-    → MayBringOver names new trees → MayBringOver names old trees
-over_before names old new same trees over book at = over book (rests_on names book old new same at)
-
-pub rests_before : (names : Naming) (old mid new : View) → IsUnchanged old mid
-    → RestsBroughtOver names mid new → RestsBroughtOver names old new
-rests_before names old mid new same over book at = over book (rests_on names book old mid same at)
 
 -- ---- what is written
 
@@ -169,38 +134,6 @@ module _ (names : Naming) (old new : View) (written : IsWritten names old new) w
           kept = over.1;
         },
       )
-
--- ---- what is left
-
--- where all was done, the last commit is what is left
-pub over_left : (names : Naming) (book : Book) (view : View) (trees : Trees)
-    → trees ≡ view.committed
-    → ListMore view.trees × RestsAt names book view → IsBroughtOver names book trees
-over_left names book view trees left over =
-    subst (IsBroughtOver names book) (over.1.rest.settled ∙ sym left) (over.0, over.1.kept)
-
--- where it was not, that of before or the one of this call
-module _ (names : Naming) (old new : State)
-    (settled : (trees : Trees) → IsTrue old.view.is_open → old.may_leave trees
-    → trees ≡ old.view.committed)
-    (first : HasCleanDisk old → HasFirstTrees old.view)
-    (survives : Survives old new (MayBringOver names old.view))
-  where
-    pub not_over_left : (A : Type 0) (why : RepositoryFault) (book : Book)
-        → StandsAtFirst names book old.view → HasCleanDisk new → (trees : Trees)
-        → new.may_leave trees → LeavesUpgraded {A = A} names book (Err why) trees
-    not_over_left A why book stands clean trees left =
-        let before = clean_before survives clean in
-        let at = stands before in
-        elim (survives.crash clean trees left) [
-          | inl was ↦
-              let same = settled trees at.rest.is_open was ∙ sym at.rest.settled in
-              inl (
-                ap (λ (trees : Trees). trees catalog_tree) same ∙ (first before).listed,
-                subst (IsStoredInFirst names book) (sym same) at.kept,
-              )
-          | inr over ↦ inr (over book at)
-        ]
 
 -- ---- what files hold
 

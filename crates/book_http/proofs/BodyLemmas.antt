@@ -68,12 +68,6 @@ pub all_written : (body rest : List ℕ) (size : ℕ) → length body ≡ size
 all_written body rest size long =
     take-append-le size body rest (omega arith) ∙ take_all size body (omega arith)
 
--- a vector of the same bytes is as whole
-pub same_body : (size : ℕ) (came body other : List ℕ) → other ≡ body → IsWholeBody size came body
-    → IsWholeBody size came other
-same_body size came body other alike whole =
-    record { enough = whole.enough; bytes = alike ∙ whole.bytes }
-
 -- so a read for the rest of it is due after what came with the head
 pub due_behind_front : (front : List ℕ) (had size : ℕ) → (had < size → had ≡ length front)
     → (came : List ℕ) (room : ℕ) → IsDueForBody size (had + length came) room

@@ -3,7 +3,7 @@ use Rattle.std.proofs.Common.{◌≡◌, ◌∙◌, ℕ, ◌+◌, List, [], ◌�
 use Rattle.std.proofs.Common.{◌<◌, ◌≤◌, ◌-◌, take, drop, ap, Ok, Err, arith, append-nil}
 use Rattle.std.proofs.Common.{sym, subst, length-take-le, length-append, append_assoc}
 use Rattle.std.specs.Prelude.{Result}
-use Rattle.std.proofs.lemmas.List.{length-take, length-drop, drop-append-le, drop_all}
+use Rattle.std.proofs.lemmas.List.{length-take, length-drop, drop-append-le}
 use Rattle.std.proofs.KnownBytes.{Consumes-kept, Consumes-nil, Consumes-trans}
 use Rattle.std.specs.Io.KnownBytes.{Consumes, ReadConsumes}
 use Rattle.std.specs.declared.io.Error.{Error}
@@ -25,21 +25,6 @@ read_taken : (had left : Option (List ℕ)) (answer : Result ℕ Error) (given :
 read_taken had left (Ok count) given it = it.0
 read_taken had left (Err error) given it =
     Consumes-kept had had left [] (Consumes-nil had) it
-
--- where nothing was read
-pub not_read : {R : Type 0} {answers : _} {bytes : _} {remaining : R → Option (List ℕ)}
-    {MayAnswer : ReadOutcome R} {IsDue : List ℕ → ℕ → Type 0} {source : Source R answers bytes}
-    {Gave : List ℕ → Type 0} → Gave [] → ReadsOn remaining MayAnswer IsDue source source Gave
-not_read {remaining} {source} gave = record {
-  reads = [];
-  between = record {
-    due = tt;
-    reader = refl;
-    count = omega arith;
-    taken = Consumes-nil (remaining (reader_of source));
-  };
-  gave = gave;
-}
 
 -- one more read
 pub read_on : {R : Type 0} {answers : _} {bytes : _} {remaining : R → Option (List ℕ)}
@@ -110,13 +95,6 @@ due_for_body came body had filled size is low within whole =
     let long : length (take filled body) ≡ filled = length-take-le filled body (omega arith) in
     let size_is : had + length came ≡ filled = rw (is, length-drop, long) (omega arith) in
     rw size_is (record { short = omega arith; within = rw length-take (omega arith) })
-
--- before the first read nothing is filled
-pub nothing_filled : (had : ℕ) (body : List ℕ) → had ≤ length body
-    → [] ≡ drop had (take had body)
-nothing_filled had body within =
-    let long : length (take had body) ≡ had = length-take-le had body within in
-    sym (drop_all had (take had body) (omega arith))
 
 -- what a read gave follows what was filled from a place on
 pub more_filled : (came body given : List ℕ) (had filled room count : ℕ)

@@ -20,7 +20,6 @@ use Rattle.book_reports.specs.StreamedAnswers.{WritesAnswerUntil, WritesUntilOrR
 use Rattle.book_reports.specs.StreamedDetails.{detail_answer, detail_length_outcome}
 use Rattle.book_reports.specs.StreamedDetails.{detail_text_outcome}
 use Rattle.book_reports.specs.StreamedRulings.{refusal_in}
-use Rattle.book_reports.specs.Writing as writing
 use Rattle.book_reports.specs.Writing.{WritesUntil}
 use Rattle.book_reports.proofs.DetailReading.{refused_back, shown_back}
 use Rattle.book_reports.proofs.ReadingLemmas.{fault_alike, fault_tells, goes_on, read_as}
@@ -33,7 +32,7 @@ use Rattle.book_http.specs.Answer.{AnswersDetails, form_kind}
 use Rattle.book_http.specs.AnswerHead.{answer_head}
 use Rattle.book_http.specs.Replies.{Reply, success}
 use Rattle.book_http.specs.Served.{IsMeasured, IsSentAsRead, SendsDetails, SendsReplyAsRead, is_cut}
-use Rattle.book_http.specs.Served.{is_unanswered, is_write_fault, served_as}
+use Rattle.book_http.specs.Served.{is_unanswered, served_as}
 use Rattle.book_http.proofs.AnswerLemmas.{front_behind}
 
 -- ---- what measures details
@@ -126,14 +125,6 @@ head_sent wanted size seen held holds count few front =
       stands = λ whole. nothing.same;
     })
     (no_work seen)
-
--- only a write fails as one
-pub fails_alike : (told : Result (Unit {0}) ReportFault)
-    → writing.is_write_fault told ≡ is_write_fault (served_as told)
-fails_alike (Ok written) = refl
-fails_alike (Err Write) = refl
-fails_alike (Err Memory) = refl
-fails_alike (Err (Ledger fault)) = refl
 
 -- and what was begun is no request without an answer
 pub is_begun : (told : Result (Unit {0}) ReportFault) → is_unanswered (served_as told) ≡ false

@@ -32,21 +32,6 @@ pub record Goes (old : Joining) (piece rest : List ℕ) (joiner : Joining) (Done
   pub done : (text : List ℕ) → HasTaken text old
       → Done (front old.layout text).records (front old.layout (text ++ seen)).records
 
--- nowhere yet
-pub goes_nowhere : (old : Joining) (piece : List ℕ) (Done : Doing) → old.ready ≡ None
-    → ((records : List (List ℕ)) → Done records records) → Goes old piece piece old Done
-goes_nowhere old piece Done none nothing = record {
-  seen = [];
-  parts = refl;
-  none = none;
-  layout_is = refl;
-  stands = λ text stood. subst (λ b. HasTaken b old) (sym (append-nil text)) stood;
-  done = λ text stood.
-      let records = (front old.layout text).records in
-      subst (λ b. Done records (front old.layout b).records) (sym (append-nil text))
-      (nothing records);
-}
-
 -- after a text after which a joiner is, the records of what follows come last
 pub records_after : {layout : Layout} {joiner : Joining} {text : List ℕ} → joiner.layout ≡ layout
     → HasTaken text joiner → (more : List ℕ)

@@ -26,7 +26,7 @@ use Rattle.book_reports.proofs.WritingLemmas.{same_value}
 use Rattle.book_laws.specs.NetCounts.{net_count, one_if, times_added, times_counted, times_reversed}
 use Rattle.book_laws.proofs.NetLemmas.{charged_once, has_without}
 use Rattle.book_laws.proofs.PeriodLemmas.{posted_dated}
-use Rattle.book_laws.specs.LifeLaws.{LivesNet, LivesTakeTurns, ShowsNet, TakeTurns, TrailsNet}
+use Rattle.book_laws.specs.LifeLaws.{LivesNet, LivesTakeTurns, TakeTurns, TrailsNet}
 
 -- what comes after some turns may be replaced by what leads on from there
 then_instead : (turns old new : List Turn) (from was now : Bool)

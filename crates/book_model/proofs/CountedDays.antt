@@ -1,9 +1,9 @@
 -- Where closes rise and each period counts what is dated in it, a period counts what is counted at
 -- all and dated in it.
-use Rattle.std.proofs.Common.{◌≡◌, ℕ, zero, suc, ◌+◌, ◌-◌, ◌≤◌, ◌<◌, List, [], ◌∷◌, length}
+use Rattle.std.proofs.Common.{◌≡◌, ℕ, zero, suc, ◌-◌, ◌≤◌, ◌<◌, List, [], ◌∷◌, length}
 use Rattle.std.proofs.Common.{refl, sym, ap, ◌∙◌, subst, true, false, true≢false, Bool}
 use Rattle.std.proofs.Common.{◌&&◌, ◌||◌, ◌⊎◌, Option, Some, None, get_or, arith, inl, inr}
-use Rattle.std.specs.Prelude.{ℤ, pos, ◌<ℤ◌, int_lt, nat_lt, slice_get, ◌==◌, if◌then◌else◌}
+use Rattle.std.specs.Prelude.{ℤ, pos, ◌<ℤ◌, int_lt, nat_lt, slice_get, if◌then◌else◌}
 use Rattle.std.specs.Cmp.{int_ranked}
 use Rattle.std.specs.List.{list_any}
 use Rattle.std.specs.List.Sorted.{IsStrictlySortedBy}

@@ -1,6 +1,6 @@
 -- Bytes from some bytes on, what is found first from there, and a walk over disputes.
 use Rattle.std.proofs.Common.{◌≡◌, ◌∙◌, ℕ, List, [], ◌∷◌, ◌++◌, map, Bool, true, false, not, cond}
-use Rattle.std.proofs.Common.{None, Some, refl, sym, ap, subst, true≢false, arith}
+use Rattle.std.proofs.Common.{Some, refl, sym, ap, subst, true≢false, arith}
 use Rattle.std.specs.Prelude.{filter, find, slice_get}
 use Rattle.std.specs.Cmp.{nat_cmp_total, tied_itself}
 use Rattle.std.specs.List.{AllByRecursion}

@@ -1,21 +1,17 @@
 -- The closes of a history: their days, the history and the rulings before each of them, and what
 -- each of them charged.
 use Rattle.std.proofs.Common.{◌≡◌, ℕ, zero, suc, ◌≤◌, ◌<◌, List, [], ◌∷◌, length, Option, Some}
-use Rattle.std.proofs.Common.{None, refl, ap, sym, ◌∙◌, arith, get_or, Bool, true, false}
-use Rattle.std.proofs.Common.{true≢false, not, ◌&&◌, ◌++◌, is_some, cond}
-use Rattle.std.specs.Prelude.{ℤ, pos, slice_get, int_lt, filter, nat_le, unwrap_or}
-use Rattle.std.specs.FinMap as map
+use Rattle.std.proofs.Common.{None, refl, ap, sym, ◌∙◌, arith, Bool}
+use Rattle.std.proofs.Common.{◌++◌, cond}
+use Rattle.std.specs.Prelude.{ℤ, slice_get, filter, nat_le, unwrap_or}
 use Rattle.std.specs.List.{last_or}
 use Rattle.std.specs.Option.{option_and_then}
 use Rattle.std.proofs.lemmas.Bool.{lt-ltb, le-ltb, le-leb, lt-leb}
-use Rattle.std.proofs.lemmas.Cmp.{nat_list_cmp_total}
 use Rattle.std.proofs.lemmas.List.{length-append, take-append-le, append-nil}
 use Rattle.std.proofs.lemmas.List.Elements.{filter-append}
 use Rattle.std.proofs.Math.Seq.{take-length, take-append_seam}
-use Rattle.std.proofs.lemmas.Map.Lookups.{exact_bytes}
-use Rattle.std.proofs.lemmas.Option.{slice_get_past, slice_get-get_or}
-use Rattle.smf_type30.specs.Usage.{day_of}
-use Rattle.book_model.specs.Charged.{is_undisputed, is_dated_through, is_dated_after, charged_now}
+use Rattle.std.proofs.lemmas.Option.{slice_get_past}
+use Rattle.book_model.specs.Charged.{charged_now}
 use Rattle.book_model.specs.Charged.{charged_by}
 use Rattle.book_model.specs.Events.{Event, PeriodClosed, RulingGiven}
 use Rattle.book_model.specs.History.{rulings, closes, kept, before_close, day_of_close}
@@ -24,20 +20,12 @@ use Rattle.book_model.specs.Records.{Records, by_bytes}
 use Rattle.book_model.specs.Rulings.{Rulings, AcceptedTerms, Choice, rulings_before, if_before}
 use Rattle.book_model.specs.Rulings.{RecordChosen, SecondRuleAdopted, last_close, open_by}
 use Rattle.book_model.specs.Rulings.{with_choice}
-use Rattle.book_model.specs.Sets.{set_of, has}
+use Rattle.book_model.specs.Sets.{set_of}
 use Rattle.book_model.proofs.ListLemmas.{slice_get-front, slice_get-behind, last_or-is}
-use Rattle.book_model.proofs.SetLemmas.{has-those}
 
 -- all records that are held at the end of a history
 abbrev pub held_after : List Event → Records
 held_after history = set_of by_bytes (kept history)
-
--- a close that came has its day
-pub has_day : (k : ℕ) (history : List Event) → 0 < k → k ≤ length (closes history)
-    → (day : ℤ) × (day_of_close k history ≡ Some day)
-has_day zero history some came = absurd (omega arith)
-has_day (suc k) history some came =
-    (get_or (closes history) k (pos 0), slice_get-get_or (closes history) k (pos 0) (omega arith))
 
 -- a close that did not come has none
 pub no_day : (k : ℕ) (history : List Event) → length (closes history) < k
@@ -149,41 +137,6 @@ charged_open history =
     let day = no_day next history after in
     let held = held_all next history after in
     λ i. charged_by (ruled i) (day i) (held i)
-
--- what passes a test for records that are not late is not late
-not_late : (undisputed late held : Bool) → ((undisputed && not late) && held) ≡ true → late ≡ false
-not_late undisputed false held is = refl
-not_late true true held is = absurd (true≢false (sym is))
-not_late false true held is = absurd (true≢false (sym is))
-
--- what a close charges is dated no later than it
-charged_not_after : (rulings : Rulings) (day : ℤ) (held : Records) (bytes : List ℕ)
-    → has (charged_by rulings (Some day) held) bytes ≡ true → is_dated_after (Some day) bytes
-    ≡ false
-charged_not_after rulings day held bytes is =
-    let passes : List ℕ
-    → Bool = λ other. is_undisputed rulings held other && is_dated_through day other in
-    not_late (is_undisputed rulings held bytes) (int_lt day (day_of bytes)) (has held bytes)
-    (sym (has-those nat_list_cmp_total exact_bytes passes held bytes) ∙ is)
-
--- nothing is charged before the first period
-pub none_charged : (history : List Event) (bytes : List ℕ) → has (charged_in zero history) bytes
-    ≡ false
-none_charged history bytes = ap is_some (map.get-empty by_bytes bytes)
-
--- so what was charged at the end of a period is not dated after the close that ended it
-pub charged_not_late : (k : ℕ) (history : List Event) (bytes : List ℕ) → k ≤ length (closes history)
-    → has (charged_in k history) bytes ≡ true → is_dated_after (day_of_close k history) bytes
-    ≡ false
-charged_not_late zero history bytes came is =
-    absurd (true≢false (sym is ∙ none_charged history bytes))
-charged_not_late (suc k) history bytes came is =
-    let day = has_day (suc k) history (omega arith) came in
-    let held : Records = held_before (suc k) history in
-    let ruled : Rulings = rulings_before k (rulings history) in
-    let closed = ap (λ day. has (charged_by ruled day held) bytes) day.1 in
-    ap (λ day. is_dated_after day bytes) day.1
-    ∙ charged_not_after ruled day.0 held bytes (sym closed ∙ is)
 
 -- one close more
 pub closed_once_more : (day : ℤ) (older : List Event)

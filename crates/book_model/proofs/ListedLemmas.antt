@@ -1,15 +1,14 @@
 -- What stands at a number of the list of rulings: the list is made of four parts, one after another.
 use Rattle.std.proofs.Common.{◌≡◌, ◌∙◌, ◌+◌, ◌<◌, ℕ, zero, suc, List, [], ◌∷◌, ◌++◌, length}
-use Rattle.std.proofs.Common.{true, false, true≢false, Option, Some, None, is_some, refl, sym, ap}
+use Rattle.std.proofs.Common.{Some, refl, ap}
 use Rattle.std.proofs.Common.{append_assoc, arith}
 use Rattle.std.specs.Prelude.{ℤ, slice_get}
-use Rattle.std.specs.List.{cons_option}
 use Rattle.std.specs.Option.{option_map}
 use Rattle.book_model.specs.Records.{Naming}
-use Rattle.book_model.specs.Rulings.{AcceptedTerms, Choice, Rulings}
-use Rattle.book_model.specs.RulingLists.{RulingSeen, TariffSeen, CloseSeen, adoption_seen}
+use Rattle.book_model.specs.Rulings.{Choice, Rulings}
+use Rattle.book_model.specs.RulingLists.{CloseSeen, adoption_seen}
 use Rattle.book_model.specs.RulingLists.{choice_seen, choices_seen, closes_seen, rulings_listed}
-use Rattle.book_model.specs.RulingLists.{tariff_seen, tariffs_seen}
+use Rattle.book_model.specs.RulingLists.{tariffs_seen}
 
 -- an element of two lists, one after the other, is one of the first,
 pub slice_get-left : {X : Type 0} (xs ys : List X) (k : ℕ) → k < length xs
@@ -37,33 +36,6 @@ in_turn naming rulings =
     let adoption = adoption_seen rulings.adopted in
     append_assoc (tariffs ++ closes) choices adoption
     ∙ append_assoc tariffs closes (choices ++ adoption)
-
--- a tariff that came as a text stands before those after it,
-pub texted_first : (tariff : AcceptedTerms) (later : List AcceptedTerms)
-    → is_some tariff.text ≡ true
-    → (seen : RulingSeen) × (tariff_seen tariff ≡ Some seen)
-    × (tariffs_seen (tariff ∷ later) ≡ seen ∷ tariffs_seen later)
-texted_first tariff later is =
-    let day = tariff.terms.effective in
-    elim tariff.text as (λ (text : Option (List ℕ)). is_some text ≡ true
-    → (seen : RulingSeen) × (option_map (TariffSeen day) text ≡ Some seen)
-    × (cons_option (option_map (TariffSeen day) text) (tariffs_seen later)
-    ≡ seen ∷ tariffs_seen later)) [
-      | None ↦ λ never. absurd (true≢false (sym never))
-      | Some text ↦ λ there. (TariffSeen day text, refl, refl)
-    ] is
-
--- and one without a text does not stand there
-pub untexted : (tariff : AcceptedTerms) (later : List AcceptedTerms)
-    → is_some tariff.text ≡ false → tariffs_seen (tariff ∷ later) ≡ tariffs_seen later
-untexted tariff later is =
-    let day = tariff.terms.effective in
-    elim tariff.text as (λ (text : Option (List ℕ)). is_some text ≡ false
-    → cons_option (option_map (TariffSeen day) text) (tariffs_seen later)
-    ≡ tariffs_seen later) [
-      | None ↦ λ there. refl
-      | Some text ↦ λ never. absurd (true≢false never)
-    ] is
 
 -- as many closes stand there as there are, each under its period,
 pub closes_count : (period : ℕ) (closes : List ℤ)

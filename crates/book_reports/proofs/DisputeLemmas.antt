@@ -1,13 +1,13 @@
 -- The text of the disputes, which is written as they are read.
 use Rattle.std.proofs.Common.{◌≡◌, ◌∙◌, ℕ, zero, suc, ◌+◌, ◌-◌, ◌≤◌, ◌<◌, List, [], ◌∷◌, ◌++◌, length}
-use Rattle.std.proofs.Common.{true, take, drop, refl, sym, ap, subst, append_assoc, append-nil, arith, rules}
+use Rattle.std.proofs.Common.{true, take, drop, refl, sym, ap, subst, append_assoc, append-nil, arith}
 use Rattle.std.proofs.Common.{length-append, take_all, Option, Some, None, Result, Ok, Err}
 use Rattle.std.specs.Prelude.{IfErr, flat_map, option_map}
 use Rattle.std.specs.Io.KnownBytes.{Appends}
 use Rattle.std.proofs.lemmas.List.{take-append-drop}
 use Rattle.book_model.specs.declared.dispute.Dispute.{Dispute}
 use Rattle.book_model.specs.declared.fault.LedgerFault.{LedgerFault}
-use Rattle.book_model.specs.Words.{Book, Disputed, dispute_from, dispute_outcome, dispute_shown}
+use Rattle.book_model.specs.Words.{Disputed, dispute_from, dispute_outcome, dispute_shown}
 use Rattle.book_model.proofs.FromLemmas.{bytes_after, bytes_after-push}
 use Rattle.book_core.specs.Ledgers.{Seen}
 use Rattle.book_core.specs.Calls.{IsCall}

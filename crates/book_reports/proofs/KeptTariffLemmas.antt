@@ -8,12 +8,11 @@ use Rattle.std.specs.List.{cons_option, list_any}
 use Rattle.std.specs.Option.{option_map_or}
 use Rattle.std.specs.Result.{result_ok}
 use Rattle.std.proofs.lemmas.List.Elements.{All-push, filter-append, filter_map-append}
-use Rattle.std.proofs.lemmas.Option.{same_Some}
 use Rattle.book_model.specs.declared.bill.BilledTariff.{BilledTariff}
 use Rattle.book_model.specs.declared.fault.LedgerFault.{LedgerFault}
 use Rattle.book_model.specs.declared.fault.LedgerFault.TheVariants.{Memory}
 use Rattle.book_model.specs.declared.listed_ruling.ListedRuling.{ListedRuling}
-use Rattle.book_model.specs.Words.{Choice, HasDays, IsDay, Naming, RulingSeen, Rulings, ShowsDays}
+use Rattle.book_model.specs.Words.{Choice, IsDay, Naming, RulingSeen, Rulings}
 use Rattle.book_model.specs.Words.{TariffSeen, Terms, adoption_seen, begins_by, billed_tariff}
 use Rattle.book_model.specs.Words.{choices_seen, closes_seen, in_force_from, letterhead_by}
 use Rattle.book_model.specs.Words.{letterhead_in, letterhead_shown, no_letterhead, ruling_outcome}
@@ -236,13 +235,6 @@ are_more : (read : List RulingSeen) (day : ℤ) (text : List ℕ) → AreTariffs
     → AreTariffs (read ++ TariffSeen day text ∷ [])
 are_more [] day text are = (tt, tt)
 are_more (tariff ∷ later) day text are = (are.0, are_more later day text are.1)
-
--- a tariff that is shown begins on a day
-pub day_shown : (next : Option ListedRuling) (day : ℤ) (text : List ℕ)
-    → option_map ruling_shown next ≡ Some (TariffSeen day text) → ShowsDays next → IsDay day
-day_shown None day text is shows = cc is
-day_shown (Some ruling) day text is shows =
-    subst HasDays (same_Some (ruling_shown ruling) (TariffSeen day text) is) shows
 
 -- so many tariffs were read, and these are kept of them
 pub record KeepsSoFar (days : PeriodDays) (old new : Seen) (count : ℕ) (next : Option ListedRuling)

@@ -1,7 +1,7 @@
 -- The list of rulings, which is written as it is read.
-use Rattle.std.proofs.Common.{◌≡◌, ◌∙◌, ℕ, ◌+◌, Bool, true, false, true≢false, List, [], ◌∷◌, ◌++◌}
+use Rattle.std.proofs.Common.{◌≡◌, ◌∙◌, ℕ, ◌+◌, Bool, true, List, [], ◌∷◌, ◌++◌}
 use Rattle.std.proofs.Common.{take, drop, refl, sym, ap, subst, append_assoc, append-nil}
-use Rattle.std.proofs.Common.{Option, Some, None, Result, Ok, Err, Vec, Global, inl, inr}
+use Rattle.std.proofs.Common.{Option, Some, None, Result, Ok, Err, Vec, Global, inl}
 use Rattle.std.specs.Prelude.{IfErr, flat_map, option_map, slice_get}
 use Rattle.std.specs.Io.KnownBytes.{Appends}
 use Rattle.std.proofs.lemmas.Grind.{flat_map-append}
@@ -25,8 +25,8 @@ use Rattle.book_reports.specs.StreamedRulings.{WritesFirst, WritesRulings, is_hi
 use Rattle.book_reports.specs.StreamedRulings.{WritesSomeRulings, text_by}
 use Rattle.book_reports.specs.Writing.{WritesPrefix, is_write_or_memory}
 use Rattle.book_reports.proofs.ReadingLemmas.{IsAlike, reopens_alike}
-use Rattle.book_reports.proofs.RulingReading.{HasRead, all_taken, first_read, first_rulings}
-use Rattle.book_reports.proofs.RulingReading.{next_taken, one_more_read, read_and, read_parts}
+use Rattle.book_reports.proofs.RulingReading.{HasRead, all_taken, first_read}
+use Rattle.book_reports.proofs.RulingReading.{next_taken, one_more_read, read_parts}
 use Rattle.book_reports.proofs.StreamedLemmas.{is_prefix, none_written, rest_written, then_written}
 use Rattle.book_reports.proofs.StreamedLemmas.{written_as, written_of_more}
 use Rattle.book_reports.proofs.StreamingLemmas.{report_refused, report_unread, report_written}

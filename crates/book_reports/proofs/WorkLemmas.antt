@@ -1,12 +1,12 @@
 -- What was worked in a period: the rows of its steps and of its jobs, of details that are read one
 -- after another.
-use Rattle.std.proofs.Common.{◌≡◌, ◌∙◌, ℕ, ◌+◌, ◌<◌, ◌^◌, ℤ, Bool, true, false, List, [], ◌∷◌, ◌++◌}
-use Rattle.std.proofs.Common.{length, map, not, refl, sym, ap, subst, arith, append-nil, cond}
+use Rattle.std.proofs.Common.{◌≡◌, ◌∙◌, ℕ, ◌+◌, ◌<◌, ◌^◌, ℤ, Bool, List, [], ◌∷◌, ◌++◌}
+use Rattle.std.proofs.Common.{length, map, not, refl, sym, ap, subst, arith}
 use Rattle.std.proofs.Common.{Option, Some, None, Ok, Err}
-use Rattle.std.specs.Prelude.{All, filter, is_some, sum_by}
+use Rattle.std.specs.Prelude.{All, filter, sum_by}
 use Rattle.std.specs.BTreeMap.{values}
-use Rattle.std.proofs.lemmas.List.{length-map, map-append}
-use Rattle.std.proofs.lemmas.List.Elements.{All-filter, All-map, All-push, filter-append}
+use Rattle.std.proofs.lemmas.List.{length-map}
+use Rattle.std.proofs.lemmas.List.Elements.{All-filter, All-map}
 use Rattle.std.proofs.lemmas.List.Filters.{length-filter_both, sum_by-filter_both}
 use Rattle.std.proofs.lemmas.List.Folds.{fold-map}
 use Rattle.tariff_rules.specs.declared.priced.Priced.{Priced}
@@ -17,9 +17,8 @@ use Rattle.book_model.specs.declared.fault.LedgerFault.TheVariants.{Memory}
 use Rattle.book_model.specs.declared.row.ChargeRow.{ChargeRow}
 use Rattle.book_model.specs.declared.row.RowKey.{RowKey}
 use Rattle.book_model.specs.Words.{AreRows, IsDay, is_step, jobs_of, next_after}
-use Rattle.book_model.specs.Words.{next_detail_outcome, rows_of, steps_of, work_rows}
+use Rattle.book_model.specs.Words.{next_detail_outcome, steps_of, work_rows}
 use Rattle.book_core.specs.Calls.{IsCall}
-use Rattle.book_core.specs.KeyedRows.{keyed_rows}
 use Rattle.book_core.specs.Ledgers.{Seen}
 use Rattle.book_core.proofs.KeyedRowLemmas.{rows_under_keys}
 use Rattle.book_core.proofs.ListLimits.{rows_shown, sum_by-rows_of_le}
@@ -28,62 +27,11 @@ use Rattle.book_reports.specs.declared.streamed_details.DetailReport.{DetailRepo
 use Rattle.book_reports.specs.declared.what_if.StatementForm.TheVariants as form
 use Rattle.book_reports.specs.BillWork.{AreWork, IsWorkOf, work_outcome, work_seen, work_shown}
 use Rattle.book_reports.specs.BookTexts.{closed_through, closed_through_outcome, shown_by}
-use Rattle.book_reports.specs.StreamedDetails.{sums_of, with_detail}
-use Rattle.book_reports.specs.WorkSums.{AreSumsOf, SumsFit, prices_of}
-use Rattle.book_reports.proofs.DetailLemmas.{sums_more}
+use Rattle.book_reports.specs.WorkSums.{AreSumsOf, prices_of}
 use Rattle.book_reports.proofs.DetailReading.{HasRead, all_details, first_read, next_shown}
 use Rattle.book_reports.proofs.DetailReading.{one_more_read, reads, refused_back}
 use Rattle.book_reports.proofs.ReadingLemmas.{fault_alike, fault_tells, read_as, read_then}
 use Rattle.book_reports.proofs.RulingReading.{all_taken}
-
--- what some details of a kind cost, with one more detail that is of it, or is not
-kind_more : (kind : Detail → Bool) (details : List Detail) (detail : Detail) (is : Bool)
-    → kind detail ≡ is
-    → prices_of (filter kind (details ++ detail ∷ []))
-    ≡ prices_of (filter kind details) ++ prices_of (cond is (detail ∷ []) [])
-kind_more kind details detail is same =
-    ap prices_of (filter-append kind details (detail ∷ []))
-    ∙ map-append (λ (one : Detail). one.priced) (filter kind details) (filter kind (detail ∷ []))
-    ∙ ap (λ is. prices_of (filter kind details) ++ prices_of (cond is (detail ∷ []) [])) same
-
-module _ (work more : WorkSums) (details : List Detail) (detail : Detail)
-    (are : AreSumsOf work details) (day : IsDay detail.priced.day)
-    (all : more.all ≡ with_detail work.all detail) (fit : SumsFit more.all)
-  where
-    all_more : more.all ≡ sums_of (details ++ detail ∷ [])
-    all_more = all ∙ ap (λ sums. with_detail sums detail) are.all ∙ sums_more details detail
-
-    days_more : All (λ (one : Detail). IsDay one.priced.day) (details ++ detail ∷ [])
-    days_more = All-push (λ (one : Detail). IsDay one.priced.day) details detail are.days day
-
-    -- a step joins the steps
-    pub step_joined : is_some detail.step ≡ true
-        → more.steps.entries ≡ keyed_rows (prices_of (steps_of details) ++ detail.priced ∷ [])
-        → more.jobs ≡ work.jobs → AreSumsOf more (details ++ detail ∷ [])
-    step_joined step joined same = record {
-      steps = joined ∙ ap keyed_rows (sym (kind_more is_step details detail true step));
-      jobs = ap (λ jobs. jobs.entries) same ∙ are.jobs
-          ∙ ap keyed_rows (sym (kind_more (λ one. not (is_step one)) details detail false (ap not step)
-          ∙ append-nil (prices_of (jobs_of details))));
-      all = all_more;
-      fit = fit;
-      days = days_more;
-    }
-
-    -- and a job the jobs
-    pub job_joined : is_some detail.step ≡ false
-        → more.jobs.entries ≡ keyed_rows (prices_of (jobs_of details) ++ detail.priced ∷ [])
-        → more.steps ≡ work.steps → AreSumsOf more (details ++ detail ∷ [])
-    job_joined job joined same = record {
-      steps = ap (λ steps. steps.entries) same ∙ are.steps
-          ∙ ap keyed_rows (sym (kind_more is_step details detail false job
-          ∙ append-nil (prices_of (steps_of details))));
-      jobs = joined
-          ∙ ap keyed_rows (sym (kind_more (λ one. not (is_step one)) details detail true (ap not job)));
-      all = all_more;
-      fit = fit;
-      days = days_more;
-    }
 
 -- ---- the rows of all
 

@@ -54,12 +54,6 @@ module _ (naming : Naming) (view : View) (may_leave : Trees → Type 0) (must_re
               some.kept);
         }
 
--- trees at rest are left as they are
-pub none_leaves : (naming : Naming) (start : Book) (trees : Trees) → IsStoredIn naming start trees
-    → LeavesTrees naming NoEvent start trees
-none_leaves naming start trees kept =
-    record { events = []; is = false; made = record { none = refl; same = refl }; kept = kept }
-
 -- from trees to files
 pub held_leaves : (naming : Naming) (Made : Transition) (start : Book) (image : Image)
     (held : HoldsBooks image) → LeavesTrees naming Made start (trees_held held)

@@ -2,16 +2,14 @@
 use Rattle.std.proofs.Common.{◌≡◌, ◌<◌, ◌≤◌, ◌+◌, ◌-◌, ℕ, List, length, arith, sym, subst, inl, inr}
 use Rattle.std.proofs.Common.{◌∙◌, ap₂, ext_get_or, IsTrue, Result, Ok, Err}
 use Rattle.std.proofs.lemmas.Bool.{cases_lt}
-use Rattle.std.specs.Prelude.{slice_index, IfErr, IsErrAnd, OnErr, OnOk}
-use Rattle.std.specs.declared.io.Error.{Error}
-use Rattle.sqlite_disk.specs.Disk.{CountsFault, Holds, MoreFaults, Only, Torn}
+use Rattle.std.specs.Prelude.{slice_index, IfErr, IsErrAnd, OnOk}
+use Rattle.sqlite_disk.specs.Disk.{Holds, Only, Torn}
 use Rattle.sqlite_disk.specs.declared.Disk.{Ghosts}
 use Rattle.sqlite_disk.specs.declared.files.Files.{Files}
 use Rattle.sqlite_wal.specs.Reads.{AreClean}
 use Rattle.sqlite_wal.specs.Recovery.{Image}
 use Rattle.book_trees.proofs.ClosedFiles.{first_true, second_true}
 use Rattle.book_trees.specs.Copies.{AreCopiesOf, AreOnlyRead, BeginsAs, IsCopyOf, IsOnlyRead}
-use Rattle.book_trees.specs.Copies.{StopsCopy}
 use Rattle.book_trees.specs.LedgerFiles.{image_of}
 
 -- what a file holds at a place is the byte of the piece there
@@ -83,59 +81,14 @@ copied_image first from to read copied clean =
     (copied.log.seen (first_true _ _ clean) ∙ read.log.seen)
     (copied.db.seen (second_true _ _ clean) ∙ read.db.seen)
 
--- where one of two counts rose, and the other did not fall, their sum rose
-pub first_more : (one two one' two' : ℕ) → MoreFaults one one' → two ≤ two'
-    → MoreFaults (one + two) (one' + two')
-first_more one two one' two' more less = omega arith
-
-pub second_more : (one two one' two' : ℕ) → one ≤ one' → MoreFaults two two'
-    → MoreFaults (one + two) (one' + two')
-second_more one two one' two' less more = omega arith
-
--- what is so is so where a call failed
-pub so_at_err : {A E : Type 0} (P : Type 0) (result : Result A E) → P → OnErr result P
-so_at_err P (Ok value) so = tt
-so_at_err P (Err error) so = so
-
--- what is said of an error is said of the one that it is passed on as
-pub said_on : {A E : Type 0} {error : E} (Said : E → Type 0) (result : Result A E)
-    → IsErrAnd result (λ passed. passed ≡ error) → Said error → IfErr result Said
-said_on Said (Ok value) passed said = tt
-said_on Said (Err other) passed said = subst Said (sym passed) said
-
 -- and what is known of that one gives what is to be said
 pub said_by : {A E : Type 0} {Known Said : E → Type 0} (result : Result A E)
     → IsErrAnd result Known → ((error : E) → Known error → Said error) → IfErr result Said
 said_by (Ok value) known so = tt
 said_by (Err error) known so = so error known
 
--- what stopped a copy of two files stopped that of more
-pub stops_more : (old new old' new' : ℕ) → (MoreFaults old new → MoreFaults old' new')
-    → (error : Error) → StopsCopy old new error → StopsCopy old' new' error
-stops_more old new old' new' so error (inl memory) = inl memory
-stops_more old new old' new' so error (inr more) = inr (so more)
-
--- and so it did since an earlier count
-pub stops_since : (first old new : ℕ) → first ≤ old → (error : Error) → StopsCopy old new error
-    → StopsCopy first new error
-stops_since first old new earlier error (inl memory) = inl memory
-stops_since first old new earlier error (inr more) = inr (omega (arith, more, earlier))
-
 -- what is said of an error may be said in other words
 pub err_so : {A E : Type 0} {One Other : E → Type 0} (result : Result A E) → IfErr result One
     → ((error : E) → One error → Other error) → IfErr result Other
 err_so (Ok value) one so = tt
 err_so (Err error) one so = so error one
-
--- a call that counts its failures
-pub counted_less : {A E : Type 0} (result : Result A E) (old new : ℕ) → CountsFault result old new
-    → old ≤ new
-counted_less (Ok value) old new counts = omega (arith, counts)
-counted_less (Err error) old new counts = counts.1
-
--- stops a copy where it fails
-pub counted_stop : {A : Type 0} (result : Result A Error) (old new old' new' : ℕ)
-    → CountsFault result old' new' → (MoreFaults old' new' → MoreFaults old new)
-    → IfErr result (StopsCopy old new)
-counted_stop (Ok value) old new old' new' counts so = tt
-counted_stop (Err error) old new old' new' counts so = inr (so counts.0)

@@ -1,8 +1,5 @@
 -- Why a look through files fails.
-use Rattle.std.proofs.Common.{◌≡◌, ◌∙◌, ◌≤◌, ℕ, inl, inr, refl, subst, sym}
-use Rattle.std.specs.Prelude.{◌⊎◌}
-use Rattle.std.specs.declared.io.ErrorKind.{ErrorKind}
-use Rattle.std.specs.declared.io.ErrorKind.TheVariants as kind
+use Rattle.std.proofs.Common.{◌≡◌, ◌∙◌, ◌≤◌, ℕ, inl, inr, refl, sym}
 use Rattle.sqlite_disk.specs.Disk.{MoreFaults}
 use Rattle.sqlite_disk.specs.declared.Disk.{Ghosts}
 use Rattle.sqlite_disk.specs.declared.files.Files.{Files}
@@ -14,7 +11,6 @@ use Rattle.sqlite_store.specs.declared.store.open.Unopened.{Unopened}
 use Rattle.book_trees.proofs.FileParts.{file_cause}
 use Rattle.book_trees.proofs.Refused.{cause_since}
 use Rattle.book_trees.specs.declared.faults.OpenFault.TheVariants as opening
-use Rattle.book_trees.specs.Copies.{copy_fault_for}
 use Rattle.book_trees.specs.Looks.{look_fault_for, HasLookCause, IsToldLook}
 use Rattle.book_trees.specs.Refusals.{faults_in}
 use Rattle.book_trees.specs.declared.integrity.LookFault.{LookFault}
@@ -45,21 +41,6 @@ look_file_cause old end first last given back Limit Limit' Held Held' wider so P
     λ held. cause (so held)
 look_file_cause old end first last given back Limit Limit' Held Held' wider so (Open fault) cause =
     file_cause old end first last given back Limit Limit' Held Held' wider so fault cause
-
--- a copy over files that fail
-more_cause : (old new : ℕ) (AtLimit Held : Type 0) → MoreFaults old new → (failed : ErrorKind)
-    → HasLookCause old new AtLimit Held (Open (copy_fault_for failed))
-more_cause old new AtLimit Held more kind.OutOfMemory = tt
-more_cause old new AtLimit Held more _ = inl more
-
--- the failure of a copy is a cause of the fault that it stands for
-pub copy_cause : (old new : ℕ) (AtLimit Held : Type 0) (failed : ErrorKind)
-    → (failed ≡ kind.OutOfMemory) ⊎ MoreFaults old new
-    → HasLookCause old new AtLimit Held (Open (copy_fault_for failed))
-copy_cause old new AtLimit Held failed (inl memory) =
-    subst (λ (failed : ErrorKind). HasLookCause old new AtLimit Held (Open (copy_fault_for failed)))
-    (sym memory) tt
-copy_cause old new AtLimit Held failed (inr more) = more_cause old new AtLimit Held more failed
 
 -- a cause by one count is one by another that rose with it, and where more was to be held
 pub look_cause_for : (old new old' new' : ℕ) (AtLimit Held Held' : Type 0)

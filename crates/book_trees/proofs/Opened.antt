@@ -11,13 +11,10 @@ use Rattle.sqlite_pool.specs.StoredLaws.{recovers_once, readable, RecoversAs-fro
 use Rattle.sqlite_store.specs.Db.{IsFile, rows_at}
 use Rattle.sqlite_store.specs.FileStore.{state, view, schema_of, IsReady}
 use Rattle.sqlite_store.specs.Listing.{file_trees, IsOurs}
-use Rattle.sqlite_store.specs.Opening.{FailsToOpen}
 use Rattle.sqlite_store.specs.Saved.{kept_schema}
 use Rattle.sqlite_store.specs.Unopened.{state_of, image, wanted_by, HasFile, HasFileAs}
-use Rattle.sqlite_store.specs.Unopened.{HasSomeFile}
-use Rattle.sqlite_store.specs.Unopened.{IsCatalogOf, IsFullFile, Opens}
+use Rattle.sqlite_store.specs.Unopened.{IsCatalogOf, Opens}
 use Rattle.sqlite_store.specs.declared.catalog.Wanted.{Wanted}
-use Rattle.sqlite_store.specs.declared.error.OpenError.{OpenError}
 use Rattle.sqlite_store.specs.declared.store.FileStore.{FileStore}
 use Rattle.sqlite_store.specs.declared.store.open.Unopened.{Unopened}
 use Rattle.sqlite_trees.proofs.Doubt.{no_doubt}
@@ -27,15 +24,12 @@ use Rattle.sqlite_wal.specs.State.{State}
 use Rattle.book_trees.proofs.BlankFiles.{blank_unsound}
 use Rattle.book_trees.proofs.FormLemmas.{first_is_not_this}
 use Rattle.book_trees.proofs.ListingLemmas.{books_listed, first_listed}
-use Rattle.book_trees.proofs.Refused.{cause_of}
 use Rattle.book_trees.proofs.Trees.{has_trees}
 use Rattle.book_trees.specs.LedgerFiles.{page_size, AreLeft, HoldsBooks, HoldsFirstBooks}
 use Rattle.book_trees.specs.LedgerFiles.{HoldsTables, trees_held}
 use Rattle.book_trees.specs.Listing.{lists_books, lists_first_books}
-use Rattle.book_trees.specs.Refusals.{fault_for, HasCause}
 use Rattle.book_trees.specs.Schema.{books_schema, first_schema}
 use Rattle.book_trees.specs.StoreView.{IsOpen}
-use Rattle.book_trees.specs.declared.faults.OpenFault.{OpenFault}
 
 -- an empty list of rows does not list books
 none_listed : lists_books [] ≡ true → ⊥
@@ -46,27 +40,6 @@ none_listed listed = absurd (cc)
 some_listed : (rows : List Row) → lists_books rows ≡ true → rows ≢ []
 some_listed rows listed none =
     none_listed (subst (λ (rows : List Row). lists_books rows ≡ true) none listed)
-
--- files that hold tables hold some database
-pub some_file : {wanted : List Wanted} {D : Type 0} {g : Ghosts D} (it : Unopened D g)
-    → (state_of it).page_size ≡ page_size → HoldsTables wanted (image it) → HasSomeFile it
-some_file {wanted} it size held = (
-  held.pages,
-  subst (λ s. Recovers s (image it) held.pages) (sym size) held.found,
-  (wanted, subst (λ s. IsFile s wanted held.pages) (sym size) held.file),
-)
-
--- so why their list is not read
-pub unread_refused : {wanted : List Wanted} {D : Type 0} {g : Ghosts D} (old mid : Unopened D g)
-    (Held : Type 0) → (state_of old).page_size ≡ page_size → (Held → HoldsTables wanted (image old))
-    → (error : OpenError) → FailsToOpen (state_of old).faults (state_of mid).faults (IsFullFile mid)
-    (HasSomeFile old) error → (fault : OpenFault) → fault ≡ fault_for error
-    → HasCause (state_of old).faults (state_of mid).faults (IsFullFile mid) Held fault
-unread_refused old mid Held size held error fails fault is =
-    let Cause : OpenFault → Type 0 =
-    HasCause (state_of old).faults (state_of mid).faults (IsFullFile mid) Held in
-    subst Cause (sym is) (cause_of (state_of old).faults (state_of mid).faults (IsFullFile mid)
-    (HasSomeFile old) Held (λ this. some_file old size (held this)) error fails)
 
 module _ {D : Type 0} {g : Ghosts D} (old mid : Unopened D g) (rows : List Row)
     (listed : IsCatalogOf old mid rows) (sized : (state_of old).page_size ≡ page_size) where

@@ -1,22 +1,18 @@
 -- A log of which recovery takes nothing: the file alone holds the same tables.
 use Rattle.std.proofs.Common.{◌≡◌, ◌∙◌, ◌==◌, ◌<◌, ◌↔◌, [], IsTrue, List, ap, arith, inl, inr, length}
 use Rattle.std.proofs.Common.{Err, Ok, Result, refl, subst, sym, true≢false, ℕ, Bool}
-use Rattle.std.specs.Prelude.{IfErr, IfOk, ⊤}
+use Rattle.std.specs.Prelude.{IfOk}
 use Rattle.sqlite_wal.proofs.FileLemmas.{pages_without_frames}
 use Rattle.sqlite_wal.proofs.RecoveryLemmas.{replays_once}
-use Rattle.sqlite_disk.specs.declared.Disk.{Ghosts}
 use Rattle.sqlite_store.specs.declared.catalog.Wanted.{Wanted}
 use Rattle.sqlite_wal.specs.Opening.{RefusesLog}
 use Rattle.sqlite_wal.specs.Outcome as wal
-use Rattle.sqlite_wal.specs.Reads.{OnlyReads}
 use Rattle.sqlite_wal.specs.Recovery as raw
 use Rattle.sqlite_wal.specs.Recovery.{Image, Pages, Replays, pages_after}
 use Rattle.sqlite_wal.specs.declared.error.Error.{Error}
-use Rattle.sqlite_wal.specs.declared.error.Error.TheVariants.{Io, OutOfMemory, Closed, NoSuchPage}
-use Rattle.sqlite_wal.specs.declared.error.Error.TheVariants.{Full, Corrupt, Exists}
-use Rattle.book_trees.specs.Copies.{IsOnlyRead}
+use Rattle.sqlite_wal.specs.declared.error.Error.TheVariants.{Corrupt}
 use Rattle.book_trees.specs.LedgerFiles.{page_size, shortest_log, without_log}
-use Rattle.book_trees.specs.LedgerFiles.{HoldsAlone, HoldsTables, IsHugeLog, trees_held}
+use Rattle.book_trees.specs.LedgerFiles.{HoldsAlone, HoldsTables, trees_held}
 use Rattle.book_trees.specs.Refusals.{probe_answer, HasCause}
 
 -- the file alone stands for the same pages
@@ -59,10 +55,6 @@ pub short_alone : {wanted : List Wanted} (image : Image) → length image.log < 
     → (alone : HoldsTables wanted (without_log image)) × (trees_held alone ≡ trees_held held)
 short_alone image short held = unused_alone image (inl (inl short, refl)) held
 
--- a log that was read, as files are that are copied
-pub only_read : {D : Type 0} {g : Ghosts D} (one two : D) → OnlyReads g one two → IsOnlyRead g one two
-only_read one two read = record { seen = read.seen; clean = read.clean; crash = read.crash }
-
 -- so where recovery is said to take nothing of it the file alone holds the same tables
 pub passed_alone : {E : Type 0} (Clean : Type 0) (log read : List ℕ) (result : Result Bool E)
     → read ≡ log → IfOk result (λ is. Clean → (IsTrue is ↔ Replays page_size read 0))
@@ -95,26 +87,3 @@ module _ (Clean : Type 0) (old new : ℕ) (log : List ℕ) where
     ],
   )
   none_refused other cause = tt
-
-  -- and any other error has its cause
-  pub cause_refused : (error : Error) → (Clean → wal.HasCause old new (RefusesLog page_size log) error)
-      → IfErr (probe_answer error) (λ fault. Clean → HasCause old new (IsHugeLog log) ⊤ fault)
-  cause_refused (Io error) cause = λ clean. inl (cause clean)
-  cause_refused OutOfMemory cause = λ clean. tt
-  cause_refused Corrupt cause = tt
-  cause_refused Full cause = λ clean. elim (cause clean) [
-    | inl refused ↦ absurd (let same = refused.0 in cc)
-    | inr full ↦ inr full.1
-  ]
-  cause_refused Closed cause = λ clean. elim (cause clean) [
-    | inl refused ↦ absurd (let same = refused.0 in cc)
-    | inr full ↦ absurd (let same = full.0 in cc)
-  ]
-  cause_refused NoSuchPage cause = λ clean. elim (cause clean) [
-    | inl refused ↦ absurd (let same = refused.0 in cc)
-    | inr full ↦ absurd (let same = full.0 in cc)
-  ]
-  cause_refused Exists cause = λ clean. elim (cause clean) [
-    | inl refused ↦ absurd (let same = refused.0 in cc)
-    | inr full ↦ absurd (let same = full.0 in cc)
-  ]

@@ -1,34 +1,25 @@
 -- What the readers of clap's matches give.
 use Rattle.std.proofs.Common.{◌≡◌, ◌∙◌, ◌<◌, ◌^◌, ◌||◌, ℕ, Bool, true, false, cond, List, []}
-use Rattle.std.proofs.Common.{◌∷◌, map, Option, Some, None, Result, Ok, Err, refl, sym, ap, ap₂, subst}
+use Rattle.std.proofs.Common.{◌∷◌, map, Option, Some, None, Result, Ok, Err, refl, sym, ap, subst}
 use Rattle.std.specs.Borrow.{Bor}
 use Rattle.std.specs.List.{find, list_any}
 use Rattle.std.specs.Option.{option_map}
-use Rattle.std.specs.Prelude.{Box, IfSome, IsSome, IsSomeAnd, codes, is_some, not, pos}
+use Rattle.std.specs.Prelude.{IfSome, IsSome, IsSomeAnd, is_some, pos}
 use Rattle.std.specs.Str.{bytes_eq}
 use Rattle.std.specs.Str.Parse.{ExplainsUnsignedError, HasUnsignedDigitsIfOk, IsNumeral, ParsesBool}
 use Rattle.std.specs.Str.Parse.{ParsesUnsigned, digits_value, without_leading_plus}
 use Rattle.std.specs.declared.num.ParseIntError.{ParseIntError}
-use Rattle.std.proofs.lemmas.Option.{same_Some}
 use Rattle.std.proofs.lemmas.Slice.Eq.{bytes_eq-Decides}
 use Rattle.clap.specs.Lexer.{without_minus}
 use Rattle.clap.specs.Matches.{ReadsOne, one_text}
-use Rattle.clap.specs.Simple.{subcommand_rows}
 use Rattle.clap.specs.Values.{bool_text}
 use Rattle.clap.specs.Walk.{Row, Text, first_of, one_of, rows_of}
-use Rattle.clap.specs.declared.parser.matches.ArgMatches.TheViews.{out-SubCommand}
 use Rattle.clap.specs.declared.parser.matches.Found.{Found}
-use Rattle.clap.specs.declared.parser.matches.SubCommand.{SubCommand}
 use Rattle.clap.proofs.CallerReads.{signed_reads}
 use Rattle.clap.proofs.WalkLemmas.{one_text-rows}
-use Rattle.std.specs.Box.{box_value}
 use Rattle.command_line.specs.Given.{HasNumber, HasRate, NoneIs}
-use Rattle.command_line.specs.Requests.{IsCentre, IsFlag, IsLeftOut, IsNumber, IsOfCommand}
-use Rattle.command_line.specs.Requests.{IsRequest, IsText, Writes, has_plain_period}
-use Rattle.command_line.specs.Requests.{is_of_period_text}
-use Rattle.command_line.specs.declared.request.Request.{Request}
-use Rattle.command_line.specs.declared.request.Request.TheVariants as request
-use Rattle.command_line.specs.declared.request.Unclear.TheVariants as unclear
+use Rattle.command_line.specs.Requests.{IsFlag, IsLeftOut, IsNumber}
+use Rattle.command_line.specs.Requests.{IsText, Writes}
 use Rattle.command_line.proofs.RowLemmas.{none_some, true_false}
 
 -- ---- a text
@@ -56,12 +47,6 @@ left_out rows name some = go (first_of name rows) some
     go : (found : Option Text) → (IsSome found → IsSome {T = Bor Text} None) → found ≡ None
     go None some = refl
     go (Some text) some = absurd (true_false (sym (some refl)))
-
--- the centre that is named, or none
-pub read_centre : (rows : List Row) (o : Option (Bor Text)) → IfSome o (IsText rows (codes "centre"))
-    → (IsSome (first_of (codes "centre") rows) → IsSome o) → IsCentre rows o
-read_centre rows (Some centre) text some = text
-read_centre rows None text some = left_out rows (codes "centre") some
 
 -- ---- a number
 
@@ -196,47 +181,3 @@ module _ {X : Type 0} (P : Text × X → Type 0) where
           → (IsSomeAnd (find (λ d. bytes_eq d.0 name) more) P → ⊥) → ⊥
       go true same here later = none.0 (sym ((bytes_eq-Decides c.0 name).0 same))
       go false same here later = later here
-
--- ---- the command that was met
-
-module _ {Z : Type 0} where
-  pub met_pair : (sub : Option (Box SubCommand Z)) (name : Text) (rows : List Row)
-      → Some name ≡ option_map (λ b. (out-SubCommand (box_value b)).name.now) sub
-      → Some rows ≡ option_map (λ p. p.1) (subcommand_rows sub)
-      → subcommand_rows sub ≡ Some (name, rows)
-  met_pair None name rows named found = absurd (none_some name (sym named))
-  met_pair (Some b) name rows named found =
-      ap₂ (λ (n : Text) (r : List Row). Some (n, r)) (sym (same_Some _ _ named))
-      (sym (same_Some _ _ found))
-
-  pub none_met : (P : Text × List Row → Type 0) (sub : Option (Box SubCommand Z))
-      → None ≡ option_map (λ b. (out-SubCommand (box_value b)).name.now) sub
-      → IsSomeAnd (subcommand_rows sub) P → ⊥
-  none_met P None named met = met
-  none_met P (Some b) named met = none_some _ named
-
--- ---- a period
-
--- a request whose period is written plainly is no other
-pub plain_request : (name : Text) (rows : List Row) (asked : Request) → IsOfCommand name rows asked
-    → has_plain_period rows ≡ true → IsRequest name rows asked
-plain_request name rows asked command plain =
-    record { command = command; plain = go asked command }
-  where
-    go : (asked : Request) → IsOfCommand name rows asked
-        → has_plain_period rows ≡ not (is_of_period_text asked)
-    go (request.Trial layout cpu excp price) command = plain
-    go (request.TrialUnder layout file) command = plain
-    go (request.Check dump) command = plain
-    go (request.Explain kind value) command = plain
-    go (request.OfBooks path wait book) command = plain
-    go (request.Unclear unclear.Choice) command = plain
-    go (request.Unclear unclear.Prices) command = plain
-    go (request.Unclear unclear.DryRun) command = plain
-    go (request.Unclear unclear.Period) command = command
-
-pub plain_read : (name : Text) (rows : List Row) (read : Option Request)
-    → IfSome read (IsOfCommand name rows) → has_plain_period rows ≡ true
-    → IfSome read (IsRequest name rows)
-plain_read name rows None command plain = tt
-plain_read name rows (Some asked) command plain = plain_request name rows asked command plain

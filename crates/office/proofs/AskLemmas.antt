@@ -15,7 +15,7 @@ use Rattle.office.specs.declared.request.Asked.TheVariants.{Tariff, Close, Choos
 use Rattle.office.specs.declared.request.Answer.{Answer}
 use Rattle.office.specs.Requests.{Dump, Response, response_outcome, response_by, IsAskable, IsAskableUnread, Gives, Asks}
 use Rattle.office.specs.Requests.{IsAskableRuling, IsAsked}
-use Rattle.office.specs.Runs.{AsksWithoutReader, IsAskableWithoutReader}
+use Rattle.office.specs.Runs.{IsAskableWithoutReader}
 
 -- a call of the ledger, as an answer
 pub calls_told : {V A : Type 0} (view : V → A) (say : A → Response) (outcome : Book → Outcome A)
@@ -95,12 +95,3 @@ pub askable_with : (asked : Asked) (reader : ReaderSeen) → IsAskableWithoutRea
 askable_with (Close period through) reader alone = alone
 askable_with (Import layout) reader alone = absurd alone
 askable_with other reader alone = tt
-
--- a request with no reader at hand has the dump that it brings
-pub asked_alone : (asked : Asked) {answer : Result Answer LedgerFault} {books : Books}
-    {input : Input} → IsAskableWithoutReader asked → IsAsked asked answer books input
-    → IsTransition books.old books.new (AsksWithoutReader books.old.naming asked answer)
-asked_alone (Import layout) alone asked = absurd alone
-asked_alone other {answer = answer} {books = books} alone asked =
-    subst (λ dump. IsTransition books.old books.new
-    (Asks books.old.naming other dump (response_by answer))) asked.given.is asked.work

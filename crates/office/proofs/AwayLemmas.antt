@@ -1,7 +1,6 @@
 -- Calls on books that are away.
-use Rattle.std.proofs.Common.{◌≡◌, ℕ, List, Result, Err, refl}
+use Rattle.std.proofs.Common.{ℕ, List, Err, refl}
 use Rattle.book_model.specs.declared.answer.Accepted.{Accepted}
-use Rattle.book_model.specs.declared.fault.LedgerFault.{LedgerFault}
 use Rattle.book_model.specs.declared.fault.LedgerFault.TheVariants.{Reopen}
 use Rattle.book_model.specs.Words.{Book, Outcome, accept_outcome}
 use Rattle.book_core.specs.Calls.{IsCall}

@@ -1,12 +1,12 @@
 -- What keys cost, one charge row more at a time; and the days that cost something.
 use Rattle.std.proofs.Common.{◌≡◌, ◌∙◌, ℕ, ◌+◌, ◌<◌, ◌≤◌, Bool, List, [], ◌∷◌, ◌++◌, ap, arith}
-use Rattle.std.proofs.Common.{get_or, length, map, refl, sym, take, unwrap_or}
-use Rattle.std.specs.Prelude.{All, ℤ, filter, sum_by}
+use Rattle.std.proofs.Common.{get_or, length, map, sym, take, unwrap_or}
+use Rattle.std.specs.Prelude.{filter, sum_by}
 use Rattle.std.specs.BTreeMap.{insert_entry, is_at}
 use Rattle.std.specs.Cmp.{IsTotalOrder}
 use Rattle.std.specs.FinMap as finite
 use Rattle.std.specs.Map.{lookup}
-use Rattle.std.specs.Ordering.{eq_by_cmp, int_cmp}
+use Rattle.std.specs.Ordering.{eq_by_cmp}
 use Rattle.std.specs.declared.cmp.Ordering.{Ordering}
 use Rattle.std.proofs.lemmas.List.{take_more}
 use Rattle.std.proofs.lemmas.List.Sums.{sum_by_more_le, sum_by_push}

@@ -1,5 +1,5 @@
 -- The days that cost something are days.
-use Rattle.std.proofs.Common.{◌≡◌, ◌∙◌, ℕ, List, map, sym}
+use Rattle.std.proofs.Common.{◌∙◌, ℕ, List, map, sym}
 use Rattle.std.specs.Prelude.{All, ℤ}
 use Rattle.std.specs.Cmp.{IsTotalOrder}
 use Rattle.std.specs.FinMap as finite

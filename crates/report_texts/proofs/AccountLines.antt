@@ -1,8 +1,8 @@
 -- A walk over accounting fields, and the lines that it writes.
 use Rattle.std.proofs.Common.{◌≡◌, ◌∙◌, ℕ, suc, ◌+◌, ◌-◌, ◌<◌, List, ◌∷◌, ◌++◌, Option, None, Some}
-use Rattle.std.proofs.Common.{append_assoc, append-nil, ap, arith, is_some, refl, sym, true}
+use Rattle.std.proofs.Common.{append_assoc, ap, arith, is_some, refl, sym, true}
 use Rattle.std.specs.Option.{option_map}
-use Rattle.smf_type30.specs.AccountWalk.{BeginsWith, BeginsWithNone}
+use Rattle.smf_type30.specs.AccountWalk.{BeginsWith}
 use Rattle.smf_type30.specs.Accounts.{fields_in}
 use Rattle.report_texts.specs.UsageLines.{account_line, account_lines}
 
@@ -42,19 +42,3 @@ reads_on count at text rest after field old out more is begins =
       there = next.0;
       lines = next.1 ∙ sym (ap (λ fields. out ++ account_lines fields) found) ∙ is.lines;
     }
-
--- no field is missing
-pub reads_one : (count at : ℕ) (text rest old out : List ℕ) → at < count
-    → IsAt count at text rest old out → BeginsWithNone rest → ⊥
-reads_one count at text rest old out more is none =
-    let missing : fields_in (count - at) rest ≡ None =
-    ap (λ n. fields_in n rest) (one_left count at more) ∙ none (left count at) in
-    let there = is.there in
-    cc
-
--- all are read
-pub has_read : (count : ℕ) (text rest old out : List ℕ) → IsAt count count text rest old out
-    → out ≡ old ++ account_lines (fields_in count text)
-has_read count text rest old out is =
-    let none : count - count ≡ 0 = omega arith in
-    sym (append-nil out) ∙ sym (ap (λ n. out ++ account_lines (fields_in n rest)) none) ∙ is.lines

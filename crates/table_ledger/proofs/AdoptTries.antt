@@ -12,19 +12,11 @@ use Rattle.book_core.specs.OfficeRulings.{ruled_in}
 use Rattle.table_model.specs.Changed.{adopted_at}
 use Rattle.table_model.specs.TablesOf.{tables_of}
 use Rattle.tree_tables.specs.Steps.{Always}
-use Rattle.table_ledger.specs.Attempts.{LeavesOpen}
 use Rattle.table_ledger.specs.Stages.{IsAt}
 use Rattle.table_ledger.specs.declared.summary.Summary.{Summary}
-use Rattle.table_ledger.proofs.Answering.{opens, opens_if}
 use Rattle.table_ledger.proofs.Remembered.{Says}
 use Rattle.table_ledger.proofs.StageLemmas.{IsEvent}
 use Rattle.std.proofs.lemmas.Bool.{eqb-true}
-
--- it leaves the books open
-pub adopt_plain : (rulings : Rulings) (rule : ℕ) → LeavesOpen (adopt_answer rulings rule)
-adopt_plain rulings rule =
-    opens_if (rule == rule_by rulings) (opens refl refl)
-    (opens_if (rule == second_rule) (opens refl refl) (opens refl refl))
 
 -- if it is Done, it is the second rule
 is_second : (same second : Bool)

@@ -8,7 +8,6 @@ use Rattle.std.proofs.lemmas.Map.Lookups.{exact_bytes}
 use Rattle.std.proofs.lemmas.Map.Views.{tells_apart}
 use Rattle.book_model.proofs.MapLemmas.{else_find, find-both}
 use Rattle.std.specs.Prelude.{filter, nat_le, not, ◌==◌, ◌&&◌}
-use Rattle.std.specs.BTreeMap as trees
 use Rattle.std.specs.FinMap.{entries, find, get, get-entries}
 use Rattle.std.specs.Option.{option_or}
 use Rattle.std.specs.Ordering.{eq_by_cmp, is_eq, nat_cmp, ordering_then}
@@ -16,16 +15,13 @@ use Rattle.std.specs.declared.cmp.Ordering.{Ordering}
 use Rattle.std.specs.declared.cmp.Ordering.TheVariants.{Less, Equal, Greater}
 use Rattle.std.proofs.lemmas.Bool.Decides.{nat_tests}
 use Rattle.book_model.specs.Words.{Rulings, by_bytes, open_by}
-use Rattle.book_model.specs.RulingAnswers.{through_of}
 use Rattle.table_model.specs.PeriodRows.{by_period}
 use Rattle.table_model.specs.Tables.{LineTable, Tables}
-use Rattle.table_model.specs.CountedRead.{charged_before_lines, first_line, is_day_between}
+use Rattle.table_model.specs.CountedRead.{first_line}
 use Rattle.table_model.specs.ListsRead.{is_period}
 use Rattle.tree_tables.specs.Answers.{ListsLines}
 use Rattle.tree_tables.specs.Stored.{signed_name}
 use Rattle.tree_tables.specs.declared.line_rows.StoredLine.{StoredLine}
-use Rattle.table_ledger.specs.OtherPrices.{IsTestOf}
-use Rattle.table_ledger.specs.declared.count_test.CountTest.{CountTest}
 
 -- nothing else is found
 or_none : {X : Type 0} (found : Option X) → option_or found None ≡ found
@@ -149,11 +145,6 @@ line_joins found i any one name start now next its kept within is so_far joins i
         ∙ or_else (find by_bytes name (map signed_name (take i found)))
         (cond (eq_by_cmp by_bytes name one.name) (Some one.plus) None)
 
--- the open period is no earlier than one that exists
-pub within_open : (number later : ℕ) (rulings : Rulings) → is_period number rulings ≡ true
-    → later ≡ open_by rulings → number ≤ later
-within_open number later rulings there is = grind (arith, nat_tests, there, is)
-
 -- and each number after it, up to that of the open one, is that of a period
 pub is_later : (number later : ℕ) (rulings : Rulings) (other : ℕ) → number < other → other ≤ later
     → later ≡ open_by rulings → is_period other rulings ≡ true
@@ -161,16 +152,3 @@ is_later number later rulings other behind within is =
     let some : (other == 0) ≡ false = grind (arith, nat_tests, behind) in
     let early : nat_le other (open_by rulings) ≡ true = grind (arith, nat_tests, within, is) in
     λ i. not (some i) && early i
-
--- what tells which records a period counts: the two closes, and the first later lines
-pub test_of : (number later : ℕ) (rulings : Rulings) (tables : Tables) (test : CountTest)
-    → test.last ≡ through_of (number - 1) rulings → test.through ≡ through_of number rulings
-    → later ≡ open_by rulings
-    → ((name : List ℕ) → trees.get by_bytes test.lines name
-    ≡ first_line tables.lines name (suc number) (later - number))
-    → IsTestOf number rulings tables test
-test_of number later rulings tables test last through opened lines = λ entry.
-    let found = lines entry.0
-    ∙ ap (λ n. first_line tables.lines entry.0 (suc number) (n - number)) opened in
-    λ i. is_day_between (last i) (through i) entry.1.priced.day
-    && charged_before_lines (found i) entry.1.charged

@@ -1,21 +1,20 @@
 -- The records that are counted: how a pass over all records lists them, and what it is to count
 -- them one after the other.
-use Rattle.std.proofs.Common.{◌≡◌, ◌∙◌, ◌+◌, ◌-◌, ◌<◌, ℕ, List, [], ◌∷◌, ◌++◌, Bool, true, false}
-use Rattle.std.proofs.Common.{cond, ◌||◌, Option, map, take, length, get_or, refl, sym, ap, subst}
+use Rattle.std.proofs.Common.{◌≡◌, ◌∙◌, ◌+◌, ◌-◌, ℕ, List, [], ◌∷◌, ◌++◌, Bool, true, false}
+use Rattle.std.proofs.Common.{cond, ◌||◌, Option, map, length, refl, sym, ap, subst}
 use Rattle.std.proofs.Common.{inl, inr, is_some, append-nil, append_assoc, arith}
 use Rattle.std.proofs.Math.Bool.{or-false}
-use Rattle.std.specs.Prelude.{if◌then◌else◌, slice_index_or}
+use Rattle.std.specs.Prelude.{if◌then◌else◌}
 use Rattle.std.specs.FinMap.{entries, find, get-empty}
 use Rattle.std.specs.List.{list_any}
 use Rattle.std.specs.List.Sorted.{IsPermutation}
 use Rattle.std.specs.Option.{option_or}
 use Rattle.std.proofs.lemmas.Bool.{cases_Bool}
 use Rattle.std.proofs.lemmas.Cmp.{nat_list_cmp_total}
-use Rattle.std.proofs.lemmas.List.{length-map, map-append, take_more}
+use Rattle.std.proofs.lemmas.List.{length-map, map-append}
 use Rattle.std.proofs.lemmas.List.Elements.{filter-append}
 use Rattle.std.proofs.lemmas.List.Sorted.{IsPermutation-map, IsPermutation-sym}
 use Rattle.std.proofs.lemmas.List.Sorted.{list_any-IsPermutation}
-use Rattle.std.proofs.lemmas.List.Sums.{fold-append}
 use Rattle.sqlite_trees.specs.View.{View}
 use Rattle.sqlite_value.specs.Order.{Row}
 use Rattle.book_model.specs.Words.{by_bytes, has, set_of}
@@ -109,17 +108,6 @@ module _ (first : List ℕ → Option Bool) where
     pub to_come : HasRecordsLeft view left
     pub names : names_of all ≡ names_by first passed
 
-  -- none at first
-  pub listed_none : (view : View) (all : List Counted) (tables : Tables) → all ≡ []
-      → HasRecordsLeft view (entries tables.records) → ListedSo view all tables
-  listed_none view all tables none has = record {
-    passed = [];
-    left = entries tables.records;
-    whole = refl;
-    to_come = has;
-    names = ap names_of none;
-  }
-
   -- the next row is passed
   pub listed_on : (old new : View) (all more : List Counted) (tables : Tables) (row : Row)
       → ListedSo old all tables → TakesNext old new row true
@@ -151,18 +139,6 @@ module _ (first : List ℕ → Option Bool) where
       (IsPermutation-map (λ (one : Counted). one.name) all put order))
 
 -- ---- counting
-
--- the record of one more of them is counted
-pub counted_on : (all : List Counted) (i : ℕ) (any : Counted) (tables : Tables) → i < length all
-    → count_row (slice_index_or all i any).name (count_each (names_of (take i all)) tables)
-    ≡ count_each (names_of (take (i + 1) all)) tables
-counted_on all i any tables within =
-    sym (ap (λ (some : List Counted). count_each (names_of some) tables)
-    (take_more all i any within)
-    ∙ ap (λ names. count_each names tables)
-    (map-append (λ (one : Counted). one.name) (take i all) (get_or all i any ∷ []))
-    ∙ fold-append (λ (so_far : Tables) (name : List ℕ). count_row name so_far) tables
-    (names_of (take i all)) ((get_or all i any).name ∷ []))
 
 -- which names are counted then
 counted_has : (names : List (List ℕ)) (tables : Tables) (q : List ℕ)

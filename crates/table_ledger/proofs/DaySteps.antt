@@ -38,14 +38,6 @@ module _ (period : ℕ) (priced : Priced) (tables : Tables) (placed : AreUnderOw
       })
       (sym (here_placed there refl))
 
-  -- a price that leaves no row changes nothing
-  pub leaves_none : there ≡ None → change_day_row period (Some (Take priced)) tables ≡ tables
-  leaves_none none =
-      ap (λ found. record tables {
-        days = take_at (period, key_of priced) found priced tables.days;
-      })
-      none
-
   -- what a price leaves, by whether it is the last one of its row
   leaves_by : (row : ChargeRow) (last : Bool) → there ≡ Some row → (row.count == 1) ≡ last
       → change_day_row period (Some (Take priced)) tables ≡ record tables {

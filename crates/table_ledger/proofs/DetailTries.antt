@@ -18,13 +18,13 @@ use Rattle.book_model.proofs.DetailOrder.{by_detail_total}
 use Rattle.book_model.proofs.SetLemmas.{same_bytes-by_cmp}
 use Rattle.book_model.specs.RulingAnswers.{through_of}
 use Rattle.book_model.specs.Words.{Book, IsDay, Naming, Outcome, Rulings, ShowsDetail, by_bytes}
-use Rattle.book_model.specs.Words.{by_detail, by_key, comes_after, details_asked, is_asked, key_of}
-use Rattle.book_model.specs.Words.{next_after, next_detail_outcome}
+use Rattle.book_model.specs.Words.{by_detail, by_key, comes_after, is_asked, key_of}
+use Rattle.book_model.specs.Words.{next_detail_outcome}
 use Rattle.book_model.specs.declared.detail.Detail.{Detail}
 use Rattle.book_model.specs.declared.fault.LedgerFault.TheVariants.{NoSuchPeriod}
 use Rattle.book_core.specs.OfficeRulings.{ruled_in}
 use Rattle.table_model.specs.CountedRead.{is_day_between}
-use Rattle.table_model.specs.DetailsRead.{FindsLeast, IsDetail, detail_shown, details_of_days}
+use Rattle.table_model.specs.DetailsRead.{FindsLeast, IsDetail, detail_shown}
 use Rattle.table_model.specs.ListsRead.{is_period, of_period}
 use Rattle.table_model.specs.Tables.{Tables}
 use Rattle.table_model.specs.TablesOf.{tables_of}
@@ -33,19 +33,19 @@ use Rattle.tree_rows.proofs.IndexOrders.{by_bytes_exact, second_equal}
 use Rattle.tree_rows.proofs.Taking.{some_is}
 use Rattle.tree_tables.specs.Details.{FindsDetail, is_reached}
 use Rattle.tree_tables.specs.declared.detail_rows.DetailStart.{DetailStart}
-use Rattle.tree_tables.specs.declared.detail_rows.DetailStart.TheVariants.{After, Centre, Day}
+use Rattle.tree_tables.specs.declared.detail_rows.DetailStart.TheVariants.{Centre}
 use Rattle.tree_tables.specs.States.{State}
 use Rattle.tree_tables.proofs.RowsRead.{same_int}
 use Rattle.table_ledger.specs.Commits.{Saw}
-use Rattle.table_ledger.specs.DetailReads.{ComesFrom, GoesOn, seeks}
+use Rattle.table_ledger.specs.DetailReads.{GoesOn, seeks}
 use Rattle.table_ledger.specs.Ready.{Remembers}
 use Rattle.table_ledger.specs.RecordReads.{CanBeRead}
 use Rattle.table_ledger.specs.Stages.{AttemptsOne}
 use Rattle.table_ledger.specs.declared.details.Sought.{Sought}
 use Rattle.table_ledger.specs.declared.summary.Summary.{Summary}
-use Rattle.table_ledger.proofs.Answering.{makes_answer, makes_refused}
+use Rattle.table_ledger.proofs.Answering.{makes_answer}
 use Rattle.table_ledger.proofs.Remembered.{rulings_are}
-use Rattle.table_ledger.proofs.TryLemmas.{saw_none, try_answered}
+use Rattle.table_ledger.proofs.TryLemmas.{try_answered}
 
 -- what is sought has all that is asked
 pub record IsSought (sought : Sought) (detail : Detail) : Type 0 where
@@ -171,24 +171,6 @@ module _ (sought : Sought) (start : DetailStart) (tables : Tables)
 
 -- ---- where to go on
 
--- from the day after a close on
-pub from_day : (sought : Sought) (close : ℤ) → sought.close ≡ Some close
-    → ComesFrom sought (Day (close +ℤ pos 1))
-from_day sought close is detail wanted =
-    ap not (next_day detail.priced.day close
-    (sym (ap (λ one. option_map_or (λ close. int_lt close detail.priced.day) one true) is)
-    ∙ (is_sought_by sought detail wanted).late))
-  where
-    next_day : (day close : ℤ) → int_lt close day ≡ true
-        → is_lt (int_cmp day (close +ℤ pos 1)) ≡ false
-    next_day day close late = grind (arith, ints, late)
-
--- after the last one
-pub from_last : (sought : Sought) (last : Detail) → sought.last ≡ Some last
-    → ComesFrom sought (After last)
-from_last sought last is detail wanted =
-    sym (ap (λ one. comes_after one detail) is) ∙ (is_sought_by sought detail wanted).after
-
 -- a detail that is sought has the centre
 has_centre : (sought : Sought) (centre : List ℕ) (detail : Detail) → sought.centre ≡ Some centre
     → seeks sought detail ≡ true → detail.priced.centre ≡ centre
@@ -276,23 +258,6 @@ module _ (naming : Naming) (summary : Summary) (number : ℕ) (centre : Option (
     answer_by value book remembers there is =
         ap (λ (rulings : Rulings). of_period number rulings value) (rulings_are remembers)
         ∙ ap (λ (found : Bool). if found then Ok value else Err NoSuchPeriod) is
-
-    -- there is no such period
-    pub next_absent : {state : State} → is_period number (ruled_in summary.rulings) ≡ false
-        → AttemptsOne (λ (found : Option Detail). found) naming summary summary state state
-        (next_detail_outcome naming number centre last) (Ok (Err NoSuchPeriod))
-    next_absent absent =
-        try_answered (next_detail_outcome naming number centre last) saw_none
-        (record { stored = refl; served = refl })
-        (λ book at known.
-        let whole = at.kept.readable in
-        makes_refused (λ (found : Option Detail). found)
-        (next_detail_outcome naming number centre last book) NoSuchPeriod
-        (ap (λ (outcome : Outcome (Option Detail)). outcome.answer)
-        (details_follow.next naming book number centre last whole)
-        ∙ answer_by (next_after last (details_asked centre
-        (details_of_days number book.rulings (tables_of naming book)))) book at.remembers false
-        absent))
 
     module _ {old new : State} (close through : Option ℤ) (found : Option Detail)
         (close_is : close ≡ through_of (number - 1) (ruled_in summary.rulings))

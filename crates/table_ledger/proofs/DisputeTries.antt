@@ -1,10 +1,8 @@
 -- The next identity in dispute, where identities that were settled are passed over, and its dispute.
-use Rattle.std.proofs.Common.{◌≡◌, ◌∙◌, ◌+◌, ◌<◌, ℕ, List, [], ◌∷◌, ◌++◌, true, false, not}
-use Rattle.std.proofs.Common.{true≢false, None, Some, Ok, length, map, sym, ap, subst, take}
-use Rattle.std.proofs.Common.{slice_index_or}
+use Rattle.std.proofs.Common.{◌≡◌, ◌∙◌, ◌+◌, ℕ, List, [], ◌∷◌, ◌++◌, true, false, not}
+use Rattle.std.proofs.Common.{true≢false, None, Some, Ok, map, sym, ap, subst}
 use Rattle.std.specs.Prelude.{All, Err, IsErrAnd, Option, Result}
 use Rattle.std.specs.List.{list_any}
-use Rattle.std.proofs.lemmas.List.{map-append, take_more}
 use Rattle.std.proofs.lemmas.List.Elements.{All-map}
 use Rattle.sqlite_trees.specs.View.{View}
 use Rattle.sqlite_trees.specs.declared.error.StoreError.{StoreError}
@@ -101,18 +99,6 @@ module _ (from at : List ℕ) (tables : Tables) (so_far : PassedTo from at table
 -- records as the list of disputes shows them
 abbrev variants : List StoredRecord → List Variant
 variants rows = map variant_read (map stored_entry rows)
-
--- with one more, there is one more
-pub variants_more : (rows : List StoredRecord) (at : ℕ) (one : StoredRecord) (read : Variant)
-    (olds news : List Variant) → at < length rows → one ≡ slice_index_or rows at one
-    → read ≡ variant_read (stored_entry one) → news ≡ olds ++ read ∷ []
-    → olds ≡ variants (take at rows) → news ≡ variants (take (at + 1) rows)
-variants_more rows at one read olds news within is told more before =
-    more ∙ (λ i. before i ++ told i ∷ [])
-    ∙ sym (map-append variant_read (map stored_entry (take at rows)) (stored_entry one ∷ []))
-    ∙ ap (map variant_read) (sym (map-append stored_entry (take at rows) (one ∷ []))
-    ∙ ap (λ (last : StoredRecord). map stored_entry (take at rows ++ last ∷ [])) is
-    ∙ ap (map stored_entry) (sym (take_more rows at one within)))
 
 -- a dispute of an identity and of records that can be shown can be shown
 pub made_shows : (made : Dispute) (identity : List ℕ) (rows : List StoredRecord)

@@ -1,29 +1,24 @@
 -- Records that are charged under the second rule: what is due, and a step that charges it.
-use Rattle.std.proofs.Common.{◌≡◌, ◌∙◌, ℕ, List, Bool, true, false, cond, not, ◌&&◌, ◌||◌, Option}
-use Rattle.std.proofs.Common.{Some, None, refl, sym, ap, length, map, ◌++◌, ◌∷◌, []}
-use Rattle.std.specs.Prelude.{ℤ, ◌==◌, filter, if◌then◌else◌}
+use Rattle.std.proofs.Common.{◌≡◌, ◌∙◌, ℕ, List, Bool, false, cond, not, ◌&&◌, Option}
+use Rattle.std.proofs.Common.{Some, None, refl, sym, ap, map, ◌++◌, ◌∷◌, []}
+use Rattle.std.specs.Prelude.{ℤ, filter, if◌then◌else◌}
 use Rattle.std.specs.FinMap.{entries, get}
 use Rattle.std.specs.List.{last_or}
 use Rattle.std.specs.Option.{option_map_or}
-use Rattle.std.proofs.Math.Bool.{and-false, or-false, or-true}
 use Rattle.std.proofs.lemmas.Cmp.{nat_list_eq_equiv}
-use Rattle.std.proofs.lemmas.List.{length-map}
 use Rattle.std.proofs.lemmas.Simd.{map-map}
 use Rattle.book_model.specs.Words.{same_bytes}
 use Rattle.book_core.specs.Effects.{charge_held}
 use Rattle.table_model.specs.TableChanges.{charge_in, charge_due_step}
 use Rattle.table_model.specs.Tables.{ChoiceRow, RecordRow, RecordTable, Tables}
-use Rattle.table_model.specs.Views.{name_has_identity, is_due_at, is_due_in, member_at}
-use Rattle.table_model.specs.Views.{rows_with}
+use Rattle.table_model.specs.Views.{name_has_identity, is_due_in, member_at}
 use Rattle.table_model.proofs.DueStays.{due_stays, last_pushed, last_stays}
-use Rattle.table_model.proofs.ChoiceLemmas.{choices_follow}
-use Rattle.tree_tables.specs.Answers.{FindsRecord, FindsSharing}
+use Rattle.tree_tables.specs.Answers.{FindsRecord}
 use Rattle.tree_tables.specs.Stored.{IsAsRead, choice_entry, stored_entry}
 use Rattle.tree_tables.specs.declared.choice_rows.StoredChoice.{StoredChoice}
 use Rattle.tree_tables.specs.declared.stored_record.StoredRecord.{StoredRecord}
-use Rattle.table_ledger.specs.Adoptions.{IsLast, IsLastOf, JoinsLast, is_last, last_chosen}
+use Rattle.table_ledger.specs.Adoptions.{IsLast, IsLastOf, JoinsLast, last_chosen}
 use Rattle.table_ledger.specs.declared.chosen.Chosen.{Chosen}
-use Rattle.table_ledger.proofs.AcceptTries.{none_found}
 use Rattle.table_ledger.proofs.ChoiceTries.{found_row}
 
 -- ---- the records that were chosen last
@@ -44,13 +39,6 @@ joins_found chosen more name stored tables found puts identity =
     puts identity
     ∙ ap (λ (is : Bool). if is then Some name else last_chosen chosen identity)
     (nat_list_eq_equiv.symm identity stored.identity.items ∙ sym (ap (has_row identity) row))
-
--- a choice for which no record was found changes nothing
-pub joins_none : (chosen : Chosen) (name : List ℕ) (tables : Tables)
-    → FindsRecord name tables None → JoinsLast name tables.records chosen chosen
-joins_none chosen name tables found identity =
-    ap (λ (is : Bool). if is then Some name else last_chosen chosen identity)
-    (sym (ap (has_row identity) (none_found name (get tables.records name) found)))
 
 -- one more choice
 pub last_more : (names : List (List ℕ)) (name : List ℕ) (records : RecordTable)
@@ -75,43 +63,6 @@ last_listed choices chosen tables lists lasts identity =
     ∙ sym (map-map (λ (choice : ChoiceRow). choice.name) (λ (entry : ℕ × ChoiceRow). entry.1)
     (entries tables.choices)))
 
--- ---- what is due
-
--- a record that is as it was read is due if it is alone, or is the one that was chosen last
-due_by : (stored : StoredRecord) (tables : Tables) (chosen : Chosen) → IsAsRead stored tables
-    → IsLast chosen tables
-    → is_due_in tables stored.name
-    ≡ ((length (rows_with stored.identity.items tables.records) == 1)
-    || is_last chosen stored.identity.items stored.name)
-due_by stored tables chosen stands lasts =
-    ap (is_due_at tables stored.name) stands
-    ∙ ap (λ found. (length (rows_with stored.identity.items tables.records) == 1)
-    || option_map_or (same_bytes stored.name) found false)
-    (sym (lasts stored.identity.items))
-
--- it is the one that was chosen last
-pub due_chosen : (stored : StoredRecord) (tables : Tables) (chosen : Chosen)
-    → is_last chosen stored.identity.items stored.name ≡ true → IsAsRead stored tables
-    → IsLast chosen tables → true ≡ is_due_in tables stored.name
-due_chosen stored tables chosen is stands lasts =
-    let lone : Bool = length (rows_with stored.identity.items tables.records) == 1 in
-    sym (due_by stored tables chosen stands lasts ∙ ap (λ b. lone || b) is ∙ or-true lone)
-
--- it is not, so it has to be alone
-pub due_alone : (stored : StoredRecord) (tables : Tables) (chosen : Chosen)
-    (sharing : List StoredRecord) (alone : Bool)
-    → is_last chosen stored.identity.items stored.name ≡ false
-    → FindsSharing stored.identity.items tables sharing
-    → alone ≡ (length sharing == 1) → IsAsRead stored tables → IsLast chosen tables
-    → alone ≡ is_due_in tables stored.name
-due_alone stored tables chosen sharing alone is shared told stands lasts =
-    let rows = rows_with stored.identity.items tables.records in
-    let lone : Bool = length rows == 1 in
-    told
-    ∙ ap (λ n. n == 1) (sym (length-map sharing stored_entry) ∙ ap length shared)
-    ∙ sym (choices_follow.lone tables.records (stored_entry stored).1)
-    ∙ sym (due_by stored tables chosen stands lasts ∙ ap (λ b. lone || b) is ∙ or-false lone)
-
 -- ---- the step
 
 module _ (period : ℕ) (last : Option ℤ) (stored : StoredRecord) (tables : Tables)
@@ -127,13 +78,6 @@ module _ (period : ℕ) (last : Option ℤ) (stored : StoredRecord) (tables : Ta
       ≡ charge_due_step period last (is_due_in tables) stored.name tables
   settles due is_charged is same =
       (λ i. cond (is i && not (same i)) charged tables) ∙ sym (rw stands)
-
-  -- so one that is charged stays
-  pub settles_charged : stored.charged ≡ true
-      → tables ≡ charge_due_step period last (is_due_in tables) stored.name tables
-  settles_charged is_charged =
-      ap (λ b. cond b charged tables) (sym (and-false (is_due_in tables stored.name)))
-      ∙ settles (is_due_in tables stored.name) true refl (sym is_charged)
 
 -- ---- the walk
 

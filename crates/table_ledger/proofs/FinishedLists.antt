@@ -1,6 +1,6 @@
 -- Lists that were tried and settled: what fails, and is no refusal of theirs, is the store's own.
 use Rattle.std.proofs.Common.{◌≡◌, ◌∙◌, Bool, false, inl, inr, List, Result, Ok, Err, refl, sym, subst}
-use Rattle.std.specs.Prelude.{IfErr, IfOk, IsErrOf, IsTrue}
+use Rattle.std.specs.Prelude.{IfErr, IsErrOf, IsTrue}
 use Rattle.sqlite_trees.specs.View.{IsClean}
 use Rattle.sqlite_trees.specs.declared.error.StoreError.{StoreError}
 use Rattle.sqlite_trees.specs.declared.error.StoreError.TheVariants.{OutOfMemory}
@@ -16,19 +16,6 @@ use Rattle.table_ledger.specs.Stages.{AttemptsBy}
 use Rattle.table_ledger.specs.declared.summary.Summary.{Summary}
 use Rattle.table_ledger.proofs.OwnBooks.{cause_told}
 use Rattle.table_ledger.proofs.SurvivalLemmas.{clean_before}
-
--- what is said of the answer of a call that was tried is said of the answer that is given
-pub answer_said : {S V : Type 0} {ghosts : Ghosts S} {middle last : S} {before flag : Bool}
-    {tried : Result (Result V LedgerFault) StoreError} {result : Result V LedgerFault}
-    (Said : V → Type 0) → Finishes ghosts middle last before flag tried result
-    → IfOk tried (λ answer. IfOk answer Said) → IfOk result Said
-answer_said {V = V} {tried = Ok answer} Said settles said =
-    subst (λ (given : Result V LedgerFault). IfOk given Said) (sym settles.ends.0) said
-answer_said {V = V} {tried = Err error} Said settles said =
-    elim settles.ends [
-      | inl wanting ↦ subst (λ (given : Result V LedgerFault). IfOk given Said) (sym wanting.0) tt
-      | inr failed ↦ subst (λ (given : Result V LedgerFault). IfOk given Said) (sym failed.0) tt
-    ]
 
 -- two faults that are answered are equal
 same_fault : {V : Type 0} (result : Result V LedgerFault) (one other : LedgerFault)

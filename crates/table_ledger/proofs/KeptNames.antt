@@ -7,7 +7,7 @@ use Rattle.std.proofs.lemmas.Map.Lookups.{exact_bytes}
 use Rattle.tariff_rules.specs.declared.priced.Priced.{Priced}
 use Rattle.book_model.specs.Words.{Terms, price_by, record_with}
 use Rattle.table_model.specs.TableChanges.{charge_due_step, reprice, reprice_step}
-use Rattle.table_model.specs.Tables.{RecordRow, Tables}
+use Rattle.table_model.specs.Tables.{Tables}
 use Rattle.table_model.proofs.DueStays.{due-leaves}
 use Rattle.table_model.proofs.MovedLemmas.{keys-insert}
 use Rattle.tree_tables.proofs.WalkNames.{KeepsNames}

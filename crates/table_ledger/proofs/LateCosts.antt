@@ -20,7 +20,7 @@ use Rattle.tree_tables.specs.LateRecords.{FindsLate, is_left}
 use Rattle.tree_tables.specs.Stored.{stored_entry}
 use Rattle.tree_tables.specs.declared.late_records.LateRecord.{LateRecord}
 use Rattle.table_ledger.specs.Repricing.{CanBeSummed, CanCost, CostUnder}
-use Rattle.table_ledger.proofs.LateLeft.{gone_early, late_left, met_once}
+use Rattle.table_ledger.proofs.LateLeft.{gone_early, met_once}
 use Rattle.table_ledger.proofs.Repriced.{part_full}
 
 -- the rows of the records that are still to come
@@ -55,17 +55,6 @@ none_summed test f (e ∷ es) none =
     ∙ none_summed test f es none.1
 
 module _ (terms : Terms) (total : ℕ) (tables : Tables) (can : CanBeSummed terms total tables) where
-  -- at first none was met
-  pub sums_first : SumsSo terms total None total 0 tables
-  sums_first = record {
-    now = refl;
-    new = (let all = sum_by (cost_then terms) (rows_left terms None tables) in
-        let plain : 0 + all ≡ all = omega arith in
-        plain);
-    told = λ name row found gone late.
-        absurd (true≢false (sym (late_left terms tables can.counted name row found late) ∙ gone));
-  }
-
   -- what all will cost
   abbrev all_cost : ℕ
   all_cost = sum_by (amount_under terms) (values tables.records)

@@ -48,7 +48,6 @@ mod DetailsRead
 mod OpenLemmas
 mod LoadLemmas
 mod OwnBooks
-mod RowTold
 mod BookRows
 mod BookLists
 mod RulingReads

@@ -1,5 +1,5 @@
 -- A list that is read is answered with no event, and the ledger stays ready.
-use Rattle.std.proofs.Common.{◌≡◌, ◌∙◌, Bool, true, false, ℕ, [], Result, Ok, Err, refl, sym, ap}
+use Rattle.std.proofs.Common.{◌≡◌, ◌∙◌, Bool, true, ℕ, [], Result, Ok, Err, refl, sym, ap}
 use Rattle.std.specs.Prelude.{if◌then◌else◌}
 use Rattle.tree_tables.specs.States.{State}
 use Rattle.book_model.specs.declared.fault.LedgerFault.{LedgerFault}
@@ -16,7 +16,7 @@ use Rattle.book_core.specs.OfficeRulings.{ruled_in}
 use Rattle.table_ledger.specs.Stages.{AttemptsOne}
 use Rattle.table_ledger.specs.declared.summary.Summary.{Summary}
 use Rattle.table_ledger.proofs.Remembered.{rulings_are}
-use Rattle.table_ledger.proofs.TryLemmas.{saw_none, try_answered}
+use Rattle.table_ledger.proofs.TryLemmas.{try_answered}
 
 -- a list that was read makes no event
 read_makes : {V A : Type 0} (view : V → A) (outcome : Outcome A) (said : Result A LedgerFault)
@@ -53,17 +53,6 @@ module _ {V A : Type 0} {view : V → A} {naming : Naming} {summary : Summary}
     {outcome : Book → Outcome A} (number : ℕ) (read : Tables → A)
     (law : (book : Book) → IsReadable naming book
     → outcome book ≡ no_event (of_period number book.rulings (read (tables_of naming book)))) where
-  -- A period that does not exist is answered so.
-  pub no_period : {state : State} → is_period number (ruled_in summary.rulings) ≡ false
-      → AttemptsOne view naming summary summary state state outcome (Ok (Err NoSuchPeriod))
-  no_period absent = try_answered outcome saw_none (record { stored = refl; served = refl })
-      (λ book ready known. (
-        ap (λ (of : Outcome A). of.answer) (law book ready.kept.readable)
-            ∙ answer_is number (read (tables_of naming book)) false book absent
-            ready.kept.readable ready.remembers,
-        refl,
-      ))
-
   -- A list of a period that exists.
   pub period_read : {old new : State} {Known : Tables → Type 0} (value : V)
       → is_period number (ruled_in summary.rulings) ≡ true → Saw old new Known

@@ -7,8 +7,7 @@ use Rattle.std.specs.List.{AllZip, cons_option, filter_map}
 use Rattle.std.specs.Option.{option_map}
 use Rattle.std.proofs.lemmas.List.{get_or_default}
 use Rattle.std.proofs.lemmas.List.Elements.{All-cons}
-use Rattle.tree_tables.specs.States.{State, HasCleanDisk, Survives}
-use Rattle.sqlite_trees.specs.declared.error.StoreError.{StoreError}
+use Rattle.tree_tables.specs.States.{State, HasCleanDisk}
 use Rattle.book_model.specs.Words.{no_rulings}
 use Rattle.book_model.specs.Words.{IsDay, Book, Naming, Rulings, AcceptedTerms, second_rule}
 use Rattle.book_model.specs.declared.fault.LedgerFault.{LedgerFault}
@@ -19,7 +18,6 @@ use Rattle.table_model.specs.TablesOf.{tables_of}
 use Rattle.table_model.specs.BookIn.{adopted_read, tariff_read}
 use Rattle.table_model.specs.Readable.{IsReadable}
 use Rattle.table_model.proofs.BookLemmas.{book_follows}
-use Rattle.tree_tables.specs.Steps.{Looks}
 use Rattle.tree_tables.specs.Stored.{book_entry, close_entry, tariff_of}
 use Rattle.tree_tables.specs.declared.book_row.StoredBook.{StoredBook as Stored}
 use Rattle.tree_tables.specs.declared.closed_rows.Close.{Close}
@@ -35,7 +33,6 @@ use Rattle.table_ledger.specs.declared.summary.Summary.{Summary}
 use Rattle.table_ledger.proofs.OpenLemmas.{opened}
 use Rattle.table_ledger.proofs.LastChoice.{last_counts}
 use Rattle.table_ledger.proofs.RowsTaken.{AreRowsIn, rows_of}
-use Rattle.table_ledger.proofs.SurvivalLemmas.{survives_then}
 use Rattle.table_ledger.proofs.UnchangedStores.{holds_on, rest_on}
 
 -- one row more is read
@@ -147,30 +144,6 @@ remembered naming book summary whole recalls =
       held = recalls.held;
       total = recalls.total;
     }
-
--- an answer of looks
-pub reads_answer : (old new : State) (answer : Result Summary LedgerFault)
-    → Looks (Ok answer) old new IsLoaded → Reads answer old new
-reads_answer old new (Ok summary) looks = record {
-  survives = looks.survives;
-  read = looks.found;
-  refused = λ clean. tt;
-}
-reads_answer old new (Err fault) looks = record {
-  survives = looks.survives;
-  read = λ clean. tt;
-  refused = λ clean tables holds. ((looks.found clean).known tables holds).0;
-}
-
--- looks that were refused
-pub reads_refused : (old middle new : State) (error : StoreError) (fault : LedgerFault)
-    → Looks (Err error) old middle IsLoaded → Survives middle new (λ trees. ⊥)
-    → IsStoreFault fault → Reads (Err fault) old new
-reads_refused old middle new error fault looks survives is = record {
-  survives = survives_then looks.survives survives;
-  read = λ clean. tt;
-  refused = λ clean tables holds. is;
-}
 
 -- the row of the book is never missing
 pub never_missed : (found : Option Stored) (book : BookRow) → option_map book_entry found ≡ Some book

@@ -18,7 +18,6 @@ use Rattle.tree_rows.proofs.Taking.{some_is}
 use Rattle.tree_tables.specs.Answers.{FindsNext}
 use Rattle.tree_tables.specs.Stored.{stored_entry}
 use Rattle.tree_tables.specs.declared.stored_record.StoredRecord.{StoredRecord}
-use Rattle.tree_tables.proofs.LateSums.{values_sum}
 use Rattle.tree_tables.proofs.WalkNames.{next_stands, none_left}
 use Rattle.table_ledger.specs.Repricing.{CanCost, CostUnder}
 use Rattle.table_ledger.proofs.LateCosts.{cost_then}
@@ -37,15 +36,6 @@ module _ (terms : Terms) (tables : Tables) where
   -- what all will cost
   abbrev all_cost : ℕ
   all_cost = sum_by (amount_under terms) (values tables.records)
-
-  -- at first none is passed
-  pub names_first : SumsTo terms None 0 tables
-  names_first = record {
-    sum = (let all : all_cost ≡ sum_by (cost_then terms) (above None tables.records) =
-        values_sum tables.records (amount_under terms) in
-        omega (arith, all));
-    told = λ name row there behind. absurd (true≢false behind);
-  }
 
   module _ (last : Option (List ℕ)) (cost : ℕ) (so : SumsTo terms last cost tables) where
     -- the next record is met

@@ -220,15 +220,6 @@ module _ (terms : Terms) (test : CountTest) where
     sums_are = are;
   }
 
-  -- there are no more steps than rows
-  pub passed_few : (view : View) (sums : RowSums) (steps : ℕ) (tables : Tables)
-      → PassedSo view sums steps tables → steps ≤ length (entries tables.records)
-  passed_few view sums steps tables so_far =
-      let both = length-append so_far.passed so_far.left in
-      let all = ap length so_far.whole in
-      let many = so_far.many in
-      omega (arith, both, all, many)
-
   -- The next row is the first of those that are still to come.
   module _ (old new : View) (sums : RowSums) (steps : ℕ) (tables : Tables) (row : Row)
       (so_far : PassedSo old sums steps tables) (takes : TakesNext old new row true) where

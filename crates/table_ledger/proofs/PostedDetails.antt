@@ -1,6 +1,6 @@
 -- The details of a period whose records are posted, some at once, and the lines that come before
 -- them.
-use Rattle.std.proofs.Common.{◌≡◌, ◌∙◌, ◌+◌, ◌<◌, ◌≤◌, ℕ, ℤ, List, [], ◌∷◌, ◌++◌, ◌&&◌, ◌||◌, Bool}
+use Rattle.std.proofs.Common.{◌≡◌, ◌∙◌, ◌+◌, ◌<◌, ℕ, ℤ, List, [], ◌∷◌, ◌++◌, ◌&&◌, ◌||◌, Bool}
 use Rattle.std.proofs.Common.{true, false, true≢false, cond, not, Option, Some, None, inl, inr}
 use Rattle.std.proofs.Common.{is_some, map, refl, sym, ap, subst, take, length, get_or, arith}
 use Rattle.std.proofs.Common.{length-append}
@@ -41,7 +41,7 @@ use Rattle.tree_tables.proofs.Posting.{posted_shown}
 use Rattle.table_ledger.specs.DetailReads.{seeks}
 use Rattle.table_ledger.specs.Posting.{Gathers, RestIsPosted, days_after, names_in}
 use Rattle.table_ledger.proofs.CountTestLemmas.{line_listed}
-use Rattle.table_ledger.proofs.DetailTries.{after_or_named, is_sought_by}
+use Rattle.table_ledger.proofs.DetailTries.{after_or_named}
 use Rattle.table_ledger.proofs.Walks.{Shows}
 
 -- ---- lines
@@ -241,15 +241,6 @@ module _ (last : Option ℤ) (day : ℤ) (passed : Option Detail) where
             | false ↦ λ early. absurd (none_left name row found out parts.0 parts.1 early)
           ] refl
 
--- none is posted before the first
-pub posted_none : (last : Option ℤ) (day : ℤ) (tables : Tables) (trees : Trees)
-    → Holds trees tables → PostedSo last day None tables trees
-posted_none last day tables trees holds = record {
-  names = [];
-  holds = holds;
-  done = λ detail there between behind. absurd (true≢false behind);
-}
-
 -- ---- some at once
 
 -- Names are gathered of the details after one, up to another: each of these has its name among
@@ -260,15 +251,6 @@ pub record GatheredSo (last : Option ℤ) (day : ℤ) (passed now : Option Detai
       → seeks (days_after last day passed) detail ≡ true → comes_after now detail ≡ false
       → list_any (is detail.name) names ≡ true
   pub none : length names ≡ 0 → now ≡ passed
-
--- none at first
-pub gathered_none : (last : Option ℤ) (day : ℤ) (passed : Option Detail) (tables : Tables)
-    → GatheredSo last day passed passed [] tables
-gathered_none last day passed tables = record {
-  among = λ detail there wanted behind. absurd (true≢false
-      (sym (is_sought_by (days_after last day passed) detail wanted).after ∙ behind));
-  none = λ none. refl;
-}
 
 module _ (last : Option ℤ) (day : ℤ) (passed now : Option Detail) (names : List (List ℕ))
     (tables : Tables) (so_far : GatheredSo last day passed now names tables)
@@ -306,22 +288,6 @@ module _ (last : Option ℤ) (day : ℤ) (passed now : Option Detail) (names : L
                   (ap (is detail.name) (sym same) ∙ is_itself detail.name)
                   ∙ or-true (list_any (is detail.name) names)
             ]
-
-    -- none is left
-    pub gathered_all : FindsLeast (seeks (days_after last day now)) tables None
-        → Gathers last day passed now names tables
-    gathered_all finds = record {
-      among = so_far.among;
-      ends = λ none. subst (λ (one : Option Detail).
-          FindsLeast (seeks (days_after last day one)) tables None) (so_far.none none) finds;
-    }
-
-    -- or there are as many as are posted at once
-    pub gathered_full : 1 ≤ length names → Gathers last day passed now names tables
-    gathered_full full = record {
-      among = so_far.among;
-      ends = λ none. absurd (omega (arith, full, none));
-    }
 
 -- They are posted.
 module _ (last : Option ℤ) (day : ℤ) (passed now : Option Detail) (names : List (List ℕ))

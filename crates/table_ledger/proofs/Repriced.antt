@@ -1,5 +1,5 @@
 -- What a record's new price changes, and which costs the books can hold.
-use Rattle.std.proofs.Common.{◌≡◌, ◌∙◌, ◌^◌, ℕ, ◌<◌, ◌≤◌, List, Bool, true, false, cond, Option}
+use Rattle.std.proofs.Common.{◌≡◌, ◌∙◌, ℕ, ◌<◌, ◌≤◌, List, Bool, true, false, cond, Option}
 use Rattle.std.proofs.Common.{Some, None, refl, sym, ap, arith}
 use Rattle.std.specs.Option.{option_map_or}
 use Rattle.std.specs.Prelude.{int_lt, nat_lt}
@@ -73,10 +73,6 @@ too_much m n more = grind (arith, nat_tests, more)
 pub has_no_room : (cost : ℕ) → most_cost < cost → None ≡ if_room cost
 has_no_room cost more =
     ap (λ b. cond b None (Some cost)) (sym (too_much most_cost cost more))
-
--- nor has one that 64 bits do not hold,
-pub overflows : (cost : ℕ) → ¬ (cost < 2 ^ 64) → None ≡ if_room cost
-overflows cost over = has_no_room cost (omega (arith, over))
 
 -- nor has a sum a part of which has none
 pub part_full : (part sum : ℕ) → None ≡ if_room part → part ≤ sum → None ≡ if_room sum

@@ -11,7 +11,6 @@ use Rattle.book_model.specs.declared.listed_ruling.ListedRuling.{ListedRuling}
 use Rattle.book_model.specs.Words.{Book, Choice, Naming, name_of, ruling_shown}
 use Rattle.book_model.specs.Words.{rulings_listed}
 use Rattle.book_core.specs.ListedRulings.{StandsAt}
-use Rattle.book_core.specs.declared.listed_rulings.ListedAt.TheVariants.{Other}
 use Rattle.book_core.specs.declared.listed_rulings.ListedAt.TheVariants as listed
 use Rattle.book_core.specs.OfficeRulings.{ruled_in}
 use Rattle.table_model.specs.Tables.{ChoiceRow, ChoiceTable}
@@ -49,12 +48,6 @@ module _ {summary : Summary} {book : Book} (remembers : Remembers summary book) 
       ≡ slice_get (rulings_listed naming
       (record (ruled_in summary.rulings) { choices = book.rulings.choices })) number
   by_book = ap (λ rulings. slice_get (rulings_listed naming rulings) number) (rulings_are remembers)
-
-  -- another ruling than a choice, or none
-  pub other_read : (found : Option ListedRuling)
-      → StandsAt (ruled_in summary.rulings) summary.choices number (Other found)
-      → slice_get (rulings_listed naming book.rulings) number ≡ option_map ruling_shown found
-  other_read found stands = by_book ∙ stands naming book.rulings.choices (sym remembers.choices)
 
   module _ (place : ℕ)
       (stands : StandsAt (ruled_in summary.rulings) summary.choices number (listed.Choice place))

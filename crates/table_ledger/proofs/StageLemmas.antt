@@ -14,7 +14,7 @@ use Rattle.table_model.specs.FromCalls.{IsSubmittedTo}
 use Rattle.tree_rows.proofs.Calls.{only_looks, kept_after_look}
 use Rattle.tree_tables.specs.Holds.{Holds}
 use Rattle.tree_tables.specs.States.{State, HasCleanDisk, Survives}
-use Rattle.tree_tables.specs.Steps.{Does, KeepsLastCommit, Looks}
+use Rattle.tree_tables.specs.Steps.{Does, KeepsLastCommit}
 use Rattle.tree_tables.proofs.Looking.{does_err, kept_last, only_both}
 use Rattle.table_ledger.specs.Attempts.{LeavesOpen}
 use Rattle.table_ledger.specs.Commits.{Saw}
@@ -85,16 +85,6 @@ module _ {V T : Type 0} {answered : T → Result V LedgerFault}
   unstaged (Err error) failed survives stands =
       record { plain = tt; survives = survives; found = stands }
   unstaged (Ok value) failed survives stands = absurd (true≢false (sym failed))
-
-  -- the last look,
-  pub stage_refused : {B : Type 0} {old middle new : State} {Known : Tables → Type 0}
-      {Answers : Tables → B → Type 0} {error : StoreError} (staged : Result T StoreError)
-      → IsErr staged → Saw old middle Known → Looks {A = B} (Err error) middle new Answers
-      → StagesBy written answered Made Leaves naming was Is old new staged
-  stage_refused staged failed saw looks =
-      unstaged staged failed (survives_then saw.survives looks.survives) (λ clean book at.
-      kept_last (kept_after_look (saw.seen (clean_before looks.survives clean)).same
-      (looks.refused clean)))
 
   -- or the steps after looks.
   pub stage_undone : {U : Type 0} {old middle new : State} {Known When : Tables → Type 0}

@@ -1,5 +1,5 @@
 -- A tariff that is tried: what it answers, and what it writes.
-use Rattle.std.proofs.Common.{◌≡◌, ◌≢◌, ◌∙◌, inl, inr, ℕ, List, refl, sym, ap, subst}
+use Rattle.std.proofs.Common.{◌≡◌, ◌≢◌, ◌∙◌, ℕ, List, refl, sym, ap}
 use Rattle.std.proofs.Common.{Bool, true, false, not, Ok, Err, Option, Some, None}
 use Rattle.std.specs.Prelude.{if◌then◌else◌, nat_lt, sum_by}
 use Rattle.std.specs.FinMap.{values}
@@ -13,7 +13,6 @@ use Rattle.book_model.specs.Words.{RulingGiven, is_effective}
 use Rattle.book_model.specs.Words.{is_later, tariff_answer, with_tariff, Rulings}
 use Rattle.book_model.specs.declared.answer.Ruled.{Ruled}
 use Rattle.book_model.specs.declared.answer.Ruled.TheVariants.{Done}
-use Rattle.book_model.specs.declared.fault.LedgerFault.{LedgerFault}
 use Rattle.book_model.specs.declared.fault.LedgerFault.TheVariants.{Full}
 use Rattle.book_core.specs.OfficeRulings.{ruled_in}
 use Rattle.book_model.proofs.TestLemmas.{tariff_tests}
@@ -25,37 +24,14 @@ use Rattle.table_model.specs.TablesOf.{tables_of}
 use Rattle.table_model.proofs.LateRows.{amount_is_read, late_counted}
 use Rattle.table_model.proofs.RulingLemmas.{terms_follow}
 use Rattle.table_model.specs.Readable.{IsReadable}
-use Rattle.tree_tables.specs.States.{State}
 use Rattle.table_ledger.specs.Attempts.{LeavesOpen}
 use Rattle.table_ledger.specs.Repricing.{CanBeSummed, CostUnder, CountsRecords, TakesTariff}
-use Rattle.table_ledger.specs.Stages.{AttemptsOne, IsAt}
-use Rattle.table_ledger.specs.TariffRefusals.{IsNoTariff}
+use Rattle.table_ledger.specs.Stages.{IsAt}
 use Rattle.table_ledger.specs.declared.summary.Summary.{Summary}
 use Rattle.table_ledger.proofs.Answering.{opens, opens_if}
 use Rattle.table_ledger.proofs.Remembered.{Says}
 use Rattle.table_ledger.proofs.Repriced.{no_room, room}
 use Rattle.table_ledger.proofs.StageLemmas.{IsEvent}
-use Rattle.table_ledger.proofs.TryLemmas.{saw_none, try_answered}
-
--- ---- a text that is no tariff
-
-pub tariff_unread : {naming : Naming} {was : Summary} {state : State} (text : List ℕ)
-    (fault : LedgerFault) → IsNoTariff text fault
-    → AttemptsOne (λ (ruled : Ruled). ruled) naming was was state state (tariff_outcome text)
-    (Ok (Err fault))
-tariff_unread {naming} {was} {state} text fault is =
-    let Answered : LedgerFault → Type 0 = λ fault.
-    AttemptsOne (λ (ruled : Ruled). ruled) naming was was state state (tariff_outcome text)
-    (Ok (Err fault)) in
-    elim is [
-      | inl wanting ↦ subst Answered (sym wanting)
-          (try_answered (tariff_outcome text) saw_none (opens refl refl) (λ book at known. refl))
-      | inr refused ↦ subst Answered (sym refused.1)
-          (try_answered (tariff_outcome text) saw_none (opens refl refl) (λ book at known. (
-            ap (tariff_answer book text) refused.2,
-            refl,
-          )))
-    ]
 
 -- ---- the tests
 

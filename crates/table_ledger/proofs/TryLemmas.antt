@@ -19,7 +19,7 @@ use Rattle.table_ledger.specs.Ready.{IsReadyAt, IsStoredIn, Remembers}
 use Rattle.table_ledger.specs.Attempts.{LeavesOpen}
 use Rattle.table_ledger.specs.Stages.{AttemptsBy, AttemptsOne, IsAt, IsStoredAs, MayKeepBy}
 use Rattle.table_ledger.specs.declared.summary.Summary.{Summary}
-use Rattle.table_ledger.proofs.UnchangedStores.{holds_on, rest_on, stands_same}
+use Rattle.table_ledger.proofs.UnchangedStores.{holds_on, rest_on}
 use Rattle.table_ledger.proofs.UnchangedStores.{trees_same}
 use Rattle.table_ledger.proofs.SurvivalLemmas.{clean_before, survives_both, survives_none}
 use Rattle.table_ledger.proofs.SurvivalLemmas.{survives_so, survives_then}
@@ -135,15 +135,6 @@ module _ {V : Type 0} {Made : Result V LedgerFault → Book → List Event → T
         record { stands = stands clean book ready; remembers = same book ready.remembers };
   }
   untried (Ok answer) failed survives stands same = absurd (true≢false (sym failed))
-
-  -- So it stops after looks, because memory ran out or a row is ill-formed,
-  pub try_stopped : {is : Summary} {old new : State} {Known : Tables → Type 0}
-      (tried : Result (Result V LedgerFault) StoreError) → IsErr tried → Saw old new Known
-      → ((book : Book) → Remembers was book → Remembers is book)
-      → AttemptsBy Made Leaves naming was is old new tried
-  try_stopped {old = old} {new = new} tried failed saw same =
-      untried tried failed (survives_so saw.survives (λ clean trees none. absurd none))
-      (λ clean book ready. stands_same old.view new.view (saw.seen clean).same) same
 
   -- or because the last look is refused.
   pub try_refused : {B : Type 0} {old middle new : State} {Known : Tables → Type 0}

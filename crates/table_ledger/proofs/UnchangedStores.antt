@@ -1,12 +1,10 @@
 -- What stays of a store after calls that change nothing.
-use Rattle.std.proofs.Common.{◌≡◌, ◌∙◌, refl, sym, ap, subst}
+use Rattle.std.proofs.Common.{◌≡◌, ◌∙◌, sym, ap, subst}
 use Rattle.sqlite_trees.specs.View.{View}
 use Rattle.table_model.specs.Tables.{Tables}
 use Rattle.tree_rows.specs.Rows.{IsUnchanged}
-use Rattle.tree_rows.proofs.Calls.{kept_same}
 use Rattle.tree_tables.specs.Holds.{Holds}
 use Rattle.tree_tables.specs.Steps.{KeepsLastCommit}
-use Rattle.tree_tables.proofs.Looking.{kept_last}
 use Rattle.table_ledger.specs.Commits.{IsAtRest}
 
 -- the trees are those from before
@@ -26,14 +24,6 @@ rest_on old new same rest = record {
   sound = ap (λ (v : View). v.is_broken) same ∙ rest.sound;
   settled = trees_same old new same ∙ rest.settled ∙ sym (ap (λ (v : View). v.committed) same);
 }
-
--- the last commit stays if nothing is changed,
-pub stands_same : (old new : View) → IsUnchanged old new → KeepsLastCommit old new
-stands_same old new same = kept_last (kept_same same)
-
--- also if nothing is done,
-pub stands_still : (view : View) → KeepsLastCommit view view
-stands_still view = stands_same view view refl
 
 -- and after one call after another
 pub stands_then : {first middle last : View} → KeepsLastCommit first middle → KeepsLastCommit middle last

@@ -1,17 +1,14 @@
 -- Walks, as calls on a store make them: a look, then a step by what it has answered, and so on.
-use Rattle.std.proofs.Common.{Result, Ok, Err, refl, sym, subst}
-use Rattle.std.specs.Prelude.{IsErr}
+use Rattle.std.proofs.Common.{Ok, refl}
 use Rattle.sqlite_trees.specs.Tree.{Trees}
 use Rattle.sqlite_trees.specs.View.{OnlyWrites}
-use Rattle.sqlite_trees.specs.declared.error.StoreError.{StoreError}
 use Rattle.table_model.specs.Tables.{Tables}
 use Rattle.tree_tables.specs.Holds.{Holds}
 use Rattle.tree_tables.specs.States.{HasCleanDisk, State, Survives}
 use Rattle.tree_tables.specs.Steps.{Does, Looks}
-use Rattle.tree_tables.proofs.Looking.{does_err, held_after_look, kept_after, kept_by, only_both}
+use Rattle.tree_tables.proofs.Looking.{held_after_look, only_both}
 use Rattle.tree_tables.proofs.Looking.{only_looks, survives_both, was_clean}
 use Rattle.table_ledger.proofs.SurvivalLemmas.{survives_none}
-use Rattle.table_ledger.proofs.UnchangedStores.{trees_same}
 
 -- what is known of any tables that some trees hold
 abbrev pub Shows : Trees → (Tables → Type 0) → Type 0
@@ -39,19 +36,6 @@ module _ {When : Tables → Type 0} {Come : Tables → Trees → Type 0} where
   }
 
   module _ {old mid : State} (walks : WalksTo When Come old mid) where
-    -- a look leaves the walk where it is
-    pub walks_still : {A : Type 0} {new : State} {Answers : Tables → A → Type 0} {answer : A}
-        → Looks (Ok answer) mid new Answers → WalksTo When Come old new
-    walks_still {new = new} looks = record {
-      survives = survives_both walks.survives looks.survives;
-      only = λ clean.
-          only_both old.view (walks.only (was_clean looks.survives clean))
-          (only_looks mid.view (looks.found clean).same);
-      come = λ clean tables holds when.
-          subst (Come tables) (sym (trees_same mid.view new.view (looks.found clean).same))
-          (walks.come (was_clean looks.survives clean) tables holds when);
-    }
-
     -- a look is answered, and the step by it is taken
     pub walks_on : {A T : Type 0} {seen new : State} {Answers : Tables → A → Type 0} {answer : A}
         {Before : Tables → Type 0} {change : Tables → Tables} {done : T}
@@ -98,27 +82,3 @@ module _ {When : Tables → Type 0} {Come : Tables → Trees → Type 0} where
           };
       refused = λ clean. tt;
     }
-
-    -- it is given up
-    pub walks_no_more : {T : Type 0} {Then : Tables → Type 0} {change : Tables → Tables}
-        (result : Result T StoreError) → IsErr result → Does result old mid Then change
-    walks_no_more result failed =
-        does_err result failed walks.survives (λ clean. kept_by (walks.only clean))
-
-    -- a step in it fails
-    pub walks_fail : {T U : Type 0} {new : State} {Then Other : Tables → Type 0}
-        {change other : Tables → Tables} {why : StoreError} (result : Result T StoreError)
-        → IsErr result → Does {T = U} (Err why) mid new Other other
-        → Does result old new Then change
-    walks_fail result failed does =
-        does_err result failed (survives_both walks.survives does.survives) (λ clean.
-        kept_after (walks.only (was_clean does.survives clean)) (does.refused clean))
-
-    -- a look in it fails
-    pub walks_blind : {A T : Type 0} {new : State} {Answers : Tables → A → Type 0}
-        {Then : Tables → Type 0} {change : Tables → Tables} {why : StoreError}
-        (result : Result T StoreError) → IsErr result → Looks {A = A} (Err why) mid new Answers
-        → Does result old new Then change
-    walks_blind result failed looks =
-        does_err result failed (survives_both walks.survives looks.survives) (λ clean.
-        kept_after (walks.only (was_clean looks.survives clean)) (looks.refused clean))

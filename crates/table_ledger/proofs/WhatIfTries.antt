@@ -1,5 +1,5 @@
 -- What is answered to the rows of a period by another tariff, where they were found in the tables.
-use Rattle.std.proofs.Common.{◌≡◌, ◌∙◌, ℕ, Bool, true, false, List, Some, None, Ok, Err}
+use Rattle.std.proofs.Common.{◌≡◌, ◌∙◌, ℕ, Bool, true, List, Some, None, Ok, Err}
 use Rattle.std.proofs.Common.{refl, sym, ap, subst, Vec}
 use Rattle.std.specs.Prelude.{All, filter, if◌then◌else◌}
 use Rattle.std.specs.FinMap.{entries}
@@ -24,7 +24,7 @@ use Rattle.table_ledger.specs.declared.count_test.CountTest.{CountTest}
 use Rattle.table_ledger.specs.declared.summary.Summary.{Summary}
 use Rattle.table_ledger.proofs.Answering.{makes_answer, makes_refused}
 use Rattle.table_ledger.proofs.Remembered.{rulings_are}
-use Rattle.table_ledger.proofs.TryLemmas.{saw_none, try_answered}
+use Rattle.table_ledger.proofs.TryLemmas.{try_answered}
 
 -- the rows of a vector
 abbrev pub items_of : Vec ChargeRow Global → List ChargeRow
@@ -68,16 +68,6 @@ module _ (naming : Naming) (summary : Summary) (number : ℕ) (terms : Terms) wh
       ap (λ (outcome : Outcome (List ChargeRow)). outcome.answer)
       (counted_follows.what_if naming book number terms whole)
       ∙ read_by book at.remembers there is
-
-  -- there is no such period
-  pub what_if_absent : {state : State} → is_period number (ruled_in summary.rulings) ≡ false
-      → AttemptsOne items_of naming summary summary state state (what_if_outcome number terms)
-      (Ok (Err NoSuchPeriod))
-  what_if_absent {state = state} absent =
-      try_answered (what_if_outcome number terms) saw_none
-      (record { stored = refl; served = refl })
-      (λ book at known. makes_refused items_of (what_if_outcome number terms book) NoSuchPeriod
-      (answer_by state.view book at false absent))
 
   module _ {old new : State} (test : CountTest)
       (there : is_period number (ruled_in summary.rulings) ≡ true) where

@@ -1,5 +1,5 @@
 -- Calls that are refused for lack of memory, with nothing done.
-use Rattle.std.proofs.Common.{◌≡◌, ◌∙◌, List, [], Bool, Result, Ok, Err, None, refl, ap}
+use Rattle.std.proofs.Common.{◌≡◌, ◌∙◌, List, Bool, Ok, Err, None, refl, ap}
 use Rattle.std.proofs.Common.{inl, inr}
 use Rattle.std.specs.Prelude.{ℤ}
 use Rattle.book_model.specs.declared.fault.LedgerFault.{LedgerFault}

@@ -22,12 +22,9 @@ use Rattle.tree_rows.specs.Runs.{run_of}
 use Rattle.tree_rows.proofs.IndexLists.{index_in_order}
 use Rattle.tree_rows.proofs.IndexOrders.{by_bytes_exact}
 use Rattle.tree_rows.proofs.Keyed.{row_found}
-use Rattle.tree_rows.proofs.Maps.{not_none}
 use Rattle.tree_rows.proofs.Runs.{finds_run, run_named}
-use Rattle.tree_rows.proofs.Taking.{some_is}
 use Rattle.tree_tables.specs.Answers.{FindsChoice, HasChoice}
 use Rattle.tree_tables.specs.Columns.{choice_columns, choice_name_columns}
-use Rattle.tree_tables.specs.Fits.{ChoiceFits, IsNumbered, NumberedFits}
 use Rattle.tree_tables.specs.Holds.{choice_name_key, choice_name_index}
 use Rattle.tree_tables.specs.Stored.{SaysChoice, choice_entry}
 use Rattle.tree_tables.specs.declared.choice_rows.StoredChoice.{StoredChoice}
@@ -140,16 +137,3 @@ module _ (number : ℕ) (tables : Tables) {rows : List Row} {key row : Row} {hit
       ap Some (choice_said (number, found.0) stored
       (subst (λ columns. SaysChoice columns stored) found.2 says))
       ∙ ap (option_map (λ (one : ChoiceRow). (number, one))) (sym found.1)
-
--- The choice of a number that has one fits,
-pub numbered_fits : (number : ℕ) (tables : Tables) → IsNumbered number tables
-    → NumberedFits number tables
-numbered_fits number tables numbered row there =
-    subst (λ (row : ChoiceRow). ChoiceFits (choice_columns (number, row)))
-    (some_is numbered.0 row (sym numbered.1 ∙ there)) numbered.2
-
--- and is not missed
-pub choice_stays : (number : ℕ) (tables : Tables) → IsNumbered number tables
-    → FindsChoice number tables None → ⊥
-choice_stays number tables numbered missed =
-    not_none _ (sym (missed ∙ ap (option_map (λ (row : ChoiceRow). (number, row))) numbered.1))

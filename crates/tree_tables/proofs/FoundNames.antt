@@ -16,10 +16,8 @@ use Rattle.table_model.specs.Tables.{RecordRow, RecordTable, Tables}
 use Rattle.tree_rows.specs.Indexes.{IsKeyOf}
 use Rattle.tree_rows.proofs.IndexOrders.{by_bytes_exact}
 use Rattle.tree_rows.proofs.Maps.{not_none}
-use Rattle.tree_rows.proofs.Taking.{some_is}
 use Rattle.tree_tables.specs.Answers.{FindsNamed, FindsRecord}
-use Rattle.tree_tables.specs.Columns.{record_columns}
-use Rattle.tree_tables.specs.Fits.{AllNamed, EachFits, IsNamed, NamedFits, RecordFits}
+use Rattle.tree_tables.specs.Fits.{AllNamed, EachFits, IsNamed}
 use Rattle.tree_tables.specs.Stored.{stored_entry}
 use Rattle.tree_tables.specs.declared.found_names.FoundName.{FoundName}
 use Rattle.tree_tables.specs.declared.stored_record.StoredRecord.{StoredRecord}
@@ -56,12 +54,6 @@ pub one_named : (tables : Tables) (names : List FoundName) (i : ℕ) (default : 
     → i < length names → AllNamed names tables → IsNamed (get_or names i default).name tables
 one_named tables names i default within all =
     all-get_or (λ (named : FoundName). IsNamed named.name tables) names i default all within
-
--- the record of a name that has one fits,
-pub named_fits : (tables : Tables) (name : List ℕ) → IsNamed name tables → NamedFits name tables
-named_fits tables name named row there =
-    subst (λ (row : RecordRow). RecordFits (record_columns (name, row)))
-    (some_is named.0 row (sym named.1 ∙ there)) named.2
 
 -- and is not missed
 pub never_missed : (tables : Tables) (name : List ℕ) → IsNamed name tables

@@ -20,7 +20,7 @@ use Rattle.table_model.specs.RowChanges.{by_second_rule}
 use Rattle.table_model.specs.Tables.{RecordRow, RecordTable, Tables}
 use Rattle.tree_rows.specs.Changes.{above, is_above, FindsAbove}
 use Rattle.tree_rows.specs.Indexes.{by_both}
-use Rattle.tree_rows.specs.Rows.{ChangesRow, Finds, IsFirst, IsUnchanged, rows_changed}
+use Rattle.tree_rows.specs.Rows.{Finds, IsFirst, IsUnchanged, rows_changed}
 use Rattle.tree_rows.proofs.Indexes.{index_has, index_names}
 use Rattle.tree_rows.proofs.Passing.{all_passed, first_there, passed_with, walk_start, walk_step}
 use Rattle.tree_rows.proofs.Taking.{some_is}
@@ -240,20 +240,6 @@ module _ (tables : Tables) {old : Trees} {key : Row} (so_far : IsKeying tables o
                 ] (sym (get-insert record_layout.total so_far.keyed at.1 (by_second_rule was) name)
                 ∙ found) refl;
           }
-
--- the rows that are rewritten in the two trees are those of the entry and of its mark
-pub moves_keys : {old mid new : View} {row entry identity from to : Row}
-    → ChangesRow old mid 6 entry identity → ChangesRow mid new 7 from to
-    → identity ≡ column row 1 ∷ column entry 1 ∷ []
-    → from ≡ column row 9 ∷ column entry 0 ∷ column entry 1 ∷ []
-    → to ≡ column row 9 ∷ column row 1 ∷ column entry 1 ∷ []
-    → MovesKeys old new row entry
-moves_keys {old} {mid} {new} {entry = entry} first second identity_is from_is to_is = record {
-  mid = mid;
-  identity = subst (ChangesRow old mid 6 entry) identity_is first;
-  mark = subst (λ (one : Row × Row). ChangesRow mid new 7 one.0 one.1)
-      (λ i. (from_is i, to_is i)) second;
-}
 
 -- A step of the walk: what was read after its key, and what was found of the record.
 module _ (old mid : View) (key entry : Row) (looked : IsUnchanged old mid) where

@@ -108,16 +108,6 @@ uncharged_above last tables late next other there apart =
 -- ---- the records that are counted
 
 module _ (tables : Tables) (start : DetailStart) where
-  -- where no detail is left, none is to come
-  pub counted_none : FindsDetail start tables None → FindsCounted start tables None
-  counted_none none = λ e there.
-      elim (contains_key tables.counted e.0) as (λ b. contains_key tables.counted e.0 ≡ b
-      → (b && is_reached start (detail_shown e)) ≡ false) [
-        | true ↦ λ counted. none (detail_shown e)
-            (record { row = e.1; held = there; counted = counted; shown = refl })
-        | false ↦ λ counted. refl
-      ] refl
-
   module _ (detail : Detail) (next : FindsDetail start tables (Some detail)) where
     -- the record of the next detail fits, where each does
     pub counted_named : EachFits tables → IsNamed detail.name tables

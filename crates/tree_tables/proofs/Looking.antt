@@ -66,12 +66,6 @@ pub ok_so : {A One Other : Type 0} (result : Result A StoreError) → OnOk resul
 ok_so (Ok answer) one so = so one
 ok_so (Err error) one so = tt
 
--- and so may what one leaves that fails
-pub failed_so : {A One Other : Type 0} (result : Result A StoreError) → OnErr result One
-    → (One → Other) → OnErr result Other
-failed_so (Ok answer) one so = tt
-failed_so (Err error) one so = so one
-
 -- the last commit stays if a call says so
 pub kept_last : {old new : View} → KeepsCommitted old new → KeepsLastCommit old new
 kept_last kept = record { was_open = kept.was_open; committed = kept.committed }
@@ -82,10 +76,6 @@ pub kept_failed : {A : Type 0} (old new : View) (result : Result A StoreError)
     → OnErr result (IsClean new → KeepsCommitted old new)
 kept_failed old new (Ok answer) failed = tt
 kept_failed old new (Err error) failed = λ clean. (failed clean).kept
-
--- steps alone leave what was committed
-pub kept_by : {old new : View} → OnlyWrites old new → KeepsCommitted old new
-kept_by {new = new} only = kept_after only (kept_same {old = new} {new = new} refl)
 
 -- the tables that a store holds are held after a look
 pub held_after_look : (old : View) {new : View} {tables : Tables} → IsUnchanged old new
@@ -206,13 +196,6 @@ pub looks_told : {A : Type 0} {First Second : Tables → A → Type 0} {old new 
     → Looks result old new Second
 looks_told (Ok answer) one so = looks_so one (λ tables. so tables answer)
 looks_told (Err error) one so = looks_err (Err error) refl one.survives one.refused
-
--- a look after which a call fails, since what it answers is not enough
-pub looks_damaged : {A B : Type 0} {First : Tables → A → Type 0} {Second : Tables → B → Type 0}
-    {first : A} {error : StoreError} {old new : State} → Looks (Ok first) old new First
-    → Looks (Err error) old new Second
-looks_damaged {error = error} one =
-    looks_err (Err error) refl one.survives (λ clean. kept_same (one.found clean).same)
 
 -- a step after a look, which does what it does to tables that the look has answered this of
 pub does_told : {A T : Type 0} {Answers : Tables → A → Type 0} {change : Tables → Tables}

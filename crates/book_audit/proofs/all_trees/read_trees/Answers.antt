@@ -22,7 +22,7 @@ use Rattle.book_audit.proofs.Rows.Records.{rows_counted}
 use Rattle.book_audit.proofs.Own.Stops.{stop_on, stop_passed}
 use Rattle.book_audit.proofs.Own.Days.{rows_due}
 use Rattle.book_audit.proofs.Sound.Book.{of_book}
-use Rattle.book_audit.proofs.Walks.Steps.{look_back, looks_on, no_look, trees_stay}
+use Rattle.book_audit.proofs.Walks.Steps.{look_back, looks_on, trees_stay}
 use Rattle.book_audit.proofs.all_trees.read_trees.Goals as goal
 
 pub returns-clause-sound : goal.returns-clause-sound
@@ -104,39 +104,6 @@ module _ {S : Type 0} (ghosts : Ghosts S) (rulings : Rulings) where
       (sym (trees_stay ghosts start new (looks_on ghosts start mid new before after) clean))
       (ruled (look_back ghosts mid new after clean))
 
-pub returns-in_err-held-clause-own : goal.returns-in_err-held-clause-own
-returns-in_err-held-clause-own g c =
-    let zero = c.args.trees.now.store in
-    let one = c.read_rulings.new.trees.store in
-    let two = c.check_records.new.trees.store in
-    let first : OnlyLooks g.S.Store zero one = c.in_ok-rulings.ensures.same in
-    stop_passed g.S.Store zero two c.in_err-held.field-0.0 c.from_residual-in_err-held.result
-    c.from_residual-in_err-held.ensures.1
-    (stop_on g.S.Store zero one two c.in_err-held.field-0.0 first c.read_rulings.ensures.quiet
-    c.check_records.ensures.quiet
-    (c.in_err-held.ensures.own (λ at. (
-      ruled_on g.S.Store c.in_ok-rulings.rulings zero one one first (no_look g.S.Store one)
-          c.in_ok-rulings.ensures.ruled at,
-      c.new-places.ensures,
-    ))))
-
-pub returns-in_err-lines-clause-own : goal.returns-in_err-lines-clause-own
-returns-in_err-lines-clause-own g c =
-    let zero = c.args.trees.now.store in
-    let one = c.read_rulings.new.trees.store in
-    let two = c.check_records.new.trees.store in
-    let three = c.check_lines.new.trees.store in
-    let first : OnlyLooks g.S.Store zero one = c.in_ok-rulings.ensures.same in
-    let second : OnlyLooks g.S.Store one two = c.in_ok-held.ensures.same in
-    stop_passed g.S.Store zero three c.in_err-lines.field-0.0 c.from_residual-in_err-lines.result
-    c.from_residual-in_err-lines.ensures.1
-    (stop_on g.S.Store zero two three c.in_err-lines.field-0.0
-    (looks_on g.S.Store zero one two first second)
-    (quiet_both g.S.Store c.read_rulings.ensures.quiet c.check_records.ensures.quiet)
-    c.check_lines.ensures.quiet
-    (c.in_err-lines.ensures.own (ruled_on g.S.Store c.in_ok-rulings.rulings zero one two first second
-    c.in_ok-rulings.ensures.ruled)))
-
 pub returns-in_err-rows-clause-own : goal.returns-in_err-rows-clause-own
 returns-in_err-rows-clause-own g c =
     let zero = c.args.trees.now.store in
@@ -179,25 +146,3 @@ returns-in_err-rows-clause-own g c =
     (subst (λ (sums : List ChargeRow). AreDueRows rulings.closes.items sums
     ((g.S.Store.view zero).trees 4)) (sym counted) due)))
     finding is clean own)
-
-pub returns-in_err-check_details-clause-own : goal.returns-in_err-check_details-clause-own
-returns-in_err-check_details-clause-own g c =
-    let zero = c.args.trees.now.store in
-    let one = c.read_rulings.new.trees.store in
-    let three = c.check_lines.new.trees.store in
-    let four = c.check_rows.new.trees.store in
-    let five = c.check_details.new.trees.store in
-    let first : OnlyLooks g.S.Store zero one = c.in_ok-rulings.ensures.same in
-    let later : OnlyLooks g.S.Store one four =
-    looks_on g.S.Store one three four
-    (looks_on g.S.Store one c.check_records.new.trees.store three c.in_ok-held.ensures.same
-    c.in_ok-lines.ensures.same) c.in_ok-rows.ensures.same in
-    stop_passed g.S.Store zero five c.in_err-check_details.field-0.0
-    c.from_residual-in_err-check_details.result c.from_residual-in_err-check_details.ensures.1
-    (stop_on g.S.Store zero four five c.in_err-check_details.field-0.0
-    (looks_on g.S.Store zero one four first later)
-    (quiet_both g.S.Store (quiet_both g.S.Store (quiet_both g.S.Store c.read_rulings.ensures.quiet
-    c.check_records.ensures.quiet) c.check_lines.ensures.quiet) c.check_rows.ensures.quiet)
-    c.check_details.ensures.quiet
-    (c.in_err-check_details.ensures.own (ruled_on g.S.Store c.in_ok-rulings.rulings zero one four first
-    later c.in_ok-rulings.ensures.ruled)))

@@ -15,13 +15,13 @@ use Rattle.book_audit.specs.ChoiceRows.{Chooses, Made, entry_of, made_rows, row_
 use Rattle.book_audit.specs.OfBook.{sha_names}
 use Rattle.book_audit.specs.Own.{AreOwn}
 use Rattle.book_audit.specs.OwnChoices.{IsNextIn}
-use Rattle.book_audit.specs.Walks.{HasWalked, width}
+use Rattle.book_audit.specs.Walks.{HasWalked}
 use Rattle.book_audit.specs.declared.finding.Tree.TheVariants.{Choices}
 use Rattle.book_audit.proofs.Rows.Choices.{made_pushed, none_made, rows_pushed}
 use Rattle.book_audit.proofs.Own.Choices.{own_choices_few, own_choices_fit, own_next_choice}
 use Rattle.book_audit.proofs.Own.Choices.{since_from, since_pushed}
 use Rattle.book_audit.proofs.Own.Entries.{choice_names_many}
-use Rattle.book_audit.proofs.Own.Stops.{each_err, err_passed, err_said, stop_on, stop_walked}
+use Rattle.book_audit.proofs.Own.Stops.{each_err, err_passed, err_said, stop_on}
 use Rattle.book_audit.proofs.Rows.Columns.{long_numbers}
 use Rattle.book_audit.proofs.Walks.Steps.{its_place, its_row, look_back, looks_on, no_look}
 use Rattle.book_audit.proofs.Walks.Steps.{read_all, read_on, trees_stay}
@@ -42,11 +42,6 @@ choices-init g c = record {
     c.new-chosen.ensures.since,
   );
 }
-
-pub choice_in-requires : goal.choice_in-requires
-choice_in-requires g c =
-    ap length c.row.ensures ∙ c.in_ok-next.ensures.wide c.if-not-branch.false
-    ∙ ap width c.choices.invariant.tree
 
 pub choices-preserved : goal.choices-preserved
 choices-preserved g c =
@@ -94,40 +89,7 @@ choices-preserved g c =
           );
     }
 
-pub returns-then-not-branch-clause-choices : goal.returns-then-not-branch-clause-choices
-returns-then-not-branch-clause-choices g c clean =
-    let start = c.args.trees.now.store in
-    let mid = c.choices.trees.store in
-    let next = c.next.new.trees.store in
-    let last = c.check_entries.new.trees.store in
-    let so_far = c.choices.invariant in
-    let looks : OnlyLooks g.S.Store mid next = c.in_ok-next.ensures.same in
-    let counts : OnlyLooks g.S.Store next last = c.in_ok-check_entries.ensures.same in
-    let after : IsClean (g.S.Store.view next) = look_back g.S.Store next last counts clean in
-    let read = so_far.read (look_back g.S.Store mid next looks after) in
-    let count : c.choices.chosen.count ≡ c.choices.count = so_far.counted in
-    record {
-      made = read.0;
-      rows = read_all g.S.Store start mid next Choices c.choices.walk c.next.new.self
-          c.in_ok-next.field-0 so_far.tree so_far.same looks c.in_ok-next.ensures.next
-          (λ back. (made_rows (so_far.read back).0, (so_far.read back).1)) after
-          c.if-not-branch.true;
-      are = read.2;
-      few = omega (arith, count, c.choices-test.true);
-    }
-
 -- ---- a choice of books that calls made is not refused
-
-pub returns-in_err-next-clause-own : goal.returns-in_err-next-clause-own
-returns-in_err-next-clause-own g c =
-    let start = c.args.trees.now.store in
-    let mid = c.choices.trees.store in
-    let next = c.next.new.trees.store in
-    let so_far = c.choices.invariant in
-    err_passed _ c.in_err-next.field-0.0 c.from_residual.result c.from_residual.ensures.1
-    (λ given. stop_walked g.S.Store start mid next Choices c.choices.walk c.in_err-next.field-0.0
-    so_far.tree so_far.same so_far.quiet c.next.ensures.quiet c.in_err-next.ensures.own
-    (λ back. (made_rows (so_far.read back).0, (so_far.read back).1)))
 
 pub returns-in_err-check_entries-clause-own : goal.returns-in_err-check_entries-clause-own
 returns-in_err-check_entries-clause-own g c =

@@ -1,4 +1,4 @@
-use Rattle.std.proofs.Common.{◌≡◌, ◌∙◌, ◌++◌, ◌∷◌, [], ℤ, List, length, map, ap, rules, subst, sym}
+use Rattle.std.proofs.Common.{◌≡◌, ◌∙◌, ◌++◌, ◌∷◌, [], ℤ, List, map, ap, rules, subst, sym}
 use Rattle.std.specs.Prelude.{is_ok}
 use Rattle.std.proofs.lemmas.List.{map-append}
 use Rattle.sqlite_trees.specs.Tree.{Trees}
@@ -13,10 +13,10 @@ use Rattle.tree_tables.specs.Columns.{detail_columns}
 use Rattle.tree_tables.specs.Fits.{DetailFits}
 use Rattle.tree_tables.specs.Holds.{Holds}
 use Rattle.book_audit.specs.Details.{ShowsCounted}
-use Rattle.book_audit.specs.Walks.{AreRising, HasWalked, width}
+use Rattle.book_audit.specs.Walks.{HasWalked}
 use Rattle.book_audit.specs.declared.finding.Tree.TheVariants.{Details}
 use Rattle.book_audit.specs.SoundTrees.{AreRuled}
-use Rattle.book_audit.proofs.Walks.Steps.{its_row, look_back, looks_on, no_look, read_all, read_on}
+use Rattle.book_audit.proofs.Walks.Steps.{its_row, look_back, looks_on, no_look, read_on}
 use Rattle.book_audit.proofs.Walks.Steps.{trees_stay}
 use Rattle.book_audit.proofs.Own.Details.{IsShownOf, shown_had, shown_of, shown_row_fits}
 use Rattle.book_audit.proofs.Own.Stops.{err_said, never_with, passed_with, stop_on, stop_walked}
@@ -38,11 +38,6 @@ rows-init g c = record {
     tt,
   );
 }
-
-pub detail_in-requires : goal.detail_in-requires
-detail_in-requires g c =
-    ap length c.row.ensures ∙ c.in_ok-next.ensures.wide c.if-not-branch.false
-    ∙ ap width c.rows.invariant.tree
 
 pub rows-preserved : goal.rows-preserved
 rows-preserved g c =
@@ -80,26 +75,6 @@ rows-preserved g c =
             all-append (ShowsCounted (g.S.Store.view start).trees closes) read.0 (shown ∷ []) read.2
                 (counted, tt),
           );
-    }
-
-pub returns-then-not-branch-clause-details : goal.returns-then-not-branch-clause-details
-returns-then-not-branch-clause-details g c clean =
-    let start = c.args.trees.now.store in
-    let mid = c.rows.trees.store in
-    let next = c.next.new.trees.store in
-    let so_far = c.rows.invariant in
-    let looks : OnlyLooks g.S.Store mid next = c.in_ok-next.ensures.same in
-    let read = so_far.read (look_back g.S.Store mid next looks clean) in
-    let all : (g.S.Store.view start).trees 10 ≡ map shown_row read.0 =
-    read_all g.S.Store start mid next Details c.rows.walk c.next.new.self c.in_ok-next.field-0
-    so_far.tree so_far.same looks c.in_ok-next.ensures.next
-    (λ back. let read = so_far.read back in (map shown_row read.0, read.1)) clean
-    c.if-not-branch.true in
-    record {
-      shown = read.0;
-      are = all;
-      rising = subst (AreRising Details) (sym all) read.1.rising;
-      each = read.2;
     }
 
 pub returns-in_err-check_shown-clause-quiet : goal.returns-in_err-check_shown-clause-quiet

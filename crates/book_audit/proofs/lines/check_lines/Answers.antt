@@ -12,13 +12,13 @@ use Rattle.tree_tables.specs.Columns.{line_columns}
 use Rattle.tree_tables.specs.Fits.{HasPeriod, LineFits}
 use Rattle.tree_tables.specs.Holds.{Holds}
 use Rattle.book_audit.specs.Lines.{IsLateLine, line_entry}
-use Rattle.book_audit.specs.Walks.{AreRising, HasWalked, width}
+use Rattle.book_audit.specs.Walks.{HasWalked}
 use Rattle.book_audit.specs.declared.finding.Tree.TheVariants.{Lines}
 use Rattle.book_audit.specs.SoundTrees.{AreRuled}
-use Rattle.book_audit.proofs.Walks.Steps.{its_row, look_back, looks_on, no_look, read_all, read_on}
+use Rattle.book_audit.proofs.Walks.Steps.{its_row, look_back, looks_on, no_look, read_on}
 use Rattle.book_audit.proofs.Walks.Steps.{trees_stay}
 use Rattle.book_audit.proofs.Own.Records.{IsLineOf, line_had, line_row_fits, lines_of}
-use Rattle.book_audit.proofs.Own.Stops.{err_said, never_with, passed_with, stop_on, stop_walked}
+use Rattle.book_audit.proofs.Own.Stops.{err_said, never_with, passed_with, stop_on}
 use Rattle.book_audit.proofs.Own.Tables.{own_tables}
 use Rattle.book_audit.proofs.lines.check_lines.Goals as goal
 
@@ -34,11 +34,6 @@ lines-init g c = record {
     tt,
   );
 }
-
-pub line_in-requires : goal.line_in-requires
-line_in-requires g c =
-    ap length c.row.ensures ∙ c.in_ok-next.ensures.wide c.if-not-branch.false
-    ∙ ap width c.lines.invariant.tree
 
 pub lines-preserved : goal.lines-preserved
 lines-preserved g c =
@@ -80,40 +75,6 @@ lines-preserved g c =
                 read.3 (late, tt),
           );
     }
-
-pub returns-then-not-branch-clause-lines : goal.returns-then-not-branch-clause-lines
-returns-then-not-branch-clause-lines g c clean =
-    let start = c.args.trees.now.store in
-    let mid = c.lines.trees.store in
-    let next = c.next.new.trees.store in
-    let so_far = c.lines.invariant in
-    let looks : OnlyLooks g.S.Store mid next = c.in_ok-next.ensures.same in
-    let read = so_far.read (look_back g.S.Store mid next looks clean) in
-    let all : (g.S.Store.view start).trees 5 ≡ map line_columns read.0 =
-    read_all g.S.Store start mid next Lines c.lines.walk c.next.new.self c.in_ok-next.field-0
-    so_far.tree so_far.same looks c.in_ok-next.ensures.next
-    (λ back. let read = so_far.read back in (map line_columns read.0, read.1)) clean
-    c.if-not-branch.true in
-    record {
-      lines = read.0;
-      are = all;
-      rising = subst (AreRising Lines) (sym all) read.1.rising;
-      each = read.3;
-      counted = read.2;
-    }
-
--- the rows of own books are all read
-pub returns-in_err-next-clause-own : goal.returns-in_err-next-clause-own
-returns-in_err-next-clause-own g c =
-    let start = c.args.trees.now.store in
-    let mid = c.lines.trees.store in
-    let next = c.next.new.trees.store in
-    let so_far = c.lines.invariant in
-    let stop = c.in_err-next.field-0.0 in
-    passed_with g.S.Store start next stop _ c.from_residual.ensures.1 (λ known.
-    stop_walked g.S.Store start mid next Lines c.lines.walk stop so_far.tree so_far.same
-    so_far.quiet c.next.ensures.quiet c.in_err-next.ensures.own
-    (λ back. let read = so_far.read back in (map line_columns read.0, read.1)))
 
 -- are those of lines,
 pub returns-in_err-line-clause-own : goal.returns-in_err-line-clause-own

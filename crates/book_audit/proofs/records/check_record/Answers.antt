@@ -18,15 +18,6 @@ returns-in_err-check_data-clause-own g c =
     (λ known finding said clean own. absurd (c.in_err-check_data.ensures.own finding said
     (own_data (g.S.Store.view start).trees c.args.rulings.now c.args.stored.now (known clean).0)))
 
--- and so are its marks,
-pub returns-in_err-counted-clause-own : goal.returns-in_err-counted-clause-own
-returns-in_err-counted-clause-own g c =
-    let start = c.args.trees.now.store in
-    let new = c.check_marks.new.trees.store in
-    passed_with g.S.Store start new c.in_err-counted.field-0.0 _
-    c.from_residual-in_err-counted.ensures.1
-    (λ known. c.in_err-counted.ensures.own (λ back. (known back).0))
-
 -- and its details
 pub returns-in_err-check_has_detail-clause-own : goal.returns-in_err-check_has_detail-clause-own
 returns-in_err-check_has_detail-clause-own g c =

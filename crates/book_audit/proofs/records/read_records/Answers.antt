@@ -1,4 +1,4 @@
-use Rattle.std.proofs.Common.{◌≡◌, ◌≤◌, ◌+◌, ◌∙◌, ◌++◌, ◌∷◌, [], ℕ, List, Some, false, map, length}
+use Rattle.std.proofs.Common.{◌≡◌, ◌≤◌, ◌+◌, ◌∙◌, ◌++◌, ◌∷◌, [], ℕ, List, Some, false, map}
 use Rattle.std.proofs.Common.{ap, arith, rules, subst, sym, is_ok}
 use Rattle.std.specs.FinMap.{get}
 use Rattle.sqlite_trees.specs.Tree.{Trees}
@@ -16,13 +16,13 @@ use Rattle.tree_tables.specs.Stored.{stored_entry}
 use Rattle.tree_tables.specs.Holds.{Holds}
 use Rattle.tree_tables.specs.Fits.{RecordFits}
 use Rattle.book_audit.specs.Records.{IsRight, IsTold, Told, counted_prices}
-use Rattle.book_audit.specs.Walks.{AreRising, HasWalked, width}
+use Rattle.book_audit.specs.Walks.{HasWalked}
 use Rattle.book_audit.specs.declared.finding.Tree.TheVariants.{Records}
 use Rattle.book_audit.specs.SoundTrees.{AreRuled}
 use Rattle.book_audit.proofs.Rows.Records.{counts_none, counts_on, entries_pushed, none_yet}
 use Rattle.book_audit.proofs.Rows.Records.{row_pushed}
 use Rattle.book_audit.proofs.Walks.Steps.{its_place, its_row, look_back, looks_on, no_look}
-use Rattle.book_audit.proofs.Walks.Steps.{read_all, read_on, trees_stay}
+use Rattle.book_audit.proofs.Walks.Steps.{read_on, trees_stay}
 use Rattle.book_audit.proofs.Own.Records.{IsRecordOf, record_had, record_row_fits, records_of}
 use Rattle.book_audit.proofs.Own.Stops.{err_fits, met_memory, own_still, passed_with, stop_on}
 use Rattle.book_audit.proofs.Own.Stops.{stop_walked}
@@ -42,11 +42,6 @@ records-init g c = record {
     counts_none c.args.places.now.rows.entries,
   );
 }
-
-pub record_in-requires : goal.record_in-requires
-record_in-requires g c =
-    ap length c.row.ensures ∙ c.in_ok-next.ensures.wide c.if-not-branch.false
-    ∙ ap width c.records.invariant.tree
 
 pub records-preserved : goal.records-preserved
 records-preserved g c =
@@ -91,27 +86,6 @@ records-preserved g c =
                 c.check_record.new.places.rows.entries read.0 told read.3
                 c.in_ok-check_record.ensures.placed,
           );
-    }
-
-pub returns-then-not-branch-clause-records : goal.returns-then-not-branch-clause-records
-returns-then-not-branch-clause-records g c clean =
-    let start = c.args.trees.now.store in
-    let mid = c.records.trees.store in
-    let next = c.next.new.trees.store in
-    let so_far = c.records.invariant in
-    let looks : OnlyLooks g.S.Store mid next = c.in_ok-next.ensures.same in
-    let read = so_far.read (look_back g.S.Store mid next looks clean) in
-    let all : (g.S.Store.view start).trees 3 ≡ map (λ (one : Told). record_columns one.0) read.0 =
-    read_all g.S.Store start mid next Records c.records.walk c.next.new.self c.in_ok-next.field-0
-    so_far.tree so_far.same looks c.in_ok-next.ensures.next (λ back. let read = so_far.read back in
-    (map (λ (one : Told). record_columns one.0) read.0, read.1)) clean c.if-not-branch.true in
-    record {
-      entries = read.0;
-      all = all;
-      rising = subst (AreRising Records) (sym all) read.1.rising;
-      are = read.2;
-      few = omega (arith, c.records-test.true);
-      placed = read.3;
     }
 
 pub returns-in_err-check_record-clause-quiet : goal.returns-in_err-check_record-clause-quiet

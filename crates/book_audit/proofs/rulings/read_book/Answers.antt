@@ -1,4 +1,4 @@
-use Rattle.std.proofs.Common.{◌≡◌, ◌∙◌, ◌∷◌, [], List, None, is_ok, length, ap, rules, sym}
+use Rattle.std.proofs.Common.{◌≡◌, ◌∙◌, ◌∷◌, [], List, None, is_ok, ap, rules, sym}
 use Rattle.sqlite_trees.specs.View.{IsClean}
 use Rattle.sqlite_value.specs.Order.{Row}
 use Rattle.table_model.specs.Tables.{BookRow}
@@ -8,17 +8,12 @@ use Rattle.tree_tables.specs.Columns.{book_columns}
 use Rattle.book_audit.specs.OfBook.{sha_names}
 use Rattle.book_audit.specs.Own.{IsOwnStop}
 use Rattle.book_audit.specs.Rules.{rule_of}
-use Rattle.book_audit.specs.Walks.{HasWalked, width}
+use Rattle.book_audit.specs.Walks.{HasWalked}
 use Rattle.book_audit.specs.declared.finding.Tree.TheVariants.{Book}
 use Rattle.book_audit.proofs.Own.Rulings.{book_fits, known_rule, own_book_row}
 use Rattle.book_audit.proofs.Own.Stops.{each_err, err_said, stop_passed, stop_walked}
 use Rattle.book_audit.proofs.Walks.Steps.{its_place, look_back, no_look, read_all, read_on}
 use Rattle.book_audit.proofs.rulings.read_book.Goals as goal
-
-pub book_in-requires : goal.book_in-requires
-book_in-requires g c =
-    ap length c.row.ensures ∙ c.in_ok-next.ensures.wide c.if-not-branch.false
-    ∙ ap width c.over-walk.ensures.tree
 
 pub returns-clause-book : goal.returns-clause-book
 returns-clause-book g c clean =

@@ -1,4 +1,4 @@
-use Rattle.std.proofs.Common.{◌≡◌, ◌∙◌, ◌++◌, ◌∷◌, [], ℤ, All, List, None, is_ok, map, length, ap}
+use Rattle.std.proofs.Common.{◌≡◌, ◌∙◌, ◌++◌, ◌∷◌, [], ℤ, All, List, None, is_ok, map, ap}
 use Rattle.std.proofs.Common.{rules, subst, sym, w32, int_cmp}
 use Rattle.std.specs.List.{last_or}
 use Rattle.std.specs.List.Sorted.{IsStrictlySortedBy}
@@ -15,12 +15,12 @@ use Rattle.tree_tables.specs.Fits.{CloseFits}
 use Rattle.tree_tables.specs.Stored.{close_entry}
 use Rattle.book_audit.specs.Own.{IsOwnStop}
 use Rattle.book_audit.specs.Rulings.{IsNextClose}
-use Rattle.book_audit.specs.Walks.{HasWalked, width}
+use Rattle.book_audit.specs.Walks.{HasWalked}
 use Rattle.book_audit.specs.declared.finding.Tree.TheVariants.{Closes}
 use Rattle.book_audit.proofs.Rows.Rulings.{closes_pushed, is_later}
 use Rattle.book_audit.proofs.Own.Rulings.{own_closes_fit, own_next_close}
 use Rattle.book_audit.proofs.Own.Stops.{each_err, err_said, stop_passed, stop_walked}
-use Rattle.book_audit.proofs.Walks.Steps.{its_place, its_row, looks_on, no_look, read_all, read_on}
+use Rattle.book_audit.proofs.Walks.Steps.{its_place, its_row, looks_on, no_look, read_on}
 use Rattle.book_audit.proofs.rulings.read_closes.Goals as goal
 
 pub closes-init : goal.closes-init
@@ -37,11 +37,6 @@ closes-init g c = record {
   days = subst (All IsDay) (sym c.new-days.ensures.items) (All-nil IsDay);
   in_order = subst (IsStrictlySortedBy int_cmp) (sym c.new-days.ensures.items) tt;
 }
-
-pub close_in-requires : goal.close_in-requires
-close_in-requires g c =
-    ap length c.row.ensures ∙ c.in_ok-next.ensures.wide c.if-not-branch.false
-    ∙ ap width c.closes.invariant.tree
 
 pub closes-preserved : goal.closes-preserved
 closes-preserved g c =
@@ -72,20 +67,6 @@ closes-preserved g c =
       days = subst (All IsDay) (sym pushed) (All-push IsDay days day so_far.days next.day);
       in_order = subst (IsStrictlySortedBy int_cmp) (sym pushed) (rise_behind days day
           so_far.in_order (is_later (last_or None days) day next.later));
-    }
-
-pub returns-then-not-branch-clause-closed : goal.returns-then-not-branch-clause-closed
-returns-then-not-branch-clause-closed g c clean =
-    let start = c.args.trees.now.store in
-    let so_far = c.closes.invariant in
-    let done : List Row = map closed_columns (close_entries 1 c.closes.days.items) in
-    record {
-      are = read_all g.S.Store start c.closes.trees.store c.next.new.trees.store Closes
-          c.closes.walk c.next.new.self c.in_ok-next.field-0 so_far.tree so_far.same
-          c.in_ok-next.ensures.same c.in_ok-next.ensures.next
-          (λ back. (done, so_far.walked back)) clean c.if-not-branch.true;
-      valid = so_far.days;
-      in_order = so_far.in_order;
     }
 
 pub returns-in_err-push-clause-quiet : goal.returns-in_err-push-clause-quiet

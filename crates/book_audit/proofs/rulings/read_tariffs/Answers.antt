@@ -1,4 +1,4 @@
-use Rattle.std.proofs.Common.{◌≡◌, ◌∙◌, ◌++◌, ◌∷◌, [], ℕ, List, Some, Ok, false, is_ok, map, length}
+use Rattle.std.proofs.Common.{◌≡◌, ◌∙◌, ◌++◌, ◌∷◌, [], ℕ, List, Some, Ok, false, is_ok, map}
 use Rattle.std.proofs.Common.{ap, rules, string_bytes, subst, sym}
 use Rattle.std.proofs.lemmas.Str.{IsUtf8-string_bytes}
 use Rattle.sqlite_trees.specs.declared.error.StoreError.{StoreError}
@@ -12,12 +12,12 @@ use Rattle.tree_rows.specs.Calls.{OnlyLooks}
 use Rattle.tree_rows.proofs.Calls.{quiet_both}
 use Rattle.tree_tables.specs.Columns.{tariff_columns}
 use Rattle.tree_tables.specs.Fits.{TariffFits}
-use Rattle.book_audit.specs.Walks.{AreRising, HasWalked, width}
+use Rattle.book_audit.specs.Walks.{HasWalked}
 use Rattle.book_audit.specs.declared.finding.Tree.TheVariants.{Tariffs}
 use Rattle.book_audit.proofs.Rows.Rulings.{is_texted, tariff_pushed, terms_pushed, texted}
 use Rattle.book_audit.proofs.Own.Rulings.{IsTariffRow, own_tariffs, tariff_fits, tariff_said}
 use Rattle.book_audit.proofs.Own.Stops.{err_fits, met_memory, stop_passed, stop_walked}
-use Rattle.book_audit.proofs.Walks.Steps.{its_row, look_back, looks_on, no_look, read_all, read_on}
+use Rattle.book_audit.proofs.Walks.Steps.{its_row, look_back, looks_on, no_look, read_on}
 use Rattle.book_audit.proofs.rulings.read_tariffs.Goals as goal
 
 pub tariffs-init : goal.tariffs-init
@@ -32,11 +32,6 @@ tariffs-init g c = record {
     tt,
   );
 }
-
-pub tariff_in-requires : goal.tariff_in-requires
-tariff_in-requires g c =
-    ap length c.row.ensures ∙ c.in_ok-next.ensures.wide c.if-not-branch.false
-    ∙ ap width c.tariffs.invariant.tree
 
 pub tariffs-preserved : goal.tariffs-preserved
 tariffs-preserved g c =
@@ -71,27 +66,6 @@ tariffs-preserved g c =
             all-append IsTexted read.0 (texted text terms ∷ []) read.3
                 (is_texted text terms utf8 said valid, tt),
           );
-    }
-
-pub returns-then-not-branch-clause-tariffs : goal.returns-then-not-branch-clause-tariffs
-returns-then-not-branch-clause-tariffs g c clean =
-    let start = c.args.trees.now.store in
-    let mid = c.tariffs.trees.store in
-    let next = c.next.new.trees.store in
-    let so_far = c.tariffs.invariant in
-    let looks : OnlyLooks g.S.Store mid next = c.in_ok-next.ensures.same in
-    let read = so_far.read (look_back g.S.Store mid next looks clean) in
-    let all : (g.S.Store.view start).trees 1 ≡ map tariff_columns (tariff_entries read.0) =
-    read_all g.S.Store start mid next Tariffs c.tariffs.walk c.next.new.self c.in_ok-next.field-0
-    so_far.tree so_far.same looks c.in_ok-next.ensures.next
-    (λ back. (map tariff_columns (tariff_entries (so_far.read back).0), (so_far.read back).1)) clean
-    c.if-not-branch.true in
-    record {
-      accepted = read.0;
-      are = all;
-      terms = read.2;
-      texts = read.3;
-      rising = subst (AreRising Tariffs) (sym all) read.1.rising;
     }
 
 pub returns-in_err-next-clause-own : goal.returns-in_err-next-clause-own

@@ -1,9 +1,8 @@
 use Rattle.std.proofs.Common.{◌≡◌, ◌∙◌, ◌<◌, ◌+◌, ℕ, Bool, cond, List, ◌∷◌, length, get_or, drop}
 use Rattle.std.proofs.Common.{ap, sym, Option, Some}
-use Rattle.std.proofs.lemmas.List.{at_drop_all, at_drop_more}
+use Rattle.std.proofs.lemmas.List.{at_drop_more}
 use Rattle.book_model.specs.declared.detail.Detail.{Detail}
 use Rattle.book_core.specs.PlainDetails.{is_sought, next_among}
-use Rattle.book_core.proofs.details.next_of.Goals as goal
 
 -- the first of those that are left is the next one, if that is sought, or the first of those after it
 one_on : (centre : Option (List ℕ)) (last : Option Detail) (details : List Detail) (i : ℕ)
@@ -16,23 +15,3 @@ one_on centre last details i detail passes within is sought =
     at_drop_more (next_among centre last) details i detail within
     ∙ ap (λ (one : Detail). next_among centre last (one ∷ rest)) (sym is)
     ∙ ap (λ b. cond b (Some detail) (next_among centre last rest)) sought
-
-pub loop-detail-preserved : goal.loop-detail-preserved
-loop-detail-preserved c =
-    c.loop-detail.invariant
-    ∙ one_on c.args.centre c.args.last c.args.details.now c.loop-detail.detail-index
-    c.detail-item.result _ c.loop-detail-test.true c.detail-item.is
-    (sym c.is_sought.ensures ∙ c.if-is_sought.false)
-
-pub returns-then-is_sought : goal.returns-then-is_sought
-returns-then-is_sought c =
-    sym (c.loop-detail.invariant
-    ∙ one_on c.args.centre c.args.last c.args.details.now c.loop-detail.detail-index
-    c.detail-item.result _ c.loop-detail-test.true c.detail-item.is
-    (sym c.is_sought.ensures ∙ c.if-is_sought.true))
-
-pub returns : goal.returns
-returns c =
-    sym (c.loop-detail.invariant
-    ∙ at_drop_all (next_among c.args.centre c.args.last) c.args.details.now
-    c.loop-detail.detail-index c.loop-detail-test.false)

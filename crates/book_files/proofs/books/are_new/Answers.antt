@@ -1,39 +1,10 @@
-use Rattle.std.proofs.Common.{◌≡◌, ◌∙◌, ap, is_some, length, sym}
-use Rattle.table_model.specs.Tables.{Tables}
+use Rattle.std.proofs.Common.{◌≡◌, ◌∙◌, length}
 use Rattle.table_ledger.specs.Loaded.{CanBeListed}
-use Rattle.tree_tables.proofs.Looking.{err_on, fails_after_look, looks_after_look, looks_so}
-use Rattle.tree_tables.proofs.Looking.{survives_both, was_clean}
+use Rattle.tree_tables.proofs.Looking.{err_on, fails_after_look}
+use Rattle.tree_tables.proofs.Looking.{survives_both}
 use Rattle.book_files.specs.Unused.{unused_by}
-use Rattle.table_ledger.proofs.Refusals.{looks_failed}
-use Rattle.book_files.proofs.ResumeParts.{looks_unused, never_absent, says_unused}
+use Rattle.book_files.proofs.ResumeParts.{looks_unused, says_unused}
 use Rattle.book_files.proofs.books.are_new.Goals as goal
-
-pub returns-in_err-book-clause-looks : goal.returns-in_err-book-clause-looks
-returns-in_err-book-clause-looks g c =
-    looks_failed _ c.from_residual.ensures.0 c.in_err-book.ensures.looks
-
-pub returns-in_default-clause-looks : goal.returns-in_default-clause-looks
-returns-in_default-clause-looks g c =
-    let none = c.in_default.is in
-    looks_so c.in_ok-book.ensures.looks
-    (λ (tables : Tables) known. never_absent tables c.in_ok-book.field-0 none known)
-
-pub returns-in_default-clause-row : goal.returns-in_default-clause-row
-returns-in_default-clause-row g c = λ clean.
-    sym (ap is_some c.in_default.is) ∙ c.in_ok-book.ensures.row clean
-
-pub returns-in_err-tariffs-clause-looks : goal.returns-in_err-tariffs-clause-looks
-returns-in_err-tariffs-clause-looks g c =
-    looks_failed _ c.from_residual-in_err-tariffs.ensures.0
-    (looks_after_look _ c.in_ok-book.ensures.looks c.in_err-tariffs.ensures.looks
-    (λ tables second known after. after))
-
-pub returns-in_err-closes-clause-looks : goal.returns-in_err-closes-clause-looks
-returns-in_err-closes-clause-looks g c =
-    looks_failed _ c.from_residual-in_err-closes.ensures.0
-    (looks_after_look _ c.in_ok-book.ensures.looks (looks_after_look _ c.in_ok-tariffs.ensures.looks
-    c.in_err-closes.ensures.looks (λ tables second known after. after))
-    (λ tables second known after. after))
 
 pub returns-clause-looks : goal.returns-clause-looks
 returns-clause-looks g c =
@@ -48,17 +19,6 @@ returns-clause-looks g c =
     c.is_unused.result c.in-Some.is finds texts days
     (c.is_unused.ensures ∙ (λ i. unused_by (many i) (ended i) c.in-Some.book.held
     c.in-Some.book.adopted)))
-
-pub returns-clause-row : goal.returns-clause-row
-returns-clause-row g c = λ clean.
-    sym (ap is_some c.in-Some.is) ∙ c.in_ok-book.ensures.row
-    (was_clean c.in_ok-tariffs.ensures.looks.survives
-    (was_clean c.in_ok-closes.ensures.looks.survives clean))
-
-pub returns-in_err-book-clause-cause : goal.returns-in_err-book-clause-cause
-returns-in_err-book-clause-cause g c =
-    err_on _ c.from_residual.result c.from_residual.ensures.1 (λ clean tables holds listed.
-    c.in_err-book.ensures.cause clean tables holds tt)
 
 pub returns-in_err-tariffs-clause-cause : goal.returns-in_err-tariffs-clause-cause
 returns-in_err-tariffs-clause-cause g c =

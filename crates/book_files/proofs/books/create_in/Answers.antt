@@ -4,7 +4,6 @@ use Rattle.sqlite_trees.specs.View.{IsClean}
 use Rattle.book_model.specs.Words.{new_book}
 use Rattle.book_restarts.proofs.OpenStores.{clean_before}
 use Rattle.book_restarts.specs.FileBooks.{file_names}
-use Rattle.book_files.proofs.Causes.{store_cause}
 use Rattle.book_files.proofs.NewParts.{holds_new, open_leaves}
 use Rattle.book_files.proofs.books.create_in.Goals as goal
 
@@ -21,11 +20,6 @@ returns-in-Ok-clause-left g c = λ empty clean trees left.
     (c.in-Ok.ensures.books still at.rest at.none) trees
     (subst (λ store. g.S.Store.recovers store trees) same left)
 
-pub returns-in-Ok-clause-clean : goal.returns-in-Ok-clause-clean
-returns-in-Ok-clause-clean g c = λ clean.
-    clean_before _ _ c.in-Ok.ensures.crash.clean
-    (subst (λ store. IsClean (g.S.Store.view store)) c.close_store.ensures.same clean)
-
 pub returns-in-Err-clause-left : goal.returns-in-Err-clause-left
 returns-in-Err-clause-left g c = λ empty clean trees left.
     let survives = c.in-Err.ensures.crash_refused in
@@ -39,10 +33,3 @@ returns-in-Err-clause-left g c = λ empty clean trees left.
       )
       | inr new ↦ inr (holds_new file_names trees (new.whole at.none))
     ]
-
-pub returns-in-Err-clause-clean : goal.returns-in-Err-clause-clean
-returns-in-Err-clause-clean g c = λ clean.
-    clean_before _ _ c.in-Err.ensures.crash_refused.clean clean
-
-pub returns-in-Err-clause-kinds : goal.returns-in-Err-clause-kinds
-returns-in-Err-clause-kinds g c = store_cause ⊥ ⊥ c.in-Err.fault c.in-Err.ensures.refused

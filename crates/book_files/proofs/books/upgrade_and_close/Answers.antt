@@ -18,11 +18,6 @@ pub returns-in-Ok-clause-clean : goal.returns-in-Ok-clause-clean
 returns-in-Ok-clause-clean g c clean =
     c.upgrade_in-upgraded.ensures.clean (no_doubt _ (c.close_books.ensures.honest clean))
 
-pub returns-in-Ok-clause-cause : goal.returns-in-Ok-clause-cause
-returns-in-Ok-clause-cause g c =
-    err_so c.upgrade_in-upgraded.result.0 c.upgrade_in-upgraded.ensures.cause
-    (λ fault cause clean. cause (no_doubt _ (c.close_books.ensures.honest clean)))
-
 pub returns-in-Err-clause-left : goal.returns-in-Err-clause-left
 returns-in-Err-clause-left g c = λ book stands kept image may.
     let closed = c.close_first.result in

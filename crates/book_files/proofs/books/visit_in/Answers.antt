@@ -1,11 +1,10 @@
-use Rattle.std.proofs.Common.{◌≡◌, ◌∙◌, false, inl, inr, subst, sym}
+use Rattle.std.proofs.Common.{◌≡◌, false, subst}
 use Rattle.sqlite_disk.specs.Disk.{MoreFaults}
 use Rattle.sqlite_trees.specs.Tree.{Trees}
 use Rattle.sqlite_trees.specs.View.{IsClean}
 use Rattle.book_restarts.proofs.OpenStores.{clean_before}
-use Rattle.book_restarts.proofs.SessionLemmas.{none_leaves, visit_leaves}
+use Rattle.book_restarts.proofs.SessionLemmas.{visit_leaves}
 use Rattle.book_restarts.specs.FileBooks.{file_names}
-use Rattle.table_ledger.specs.Ready.{IsStoredIn}
 use Rattle.tree_tables.specs.Holds.{has_book}
 use Rattle.tree_tables.specs.States.{state}
 use Rattle.book_files.specs.Causes.{ShowsOurs}
@@ -29,31 +28,6 @@ returns-in-Ok-clause-left g c = λ book stands clean trees left.
     (λ (trees : Trees). g.met.S.Store.settled after.tables.store trees) _ file_names
     (g.V.Visit.work file_names c.args.visit.now c.visit-answer.new.self c.visit-answer.result) book opened work still trees
     (subst (λ store. g.S.Store.recovers store trees) same left)
-
-pub returns-in-Ok-clause-clean : goal.returns-in-Ok-clause-clean
-returns-in-Ok-clause-clean g c = λ clean.
-    clean_before _ _ c.in-Ok.ensures.crash.clean (c.visit-answer.ensures.done.honest
-    (subst (λ store. IsClean (g.S.Store.view store)) c.close_store.ensures.same clean))
-
-pub returns-in-Ok-clause-there : goal.returns-in-Ok-clause-there
-returns-in-Ok-clause-there g c = λ clean.
-    c.in-Ok.ensures.there (c.visit-answer.ensures.done.honest
-    (subst (λ store. IsClean (g.S.Store.view store)) c.close_store.ensures.same clean))
-
-pub returns-in-Err-clause-left : goal.returns-in-Err-clause-left
-returns-in-Err-clause-left g c = λ book stands clean trees left.
-    let survives = c.in-Err.ensures.crash_refused in
-    let at = stands (clean_before _ _ survives.clean clean) in
-    elim (survives.crash clean trees left) [
-      | inl was ↦ none_leaves file_names book trees (subst (IsStoredIn file_names book)
-          (sym (g.met.S.Store.settled c.args.store trees at.rest.is_open was
-          ∙ sym at.rest.settled)) at.kept)
-      | inr none ↦ absurd none
-    ]
-
-pub returns-in-Err-clause-clean : goal.returns-in-Err-clause-clean
-returns-in-Err-clause-clean g c = λ clean.
-    clean_before _ _ c.in-Err.ensures.crash_refused.clean clean
 
 pub returns-in-Err-clause-cause : goal.returns-in-Err-clause-cause
 returns-in-Err-clause-cause g c = λ clean.

@@ -1,34 +1,8 @@
-use Rattle.std.proofs.Common.{arith}
 use Rattle.tree_tables.proofs.Looking.{ok_so, survives, was_clean}
-use Rattle.table_ledger.proofs.SurvivalLemmas.{clean_before, survives_both, survives_so, survives_then}
+use Rattle.table_ledger.proofs.SurvivalLemmas.{clean_before, survives_both, survives_then}
 use Rattle.book_restarts.specs.FileBooks.{file_names}
 use Rattle.book_files.proofs.UpgradeParts.{all_written, brought_rests, may_bring}
 use Rattle.book_files.proofs.books.write_details.Goals as goal
-
-pub fill_details-requires-clause-closes : goal.fill_details-requires-clause-closes
-fill_details-requires-clause-closes g c = λ clean.
-    (c.in_ok-add_details.ensures.done clean).shapes 2 (omega arith)
-
-pub fill_details-requires-clause-lines : goal.fill_details-requires-clause-lines
-fill_details-requires-clause-lines g c = λ clean.
-    (c.in_ok-add_details.ensures.done clean).shapes 5 (omega arith)
-
-pub fill_details-requires-clause-records : goal.fill_details-requires-clause-records
-fill_details-requires-clause-records g c = λ clean.
-    (c.in_ok-add_details.ensures.done clean).shapes 3 (omega arith)
-
-pub fill_details-requires-clause-details : goal.fill_details-requires-clause-details
-fill_details-requires-clause-details g c = λ clean.
-    (c.in_ok-add_details.ensures.done clean).shapes 10 (omega arith)
-
-pub returns-in_err-add_details-clause-survives : goal.returns-in_err-add_details-clause-survives
-returns-in_err-add_details-clause-survives g c =
-    survives_so (survives g.S.Store c.add_details.ensures.quiet) (λ clean trees none. absurd none)
-
-pub returns-in_err-fill_details-clause-survives : goal.returns-in_err-fill_details-clause-survives
-returns-in_err-fill_details-clause-survives g c =
-    survives_so (survives_then (survives g.S.Store c.add_details.ensures.quiet)
-    c.fill_details.ensures.does.survives) (λ clean trees none. absurd none)
 
 pub returns-clause-survives : goal.returns-clause-survives
 returns-clause-survives g c =

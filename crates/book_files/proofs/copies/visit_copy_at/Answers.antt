@@ -8,13 +8,12 @@ use Rattle.sqlite_wal.specs.Recovery.{Image}
 use Rattle.book_core.specs.Transition.{Transition}
 use Rattle.book_restarts.specs.FileBooks.{done_by, file_names}
 use Rattle.book_trees.specs.LedgerFiles.{HoldsBooks, trees_held}
-use Rattle.book_files.specs.Causes.{IsWithoutFiles, WhyNotCopied}
-use Rattle.book_files.specs.Faults.{open_fault}
+use Rattle.book_files.specs.Causes.{WhyNotCopied}
 use Rattle.book_files.specs.Sessions.{AreHonest, FilesGoOn}
 use Rattle.book_files.specs.declared.copies.CopyFault.TheVariants as copies
 use Rattle.book_files.specs.declared.session.Ended.TheVariants.{Closed, Refused}
-use Rattle.book_files.proofs.Causes.{mapped_came, mapped_err, mapped_ok, uncopied_cause}
-use Rattle.book_files.proofs.Causes.{visited_cause, without_files}
+use Rattle.book_files.proofs.Causes.{mapped_err, mapped_ok, uncopied_cause}
+use Rattle.book_files.proofs.Causes.{visited_cause}
 use Rattle.book_files.proofs.SessionParts.{done_answered, session_goes_on, were_only_read}
 use Rattle.book_files.proofs.SessionParts.{where_answered}
 use Rattle.book_files.proofs.copies.visit_copy_at.Goals as goal
@@ -53,18 +52,6 @@ returns-in-Err-copy_to-clause-original g c =
     were_only_read (modelled.ghosts the_row g.row.S host.ghosts host.dict g.S.Start g.S.Start-dict
     g.S.Destruct-dict) (λ file. inl refl) (image_at g.S.Start) c.in-Ok.files c.copy_to.new.from
     c.in-Ok.ensures.kept c.copy_to.ensures.read
-
-pub returns-in-Ok-copy_to-clause-came : goal.returns-in-Ok-copy_to-clause-came
-returns-in-Ok-copy_to-clause-came g c =
-    let visited = c.visit_and_close-opened in
-    mapped_came (g.V.Visit.comes c.args.visit.now visited.new.visit)
-    (visited.new.visit ≡ c.args.visit.now) copies.Refused visited.result.0 c.map_err.result
-    c.map_err.ensures.cases visited.ensures.came
-
-pub returns-in-Err-clause-cause : goal.returns-in-Err-clause-cause
-returns-in-Err-clause-cause g c =
-    subst IsWithoutFiles (sym c.refused.ensures)
-    (without_files open_fault refl refl refl c.in-Err.fault c.in-Err.ensures.cause)
 
 pub returns-in-Err-copy_to-clause-cause : goal.returns-in-Err-copy_to-clause-cause
 returns-in-Err-copy_to-clause-cause g c =

@@ -1,6 +1,6 @@
-use Rattle.std.proofs.Common.{◌≡◌, inl, refl, subst, sym}
+use Rattle.std.proofs.Common.{inl, refl, subst, sym}
 use Rattle.std.proofs.Math.Logic.{∥∥₁_elim, ∥∥₁_map, ∥∥₁_prop}
-use Rattle.std.specs.Prelude.{IfErr, IfOk, ⊤}
+use Rattle.std.specs.Prelude.{IfOk}
 use Rattle.sqlite_disk.specs.contracts.modelled.ModelledDisk.TheImpl as modelled
 use Rattle.sqlite_std_file.specs.contracts.host.Host.{the_row}
 use Rattle.sqlite_std_file.specs.contracts.host.HostCalls.TheImpl as host
@@ -8,20 +8,16 @@ use Rattle.sqlite_trees.proofs.Doubt.{clean_of}
 use Rattle.sqlite_wal.specs.Files.{image_at}
 use Rattle.sqlite_wal.specs.Recovery.{Image}
 use Rattle.book_audit.specs.OfBook.{AreOfBook}
-use Rattle.book_audit.specs.declared.audited.Audited.TheVariants.{Sound}
-use Rattle.book_audit.specs.declared.audited.Counts.{Counts}
 use Rattle.book_restarts.specs.FileBooks.{file_names}
 use Rattle.book_trees.proofs.ListingLemmas.{books_listed}
-use Rattle.book_trees.specs.Forms.{HoldsThisForm}
 use Rattle.book_trees.specs.Refusals.{AreFull}
 use Rattle.book_trees.specs.StoreView.{ListsBooks}
 use Rattle.book_audit.specs.Own.{AreOwn}
-use Rattle.book_files.specs.Audits.{HoldCounted, WhyUnsound}
-use Rattle.book_files.specs.Causes.{WhyNotAudited}
+use Rattle.book_files.specs.Audits.{WhyUnsound}
 use Rattle.book_files.specs.Sessions.{MayFollow}
 use Rattle.book_files.specs.declared.session.Ended.TheVariants.{Refused}
-use Rattle.book_files.proofs.AuditParts.{looked_listed, never_sound, never_unsound, own_trees}
-use Rattle.book_files.proofs.Causes.{err_each, look_cause, ok_each, ok_so}
+use Rattle.book_files.proofs.AuditParts.{looked_listed, never_unsound, own_trees}
+use Rattle.book_files.proofs.Causes.{ok_each, ok_so}
 use Rattle.book_files.proofs.SessionParts.{found_clean, held_goes_on, refused_goes_on}
 use Rattle.book_files.proofs.session.audit_at.Goals as goal
 
@@ -31,25 +27,11 @@ returns-in-Ok-clause-history g c = λ image may.
     c.in-Ok.ensures.found
     (λ book stands. c.audit_and_close-audited.ensures.held book stands may.0 image may.1)
 
-pub returns-in-Ok-clause-cause : goal.returns-in-Ok-clause-cause
-returns-in-Ok-clause-cause g c =
-    err_each c.audit_and_close-audited.result.0 (λ fault clean. tt)
-
 pub returns-in-Err-clause-history : goal.returns-in-Err-clause-history
 returns-in-Err-clause-history g c = λ image may.
     refused_goes_on (modelled.ghosts the_row g.row.S host.ghosts host.dict g.S.Start g.S.Start-dict
     g.S.Destruct-dict) (λ file. inl refl) file_names (image_at g.S.Start) c.in-Err.files
     c.in-Err.ensures.kept image may
-
-pub returns-in-Err-clause-cause : goal.returns-in-Err-clause-cause
-returns-in-Err-clause-cause g c =
-    let disk = modelled.ghosts the_row g.row.S host.ghosts host.dict g.S.Start g.S.Start-dict
-    g.S.Destruct-dict in
-    let first = image_at g.S.Start in
-    subst (λ result. IfErr result (WhyNotAudited disk first (Refused c.in-Err.files)))
-    (sym c.not_looked_through.ensures)
-    (look_cause disk (HoldsThisForm first) (AreFull disk) (λ _ _. ⊤) c.in-Err.fault c.in-Err.files
-    c.in-Err.ensures.cause)
 
 pub returns-in-Ok-clause-own : goal.returns-in-Ok-clause-own
 returns-in-Ok-clause-own g c =
@@ -97,16 +79,6 @@ returns-in-Ok-clause-listed g c =
       found = held.found;
       listed = books_listed held.pages held.file;
     })
-
-pub returns-in-Err-clause-book : goal.returns-in-Err-clause-book
-returns-in-Err-clause-book g c =
-    let disk = modelled.ghosts the_row g.row.S host.ghosts host.dict g.S.Start g.S.Start-dict
-    g.S.Destruct-dict in
-    subst (λ result. IfOk result (λ audited. (counts : Counts) → audited ≡ Sound counts
-    → (image : Image) → MayFollow disk (Refused c.in-Err.files) image
-    → HoldCounted counts (image_at g.S.Start))) (sym c.not_looked_through.ensures)
-    (never_sound (λ counts. (image : Image) → MayFollow disk (Refused c.in-Err.files) image
-    → HoldCounted counts (image_at g.S.Start)) c.in-Err.fault)
 
 pub returns-in-Err-clause-listed : goal.returns-in-Err-clause-listed
 returns-in-Err-clause-listed g c =

@@ -9,7 +9,7 @@ use Rattle.book_trees.specs.LedgerFiles.{HoldsNothing}
 use Rattle.book_trees.specs.Refusals.{StopCreating}
 use Rattle.book_files.specs.Causes.{HasFaultCause, WhyNotMade}
 use Rattle.book_files.specs.declared.session.Ended.TheVariants.{Refused}
-use Rattle.book_files.proofs.Causes.{err_so, refused_cause}
+use Rattle.book_files.proofs.Causes.{refused_cause}
 use Rattle.book_files.proofs.NewParts.{made_at, refused_begun}
 use Rattle.book_files.proofs.session.make_at.Goals as goal
 
@@ -18,11 +18,6 @@ returns-in-Ok-clause-made g c = λ nothing image may.
     made_at file_names c.in-Ok.store c.in-Ok.ensures.ready c.in-Ok.ensures.empty
     c.make_and_close-made.result.0 image
     (λ empty. c.make_and_close-made.ensures.left empty may.0 image may.1)
-
-pub returns-in-Ok-clause-cause : goal.returns-in-Ok-clause-cause
-returns-in-Ok-clause-cause g c =
-    err_so c.make_and_close-made.result.0 c.make_and_close-made.ensures.kinds
-    (λ fault cause clean. cause)
 
 pub returns-in-Err-clause-made : goal.returns-in-Err-clause-made
 returns-in-Err-clause-made g c = λ nothing image may.

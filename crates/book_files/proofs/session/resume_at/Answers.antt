@@ -1,4 +1,4 @@
-use Rattle.std.proofs.Common.{◌≡◌, inl, refl, sym, subst, true}
+use Rattle.std.proofs.Common.{◌≡◌, inl, refl, true}
 use Rattle.std.specs.Prelude.{⊤}
 use Rattle.sqlite_disk.specs.contracts.modelled.ModelledDisk.TheImpl as modelled
 use Rattle.sqlite_std_file.specs.contracts.host.Host.{the_row}
@@ -7,14 +7,11 @@ use Rattle.sqlite_store.specs.FileStore.{view}
 use Rattle.sqlite_wal.specs.Files.{image_at}
 use Rattle.book_model.specs.Words.{book_after}
 use Rattle.book_restarts.specs.FileBooks.{file_names}
-use Rattle.book_trees.specs.Forms.{HoldsThisForm}
-use Rattle.book_trees.specs.Refusals.{AreFull}
 use Rattle.table_model.specs.TablesOf.{tables_of}
 use Rattle.tree_tables.specs.Holds.{has_book}
-use Rattle.book_files.specs.Causes.{HasFaultCause, HaveBookRow, WhyNotContinued}
+use Rattle.book_files.specs.Causes.{HaveBookRow}
 use Rattle.book_files.specs.Unused.{are_unused}
-use Rattle.book_files.specs.declared.session.Ended.TheVariants.{Refused}
-use Rattle.book_files.proofs.Causes.{cause_so, err_so, told_by_row, unresumed_cause}
+use Rattle.book_files.proofs.Causes.{cause_so, err_so, told_by_row}
 use Rattle.book_files.proofs.NewParts.{refused_still, resumed_at}
 use Rattle.book_files.proofs.ResumeParts.{resumed_unused}
 use Rattle.book_files.proofs.SessionParts.{found_clean, held_goes_on, opened_stands}
@@ -65,13 +62,3 @@ returns-in-Err-clause-made g c = λ begun image may.
     refused_still (modelled.ghosts the_row g.row.S host.ghosts host.dict g.S.Start g.S.Start-dict
     g.S.Destruct-dict) file_names (image_at g.S.Start) c.in-Err.files c.in-Err.ensures.kept begun
     image may
-
-pub returns-in-Err-clause-cause : goal.returns-in-Err-clause-cause
-returns-in-Err-clause-cause g c =
-    let disk = modelled.ghosts the_row g.row.S host.ghosts host.dict g.S.Start g.S.Start-dict
-    g.S.Destruct-dict in
-    let first = image_at g.S.Start in
-    subst (WhyNotContinued disk first (Refused c.in-Err.files)) (sym c.unresumed.ensures)
-    (unresumed_cause disk (HoldsThisForm first) (AreFull disk)
-    (λ Failed. HasFaultCause ⊥ (HaveBookRow first) ⊤) c.in-Err.fault c.in-Err.files
-    c.in-Err.ensures.cause)

@@ -1,15 +1,12 @@
-use Rattle.std.proofs.Common.{inl, refl, subst, sym, true}
+use Rattle.std.proofs.Common.{inl, refl, true}
 use Rattle.sqlite_disk.specs.contracts.modelled.ModelledDisk.TheImpl as modelled
 use Rattle.sqlite_std_file.specs.contracts.host.Host.{the_row}
 use Rattle.sqlite_std_file.specs.contracts.host.HostCalls.TheImpl as host
 use Rattle.sqlite_wal.specs.Files.{image_at}
 use Rattle.book_restarts.specs.FileBooks.{done_by, file_names}
-use Rattle.book_trees.specs.Forms.{HoldsThisForm}
-use Rattle.book_trees.specs.Refusals.{AreFull}
-use Rattle.book_files.specs.Causes.{AreUnvisitedFor, WhyNotVisited}
 use Rattle.book_files.specs.Sessions.{FilesGoOn}
-use Rattle.book_files.specs.declared.session.Ended.TheVariants.{Closed, Refused}
-use Rattle.book_files.proofs.Causes.{err_so, ok_so, refused_cause, told_by_row, visited_cause}
+use Rattle.book_files.specs.declared.session.Ended.TheVariants.{Closed}
+use Rattle.book_files.proofs.Causes.{err_so, ok_so, told_by_row, visited_cause}
 use Rattle.book_files.proofs.SessionParts.{alone_follows, done_answered, found_clean}
 use Rattle.book_files.proofs.SessionParts.{refused_goes_on, session_goes_on}
 use Rattle.book_files.proofs.session.visit_at.Goals as goal
@@ -48,12 +45,3 @@ returns-in-Err-clause-history g c =
     refused_goes_on (modelled.ghosts the_row g.row.S host.ghosts host.dict g.S.Start g.S.Start-dict
     g.S.Destruct-dict) (λ file. inl refl) file_names (image_at g.S.Start) c.in-Err.files
     c.in-Err.ensures.kept
-
-pub returns-in-Err-clause-cause : goal.returns-in-Err-clause-cause
-returns-in-Err-clause-cause g c =
-    let disk = modelled.ghosts the_row g.row.S host.ghosts host.dict g.S.Start g.S.Start-dict
-    g.S.Destruct-dict in
-    let first = image_at g.S.Start in
-    subst (WhyNotVisited disk first (Refused c.in-Err.files)) (sym c.refused.ensures)
-    (refused_cause disk (HoldsThisForm first) (AreFull disk) (AreUnvisitedFor first) c.in-Err.fault
-    c.in-Err.files c.in-Err.ensures.cause)

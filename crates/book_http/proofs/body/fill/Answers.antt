@@ -1,21 +1,9 @@
-use Rattle.std.proofs.Common.{rules, arith, ◌≤◌, length, ◌∙◌, ap, drop, length-take-le, take_all}
+use Rattle.std.proofs.Common.{rules, arith, ◌≤◌, length, ◌∙◌, length-take-le}
 use Rattle.std.proofs.lemmas.List.{length-drop}
 use Rattle.std.proofs.lemmas.Slice.{take-put_mid_below}
-use Rattle.book_http.proofs.ReadLemmas.{due_for_body, gave_as, more_filled, none_came, not_read}
-use Rattle.book_http.proofs.ReadLemmas.{nothing_filled, read_on}
+use Rattle.book_http.proofs.ReadLemmas.{due_for_body, more_filled, none_came}
+use Rattle.book_http.proofs.ReadLemmas.{read_on}
 use Rattle.book_http.proofs.body.fill.Goals as goal
-
-pub pieces-init : goal.pieces-init
-pieces-init g c = record {
-  low = search rules;
-  within = search rules;
-  size = search rules;
-  failed = search rules;
-  ended = search rules;
-  asked = search rules;
-  kept = search rules;
-  reads = not_read (nothing_filled _ _ c.requires.within);
-}
 
 pub returns-in_default-clause-reads : goal.returns-in_default-clause-reads
 returns-in_default-clause-reads g c =
@@ -52,9 +40,3 @@ pieces-preserved g c =
           (λ came is. due_for_body _ _ _ _ _ is so_far.low c.pieces-test.true so_far.size)
           (λ came is. more_filled _ _ _ _ _ _ _ is so_far.low so_far.within few);
     }
-
-pub returns-clause-reads : goal.returns-clause-reads
-returns-clause-reads g c =
-    gave_as c.pieces.invariant.reads
-    (λ came is. is
-    ∙ ap (drop c.args.had) (take_all c.pieces.filled c.pieces.body c.pieces-test.false))

@@ -5,9 +5,6 @@ use Rattle.book_http.specs.Replies.{reply_of}
 use Rattle.book_http.proofs.StreamLemmas.{text_refused}
 use Rattle.book_http.proofs.office_answers.measure_details.Goals as goal
 
-pub returns-in-Ok : goal.returns-in-Ok
-returns-in-Ok g c = c.in-Ok.ensures.work
-
 pub returns-in-Err : goal.returns-in-Err
 returns-in-Err g c =
     let old = g.L.Ledger.seen c.args.ledger.now in

@@ -1,17 +1,9 @@
-use Rattle.std.proofs.Common.{ℕ, ◌++◌, ap, inl, refl, Err, Vec, Global}
+use Rattle.std.proofs.Common.{ℕ, ◌++◌, ap, inl, Err, Vec, Global}
 use Rattle.book_http.specs.Requested.{WantsImport, WantsWhatIf}
 use Rattle.book_http.proofs.BodyLemmas.{fault_comes}
-use Rattle.book_http.proofs.ReadLemmas.{gave_as, not_read}
+use Rattle.book_http.proofs.ReadLemmas.{gave_as}
 use Rattle.book_http.proofs.RequestedLemmas.{body_refused, whole_wanted}
 use Rattle.book_http.proofs.requested.read_asked.Goals as goal
-
-pub returns-in-Report-clause-asks : goal.returns-in-Report-clause-asks
-returns-in-Report-clause-asks g c =
-    rw c.in-Report.is (not_read (λ more none. inl refl))
-
-pub returns-in-Details-clause-asks : goal.returns-in-Details-clause-asks
-returns-in-Details-clause-asks g c =
-    rw c.in-Details.is (not_read (λ more none. inl refl))
 
 pub returns-in-Ok-clause-asks : goal.returns-in-Ok-clause-asks
 returns-in-Ok-clause-asks g c =
@@ -51,11 +43,3 @@ returns-in-Err-read_body-clause-asks g c =
     (λ short. c.in-Err-read_body.ensures.ended (ap Err short))
     (fault_comes {A = Vec ℕ Global} (λ body. body.items) size bytes c.in-Err-read_body.fault comes)
     told.ensures.refused))
-
-pub returns-in-Refusal-clause-asks : goal.returns-in-Refusal-clause-asks
-returns-in-Refusal-clause-asks g c =
-    rw c.in-Refusal.is (not_read (λ more none. inl refl))
-
-pub returns-in-OtherMethod-clause-asks : goal.returns-in-OtherMethod-clause-asks
-returns-in-OtherMethod-clause-asks g c =
-    rw c.in-OtherMethod.is (not_read (λ more none. inl refl))

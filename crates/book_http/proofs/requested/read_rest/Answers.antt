@@ -1,11 +1,7 @@
-use Rattle.std.proofs.Common.{inr, refl, subst}
+use Rattle.std.proofs.Common.{subst}
 use Rattle.book_http.specs.Requested.{AsksAfter}
 use Rattle.book_http.proofs.AskedLemmas.{asked_by}
-use Rattle.book_http.proofs.ReadLemmas.{not_read}
 use Rattle.book_http.proofs.requested.read_rest.Goals as goal
-
-pub returns-in_default-clause-asks : goal.returns-in_default-clause-asks
-returns-in_default-clause-asks g c head says = not_read (λ more none. inr refl)
 
 pub returns-clause-asks : goal.returns-clause-asks
 returns-clause-asks g c head says =

@@ -1,10 +1,9 @@
-use Rattle.std.proofs.Common.{◌∙◌, ap, sym, subst, None}
+use Rattle.std.proofs.Common.{◌∙◌, ap, subst, None}
 use Rattle.std.specs.Io.KnownBytes.{Appends}
 use Rattle.streams.specs.Sinks.{writer_of}
 use Rattle.book_http.specs.declared.status.Status.TheVariants.{Done}
 use Rattle.book_http.specs.AnswerHead.{answer_head}
-use Rattle.book_http.specs.Served.{is_unanswered, is_write_fault}
-use Rattle.book_http.proofs.StreamLemmas.{details_sent, fails_alike, head_sent, is_begun}
+use Rattle.book_http.proofs.StreamLemmas.{details_sent, head_sent}
 use Rattle.book_http.proofs.sending.send_details.Goals as goal
 
 -- the head is not written, or not whole
@@ -30,12 +29,3 @@ returns-clause-sent g c =
     details_sent c.args.details c.args.size _ _ held between holds c.write_details.result
     c.served_as.result c.served_as.ensures
     (subst (Appends held between) text c.in-Ok.ensures.whole.0) c.write_details.ensures.written
-
-pub returns-clause-failed : goal.returns-clause-failed
-returns-clause-failed g c =
-    c.write_details.ensures.failed c.in-Ok.ensures.whole.1
-    ∙ fails_alike c.write_details.result ∙ ap is_write_fault (sym c.served_as.ensures)
-
-pub returns-clause-answered : goal.returns-clause-answered
-returns-clause-answered g c =
-    ap is_unanswered c.served_as.ensures ∙ is_begun c.write_details.result

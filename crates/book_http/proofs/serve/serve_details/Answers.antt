@@ -1,6 +1,5 @@
-use Rattle.std.proofs.Common.{inl, inr}
+use Rattle.std.proofs.Common.{inr}
 use Rattle.streams.specs.Sinks.{writer_of}
-use Rattle.book_http.specs.Replies.{reply_of}
 use Rattle.book_http.proofs.StreamLemmas.{measured_sent}
 use Rattle.book_http.proofs.serve.serve_details.Goals as goal
 
@@ -12,10 +11,3 @@ returns-in-Ok-clause-served g c =
     inr (measured_sent (seen c.args.ledger.now) (seen c.ask_details.new.ledger)
     (seen c.send_details.new.ledger) c.args.details c.in-Ok.size held holds c.send_details.result
     c.in-Ok.ensures.asked c.send_details.ensures.sent)
-
-pub returns-in-Err-clause-served : goal.returns-in-Err-clause-served
-returns-in-Err-clause-served g c = inl (record {
-  reply = reply_of c.in-Err.answer;
-  answer = c.in-Err.ensures.asked;
-  sent = c.send.ensures.sent;
-})

@@ -1,4 +1,4 @@
-use Rattle.std.proofs.Common.{Err, ap, subst}
+use Rattle.std.proofs.Common.{subst}
 use Rattle.streams.specs.InputOutput.{output}
 use Rattle.streams.specs.Sources.{has_ended}
 use Rattle.book_core.specs.Ledgers.{books}
@@ -47,13 +47,3 @@ returns-in-Ok-Details-clause-served g c =
     c.in-Ok-Details.details sent.result
     (subst (λ request. IsAsking ended taken request) c.in-Ok-Details.field-0-is asking)
     sent.ensures.answered sent.ensures.served)
-
-pub returns-in-Err-Closed-clause-served : goal.returns-in-Err-Closed-clause-served
-returns-in-Err-Closed-clause-served g c =
-    let closed = c.in-Err-Closed in
-    gave_as (rw closed.field-0-is at closed.ensures.asks)
-    (λ taken none. (none, closed.ensures.closed (ap Err closed.field-0-is)))
-
-pub returns-in-Err-Failed-clause-served : goal.returns-in-Err-Failed-clause-served
-returns-in-Err-Failed-clause-served g c =
-    gave_as c.in-Err-Failed.ensures.asks (λ taken failed. tt)

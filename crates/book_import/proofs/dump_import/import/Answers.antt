@@ -55,13 +55,6 @@ loop-init g c =
       );
     }
 
-pub import_piece-requires-clause-stands : goal.import_piece-requires-clause-stands
-import_piece-requires-clause-stands g c =
-    let joins = c.loop.invariant.joins in (joins.0, joins.2.stands)
-
-pub import_piece-requires-clause-none : goal.import_piece-requires-clause-none
-import_piece-requires-clause-none g c = c.loop.invariant.joins.2.none
-
 pub returns-in_default-read_piece-clause-booked : goal.returns-in_default-read_piece-clause-booked
 returns-in_default-read_piece-clause-booked g c =
     let joins = c.loop.invariant.joins in

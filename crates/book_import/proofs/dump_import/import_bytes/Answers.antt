@@ -49,13 +49,6 @@ loop-rest-init g c = (
       c.stopped-receipt.ensures,
 )
 
-pub import_piece-requires-clause-stands : goal.import_piece-requires-clause-stands
-import_piece-requires-clause-stands g c =
-    let joins = c.loop-rest.invariant in (joins.0, joins.3.stands)
-
-pub import_piece-requires-clause-none : goal.import_piece-requires-clause-none
-import_piece-requires-clause-none g c = c.loop-rest.invariant.3.none
-
 pub import_piece-requires-clause-few : goal.import_piece-requires-clause-few
 import_piece-requires-clause-few g c =
     let joins = c.loop-rest.invariant in

@@ -1,20 +1,8 @@
-use Rattle.std.proofs.Common.{◌∙◌, [], append-nil, arith, ap, length, Option, sym, subst}
-use Rattle.std.specs.Prelude.{◌++◌, List, ℕ, IfSome}
-use Rattle.smf_frames.specs.declared.fault.FrameFault.{FrameFault}
-use Rattle.book_model.specs.Words.{HasTaken}
-use Rattle.book_import.specs.Groups.{Breaks}
-use Rattle.book_import.proofs.FeedLemmas.{goes_nowhere, shorter, goes_on, all_done, takes_all}
+use Rattle.std.proofs.Common.{◌∙◌, arith}
+use Rattle.book_import.proofs.FeedLemmas.{shorter, goes_on, all_done, takes_all}
 use Rattle.book_import.proofs.FeedLemmas.{breaks, broken_done}
 use Rattle.book_import.proofs.GatheringLemmas.{completes_more}
 use Rattle.book_import.proofs.gathering.gather.Goals as goal
-
-pub loop-fault-init : goal.loop-fault-init
-loop-fault-init c = record {
-  goes = goes_nowhere c.args.joiner.now c.args.piece.now _ c.requires.none
-      (λ records. ([], c.new-group.ensures.none, sym (append-nil records)));
-  whole = c.new-group.ensures.whole;
-  few = omega (arith, ap length c.new-group.ensures.none.classes);
-}
 
 pub returns-in-Err-clause-gathers : goal.returns-in-Err-clause-gathers
 returns-in-Err-clause-gathers c = λ text stood.
@@ -39,23 +27,11 @@ pub returns-in_default-clause-taken : goal.returns-in_default-clause-taken
 returns-in_default-clause-taken c = λ whole.
     takes_all c.loop-fault.invariant.goes c.in-Ok.ensures c.in_default.ensures.exact
 
-pub returns-in_default-clause-broken : goal.returns-in_default-clause-broken
-returns-in_default-clause-broken c =
-    subst (λ (broken : Option FrameFault). IfSome broken (λ fault. (text more : List ℕ)
-    → HasTaken text c.args.joiner.now
-    → Breaks c.args.joiner.now.layout (text ++ c.args.piece.now) more fault))
-    (sym c.loop-fault.invariant.whole) tt
-
 pub add-requires : goal.add-requires
 add-requires c = record {
   framed = c.in-Some.ensures.framed _ (c.in-Ok.ensures.stands _
       (c.loop-fault.invariant.goes.stands _ c.requires.stands.1));
 }
-
-pub loop-fault-smaller : goal.loop-fault-smaller
-loop-fault-smaller c =
-    shorter c.loop-fault.invariant.goes c.in-Ok.ensures c.in-Some.ensures.exact
-    c.split_at.ensures.back c.requires.stands
 
 pub loop-fault-preserved : goal.loop-fault-preserved
 loop-fault-preserved c =

@@ -54,8 +54,3 @@ returns-clause-counts g c = λ text stood.
           ∙ ap (λ (f : Front). f.is_broken) (breaks text [] stood),
       c.in_default-handle_group.ensures.more,
     )
-
-pub handle_group-requires-clause-stands : goal.handle_group-requires-clause-stands
-handle_group-requires-clause-stands g c =
-    let gathered = c.in-Ok.ensures.gathers c.requires.stands.0 c.requires.stands.1 in
-    (gathered.records, gathered.is)

@@ -1,4 +1,4 @@
-use Rattle.std.proofs.Common.{◌∙◌, Ok, Some, ap, map, refl, subst, sym, take_all}
+use Rattle.std.proofs.Common.{◌∙◌, Ok, Some, ap, map, refl, subst, sym}
 use Rattle.std.proofs.lemmas.Result.{err_from_is_err_and}
 use Rattle.book_model.specs.declared.bill.BilledLine.{BilledLine}
 use Rattle.book_model.specs.Words.{AreLines, billed_lines}
@@ -68,10 +68,3 @@ pub returns-clause-lines : goal.returns-clause-lines
 returns-clause-lines g c =
     answers c.loop-line.billed (λ book. refl) (λ book known. lines_known known c.loop-line-test.false)
     c.loop-line.invariant.far
-
-pub returns-clause-shown : goal.returns-clause-shown
-returns-clause-shown g c =
-    let it = c.loop-line.invariant in
-    subst AreLines
-    (sym (it.plain ∙ take_all c.loop-line.line-index c.deref-line-items.result.now c.loop-line-test.false))
-    it.shown

@@ -1,7 +1,7 @@
 use Rattle.std.proofs.Common.{SFits, refl, rules, string_bytes, w32}
 use Rattle.std.proofs.lemmas.Int.{to_z-of_z}
 use Rattle.std.proofs.lemmas.Result.{err_from_is_err_and}
-use Rattle.book_reports.proofs.KeptTariffLemmas.{day_shown, keep_begun, keep_ended, keep_more}
+use Rattle.book_reports.proofs.KeptTariffLemmas.{keep_begun, keep_ended, keep_more}
 use Rattle.book_reports.proofs.KeptTariffLemmas.{keep_refused, keep_stopped}
 use Rattle.book_reports.proofs.ReadingLemmas.{call_failed}
 use Rattle.book_reports.proofs.bill_tariffs.tariffs_on.Goals as goal
@@ -22,17 +22,6 @@ loop-before-init g c = record {
 pub returns-in_default-clause-tariffs : goal.returns-in_default-clause-tariffs
 returns-in_default-clause-tariffs g c =
     keep_ended c.loop-before.invariant.far c.in_default.ensures.other
-
-pub returns-in_default-clause-days : goal.returns-in_default-clause-days
-returns-in_default-clause-days g c = c.loop-before.invariant.far.has.days
-
--- a tariff begins on a day
-pub join-requires : goal.join-requires
-join-requires g c =
-    let fits : SFits w32 c.in-Some.day = search rules in
-    rw (to_z-of_z w32 c.in-Some.day fits)
-    (day_shown c.loop-before.next c.in-Some.day (string_bytes c.in-Some.text)
-    c.in-Some.ensures.tariff c.loop-before.invariant.shown)
 
 -- there is no memory for it
 pub returns-in_err-join-clause-tariffs : goal.returns-in_err-join-clause-tariffs

@@ -40,10 +40,6 @@ pub returns-in_default-clause-work : goal.returns-in_default-clause-work
 returns-in_default-clause-work g c =
     work_ended c.details.invariant.far c.in_ok-rows.rows c.in_default.is c.in_ok-rows.ensures
 
-pub returns-in_default-clause-rows : goal.returns-in_default-clause-rows
-returns-in_default-clause-rows g c =
-    (c.in_ok-rows.ensures c.details.invariant.far.read c.details.invariant.far.sums).shown
-
 -- the sums do not fit
 pub returns-in_err-add-clause-work : goal.returns-in_err-add-clause-work
 returns-in_err-add-clause-work g c =

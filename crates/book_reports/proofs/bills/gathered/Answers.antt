@@ -55,14 +55,3 @@ returns-clause-bill g c =
     c.in_ok-lines.lines.items c.in_ok-held.held c.in_ok-kept.kept book known.first.first.first
     known.first.first.next known.first.next known.next)
     all
-
-pub returns-clause-shown : goal.returns-clause-shown
-returns-clause-shown g c =
-    let rows = c.in_ok-work.ensures.rows in
-    record {
-      steps = rows.step_rows;
-      jobs = rows.job_rows;
-      lines = c.in_ok-lines.ensures.shown;
-      tariffs = c.in_ok-kept.ensures.days;
-      amount = rows.amount;
-    }

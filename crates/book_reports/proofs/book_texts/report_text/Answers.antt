@@ -1,15 +1,10 @@
-use Rattle.std.proofs.Common.{SFits, refl, rules, w32}
-use Rattle.std.proofs.lemmas.Int.{to_z-of_z}
+use Rattle.std.proofs.Common.{refl, rules}
 use Rattle.report_texts.specs.DisputeLists.{dispute_list_text}
 use Rattle.report_texts.specs.DisputeTables.{dispute_table}
 use Rattle.report_texts.specs.PeriodLists.{period_list_text}
 use Rattle.report_texts.specs.RecordTexts.{record_text}
 use Rattle.book_reports.proofs.ReadingLemmas.{call_made}
 use Rattle.book_reports.proofs.book_texts.report_text.Goals as goal
-
--- what a period has is a text of its own
-pub returns-in-OfPeriod : goal.returns-in-OfPeriod
-returns-in-OfPeriod g c = rw c.in-OfPeriod.is c.period_text.ensures
 
 -- of each list that was asked for its text is made
 pub returns-in-DisputeTable : goal.returns-in-DisputeTable
@@ -33,10 +28,6 @@ returns-in-Record g c =
     rw c.in-Record.is (call_made (record_text c.in-Record.name) (λ book. refl)
     c.trail_of.ensures.trail c.made_of-in-Record.ensures λ trail text made. search rules)
 
--- the rulings are texts of their own
-pub returns-in-RulingList : goal.returns-in-RulingList
-returns-in-RulingList g c = rw c.in-RulingList.is c.ruling_list.ensures
-
 -- so is a bill
 pub returns-in-Bill : goal.returns-in-Bill
 returns-in-Bill g c = rw c.in-Bill.is c.bill_report.ensures
@@ -47,9 +38,3 @@ returns-in-OfficePage g c = rw c.in-OfficePage.is c.office_page_report.ensures
 
 pub returns-in-PeriodPage : goal.returns-in-PeriodPage
 returns-in-PeriodPage g c = rw c.in-PeriodPage.is c.period_page_report.ensures
-
-pub returns-in-TariffText : goal.returns-in-TariffText
-returns-in-TariffText g c =
-    let fits : SFits w32 c.in-TariffText.day = search rules in
-    let day = to_z-of_z w32 c.in-TariffText.day fits in
-    rw c.in-TariffText.is (rw day at c.tariff_text.ensures)

@@ -1,8 +1,6 @@
 use Rattle.std.proofs.Common.{◌≡◌, Bool, true, false, cond, List, ℕ, Option, Some, None, ap, sym, refl}
 use Rattle.std.proofs.lemmas.Bool.{true≢false}
 use Rattle.std.specs.Prelude.{◌↔◌, IfSome, IsSome, IsTrue}
-use Rattle.smf_text.specs.Names.{is_name}
-use Rattle.book_reports.proofs.report.centre_named.Goals as goal
 
 -- what is made of a text is there where it passes, and is then the text
 passed : (text : List ℕ) (passes : Bool) (made : Option (List ℕ)) → (IsSome made ↔ IsTrue passes)
@@ -11,6 +9,3 @@ passed text true None is same = absurd (true≢false (sym (is.1 refl)))
 passed text true (Some name) is same = ap Some same
 passed text false None is same = refl
 passed text false (Some name) is same = absurd (true≢false (sym (is.0 refl)))
-
-pub returns : goal.returns
-returns c = passed c.args.text.now (is_name c.args.text.now) c.of.result c.of.ensures.succeeds c.of.ensures.value

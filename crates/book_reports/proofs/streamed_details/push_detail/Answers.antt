@@ -35,11 +35,6 @@ returns-in_err-part-clause-left g c =
       none_written _ _,
     )
 
--- it waits, or is written
-pub returns-clause-written : goal.returns-clause-written
-returns-clause-written g c =
-    rw (c.deref.ensures.value, c.in_ok-part.ensures) at c.push_part.ensures.written
-
 pub returns-clause-left : goal.returns-clause-left
 returns-clause-left g c =
     (rw (c.deref.ensures.value, c.in_ok-part.ensures) at c.push_part.ensures.left)

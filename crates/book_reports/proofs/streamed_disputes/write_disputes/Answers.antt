@@ -2,7 +2,6 @@ use Rattle.std.proofs.Common.{[], ap, refl, rules, true, ◌≡◌}
 use Rattle.std.proofs.KnownBytes.{Appends-nil}
 use Rattle.std.proofs.lemmas.Result.{IfErr-weaker, err_from_is_err_and}
 use Rattle.streams.specs.Sinks.{writer_of}
-use Rattle.book_model.specs.Words.{disputes_in}
 use Rattle.book_reports.specs.StreamedDisputes.{dispute_report}
 use Rattle.book_reports.specs.declared.fault.ReportFault.TheVariants as report
 use Rattle.book_reports.specs.Writing.{is_write_or_memory}
@@ -21,21 +20,12 @@ returns-in_err-count-clause-written g c =
     (report_unread _ c.in_err-count.field-0.0 c.in_err-count.ensures (dispute_report c.args.form)
     (g.W.Write.contents (writer_of c.args.sink.now)))
 
-pub returns-in_err-count-clause-some : goal.returns-in_err-count-clause-some
-returns-in_err-count-clause-some g c =
-    let failed = err_from_is_err_and c.from_residual.result c.from_residual.ensures.1 in
-    rw failed.1 ([], (0, Appends-nil (g.W.Write.contents (writer_of c.args.sink.now))))
-
 -- a write failed before
 pub returns-then-failed-clause-written : goal.returns-then-failed-clause-written
 returns-then-failed-clause-written g c =
     let held = g.W.Write.contents (writer_of c.args.sink.now) in
     report_written (λ book. refl) c.in_ok-count.ensures (dispute_report c.args.form) held held _ refl
     (λ book is. (0, Appends-nil held))
-
-pub returns-then-failed-clause-some : goal.returns-then-failed-clause-some
-returns-then-failed-clause-some g c =
-    ([], (0, Appends-nil (g.W.Write.contents (writer_of c.args.sink.now))))
 
 -- the lines are begun
 pub loop-before-init : goal.loop-before-init

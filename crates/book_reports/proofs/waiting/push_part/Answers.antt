@@ -1,7 +1,5 @@
-use Rattle.std.proofs.Common.{◌++◌, subst, sym}
+use Rattle.std.proofs.Common.{◌++◌}
 use Rattle.std.proofs.lemmas.Result.{err_from_is_err_and}
-use Rattle.streams.specs.Sinks.{writer_of}
-use Rattle.book_reports.specs.StreamedRulings.{WritesFirst}
 use Rattle.book_reports.proofs.StreamedLemmas.{some_behind, written_of_more}
 use Rattle.book_reports.proofs.waiting.push_part.Goals as goal
 
@@ -42,19 +40,3 @@ returns-in_err-extend_from_slice-clause-left g c some =
       some_behind rest part some,
       written_of_more _ rest part _ _ c.in_ok-flush_much.ensures.written,
     )
-
--- it waits
-pub returns-clause-written : goal.returns-clause-written
-returns-clause-written g c =
-    let held = g.W.Write.contents (writer_of c.args.sink.now) in
-    let holds = g.W.Write.contents (writer_of c.flush_much.new.sink) in
-    let rest = c.flush_much.new.waiting.items in
-    let part = c.args.part.now in
-    subst (λ left. WritesFirst (c.args.waiting.now.items ++ part) left held holds)
-    (sym c.in_ok-extend_from_slice.ensures.items)
-    (written_of_more _ rest part held holds c.in_ok-flush_much.ensures.written)
-
-pub returns-clause-left : goal.returns-clause-left
-returns-clause-left g c some =
-    rw c.in_ok-extend_from_slice.ensures.items
-    (some_behind c.flush_much.new.waiting.items c.args.part.now some)

@@ -1,15 +1,9 @@
-use Rattle.book_trees.proofs.Moved.{moved_if_open, stuck_for}
+use Rattle.book_trees.proofs.Moved.{moved_if_open}
 use Rattle.book_trees.proofs.closing.checkpoint_log.Goals as goal
 
 pub returns-clause-moved : goal.returns-clause-moved
 returns-clause-moved g c =
     moved_if_open _ _ _ c.checkpoint.result c.checkpoint.ensures.moved c.rollback.ensures.logged
-
-pub returns-clause-cause : goal.returns-clause-cause
-returns-clause-cause g c = λ clean is_open.
-    stuck_for c.args.store.now c.rollback.new.self c.checkpoint.new.self
-    c.rollback.ensures.quiet c.rollback.ensures.undone c.checkpoint.ensures.quiet
-    c.checkpoint.result clean is_open (c.checkpoint.ensures.cause clean)
 
 -- no outcome is new after either of the two
 pub returns-clause-outcomes : goal.returns-clause-outcomes

@@ -1,10 +1,8 @@
-use Rattle.std.proofs.Common.{◌≡◌, ◌<◌, ◌≤◌, ◌+◌, ap, length, arith, subst}
+use Rattle.std.proofs.Common.{◌≡◌, ◌<◌, ◌≤◌, ◌+◌, length, arith, subst}
 use Rattle.std.proofs.lemmas.Grind.{common_steps}
 use Rattle.sqlite_disk.specs.Disk.{Holds}
 use Rattle.book_trees.specs.Copies.{BeginsAs}
-use Rattle.book_trees.proofs.CopyLemmas.{copied_more, first_more, read_twice, same_length}
-use Rattle.book_trees.proofs.CopyLemmas.{second_more, so_at_err}
-use Rattle.tree_rows.proofs.Failing.{more_since}
+use Rattle.book_trees.proofs.CopyLemmas.{copied_more, read_twice, same_length}
 use Rattle.book_trees.proofs.copying.copy_bytes.Goals as goal
 
 pub loop-done-preserved : goal.loop-done-preserved
@@ -39,24 +37,3 @@ loop-done-preserved g c =
           c.write_at.ensures.others inside (held.6 (c.read_at.ensures.clean clean))),
       omega (arith, held.7, c.in_ok-read_at.ensures.faults, c.in_ok-write_at.ensures.faults),
     )
-
--- a read within the file that fails is counted
-pub returns-in_err-read_at-clause-cause : goal.returns-in_err-read_at-clause-cause
-returns-in_err-read_at-clause-cause g c =
-    let held = c.loop-done.invariant in
-    let more = c.in_err-read_at.ensures.faults.0 (λ clean.
-    let whole = c.requires.whole (held.0.clean clean) in
-    let same = ap length held.0.seen in
-    grind (arith, common_steps, whole, same)) in
-    so_at_err _ c.from_residual.result (more_since _ _ _ held.7
-    (first_more (g.A.Disk.faults c.loop-done.from) (g.B.Disk.faults c.loop-done.to)
-    (g.A.Disk.faults c.read_at.new.self) (g.B.Disk.faults c.loop-done.to) more (omega arith)))
-
-pub returns-in_err-write_at-clause-cause : goal.returns-in_err-write_at-clause-cause
-returns-in_err-write_at-clause-cause g c =
-    let same = c.in_ok-read_at.ensures.faults in
-    so_at_err _ c.from_residual-in_err-write_at.result
-    (more_since _ _ _ c.loop-done.invariant.7
-    (second_more (g.A.Disk.faults c.loop-done.from) (g.B.Disk.faults c.loop-done.to)
-    (g.A.Disk.faults c.read_at.new.self) (g.B.Disk.faults c.write_at.new.self)
-    (omega (arith, same)) c.in_err-write_at.ensures.faults.0))

@@ -1,18 +1,14 @@
 use Rattle.std.proofs.Common.{◌≡◌, ◌+◌, arith, subst, sym}
-use Rattle.std.specs.IoError.{error_kind}
 use Rattle.sqlite_disk.specs.contracts.modelled.ModelledDisk.TheImpl as modelled
 use Rattle.sqlite_std_file.specs.contracts.host.Host.{the_row}
 use Rattle.sqlite_std_file.specs.contracts.host.HostCalls.TheImpl as host
 use Rattle.sqlite_store.specs.FileStore.{view}
 use Rattle.sqlite_wal.specs.Recovery.{Image}
-use Rattle.book_trees.proofs.CopyLemmas.{copied_image, stops_since}
-use Rattle.book_trees.proofs.LookCauses.{copy_cause, look_cause_for}
+use Rattle.book_trees.proofs.CopyLemmas.{copied_image}
+use Rattle.book_trees.proofs.LookCauses.{look_cause_for}
 use Rattle.book_trees.specs.Forms.{HoldsThisForm}
 use Rattle.book_trees.specs.LedgerFiles.{image_of, HoldsBooks, trees_held}
-use Rattle.book_trees.specs.Looks.{HasLookCause}
 use Rattle.book_trees.specs.Refusals.{faults_in, AreFull}
-use Rattle.book_trees.specs.declared.faults.OpenFault.{OpenFault}
-use Rattle.book_trees.specs.declared.integrity.LookFault.TheVariants.{Open}
 use Rattle.book_trees.proofs.copying.copy_to.Goals as goal
 
 pub returns-in-Ok-look_through-clause-found : goal.returns-in-Ok-look_through-clause-found
@@ -22,21 +18,6 @@ returns-in-Ok-look_through-clause-found g c clean honest =
     (copied_image c.args.from.now c.copy_files.new.from c.copy_files.new.to
     c.copy_files.ensures.read c.in-Ok-copy_files.ensures.copied honest)
     (c.in-Ok-look_through.ensures.found clean)
-
-pub returns-in-Err-copy_files-clause-cause : goal.returns-in-Err-copy_files-clause-cause
-returns-in-Err-copy_files-clause-cause g c = λ honest clean.
-    let disk = modelled.ghosts the_row g.row.T host.ghosts host.dict g.T.Start g.T.Start-dict
-    g.T.Destruct-dict in
-    let first = faults_in g.D.Disk c.args.from.now in
-    let last = faults_in g.D.Disk c.copy_files.new.from in
-    let copy = c.copy_files.new.to in
-    let Held = HoldsThisForm (image_of g.D.Disk c.args.from.now) in
-    subst (λ (fault : OpenFault). HasLookCause first (last + faults_in disk copy) (AreFull disk copy)
-    Held (Open fault)) (sym c.copy_fault.ensures)
-    (copy_cause first (last + faults_in disk copy) (AreFull disk copy) Held
-    (error_kind c.in-Err-copy_files.error)
-    (stops_since first _ _ (omega arith) c.in-Err-copy_files.error
-    c.in-Err-copy_files.ensures.cause))
 
 pub returns-in-Err-look_through-clause-cause : goal.returns-in-Err-look_through-clause-cause
 returns-in-Err-look_through-clause-cause g c = λ honest clean.

@@ -4,19 +4,13 @@ use Rattle.sqlite_store.specs.Unopened.{state_of, image, HasFileAs, IsFullFile}
 use Rattle.sqlite_trees.proofs.Doubt.{clean_of}
 use Rattle.book_trees.proofs.FirstCauses.{first_cause_of, first_since}
 use Rattle.book_trees.proofs.Opened.{held_first_listed, held_first_only, held_ours, opens_twice}
-use Rattle.book_trees.proofs.Opened.{shows_held, unread_refused}
+use Rattle.book_trees.proofs.Opened.{shows_held}
 use Rattle.book_trees.proofs.Refused.{unlisted_refused}
 use Rattle.book_trees.proofs.Trees.{has_first_trees}
 use Rattle.book_trees.specs.FirstForm.{first_fault_for, HasFirstCause, HoldsFirstForm}
 use Rattle.book_trees.specs.Listing.{lists_books, lists_first_books}
 use Rattle.book_trees.specs.declared.first_form.FirstFault.{FirstFault}
 use Rattle.book_trees.proofs.first_form.open_first.Goals as goal
-
-pub returns-in-Err-clause-cause : goal.returns-in-Err-clause-cause
-returns-in-Err-clause-cause g c clean =
-    unread_refused c.args.files c.read_catalog.new.self (HoldsFirstForm (image c.args.files))
-    c.requires.size (λ first. first.held) c.in-Err.error (c.in-Err.ensures.cause clean) _
-    c.fault_of.ensures
 
 -- files of the first form do not list the tables of this one
 pub returns-then-lists_books-clause-cause : goal.returns-then-lists_books-clause-cause

@@ -5,19 +5,12 @@ use Rattle.sqlite_store.specs.Unopened.{state_of, image, HasFile, IsFullFile}
 use Rattle.book_trees.proofs.LookCauses.{look_cause_of, look_since}
 use Rattle.book_trees.proofs.Opened.{committed_listed, found_old, held_file, held_listed, is_open}
 use Rattle.book_trees.proofs.Opened.{opens_twice, rows_are, shows_held, sound_tables}
-use Rattle.book_trees.proofs.Opened.{unread_refused}
 use Rattle.book_trees.proofs.Refused.{unlisted_refused}
 use Rattle.book_trees.specs.LedgerFiles.{page_size, HoldsBooks}
 use Rattle.book_trees.specs.Listing.{lists_books}
 use Rattle.book_trees.specs.Looks.{HasLookCause}
 use Rattle.book_trees.specs.declared.integrity.LookFault.{LookFault}
 use Rattle.book_trees.proofs.integrity.look_through_all.Goals as goal
-
-pub returns-in-Err-clause-cause : goal.returns-in-Err-clause-cause
-returns-in-Err-clause-cause g c clean =
-    unread_refused c.args.files c.read_catalog.new.self (HoldsBooks (image c.args.files))
-    c.requires.size (λ held. held) c.in-Err.error (c.in-Err.ensures.cause clean) _
-    c.fault_of.ensures
 
 pub returns-then-not-lists_books-clause-cause : goal.returns-then-not-lists_books-clause-cause
 returns-then-not-lists_books-clause-cause g c clean =

@@ -2,7 +2,7 @@ use Rattle.std.proofs.Common.{◌≡◌, true, sym, ap, ◌∙◌, subst}
 use Rattle.sqlite_store.specs.FileStore.{state}
 use Rattle.sqlite_store.specs.Unopened.{state_of, image, IsFullFile}
 use Rattle.book_trees.proofs.Opened.{committed_listed, found_old, has_file, held_listed, is_open}
-use Rattle.book_trees.proofs.Opened.{opens_twice, rows_are, shows_held, shows_tables, unread_refused}
+use Rattle.book_trees.proofs.Opened.{opens_twice, rows_are, shows_held, shows_tables}
 use Rattle.book_trees.proofs.Refused.{cause_of, cause_since, unlisted_refused}
 use Rattle.book_trees.specs.LedgerFiles.{page_size, HoldsBooks}
 use Rattle.book_trees.specs.Listing.{lists_books}
@@ -111,9 +111,3 @@ returns-clause-cause g c clean =
     (cause_since (state_of c.args.files).faults (state_of mid).faults (state_of end).faults
     (IsFullFile end) (HoldsBooks (image c.args.files)) (c.read_catalog.ensures.kept then).counts
     _ why)
-
-pub returns-in-Err-clause-cause : goal.returns-in-Err-clause-cause
-returns-in-Err-clause-cause g c clean =
-    unread_refused c.args.files c.read_catalog.new.self (HoldsBooks (image c.args.files))
-    c.requires.size (λ held. held) c.in-Err.error (c.in-Err.ensures.cause clean) _
-    c.fault_of.ensures

@@ -20,12 +20,6 @@ returns-in-Ok-clause-trees g c trees clean =
     trees_reopened (view c.args.store.now) trees c.crash_and_reopen.new.self c.in-Ok.ensures.fresh
     (c.in-Ok.ensures.fresh.sound clean)
 
-pub returns-in-Ok-clause-shape : goal.returns-in-Ok-clause-shape
-returns-in-Ok-clause-shape g c trees = c.crash_and_reopen.ensures.shape (sym trees.committed)
-
-pub returns-in-Err-clause-shape : goal.returns-in-Err-clause-shape
-returns-in-Err-clause-shape g c trees = c.crash_and_reopen.ensures.shape (sym trees.committed)
-
 pub returns-in-Ok-clause-is_open : goal.returns-in-Ok-clause-is_open
 returns-in-Ok-clause-is_open g c clean =
     sound_is_open c.crash_and_reopen.new.self _ refl (c.in-Ok.ensures.fresh.sound clean)

@@ -11,13 +11,6 @@ use Rattle.command_line.proofs.EnteredLemmas.{words_of_command}
 use Rattle.command_line.proofs.ReadLemmas.{read_ok, read_err}
 use Rattle.command_line.proofs.command_line.requested_by.Goals as goal
 
-pub returns-in_default : goal.returns-in_default
-returns-in_default c = record {
-  table = c.all_commands.result.now;
-  is = c.all_commands.ensures.is;
-  read = tt;
-}
-
 pub returns-in-Ok-try_get_matches_from : goal.returns-in-Ok-try_get_matches_from
 returns-in-Ok-try_get_matches_from c =
     let table = c.all_commands.result.now in

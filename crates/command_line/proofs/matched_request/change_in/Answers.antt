@@ -1,13 +1,9 @@
-use Rattle.std.proofs.Common.{inl, refl, subst, sym}
+use Rattle.std.proofs.Common.{refl, subst, sym}
 use Rattle.std.specs.Prelude.{IfSome}
 use Rattle.command_line.specs.Given.{HasWordsOf}
 use Rattle.command_line.specs.Known.{known_table}
-use Rattle.command_line.specs.Requests.{IsOfBooks, IsOfCommand, rows_in}
+use Rattle.command_line.specs.Requests.{IsOfBooks, rows_in}
 use Rattle.command_line.proofs.matched_request.change_in.Goals as goal
-
-pub returns-in-init-clause-request : goal.returns-in-init-clause-request
-returns-in-init-clause-request c =
-    c.at_once_in.ensures.request c.args.name.now (inl c.in-init.is) c.in-init.is
 
 pub returns-in-init-clause-some : goal.returns-in-init-clause-some
 unfolding known_table
@@ -58,11 +54,6 @@ returns-in-close-clause-some c =
     c.of_books_in-in-close.ensures.some words.0 words.1.1.1.1.0
     (c.close_in.ensures.some words.1.0 words.1.1.0 words.1.1.1.0)
 
-pub returns-in-choose-clause-request : goal.returns-in-choose-clause-request
-returns-in-choose-clause-request c =
-    subst (λ n. IfSome c.choice_in.result (IsOfCommand n (rows_in c.args.found.now)))
-    (sym c.in-choose.is) c.choice_in.ensures.request
-
 pub returns-in-choose-clause-some : goal.returns-in-choose-clause-some
 unfolding known_table
 returns-in-choose-clause-some c =
@@ -81,27 +72,3 @@ returns-in-adopt-clause-some c =
     λ has others.
     let words = subst (λ n. HasWordsOf n (rows_in c.args.found.now)) c.in-adopt.is has in
     c.of_books_in-in-adopt.ensures.some words.0 words.1.1.0 (c.ruling_in.ensures.some words.1.0)
-
-pub returns-in_default-clause-some : goal.returns-in_default-clause-some
-returns-in_default-clause-some c =
-    let at = c.in_default in
-    λ has others.
-    c.service_in.ensures.some has (
-      others.0,
-      (
-        others.1.0,
-        (
-          others.1.1.0,
-          (
-            at.not-init,
-            (
-              at.not-tariff,
-              (
-                at.not-import,
-                (at.not-close, (at.not-choose, (at.not-adopt, tt))),
-              ),
-            ),
-          ),
-        ),
-      ),
-    )

@@ -24,8 +24,3 @@ returns-in-explain-clause-some c =
     λ has.
     let words = subst (λ n. HasWordsOf n (rows_in c.args.found.now)) c.in-explain.is has in
     c.explain_in.ensures.some words.0 words.1.0
-
-pub returns-in_default-clause-some : goal.returns-in_default-clause-some
-returns-in_default-clause-some c =
-    λ has. c.change_in.ensures.some has
-    (c.in_default.not-trial, (c.in_default.not-check, (c.in_default.not-explain, tt)))

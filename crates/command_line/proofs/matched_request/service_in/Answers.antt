@@ -93,9 +93,3 @@ returns-in-serve-clause-some c =
     λ has others.
     let words = subst (λ n. HasWordsOf n (rows_in c.args.found.now)) c.in-serve.is has in
     c.at_once_in.ensures.some words.0 (c.serve_in.ensures.some words.1.0 words.1.1.0)
-
-pub returns-in_default-clause-some : goal.returns-in_default-clause-some
-returns-in_default-clause-some c =
-    let at = c.in_default in
-    λ has others.
-    c.list_in.ensures.some has (assumption (others, at))

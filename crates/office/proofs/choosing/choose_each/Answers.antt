@@ -1,5 +1,4 @@
-use Rattle.std.proofs.Common.{[], None, arith, rules, subst, take_all}
-use Rattle.book_core.specs.Transition.{IsTransition}
+use Rattle.std.proofs.Common.{[], None, arith, rules}
 use Rattle.book_core.proofs.TransitionLemmas.{no_work, work_as}
 use Rattle.office.specs.Choices.{ChoosesEach}
 use Rattle.office.proofs.ChoiceLemmas.{choice_kept, choice_refused, none_chosen}
@@ -35,17 +34,5 @@ returns-in-Err g c =
           c.loop-name.name-index _ c.in-Err.fault c.loop-name-test.true c.loop-name.invariant.chosen
           c.in-Err.ensures.work;
       few = omega (arith, c.loop-name.invariant.count, c.loop-name-test.true);
-      none = tt;
-    }
-
-pub returns : goal.returns
-returns g c =
-    let old = g.L.Ledger.seen c.args.ledger.now in
-    record {
-      chosen = subst (λ names. IsTransition old (g.L.Ledger.seen c.loop-name.ledger)
-          (ChoosesEach old.naming names c.loop-name.answers.items None))
-          (take_all c.loop-name.name-index c.args.names.now c.loop-name-test.false)
-          c.loop-name.invariant.chosen;
-      few = omega (arith, c.loop-name.invariant.count, c.loop-name.auto.name-index-end);
       none = tt;
     }

@@ -1,22 +1,11 @@
-use Rattle.std.proofs.Common.{arith, []}
-use Rattle.std.proofs.KnownBytes.{Appends-nil}
+use Rattle.std.proofs.Common.{arith}
 use Rattle.std.proofs.lemmas.Result.{err_from_is_err_and}
 use Rattle.streams.specs.Sinks.{writer_of}
-use Rattle.book_import.proofs.FeedLemmas.{goes_nowhere, shorter, goes_on, all_done, takes_all}
+use Rattle.book_import.proofs.FeedLemmas.{shorter, goes_on, all_done, takes_all}
 use Rattle.book_import.proofs.FeedLemmas.{breaks, broken_done}
 use Rattle.program_output.proofs.ListingLemmas.{listed_more, grows_on}
 use Rattle.program_output.proofs.PieceLemmas.{come_cut}
 use Rattle.program_output.proofs.check.list_records.Goals as goal
-
-pub loop-fault-init : goal.loop-fault-init
-loop-fault-init g c = record {
-  goes = goes_nowhere c.args.joiner.now c.args.piece.now _ c.requires.none
-      (λ records held listed. listed);
-  few = omega arith;
-  room = c.requires.room;
-  grown = ([], Appends-nil _);
-  unwritten = c.requires.unwritten;
-}
 
 pub returns-in-Err-clause-listed : goal.returns-in-Err-clause-listed
 returns-in-Err-clause-listed g c = λ text held stood.
@@ -43,22 +32,11 @@ returns-in_err-push_line-clause-listed g c =
     (g.W.Write.contents (writer_of c.push_line.new.sink)) c.in-Some.bytes.now wrote.0 failed.0
     c.loop-fault.invariant.goes c.in-Ok.ensures c.in-Some.ensures.exact wrote.1)
 
-pub returns-in-Err-clause-grown : goal.returns-in-Err-clause-grown
-returns-in-Err-clause-grown g c = c.loop-fault.invariant.grown
-
-pub returns-in_default-clause-grown : goal.returns-in_default-clause-grown
-returns-in_default-clause-grown g c = c.loop-fault.invariant.grown
-
 pub returns-in_err-push_line-clause-grown : goal.returns-in_err-push_line-clause-grown
 returns-in_err-push_line-clause-grown g c =
     let wrote = c.in_err-push_line.ensures.written in
     grows_on _ _ (g.W.Write.contents (writer_of c.push_line.new.sink))
     c.loop-fault.invariant.grown (wrote.1.first, wrote.1.grown)
-
-pub loop-fault-smaller : goal.loop-fault-smaller
-loop-fault-smaller g c =
-    shorter c.loop-fault.invariant.goes c.in-Ok.ensures c.in-Some.ensures.exact
-    c.split_at.ensures.back c.requires.stands
 
 pub loop-fault-preserved : goal.loop-fault-preserved
 loop-fault-preserved g c =

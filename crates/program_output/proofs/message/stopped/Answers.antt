@@ -5,6 +5,3 @@ returns-in-Frame-clause-said g c =
     rw c.in-Frame.is
     (rw (c.as_str.ensures.value, c.numbered-message.ensures.bytes, c.number.ensures) at
     c.say_line.ensures)
-
-pub returns-in-Ledger-clause-said : goal.returns-in-Ledger-clause-said
-returns-in-Ledger-clause-said g c = rw c.in-Ledger.is c.ledger_refused.ensures.said

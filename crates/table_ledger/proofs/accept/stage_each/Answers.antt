@@ -1,25 +1,11 @@
 use Rattle.std.proofs.Common.{drop, ◌≡◌, ◌∙◌, ◌++◌, ◌∷◌, [], ◌+◌, refl, sym, ap, subst, length, length-append}
 use Rattle.tree_tables.specs.States.{state}
-use Rattle.table_ledger.proofs.SurvivalLemmas.{survives_none, survives_then}
+use Rattle.table_ledger.proofs.SurvivalLemmas.{survives_then}
 use Rattle.book_core.specs.Submissions.{records_in}
 use Rattle.table_model.specs.Steps.{set_sums}
-use Rattle.table_ledger.proofs.ManyLemmas.{AreTaken, all_taken, none_taken, step_failed}
+use Rattle.table_ledger.proofs.ManyLemmas.{AreTaken, all_taken, step_failed}
 use Rattle.table_ledger.proofs.ManyLemmas.{step_refused, step_taken, step_untold}
 use Rattle.table_ledger.proofs.accept.stage_each.Goals as goal
-
-pub loop-one-init : goal.loop-one-init
-loop-one-init g c = record {
-  ruled = record { rulings = refl; choices = refl };
-  survives = survives_none;
-  count = ap length c.requires.none;
-  taken = λ clean book at.
-      let records = records_in c.args.records.now in
-      let view = g.S.Store.view c.args.tables.now.store in
-      let sums = c.args.summary.now in
-      subst (λ answers. AreTaken (set_sums sums.held sums.total)
-      (g.N.Naming.name_of c.args.naming.now) records records
-      c.args.summary.now view view book answers) (sym c.requires.none) (none_taken at);
-}
 
 pub loop-one-preserved : goal.loop-one-preserved
 loop-one-preserved g c =

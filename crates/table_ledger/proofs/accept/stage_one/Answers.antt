@@ -1,13 +1,8 @@
 use Rattle.std.proofs.Common.{refl}
 use Rattle.table_ledger.proofs.AcceptTries.{price_is, saw_as, stage_full, stage_kept, stage_known}
 use Rattle.table_ledger.proofs.AcceptTries.{stage_unpriced}
-use Rattle.table_ledger.proofs.StageLemmas.{stage_refused, stage_undone}
-use Rattle.table_ledger.proofs.TryLemmas.{saw_none}
+use Rattle.table_ledger.proofs.StageLemmas.{stage_undone}
 use Rattle.table_ledger.proofs.accept.stage_one.Goals as goal
-
-pub returns-in_err-stored-clause-stages : goal.returns-in_err-stored-clause-stages
-returns-in_err-stored-clause-stages g c =
-    λ held amount. stage_refused _ c.from_residual.ensures.0 saw_none c.in_err-stored.ensures.looks
 
 pub returns-in-Some-clause-stages : goal.returns-in-Some-clause-stages
 returns-in-Some-clause-stages g c =

@@ -1,4 +1,4 @@
-use Rattle.std.proofs.Common.{◌≡◌, ◌∙◌, ap, sym, true, false, refl}
+use Rattle.std.proofs.Common.{◌≡◌, ◌∙◌, ap, sym, true, false}
 use Rattle.std.specs.Prelude.{List}
 use Rattle.table_model.specs.PeriodLists.{lines_read}
 use Rattle.table_model.specs.ListsRead.{is_period}
@@ -7,34 +7,12 @@ use Rattle.tree_tables.specs.declared.line_rows.StoredLine.{StoredLine}
 use Rattle.table_ledger.specs.LineReads.{lines_stored}
 use Rattle.book_core.specs.OfficeRulings.{ruled_in}
 use Rattle.table_ledger.proofs.LineReadings.{lines_listed}
-use Rattle.table_ledger.proofs.ListReadings.{no_period, period_read}
-use Rattle.table_ledger.proofs.TryLemmas.{saw_found, saw_none, saw_then, try_refused, try_stopped}
+use Rattle.table_ledger.proofs.ListReadings.{period_read}
+use Rattle.table_ledger.proofs.TryLemmas.{saw_found, saw_none, saw_then}
 use Rattle.table_model.specs.TablesOf.{tables_of}
 use Rattle.table_ledger.proofs.OwnBooks.{own_failed}
 use Rattle.table_ledger.proofs.BookLists.{own_lines, own_records, own_rise, own_shown}
 use Rattle.table_ledger.proofs.adjustments.try_adjustments.Goals as goal
-
-pub returns-then-not-has_period-clause-tries : goal.returns-then-not-has_period-clause-tries
-returns-then-not-has_period-clause-tries g c = λ naming.
-    let number = c.args.period in
-    let absent : is_period number (ruled_in c.args.summary.now.rulings) ≡ false =
-    sym c.has_period.ensures ∙ c.if-not-has_period.true in
-    no_period number (lines_read number)
-    (λ book whole. lists_follow.adjustments naming book number whole) absent
-
-pub returns-in_err-found-clause-tries : goal.returns-in_err-found-clause-tries
-returns-in_err-found-clause-tries g c = λ naming.
-    try_refused _ c.from_residual.ensures.0 saw_none c.in_err-found.ensures.looks
-
-pub returns-in_err-lines-clause-tries : goal.returns-in_err-lines-clause-tries
-returns-in_err-lines-clause-tries g c = λ naming.
-    try_refused _ c.from_residual-in_err-lines.ensures.0
-    (saw_found c.in_ok-found.ensures.looks) c.in_err-lines.ensures.looks
-
-pub returns-in_default-clause-tries : goal.returns-in_default-clause-tries
-returns-in_default-clause-tries g c = λ naming.
-    try_stopped _ refl (saw_then (saw_found c.in_ok-found.ensures.looks)
-    (saw_found c.in_ok-lines.ensures.looks)) (λ book same. same)
 
 pub returns-clause-tries : goal.returns-clause-tries
 returns-clause-tries g c = λ naming.

@@ -1,11 +1,8 @@
-use Rattle.std.proofs.Common.{Err, refl}
-use Rattle.sqlite_trees.specs.declared.error.StoreError.TheVariants.{Corrupt}
 use Rattle.table_model.specs.Views.{is_due_in}
 use Rattle.tree_tables.specs.States.{state}
 use Rattle.tree_tables.proofs.WalkNames.{next_stands}
 use Rattle.table_ledger.proofs.KeptNames.{settle_keeps}
 use Rattle.table_ledger.proofs.DueCharges.{settles_still, still_first, still_next}
-use Rattle.table_ledger.proofs.Walks.{walks_blind, walks_fail, walks_no_more, walks_still}
 use Rattle.table_ledger.proofs.WalksOf.{of_all, of_none, of_on}
 use Rattle.table_ledger.proofs.adoption.charge_all_due.Goals as goal
 
@@ -13,23 +10,10 @@ pub records-init : goal.records-init
 records-init g c =
     of_none (state g.S.Store c.args.tables.now.store) (still_first c.args.chosen.now)
 
--- the next record is not found, because the store failed
-pub returns-in_err-stored : goal.returns-in_err-stored
-returns-in_err-stored g c = record {
-  does = walks_blind c.records.invariant _ c.from_residual.ensures.0 c.in_err-stored.ensures.looks;
-}
-
 -- none is left
 pub returns-in_default : goal.returns-in_default
 returns-in_default g c = record {
   does = of_all c.records.invariant (rw c.in_default.is at c.in_ok-stored.ensures.looks);
-}
-
--- its step failed
-pub returns-in_err-charge_due_record : goal.returns-in_err-charge_due_record
-returns-in_err-charge_due_record g c = record {
-  does = walks_fail (walks_still c.records.invariant c.in_ok-stored.ensures.looks) _
-      c.from_residual-in_err-charge_due_record.ensures.0 c.in_err-charge_due_record.ensures.does;
 }
 
 -- its step is done
@@ -46,7 +30,3 @@ records-preserved g c =
       settles_still period through chosen tables now stored.name still,
     ))
     (λ tables now still. still_next period through chosen tables now stored.name still)
-
--- there are too many
-pub returns : goal.returns
-returns g c = record { does = walks_no_more c.records.invariant (Err Corrupt) refl }

@@ -1,24 +1,9 @@
-use Rattle.std.proofs.Common.{◌∙◌, Some, ap, refl, sym}
-use Rattle.book_model.specs.Words.{RulingGiven, SecondRuleAdopted, adopt_answer, if_done}
-use Rattle.book_core.specs.OfficeRulings.{ruled_in}
-use Rattle.table_ledger.proofs.AdoptTries.{adopt_is_event, adopt_plain}
-use Rattle.table_ledger.proofs.Answering.{ruled_other}
+use Rattle.std.proofs.Common.{◌∙◌, refl, sym}
+use Rattle.table_ledger.proofs.AdoptTries.{adopt_is_event}
 use Rattle.table_ledger.proofs.CommitLemmas.{committed, uncommitted}
 use Rattle.table_ledger.proofs.StageLemmas.{stage_steps}
 use Rattle.table_ledger.proofs.TryLemmas.{saw_none}
 use Rattle.table_ledger.proofs.adoption.try_adopt.Goals as goal
-
--- the answer is not Done
-pub returns-then-not-is_done : goal.returns-then-not-is_done
-returns-then-not-is_done g c = record {
-  tries =
-      λ naming.
-      ruled_other _ c.adopt_answer-answer.ensures
-      (adopt_plain (ruled_in c.args.summary.now.rulings) c.args.rule)
-      (c.is_done.ensures.other c.if-not-is_done.true) saw_none
-      (λ book at known. ap (λ rulings. adopt_answer rulings c.args.rule) (sym at.remembers.rulings))
-      (λ book already. ap (if_done (Some (RulingGiven SecondRuleAdopted))) already);
-}
 
 -- the commit is refused
 pub returns-in_err-commit_written : goal.returns-in_err-commit_written

@@ -1,31 +1,15 @@
-use Rattle.std.proofs.Common.{◌≡◌, ◌∙◌, sym, subst, true, false, refl}
+use Rattle.std.proofs.Common.{◌≡◌, ◌∙◌, sym, subst, true, false}
 use Rattle.book_model.specs.Words.{AreRows}
 use Rattle.table_model.specs.PeriodLists.{rows_read}
 use Rattle.table_model.specs.TablesOf.{tables_of}
 use Rattle.table_model.specs.ListsRead.{is_period}
 use Rattle.table_model.proofs.ListLemmas.{lists_follow}
 use Rattle.book_core.specs.OfficeRulings.{ruled_in}
-use Rattle.table_ledger.proofs.ListReadings.{no_period, period_read}
+use Rattle.table_ledger.proofs.ListReadings.{period_read}
 use Rattle.table_ledger.proofs.BookLists.{own_days, own_rows}
 use Rattle.table_ledger.proofs.OwnBooks.{own_failed}
-use Rattle.table_ledger.proofs.TryLemmas.{saw_found, saw_none, try_refused, try_stopped}
+use Rattle.table_ledger.proofs.TryLemmas.{saw_found, saw_none}
 use Rattle.table_ledger.proofs.charges.try_charges.Goals as goal
-
-pub returns-then-not-has_period-clause-tries : goal.returns-then-not-has_period-clause-tries
-returns-then-not-has_period-clause-tries g c = λ naming.
-    let number = c.args.period in
-    let absent : is_period number (ruled_in c.args.summary.now.rulings) ≡ false =
-    sym c.has_period.ensures ∙ c.if-not-has_period.true in
-    no_period number (λ tables. rows_read number tables.days)
-    (λ book whole. lists_follow.charges naming book number whole) absent
-
-pub returns-in_err-rows-clause-tries : goal.returns-in_err-rows-clause-tries
-returns-in_err-rows-clause-tries g c = λ naming.
-    try_refused _ c.from_residual.ensures.0 saw_none c.in_err-rows.ensures.looks
-
-pub returns-then-not-can_show-clause-tries : goal.returns-then-not-can_show-clause-tries
-returns-then-not-can_show-clause-tries g c = λ naming.
-    try_stopped _ refl (saw_found c.in_ok-rows.ensures.looks) (λ book same. same)
 
 pub returns-clause-tries : goal.returns-clause-tries
 returns-clause-tries g c = λ naming.

@@ -7,15 +7,7 @@ use Rattle.table_ledger.proofs.Answering.{opens, ruled_other}
 use Rattle.table_ledger.proofs.ChoiceTries.{choice_plain, choose_none, choose_staged, choose_told}
 use Rattle.table_ledger.proofs.ChoiceTries.{saw_shared}
 use Rattle.table_ledger.proofs.CommitLemmas.{committed, uncommitted}
-use Rattle.table_ledger.proofs.TryLemmas.{saw_found, saw_none, try_refused}
 use Rattle.table_ledger.proofs.choices.try_choose.Goals as goal
-
--- the record was not looked for
-pub returns-in_err-stored : goal.returns-in_err-stored
-returns-in_err-stored g c = record {
-  tries =
-      λ naming. try_refused _ c.from_residual.ensures.0 saw_none c.in_err-stored.ensures.looks;
-}
 
 -- there is none
 pub returns-in_default : goal.returns-in_default
@@ -27,14 +19,6 @@ returns-in_default g c = record {
       (saw_as name c.in_default.is c.in_ok-stored.ensures.looks)
       (λ book at known. choose_none naming c.args.summary.now name _ book at known)
       (λ book already. ap (if_done (meant_by (record_named naming book.held name))) already);
-}
-
--- the records of its identity were not looked for
-pub returns-in_err-sharing : goal.returns-in_err-sharing
-returns-in_err-sharing g c = record {
-  tries =
-      λ naming. try_refused _ c.from_residual-in_err-sharing.ensures.0
-      (saw_found c.in_ok-stored.ensures.looks) c.in_err-sharing.ensures.looks;
 }
 
 -- the answer is not Done
@@ -53,16 +37,6 @@ returns-then-not-is_done g c = record {
       (λ book at known. choose_told naming summary name _ book at stored known.0
       c.in_ok-sharing.sharing.items (c.len.ensures ∙ c.in_ok-sharing.sharing.ok.0) known.1)
       (λ book already. ap (if_done (meant_by (record_named naming book.held name))) already);
-}
-
--- what it changes was not looked up
-pub returns-in_err-effects : goal.returns-in_err-effects
-returns-in_err-effects g c = record {
-  tries =
-      λ naming. try_refused _ c.from_residual-in_err-effects.ensures.0
-      (saw_shared c.args.name c.in-Some.stored c.in-Some.is c.deref.ensures.value
-      c.in_ok-stored.ensures.looks c.in_ok-sharing.ensures.looks)
-      c.in_err-effects.ensures.looks;
 }
 
 -- the commit is refused

@@ -9,7 +9,6 @@ use Rattle.tree_tables.specs.States.{state}
 use Rattle.tree_tables.specs.Steps.{Does}
 use Rattle.table_ledger.specs.Premises.{IsNext}
 use Rattle.table_ledger.proofs.StepLemmas.{does_then}
-use Rattle.table_ledger.proofs.Refusals.{does_failed, does_failed_next}
 use Rattle.table_ledger.proofs.choices.write_choice.Goals as goal
 
 -- effects leave the choices alone
@@ -34,12 +33,3 @@ returns g c =
       ap (λ (choices : ChoiceTable). get choices choice.number)
           (same_choices choice.period choice.effects.withdrawn tables) ∙ next,
     ))
-
-pub returns-in_err-withdraw : goal.returns-in_err-withdraw
-returns-in_err-withdraw g c =
-    does_failed _ c.from_residual.ensures.0 c.in_err-withdraw.ensures.does
-
-pub returns-in_err-charge : goal.returns-in_err-charge
-returns-in_err-charge g c =
-    does_failed_next _ c.from_residual-in_err-charge.ensures.0
-    c.in_ok-withdraw.ensures.does c.in_err-charge.ensures.does

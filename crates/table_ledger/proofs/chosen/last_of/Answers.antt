@@ -5,7 +5,6 @@ use Rattle.tree_tables.specs.declared.choice_rows.StoredChoice.{StoredChoice}
 use Rattle.table_ledger.specs.Adoptions.{IsLastOf}
 use Rattle.table_ledger.proofs.DueCharges.{last_more}
 use Rattle.table_ledger.proofs.TryLemmas.{looks_known, saw_found, saw_so, saw_then}
-use Rattle.table_ledger.proofs.Refusals.{looks_failed_next}
 use Rattle.table_ledger.proofs.chosen.last_of.Goals as goal
 
 -- the names of choices
@@ -37,11 +36,4 @@ returns g c = record {
       subst (λ (some : List StoredChoice). IsLastOf (names some) tables.records
       c.loop-choice.chosen)
       (take_all c.loop-choice.choice-index c.args.choices.now c.loop-choice-test.false) known);
-}
-
-pub returns-in_err-join : goal.returns-in_err-join
-returns-in_err-join g c = record {
-  looks =
-      looks_failed_next _ c.from_residual.ensures.0
-      c.loop-choice.invariant.saw c.in_err-join.ensures.looks;
 }

@@ -3,7 +3,6 @@ use Rattle.tree_tables.specs.declared.choice_rows.StoredChoice.{StoredChoice}
 use Rattle.tree_tables.proofs.Looking.{looks_after_look}
 use Rattle.table_ledger.specs.Adoptions.{IsLastOf}
 use Rattle.table_ledger.proofs.DueCharges.{last_listed}
-use Rattle.table_ledger.proofs.Refusals.{looks_failed}
 use Rattle.table_ledger.proofs.chosen.look_for_chosen.Goals as goal
 
 -- the last of all choices that were listed
@@ -15,9 +14,4 @@ returns g c = record {
       (subst (λ (list : List StoredChoice).
       IsLastOf (map (λ (choice : StoredChoice). choice.name) list) tables.records chosen)
       c.deref.ensures.value lasts));
-}
-
-pub returns-in_err-choices : goal.returns-in_err-choices
-returns-in_err-choices g c = record {
-  looks = looks_failed _ c.from_residual.ensures.0 c.in_err-choices.ensures.looks;
 }

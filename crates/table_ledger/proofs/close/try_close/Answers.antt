@@ -6,7 +6,7 @@ use Rattle.table_ledger.proofs.CloseTries.{close_is_event, close_plain}
 use Rattle.table_ledger.proofs.CommitLemmas.{committed, uncommitted}
 use Rattle.table_ledger.proofs.Remembered.{remembers_same}
 use Rattle.table_ledger.proofs.StageLemmas.{stage_steps}
-use Rattle.table_ledger.proofs.TryLemmas.{saw_none, try_stopped}
+use Rattle.table_ledger.proofs.TryLemmas.{saw_none}
 use Rattle.book_model.proofs.DayLemmas.{day_kept}
 use Rattle.table_ledger.proofs.close.try_close.Goals as goal
 
@@ -21,12 +21,6 @@ returns-then-not-is_done g c = record {
       (λ book at known.
       ap (λ rulings. close_answer rulings close.period close.through) (sym at.remembers.rulings))
       (λ book already. ap (if_done (Some (PeriodClosed close.through))) already);
-}
-
-pub returns-in_err-reserve_close : goal.returns-in_err-reserve_close
-returns-in_err-reserve_close g c = record {
-  tries = λ naming. try_stopped _ c.from_residual.ensures.0 saw_none
-      (remembers_same c.in_err-reserve_close.ensures.same refl refl refl);
 }
 
 pub returns-in_err-commit_written : goal.returns-in_err-commit_written

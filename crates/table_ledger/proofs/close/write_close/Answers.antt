@@ -1,6 +1,5 @@
 use Rattle.table_ledger.specs.Posting.{CanClose}
 use Rattle.table_ledger.proofs.StepLemmas.{does_then}
-use Rattle.table_ledger.proofs.Refusals.{does_failed, does_failed_next}
 use Rattle.table_model.specs.PostedLaws.{PostsTouched}
 use Rattle.tree_tables.specs.Days.{NoneNext}
 use Rattle.table_ledger.proofs.close.write_close.Goals as goal
@@ -15,12 +14,3 @@ returns g c =
     c.move_days.result c.in_ok-post_charged.ensures c.move_days.ensures.does
     (λ tables can. (can.1, can.0)))
     (λ tables can. (tt, (can.none_next, can.touched)))
-
-pub returns-in_err-put_close : goal.returns-in_err-put_close
-returns-in_err-put_close g c =
-    does_failed _ c.from_residual.ensures.0 c.in_err-put_close.ensures.does
-
-pub returns-in_err-post_charged : goal.returns-in_err-post_charged
-returns-in_err-post_charged g c =
-    does_failed_next _ c.from_residual-in_err-post_charged.ensures.0
-    c.in_ok-put_close.ensures.does c.in_err-post_charged.ensures

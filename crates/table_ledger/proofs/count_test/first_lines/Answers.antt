@@ -2,7 +2,6 @@ use Rattle.std.proofs.Common.{◌∙◌, ◌+◌, map, ap, arith, refl}
 use Rattle.std.specs.BTreeMap.{get}
 use Rattle.std.specs.FinMap.{find}
 use Rattle.std.specs.Option.{option_or}
-use Rattle.std.proofs.lemmas.Result.{err_from_is_err_and}
 use Rattle.book_model.specs.Words.{by_bytes}
 use Rattle.tree_tables.specs.Stored.{signed_name}
 use Rattle.table_ledger.proofs.CountTestLemmas.{lines_on}
@@ -30,10 +29,3 @@ returns-in_err-found-clause-cause g c =
     c.in_err-found.ensures.looks
     (λ clean tables holds fit. c.in_err-found.ensures.cause clean tables holds
     (fit (c.loop-period.period + 1) (omega (arith, since)) (omega (arith, c.loop-period-test.true))))
-
--- for what is kept of them only memory may run out
-pub returns-in_err-add_first-clause-cause : goal.returns-in_err-add_first-clause-cause
-returns-in_err-add_first-clause-cause g c =
-    let p = err_from_is_err_and c.from_residual-in_err-add_first.result
-    c.from_residual-in_err-add_first.ensures.1 in
-    rw (p.1, p.2) (λ clean tables holds fit. tt)

@@ -1,20 +1,10 @@
-use Rattle.std.proofs.Common.{◌∙◌, ap, arith, refl, sym}
+use Rattle.std.proofs.Common.{◌∙◌, ap, arith, sym}
 use Rattle.std.specs.Prelude.{◌==◌}
 use Rattle.std.proofs.lemmas.Bool.Decides.{nat_tests}
 use Rattle.table_model.specs.Steps.{drop_day_row, put_day_row}
-use Rattle.table_ledger.proofs.DaySteps.{leaves, leaves_last, leaves_none}
+use Rattle.table_ledger.proofs.DaySteps.{leaves, leaves_last}
 use Rattle.table_ledger.proofs.DayLooks.{day_stepped}
-use Rattle.table_ledger.proofs.StepLemmas.{does_nothing}
 use Rattle.table_ledger.proofs.day_write.take_price.Goals as goal
-
--- there is no row
-pub returns-in_default : goal.returns-in_default
-returns-in_default g c = record {
-  does = day_stepped c.args.period c.args.priced.now _ c.key_of-place.ensures c.in_ok-row.ensures.looks
-      (does_nothing {change = λ tables. tables} (λ tables when. refl))
-      (λ tables placed is.
-      leaves_none c.args.period c.args.priced.now tables placed (is ∙ c.in_default.is));
-}
 
 -- it has no other price
 pub returns-then-row-eq1 : goal.returns-then-row-eq1

@@ -1,24 +1,12 @@
-use Rattle.std.proofs.Common.{◌∙◌, Err, SFits, ap, refl, rules, sym, true, w32}
+use Rattle.std.proofs.Common.{◌∙◌, SFits, ap, rules, sym, true, w32}
 use Rattle.std.specs.Option.{option_map_or}
 use Rattle.std.specs.Prelude.{int_lt, not, ℤ}
 use Rattle.std.proofs.lemmas.Int.{to_z-of_z}
-use Rattle.sqlite_trees.specs.declared.error.StoreError.TheVariants.{OutOfMemory}
 use Rattle.tree_tables.specs.Details.{DetailsFit}
 use Rattle.table_ledger.proofs.DetailTries.{sought_found, sought_none, sought_on, sought_past}
 use Rattle.table_ledger.proofs.OwnBooks.{fails_after_look}
-use Rattle.table_ledger.proofs.Refusals.{looks_failed_after, looks_failed_next}
-use Rattle.table_ledger.proofs.TryLemmas.{looks_known, saw_found, saw_none, saw_so, saw_then}
+use Rattle.table_ledger.proofs.TryLemmas.{looks_known, saw_found, saw_so, saw_then}
 use Rattle.table_ledger.proofs.details.next_sought.Goals as goal
-
--- at first each is from the first start on
-pub details-init : goal.details-init
-details-init g c =
-    saw_so saw_none (λ tables nothing detail is wanted. c.first-start.ensures detail wanted)
-
--- the next one is not read
-pub returns-in_err-detail-clause-looks : goal.returns-in_err-detail-clause-looks
-returns-in_err-detail-clause-looks g c =
-    looks_failed_next _ c.from_residual.ensures.0 c.details.invariant c.in_err-detail.ensures.looks
 
 pub returns-in_err-detail-clause-cause : goal.returns-in_err-detail-clause-cause
 returns-in_err-detail-clause-cause g c =
@@ -60,7 +48,3 @@ details-preserved g c =
     (λ tables known. sought_on c.args.sought.now c.details.start tables known.0
     c.in-Some.detail known.1 c.after-start.result (sym c.seeks.ensures ∙ c.if-seeks.false)
     c.after-start.ensures)
-
--- there are too many
-pub returns-clause-looks : goal.returns-clause-looks
-returns-clause-looks g c = looks_failed_after (Err OutOfMemory) refl c.details.invariant

@@ -1,24 +1,11 @@
-use Rattle.std.proofs.Common.{◌∙◌, refl, sym}
+use Rattle.std.proofs.Common.{◌∙◌, sym}
 use Rattle.table_model.specs.TablesOf.{tables_of}
 use Rattle.table_ledger.proofs.BookLists.{own_records}
-use Rattle.table_ledger.proofs.DetailTries.{least_shown, next_absent, next_found}
+use Rattle.table_ledger.proofs.DetailTries.{least_shown, next_found}
 use Rattle.table_ledger.proofs.DetailsRead.{details_fit}
 use Rattle.table_ledger.proofs.OwnBooks.{own_failed}
-use Rattle.table_ledger.proofs.TryLemmas.{saw_found, saw_none, try_refused, try_stopped}
+use Rattle.table_ledger.proofs.TryLemmas.{saw_found, saw_none}
 use Rattle.table_ledger.proofs.details.try_next_detail.Goals as goal
-
-pub returns-then-not-has_period-clause-tries : goal.returns-then-not-has_period-clause-tries
-returns-then-not-has_period-clause-tries g c = λ naming.
-    next_absent naming c.args.summary.now c.args.period c.args.centre c.args.last
-    (sym c.has_period.ensures ∙ c.if-not-has_period.true)
-
-pub returns-in_err-found-clause-tries : goal.returns-in_err-found-clause-tries
-returns-in_err-found-clause-tries g c = λ naming.
-    try_refused _ c.from_residual.ensures.0 saw_none c.in_err-found.ensures.looks
-
-pub returns-then-not-can_show-clause-tries : goal.returns-then-not-can_show-clause-tries
-returns-then-not-can_show-clause-tries g c = λ naming.
-    try_stopped _ refl (saw_found c.in_ok-found.ensures.looks) (λ book same. same)
 
 pub returns-clause-tries : goal.returns-clause-tries
 returns-clause-tries g c = λ naming.

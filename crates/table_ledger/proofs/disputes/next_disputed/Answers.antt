@@ -1,20 +1,13 @@
-use Rattle.std.proofs.Common.{Err, ap, refl, subst, sym}
+use Rattle.std.proofs.Common.{ap, subst, sym}
 use Rattle.std.specs.List.{list_any}
 use Rattle.std.proofs.Common.{◌∙◌}
-use Rattle.sqlite_trees.specs.declared.error.StoreError.TheVariants.{OutOfMemory}
 use Rattle.table_model.specs.Views.{rows_with}
 use Rattle.tree_tables.specs.Answers.{is_charged}
 use Rattle.tree_tables.specs.Steps.{Always}
-use Rattle.table_ledger.proofs.DisputeTries.{PassedTo, next_is, passed_all, passed_none, passed_on}
+use Rattle.table_ledger.proofs.DisputeTries.{PassedTo, next_is, passed_none, passed_on}
 use Rattle.table_ledger.proofs.OwnBooks.{fails_after_look}
-use Rattle.table_ledger.proofs.Refusals.{looks_failed_after, looks_failed_next}
 use Rattle.table_ledger.proofs.TryLemmas.{looks_known, saw_found, saw_none, saw_so, saw_then}
 use Rattle.table_ledger.proofs.disputes.next_disputed.Goals as goal
-
--- there is no memory for the first bytes
-pub returns-in_err-reached-clause-looks : goal.returns-in_err-reached-clause-looks
-returns-in_err-reached-clause-looks g c =
-    looks_failed_after _ c.from_residual.ensures.0 saw_none
 
 -- none is passed at first
 pub identities-init : goal.identities-init
@@ -23,32 +16,11 @@ identities-init g c =
     subst (λ reached. PassedTo c.args.from.now reached tables) (sym c.in_ok-reached.ensures.items)
     (passed_none c.args.from.now tables))
 
--- the next one is not found
-pub returns-in_err-identity-clause-looks : goal.returns-in_err-identity-clause-looks
-returns-in_err-identity-clause-looks g c =
-    looks_failed_next _ c.from_residual-in_err-identity.ensures.0 c.identities.invariant
-    c.in_err-identity.ensures.looks
-
 pub returns-in_err-identity-clause-cause : goal.returns-in_err-identity-clause-cause
 returns-in_err-identity-clause-cause g c =
     fails_after_look {When = Always} _ c.from_residual-in_err-identity.ensures.1
     c.identities.invariant c.in_err-identity.ensures.looks
     (λ clean tables holds always. c.in_err-identity.ensures.cause clean tables holds tt)
-
--- none is left
-pub returns-in_default-clause-looks : goal.returns-in_default-clause-looks
-returns-in_default-clause-looks g c =
-    looks_known (saw_then c.identities.invariant
-    (saw_found (rw c.in_default.is at c.in_ok-identity.ensures.looks)))
-    (λ tables known. passed_all c.args.from.now c.identities.reached.items tables known.0
-    (rw c.deref.ensures.value at known.1))
-
--- whether it was settled is not found
-pub returns-in_err-settled-clause-looks : goal.returns-in_err-settled-clause-looks
-returns-in_err-settled-clause-looks g c =
-    looks_failed_next _ c.from_residual-in_err-settled.ensures.0
-    (saw_then c.identities.invariant (saw_found c.in_ok-identity.ensures.looks))
-    c.in_err-settled.ensures.looks
 
 pub returns-in_err-settled-clause-cause : goal.returns-in_err-settled-clause-cause
 returns-in_err-settled-clause-cause g c =
@@ -79,14 +51,3 @@ identities-preserved g c =
     c.in_ok-push.ensures.items
     (ap (λ k. list_any is_charged (rows_with k tables.records)) (sym c.deref-in-identities.ensures.value)
     ∙ sym known.1 ∙ c.if-not-settled.false))
-
--- there is no memory for one more byte
-pub returns-in_err-push-clause-looks : goal.returns-in_err-push-clause-looks
-returns-in_err-push-clause-looks g c =
-    looks_failed_after _ c.from_residual-in_err-push.ensures.0
-    (saw_then (saw_then c.identities.invariant (saw_found c.in_ok-identity.ensures.looks))
-    (saw_found c.in_ok-settled.ensures.looks))
-
--- there are too many
-pub returns-clause-looks : goal.returns-clause-looks
-returns-clause-looks g c = looks_failed_after (Err OutOfMemory) refl c.identities.invariant

@@ -1,4 +1,4 @@
-use Rattle.std.proofs.Common.{ap, refl, subst, sym, Ok}
+use Rattle.std.proofs.Common.{refl, subst, sym}
 use Rattle.std.specs.Prelude.{All}
 use Rattle.book_model.specs.Words.{dispute_outcome}
 use Rattle.tree_tables.specs.States.{state}
@@ -10,16 +10,9 @@ use Rattle.table_ledger.proofs.BookLists.{own_identity, own_records, own_sharing
 use Rattle.table_ledger.proofs.BookRows.{taken_shown, taken_usage}
 use Rattle.table_ledger.proofs.DisputeTries.{made_shows, none_left, one_left, own_memory}
 use Rattle.table_ledger.proofs.OwnBooks.{own_failed}
-use Rattle.table_ledger.proofs.SurvivalLemmas.{clean_before}
-use Rattle.table_ledger.proofs.TryLemmas.{saw_found, saw_none, saw_then, try_answered, try_refused}
-use Rattle.table_ledger.proofs.TryLemmas.{try_stopped}
+use Rattle.table_ledger.proofs.TryLemmas.{saw_found, saw_none, saw_then, try_answered}
 use Rattle.table_model.specs.TablesOf.{tables_of}
 use Rattle.table_ledger.proofs.disputes.try_dispute.Goals as goal
-
--- the next identity is not found
-pub returns-in_err-identity-clause-tries : goal.returns-in_err-identity-clause-tries
-returns-in_err-identity-clause-tries g c = λ naming.
-    try_refused _ c.from_residual.ensures.0 saw_none c.in_err-identity.ensures.looks
 
 pub returns-in_err-identity-clause-own : goal.returns-in_err-identity-clause-own
 returns-in_err-identity-clause-own g c = λ naming wide.
@@ -34,23 +27,11 @@ returns-in_default-clause-tries g c = λ naming.
     (saw_found (rw c.in_default.is at c.in_ok-identity.ensures.looks))
     (record { stored = refl; served = refl }) (λ book at known. (none_left at from known, refl))
 
--- its records are not read
-pub returns-in_err-rows-clause-tries : goal.returns-in_err-rows-clause-tries
-returns-in_err-rows-clause-tries g c = λ naming.
-    try_refused _ c.from_residual-in_err-rows.ensures.0 (saw_found c.in_ok-identity.ensures.looks)
-    c.in_err-rows.ensures.looks
-
 pub returns-in_err-rows-clause-own : goal.returns-in_err-rows-clause-own
 returns-in_err-rows-clause-own g c = λ naming wide.
     own_failed _ _ c.from_residual-in_err-rows.ensures.1
     (saw_found c.in_ok-identity.ensures.looks) c.in_err-rows.ensures.looks
     c.in_err-rows.ensures.cause (λ clean book ready. (own_records ready wide).fit)
-
--- what is no identity is not shown
-pub returns-then-not-is_identity-clause-tries : goal.returns-then-not-is_identity-clause-tries
-returns-then-not-is_identity-clause-tries g c = λ naming.
-    try_stopped _ refl (saw_then (saw_found c.in_ok-identity.ensures.looks)
-    (saw_found c.in_ok-rows.ensures.looks)) (λ book same. same)
 
 -- and every record has one
 pub returns-then-not-is_identity-clause-own : goal.returns-then-not-is_identity-clause-own
@@ -62,12 +43,6 @@ returns-then-not-is_identity-clause-own g c = λ naming wide clean book ready.
     (subst IsIdentity (sym c.deref-2.ensures.value)
     (own_identity ready wide c.args.from.now c.in-Some.identity.items known.0)))
 
--- nor are records that cannot be
-pub returns-then-not-can_show-clause-tries : goal.returns-then-not-can_show-clause-tries
-returns-then-not-can_show-clause-tries g c = λ naming.
-    try_stopped _ refl (saw_then (saw_found c.in_ok-identity.ensures.looks)
-    (saw_found c.in_ok-rows.ensures.looks)) (λ book same. same)
-
 -- and all can
 pub returns-then-not-can_show-clause-own : goal.returns-then-not-can_show-clause-own
 returns-then-not-can_show-clause-own g c = λ naming wide clean book ready.
@@ -78,13 +53,6 @@ returns-then-not-can_show-clause-own g c = λ naming wide clean book ready.
     (subst (All (λ (row : StoredRecord). IsShownRow (stored_entry row)))
     (sym c.deref-3.ensures.value)
     (taken_shown _ (own_sharing ready wide _ c.in_ok-rows.rows.items known.1))))
-
--- the dispute is not made
-pub returns-in_err-dispute-clause-tries : goal.returns-in_err-dispute-clause-tries
-returns-in_err-dispute-clause-tries g c = λ naming.
-    try_stopped _ c.from_residual-in_err-dispute.ensures.0
-    (saw_then (saw_found c.in_ok-identity.ensures.looks) (saw_found c.in_ok-rows.ensures.looks))
-    (λ book same. same)
 
 -- for that only memory may be lacking
 pub returns-in_err-dispute-clause-own : goal.returns-in_err-dispute-clause-own

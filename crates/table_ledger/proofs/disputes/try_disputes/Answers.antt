@@ -1,4 +1,4 @@
-use Rattle.std.proofs.Common.{◌∙◌, sym, ap, subst, List, map, refl}
+use Rattle.std.proofs.Common.{◌∙◌, sym, ap, subst, List, map}
 use Rattle.std.specs.Prelude.{All, filter}
 use Rattle.tree_tables.specs.Stored.{stored_entry}
 use Rattle.tree_tables.specs.declared.stored_record.StoredRecord.{StoredRecord}
@@ -8,20 +8,12 @@ use Rattle.table_ledger.specs.DisputeReads.{IsShownRow}
 use Rattle.table_ledger.proofs.ListReadings.{list_read}
 use Rattle.table_ledger.proofs.OwnBooks.{own_failed}
 use Rattle.table_ledger.proofs.SurvivalLemmas.{clean_before}
-use Rattle.table_ledger.proofs.TryLemmas.{saw_found, saw_none, saw_then, try_refused, try_stopped}
+use Rattle.table_ledger.proofs.TryLemmas.{saw_found, saw_none, saw_then}
 use Rattle.table_model.specs.TablesOf.{tables_of}
 use Rattle.tree_tables.specs.UsageData.{IsUsageData}
 use Rattle.table_ledger.proofs.BookLists.{own_records, own_uncharged}
 use Rattle.table_ledger.proofs.BookRows.{taken_shown, taken_usage}
 use Rattle.table_ledger.proofs.disputes.try_disputes.Goals as goal
-
-pub returns-in_err-rows-clause-tries : goal.returns-in_err-rows-clause-tries
-returns-in_err-rows-clause-tries g c = λ naming.
-    try_refused _ c.from_residual.ensures.0 saw_none c.in_err-rows.ensures.looks
-
-pub returns-then-not-can_show-clause-tries : goal.returns-then-not-can_show-clause-tries
-returns-then-not-can_show-clause-tries g c = λ naming.
-    try_stopped _ refl (saw_found c.in_ok-rows.ensures.looks) (λ book same. same)
 
 pub returns-clause-tries : goal.returns-clause-tries
 returns-clause-tries g c = λ naming.
@@ -33,11 +25,6 @@ returns-clause-tries g c = λ naming.
     ∙ sym (known.1
     ∙ ap (λ (rows : List StoredRecord). grouped (filter (has_none_charged records)
     (map stored_entry rows))) c.deref-2.ensures.value))
-
-pub returns-in_err-grouped-clause-tries : goal.returns-in_err-grouped-clause-tries
-returns-in_err-grouped-clause-tries g c = λ naming.
-    try_refused _ c.from_residual-in_err-grouped.ensures.0
-    (saw_found c.in_ok-rows.ensures.looks) c.in_err-grouped.ensures.looks
 
 -- the rows of records fit
 pub returns-in_err-rows-clause-own : goal.returns-in_err-rows-clause-own

@@ -1,28 +1,9 @@
-use Rattle.std.proofs.Common.{Ok, ap, refl, arith}
+use Rattle.std.proofs.Common.{Ok, ap, refl}
 use Rattle.book_model.specs.Words.{ruling_outcome}
 use Rattle.table_ledger.proofs.OwnBooks.{own_failed}
-use Rattle.table_ledger.proofs.RulingReads.{choice_read, is_one, other_read, own_choice}
+use Rattle.table_ledger.proofs.RulingReads.{choice_read, is_one, own_choice}
 use Rattle.table_ledger.proofs.TryLemmas.{saw_found, saw_none, try_answered}
 use Rattle.table_ledger.proofs.listed_rulings.try_ruling.Goals as goal
-
--- another ruling than a choice is remembered
-pub returns-in-Other-clause-tries : goal.returns-in-Other-clause-tries
-returns-in-Other-clause-tries g c = λ naming.
-    let number = c.args.number in
-    try_answered (ruling_outcome naming number) saw_none (record { stored = refl; served = refl })
-    (λ book at known. (
-      ap Ok (other_read at.remembers naming number c.in-Other.found
-          (rw c.in-Other.is at c.in_ok-listed.ensures.stands)),
-      refl,
-    ))
-
--- a choice is there
-pub look_for_choice-requires : goal.look_for_choice-requires
-look_for_choice-requires g c =
-    let stands = rw c.in-Choice.is at c.in_ok-listed.ensures.stands in
-    let within = stands.0 in
-    let few = c.args.summary.now.chosen in
-    omega (arith, within, few)
 
 -- it is read
 pub returns-in_ok-look_for_choice-in-Choice-clause-tries : goal.returns-in_ok-look_for_choice-in-Choice-clause-tries

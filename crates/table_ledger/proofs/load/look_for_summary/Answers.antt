@@ -1,45 +1,11 @@
-use Rattle.std.proofs.Common.{◌≡◌, ◌∙◌, ap, is_some, map, sym, true≢false}
+use Rattle.std.proofs.Common.{◌≡◌, ◌∙◌, ap, map, sym}
 use Rattle.table_model.specs.Tables.{Tables}
 use Rattle.std.specs.Option.{option_map}
 use Rattle.tree_tables.specs.Stored.{book_entry, close_entry, tariff_of}
-use Rattle.tree_tables.proofs.Looking.{any_err}
 use Rattle.table_ledger.proofs.OwnBooks.{fails_after_look}
-use Rattle.table_ledger.proofs.LoadLemmas.{never_missed, recalled_by}
-use Rattle.table_ledger.proofs.Refusals.{looks_failed, looks_failed_next}
-use Rattle.table_ledger.proofs.RowTold.{tells_absent, tells_there}
-use Rattle.table_ledger.proofs.SurvivalLemmas.{clean_before}
+use Rattle.table_ledger.proofs.LoadLemmas.{recalled_by}
 use Rattle.table_ledger.proofs.TryLemmas.{looks_known, saw_found, saw_then}
 use Rattle.table_ledger.proofs.load.look_for_summary.Goals as goal
-
-pub returns-in_err-row-clause-looks : goal.returns-in_err-row-clause-looks
-returns-in_err-row-clause-looks g c =
-    looks_failed _ c.from_residual.ensures.0 c.in_err-row.ensures.looks
-
-pub returns-in_default-clause-looks : goal.returns-in_default-clause-looks
-returns-in_default-clause-looks g c =
-    let none = c.in_default.is in
-    looks_known (saw_found c.in_ok-row.ensures.looks)
-    (λ (tables : Tables) known. absurd (never_missed c.in_ok-row.field-0 tables.book known none))
-
-pub returns-in_err-tariffs-clause-looks : goal.returns-in_err-tariffs-clause-looks
-returns-in_err-tariffs-clause-looks g c =
-    looks_failed_next _ c.from_residual-in_err-tariffs.ensures.0
-    (saw_found c.in_ok-row.ensures.looks) c.in_err-tariffs.ensures.looks
-
-pub returns-in_err-closes-clause-looks : goal.returns-in_err-closes-clause-looks
-returns-in_err-closes-clause-looks g c =
-    looks_failed_next _ c.from_residual-in_err-closes.ensures.0
-    (saw_then (saw_found c.in_ok-row.ensures.looks)
-    (saw_found c.in_ok-tariffs.ensures.looks))
-    c.in_err-closes.ensures.looks
-
-pub returns-in_err-choices-clause-looks : goal.returns-in_err-choices-clause-looks
-returns-in_err-choices-clause-looks g c =
-    looks_failed_next _ c.from_residual-in_err-choices.ensures.0
-    (saw_then (saw_then (saw_found c.in_ok-row.ensures.looks)
-    (saw_found c.in_ok-tariffs.ensures.looks))
-    (saw_found c.in_ok-closes.ensures.looks))
-    c.in_err-choices.ensures.looks
 
 pub returns-clause-looks : goal.returns-clause-looks
 returns-clause-looks g c =
@@ -84,40 +50,3 @@ returns-in_err-choices-clause-cause g c =
     (saw_found c.in_ok-tariffs.ensures.looks)) (saw_found c.in_ok-closes.ensures.looks))
     c.in_err-choices.ensures.looks
     (λ clean tables holds when. c.in_err-choices.ensures.cause clean tables holds when.choices)
-
--- without a row of the book nothing else was looked for
-pub returns-in_err-tariffs-clause-absent : goal.returns-in_err-tariffs-clause-absent
-returns-in_err-tariffs-clause-absent g c =
-    any_err c.from_residual-in_err-tariffs.result (λ error clean absent.
-    absurd (true≢false (sym (sym (c.in_ok-row.ensures.row
-    (clean_before c.in_err-tariffs.ensures.looks.survives clean)) ∙ ap is_some c.in-Some.is)
-    ∙ absent)))
-
-pub returns-in_err-closes-clause-absent : goal.returns-in_err-closes-clause-absent
-returns-in_err-closes-clause-absent g c =
-    any_err c.from_residual-in_err-closes.result (λ error clean absent.
-    absurd (true≢false (sym (sym (c.in_ok-row.ensures.row
-    (clean_before c.in_ok-tariffs.ensures.looks.survives
-    (clean_before c.in_err-closes.ensures.looks.survives clean))) ∙ ap is_some c.in-Some.is)
-    ∙ absent)))
-
-pub returns-in_err-choices-clause-absent : goal.returns-in_err-choices-clause-absent
-returns-in_err-choices-clause-absent g c =
-    any_err c.from_residual-in_err-choices.result (λ error clean absent.
-    absurd (true≢false (sym (sym (c.in_ok-row.ensures.row
-    (clean_before c.in_ok-tariffs.ensures.looks.survives
-    (clean_before c.in_ok-closes.ensures.looks.survives
-    (clean_before c.in_err-choices.ensures.looks.survives clean)))) ∙ ap is_some c.in-Some.is)
-    ∙ absent)))
-
-pub returns-in_default-clause-tells : goal.returns-in_default-clause-tells
-returns-in_default-clause-tells g c = λ clean.
-    tells_absent _ (sym (c.in_ok-row.ensures.row clean) ∙ ap is_some c.in_default.is)
-
-pub returns-clause-tells : goal.returns-clause-tells
-returns-clause-tells g c = λ clean.
-    tells_there _ c.summary_of.result
-    (sym (c.in_ok-row.ensures.row (clean_before c.in_ok-tariffs.ensures.looks.survives
-    (clean_before c.in_ok-closes.ensures.looks.survives
-    (clean_before c.in_ok-choices.ensures.looks.survives clean)))) ∙ ap is_some c.in-Some.is)
-    c.summary_of.ensures.kinds

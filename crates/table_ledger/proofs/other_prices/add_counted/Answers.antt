@@ -37,18 +37,6 @@ returns-clause-counted c =
     ∙ sym (costs_more terms test passed entry counted))
     (adds (costs_of terms test passed) are)) c.add.ensures.sums
 
--- a row that fits says whether it is counted
-pub returns-in_err-mark-clause-taken : goal.returns-in_err-mark-clause-taken
-returns-in_err-mark-clause-taken c =
-    err_on _ c.from_residual.result c.from_residual.ensures.1 (λ passed entry is are few fits usage.
-    absurd (c.in_err-mark.ensures.taken fits))
-
--- and has data
-pub returns-in_err-data_of-clause-taken : goal.returns-in_err-data_of-clause-taken
-returns-in_err-data_of-clause-taken c =
-    err_on _ c.from_residual-in_err-data_of.result c.from_residual-in_err-data_of.ensures.1
-    (λ passed entry is are few fits usage. absurd (c.in_err-data_of.ensures.taken fits))
-
 -- those of a usage record
 pub returns-in_err-put_data-clause-taken : goal.returns-in_err-put_data-clause-taken
 returns-in_err-put_data-clause-taken c =

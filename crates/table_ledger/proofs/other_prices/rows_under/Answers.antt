@@ -1,21 +1,13 @@
-use Rattle.std.proofs.Common.{◌++◌, ◌∷◌, [], Err, arith, refl, subst, sym}
-use Rattle.std.proofs.lemmas.Result.{err_from_is_err_and}
-use Rattle.sqlite_trees.specs.declared.error.StoreError.TheVariants.{Corrupt}
+use Rattle.std.proofs.Common.{◌++◌, ◌∷◌, [], arith, subst, sym}
 use Rattle.tree_tables.specs.Fits.{RecordFits}
 use Rattle.tree_tables.specs.States.{state}
 use Rattle.tree_tables.proofs.Looking.{caused_memory}
 use Rattle.table_ledger.specs.OtherPrices.{CanBeWalked, SumsUp, costs_of}
-use Rattle.table_ledger.proofs.OtherPriceLemmas.{entry_there, passed_all, passed_dear, passed_few}
-use Rattle.table_ledger.proofs.OtherPriceLemmas.{passed_none, passed_on, passed_with}
+use Rattle.table_ledger.proofs.OtherPriceLemmas.{entry_there, passed_all, passed_dear}
+use Rattle.table_ledger.proofs.OtherPriceLemmas.{passed_on, passed_with}
 use Rattle.table_ledger.proofs.OwnBooks.{cause_passed, fails_after_look}
-use Rattle.table_ledger.proofs.Refusals.{looks_failed, looks_failed_after, looks_failed_next}
 use Rattle.table_ledger.proofs.TryLemmas.{looks_known, saw_found, saw_so, saw_then}
 use Rattle.table_ledger.proofs.other_prices.rows_under.Goals as goal
-
--- the pass is not started, because the store failed
-pub returns-in_err-start_pass-clause-looks : goal.returns-in_err-start_pass-clause-looks
-returns-in_err-start_pass-clause-looks g c =
-    looks_failed _ c.from_residual.ensures.0 c.in_err-start_pass.ensures.looks
 
 pub returns-in_err-start_pass-clause-cause : goal.returns-in_err-start_pass-clause-cause
 returns-in_err-start_pass-clause-cause g c =
@@ -24,38 +16,11 @@ returns-in_err-start_pass-clause-cause g c =
     cause_passed {When = CanBeWalked} start end _ _ c.from_residual.ensures.1
     (λ clean tables holds walked. c.in_err-start_pass.ensures.cause clean tables holds tt)
 
--- all records are still to come
-pub records-init : goal.records-init
-records-init g c = record {
-  passing = c.in_ok-start_pass.ensures.passing;
-  seen = saw_so (saw_found c.in_ok-start_pass.ensures.looks) (λ tables has.
-      passed_none c.args.tariff.now c.args.test.now (g.S.Store.view c.start_pass.new.self.store)
-      c.new-sums.result tables c.new-sums.ensures has);
-}
-
--- the next record is not found, because the store failed
-pub returns-in_err-there-clause-looks : goal.returns-in_err-there-clause-looks
-returns-in_err-there-clause-looks g c =
-    looks_failed_next _ c.from_residual-in_err-there.ensures.0 c.records.invariant.seen
-    c.in_err-there.ensures.looks
-
 pub returns-in_err-there-clause-cause : goal.returns-in_err-there-clause-cause
 returns-in_err-there-clause-cause g c =
     fails_after_look _ c.from_residual-in_err-there.ensures.1 c.records.invariant.seen
     c.in_err-there.ensures.looks
     (λ clean tables holds walked. c.in_err-there.ensures.cause clean tables holds tt)
-
--- there is no memory for the rows
-pub returns-in_err-rows-clause-looks : goal.returns-in_err-rows-clause-looks
-returns-in_err-rows-clause-looks g c =
-    looks_failed_after _ c.from_residual-in_err-rows.ensures.0
-    (saw_then c.records.invariant.seen (saw_found c.in_ok-there.ensures.looks))
-
-pub returns-in_err-rows-clause-cause : goal.returns-in_err-rows-clause-cause
-returns-in_err-rows-clause-cause g c =
-    let p = err_from_is_err_and c.from_residual-in_err-rows.result
-    c.from_residual-in_err-rows.ensures.1 in
-    rw (p.1, p.2) (λ clean tables holds walked. tt)
 
 -- none is left: these are the rows
 pub returns-then-not-there-clause-looks : goal.returns-then-not-there-clause-looks
@@ -67,12 +32,6 @@ returns-then-not-there-clause-looks g c =
     (λ tables known. passed_all c.args.tariff.now c.args.test.now old new c.records.sums
     c.records._steps tables c.next_record.new.row c.in_ok-rows.rows known.1 known.0
     c.in_ok-rows.ensures)
-
--- what it costs cannot be computed
-pub returns-in_err-room-clause-looks : goal.returns-in_err-room-clause-looks
-returns-in_err-room-clause-looks g c =
-    looks_failed_after _ c.from_residual-in_err-room.ensures.0
-    (saw_then c.records.invariant.seen (saw_found c.in_ok-there.ensures.looks))
 
 -- for that only memory may run out: its row fits, its data are those of a usage record, and 64 bits
 -- hold the sums
@@ -134,16 +93,3 @@ records-preserved g c =
           subst (SumsUp more (costs_of terms test (passed ++ one ∷ [])))
           c.if-not-room.false (c.in_ok-room.ensures.counted passed one is are)));
     }
-
--- there are too many
-pub returns-clause-looks : goal.returns-clause-looks
-returns-clause-looks g c = looks_failed_after (Err Corrupt) refl c.records.invariant.seen
-
--- so many records are never held
-pub returns-clause-cause : goal.returns-clause-cause
-returns-clause-cause g c = λ clean tables holds walked.
-    let so_far = (c.records.invariant.seen.seen clean).known tables holds in
-    let few = passed_few c.args.tariff.now c.args.test.now (g.S.Store.view c.records.tables.store)
-    c.records.sums c.records._steps tables so_far in
-    let most = walked.few in
-    absurd (omega (arith, few, most, c.records-test.false))

@@ -1,29 +1,12 @@
-use Rattle.std.proofs.Common.{◌∙◌, inl, inr, sym, subst, refl}
+use Rattle.std.proofs.Common.{◌∙◌, sym, subst}
 use Rattle.book_model.specs.Words.{AreRows}
 use Rattle.table_model.specs.TablesOf.{tables_of}
 use Rattle.table_ledger.proofs.BookLists.{own_lines, own_walk}
 use Rattle.table_ledger.proofs.OwnBooks.{own_failed}
-use Rattle.table_ledger.proofs.TryLemmas.{saw_found, saw_none, saw_then, try_refused, try_stopped}
-use Rattle.table_ledger.proofs.WhatIfTries.{what_if_absent, what_if_found, what_if_full}
+use Rattle.table_ledger.proofs.TryLemmas.{saw_found, saw_none, saw_then}
+use Rattle.table_ledger.proofs.WhatIfTries.{what_if_found, what_if_full}
 use Rattle.table_ledger.proofs.WhatIfTries.{what_if_shown}
 use Rattle.table_ledger.proofs.other_prices.try_charges_under.Goals as goal
-
-pub returns-then-not-has_period-clause-tries : goal.returns-then-not-has_period-clause-tries
-returns-then-not-has_period-clause-tries g c = λ naming.
-    what_if_absent naming c.args.summary.now c.args.period c.args.tariff.now
-    (sym c.has_period.ensures ∙ c.if-not-has_period.true)
-
-pub of_period-requires : goal.of_period-requires
-of_period-requires g c = sym c.has_period.ensures ∙ c.if-not-has_period.false
-
-pub returns-in_err-test-clause-tries : goal.returns-in_err-test-clause-tries
-returns-in_err-test-clause-tries g c = λ naming.
-    try_refused _ c.from_residual.ensures.0 saw_none c.in_err-test.ensures.looks
-
-pub returns-in_err-rows-clause-tries : goal.returns-in_err-rows-clause-tries
-returns-in_err-rows-clause-tries g c = λ naming.
-    try_refused _ c.from_residual-in_err-rows.ensures.0
-    (saw_found c.in_ok-test.ensures.looks) c.in_err-rows.ensures.looks
 
 pub returns-in_default-clause-tries : goal.returns-in_default-clause-tries
 returns-in_default-clause-tries g c = λ naming.
@@ -32,24 +15,12 @@ returns-in_default-clause-tries g c = λ naming.
     (saw_then (saw_found c.in_ok-test.ensures.looks)
     (saw_found (rw c.in_default.is at c.in_ok-rows.ensures.looks)))
 
-pub returns-then-not-can_show-clause-tries : goal.returns-then-not-can_show-clause-tries
-returns-then-not-can_show-clause-tries g c = λ naming.
-    try_stopped _ refl (saw_then (saw_found c.in_ok-test.ensures.looks)
-    (saw_found c.in_ok-rows.ensures.looks)) (λ book same. same)
-
 pub returns-clause-tries : goal.returns-clause-tries
 returns-clause-tries g c = λ naming.
     what_if_found naming c.args.summary.now c.args.period c.args.tariff.now c.in_ok-test.test
     (sym c.has_period.ensures ∙ c.if-not-has_period.false) c.in-Some.rows
     (saw_then (saw_found c.in_ok-test.ensures.looks)
     (saw_found (rw c.in-Some.is at c.in_ok-rows.ensures.looks)))
-
--- its own refusals
-pub returns-then-not-has_period-clause-own : goal.returns-then-not-has_period-clause-own
-returns-then-not-has_period-clause-own g c = λ naming wide. inl refl
-
-pub returns-in_default-clause-own : goal.returns-in_default-clause-own
-returns-in_default-clause-own g c = λ naming wide. inr refl
 
 -- the lines of the periods fit
 pub returns-in_err-test-clause-own : goal.returns-in_err-test-clause-own

@@ -1,25 +1,8 @@
-use Rattle.std.proofs.Common.{◌∙◌, ◌+◌, Err, Some, ap, arith, refl}
-use Rattle.sqlite_trees.specs.declared.error.StoreError.TheVariants.{Corrupt}
-use Rattle.table_ledger.proofs.NameSums.{names_first, names_full, names_last, names_next}
+use Rattle.std.proofs.Common.{◌∙◌, ◌+◌, Some, ap}
+use Rattle.table_ledger.proofs.NameSums.{names_full, names_last, names_next}
 use Rattle.table_ledger.proofs.Repriced.{room}
-use Rattle.table_ledger.proofs.Refusals.{looks_failed_after, looks_failed_next, said_of_none}
-use Rattle.table_ledger.proofs.TryLemmas.{looks_known, saw_found, saw_none, saw_so, saw_then}
+use Rattle.table_ledger.proofs.TryLemmas.{looks_known, saw_found, saw_so, saw_then}
 use Rattle.table_ledger.proofs.repricing.cost_by_name.Goals as goal
-
--- at first none was met
-pub records-init : goal.records-init
-records-init g c = record {
-  saw = saw_so saw_none (λ tables nothing. names_first c.args.tariff.now tables);
-  small = omega arith;
-}
-
--- the next record is not found, because the store failed
-pub returns-in_err-stored : goal.returns-in_err-stored
-returns-in_err-stored g c = record {
-  small = said_of_none _ c.from_residual.result c.from_residual.ensures.0;
-  looks = looks_failed_next _ c.from_residual.ensures.0 c.records.invariant.saw
-      c.in_err-stored.ensures.looks;
-}
 
 -- none is left: that is the cost
 pub returns-in_default : goal.returns-in_default
@@ -30,15 +13,6 @@ returns-in_default g c = record {
       (λ tables known.
       names_last c.args.tariff.now tables c.records.last c.records.cost known.0 known.1
       c.records.invariant.small);
-}
-
--- what it will cost cannot be computed
-pub returns-in_err-amount : goal.returns-in_err-amount
-returns-in_err-amount g c = record {
-  small = said_of_none _ c.from_residual-in_err-amount.result
-      c.from_residual-in_err-amount.ensures.0;
-  looks = looks_failed_after _ c.from_residual-in_err-amount.ensures.0
-      (saw_then c.records.invariant.saw (saw_found c.in_ok-stored.ensures.looks));
 }
 
 -- with it they cost more than the books can hold
@@ -74,10 +48,3 @@ records-preserved g c =
           c.in_ok-amount.ensures.can);
       small = c.in-Some-cost_together.ensures.small;
     }
-
--- there are too many
-pub returns : goal.returns
-returns g c = record {
-  small = tt;
-  looks = looks_failed_after (Err Corrupt) refl c.records.invariant.saw;
-}

@@ -1,23 +1,8 @@
-use Rattle.std.proofs.Common.{◌∙◌, ◌+◌, Err, Some, ap, refl}
-use Rattle.sqlite_trees.specs.declared.error.StoreError.TheVariants.{Corrupt}
-use Rattle.table_ledger.proofs.LateCosts.{cost_found, cost_full, sums_first, sums_next}
+use Rattle.std.proofs.Common.{◌∙◌, ◌+◌, Some, ap}
+use Rattle.table_ledger.proofs.LateCosts.{cost_found, cost_full, sums_next}
 use Rattle.table_ledger.proofs.Repriced.{room}
-use Rattle.table_ledger.proofs.Refusals.{looks_failed_after, looks_failed_next, said_of_none}
-use Rattle.table_ledger.proofs.TryLemmas.{looks_known, saw_found, saw_none, saw_so, saw_then}
+use Rattle.table_ledger.proofs.TryLemmas.{looks_known, saw_found, saw_so, saw_then}
 use Rattle.table_ledger.proofs.repricing.cost_of_late.Goals as goal
-
--- at first none was met
-pub records-init : goal.records-init
-records-init g c =
-    saw_so saw_none (λ tables nothing can. sums_first c.args.tariff.now c.args.total tables can)
-
--- the next record is not found, because the store failed
-pub returns-in_err-late : goal.returns-in_err-late
-returns-in_err-late g c = record {
-  small = said_of_none _ c.from_residual.result c.from_residual.ensures.0;
-  looks = looks_failed_next _ c.from_residual.ensures.0 c.records.invariant
-      c.in_err-late.ensures.looks;
-}
 
 -- none is left: that is the cost
 pub returns-in_default : goal.returns-in_default
@@ -28,23 +13,6 @@ returns-in_default g c = record {
       (λ tables known can.
       cost_found c.args.tariff.now c.args.total tables can c.records.last c.records.rest
       c.records.cost (known.0 can) known.1 c.cost_together.result c.cost_together.ensures.sum);
-}
-
--- it costs more than all of them
-pub returns-in_default-checked_sub : goal.returns-in_default-checked_sub
-returns-in_default-checked_sub g c = record {
-  small = tt;
-  looks = looks_failed_after (Err Corrupt) refl
-      (saw_then c.records.invariant (saw_found c.in_ok-late.ensures.looks));
-}
-
--- what it will cost cannot be computed
-pub returns-in_err-amount : goal.returns-in_err-amount
-returns-in_err-amount g c = record {
-  small = said_of_none _ c.from_residual-in_err-amount.result
-      c.from_residual-in_err-amount.ensures.0;
-  looks = looks_failed_after _ c.from_residual-in_err-amount.ensures.0
-      (saw_then c.records.invariant (saw_found c.in_ok-late.ensures.looks));
 }
 
 -- with it they cost more than the books can hold
@@ -83,10 +51,3 @@ records-preserved g c =
     ((room (c.records.cost + c.in_ok-amount.amount) more c.in-Some-cost_together.ensures.sum).1
     ∙ ap (λ n. c.records.cost + n) c.in_ok-amount.ensures.amount)
     c.in_ok-amount.ensures.can)
-
--- there are too many
-pub returns : goal.returns
-returns g c = record {
-  small = tt;
-  looks = looks_failed_after (Err Corrupt) refl c.records.invariant;
-}

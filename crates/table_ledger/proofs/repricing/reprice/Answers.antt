@@ -1,16 +1,8 @@
-use Rattle.std.proofs.Common.{◌∙◌, None, Some, sym}
+use Rattle.std.proofs.Common.{◌∙◌, Some, sym}
 use Rattle.tree_tables.specs.Stored.{stored_entry}
 use Rattle.table_ledger.proofs.Repriced.{priced_stands, step_by}
 use Rattle.table_ledger.proofs.StepLemmas.{does_nothing, does_so}
 use Rattle.table_ledger.proofs.repricing.reprice.Goals as goal
-
--- the tariff is not for it
-pub returns-in_default : goal.returns-in_default
-returns-in_default g c = record {
-  does = does_nothing (λ tables known.
-      step_by c.args.period c.args.stored.now.name (stored_entry c.args.stored.now).1 tables known.0
-      c.args.tariff.now None (sym c.in_default.is ∙ c.in_ok-priced.ensures.price));
-}
 
 -- it has its price already
 pub returns-then-stands : goal.returns-then-stands

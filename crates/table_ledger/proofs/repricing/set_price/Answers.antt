@@ -1,8 +1,7 @@
-use Rattle.std.proofs.Common.{Ok, false, sym, true}
+use Rattle.std.proofs.Common.{false, sym, true}
 use Rattle.table_ledger.proofs.Repriced.{repriced}
 use Rattle.table_ledger.proofs.StepLemmas.{does_so, does_then}
 use Rattle.tree_tables.specs.Stored.{stored_entry}
-use Rattle.table_ledger.proofs.Refusals.{does_failed}
 use Rattle.table_ledger.proofs.repricing.set_price.Goals as goal
 
 -- the row, and then the charge rows
@@ -15,21 +14,5 @@ returns g c = record {
         stands,
         repriced c.args.period c.args.stored.now.name (stored_entry c.args.stored.now).1 tables
             stands c.args.priced.now true (sym c.if-not-stored.false),
-      ));
-}
-
-pub returns-in_err-set_price : goal.returns-in_err-set_price
-returns-in_err-set_price g c = record {
-  does = does_failed _ c.from_residual.ensures.0 c.in_err-set_price.ensures.does;
-}
-
-pub returns-then-not-stored : goal.returns-then-not-stored
-returns-then-not-stored g c = record {
-  does =
-      does_so (Ok tt) c.in_ok-set_price.ensures.does
-      (λ tables stands. (
-        stands,
-        repriced c.args.period c.args.stored.now.name (stored_entry c.args.stored.now).1 tables
-            stands c.args.priced.now false (sym c.if-not-stored.true),
       ));
 }

@@ -7,8 +7,7 @@ use Rattle.table_ledger.proofs.CommitLemmas.{committed, uncommitted}
 use Rattle.table_ledger.proofs.Remembered.{remembers_same}
 use Rattle.table_ledger.proofs.TariffTries.{tariff_full, tariff_is_event}
 use Rattle.table_ledger.proofs.StageLemmas.{stage_steps}
-use Rattle.table_ledger.proofs.TryLemmas.{saw_found, saw_none, saw_then, try_answered, try_refused}
-use Rattle.table_ledger.proofs.TryLemmas.{try_stopped}
+use Rattle.table_ledger.proofs.TryLemmas.{saw_found, saw_then, try_answered}
 use Rattle.table_ledger.proofs.tariff.put_in_force.Goals as goal
 
 -- a tariff's first day is one, whichever way the tariff is seen
@@ -67,27 +66,4 @@ returns g c = record {
         held = refl;
         total = refl;
       });
-}
-
--- the charge rows are not read, because the store failed
-pub returns-in_err-many : goal.returns-in_err-many
-returns-in_err-many g c = record {
-  tries = λ naming. try_refused _ c.from_residual.ensures.0 saw_none c.in_err-many.ensures;
-}
-
--- nor the records
-pub returns-in_err-amount : goal.returns-in_err-amount
-returns-in_err-amount g c = record {
-  tries = λ naming.
-      try_refused _ c.from_residual-in_err-amount.ensures.0 (saw_found c.in_ok-many.ensures)
-      c.in_err-amount.ensures.looks;
-}
-
--- or there is too little memory
-pub returns-in_err-own : goal.returns-in_err-own
-returns-in_err-own g c = record {
-  tries = λ naming.
-      try_stopped _ c.from_residual-in_err-own.ensures.0
-      (saw_then (saw_found c.in_ok-many.ensures) (saw_found c.in_ok-amount.ensures.looks))
-      (remembers_same c.in_err-own.ensures.same refl refl refl);
 }

@@ -1,16 +1,11 @@
-use Rattle.std.proofs.Common.{◌≢◌, ◌∙◌, Ok, ap, sym}
+use Rattle.std.proofs.Common.{◌≢◌, ◌∙◌, Ok, ap}
 use Rattle.book_model.specs.Words.{if_done, terms_in}
 use Rattle.book_model.specs.declared.answer.Ruled.TheVariants.{Done}
 use Rattle.book_core.proofs.TariffLemmas.{said_by}
 use Rattle.table_ledger.proofs.Answering.{ruled_other}
-use Rattle.table_ledger.proofs.TariffTries.{tariff_other, tariff_plain, tariff_unread}
+use Rattle.table_ledger.proofs.TariffTries.{tariff_other, tariff_plain}
 use Rattle.table_ledger.proofs.TryLemmas.{saw_none}
 use Rattle.table_ledger.proofs.tariff.try_tariff.Goals as goal
-
-pub returns-in-Err : goal.returns-in-Err
-returns-in-Err g c = record {
-  tries = λ naming. tariff_unread c.args.text.now c.in-Err.fault c.in-Err.ensures.refused;
-}
 
 pub returns-then-not-is_done : goal.returns-then-not-is_done
 returns-then-not-is_done g c = record {
@@ -27,11 +22,4 @@ returns-then-not-is_done g c = record {
       (λ book at known.
       tariff_other summary text terms said naming _ book at (λ done. other (is ∙ done)))
       (λ book already. ap (if_done (said_by text (terms_in text))) already);
-}
-
--- the rest is done where the tariff is put in force
-pub put_in_force-requires : goal.put_in_force-requires
-put_in_force-requires g c = record {
-  said = c.in-Ok.ensures.said;
-  done = sym c.tariff_answer-answer.ensures ∙ c.is_done.ensures.done c.if-not-is_done.false;
 }

@@ -3,7 +3,6 @@ use Rattle.std.specs.FinMap.{keys}
 use Rattle.table_model.specs.Steps.{put_tariff_row, set_sums}
 use Rattle.table_model.specs.TableChanges.{reprice_step, walk}
 use Rattle.table_ledger.proofs.StepLemmas.{does_so, does_then}
-use Rattle.table_ledger.proofs.Refusals.{does_failed, does_failed_next}
 use Rattle.book_model.proofs.DayLemmas.{day_kept}
 use Rattle.table_ledger.proofs.tariff.write_tariff.Goals as goal
 
@@ -24,12 +23,3 @@ returns g c =
           (put_tariff_row (day i) (Some c.args.text.now)
           (walk (reprice_step c.args.period terms) (keys tables.records) tables)),
     ))
-
-pub returns-in_err-reprice_all : goal.returns-in_err-reprice_all
-returns-in_err-reprice_all g c =
-    does_failed _ c.from_residual.ensures.0 c.in_err-reprice_all.ensures.does
-
-pub returns-in_err-put_tariff : goal.returns-in_err-put_tariff
-returns-in_err-put_tariff g c =
-    does_failed_next _ c.from_residual-in_err-put_tariff.ensures.0
-    c.in_ok-reprice_all.ensures.does c.in_err-put_tariff.ensures.does

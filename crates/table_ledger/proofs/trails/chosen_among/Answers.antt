@@ -1,9 +1,7 @@
-use Rattle.std.proofs.Common.{◌∙◌, ◌++◌, ap, take_all}
-use Rattle.std.proofs.lemmas.Result.{err_from_is_err_and}
-use Rattle.table_ledger.specs.TrailReads.{chosen_of}
+use Rattle.std.proofs.Common.{◌∙◌, ◌++◌, ap}
 use Rattle.table_ledger.proofs.ChosenOrder.{chosen-more}
 use Rattle.table_ledger.proofs.OwnBooks.{fails_after_look}
-use Rattle.table_ledger.proofs.TryLemmas.{looks_known, saw_found, saw_so, saw_then}
+use Rattle.table_ledger.proofs.TryLemmas.{saw_found, saw_so, saw_then}
 use Rattle.table_ledger.proofs.trails.chosen_among.Goals as goal
 
 -- the choices of one more record
@@ -16,22 +14,8 @@ loop-stored-preserved g c = record {
       ∙ ap (λ some. c.loop-stored.all.items ++ some) c.deref.ensures.value));
 }
 
--- all of them
-pub returns-clause-looks : goal.returns-clause-looks
-returns-clause-looks g c =
-    looks_known c.loop-stored.invariant.saw (λ tables known.
-    known ∙ ap (λ some. chosen_of some tables)
-    (take_all c.loop-stored.stored-index c.args.rows.now c.loop-stored-test.false))
-
 -- why the choices of one were not listed
 pub returns-in_err-chosen-clause-cause : goal.returns-in_err-chosen-clause-cause
 returns-in_err-chosen-clause-cause g c =
     fails_after_look _ c.from_residual.ensures.1 c.loop-stored.invariant.saw
     c.in_err-chosen.ensures.looks c.in_err-chosen.ensures.cause
-
--- for the list only memory may run out
-pub returns-in_err-extend_from_slice-clause-cause : goal.returns-in_err-extend_from_slice-clause-cause
-returns-in_err-extend_from_slice-clause-cause g c =
-    let p = err_from_is_err_and c.from_residual-in_err-extend_from_slice.result
-    c.from_residual-in_err-extend_from_slice.ensures.1 in
-    rw (p.1, p.2) (λ clean tables holds fit. tt)

@@ -1,5 +1,4 @@
 use Rattle.std.proofs.Common.{◌+◌, arith, refl}
-use Rattle.std.proofs.lemmas.Result.{err_from_is_err_and}
 use Rattle.tree_tables.specs.Steps.{Always}
 use Rattle.table_ledger.proofs.OwnBooks.{fails_after_look}
 use Rattle.table_ledger.proofs.TraceLemmas.{turns_on}
@@ -24,10 +23,3 @@ returns-in_err-line-clause-cause g c =
     fails_after_look {When = Always} _ c.from_residual.ensures.1 c.loop-period.invariant.saw
     c.in_err-line.ensures.looks
     (λ clean tables holds always. c.in_err-line.ensures.cause clean tables holds tt)
-
--- for what is kept only memory may run out
-pub returns-in_err-push_turn-clause-cause : goal.returns-in_err-push_turn-clause-cause
-returns-in_err-push_turn-clause-cause g c =
-    let p = err_from_is_err_and c.from_residual-in_err-push_turn.result
-    c.from_residual-in_err-push_turn.ensures.1 in
-    rw (p.1, p.2) (λ clean tables holds always. tt)

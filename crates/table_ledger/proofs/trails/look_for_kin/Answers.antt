@@ -1,8 +1,6 @@
-use Rattle.std.proofs.Common.{◌∙◌, ap, map, refl, subst, sym, Err}
+use Rattle.std.proofs.Common.{◌∙◌, ap, map, subst, sym}
 use Rattle.std.specs.Prelude.{All}
-use Rattle.sqlite_trees.specs.declared.error.StoreError.TheVariants.{Corrupt}
 use Rattle.table_model.specs.DisputesRead.{variant_read}
-use Rattle.tree_tables.specs.Answers.{ListsSharing}
 use Rattle.tree_tables.specs.States.{state}
 use Rattle.tree_tables.specs.Stored.{stored_entry}
 use Rattle.tree_tables.specs.UsageData.{IsUsageData}
@@ -11,26 +9,9 @@ use Rattle.tree_tables.proofs.Looking.{caused_memory}
 use Rattle.table_ledger.specs.DisputeReads.{IsShownRow}
 use Rattle.table_ledger.specs.TrailReads.{CanBeTraced}
 use Rattle.table_ledger.proofs.OwnBooks.{cause_passed, fails_after_look}
-use Rattle.table_ledger.proofs.Refusals.{looks_failed, looks_failed_after, looks_failed_next}
 use Rattle.table_ledger.proofs.TrailTries.{members_dated, sharing_shown, sharing_usage}
-use Rattle.table_ledger.proofs.TryLemmas.{looks_known, saw_found, saw_none, saw_then}
+use Rattle.table_ledger.proofs.TryLemmas.{saw_found}
 use Rattle.table_ledger.proofs.trails.look_for_kin.Goals as goal
-
--- the records are not listed
-pub returns-in_err-rows-clause-looks : goal.returns-in_err-rows-clause-looks
-returns-in_err-rows-clause-looks g c =
-    looks_failed _ c.from_residual.ensures.0 c.in_err-rows.ensures.looks
-
-pub returns-in_err-rows-clause-cause : goal.returns-in_err-rows-clause-cause
-returns-in_err-rows-clause-cause g c =
-    fails_after_look {When = CanBeTraced} _ c.from_residual.ensures.1 saw_none
-    c.in_err-rows.ensures.looks
-    (λ clean tables holds can. c.in_err-rows.ensures.cause clean tables holds can.read.fit)
-
--- they cannot be shown
-pub returns-then-not-can_show-clause-looks : goal.returns-then-not-can_show-clause-looks
-returns-then-not-can_show-clause-looks g c =
-    looks_failed_after (Err Corrupt) refl (saw_found c.in_ok-rows.ensures.looks)
 
 pub returns-then-not-can_show-clause-cause : goal.returns-then-not-can_show-clause-cause
 returns-then-not-can_show-clause-cause g c = λ clean tables holds can.
@@ -39,12 +20,6 @@ returns-then-not-can_show-clause-cause g c = λ clean tables holds can.
     (subst (All (λ (row : StoredRecord). IsShownRow (stored_entry row)))
     (sym c.deref.ensures.value)
     (sharing_shown tables can c.args.identity.now c.in_ok-rows.rows.items known)))
-
--- they are not read
-pub returns-in_err-members-clause-looks : goal.returns-in_err-members-clause-looks
-returns-in_err-members-clause-looks g c =
-    looks_failed_after _ c.from_residual-in_err-members.ensures.0
-    (saw_found c.in_ok-rows.ensures.looks)
 
 pub returns-in_err-members-clause-cause : goal.returns-in_err-members-clause-cause
 returns-in_err-members-clause-cause g c =
@@ -58,29 +33,11 @@ returns-in_err-members-clause-cause g c =
     (sym c.deref-2.ensures.value)
     (sharing_usage tables can c.args.identity.now c.in_ok-rows.rows.items known))))
 
--- their choices are not read
-pub returns-in_err-choices-clause-looks : goal.returns-in_err-choices-clause-looks
-returns-in_err-choices-clause-looks g c =
-    looks_failed_next _ c.from_residual-in_err-choices.ensures.0
-    (saw_found c.in_ok-rows.ensures.looks) c.in_err-choices.ensures.looks
-
 pub returns-in_err-choices-clause-cause : goal.returns-in_err-choices-clause-cause
 returns-in_err-choices-clause-cause g c =
     fails_after_look {When = CanBeTraced} _ c.from_residual-in_err-choices.ensures.1
     (saw_found c.in_ok-rows.ensures.looks) c.in_err-choices.ensures.looks
     (λ clean tables holds can. c.in_err-choices.ensures.cause clean tables holds can.chosen)
-
--- all is read
-pub returns-clause-looks : goal.returns-clause-looks
-returns-clause-looks g c =
-    looks_known (saw_then (saw_found c.in_ok-rows.ensures.looks)
-    (saw_found c.in_ok-choices.ensures.looks)) (λ tables known. record {
-      members = c.in_ok-members.ensures.made
-          ∙ ap (λ rows. map variant_read (map stored_entry rows)) c.deref-2.ensures.value
-          ∙ ap (map variant_read) known.0;
-      choices = known.1 c.args.identity.now (subst (ListsSharing c.args.identity.now tables)
-          (sym c.deref-3.ensures.value) known.0);
-    })
 
 pub returns-clause-shown : goal.returns-clause-shown
 returns-clause-shown g c =

@@ -16,13 +16,7 @@ use Rattle.table_ledger.proofs.LineReadings.{found_there}
 use Rattle.table_ledger.proofs.OwnBooks.{own_failed}
 use Rattle.table_ledger.proofs.TrailTries.{by_stored, is_trail, no_record, own_traced, reckoned_is}
 use Rattle.table_ledger.proofs.TryLemmas.{saw_then, saw_found, saw_none, try_answered, try_refused}
-use Rattle.table_ledger.proofs.TryLemmas.{try_stopped}
 use Rattle.table_ledger.proofs.trails.try_trail_of.Goals as goal
-
--- the record is not looked for
-pub returns-in_err-stored-clause-tries : goal.returns-in_err-stored-clause-tries
-returns-in_err-stored-clause-tries g c = λ naming.
-    try_refused _ c.from_residual.ensures.0 saw_none c.in_err-stored.ensures.looks
 
 pub returns-in_err-stored-clause-own : goal.returns-in_err-stored-clause-own
 returns-in_err-stored-clause-own g c = λ naming wide.
@@ -38,15 +32,6 @@ returns-in_default-clause-tries g c = λ naming.
     (saw_as name c.in_default.is c.in_ok-stored.ensures.looks) (opens refl refl)
     (λ book at known. makes_refused trail_shown (trail_outcome naming name book) _
     (no_record at name known))
-
-pub returns-in_default-clause-own : goal.returns-in_default-clause-own
-returns-in_default-clause-own g c = λ naming wide. refl
-
--- its data are not read
-pub returns-in_err-bytes-clause-tries : goal.returns-in_err-bytes-clause-tries
-returns-in_err-bytes-clause-tries g c = λ naming.
-    try_stopped _ c.from_residual-in_err-bytes.ensures.0 (saw_found c.in_ok-stored.ensures.looks)
-    (λ book same. same)
 
 pub returns-in_err-bytes-clause-own : goal.returns-in_err-bytes-clause-own
 returns-in_err-bytes-clause-own g c = λ naming wide.
@@ -74,9 +59,6 @@ returns-in_default-reckon_in-clause-tries g c = λ naming.
     (saw_as name c.in-Some.is c.in_ok-stored.ensures.looks) (opens refl refl)
     (λ book at known. makes_refused trail_shown (trail_outcome naming name book) _
     (by_stored at name stored _ known reckoned))
-
-pub returns-in_default-reckon_in-clause-own : goal.returns-in_default-reckon_in-clause-own
-returns-in_default-reckon_in-clause-own g c = λ naming wide. refl
 
 -- the records of its identity are not read
 pub returns-in_err-kin-clause-tries : goal.returns-in_err-kin-clause-tries
@@ -131,11 +113,3 @@ returns-clause-tries g c = λ naming.
     makes_answer trail_shown (trail_outcome naming name book) trail
     (is_trail at name stored trail known.0.0 reckoned bytes c.period_of_day.ensures.number
     kin.members kin.choices known.1) refl)
-
--- and can be shown
-pub returns-clause-shown : goal.returns-clause-shown
-returns-clause-shown g c = record {
-  usage = c.in_ok-bytes.ensures.usage;
-  tariff = c.in-Some-reckon_in.ensures.day;
-  days = c.in_ok-kin.ensures.shown;
-}

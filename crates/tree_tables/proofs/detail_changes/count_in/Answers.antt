@@ -1,4 +1,3 @@
-use Rattle.tree_rows.proofs.Calls.{schema_both}
 use Rattle.tree_tables.proofs.DetailRows.{count_missing, detail_put}
 use Rattle.tree_tables.proofs.Looking.{does_alone, does_seen, does_told}
 use Rattle.tree_tables.proofs.detail_changes.count_in.Goals as goal
@@ -19,6 +18,3 @@ returns-clause-does g c =
       only = puts.rewrites.only;
       made = λ tables holds found. detail_put found.1 found.2 puts holds;
     }))
-
-pub returns-clause-schema : goal.returns-clause-schema
-returns-clause-schema g c = schema_both c.make_detail.ensures.schema c.put_row.ensures.schema

@@ -1,26 +1,14 @@
-use Rattle.std.proofs.Common.{◌≡◌, Vec, Global, ◌∙◌, sym, ap, subst, Bool, Ok, Err, refl}
-use Rattle.std.proofs.lemmas.Result.{err_from_is_err_and}
-use Rattle.book_model.specs.Words.{Answers, AreRows, FitSums, period_of, rows_if_room, rows_of}
+use Rattle.std.proofs.Common.{◌≡◌, ◌∙◌, sym, ap, subst, Bool, Ok, refl}
+use Rattle.book_model.specs.Words.{AreRows, FitSums, period_of, rows_if_room, rows_of}
 use Rattle.book_model.specs.Words.{what_if_answer}
-use Rattle.book_model.specs.declared.row.ChargeRow.{ChargeRow}
 use Rattle.book_core.specs.Plain.{Entry}
-use Rattle.book_core.specs.PlainBook.{book_in, period_in}
+use Rattle.book_core.specs.PlainBook.{book_in}
 use Rattle.book_core.specs.Treatments.{is_counted, treatment_in}
-use Rattle.book_core.proofs.OtherPriceLemmas.{answer_under, fit_under, refused_under, room_of}
+use Rattle.book_core.proofs.OtherPriceLemmas.{answer_under, fit_under, room_of}
 use Rattle.book_core.proofs.OtherPriceLemmas.{shown_under, when_dear, when_room}
 use Rattle.book_core.proofs.plain.PlainLedger.charge_rows_under.Given.{Over}
 use Rattle.book_core.proofs.plain.PlainLedger.charge_rows_under.Goals as goal
 use Rattle.book_core.proofs.plain.PlainLedger.charge_rows_under.Goals.{After-are_too_dear}
-
-pub returns-in_err-period-clause-rows : goal.returns-in_err-period-clause-rows
-returns-in_err-period-clause-rows g c =
-    let ledger = c.args.self.now in
-    let found = period_of (book_in ledger) c.args.number in
-    let p = err_from_is_err_and c.from_residual.result c.from_residual.ensures.1 in
-    subst (λ result. Answers (λ rows. rows.items) result (what_if_answer c.args.tariff.now found))
-    (sym (p.1 ∙ ap Err p.2))
-    (refused_under (period_in ledger) (λ (rows : Vec ChargeRow Global). rows.items)
-    c.args.tariff.now found c.in_err-period.field-0.0 c.in_err-period.ensures)
 
 pub charge_rows-requires : goal.charge_rows-requires
 charge_rows-requires g c =

@@ -1,6 +1,6 @@
-use Rattle.std.proofs.Common.{◌≡◌, ◌∙◌, ◌+◌, ◌<◌, [], ◌∷◌, Some, length, sym, subst, ap}
+use Rattle.std.proofs.Common.{◌≡◌, ◌∙◌, ◌+◌, [], ◌∷◌, Some, length, sym, subst, ap}
 use Rattle.std.proofs.lemmas.List.{length-append}
-use Rattle.book_model.specs.Words.{IsDay, Rulings, last_period, open_by, with_close}
+use Rattle.book_model.specs.Words.{Rulings, with_close}
 use Rattle.book_core.specs.Plain.{ruled_by, with_choices}
 use Rattle.book_core.specs.PlainBook.{book_in}
 use Rattle.book_core.specs.Treatments.{IsPeriodEnd, charges, has_name_in, treatment_at}
@@ -20,14 +20,6 @@ ruled g c =
     ap (with_choices choices) c.put_close.ensures
     ∙ (λ i. with_choices choices (with_close (day_kept c.args.through c.requires.day i)
     (c.reserve_close.ensures.same i)))
-
-pub put_close-requires : goal.put_close-requires
-put_close-requires g c = record {
-  room = c.in_ok-reserve_close.ensures.room;
-  day = subst IsDay (sym (day_kept c.args.through c.requires.day)) c.requires.day;
-  few = subst (λ rulings. open_by rulings < last_period) (sym c.reserve_close.ensures.same)
-      c.requires.few;
-}
 
 pub returns-clause-book : goal.returns-clause-book
 returns-clause-book g c =

@@ -1,6 +1,6 @@
 use Rattle.std.proofs.Common.{◌≡◌, ◌∙◌, sym, ap, subst, Some, length}
 use Rattle.std.specs.List.Sorted.{IsStrictlySortedBy}
-use Rattle.book_model.specs.Words.{Rulings, by_bytes, has, is_later, with_tariff}
+use Rattle.book_model.specs.Words.{Rulings, by_bytes, has, with_tariff}
 use Rattle.book_core.specs.Plain.{AreBooked, ruled_by, with_choices}
 use Rattle.book_core.specs.CachedRecords.{AllPass}
 use Rattle.book_core.specs.PlainBook.{book_in, book_with}
@@ -11,15 +11,6 @@ use Rattle.book_core.proofs.TariffLemmas.{fits_anew, kept_anew}
 use Rattle.book_core.proofs.plain.PlainLedger.keep_tariff.Given.{Over}
 use Rattle.book_core.proofs.plain.PlainLedger.keep_tariff.Goals as goal
 use Rattle.book_core.proofs.plain.PlainLedger.keep_tariff.Goals.{After-put_tariff}
-
-pub put_tariff-requires : goal.put_tariff-requires
-put_tariff-requires g c =
-    let terms = c.args.tariff in
-    record {
-      room = c.in_ok-reserve_tariff.ensures.room;
-      later = ap (is_later terms.effective) c.reserve_tariff.ensures.same
-          ∙ (tariff_passes (book_in c.args.self.now) c.args.text.now terms c.requires.done).later;
-    }
 
 -- the rulings then
 ruled : (g : Over) (c : After-put_tariff g)

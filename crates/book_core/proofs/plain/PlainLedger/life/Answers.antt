@@ -1,18 +1,8 @@
-use Rattle.std.proofs.Common.{◌∙◌, ◌<◌, length, sym, ap, subst, arith}
-use Rattle.book_model.specs.Words.{last_period}
-use Rattle.book_core.specs.PlainBook.{book_in}
+use Rattle.std.proofs.Common.{◌∙◌, ap, arith}
 use Rattle.book_core.specs.Treatments.{treatment_at}
 use Rattle.book_core.specs.PlainLives.{closed_shares, turns_at}
 use Rattle.book_core.proofs.LifeLemmas.{life-told}
 use Rattle.book_core.proofs.plain.PlainLedger.life.Goals as goal
-
-pub closed_turns-requires : goal.closed_turns-requires
-closed_turns-requires g c =
-    let ledger = c.args.self.now in
-    let counted = ledger.counted in
-    let few = ledger.rulings.few in
-    subst (λ closed. length closed < last_period) (sym c.deref.ensures.value)
-    (omega (arith, counted, few))
 
 pub returns : goal.returns
 returns g c =

@@ -7,7 +7,6 @@ use Rattle.book_core.specs.PlainBook.{book_in}
 use Rattle.book_core.specs.Repricing.{ruled_by_cost}
 use Rattle.book_core.proofs.TariffLemmas.{said_by, tariff_answer-of}
 use Rattle.book_core.proofs.plain.PlainLedger.put_in_force.Given.{Over}
-use Rattle.book_core.proofs.plain.PlainLedger.put_in_force.Goals as goal
 use Rattle.book_core.proofs.plain.PlainLedger.put_in_force.Goals.{After-cost_in_force}
 
 -- the call, where the text was read, by what the ledger answers to its terms
@@ -25,18 +24,3 @@ call_is g c answer new is changed =
     (tariff_answer-of book text (terms_in text) c.in_ok-tariff.tariff
     (ruled_by_cost c.cost_in_force.result) read c.cost_in_force.ensures.answer ∙ is)
     (changed ∙ ap (λ said. after_any (if_done (said_by text said) (Ok answer)) book) (sym read))
-
-pub returns-in-None : goal.returns-in-None
-returns-in-None g c = record {
-  call = call_is g (goal.at.returns-in-None g c).After-cost_in_force _ _
-      (ap ruled_by_cost (c.in_ok-cost_in_force.was ∙ ap Ok c.in-None.is)) refl;
-  naming = refl;
-}
-
-pub returns-in_ok-keep_tariff-in-Some : goal.returns-in_ok-keep_tariff-in-Some
-returns-in_ok-keep_tariff-in-Some g c = record {
-  call = call_is g (goal.at.returns-in_ok-keep_tariff-in-Some g c).After-cost_in_force _ _
-      (ap ruled_by_cost (c.in_ok-cost_in_force.was ∙ ap Ok c.in-Some.is))
-      c.in_ok-keep_tariff-in-Some.ensures.book;
-  naming = c.keep_tariff.ensures.naming;
-}

@@ -1,4 +1,4 @@
-use Rattle.std.proofs.Common.{◌≡◌, ◌∙◌, [], ℕ, List, Some, None, Ok, ap, map, sym, subst}
+use Rattle.std.proofs.Common.{◌∙◌, [], ℕ, List, Some, None, Ok, map, sym, subst}
 use Rattle.std.specs.Option.{option_map}
 use Rattle.std.specs.Prelude.{All, filter}
 use Rattle.book_model.specs.declared.dispute.Variant.{Variant}

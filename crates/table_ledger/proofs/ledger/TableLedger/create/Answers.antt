@@ -1,6 +1,5 @@
-use Rattle.std.proofs.Common.{◌≡◌, false, refl, subst, sym}
+use Rattle.std.proofs.Common.{refl, subst, sym}
 use Rattle.sqlite_trees.specs.Tree.{Trees}
-use Rattle.tree_tables.specs.Holds.{has_book}
 use Rattle.tree_tables.specs.States.{state}
 use Rattle.tree_tables.specs.Steps.{HasNoRows}
 use Rattle.table_ledger.specs.Commits.{IsAtRest}
@@ -15,8 +14,3 @@ returns-in-Ok-clause-books g c = λ clean rest none.
     (c.in-Ok.ensures.makes.made clean (subst (λ store. IsAtRest (g.S.Store.view store)) given rest)
     (subst (λ store. HasNoRows (g.S.Store.view store).trees) given none))
     c.new.ensures refl refl refl
-
-pub returns-in-Ok-clause-absent : goal.returns-in-Ok-clause-absent
-returns-in-Ok-clause-absent g c = λ clean.
-    subst (λ store. has_book (g.S.Store.view store).trees ≡ false) c.over-tables.ensures
-    (c.in-Ok.ensures.makes.absent clean)

@@ -7,7 +7,6 @@ use Rattle.book_core.proofs.SubmissionLemmas.{takes_part}
 use Rattle.book_core.proofs.TransitionLemmas.{work_as}
 use Rattle.table_ledger.specs.LedgerState.{ledger_state}
 use Rattle.table_ledger.specs.Stages.{most_in_commit}
-use Rattle.table_ledger.proofs.FinishedLists.{answer_said}
 use Rattle.table_ledger.proofs.OneCall.{many_come, many_reopen}
 use Rattle.table_ledger.proofs.ServedWork.{work_settled}
 use Rattle.table_ledger.proofs.ledger.TableLedgerLedger.accept_many.Goals as goal
@@ -54,6 +53,3 @@ returns-clause-few g c =
     c.first_records-first.ensures.first takes)
     (work_settled (many_come names (records_in part)) g.S.Store c.args.self.now.tables.store
     c.if-self.false g.met.S.Store.settled c.finish.ensures.settles c.try_accept_many-tried.ensures.tries).0
-
-pub returns-clause-some : goal.returns-clause-some
-returns-clause-some g c = answer_said _ c.finish.ensures.settles c.try_accept_many-tried.ensures.some

@@ -1,6 +1,5 @@
-use Rattle.std.proofs.Common.{◌∙◌, sym, true≢false}
 use Rattle.table_ledger.specs.LedgerState.{ledger_state}
-use Rattle.table_ledger.proofs.FinishedLists.{answer_said, own_settled}
+use Rattle.table_ledger.proofs.FinishedLists.{own_settled}
 use Rattle.table_ledger.proofs.OneCall.{call_reopen, call_settled}
 use Rattle.table_ledger.proofs.ledger.TableLedgerLedger.ruling.Goals as goal
 
@@ -13,17 +12,9 @@ returns-clause-ruling g c =
     call_settled g.S.Store c.args.self.now.tables.store c.if-self.false g.met.S.Store.settled
     c.finish.ensures.settles (c.try_ruling-tried.ensures.tries _)
 
--- a ledger that is to be reopened lists nothing
-pub returns-then-self-clause-own : goal.returns-then-self-clause-own
-returns-then-self-clause-own g c = λ other clean books open_now.
-    absurd (true≢false (sym c.if-self.true ∙ open_now))
-
 -- what fails is the store's own
 pub returns-clause-own : goal.returns-clause-own
 returns-clause-own g c =
     own_settled _ g.S.Store c.args.self.now.tables.store c.finish.ensures.settles
     (c.try_ruling-tried.ensures.tries _) (c.try_ruling-tried.ensures.own _ (g.met.N.Naming.wide c.args.self.now.naming))
     c.finish.ensures.served c.finish.ensures.mended
-
-pub returns-clause-shown : goal.returns-clause-shown
-returns-clause-shown g c = answer_said _ c.finish.ensures.settles c.try_ruling-tried.ensures.shown

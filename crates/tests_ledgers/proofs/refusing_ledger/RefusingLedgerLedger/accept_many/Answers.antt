@@ -1,8 +1,6 @@
-use Rattle.std.proofs.Common.{ℕ, Err, Vec, Global, sym, subst}
-use Rattle.std.specs.Prelude.{All}
-use Rattle.std.proofs.lemmas.List.Elements.{All-take}
+use Rattle.std.proofs.Common.{Err}
 use Rattle.book_model.specs.declared.answer.Accepted.{Accepted}
-use Rattle.book_model.specs.Words.{IsUsageRecord, accept_outcome}
+use Rattle.book_model.specs.Words.{accept_outcome}
 use Rattle.book_core.specs.Submissions.{Takes, first_of, records_in}
 use Rattle.book_core.proofs.SubmissionLemmas.{refused_one, some_in, takes_part}
 use Rattle.book_core.proofs.TransitionLemmas.{work_as}
@@ -17,13 +15,6 @@ returns-then-is_due-clause-takes g c =
     (refused_one seen.naming records c.refusal.result (some_in c.args.records.now c.requires.some))
     (refused_as {V = _} _ (λ (accepted : Accepted). accepted) _ _ c.refusal.result
     (accept_outcome seen.naming (first_of records)) c.refusal.ensures).work
-
-pub accept_many-requires-2-clause-usage : goal.accept_many-requires-2-clause-usage
-accept_many-requires-2-clause-usage g c =
-    subst (λ records. All (λ (one : Vec ℕ Global). IsUsageRecord one.items) records)
-    (sym c.first_alone-first.ensures.first)
-    (All-take (λ (one : Vec ℕ Global). IsUsageRecord one.items) 1 c.args.records.now
-    c.requires.usage)
 
 pub returns-clause-takes : goal.returns-clause-takes
 returns-clause-takes g c =

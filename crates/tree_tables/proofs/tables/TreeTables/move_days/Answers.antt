@@ -1,6 +1,6 @@
 use Rattle.std.proofs.Common.{refl, rules}
 use Rattle.tree_rows.proofs.Calls.{clean_before, quiet_both}
-use Rattle.tree_tables.proofs.Looking.{does_err, does_well, kept_after, kept_by, survives}
+use Rattle.tree_tables.proofs.Looking.{does_well}
 use Rattle.tree_tables.proofs.MoveDays.{all_moved, some_looked, some_more}
 use Rattle.tree_tables.proofs.tables.TreeTables.move_days.Goals as goal
 
@@ -30,21 +30,4 @@ returns-then-not-branch g c = record {
       (c.rows.invariant.some (clean_before g.S.Store c.move_day.ensures.quiet clean))
       (c.in_ok-move_day.ensures.moved clean))
       (c.in_ok-move_day.ensures.ended c.if-not-branch.true clean));
-}
-
--- a step failed
-pub returns-in_err-move_day : goal.returns-in_err-move_day
-returns-in_err-move_day g c = record {
-  does = does_err c.from_residual.result c.from_residual.ensures.0
-      (survives g.S.Store (quiet_both g.S.Store c.rows.invariant.quiet c.move_day.ensures.quiet))
-      (λ clean. kept_after
-      (c.rows.invariant.some (clean_before g.S.Store c.move_day.ensures.quiet clean)).only
-      (c.in_err-move_day.ensures.kept clean));
-}
-
--- too many went
-pub returns : goal.returns
-returns g c = record {
-  does = does_err _ refl (survives g.S.Store c.rows.invariant.quiet)
-      (λ clean. kept_by (c.rows.invariant.some clean).only);
 }

@@ -3,7 +3,7 @@ use Rattle.std.proofs.lemmas.Int.{to_z-of_z}
 use Rattle.tree_tables.specs.declared.detail_rows.DetailStart.TheVariants.{Day}
 use Rattle.tree_tables.specs.LateRecords.{FindsCounted, LateFit}
 use Rattle.tree_tables.proofs.LateWalk.{among_details, next_by_mark, past_marks}
-use Rattle.tree_tables.proofs.Looking.{err_on, err_so, fails_after_look, looks_after_look, looks_so}
+use Rattle.tree_tables.proofs.Looking.{err_so, fails_after_look, looks_after_look, looks_so}
 use Rattle.tree_tables.proofs.Looking.{looks_told}
 use Rattle.tree_tables.proofs.tables.TreeTables.next_late.Goals as goal
 
@@ -22,11 +22,6 @@ returns-in-Some-2-clause-looks g c =
     looks_so (rw c.in-Some-2.is at c.in_ok-stored.ensures.looks)
     (λ tables next. next_by_mark c.args.first c.args.last.now tables
     (sym c.next_start.ensures ∙ c.in_default.is) c.in-Some-2.stored next)
-
-pub returns-in_err-stored-clause-cause : goal.returns-in_err-stored-clause-cause
-returns-in_err-stored-clause-cause g c =
-    err_on _ c.from_residual.result c.from_residual.ensures.1 (λ clean tables holds fit.
-    c.in_err-stored.ensures.cause clean tables holds fit.records)
 
 -- of which none is left: it goes on with the first detail
 pub returns : goal.returns

@@ -1,4 +1,4 @@
-use Rattle.tree_tables.proofs.Looking.{err_so, looks_alone}
+use Rattle.tree_tables.proofs.Looking.{looks_alone}
 use Rattle.tree_tables.proofs.Passes.{takes_next}
 use Rattle.tree_tables.proofs.tables.TreeTables.next_record.Goals as goal
 
@@ -10,8 +10,3 @@ returns-clause-looks g c =
     looks_alone g.S.Store c.next_row.result c.next_row.ensures.quiet c.next_row.ensures.same
     c.next_row.ensures.kept c.next_row.ensures.next
     (λ there it clean tables holds. takes_next old new c.next_row.new.row there it)
-
-pub returns-clause-cause : goal.returns-clause-cause
-returns-clause-cause g c =
-    err_so c.next_row.result c.next_row.ensures.cause
-    (λ error cause clean tables holds always. cause clean)

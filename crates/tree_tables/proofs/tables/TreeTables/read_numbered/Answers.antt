@@ -20,9 +20,3 @@ returns-in_err-choice-clause-cause g c =
     c.in_err-choice.ensures.looks.survives (λ clean tables holds so_far all.
     c.in_err-choice.ensures.cause clean tables holds
     (one_numbered tables numbers c.loop-one.one-index _ c.loop-one-test.true all)))
-
--- for the list only memory may be lacking
-pub returns-in_err-push-clause-cause : goal.returns-in_err-push-clause-cause
-returns-in_err-push-clause-cause g c =
-    err_on _ c.from_residual-in_err-push.result c.from_residual-in_err-push.ensures.1
-    (λ clean tables holds all. tt)

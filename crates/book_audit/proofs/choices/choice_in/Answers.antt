@@ -1,7 +1,0 @@
-use Rattle.std.proofs.Common.{rules}
-use Rattle.book_audit.proofs.Rows.Columns.{row_is}
-use Rattle.book_audit.proofs.choices.choice_in.Goals as goal
-
-pub returns-clause-read : goal.returns-clause-read
-returns-clause-read c =
-    row_is c.args.row.now _ c.requires (search rules, (search rules, (search rules, tt)))
