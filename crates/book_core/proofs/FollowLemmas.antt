@@ -25,9 +25,9 @@ use Rattle.book_core.specs.Ledgers.{Seen}
 use Rattle.book_core.specs.Transition.{Transition, NoEvent, Then, IsTransition}
 use Rattle.book_core.specs.Calls.{Makes, Calls, listed}
 use Rattle.book_core.specs.Follow.{FollowsHistory, MakesAnswered}
-use Rattle.book_core.proofs.ChosenLemmas.{meant_by}
+use Rattle.book_core.proofs.RulingLemmas.{meant_by}
 use Rattle.book_core.proofs.NamedLemmas.{its_name}
-use Rattle.book_core.proofs.TariffLemmas.{said_by}
+use Rattle.book_core.proofs.RulingLemmas.{said_by}
 use Rattle.book_core.proofs.TransitionLemmas.{after_all-append}
 
 -- work without an event makes none

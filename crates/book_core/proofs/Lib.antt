@@ -1,5 +1,5 @@
--- Work on a ledger, and on the books of a history; entries of a map, and what those of a plain
--- ledger hold, charge and dispute; and at the end their details, and the trail of an entry.
+-- Work on a ledger, and on the books of a history; what is held under a name or at a key, and the
+-- rows and the rulings that ledgers share.
 pub mod RulingLemmas
 pub mod ListedLemmas
 pub mod TransitionLemmas
@@ -10,27 +10,8 @@ pub mod NamedLemmas
 pub mod SubmissionLemmas
 pub mod FollowLemmas
 pub mod EntryLemmas
-pub mod HeldLemmas
-pub mod CacheLemmas
 pub mod IdentityInForce
-pub mod AcceptLemmas
-pub mod ChoiceLemmas
-pub mod ChargedLemmas
-pub mod DisputeLemmas
 pub mod GroupLemmas
 pub mod KeyedRowLemmas
 pub mod ListLimits
-pub mod RepeatLemmas
-pub mod IdentityLemmas
-pub mod RepricingLemmas
-pub mod TariffLemmas
-pub mod NameLemmas
-pub mod TreatmentLemmas
-pub mod BookLemmas
-pub mod ChosenLemmas
 pub mod MemoryLemmas
-pub mod OtherPriceLemmas
-pub mod LineLemmas
-pub mod PlainDetailLemmas
-pub mod LifeLemmas
-pub mod TrailLemmas

@@ -1,4 +1,4 @@
--- The record that is held under a name: it has the name.
+-- The record that is held under a name: it has the name. And records in the order by name.
 use Rattle.std.proofs.Common.{◌≡◌, ◌∙◌, ◌||◌, ℕ, List, [], ◌∷◌, refl, sym, ap, Bool, true, cond}
 use Rattle.std.proofs.Common.{false, Some, is_some}
 use Rattle.std.specs.Prelude.{find}
@@ -6,7 +6,14 @@ use Rattle.std.specs.List.{list_any}
 use Rattle.std.proofs.lemmas.Map.Lookups.{exact_bytes}
 use Rattle.std.proofs.lemmas.Map.Views.{tells_apart}
 use Rattle.book_model.specs.Words.{Naming, Records, members, name_of, record_named, same_bytes}
+use Rattle.book_model.specs.Words.{by_name, by_bytes}
 use Rattle.book_model.proofs.SetLemmas.{same_bytes-by_cmp}
+use Rattle.std.specs.Cmp.{IsTotalOrder}
+use Rattle.std.specs.FinMap as finite
+use Rattle.std.specs.Ordering.{ordering_then}
+use Rattle.std.specs.declared.cmp.Ordering.{Ordering}
+use Rattle.std.specs.declared.cmp.Ordering.TheVariants.{Less, Equal, Greater}
+use Rattle.std.proofs.lemmas.Cmp.{nat_list_cmp_total, then_total, on_total}
 
 -- what is found in a list passes the test
 find-passes : (p : List ℕ → Bool) (list : List (List ℕ)) (one : List ℕ) → find p list ≡ Some one
@@ -46,3 +53,19 @@ pub is_some-named : (naming : Naming) (held : Records) (name : List ℕ)
     ≡ list_any (λ other. same_bytes (name_of naming other) name) (members held)
 is_some-named naming held name =
     is_some-find (λ other. same_bytes (name_of naming other) name) (members held)
+
+-- the order by name is total
+pub by_name_total : (naming : Naming) → IsTotalOrder (by_name naming)
+by_name_total naming = then_total (on_total (name_of naming) nat_list_cmp_total) nat_list_cmp_total
+
+-- of two answers in turn, the second
+pub second_equal : (r s : Ordering) → ordering_then r s ≡ Equal → s ≡ Equal
+second_equal Less s tied = cc
+second_equal Equal s tied = tied
+second_equal Greater s tied = cc
+
+-- and the order by name keeps all records apart
+pub by_name_exact : (naming : Naming) → finite.IsAntisymmetric (by_name naming)
+by_name_exact naming a b tied =
+    let by_names = by_bytes (name_of naming a) (name_of naming b) in
+    exact_bytes a b (second_equal by_names (by_bytes a b) tied)

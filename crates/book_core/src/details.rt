@@ -3,16 +3,24 @@
 ghost use Rattle.std.specs.Prelude.{◌≡◌, length, map};
 ghost use Rattle.std.specs.List.{IsDistinct};
 ghost use Rattle.book_model.specs.Details as spec;
+ghost use Rattle.book_model.specs.Rows as row;
 ghost use Rattle.book_model.specs.Words.{by_detail, members, same_bytes, set_of};
-ghost use Rattle.book_core.specs.PlainDetails as plain;
 
 use crate::charge_rows::key_of;
-use crate::held::HeldRecord;
-use crate::variant::copied;
 use book_model::{Detail, RowKey};
 use smf_text::Name;
 use smf_type30::Type30;
 use tariff_rules::Priced;
+
+/// The bytes of a name that a record lends.
+pub fn copied(name: &[u8]) -> [u8; 8]
+    requires { length name.now ≡ 8 }
+    ensures { result ≡ name.now }
+{
+    let mut bytes = [0; 8];
+    bytes.copy_from_slice(name);
+    bytes
+}
 
 /// A record as details show it, by its name and by what it costs.
 pub fn detail_with(name: &[u8; 32], usage: &Type30<'_>, priced: Priced) -> Detail
@@ -29,22 +37,15 @@ pub fn detail_with(name: &[u8; 32], usage: &Type30<'_>, priced: Priced) -> Detai
     }
 }
 
-/// The record that is held under a name, as details show it.
-pub(crate) fn detail(name: &[u8; 32], held: &HeldRecord) -> Detail
-    ensures { result ≡ plain.detail_at (name.now, held.now) }
-{
-    detail_with(name, &held.usage(), held.priced)
-}
-
 /// The place of a detail: as charge rows stand, then by time, then by name.
 fn place_of(detail: &Detail) -> (RowKey, (u32, [u8; 32]))
-    ensures { result ≡ plain.place_of detail.now }
+    ensures { result ≡ (row.key_of detail.now.priced, (detail.now.time, detail.now.name)) }
 {
     (key_of(&detail.priced), (detail.time, detail.name))
 }
 
 /// Puts details of different names in the order in which they are read, by their places.
-pub(crate) fn sort_details(details: &mut [Detail])
+pub fn sort_details(details: &mut [Detail])
     requires { IsDistinct same_bytes (map (λ detail. detail.name) details.old) }
     ensures sorted { details.new ≡ members (set_of by_detail details.old) }
     ensures len { length details.new ≡ length details.old }
@@ -70,27 +71,4 @@ pub fn comes_after(last: Option<Detail>, detail: &Detail) -> bool
         Some(last) => place_of(&last).cmp(&place_of(detail)).is_lt(),
         None => true,
     }
-}
-
-/// The detail is asked for, and comes after the last one.
-fn is_sought(centre: &Option<Name>, last: &Option<Detail>, detail: &Detail) -> bool
-    ensures { result ≡ plain.is_sought centre.now last.now detail.now }
-{
-    is_asked(*centre, detail) && comes_after(*last, detail)
-}
-
-/// The first of some details that comes after the last one, of the centre that is named or of all.
-pub(crate) fn next_of(
-    details: &[Detail],
-    centre: Option<Name>,
-    last: Option<Detail>,
-) -> Option<Detail>
-    ensures { result ≡ plain.next_among centre last details.now }
-{
-    for detail in details {
-        if is_sought(&centre, &last, detail) {
-            return Some(*detail);
-        }
-    }
-    None
 }

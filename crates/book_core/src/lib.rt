@@ -1,31 +1,18 @@
-//! The calls of any ledger, and a plain ledger that keeps its books in memory.
+//! The calls of any ledger, and rules that ledgers share.
 #![tactic(auto)]
 
 mod acceptance;
 mod accepted_tariff;
 mod charge_rows;
-mod choices;
-mod chosen;
-mod closed;
+mod close_days;
 mod details;
 mod effects;
-mod held;
-mod identities;
-mod identity;
 mod ledger;
-mod life;
 mod limits;
 mod lines;
 mod listed_rulings;
-mod period;
-mod period_end;
-mod plain;
 mod pricing;
-mod record_cache;
-mod repricing;
 mod rulings;
-mod treatment;
-mod variant;
 
 pub use book_model::{
     Accepted, ChargeRow, Deed, Detail, Dispute, LedgerFault, Line, ListedRuling, NamedChoice,
@@ -35,7 +22,8 @@ pub use book_model::{
 pub use acceptance::{is_full, name_of};
 pub use accepted_tariff::{AcceptedTariff, are_before};
 pub use charge_rows::{empty_row, key_of, row_with};
-pub use details::{comes_after, detail_with, is_asked};
+pub use close_days::{is_after, is_through};
+pub use details::{comes_after, copied, detail_with, is_asked, sort_details};
 pub use effects::{
     ChoiceEffects, DayChange, Effects, LineChange, Member, View, plan, plan_charge, plan_choice,
 };
@@ -43,11 +31,8 @@ pub use ledger::Ledger;
 pub use limits::{LAST_PERIOD, MAX_CHOICES, MAX_COST, MAX_HELD};
 pub use lines::sort_lines;
 pub use listed_rulings::ListedAt;
-pub use period_end::{is_after, is_through};
-pub use plain::PlainLedger;
 pub use pricing::{price_in, reckon_in};
 pub use rulings::{Rulings, is_done};
 pub use smf_text::Name;
 pub use streams::{Sink, Source};
 pub use tariff_rules::Tariff;
-pub use variant::copied;

@@ -7,8 +7,8 @@ ghost use Rattle.book_model.specs.Words.{IsDay, are_rising, last_period};
 ghost use Rattle.book_model.specs.RulingAnswers as spec;
 
 use crate::accepted_tariff::{AcceptedTariff, are_before, has_day_of, has_text};
+use crate::close_days::is_after;
 use crate::limits::LAST_PERIOD;
-use crate::period_end::is_after;
 use book_model::{LedgerFault, Ruled};
 use std::alloc::{AllocError, Global};
 use tariff_rules::Tariff;

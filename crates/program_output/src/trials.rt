@@ -8,9 +8,10 @@ ghost use Rattle.book_reports.specs.Writing.{is_write_fault, is_write_or_memory}
 ghost use Rattle.program_output.specs.Readings.{reading};
 ghost use Rattle.program_output.specs.Trials.{IsTrial};
 
-use book_core::{PlainLedger, ShaNames, Sink, Source};
+use book_core::{ShaNames, Sink, Source};
 use book_import::{Receipt, import};
 use book_reports::{ReportFault, dispute_list, receipt_line, statement};
+use plain_ledger::PlainLedger;
 use smf_frames::Layout;
 use std::alloc::Global;
 use std::io::{Read, Write};

@@ -44,7 +44,7 @@ use Rattle.table_ledger.proofs.Answering.{opens, opens_if}
 use Rattle.table_ledger.proofs.Remembered.{Says}
 use Rattle.table_ledger.proofs.StageLemmas.{IsEvent, stage_steps}
 use Rattle.table_ledger.proofs.TryLemmas.{saw_found, saw_so, saw_then}
-use Rattle.book_core.proofs.ChosenLemmas.{meant_by}
+use Rattle.book_core.proofs.RulingLemmas.{meant_by}
 use Rattle.book_core.proofs.NamedLemmas.{its_name}
 
 -- a record that was found is that of its row

@@ -8,7 +8,7 @@ use Rattle.std.specs.List.{AllByRecursion}
 use Rattle.std.proofs.lemmas.Cmp.{nat_list_cmp_total}
 use Rattle.std.proofs.lemmas.Map.Lookups.{exact_bytes}
 use Rattle.book_model.specs.Words.{Terms, same_bytes}
-use Rattle.book_core.specs.Repricing.{if_room}
+use Rattle.book_core.specs.Room.{if_room}
 use Rattle.table_model.specs.TableChanges.{amount_under}
 use Rattle.table_model.specs.Tables.{RecordRow, Tables}
 use Rattle.table_model.proofs.PriceSums.{part_within}

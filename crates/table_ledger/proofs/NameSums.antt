@@ -7,7 +7,7 @@ use Rattle.std.proofs.lemmas.Cmp.{nat_list_cmp_total}
 use Rattle.std.proofs.lemmas.List.Sums.{sum_by-cons}
 use Rattle.std.proofs.lemmas.Map.Lookups.{exact_bytes}
 use Rattle.book_model.specs.Words.{Terms, by_bytes, most_cost}
-use Rattle.book_core.specs.Repricing.{if_room}
+use Rattle.book_core.specs.Room.{if_room}
 use Rattle.table_model.specs.TableChanges.{amount_under}
 use Rattle.table_model.specs.Tables.{RecordRow, Tables}
 use Rattle.tree_rows.specs.Changes.{above, is_above}

@@ -7,7 +7,7 @@ use Rattle.std.proofs.lemmas.Bool.Decides.{nat_tests}
 use Rattle.std.specs.FinMap.{get}
 use Rattle.tariff_rules.specs.declared.priced.Priced.{Priced}
 use Rattle.book_model.specs.Words.{Terms, most_cost, price_by, record_with}
-use Rattle.book_core.specs.Repricing.{if_room}
+use Rattle.book_core.specs.Room.{if_room}
 use Rattle.table_model.specs.RowChanges.{add_price, price_at, take_price}
 use Rattle.table_model.specs.TableChanges.{reprice, reprice_step}
 use Rattle.table_model.specs.Tables.{RecordRow, Tables}

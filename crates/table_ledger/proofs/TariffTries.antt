@@ -16,7 +16,7 @@ use Rattle.book_model.specs.declared.answer.Ruled.TheVariants.{Done}
 use Rattle.book_model.specs.declared.fault.LedgerFault.TheVariants.{Full}
 use Rattle.book_core.specs.OfficeRulings.{ruled_in}
 use Rattle.book_model.proofs.TestLemmas.{tariff_tests}
-use Rattle.book_core.proofs.TariffLemmas.{done_by, other_by, said_by}
+use Rattle.book_core.proofs.RulingLemmas.{done_by, other_by, said_by}
 use Rattle.table_model.specs.Changed.{tariff_at}
 use Rattle.table_model.specs.TableChanges.{amount_under}
 use Rattle.table_model.specs.Tables.{Tables}

@@ -7,7 +7,7 @@ use Rattle.tariff_rules.specs.declared.priced.Priced.{Priced}
 use Rattle.book_model.specs.Words.{Book, IsPriced, Naming, Terms, open_number, price_by, record_with}
 use Rattle.book_model.specs.Words.{terms_answer}
 use Rattle.book_model.specs.declared.answer.Ruled.TheVariants.{Done}
-use Rattle.book_core.specs.Repricing.{if_room}
+use Rattle.book_core.specs.Room.{if_room}
 use Rattle.table_model.specs.Readable.{IsReadable}
 use Rattle.table_model.specs.TableChanges.{amount_under, reprice_step}
 use Rattle.table_model.specs.Tables.{RecordRow, Tables}

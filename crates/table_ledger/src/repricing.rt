@@ -4,7 +4,7 @@
 
 ghost use Rattle.std.specs.Prelude.{◌≡◌, ◌≤◌, ◌+◌, IfOk, IfSome, IsTrue, Some};
 ghost use Rattle.book_core.specs.declared.effects.DayChange.TheVariants.{Add, Take};
-ghost use Rattle.book_core.specs.Repricing.{if_room};
+ghost use Rattle.book_core.specs.Room.{if_room};
 ghost use Rattle.book_model.specs.Words.{most_cost};
 ghost use Rattle.table_model.specs.Steps as step;
 ghost use Rattle.table_model.specs.TableChanges as change;

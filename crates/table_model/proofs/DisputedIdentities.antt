@@ -20,7 +20,7 @@ use Rattle.book_model.proofs.RecordSets.{is}
 use Rattle.book_model.proofs.SetLemmas.{same_bytes-by_cmp, has-texts, members_rise}
 use Rattle.book_model.proofs.SetLemmas.{members-alike, members-set_of, set_of-same, same_ties}
 use Rattle.book_model.proofs.SumsAlike.{length-alike, list_any-count_by}
-use Rattle.book_core.proofs.HeldLemmas.{by_name_total, by_name_exact}
+use Rattle.book_core.proofs.NamedLemmas.{by_name_total, by_name_exact}
 use Rattle.table_model.proofs.DisputedRecords.{by_work, by_work_total}
 use Rattle.table_model.proofs.DisputedRecords.{by_work_exact, work_ties, block, flat, in_flat}
 use Rattle.table_model.proofs.DisputedRecords.{flat_rises}

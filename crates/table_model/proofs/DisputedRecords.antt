@@ -17,7 +17,7 @@ use Rattle.book_model.specs.Words.{Rulings, identity_by, set_of, members, has}
 use Rattle.book_model.proofs.RecordSets.{is, first_of}
 use Rattle.book_model.proofs.SetLemmas.{any-members, members_rise}
 use Rattle.book_model.proofs.SetLemmas.{same_ties}
-use Rattle.book_core.proofs.HeldLemmas.{by_name_total, by_name_exact}
+use Rattle.book_core.proofs.NamedLemmas.{by_name_total, by_name_exact}
 use Rattle.table_model.proofs.ListOrder.{all_joined, all_so, all_texts, rise_together}
 use Rattle.table_model.proofs.ListOrder.{both_equal}
 use Rattle.table_model.proofs.SetReading.{among-filter}

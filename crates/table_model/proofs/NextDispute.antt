@@ -23,7 +23,7 @@ use Rattle.book_model.proofs.ListLemmas.{list_any-map}
 use Rattle.book_model.proofs.PermutedSets.{apart_from_distinct, given_permuted}
 use Rattle.book_model.proofs.RecordSets.{first_of, not_true, second_of}
 use Rattle.book_model.proofs.SetLemmas.{members_rise}
-use Rattle.book_core.proofs.HeldLemmas.{by_name_total}
+use Rattle.book_core.proofs.NamedLemmas.{by_name_total}
 use Rattle.table_model.specs.Tables.{RecordTable}
 use Rattle.table_model.specs.TablesOf.{status_of, tables_of}
 use Rattle.table_model.specs.Views.{rows_with}

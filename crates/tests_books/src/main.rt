@@ -40,7 +40,7 @@ mod served_rows;
 mod session_streams;
 mod sessions;
 
-use book_core::PlainLedger;
+use plain_ledger::PlainLedger;
 use served_rows::ServedRows;
 use sessions::Sessions;
 use std::test::Fail;

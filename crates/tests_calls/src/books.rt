@@ -4,11 +4,12 @@
 use crate::rows::{ROWS, VARIANT_AFTER_CLOSE};
 use crate::runs::{Expected, OfficeReport, Step, Steps, play};
 use crate::test_streams::{Page, has_lines};
-use book_core::{Ledger, PlainLedger, ShaNames, Sink};
+use book_core::{Ledger, ShaNames, Sink};
 use book_reports::{
     DisputeForm, ReportFault, adjustment_list, period_list, statement, statement_csv,
     write_disputes, write_report,
 };
+use plain_ledger::PlainLedger;
 use std::alloc::Global;
 use std::process::Abort;
 use std::test::Fail;

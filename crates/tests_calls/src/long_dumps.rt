@@ -2,8 +2,9 @@
 
 use crate::dumps::{check_result, trial_result};
 use crate::test_streams::{Page, Pieces};
-use book_core::{LedgerFault, PlainLedger, ShaNames, Source};
+use book_core::{LedgerFault, ShaNames, Source};
 use book_import::{MAX_READS, Receipt, Stop, import};
+use plain_ledger::PlainLedger;
 use smf_frames::Layout;
 use std::alloc::Global;
 use std::fs;

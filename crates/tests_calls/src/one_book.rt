@@ -3,9 +3,10 @@
 ghost use Rattle.std.specs.Prelude.{◌≡◌};
 
 use book_audit::{Audited, AuditedRepository, Watch};
-use book_core::{Naming, PlainLedger};
+use book_core::Naming;
 use named_books::{Opened, Repository, RepositoryFault, Upgraded, Visit};
 use office::AwayBooks;
+use plain_ledger::PlainLedger;
 use std::alloc::Global;
 use tariff_rules::Tariff;
 

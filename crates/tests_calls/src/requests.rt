@@ -3,8 +3,9 @@
 
 use crate::sample::Record;
 use crate::test_streams::{Page, Pieces};
-use book_core::{Ledger, PlainLedger, ShaNames, Sink, Source};
+use book_core::{Ledger, ShaNames, Sink, Source};
 use book_http::{Served, serve_one};
+use plain_ledger::PlainLedger;
 use std::alloc::{AllocError, Global};
 use std::process::Abort;
 use std::test::Fail;

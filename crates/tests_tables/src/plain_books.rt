@@ -3,7 +3,7 @@
 use crate::lines::{Lines, RowLine};
 use crate::names::Names;
 use crate::rows::{AsksOpenBooks, Books};
-use book_core::PlainLedger;
+use plain_ledger::PlainLedger;
 use std::alloc::Global;
 use tariff_rules::Tariff;
 use tests_scripts::{AnswerText, Ask, LineResult, Named};

@@ -3,7 +3,7 @@ use Rattle.std.proofs.lemmas.Result.{err_from_is_err_and}
 use Rattle.streams.specs.Sinks.{writer_of}
 use Rattle.book_model.specs.Words.{charges_outcome}
 use Rattle.report_texts.specs.Statements.{statement_text}
-use Rattle.book_core.specs.PlainBook.{book_in}
+use Rattle.plain_ledger.specs.PlainBook.{book_in}
 use Rattle.book_import.specs.declared.receipt.Receipt.{Receipt}
 use Rattle.book_import.specs.ReadLimits.{cut_of}
 use Rattle.book_reports.specs.declared.fault.ReportFault.{ReportFault}

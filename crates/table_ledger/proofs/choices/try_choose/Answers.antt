@@ -1,7 +1,7 @@
 use Rattle.std.proofs.Common.{◌∙◌, ap, refl, sym}
 use Rattle.std.specs.Prelude.{nat_le, ◌==◌}
 use Rattle.book_model.specs.Words.{if_done, most_choices, record_named}
-use Rattle.book_core.proofs.ChosenLemmas.{meant_by}
+use Rattle.book_core.proofs.RulingLemmas.{meant_by}
 use Rattle.table_ledger.proofs.AcceptTries.{saw_as}
 use Rattle.table_ledger.proofs.Answering.{opens, ruled_other}
 use Rattle.table_ledger.proofs.ChoiceTries.{choice_plain, choose_none, choose_staged, choose_told}

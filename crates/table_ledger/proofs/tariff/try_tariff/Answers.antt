@@ -1,7 +1,7 @@
 use Rattle.std.proofs.Common.{◌≢◌, ◌∙◌, Ok, ap}
 use Rattle.book_model.specs.Words.{if_done, terms_in}
 use Rattle.book_model.specs.declared.answer.Ruled.TheVariants.{Done}
-use Rattle.book_core.proofs.TariffLemmas.{said_by}
+use Rattle.book_core.proofs.RulingLemmas.{said_by}
 use Rattle.table_ledger.proofs.Answering.{ruled_other}
 use Rattle.table_ledger.proofs.TariffTries.{tariff_other, tariff_plain}
 use Rattle.table_ledger.proofs.TryLemmas.{saw_none}

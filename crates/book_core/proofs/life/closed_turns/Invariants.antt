@@ -1,7 +1,0 @@
-use Rattle.std.proofs.Common.{◌≡◌, take}
-use Rattle.book_core.specs.PlainLives.{closed_shares, turns_at}
-use Rattle.book_core.proofs.life.closed_turns.Given as goal
-
--- the turns so far are those of the periods so far
-abbrev pub invariant-loop-at : goal.invariant-loop-at
-invariant-loop-at l = l.turns.items ≡ turns_at 1 (closed_shares l.name (take l.at l.closed))

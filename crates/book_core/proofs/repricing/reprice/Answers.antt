@@ -1,9 +1,0 @@
-use Rattle.std.proofs.Common.{rules}
-use Rattle.book_core.proofs.RepricingLemmas.{retain-reprices}
-use Rattle.book_core.proofs.repricing.reprice.Goals as goal
-
-pub returns : goal.returns
-returns c =
-    retain-reprices _ c.args.tariff.now _
-    (λ name old answer new next called. (search rules, search rules)) _ _
-    c.retain.ensures.filtered

@@ -1,0 +1,139 @@
+-- The trail of a record of a plain ledger.
+use Rattle.std.proofs.Common.{◌≡◌, ◌∙◌, ℕ, List, [], ◌∷◌, ◌++◌, map, refl, sym, ap, Bool, true}
+use Rattle.std.proofs.Common.{false, Option, None, Some, Err, ◌+◌, ◌<◌, length, take, get_or, cond}
+use Rattle.std.specs.Prelude.{All, filter}
+use Rattle.std.specs.BTreeMap.{is_at}
+use Rattle.std.specs.List.Sorted.{IsStrictlySortedBy}
+use Rattle.std.specs.Map.{keys_of}
+use Rattle.std.specs.Option.{ok_or, option_and_then, option_map}
+use Rattle.std.proofs.lemmas.List.{map-append, take_more}
+use Rattle.std.proofs.lemmas.List.Elements.{All-map, filter-append}
+use Rattle.std.proofs.lemmas.Map.Lookups.{exact_bytes}
+use Rattle.std.proofs.lemmas.Map.Views.{tells_apart}
+use Rattle.std.proofs.lemmas.Simd.{map-map}
+use Rattle.tariff_rules.specs.declared.reckoning.Reckoning.{Reckoning}
+use Rattle.book_model.specs.declared.dispute.Variant.{Variant}
+use Rattle.book_model.specs.declared.fault.LedgerFault.TheVariants.{NoSuchRecord}
+use Rattle.book_model.specs.Words.{Book, Choice, IsDay, Naming, TrailSeen, by_bytes, choice_named}
+use Rattle.book_model.specs.Words.{choices_among, day_of, identity_by, life_of, period_on}
+use Rattle.book_model.specs.Words.{reckoning_in, record_named, share_identity, trail_by, trail_of}
+use Rattle.book_model.specs.Words.{trail_outcome}
+use Rattle.book_model.proofs.ListLemmas.{filter-map}
+use Rattle.plain_ledger.specs.declared.chosen.ChosenRecord.{ChosenRecord}
+use Rattle.plain_ledger.specs.declared.treatment.ClosedPeriod.{ClosedPeriod}
+use Rattle.plain_ledger.specs.declared.held.HeldRecord.{HeldRecord}
+use Rattle.book_core.specs.declared.rulings.Rulings.{Rulings as OfficeRulings}
+use Rattle.plain_ledger.specs.Choices.{choice_of, is_of}
+use Rattle.plain_ledger.specs.Plain.{AreBooked, Entry, entry_has_identity, record_of, ruled_by}
+use Rattle.plain_ledger.specs.Plain.{variant_at}
+use Rattle.plain_ledger.specs.PlainBook.{book_with}
+use Rattle.plain_ledger.specs.Treatments.{Names, under_name}
+use Rattle.plain_ledger.proofs.ChosenLemmas.{found_holds, named-found, named-missing}
+use Rattle.plain_ledger.proofs.DisputeLemmas.{dispute_at-held}
+use Rattle.plain_ledger.proofs.HeldLemmas.{bytes_of}
+use Rattle.plain_ledger.proofs.PlainCallLemmas.{IsOfBooks}
+use Rattle.plain_ledger.proofs.TariffLemmas.{each_dated}
+
+-- what is made of the elements that pass a test, with one element more
+pub made-more : {X Y : Type 0} (make : X → Y) (p : X → Bool) (xs : List X) (at : ℕ) (x : X)
+    (passes : Bool) → at < length xs → x ≡ get_or xs at x → p x ≡ passes
+    → map make (filter p (take (at + 1) xs))
+    ≡ map make (filter p (take at xs)) ++ cond passes (make x ∷ []) []
+made-more make p xs at x passes within is test =
+    ap (λ some. map make (filter p some))
+    (take_more xs at x within ∙ ap (λ last. take at xs ++ last ∷ []) (sym is))
+    ∙ ap (map make) (filter-append p (take at xs) (x ∷ []))
+    ∙ map-append make (filter p (take at xs)) (filter p (x ∷ []))
+    ∙ ap (λ some. map make (filter p (take at xs)) ++ some)
+    (ap (λ b. map make (cond b (x ∷ []) [])) test ∙ by_test passes)
+  where
+    by_test : (b : Bool) → map make (cond b (x ∷ []) []) ≡ cond b (make x ∷ []) []
+    by_test true = refl
+    by_test false = refl
+
+-- the records of entries are dated on days
+pub members_dated : (p : Entry → Bool) (entries : List Entry)
+    → All (λ (member : Variant). IsDay member.priced.day) (map variant_at (filter p entries))
+members_dated p entries =
+    All-map (λ (member : Variant). IsDay member.priced.day) variant_at (filter p entries)
+    (λ k d within. (get_or (filter p entries) k d).1.priced_is.day)
+
+module _ {naming : Naming} (ruled : OfficeRulings) (choices : List ChosenRecord)
+    {entries : List Entry} {total : ℕ}
+    (kept : AreBooked naming (ruled_by ruled choices) entries total)
+    (rising : IsStrictlySortedBy by_bytes (keys_of entries)) (posted : Names)
+    (closed : List ClosedPeriod) (name : List ℕ) where
+  abbrev book : Book
+  book = book_with (ruled_by ruled choices) entries posted closed
+
+  -- no record of the name is held
+  pub trail-missing : under_name name entries ≡ None
+      → (trail_outcome naming name book).answer ≡ Err NoSuchRecord
+  trail-missing missing =
+      ap (λ found. ok_or (option_and_then (trail_of naming book) found) NoSuchRecord)
+      (named-missing kept rising name missing)
+
+  module _ (held : HeldRecord) (found : under_name name entries ≡ Some held) where
+    -- which work its record measures
+    abbrev own : List ℕ
+    own = identity_by (ruled_by ruled choices) (record_of held)
+
+    -- the choices of its identity
+    choices-held : choices_among naming (ruled_by ruled choices) (record_of held)
+        ≡ map (λ choice. choice_named naming (choice_of choice))
+        (filter (is_of (ruled_by ruled choices) own) choices)
+    choices-held =
+        let shares : Choice → Bool =
+        λ choice. share_identity (ruled_by ruled choices) (record_of held) choice.chosen in
+        ap (map (choice_named naming)) (filter-map shares choice_of choices)
+        ∙ map-map (choice_named naming) choice_of
+        (filter (is_of (ruled_by ruled choices) own) choices)
+
+    -- the trail, where its price came about so
+    abbrev trail_with : Reckoning → TrailSeen
+    trail_with reckoning = record {
+      bytes = record_of held;
+      period = period_on (ruled_by ruled choices).closes held.priced.day;
+      reckoning = reckoning;
+      members = map variant_at (filter (entry_has_identity (ruled_by ruled choices) own) entries);
+      choices = map (λ choice. choice_named naming (choice_of choice))
+          (filter (is_of (ruled_by ruled choices) own) choices);
+      life = life_of book (record_of held);
+    }
+
+    trail-held : (reckoning : Reckoning)
+        → trail_by naming book (record_of held) reckoning ≡ trail_with reckoning
+    trail-held reckoning =
+        let day : held.priced.day ≡ day_of (record_of held) =
+        found_holds (λ (entry : Entry). entry.1.priced.day ≡ day_of (bytes_of entry))
+        (is_at (by_bytes name)) name (tells_apart exact_bytes name) entries held
+        (each_dated kept) found in
+        let dispute = dispute_at-held kept rising own in
+        λ i. record {
+          bytes = record_of held;
+          period = period_on (ruled_by ruled choices).closes (sym day i);
+          reckoning = reckoning;
+          members = (dispute i).members;
+          choices = choices-held i;
+          life = life_of book (record_of held);
+        }
+
+    -- the answer, where it came about so, or not at all
+    pub trail-answered : (by : Option Reckoning)
+        → by ≡ reckoning_in (ruled_by ruled choices) (record_of held)
+        → (trail_outcome naming name book).answer
+        ≡ ok_or (option_map trail_with by) NoSuchRecord
+    trail-answered by is =
+        ap (λ one. ok_or (option_and_then (trail_of naming book) one) NoSuchRecord)
+        (named-found kept rising name held found)
+        ∙ (λ i. ok_or (option_map (λ reckoning. trail-held reckoning i) (sym is i)) NoSuchRecord)
+
+-- no trail is a fault of a store
+pub trail-of_books : (naming : Naming) (book : Book) (name : List ℕ)
+    → IsOfBooks (trail_outcome naming name book).answer
+trail-of_books naming book name =
+    by_trail (option_and_then (trail_of naming book) (record_named naming book.held name))
+  where
+    by_trail : (found : Option TrailSeen) → IsOfBooks (ok_or found NoSuchRecord)
+    by_trail None = record { store = refl; reopen = refl }
+    by_trail (Some trail) = record { store = refl; reopen = refl }

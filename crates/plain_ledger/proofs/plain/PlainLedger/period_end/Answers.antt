@@ -1,0 +1,18 @@
+use Rattle.std.proofs.Common.{◌∙◌, [], ap, refl}
+use Rattle.plain_ledger.specs.Choices.{last_of}
+use Rattle.plain_ledger.specs.Plain.{is_shared, rulings_of}
+use Rattle.plain_ledger.proofs.plain.PlainLedger.period_end.Goals as goal
+
+pub returns : goal.returns
+returns g c =
+    let adopted = c.adopted-adopted.ensures in
+    record {
+      adopted = adopted;
+      shared = λ identity. c.in_ok-shared_identities.ensures identity
+          ∙ ap (λ adopted. is_shared (rulings_of [] adopted) c.args.self.now.held.entries identity)
+          adopted;
+      chosen = λ identity. c.in_ok-last_chosen.ensures identity
+          ∙ (λ i. last_of (rulings_of (c.deref.ensures.value i) (adopted i)) identity);
+      last = c.last_close.ensures;
+      through = refl;
+    }

@@ -1,0 +1,15 @@
+use Rattle.std.proofs.Common.{Vec, Global, refl}
+use Rattle.book_model.specs.declared.line.Line.{Line}
+use Rattle.book_model.specs.Words.{adjustments_outcome}
+use Rattle.plain_ledger.specs.PlainBook.{book_in, naming_in}
+use Rattle.plain_ledger.proofs.PlainCallLemmas.{read_in_memory, listed-of_books}
+use Rattle.plain_ledger.proofs.plain.PlainLedgerLedger.adjustments.Goals as goal
+
+pub returns-clause-lines : goal.returns-clause-lines
+returns-clause-lines g c =
+    let ledger = c.args.self.now in
+    let names = g.N.Naming.name_of (naming_in ledger) in
+    read_in_memory (λ (lines : Vec Line Global). lines.items) names
+    (book_in ledger) c.lines.result (adjustments_outcome names c.args.period) refl
+    (listed-of_books _)
+    c.lines.ensures.lines

@@ -1,0 +1,14 @@
+use Rattle.std.proofs.Common.{Vec, Global, refl}
+use Rattle.book_model.specs.declared.row.ChargeRow.{ChargeRow}
+use Rattle.book_model.specs.Words.{charges_outcome}
+use Rattle.plain_ledger.specs.PlainBook.{book_in, naming_in}
+use Rattle.plain_ledger.proofs.PlainCallLemmas.{read_in_memory, listed-of_books}
+use Rattle.plain_ledger.proofs.plain.PlainLedgerLedger.charges.Goals as goal
+
+pub returns-clause-rows : goal.returns-clause-rows
+returns-clause-rows g c =
+    let ledger = c.args.self.now in
+    let names = g.N.Naming.name_of (naming_in ledger) in
+    read_in_memory (λ (rows : Vec ChargeRow Global). rows.items) names
+    (book_in ledger) c.charge_rows.result (charges_outcome c.args.period) refl (listed-of_books _)
+    c.charge_rows.ensures.rows

@@ -1,0 +1,9 @@
+-- How a plain ledger keeps its book. Read in this order.
+pub mod PaddedIdentities
+pub mod Choices
+pub mod Plain
+pub mod Repricing
+pub mod Treatments
+pub mod PlainBook
+pub mod PlainDetails
+pub mod PlainLives

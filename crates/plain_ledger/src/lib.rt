@@ -1,0 +1,19 @@
+//! A plain ledger, which keeps its books in memory.
+#![tactic(auto)]
+
+mod charge_rows;
+mod choices;
+mod chosen;
+mod held;
+mod identities;
+mod identity;
+mod life;
+mod period;
+mod period_end;
+mod plain;
+mod record_cache;
+mod repricing;
+mod shown;
+mod treatment;
+
+pub use plain::PlainLedger;

@@ -1,0 +1,37 @@
+//! Records that an operator chooses among those of their identity.
+
+use super::PlainLedger;
+use crate::choices::is_chosen;
+use crate::chosen::ChosenRecord;
+use crate::identities::is_lone;
+use book_core::MAX_CHOICES;
+use book_model::{LedgerFault, Naming, Ruled};
+
+impl<N: Naming + Drop> PlainLedger<N> {
+    ghost use Rattle.book_model.specs.Words.{choose_outcome};
+    ghost use Rattle.plain_ledger.specs.PlainBook.{IsPlainCall, naming_in};
+
+    /// Chooses the record that is held under a name, where it is not alone in its identity and is
+    /// not the choice already.
+    pub(super) fn choose_named(&mut self, name: [u8; 32]) -> Result<Ruled, LedgerFault>
+        ensures { IsPlainCall (λ ruled. ruled) self.old self.new result
+            (choose_outcome (N.name_of (naming_in self.old)) name) }
+    {
+        let Some(held) = self.held.get(&name) else {
+            return Err(LedgerFault::NoSuchRecord);
+        };
+        let adopted = self.rulings.adopted();
+        if is_lone(&self.held, adopted, &held.identity_by(adopted)) {
+            return Err(LedgerFault::NotDisputed);
+        }
+        if is_chosen(&self.choices, adopted, held) {
+            return Ok(Ruled::Already);
+        }
+        if self.choices.len() >= MAX_CHOICES {
+            return Err(LedgerFault::Full);
+        }
+        let choice = ChosenRecord::new(held, self.rulings.open_number())?;
+        self.choices.push(choice)?;
+        Ok(Ruled::Done)
+    }
+}

@@ -1,0 +1,72 @@
+//! Records that are submitted to a plain ledger.
+
+ghost use Rattle.std.specs.Prelude.{◌≡◌, Ok, Err, if◌then◌else◌};
+ghost use Rattle.book_model.specs.Words.{same_bytes};
+ghost use Rattle.plain_ledger.specs.Plain.{record_of};
+
+use super::PlainLedger;
+use crate::held::HeldRecord;
+use book_core::{is_full, name_of, price_in};
+use book_model::{Accepted, LedgerFault, Naming};
+use smf_type30::Type30;
+
+/// What is answered to a record with a name that one has that is held.
+fn known_or_clash(held: &HeldRecord, bytes: &[u8]) -> Result<Accepted, LedgerFault>
+    ensures { result ≡ (if same_bytes (record_of held.now) bytes.now
+        then Ok Accepted.Known else Err LedgerFault.DigestClash) }
+{
+    if held.bytes.as_slice() == bytes {
+        Ok(Accepted::Known)
+    } else {
+        Err(LedgerFault::DigestClash)
+    }
+}
+
+impl<N: Naming + Drop> PlainLedger<N> {
+    ghost use Rattle.std.specs.Prelude.{◌≡◌};
+    ghost use Rattle.book_model.specs.Words.{identity_of, IsUsageRecord, accept_outcome};
+    ghost use Rattle.plain_ledger.specs.PlainBook.{IsPlainCall, naming_in};
+
+    /// Holds a record from now on where it is new, a tariff is in force on its day, and there is
+    /// room for it.
+    pub(super) fn keep_record(&mut self, bytes: &[u8]) -> Result<Accepted, LedgerFault>
+        requires { IsUsageRecord bytes.now }
+        ensures { IsPlainCall (λ accepted. accepted) self.old self.new result
+            (accept_outcome (N.name_of (naming_in self.old)) bytes.now) }
+    {
+        let usage = Type30::of_usage(bytes);
+        if self.cache.has(&usage.identity2(), bytes) {
+            return Ok(Accepted::Known);
+        }
+        self.keep_named(&usage, bytes)
+    }
+
+    /// The same, by the record's name.
+    fn keep_named(&mut self, usage: &Type30<'_>, bytes: &[u8]) -> Result<Accepted, LedgerFault>
+        requires same { usage.now ≡ bytes.now }
+        requires usage { IsUsageRecord bytes.now }
+        ensures { IsPlainCall (λ accepted. accepted) self.old self.new result
+            (accept_outcome (N.name_of (naming_in self.old)) bytes.now) }
+    {
+        let name = name_of(&self.naming, bytes);
+        let count = self.held.len();
+        if let Some(held) = self.held.get(&name) {
+            return known_or_clash(held, bytes);
+        }
+        let Some(priced) = price_in(self.rulings.tariffs(), usage) else {
+            return Ok(Accepted::Unpriced);
+        };
+        let amount = priced.amount;
+        if is_full(count, self.total, amount) {
+            return Err(LedgerFault::Full);
+        }
+        let alloc = self.alloc;
+        let held = HeldRecord::new(alloc, usage, bytes, priced)?;
+        let identity = held.identity;
+        let record = held.bytes.clone()?;
+        self.held.insert(name, held)?;
+        self.cache.remember(identity, record);
+        self.total += amount;
+        Ok(Accepted::Kept)
+    }
+}
