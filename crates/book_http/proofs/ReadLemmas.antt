@@ -2,19 +2,21 @@
 use Rattle.std.proofs.Common.{◌≡◌, ◌∙◌, ℕ, ◌+◌, List, [], ◌∷◌, ◌++◌, length, Option, refl}
 use Rattle.std.proofs.Common.{◌<◌, ◌≤◌, ◌-◌, take, drop, ap, Ok, Err, arith, append-nil}
 use Rattle.std.proofs.Common.{sym, subst, length-take-le, length-append, append_assoc}
-use Rattle.std.specs.Prelude.{Result}
+use Rattle.std.specs.Prelude.{Bool, Result}
 use Rattle.std.proofs.lemmas.List.{length-take, length-drop, drop-append-le}
 use Rattle.std.proofs.KnownBytes.{Consumes-kept, Consumes-nil, Consumes-trans}
 use Rattle.std.specs.Io.KnownBytes.{Consumes, ReadConsumes}
 use Rattle.std.specs.declared.io.Error.{Error}
 use Rattle.httparse.specs.Grammar.{RequestHead, HasNoRequest, MayBecomeRequest}
 use Rattle.streams.specs.declared.source.Source.{Source}
-use Rattle.streams.specs.Sources.{reader_of, reads_of}
+use Rattle.streams.specs.AnswerFlags.{is_end, is_failed_read}
+use Rattle.streams.specs.Sources.{has_ended, has_failed, reader_of, reads_of}
 use Rattle.book_http.proofs.PieceLemmas.{grown_front}
 use Rattle.book_http.proofs.HeadLemmas.{head_before}
 use Rattle.book_http.specs.Asked.{asked}
 use Rattle.book_http.specs.Head.{HasHead}
 use Rattle.book_http.specs.Reads.{ReadOutcome, ReadCall, bytes_given, bytes_read, reader_after}
+use Rattle.book_http.specs.Reads.{ended_after, failed_after}
 use Rattle.book_http.specs.Reads.{AreDue, AreReadsBetween, IsDue, for_head, for_body, IsDueOn}
 use Rattle.book_http.specs.Reads.{IsDueForBody, IsDueForHead, ReadsOn}
 use borrow.Rule.Slice.PartMut.{put_mid}
@@ -35,11 +37,12 @@ pub read_on : {R : Type 0} {answers : _} {bytes : _} {remaining : R → Option (
     → MayAnswer (reader_of between) room answer (reader_of new) given
     → ReadConsumes (remaining (reader_of between)) (remaining (reader_of new)) answer given
     → reads_of new ≡ reads_of between + 1
+    → has_failed new ≡ is_failed_read answer → has_ended new ≡ is_end answer (length room)
     → ((came : List ℕ) → Gave came → IsDue came (length room))
     → ((came : List ℕ) → Gave came → Gives (came ++ bytes_given answer given))
     → ReadsOn remaining MayAnswer IsDue old new Gives
-read_on {remaining} {MayAnswer} {between} {new} {room} {answer} {given} so_far is consumes more due
-    gives =
+read_on {remaining} {MayAnswer} {between} {new} {room} {answer} {given} so_far is consumes more failed
+    ended due gives =
     let before = so_far.between in
     let count = before.count in
     let taken = read_taken (remaining (reader_of between)) (remaining (reader_of new)) answer given
@@ -56,6 +59,8 @@ read_on {remaining} {MayAnswer} {between} {new} {room} {answer} {given} so_far i
         reader = refl;
         count = omega arith;
         taken = Consumes-trans _ _ _ _ _ before.taken taken;
+        failed = failed;
+        ended = ended;
       };
       gave = gives (bytes_read so_far.reads) so_far.gave;
     }
@@ -137,6 +142,8 @@ read_as {MayAnswer} {IsDue} {IsDueToo} {old} it weaker so =
         reader = before.reader;
         count = before.count;
         taken = before.taken;
+        failed = before.failed;
+        ended = before.ended;
       };
       gave = so (bytes_read it.reads) it.gave;
     }
@@ -163,6 +170,16 @@ reader_behind_both : {R : Type 0} (first : R) (later before : List (ReadCall R))
     → reader_after first (later ++ before) ≡ reader_after (reader_after first before) later
 reader_behind_both first [] before = refl
 reader_behind_both first (read ∷ later) before = refl
+
+failed_behind_both : {R : Type 0} (failed : Bool) (later before : List (ReadCall R))
+    → failed_after failed (later ++ before) ≡ failed_after (failed_after failed before) later
+failed_behind_both failed [] before = refl
+failed_behind_both failed (read ∷ later) before = refl
+
+ended_behind_both : {R : Type 0} (ended : Bool) (later before : List (ReadCall R))
+    → ended_after ended (later ++ before) ≡ ended_after (ended_after ended before) later
+ended_behind_both ended [] before = refl
+ended_behind_both ended (read ∷ later) before = refl
 
 due_behind : {R : Type 0} (MayAnswer : ReadOutcome R)
     (IsDue IsDueThen : List ℕ → ℕ → Type 0) (first : R) (later before : List (ReadCall R))
@@ -198,6 +215,10 @@ read_behind remaining MayAnswer IsDue IsDueThen old between new later before so 
           ∙ sym (reader_behind_both (reader_of old) later before);
       count = counts;
       taken = rw (bytes_behind later before) both;
+      failed = two.failed ∙ ap (λ failed. failed_after failed later) one.failed
+          ∙ sym (failed_behind_both (has_failed old) later before);
+      ended = two.ended ∙ ap (λ ended. ended_after ended later) one.ended
+          ∙ sym (ended_behind_both (has_ended old) later before);
     }
 
 -- after a head, a read that was due for what the head asks was due

@@ -1,12 +1,13 @@
 -- How far a request is read: the reads that were made of a reader, and for each of them why it was
 -- due. The reads are in a list, newest first.
 use Rattle.std.specs.Prelude.{◌≡◌, ℕ, ◌+◌, ◌<◌, ◌≤◌, List, [], ◌∷◌, ◌++◌, length, take, ⊤}
-use Rattle.std.specs.Prelude.{Option, Result, Ok, Err}
+use Rattle.std.specs.Prelude.{Option, Result, Ok, Err, Bool}
 use Rattle.std.specs.Io.KnownBytes.{Consumes}
 use Rattle.std.specs.declared.io.Error.{Error}
 use Rattle.httparse.specs.Grammar.{RequestHead, HasNoRequest, MayBecomeRequest}
 use Rattle.streams.specs.declared.source.Source.{Source}
-use Rattle.streams.specs.Sources.{reader_of, reads_of}
+use Rattle.streams.specs.AnswerFlags.{is_failed_read, is_end}
+use Rattle.streams.specs.Sources.{reader_of, reads_of, has_failed, has_ended}
 use Rattle.book_http.specs.declared.asked.Asked.{Asked}
 use Rattle.book_http.specs.declared.asked.Asked.TheVariants as asks
 use Rattle.book_http.specs.Asked.{asked}
@@ -38,6 +39,17 @@ abbrev pub reader_after : {R : Type 0} → R → List (ReadCall R) → R
 reader_after first [] = first
 reader_after first (read ∷ before) = read.after
 
+-- whether reading has failed after these reads, where it had failed before them, or had not: where
+-- the newest of them answered an error
+abbrev pub failed_after : {R : Type 0} → Bool → List (ReadCall R) → Bool
+failed_after failed [] = failed
+failed_after failed (read ∷ before) = is_failed_read read.answer
+
+-- and whether the end was met: where the newest gave no byte for one or more
+abbrev pub ended_after : {R : Type 0} → Bool → List (ReadCall R) → Bool
+ended_after ended [] = ended
+ended_after ended (read ∷ before) = is_end read.answer (length read.room)
+
 -- Each of these reads is what the reader answered, and was due after the bytes of those before it,
 -- for as many bytes as it had room for.
 abbrev pub AreDue : {R : Type 0} → ReadOutcome R → (List ℕ → ℕ → Type 0) → R → List (ReadCall R)
@@ -55,6 +67,8 @@ pub record AreReadsBetween {R : Type 0} {answers : _} {bytes : _} (remaining : R
   pub reader : reader_of new ≡ reader_after (reader_of old) reads
   pub count : reads_of new ≡ reads_of old + length reads
   pub taken : Consumes (remaining (reader_of old)) (remaining (reader_of new)) (bytes_read reads)
+  pub failed : has_failed new ≡ failed_after (has_failed old) reads
+  pub ended : has_ended new ≡ ended_after (has_ended old) reads
 
 -- A source was read on by reads that were each due, and by no others; and this is so of the bytes that
 -- they gave.

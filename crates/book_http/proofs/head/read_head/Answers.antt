@@ -11,7 +11,8 @@ pub returns-in_default-clause-reads : goal.returns-in_default-clause-reads
 returns-in_default-clause-reads g c =
     let so_far = c.pieces.invariant in
     read_on so_far.reads c.in_default.ensures.answer
-    c.in_default.ensures.bytes c.read.ensures.asked
+    c.in_default.ensures.bytes c.read.ensures.asked c.in_default.ensures.failed
+    c.in_default.ensures.ended
     (λ came is. due_for_head _ _ _ is so_far.within so_far.size so_far.none so_far.may_come)
     (λ came is. tt)
 
@@ -20,7 +21,7 @@ returns-then-filled-eq0-clause-reads g c =
     let so_far = c.pieces.invariant in
     let ended : has_ended c.read.new.self ≡ true = search rules in
     read_on so_far.reads c.in-Ok.ensures.answer c.in-Ok.ensures.bytes
-    c.read.ensures.asked
+    c.read.ensures.asked c.in-Ok.ensures.failed c.in-Ok.ensures.ended
     (λ came is. due_for_head _ _ _ is so_far.within so_far.size so_far.none so_far.may_come)
     (λ came is. (
       ended,
@@ -34,7 +35,7 @@ returns-else-filled-eq0-clause-reads g c =
     let some : 0 < c.pieces.filled = omega arith in
     let ended : has_ended c.read.new.self ≡ true = search rules in
     read_on so_far.reads c.in-Ok.ensures.answer c.in-Ok.ensures.bytes
-    c.read.ensures.asked
+    c.read.ensures.asked c.in-Ok.ensures.failed c.in-Ok.ensures.ended
     (λ came is. due_for_head _ _ _ is so_far.within so_far.size so_far.none so_far.may_come)
     (λ came is.
     let same = none_came came c.read.new.buffer _ c.if-count-eq0.true ∙ is in (
@@ -47,7 +48,7 @@ returns-in-Ok-Complete-clause-reads g c =
     let so_far = c.pieces.invariant in
     let few : c.in-Ok.count ≤ length c.read.new.buffer = omega (arith, c.in-Ok.ensures.bound) in
     read_on so_far.reads c.in-Ok.ensures.answer c.in-Ok.ensures.bytes
-    c.read.ensures.asked
+    c.read.ensures.asked c.in-Ok.ensures.failed c.in-Ok.ensures.ended
     (λ came is. due_for_head _ _ _ is so_far.within so_far.size so_far.none so_far.may_come)
     (λ came is. more_came _ _ _ _ _ _ is so_far.within few)
 
@@ -69,7 +70,8 @@ pieces-preserved g c =
       ended = search rules;
       asked = omega (arith, c.read.ensures.asked, so_far.asked);
       reads = read_on so_far.reads c.in-Ok.ensures.answer
-          c.in-Ok.ensures.bytes c.read.ensures.asked
+          c.in-Ok.ensures.bytes c.read.ensures.asked c.in-Ok.ensures.failed
+          c.in-Ok.ensures.ended
           (λ came is. due_for_head _ _ _ is so_far.within so_far.size so_far.none so_far.may_come)
           (λ came is. more_came _ _ _ _ _ _ is so_far.within few);
       none = λ _. parsed.partial;
@@ -86,7 +88,7 @@ returns-in-Err-clause-reads g c =
     c.read.new.buffer so_far.within few in
     let some : 0 < c.pieces.filled + c.in-Ok.count = omega arith in
     read_on so_far.reads c.in-Ok.ensures.answer c.in-Ok.ensures.bytes
-    c.read.ensures.asked
+    c.read.ensures.asked c.in-Ok.ensures.failed c.in-Ok.ensures.ended
     (λ came is. due_for_head _ _ _ is so_far.within so_far.size so_far.none so_far.may_come)
     (λ came is.
     let more = more_came came c.pieces.buffer c.read.new.buffer c.pieces.filled given c.in-Ok.count
