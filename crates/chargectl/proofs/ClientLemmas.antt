@@ -1,6 +1,8 @@
 -- One request of a client, from books that are open only while they are asked.
-use Rattle.std.proofs.Common.{◌≡◌, ◌<◌, Bool, true, false, List, [], ◌++◌, ℕ, refl, sym, subst}
-use Rattle.std.proofs.Common.{inl, inr, Option, Result, Ok, Err, true≢false}
+use Rattle.std.proofs.Common.{◌≡◌, ◌∙◌, ◌<◌, Bool, true, false, List, [], ◌++◌, ℕ, refl, sym}
+use Rattle.std.proofs.Common.{ap, subst, inl, inr, Option, Result, Ok, Err, true≢false}
+use Rattle.streams.specs.declared.source.Source.{Source}
+use Rattle.streams.specs.Sources.{has_ended, has_failed, reader_of}
 use Rattle.book_model.specs.Words.{Book, Event}
 use Rattle.book_core.specs.Ledgers.{Seen}
 use Rattle.book_core.specs.Transition.{IsTransition, NoEvent}
@@ -13,9 +15,12 @@ use Rattle.book_http.specs.declared.served.Served.{Served}
 use Rattle.book_http.specs.declared.served.Served.TheVariants as served
 use Rattle.book_http.specs.declared.status.Status.TheVariants.{Unavailable}
 use Rattle.book_http.specs.Answer.{RefusesRequest, most_gathered}
+use Rattle.book_http.specs.Reads.{AreDue, IsDue, ReadOutcome, ReadsOn}
+use Rattle.book_http.specs.Reads.{bytes_read, ended_after, failed_after}
 use Rattle.book_http.specs.Replies.{Reply, refusal, reply_of}
 use Rattle.book_http.specs.Requested.{AnswersRequest, AreAsking, request_seen}
-use Rattle.book_http.specs.Served.{IsSent, IsSentAsRead, SendsReplyAsRead, is_unanswered}
+use Rattle.book_http.specs.Served.{IsSent, IsSentAsRead, SendsReplyAsRead}
+use Rattle.book_http.specs.Served.{is_read_fault, is_unanswered}
 use Rattle.book_http.proofs.ServeLemmas.{bytes_answered}
 use Rattle.book_http.proofs.StreamLemmas.{AnswersSized}
 use Rattle.named_books.specs.declared.repository.RepositoryFault.{RepositoryFault}
@@ -25,7 +30,7 @@ use Rattle.named_books.proofs.ShelfLemmas.{done_as, untouched}
 use Rattle.chargectl.specs.declared.client_requests.Told.{Told}
 use Rattle.chargectl.specs.declared.client_requests.Told.TheVariants as tells
 use Rattle.chargectl.specs.ClientRequests.{AsksOpen, EndsBy, EndsUnseen, IsAnsweredFrom, IsReplied}
-use Rattle.chargectl.specs.ClientRequests.{IsServedFrom, StreamsAnswer, away_reply}
+use Rattle.chargectl.specs.ClientRequests.{IsServedByReads, IsServedFrom, StreamsAnswer, away_reply}
 use Rattle.chargectl.specs.ClientRequests.{is_streamed}
 use Rattle.chargectl.specs.Serving.{AnswersSome, Fits, Replies, ServesOne, is_answered}
 
@@ -73,6 +78,30 @@ served_from seen old new book taken ended held holds served.Closed begun it =
 served_from seen old new book taken ended held holds served.ReadFault begun it =
     absurd (true≢false begun)
 served_from seen old new book taken ended held holds what begun it = it
+
+-- by the reads that were made of a client, to whom nothing was written after that
+pub by_reads : {P S : Type 0} {answers : _} {bytes : _} {remaining : P → Option (List ℕ)}
+    {MayAnswer : ReadOutcome P} (seen : S → Shelf) (old new : S) (book : List ℕ) (client : P)
+    (held shown holds : Option (List ℕ)) (what : Served) (first last : Source P answers bytes)
+    → reader_of first ≡ client → has_failed first ≡ false → has_ended first ≡ false
+    → ReadsOn remaining MayAnswer IsDue first last
+    (IsServedFrom seen old new book (has_ended last) held shown what)
+    → has_failed last ≡ is_read_fault what → holds ≡ shown
+    → IsServedByReads MayAnswer seen old new book client held holds what
+by_reads {MayAnswer} seen old new book client held shown holds what first last is unfailed unended it
+    failed same =
+    let between = it.between in
+    let ended = between.ended ∙ ap (λ ended. ended_after ended it.reads) unended in
+    record {
+      reads = it.reads;
+      due = subst (λ reader. AreDue MayAnswer IsDue reader it.reads) is between.due;
+      gave = subst
+          (λ ended. IsServedFrom seen old new book ended held holds what (bytes_read it.reads)) ended
+          (subst
+          (λ holds. IsServedFrom seen old new book (has_ended last) held holds what
+          (bytes_read it.reads)) (sym same) it.gave);
+      failed = sym failed ∙ between.failed ∙ ap (λ failed. failed_after failed it.reads) unfailed;
+    }
 
 -- ---- what that did to the books
 

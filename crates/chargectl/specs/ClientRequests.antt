@@ -10,9 +10,11 @@ use Rattle.book_http.specs.declared.served.Served.{Served}
 use Rattle.book_http.specs.declared.served.Served.TheVariants as served
 use Rattle.book_http.specs.declared.status.Status.TheVariants.{Unavailable}
 use Rattle.book_http.specs.Answer.{most_gathered}
+use Rattle.book_http.specs.Reads.{AreDue, IsDue, ReadCall, ReadOutcome}
+use Rattle.book_http.specs.Reads.{bytes_read, ended_after, failed_after}
 use Rattle.book_http.specs.Replies.{Reply, busy, refusal, reply_of}
 use Rattle.book_http.specs.Requested.{AnswersRequest, IsAsking, request_seen}
-use Rattle.book_http.specs.Served.{IsSent, IsSentAsRead, is_unanswered}
+use Rattle.book_http.specs.Served.{IsSent, IsSentAsRead, is_read_fault, is_unanswered}
 use Rattle.book_http.proofs.LawLemmas.{wanted_answered}
 use Rattle.named_books.specs.declared.repository.RepositoryFault.{RepositoryFault}
 use Rattle.named_books.specs.declared.repository.RepositoryFault.TheVariants as shelf
@@ -105,3 +107,14 @@ IsServedFrom shelf old new book ended held holds served.Closed taken = (taken �
 IsServedFrom shelf old new book ended held holds served.ReadFault taken = Unit {0}
 IsServedFrom shelf old new book ended held holds what taken =
     IsReplied book (shelf old) (shelf new) taken ended held holds what
+
+-- A client was served by these reads of it, as it came: each was due, and what was served is the answer
+-- to the bytes that they gave. That reading failed is said where the newest of them failed, and nowhere
+-- else.
+pub record IsServedByReads {P S : Type 0} (MayAnswer : ReadOutcome P) (shelf : S → Shelf) (old new : S)
+    (book : List ℕ) (client : P) (held holds : Option (List ℕ)) (what : Served) : Type 0 where
+  pub reads : List (ReadCall P)
+  pub due : AreDue MayAnswer IsDue client reads
+  pub gave : IsServedFrom shelf old new book (ended_after false reads) held holds what
+      (bytes_read reads)
+  pub failed : is_read_fault what ≡ failed_after false reads

@@ -2,6 +2,7 @@
 
 ghost use Rattle.std.specs.Prelude.{◌≡◌, true};
 ghost use Rattle.book_http.specs.Served.{is_unanswered};
+ghost use Rattle.chargectl.specs.ClientRequests.{IsServedByReads};
 ghost use Rattle.chargectl.specs.Serving.{Attends, IsLoopback, is_answered};
 
 use crate::client_requests::{Attended, serve_request};
@@ -11,8 +12,9 @@ use book_http::Served;
 use named_books::Repository;
 use std::alloc::Global;
 use std::io;
-use std::io::{Read, Write};
+use std::io::Write;
 use std::net::{IpAddr, Ipv4Addr, SocketAddr, TcpListener, TcpStream};
+use streams::Reader;
 
 /// A given number of connections, one after the other: those to a port, or any others.
 pub trait Connections {
@@ -42,8 +44,9 @@ pub trait Connections {
 }
 
 /// One client, whose connection ends in bounded time. Each copy of it is the same connection, so one
-/// can be read while another is written.
-pub trait Peer: Read + Write + Copy {
+/// can be read while another is written. It is a `Reader`, so that a clause can say which reads were
+/// made of it.
+pub trait Peer: Reader + Write + Copy {
     ghost use Rattle.std.specs.Prelude.{Bool, ◌≡◌, true};
 
     /// What it still sends was read, so that it can read its answer.
@@ -53,9 +56,10 @@ pub trait Peer: Read + Write + Copy {
     /// short time in all.
     fn hurry(&self);
 
-    /// Shows it that the answer is whole, and reads what it still sends.
+    /// Shows it that the answer is whole, and reads what it still sends. Nothing is written to it.
     fn drain(self) -> Self
-        ensures { is_drained result ≡ true };
+        ensures drained { is_drained result ≡ true }
+        ensures unwritten { Self.contents result ≡ Self.contents self };
 }
 
 /// Takes a port of this machine, to which no other machine can connect.
@@ -138,6 +142,10 @@ pub fn answer_peer<P: Peer + Drop, S: Repository>(
     book: &str,
 ) -> (Attended, P)
     ensures served { Attends S.shelf book.now repository.old repository.new result.0 }
+
+    // It is answered by what reads of it gave, each of which was due.
+    ensures reads { IsServedByReads P.may_answer S.shelf repository.old repository.new book.now
+        peer (P.contents peer) (P.contents result.1) result.0.served }
 
     // The books are not opened for a client that asks nothing of them.
     ensures closed { is_unanswered result.0.served ≡ true → repository.new ≡ repository.old }

@@ -1,6 +1,7 @@
+use Rattle.std.proofs.Common.{refl}
 use Rattle.streams.specs.Sources.{has_ended}
 use Rattle.book_http.specs.Reads.{bytes_read}
-use Rattle.chargectl.proofs.ClientLemmas.{served_one, status_of}
+use Rattle.chargectl.proofs.ClientLemmas.{by_reads, served_one, status_of}
 use Rattle.chargectl.proofs.port.answer_peer.Goals as goal
 
 pub returns-in-Answered-clause-served : goal.returns-in-Answered-clause-served
@@ -14,6 +15,15 @@ returns-in-Answered-clause-served g c =
       log = came.ensures.log;
     }
 
+pub returns-in-Answered-clause-reads : goal.returns-in-Answered-clause-reads
+returns-in-Answered-clause-reads g c =
+    let first = c.new-source in
+    let came = c.serve_request-peer in
+    by_reads g.S.Repository.shelf c.args.repository.now came.new.repository c.args.book.now
+    c.args.peer _ _ _ came.result.0.served first.result came.new.source first.ensures.reader
+    first.ensures.failed first.ensures.ended came.ensures.served came.ensures.read
+    c.drain.ensures.unwritten
+
 pub returns-in_default-clause-served : goal.returns-in_default-clause-served
 returns-in_default-clause-served g c =
     let came = c.serve_request-peer in
@@ -24,6 +34,14 @@ returns-in_default-clause-served g c =
           came.result.0.served told.gave came.ensures.closed;
       log = came.ensures.log;
     }
+
+pub returns-in_default-clause-reads : goal.returns-in_default-clause-reads
+returns-in_default-clause-reads g c =
+    let first = c.new-source in
+    let came = c.serve_request-peer in
+    by_reads g.S.Repository.shelf c.args.repository.now came.new.repository c.args.book.now
+    c.args.peer _ _ _ came.result.0.served first.result came.new.source first.ensures.reader
+    first.ensures.failed first.ensures.ended came.ensures.served came.ensures.read refl
 
 pub returns-in_default-clause-drained : goal.returns-in_default-clause-drained
 returns-in_default-clause-drained g c = λ answered.
