@@ -39,13 +39,14 @@ abbrev pub reader_after : {R : Type 0} → R → List (ReadCall R) → R
 reader_after first [] = first
 reader_after first (read ∷ before) = read.after
 
--- whether reading has failed after these reads, where it had failed before them, or had not: where
--- the newest of them answered an error
+-- Reading has failed after these reads if the newest of them answered an error; where there are none,
+-- if it had failed before.
 abbrev pub failed_after : {R : Type 0} → Bool → List (ReadCall R) → Bool
 failed_after failed [] = failed
 failed_after failed (read ∷ before) = is_failed_read read.answer
 
--- and whether the end was met: where the newest gave no byte for one or more
+-- So the end was met if the newest gave no byte where there was room for one; where there are none, if
+-- it was met before.
 abbrev pub ended_after : {R : Type 0} → Bool → List (ReadCall R) → Bool
 ended_after ended [] = ended
 ended_after ended (read ∷ before) = is_end read.answer (length read.room)
