@@ -1,7 +1,7 @@
 -- One more read, and reads after reads.
 use Rattle.std.proofs.Common.{◌≡◌, ◌∙◌, ℕ, ◌+◌, List, [], ◌∷◌, ◌++◌, length, Option, refl}
 use Rattle.std.proofs.Common.{◌<◌, ◌≤◌, ◌-◌, take, drop, ap, Ok, Err, arith, append-nil}
-use Rattle.std.proofs.Common.{sym, subst, length-take-le, length-append, append_assoc}
+use Rattle.std.proofs.Common.{false, sym, subst, length-take-le, length-append, append_assoc}
 use Rattle.std.specs.Prelude.{Bool, Result}
 use Rattle.std.proofs.lemmas.List.{length-take, length-drop, drop-append-le}
 use Rattle.std.proofs.KnownBytes.{Consumes-kept, Consumes-nil, Consumes-trans}
@@ -16,7 +16,7 @@ use Rattle.book_http.proofs.HeadLemmas.{head_before}
 use Rattle.book_http.specs.Asked.{asked}
 use Rattle.book_http.specs.Head.{HasHead}
 use Rattle.book_http.specs.Reads.{ReadOutcome, ReadCall, bytes_given, bytes_read, reader_after}
-use Rattle.book_http.specs.Reads.{ended_after, failed_after}
+use Rattle.book_http.specs.Reads.{ended_after, failed_after, MayGoOn}
 use Rattle.book_http.specs.Reads.{AreDue, AreReadsBetween, IsDue, for_head, for_body, IsDueOn}
 use Rattle.book_http.specs.Reads.{IsDueForBody, IsDueForHead, ReadsOn}
 use borrow.Rule.Slice.PartMut.{put_mid}
@@ -28,12 +28,26 @@ read_taken had left (Ok count) given it = it.0
 read_taken had left (Err error) given it =
     Consumes-kept had had left [] (Consumes-nil had) it
 
+-- a source that may be read on
+abbrev pub IsOpen : {R : Type 0} {answers : _} {bytes : _} → Source R answers bytes → Type 0
+IsOpen source = (has_failed source ≡ false) × (has_ended source ≡ false)
+
+-- from one such source to another by these reads: then reading may go on after them
+may_go_on : {R : Type 0} {answers : _} {bytes : _} {remaining : R → Option (List ℕ)}
+    {MayAnswer : ReadOutcome R} {IsDue : List ℕ → ℕ → Type 0} {old new : Source R answers bytes}
+    (reads : List (ReadCall R)) → AreReadsBetween remaining MayAnswer IsDue old new reads
+    → IsOpen old → IsOpen new → MayGoOn reads
+may_go_on reads it first now = (
+  sym (ap (λ failed. failed_after failed reads) first.0) ∙ sym it.failed ∙ now.0,
+  sym (ap (λ ended. ended_after ended reads) first.1) ∙ sym it.ended ∙ now.1,
+)
+
 -- one more read
 pub read_on : {R : Type 0} {answers : _} {bytes : _} {remaining : R → Option (List ℕ)}
     {MayAnswer : ReadOutcome R} {IsDue : List ℕ → ℕ → Type 0}
     {old between new : Source R answers bytes} {Gave Gives : List ℕ → Type 0}
     {room : List ℕ} {answer : Result ℕ Error} {given : List ℕ}
-    → ReadsOn remaining MayAnswer IsDue old between Gave
+    → ReadsOn remaining MayAnswer IsDue old between Gave → IsOpen old → IsOpen between
     → MayAnswer (reader_of between) room answer (reader_of new) given
     → ReadConsumes (remaining (reader_of between)) (remaining (reader_of new)) answer given
     → reads_of new ≡ reads_of between + 1
@@ -41,8 +55,8 @@ pub read_on : {R : Type 0} {answers : _} {bytes : _} {remaining : R → Option (
     → ((came : List ℕ) → Gave came → IsDue came (length room))
     → ((came : List ℕ) → Gave came → Gives (came ++ bytes_given answer given))
     → ReadsOn remaining MayAnswer IsDue old new Gives
-read_on {remaining} {MayAnswer} {between} {new} {room} {answer} {given} so_far is consumes more failed
-    ended due gives =
+read_on {remaining} {MayAnswer} {between} {new} {room} {answer} {given} so_far first now is consumes
+    more failed ended due gives =
     let before = so_far.between in
     let count = before.count in
     let taken = read_taken (remaining (reader_of between)) (remaining (reader_of new)) answer given
@@ -53,6 +67,7 @@ read_on {remaining} {MayAnswer} {between} {new} {room} {answer} {given} so_far i
       between = record {
         due = (
           before.due,
+          may_go_on so_far.reads before first now,
           due (bytes_read so_far.reads) so_far.gave,
           subst (λ reader. MayAnswer reader room answer (reader_of new) given) before.reader is,
         );
@@ -122,8 +137,9 @@ due_as : {R : Type 0} (MayAnswer : ReadOutcome R)
 due_as MayAnswer IsDue IsDueToo first [] weaker due = tt
 due_as MayAnswer IsDue IsDueToo first (read ∷ before) weaker due = (
   due_as MayAnswer IsDue IsDueToo first before weaker due.0,
-  weaker (bytes_read before) (length read.room) due.1,
-  due.2,
+  due.1,
+  weaker (bytes_read before) (length read.room) due.2,
+  due.3,
 )
 
 pub read_as : {R : Type 0} {answers : _} {bytes : _} {remaining : R → Option (List ℕ)}
@@ -181,19 +197,25 @@ ended_behind_both : {R : Type 0} (ended : Bool) (later before : List (ReadCall R
 ended_behind_both ended [] before = refl
 ended_behind_both ended (read ∷ later) before = refl
 
+go_on_behind_both : {R : Type 0} (later before : List (ReadCall R)) → MayGoOn before → MayGoOn later
+    → MayGoOn (later ++ before)
+go_on_behind_both [] before here there = here
+go_on_behind_both (read ∷ later) before here there = there
+
 due_behind : {R : Type 0} (MayAnswer : ReadOutcome R)
     (IsDue IsDueThen : List ℕ → ℕ → Type 0) (first : R) (later before : List (ReadCall R))
     → ((came : List ℕ) (room : ℕ) → IsDueThen came room → IsDue (bytes_read before ++ came) room)
-    → AreDue MayAnswer IsDue first before
+    → MayGoOn before → AreDue MayAnswer IsDue first before
     → AreDue MayAnswer IsDueThen (reader_after first before) later
     → AreDue MayAnswer IsDue first (later ++ before)
-due_behind MayAnswer IsDue IsDueThen first [] before so due due_later = due
-due_behind MayAnswer IsDue IsDueThen first (read ∷ later) before so due due_later = (
-  due_behind MayAnswer IsDue IsDueThen first later before so due due_later.0,
+due_behind MayAnswer IsDue IsDueThen first [] before so open due due_later = due
+due_behind MayAnswer IsDue IsDueThen first (read ∷ later) before so open due due_later = (
+  due_behind MayAnswer IsDue IsDueThen first later before so open due due_later.0,
+  go_on_behind_both later before open due_later.1,
   subst (λ bytes. IsDue bytes (length read.room)) (sym (bytes_behind later before))
-      (so (bytes_read later) (length read.room) due_later.1),
+      (so (bytes_read later) (length read.room) due_later.2),
   subst (λ reader. MayAnswer reader read.room read.answer read.after read.given)
-      (sym (reader_behind_both first later before)) due_later.2,
+      (sym (reader_behind_both first later before)) due_later.3,
 )
 
 read_behind : {R : Type 0} {answers : _} {bytes : _} (remaining : R → Option (List ℕ))
@@ -201,15 +223,17 @@ read_behind : {R : Type 0} {answers : _} {bytes : _} (remaining : R → Option (
     (IsDue IsDueThen : List ℕ → ℕ → Type 0) (old between new : Source R answers bytes)
     (later before : List (ReadCall R))
     → ((came : List ℕ) (room : ℕ) → IsDueThen came room → IsDue (bytes_read before ++ came) room)
+    → IsOpen old → IsOpen between
     → AreReadsBetween remaining MayAnswer IsDue old between before
     → AreReadsBetween remaining MayAnswer IsDueThen between new later
     → AreReadsBetween remaining MayAnswer IsDue old new (later ++ before)
-read_behind remaining MayAnswer IsDue IsDueThen old between new later before so one two =
+read_behind remaining MayAnswer IsDue IsDueThen old between new later before so first then one two =
     let counts : reads_of new ≡ reads_of old + length (later ++ before) =
     rw length-append (omega (arith, one.count, two.count)) in
     let both = Consumes-trans _ _ _ (bytes_read before) (bytes_read later) one.taken two.taken in
     record {
-      due = due_behind MayAnswer IsDue IsDueThen (reader_of old) later before so one.due
+      due = due_behind MayAnswer IsDue IsDueThen (reader_of old) later before so
+          (may_go_on before one first then) one.due
           (subst (λ reader. AreDue MayAnswer IsDueThen reader later) one.reader two.due);
       reader = two.reader ∙ ap (λ reader. reader_after reader later) one.reader
           ∙ sym (reader_behind_both (reader_of old) later before);
@@ -232,12 +256,13 @@ behind_head bytes front behind head is stands came room due =
 pub head_then : {R : Type 0} {answers : _} {bytes : _} {remaining : R → Option (List ℕ)}
     {MayAnswer : ReadOutcome R} {old between new : Source R answers bytes} {front behind : List ℕ}
     {head : RequestHead} {Gave Gives : List ℕ → Type 0} → HasHead front head behind
+    → IsOpen old → IsOpen between
     → ReadsOn remaining MayAnswer IsDueForHead old between (λ came. came ≡ front)
     → ReadsOn remaining MayAnswer (IsDueOn (asked head) behind) between new Gave
     → ((came : List ℕ) → Gave came → Gives (front ++ came))
     → ReadsOn remaining MayAnswer IsDue old new Gives
-head_then {remaining} {MayAnswer} {old} {between} {new} {front} {behind} {head} {Gives} stands begun two
-    gives =
+head_then {remaining} {MayAnswer} {old} {between} {new} {front} {behind} {head} {Gives} stands first then
+    begun two gives =
     let one : ReadsOn remaining MayAnswer IsDue old between (λ came. came ≡ front) =
     read_as begun (λ came room due. for_head due) (λ came is. is) in
     let late = bytes_read two.reads in
@@ -247,7 +272,7 @@ head_then {remaining} {MayAnswer} {old} {between} {new} {front} {behind} {head} 
       reads = two.reads ++ one.reads;
       between = read_behind remaining MayAnswer IsDue (IsDueOn (asked head) behind) old between new
           two.reads one.reads
-          (behind_head (bytes_read one.reads) front behind head one.gave stands) one.between
-          two.between;
+          (behind_head (bytes_read one.reads) front behind head one.gave stands) first then
+          one.between two.between;
       gave = subst Gives (sym came) (gives late two.gave);
     }

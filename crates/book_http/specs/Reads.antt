@@ -1,7 +1,7 @@
 -- How far a request is read: the reads that were made of a reader, and for each of them why it was
 -- due. The reads are in a list, newest first.
 use Rattle.std.specs.Prelude.{◌≡◌, ℕ, ◌+◌, ◌<◌, ◌≤◌, List, [], ◌∷◌, ◌++◌, length, take, ⊤}
-use Rattle.std.specs.Prelude.{Option, Result, Ok, Err, Bool}
+use Rattle.std.specs.Prelude.{Option, Result, Ok, Err, Bool, false}
 use Rattle.std.specs.Io.KnownBytes.{Consumes}
 use Rattle.std.specs.declared.io.Error.{Error}
 use Rattle.httparse.specs.Grammar.{RequestHead, HasNoRequest, MayBecomeRequest}
@@ -51,13 +51,18 @@ abbrev pub ended_after : {R : Type 0} → Bool → List (ReadCall R) → Bool
 ended_after ended [] = ended
 ended_after ended (read ∷ before) = is_end read.answer (length read.room)
 
+-- Reading may go on after these reads: none of them failed, and none met the end.
+abbrev pub MayGoOn : {R : Type 0} → List (ReadCall R) → Type 0
+MayGoOn before = (failed_after false before ≡ false) × (ended_after false before ≡ false)
+
 -- Each of these reads is what the reader answered, and was due after the bytes of those before it,
--- for as many bytes as it had room for.
+-- for as many bytes as it had room for. None came after one that failed or met the end.
 abbrev pub AreDue : {R : Type 0} → ReadOutcome R → (List ℕ → ℕ → Type 0) → R → List (ReadCall R)
     → Type 0
 AreDue MayAnswer IsDue first [] = ⊤
 AreDue MayAnswer IsDue first (read ∷ before) =
-    AreDue MayAnswer IsDue first before × IsDue (bytes_read before) (length read.room)
+    AreDue MayAnswer IsDue first before × MayGoOn before
+    × IsDue (bytes_read before) (length read.room)
     × MayAnswer (reader_after first before) read.room read.answer read.after read.given
 
 -- From one source to the other by these reads and no others: what they gave is what was taken.
@@ -117,3 +122,11 @@ pub data IsDue (bytes : List ℕ) (room : ℕ) : Type 0 where
   for_head : IsDueForHead bytes room → IsDue bytes room
   for_body : (head : RequestHead) (behind : List ℕ) → HasHead bytes head behind
       → IsDueAfterHead (asked head) behind room → IsDue bytes room
+
+-- A source was read on for a request: each read was due for one. And this is so of whether the input has
+-- ended then, and of the bytes that came.
+abbrev pub ReadsRequest : {R : Type 0} {answers : _} {bytes : _} → (R → Option (List ℕ))
+    → ReadOutcome R → Source R answers bytes → Source R answers bytes → (Bool → List ℕ → Type 0)
+    → Type 0
+ReadsRequest remaining MayAnswer old new Gave =
+    ReadsOn remaining MayAnswer IsDue old new (Gave (has_ended new))

@@ -9,7 +9,7 @@ ghost use Rattle.book_http.specs.Asked as spec;
 ghost use Rattle.book_http.specs.Asked.{IsServable};
 ghost use Rattle.book_http.specs.Bodies.{body_status, is_failed_read, most_body_bytes};
 ghost use Rattle.book_http.specs.Head.{most_head_bytes};
-ghost use Rattle.book_http.specs.Reads.{IsDue, ReadsOn};
+ghost use Rattle.book_http.specs.Reads.{ReadsRequest};
 ghost use Rattle.book_http.specs.Replies.{refusal};
 ghost use Rattle.book_http.specs.Requested.{AsksAfter, IsReadAs, Settles, request_seen};
 ghost use Rattle.book_http.specs.Requests.{DescribesHead};
@@ -145,9 +145,10 @@ pub fn read_request<R: Reader + Drop>(
     requires ended { has_ended source.old ≡ false }
 
     // What is asked, by the bytes that the reads gave, whatever may follow them. Each read was due:
-    // while there was no head, or for the rest of the body of an import or a tariff that is served.
-    ensures asks { ReadsOn R.remaining R.may_answer IsDue source.old source.new
-        (IsReadAs (has_ended source.new) result) }
+    // while there was no head, or for the rest of the body of an import or a tariff that is served;
+    // and after one that failed or met the end there was none.
+    ensures asks { ReadsRequest R.remaining R.may_answer source.old source.new
+        (λ ended. IsReadAs ended result) }
     ensures closed { IsErrOf result Unanswered.Closed → has_ended source.new ≡ true }
     ensures failed { has_failed source.new ≡ is_failed result }
     ensures asked { reads_of source.new

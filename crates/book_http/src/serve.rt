@@ -8,7 +8,7 @@ ghost use Rattle.streams.specs.Sources.{reader_of, reads_of, has_failed, has_end
 ghost use Rattle.book_core.specs.Ledgers.{books};
 ghost use Rattle.book_http.specs.Bodies.{most_body_bytes};
 ghost use Rattle.book_http.specs.Head.{most_head_bytes};
-ghost use Rattle.book_http.specs.Reads.{IsDue, ReadsOn};
+ghost use Rattle.book_http.specs.Reads.{ReadsRequest};
 ghost use Rattle.book_http.specs.Served.{IsServed, ServesDetails};
 ghost use Rattle.book_http.specs.Served.{is_read_fault, is_unanswered, is_write_fault};
 
@@ -61,8 +61,8 @@ pub fn serve_one<R: Reader + Drop, W: Write + Drop, L: Ledger>(
     // the books' storage is honest. Each read was due: while there was no head, or for the rest of
     // the body of an import or a tariff that is served. Where the source has ended, these are all
     // the bytes of a reader whose bytes are known.
-    ensures served { ReadsOn R.remaining R.may_answer IsDue source.old source.new
-        (λ taken. IsServed (books L.seen ledger.old ledger.new) taken (has_ended source.new)
+    ensures served { ReadsRequest R.remaining R.may_answer source.old source.new
+        (λ ended taken. IsServed (books L.seen ledger.old ledger.new) taken ended
         (output W.contents sink.old sink.new) result) }
     ensures asked { reads_of source.new
         ≤ reads_of source.old + most_head_bytes + most_body_bytes }

@@ -5,7 +5,7 @@
 ghost use Rattle.std.specs.Prelude.{◌≡◌, ◌≤◌, ◌^◌, Err, false, true};
 ghost use Rattle.streams.specs.Sources.{has_ended, has_failed, reads_of};
 ghost use Rattle.book_core.specs.Transition.{IsTransition};
-ghost use Rattle.book_http.specs.Reads.{IsDue, ReadsOn};
+ghost use Rattle.book_http.specs.Reads.{ReadsRequest};
 ghost use Rattle.book_http.specs.Replies.{reply_of};
 ghost use Rattle.book_http.specs.Served.{IsSent, is_read_fault, is_unanswered};
 ghost use Rattle.chargectl.specs.ClientRequests as spec;
@@ -201,8 +201,8 @@ pub fn serve_request<R: Reader + Drop, W: Peer + Drop, S: Repository>(
     requires asked { reads_of source.old ≤ 2 ^ 62 }
     requires failed { has_failed source.old ≡ false }
     requires ended { has_ended source.old ≡ false }
-    ensures served { ReadsOn R.remaining R.may_answer IsDue source.old source.new
-        (IsServedFrom S.shelf repository.old repository.new book.now (has_ended source.new)
+    ensures served { ReadsRequest R.remaining R.may_answer source.old source.new
+        (λ ended. IsServedFrom S.shelf repository.old repository.new book.now ended
         (W.contents writer) (W.contents result.1) result.0.served) }
 
     // The books are not opened before a request is whole.

@@ -8,7 +8,8 @@ use Rattle.book_http.proofs.body.fill.Goals as goal
 pub returns-in_default-clause-reads : goal.returns-in_default-clause-reads
 returns-in_default-clause-reads g c =
     let so_far = c.pieces.invariant in
-    read_on so_far.reads c.in_default.ensures.answer
+    read_on so_far.reads (c.requires.failed, c.requires.ended) (so_far.failed, so_far.ended)
+    c.in_default.ensures.answer
     c.in_default.ensures.bytes c.read.ensures.asked c.in_default.ensures.failed
     c.in_default.ensures.ended
     (λ came is. due_for_body _ _ _ _ _ is so_far.low c.pieces-test.true so_far.size) (λ came is. tt)
@@ -17,7 +18,8 @@ pub returns-then-count-eq0-clause-reads : goal.returns-then-count-eq0-clause-rea
 returns-then-count-eq0-clause-reads g c =
     let so_far = c.pieces.invariant in
     let long = length-take-le c.pieces.filled c.pieces.body so_far.within in
-    read_on so_far.reads c.in-Ok.ensures.answer c.in-Ok.ensures.bytes
+    read_on so_far.reads (c.requires.failed, c.requires.ended) (so_far.failed, so_far.ended)
+    c.in-Ok.ensures.answer c.in-Ok.ensures.bytes
     c.read.ensures.asked c.in-Ok.ensures.failed c.in-Ok.ensures.ended
     (λ came is. due_for_body _ _ _ _ _ is so_far.low c.pieces-test.true so_far.size)
     (λ came is. rw
@@ -36,7 +38,8 @@ pieces-preserved g c =
       ended = search rules;
       asked = omega (arith, c.read.ensures.asked, so_far.asked);
       kept = take-put_mid_below _ _ _ _ _ so_far.low so_far.within ∙ so_far.kept;
-      reads = read_on so_far.reads c.in-Ok.ensures.answer
+      reads = read_on so_far.reads (c.requires.failed, c.requires.ended) (so_far.failed, so_far.ended)
+          c.in-Ok.ensures.answer
           c.in-Ok.ensures.bytes c.read.ensures.asked c.in-Ok.ensures.failed
           c.in-Ok.ensures.ended
           (λ came is. due_for_body _ _ _ _ _ is so_far.low c.pieces-test.true so_far.size)

@@ -10,7 +10,8 @@ use Rattle.book_http.proofs.head.read_head.Goals as goal
 pub returns-in_default-clause-reads : goal.returns-in_default-clause-reads
 returns-in_default-clause-reads g c =
     let so_far = c.pieces.invariant in
-    read_on so_far.reads c.in_default.ensures.answer
+    read_on so_far.reads (c.requires.failed, c.requires.ended) (so_far.failed, so_far.ended)
+    c.in_default.ensures.answer
     c.in_default.ensures.bytes c.read.ensures.asked c.in_default.ensures.failed
     c.in_default.ensures.ended
     (λ came is. due_for_head _ _ _ is so_far.within so_far.size so_far.none so_far.may_come)
@@ -20,7 +21,8 @@ pub returns-then-filled-eq0-clause-reads : goal.returns-then-filled-eq0-clause-r
 returns-then-filled-eq0-clause-reads g c =
     let so_far = c.pieces.invariant in
     let ended : has_ended c.read.new.self ≡ true = search rules in
-    read_on so_far.reads c.in-Ok.ensures.answer c.in-Ok.ensures.bytes
+    read_on so_far.reads (c.requires.failed, c.requires.ended) (so_far.failed, so_far.ended)
+    c.in-Ok.ensures.answer c.in-Ok.ensures.bytes
     c.read.ensures.asked c.in-Ok.ensures.failed c.in-Ok.ensures.ended
     (λ came is. due_for_head _ _ _ is so_far.within so_far.size so_far.none so_far.may_come)
     (λ came is. (
@@ -34,7 +36,8 @@ returns-else-filled-eq0-clause-reads g c =
     let so_far = c.pieces.invariant in
     let some : 0 < c.pieces.filled = omega arith in
     let ended : has_ended c.read.new.self ≡ true = search rules in
-    read_on so_far.reads c.in-Ok.ensures.answer c.in-Ok.ensures.bytes
+    read_on so_far.reads (c.requires.failed, c.requires.ended) (so_far.failed, so_far.ended)
+    c.in-Ok.ensures.answer c.in-Ok.ensures.bytes
     c.read.ensures.asked c.in-Ok.ensures.failed c.in-Ok.ensures.ended
     (λ came is. due_for_head _ _ _ is so_far.within so_far.size so_far.none so_far.may_come)
     (λ came is.
@@ -47,7 +50,8 @@ pub returns-in-Ok-Complete-clause-reads : goal.returns-in-Ok-Complete-clause-rea
 returns-in-Ok-Complete-clause-reads g c =
     let so_far = c.pieces.invariant in
     let few : c.in-Ok.count ≤ length c.read.new.buffer = omega (arith, c.in-Ok.ensures.bound) in
-    read_on so_far.reads c.in-Ok.ensures.answer c.in-Ok.ensures.bytes
+    read_on so_far.reads (c.requires.failed, c.requires.ended) (so_far.failed, so_far.ended)
+    c.in-Ok.ensures.answer c.in-Ok.ensures.bytes
     c.read.ensures.asked c.in-Ok.ensures.failed c.in-Ok.ensures.ended
     (λ came is. due_for_head _ _ _ is so_far.within so_far.size so_far.none so_far.may_come)
     (λ came is. more_came _ _ _ _ _ _ is so_far.within few)
@@ -69,7 +73,8 @@ pieces-preserved g c =
       failed = search rules;
       ended = search rules;
       asked = omega (arith, c.read.ensures.asked, so_far.asked);
-      reads = read_on so_far.reads c.in-Ok.ensures.answer
+      reads = read_on so_far.reads (c.requires.failed, c.requires.ended) (so_far.failed, so_far.ended)
+          c.in-Ok.ensures.answer
           c.in-Ok.ensures.bytes c.read.ensures.asked c.in-Ok.ensures.failed
           c.in-Ok.ensures.ended
           (λ came is. due_for_head _ _ _ is so_far.within so_far.size so_far.none so_far.may_come)
@@ -87,7 +92,8 @@ returns-in-Err-clause-reads g c =
     let grown = grown_length c.pieces.filled given c.in-Ok.count c.pieces.buffer
     c.read.new.buffer so_far.within few in
     let some : 0 < c.pieces.filled + c.in-Ok.count = omega arith in
-    read_on so_far.reads c.in-Ok.ensures.answer c.in-Ok.ensures.bytes
+    read_on so_far.reads (c.requires.failed, c.requires.ended) (so_far.failed, so_far.ended)
+    c.in-Ok.ensures.answer c.in-Ok.ensures.bytes
     c.read.ensures.asked c.in-Ok.ensures.failed c.in-Ok.ensures.ended
     (λ came is. due_for_head _ _ _ is so_far.within so_far.size so_far.none so_far.may_come)
     (λ came is.

@@ -33,7 +33,8 @@ returns-in-Ok-clause-asks g c =
     let behind = drop whole.spans.len front in
     let head = c.in-Whole.ensures.head in
     let request = c.request_in-request in
-    head_then head.1.is_head c.in-Whole.ensures.reads
+    head_then head.1.is_head (c.requires.failed, c.requires.ended)
+    (c.in-Whole.ensures.failed, c.in-Whole.ensures.goes_on) c.in-Whole.ensures.reads
     (rw request.ensures.behind at
     (c.in-Ok.ensures.asks head.0 (request.ensures.says head.0 head.1.parts)))
     (λ came asking.
@@ -43,7 +44,8 @@ pub returns-in_default-clause-asks : goal.returns-in_default-clause-asks
 returns-in_default-clause-asks g c =
     let head = c.in-Whole.ensures.head in
     let request = c.request_in-request in
-    head_then head.1.is_head c.in-Whole.ensures.reads
+    head_then head.1.is_head (c.requires.failed, c.requires.ended)
+    (c.in-Whole.ensures.failed, c.in-Whole.ensures.goes_on) c.in-Whole.ensures.reads
     (rw request.ensures.behind at
     (c.in_default.ensures.asks head.0 (request.ensures.says head.0 head.1.parts)))
     (λ came failed. tt)
