@@ -17,8 +17,8 @@ use Rattle.book_model.specs.Words.{no_rulings, last_close, set_of, has, without}
 use Rattle.book_model.proofs.SetLemmas.{has-set_of, any-members}
 use Rattle.book_model.proofs.RecordSets.{is, has_those}
 use Rattle.book_laws.specs.NetCounts.{one_if, net_count}
-use Rattle.book_laws.specs.WrongPeriods.{closed_periods_by, ChargedOnceBy, as_defined, no_minus, counts_early}
-use Rattle.book_laws.specs.WrongPeriods.{adds_late, WrongPeriodsFail}
+use Rattle.book_laws.specs.WrongPeriods.{closed_periods_by, ChargedOnceBy, as_defined, no_minus, counts_late}
+use Rattle.book_laws.specs.WrongPeriods.{adds_current, WrongPeriodsFail}
 use Rattle.book_laws.proofs.NetLemmas.{has_without, in_counted, in_added, charged_once}
 
 -- the periods of the book are made as they are defined
@@ -149,23 +149,24 @@ of_one p c a t charged now pc pa pt is law =
     sym (λ i. pos ((0 + one_if (pc i)) + (0 + one_if (pa i))) -ℤ pos (0 + one_if (pt i)))
     ∙ law ∙ ap (λ b. pos (one_if b)) is
 
--- if late records are added too, a record that came before any close is charged twice
-added_fails : ChargedOnceBy adds_late → ⊥
+-- if records dated after the close are added too, a record that came before any close is charged
+-- twice
+added_fails : ChargedOnceBy adds_current → ⊥
 added_fails law =
     let book : Book = book_after (RecordKept one ∷ []) in
     let charged : Records = charged_now book.rulings book.held in
     let before : Records = book.posted in
     let now = now_charged [] in
     let twice =
-    of_one (adds_late None before charged) true true false (has charged one) true
+    of_one (adds_current None before charged) true true false (has charged one) true
     (one_counted None before charged true now)
     (one_fresh before charged false true (nobody one) now)
     (one_fresh charged before true false now (nobody one))
     now (law (RecordKept one ∷ []) one) in
     absurd (omega (arith, ints))
 
--- if early records are counted too, a record is counted again in the period after a close
-counted_fails : ChargedOnceBy counts_early → ⊥
+-- if late records are counted too, a record is counted again in the period after a close
+counted_fails : ChargedOnceBy counts_late → ⊥
 counted_fails law =
     let first : Book = book_after (RecordKept one ∷ []) in
     let second : Book = book_after (PeriodClosed last ∷ RecordKept one ∷ []) in
@@ -174,7 +175,7 @@ counted_fails law =
     let was = now_posted [] in
     let now = now_charged second.rulings.closes in
     let twice =
-    of_two (counts_early None first.posted posted) (counts_early (Some last) posted charged)
+    of_two (counts_late None first.posted posted) (counts_late (Some last) posted charged)
     true true false false false false (has charged one) true
     was now
     (one_added None first.posted posted false true (nobody one) was)
@@ -195,14 +196,14 @@ minus_fails law =
     let posted : Records = third.posted in
     let was = now_posted [] in
     let now = now_disputed third.rulings.closes in
-    let early : Bool = is_dated_after (Some last) one in
+    let current : Bool = is_dated_after (Some last) one in
     let stays =
     of_two (no_minus None first.posted posted) (no_minus (Some last) posted charged)
     true false false false false false (has charged one) false
     (one_counted None first.posted posted true was)
-    (one_counted (Some last) posted charged false now ∙ and-false early)
+    (one_counted (Some last) posted charged false now ∙ and-false current)
     (one_added None first.posted posted false true (nobody one) was)
-    (one_added (Some last) posted charged true false was now ∙ and-false (not early))
+    (one_added (Some last) posted charged true false was now ∙ and-false (not current))
     (nobody one) (nobody one)
     now (law (RecordKept other ∷ PeriodClosed last ∷ RecordKept one ∷ []) one) in
     absurd (omega (arith, ints))

@@ -43,18 +43,18 @@ abbrev pub no_minus : PeriodDefinition
 no_minus last before charged =
     record (period_by last before charged) { taken = set_of by_bytes [] }
 
--- the rows count early records too
-abbrev pub counts_early : PeriodDefinition
-counts_early last before charged = record (period_by last before charged) { counted = charged }
+-- the rows count late records too
+abbrev pub counts_late : PeriodDefinition
+counts_late last before charged = record (period_by last before charged) { counted = charged }
 
--- late records are added too
-abbrev pub adds_late : PeriodDefinition
-adds_late last before charged =
+-- records dated after the close are added too
+abbrev pub adds_current : PeriodDefinition
+adds_current last before charged =
     record (period_by last before charged) { added = without charged before }
 
 -- The law is true of periods as the books make them, and false of the others.
 pub record WrongPeriodsFail : Type 0 where
   pub right : ChargedOnceBy as_defined
   pub minus : ChargedOnceBy no_minus → ⊥
-  pub counted : ChargedOnceBy counts_early → ⊥
-  pub added : ChargedOnceBy adds_late → ⊥
+  pub counted : ChargedOnceBy counts_late → ⊥
+  pub added : ChargedOnceBy adds_current → ⊥
