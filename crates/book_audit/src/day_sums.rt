@@ -166,8 +166,9 @@ fn read_rows<S: Store, W: Watch>(
 {
     let tree = Tree::Days;
     let mut walk = Walk::over(alloc, tree);
+    let mut count = 0u64;
     'rows: for next in due {
-        watch.read(tree, 0);
+        watch.read(tree, count);
         if !walk.next(trees)? {
             let place = place_in(next);
             let period = rulings.period_of(next.day);
@@ -177,6 +178,7 @@ fn read_rows<S: Store, W: Watch>(
         if !is_due(rulings, &row, next) {
             return Err(wrong_with(rulings, &row, Some(next)));
         }
+        count = count.saturating_add(1);
     }
     if walk.next(trees)? {
         let row = row_in(walk.row()).map_err(|error| met(tree, error))?;
