@@ -7,13 +7,13 @@ use Rattle.smf_text.proofs.DayOfTextLemmas.{day_found, day_named, day_text_begin
 use Rattle.book_reports.proofs.RecordNameLemmas.{name_begins}
 use Rattle.book_reports.specs.RecordNames.{name_in}
 use Rattle.book_reports.specs.declared.report.Report.TheVariants.{PeriodPage, Record, TariffText}
-use Rattle.book_http.specs.declared.route.Page.TheVariants as page
+use Rattle.book_http.specs.declared.route.Endpoint.TheVariants as endpoint
 use Rattle.book_http.specs.declared.route.Route.TheVariants as route_to
 use Rattle.book_http.specs.Paths.{IsPathOf, IsPathPeriod}
-use Rattle.book_http.specs.Routes.{page_after, page_of, period, record_after, route, route_at, route_rows}
+use Rattle.book_http.specs.Routes.{page_after, endpoint_of, period, record_after, route, route_at, route_rows}
 use Rattle.book_http.specs.Routes.{tariff_after}
 use Rattle.book_http.proofs.PeriodLemmas.{period_found, period_named}
-use Rattle.book_http.proofs.RestPathLemmas.{itself, page_numbered, rest_asks, rest_served}
+use Rattle.book_http.proofs.RestPathLemmas.{itself, endpoint_numbered, rest_asks, rest_served}
 use Rattle.book_http.proofs.ServedPathLemmas.{begun_found}
 
 -- ---- what is found is served
@@ -38,23 +38,23 @@ tariff_served path =
 
 -- ---- what is served is found
 
-numbered_page : (n : ℕ) → IsPathPeriod n
-    → page_of (codes "/period/" ++ decimal n) ≡ Some page.Period
+numbered_endpoint : (n : ℕ) → IsPathPeriod n
+    → endpoint_of (codes "/period/" ++ decimal n) ≡ Some endpoint.Period
 unfolding matchit_on_literals route_rows
-numbered_page n named = page_numbered (codes "/period/") n None _ refl refl named
+numbered_endpoint n named = endpoint_numbered (codes "/period/") n None _ refl refl named
 
 pub period_page_found : (n : ℕ) → IsPathPeriod n
     → route (codes "/period/" ++ decimal n) ≡ Some (route_to.Report (PeriodPage n))
 unfolding route_at
 period_page_found n named =
-    rest_asks period (λ n. route_to.Report (PeriodPage n)) (codes "/period/") page.Period (decimal n) n
-    (numbered_page n named) refl (period_found n named)
+    rest_asks period (λ n. route_to.Report (PeriodPage n)) (codes "/period/") endpoint.Period (decimal n) n
+    (numbered_endpoint n named) refl (period_found n named)
 
 -- a path that goes on is for a record
-record_page : (digit : ℕ) (rest : List ℕ) → digit < 256
-    → page_of (codes "/record/" ++ digit ∷ rest) ≡ Some page.Record
+record_endpoint : (digit : ℕ) (rest : List ℕ) → digit < 256
+    → endpoint_of (codes "/record/" ++ digit ∷ rest) ≡ Some endpoint.Record
 unfolding matchit_on_literals route_rows
-record_page digit rest byte = begun_found (codes "/record/") digit rest _ refl refl byte
+record_endpoint digit rest byte = begun_found (codes "/record/") digit rest _ refl refl byte
 
 -- digits that spell a name ask for its record
 pub record_found : (digits name : List ℕ) → name_in digits ≡ Some name
@@ -62,15 +62,15 @@ pub record_found : (digits name : List ℕ) → name_in digits ≡ Some name
 unfolding route_at
 record_found digits name named =
     let begins = name_begins digits name named in
-    rest_asks name_in (λ name. route_to.Report (Record name)) (codes "/record/") page.Record digits name
-    (ap (λ digits. page_of (codes "/record/" ++ digits)) begins.3
-    ∙ record_page begins.0 begins.1 begins.2)
+    rest_asks name_in (λ name. route_to.Report (Record name)) (codes "/record/") endpoint.Record digits name
+    (ap (λ digits. endpoint_of (codes "/record/" ++ digits)) begins.3
+    ∙ record_endpoint begins.0 begins.1 begins.2)
     refl named
 
-tariff_page : (digit : ℕ) (rest : List ℕ) → digit < 256
-    → page_of (codes "/tariff/" ++ digit ∷ rest) ≡ Some page.Tariff
+tariff_endpoint : (digit : ℕ) (rest : List ℕ) → digit < 256
+    → endpoint_of (codes "/tariff/" ++ digit ∷ rest) ≡ Some endpoint.Tariff
 unfolding matchit_on_literals route_rows
-tariff_page digit rest byte = begun_found (codes "/tariff/") digit rest _ refl refl byte
+tariff_endpoint digit rest byte = begun_found (codes "/tariff/") digit rest _ refl refl byte
 
 -- a day asks for its tariff
 pub tariff_found : (day : ℤ) → IsDay day
@@ -78,8 +78,8 @@ pub tariff_found : (day : ℤ) → IsDay day
 unfolding route_at
 tariff_found day named =
     let begins = day_text_begins day named in
-    rest_asks day_of_text_of (λ day. route_to.Report (TariffText day)) (codes "/tariff/") page.Tariff
+    rest_asks day_of_text_of (λ day. route_to.Report (TariffText day)) (codes "/tariff/") endpoint.Tariff
     (day_text_of day) day
-    (ap (λ text. page_of (codes "/tariff/" ++ text)) begins.3
-    ∙ tariff_page begins.0 begins.1 begins.2)
+    (ap (λ text. endpoint_of (codes "/tariff/" ++ text)) begins.3
+    ∙ tariff_endpoint begins.0 begins.1 begins.2)
     refl (day_found day named)

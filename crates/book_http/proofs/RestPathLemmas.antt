@@ -4,27 +4,27 @@ use Rattle.std.specs.Option.{option_and_then}
 use Rattle.std.specs.Prelude.{decimal, option_map}
 use Rattle.matchit.specs.Router.{RouteOf}
 use Rattle.matchit.specs.Rows.{catch_all_token}
-use Rattle.book_http.specs.declared.route.Page.{Page}
+use Rattle.book_http.specs.declared.route.Endpoint.{Endpoint}
 use Rattle.book_http.specs.declared.route.Route.{Route}
 use Rattle.book_http.specs.Paths.{IsPathOf, IsPathPeriod, period_text}
-use Rattle.book_http.specs.Routes.{page_of, path_rest, route, route_at, route_on, route_rows}
+use Rattle.book_http.specs.Routes.{endpoint_of, path_rest, route, route_at, route_on, route_rows}
 use Rattle.book_http.proofs.NamedPeriodLemmas.{after_number, text_begins}
 use Rattle.book_http.proofs.PeriodLemmas.{decimal_digits, rest_found, rest_named}
 use Rattle.book_http.proofs.ServedPathLemmas.{is_plain_along, numbered_found, rows_along}
 
--- a path of this page is for what the page says there
-pub on_page : (found : Page) (path : List ℕ) (asked : Route) → page_of path ≡ Some found
+-- a path of this endpoint is for what it says there
+pub on_endpoint : (found : Endpoint) (path : List ℕ) (asked : Route) → endpoint_of path ≡ Some found
     → route_at found path ≡ Some asked → route path ≡ Some asked
-on_page found path asked is_page is_for = ap (λ p. route_on p path) is_page ∙ is_for
+on_endpoint found path asked is_endpoint is_for = ap (λ p. route_on p path) is_endpoint ∙ is_for
 
 -- a path that names a period after a prefix is found there
-pub page_numbered : (front : List ℕ) (n : ℕ) (centre : Option (List ℕ)) (key : RouteOf Page)
+pub endpoint_numbered : (front : List ℕ) (n : ℕ) (centre : Option (List ℕ)) (key : RouteOf Endpoint)
     → is_plain_along front route_rows ≡ true
     → rows_along front route_rows ≡ (catch_all_token ∷ [], key) ∷ [] → IsPathPeriod n
-    → page_of (front ++ period_text n centre) ≡ Some key.value
-page_numbered front n centre key plain ends named =
+    → endpoint_of (front ++ period_text n centre) ≡ Some key.value
+endpoint_numbered front n centre key plain ends named =
     let shown = decimal_digits n named in
-    ap (λ text. page_of (front ++ text)) (text_begins n centre)
+    ap (λ text. endpoint_of (front ++ text)) (text_begins n centre)
     ∙ numbered_found front (decimal n) (after_number centre) key plain ends shown.0 shown.1
 
 -- what is read is what is read
@@ -51,11 +51,11 @@ module _ {A : Type 0} (read : List ℕ → Option A) (on : A → Route) (prefix 
       by (Some rest) is = mapped rest is (read rest) (named rest)
 
   -- and what is served is found
-  pub rest_asks : (found : Page) (rest : List ℕ) (it : A) → page_of (prefix ++ rest) ≡ Some found
+  pub rest_asks : (found : Endpoint) (rest : List ℕ) (it : A) → endpoint_of (prefix ++ rest) ≡ Some found
       → route_at found (prefix ++ rest)
       ≡ option_map on (option_and_then read (path_rest prefix (prefix ++ rest)))
       → read rest ≡ Some it → route (prefix ++ rest) ≡ Some (on it)
-  rest_asks found rest it is_page at reads =
-      on_page found (prefix ++ rest) (on it) is_page
+  rest_asks found rest it is_endpoint at reads =
+      on_endpoint found (prefix ++ rest) (on it) is_endpoint
       (at ∙ ap (λ rest. option_map on (option_and_then read rest)) (rest_found prefix rest)
       ∙ ap (option_map on) reads)

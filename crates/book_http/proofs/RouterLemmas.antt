@@ -13,13 +13,13 @@ use Rattle.matchit.specs.Rows.{RowsOf, param_token, catch_all_token}
 use Rattle.matchit.specs.Seek.{own, step, or_else, seek, first, param_step, longest_suffix, segment}
 use Rattle.matchit.specs.Seek.{with_suffix, same_text, has_slash}
 use Rattle.smf_frames.specs.declared.dump.Layout.TheVariants.{Rdw, Bdw}
-use Rattle.book_http.specs.declared.route.Page.{Page}
-use Rattle.book_http.specs.declared.route.Page.TheVariants as page
-use Rattle.book_http.specs.Routes.{page_of, route_rows}
+use Rattle.book_http.specs.declared.route.Endpoint.{Endpoint}
+use Rattle.book_http.specs.declared.route.Endpoint.TheVariants as endpoint
+use Rattle.book_http.specs.Routes.{endpoint_of, route_rows}
 
 -- what the router keeps of a route
 abbrev pub Key : Type 0
-Key = RouteOf Page
+Key = RouteOf Endpoint
 
 -- each key of the rows is so
 abbrev OfKeys : (Key → Type 0) → RowsOf Key → Type 0
@@ -183,18 +183,18 @@ seek_at walked rows (b ∷ path) h =
     moved key (inl e) = inl (e ∙ append_assoc walked (b ∷ []) path)
     moved key (inr wild) = inr wild
 
--- the path of a page that names no period, no record and no day
-abbrev pub plain_path : Page → Option (List ℕ)
-plain_path page.Office = Some (codes "/")
-plain_path page.Periods = Some (codes "/periods")
-plain_path page.Disputes = Some (codes "/disputes")
-plain_path page.DisputesCsv = Some (codes "/disputes-csv")
-plain_path page.Rulings = Some (codes "/rulings")
-plain_path (page.Import Rdw) = Some (codes "/import")
-plain_path (page.Import Bdw) = Some (codes "/import-bdw")
+-- the path of an endpoint that names no period, no record and no day
+abbrev pub plain_path : Endpoint → Option (List ℕ)
+plain_path endpoint.Office = Some (codes "/")
+plain_path endpoint.Periods = Some (codes "/periods")
+plain_path endpoint.Disputes = Some (codes "/disputes")
+plain_path endpoint.DisputesCsv = Some (codes "/disputes-csv")
+plain_path endpoint.Rulings = Some (codes "/rulings")
+plain_path (endpoint.Import Rdw) = Some (codes "/import")
+plain_path (endpoint.Import Bdw) = Some (codes "/import-bdw")
 plain_path found = None
 
--- a key's text is the path of its page, where that names no period
+-- a key's text is the path of its endpoint, where that names no period
 abbrev IsPlain : Key → Type 0
 IsPlain key =
     IfSome (plain_path key.value) (λ text. (has_wild key.pattern ≡ false) × (key.pattern ≡ text))
@@ -223,7 +223,7 @@ rows_stand : StandAt [] route_rows
 unfolding matchit_on_literals route_rows
 rows_stand = stand_by [] route_rows refl
 
--- where both hold of a key, the path is the one of its page
+-- where both hold of a key, the path is the one of its endpoint
 path_of_key : (path pattern : List ℕ) (text : Option (List ℕ))
     → (pattern ≡ path) ⊎ (has_wild pattern ≡ true)
     → IfSome text (λ t. (has_wild pattern ≡ false) × (pattern ≡ t)) → IfSome text (λ t. path ≡ t)
@@ -231,11 +231,11 @@ path_of_key path pattern None found plain = tt
 path_of_key path pattern (Some text) (inl e) plain = sym e ∙ plain.1
 path_of_key path pattern (Some text) (inr wild) plain = absurd (true≢false (sym wild ∙ plain.0))
 
--- a page that names no period is found at its path alone
-pub page_found : (path : List ℕ)
-    → IfSome (page_of path) (λ found. IfSome (plain_path found) (λ text. path ≡ text))
-unfolding page_of
-page_found path =
+-- an endpoint that names no period is found at its path alone
+pub endpoint_found : (path : List ℕ)
+    → IfSome (endpoint_of path) (λ found. IfSome (plain_path found) (λ text. path ≡ text))
+unfolding endpoint_of
+endpoint_found path =
     by (first route_rows path) (seek_at [] route_rows path rows_stand)
     (seek_keys IsPlain 0 route_rows path rows_are_plain)
   where

@@ -10,7 +10,7 @@ use Rattle.matchit.specs.Seek.{step, or_else, seek, param_step, has_slash}
 use Rattle.std.proofs.lemmas.Bool.{true≢false}
 use Rattle.std.proofs.lemmas.Str.Parse.{digit_at}
 use Rattle.std.specs.Int.{IsInRange}
-use Rattle.book_http.specs.Routes.{page_of, route_rows}
+use Rattle.book_http.specs.Routes.{endpoint_of, route_rows}
 use Rattle.book_http.proofs.PeriodLemmas.{are_digits, three_pass}
 use Rattle.book_http.proofs.RouterLemmas.{Key}
 
@@ -95,8 +95,8 @@ lone_found key b rest byte =
 pub begun_found : (front : List ℕ) (b : ℕ) (rest : List ℕ) (key : Key)
     → is_plain_along front route_rows ≡ true
     → rows_along front route_rows ≡ (catch_all_token ∷ [], key) ∷ [] → b < 256
-    → page_of (front ++ b ∷ rest) ≡ Some key.value
-unfolding page_of
+    → endpoint_of (front ++ b ∷ rest) ≡ Some key.value
+unfolding endpoint_of
 begun_found front b rest key plain ends byte =
     ap (option_map (λ row. row.value))
     (walk front (b ∷ rest) route_rows plain ∙ ap (λ rows. seek 0 rows (b ∷ rest)) ends
@@ -107,7 +107,7 @@ pub numbered_found : (front digits rest : List ℕ) (key : Key)
     → is_plain_along front route_rows ≡ true
     → rows_along front route_rows ≡ (catch_all_token ∷ [], key) ∷ []
     → 0 < length digits → list_all is_ascii_digit digits ≡ true
-    → page_of (front ++ (digits ++ rest)) ≡ Some key.value
+    → endpoint_of (front ++ (digits ++ rest)) ≡ Some key.value
 numbered_found front [] rest key plain ends some are = absurd (omega arith)
 numbered_found front (d ∷ digits) rest key plain ends some are =
     let range : IsInRange 48 57 d =

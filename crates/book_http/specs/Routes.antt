@@ -19,8 +19,8 @@ use Rattle.book_reports.specs.declared.report.PeriodReport.TheVariants as of_per
 use Rattle.book_reports.specs.declared.report.Report.TheVariants as report_of
 use Rattle.book_reports.specs.declared.what_if.StatementForm.{StatementForm}
 use Rattle.book_reports.specs.declared.what_if.StatementForm.TheVariants as shown_as
-use Rattle.book_http.specs.declared.route.Page.{Page}
-use Rattle.book_http.specs.declared.route.Page.TheVariants as page
+use Rattle.book_http.specs.declared.route.Endpoint.{Endpoint}
+use Rattle.book_http.specs.declared.route.Endpoint.TheVariants as endpoint
 use Rattle.book_http.specs.declared.route.Route.{Route}
 use Rattle.book_http.specs.declared.route.Route.TheVariants as route_to
 use Rattle.book_http.specs.Numbers.{decimal_value}
@@ -112,66 +112,66 @@ tariff_after prefix path =
     option_map (λ day. route_to.Report (report_of.TariffText day))
     (option_and_then day_of_text_of (path_rest prefix path))
 
--- what a page is for at a path
-unfoldable pub route_at : Page → List ℕ → Option Route
-route_at page.Office path = Some (route_to.Report report_of.OfficePage)
-route_at page.Period path = page_after (codes "/period/") path
-route_at page.Periods path = Some (route_to.Report report_of.PeriodList)
-route_at (page.OfPeriod asked) path = named_after (report_on asked) (period_path asked) path
-route_at (page.Details form) path = named_after (details_on form) (details_path form) path
-route_at page.Disputes path = Some (route_to.Report report_of.DisputeList)
-route_at page.DisputesCsv path = Some (route_to.Report report_of.DisputeTable)
-route_at page.Record path = record_after (codes "/record/") path
-route_at page.Rulings path = Some (route_to.Report report_of.RulingList)
-route_at page.Tariff path = tariff_after (codes "/tariff/") path
-route_at (page.WhatIf form) path = named_after (what_if_on form) (what_if_path form) path
-route_at (page.Import layout) path = Some (route_to.Import layout)
+-- what an endpoint is for at a path
+unfoldable pub route_at : Endpoint → List ℕ → Option Route
+route_at endpoint.Office path = Some (route_to.Report report_of.OfficePage)
+route_at endpoint.Period path = page_after (codes "/period/") path
+route_at endpoint.Periods path = Some (route_to.Report report_of.PeriodList)
+route_at (endpoint.OfPeriod asked) path = named_after (report_on asked) (period_path asked) path
+route_at (endpoint.Details form) path = named_after (details_on form) (details_path form) path
+route_at endpoint.Disputes path = Some (route_to.Report report_of.DisputeList)
+route_at endpoint.DisputesCsv path = Some (route_to.Report report_of.DisputeTable)
+route_at endpoint.Record path = record_after (codes "/record/") path
+route_at endpoint.Rulings path = Some (route_to.Report report_of.RulingList)
+route_at endpoint.Tariff path = tariff_after (codes "/tariff/") path
+route_at (endpoint.WhatIf form) path = named_after (what_if_on form) (what_if_path form) path
+route_at (endpoint.Import layout) path = Some (route_to.Import layout)
 
 -- the rows of the router with one more route, as matchit reads its text
 abbrev pub with_scan :
-    Result Scan InsertError → Page → RowsOf (RouteOf Page) → RowsOf (RouteOf Page)
+    Result Scan InsertError → Endpoint → RowsOf (RouteOf Endpoint) → RowsOf (RouteOf Endpoint)
 with_scan (Ok scan) value rows = placed (scan.pattern, route_from scan value) rows
 with_scan (Err error) value rows = rows
 
-abbrev pub with_route : List ℕ → Page → RowsOf (RouteOf Page) → RowsOf (RouteOf Page)
+abbrev pub with_route : List ℕ → Endpoint → RowsOf (RouteOf Endpoint) → RowsOf (RouteOf Endpoint)
 with_route text value rows = with_scan (parse_route text) value rows
 
 -- the rows of the router with routes that are put in one after the other
-abbrev pub rows_by : List (Bor (List ℕ) × Page) → RowsOf (RouteOf Page)
+abbrev pub rows_by : List (Bor (List ℕ) × Endpoint) → RowsOf (RouteOf Endpoint)
 rows_by routes =
-    fold (λ (rows : RowsOf (RouteOf Page)) (it : Bor (List ℕ) × Page).
+    fold (λ (rows : RowsOf (RouteOf Endpoint)) (it : Bor (List ℕ) × Endpoint).
     with_route it.0.now it.1 rows) [] routes
 
 -- the eighteen routes
-unfoldable pub route_rows : RowsOf (RouteOf Page)
+unfoldable pub route_rows : RowsOf (RouteOf Endpoint)
 route_rows =
-    with_route (codes "/period/{*rest}") page.Period
-    (with_route (codes "/") page.Office
-    (with_route (codes "/import-bdw") (page.Import Bdw)
-    (with_route (codes "/import") (page.Import Rdw)
-    (with_route (codes "/what-if-csv/{*rest}") (page.WhatIf shown_as.Table)
-    (with_route (codes "/what-if/{*rest}") (page.WhatIf shown_as.Text)
-    (with_route (codes "/tariff/{*rest}") page.Tariff
-    (with_route (codes "/rulings") page.Rulings
-    (with_route (codes "/record/{*rest}") page.Record
-    (with_route (codes "/disputes-csv") page.DisputesCsv
-    (with_route (codes "/disputes") page.Disputes
-    (with_route (codes "/details-csv/{*rest}") (page.Details shown_as.Table)
-    (with_route (codes "/details/{*rest}") (page.Details shown_as.Text)
-    (with_route (codes "/adjustments-csv/{*rest}") (page.OfPeriod of_period.AdjustmentTable)
-    (with_route (codes "/adjustments/{*rest}") (page.OfPeriod of_period.AdjustmentList)
-    (with_route (codes "/statement-csv/{*rest}") (page.OfPeriod of_period.StatementTable)
-    (with_route (codes "/statement/{*rest}") (page.OfPeriod of_period.Statement)
-    (with_route (codes "/periods") page.Periods [])))))))))))))))))
+    with_route (codes "/period/{*rest}") endpoint.Period
+    (with_route (codes "/") endpoint.Office
+    (with_route (codes "/import-bdw") (endpoint.Import Bdw)
+    (with_route (codes "/import") (endpoint.Import Rdw)
+    (with_route (codes "/what-if-csv/{*rest}") (endpoint.WhatIf shown_as.Table)
+    (with_route (codes "/what-if/{*rest}") (endpoint.WhatIf shown_as.Text)
+    (with_route (codes "/tariff/{*rest}") endpoint.Tariff
+    (with_route (codes "/rulings") endpoint.Rulings
+    (with_route (codes "/record/{*rest}") endpoint.Record
+    (with_route (codes "/disputes-csv") endpoint.DisputesCsv
+    (with_route (codes "/disputes") endpoint.Disputes
+    (with_route (codes "/details-csv/{*rest}") (endpoint.Details shown_as.Table)
+    (with_route (codes "/details/{*rest}") (endpoint.Details shown_as.Text)
+    (with_route (codes "/adjustments-csv/{*rest}") (endpoint.OfPeriod of_period.AdjustmentTable)
+    (with_route (codes "/adjustments/{*rest}") (endpoint.OfPeriod of_period.AdjustmentList)
+    (with_route (codes "/statement-csv/{*rest}") (endpoint.OfPeriod of_period.StatementTable)
+    (with_route (codes "/statement/{*rest}") (endpoint.OfPeriod of_period.Statement)
+    (with_route (codes "/periods") endpoint.Periods [])))))))))))))))))
 
--- the page of a path
-unfoldable pub page_of : List ℕ → Option Page
-page_of path = option_map (λ row. row.value) (first route_rows path)
+-- the endpoint of a path
+unfoldable pub endpoint_of : List ℕ → Option Endpoint
+endpoint_of path = option_map (λ row. row.value) (first route_rows path)
 
 -- what a path is for
-abbrev pub route_on : Option Page → List ℕ → Option Route
+abbrev pub route_on : Option Endpoint → List ℕ → Option Route
 route_on None path = None
 route_on (Some found) path = route_at found path
 
 abbrev pub route : List ℕ → Option Route
-route path = route_on (page_of path) path
+route path = route_on (endpoint_of path) path

@@ -31,7 +31,7 @@ pub enum Route {
 
 /// A path of the server, whatever period, centre, record and day it names.
 #[derive(Clone, Copy, Debug, PartialEq, Eq)]
-pub enum Page {
+pub enum Endpoint {
     /// The page of the office.
     Office,
     /// The page of a period.
@@ -61,78 +61,78 @@ pub enum Page {
 /// The most digits of a period.
 const PERIOD_DIGITS: usize = 4;
 
-/// A router with one more page.
-fn with_page(mut router: Router<Page>, route: &str, page: Page) -> Result<Router<Page>, InsertError>
-    ensures { IfOk result (λ more. more ≡ spec.with_route route.now page router) }
+/// A router with one more endpoint.
+fn with_endpoint(mut router: Router<Endpoint>, route: &str, endpoint: Endpoint) -> Result<Router<Endpoint>, InsertError>
+    ensures { IfOk result (λ more. more ≡ spec.with_route route.now endpoint router) }
 {
-    router.insert(route, page)?;
+    router.insert(route, endpoint)?;
     Ok(router)
 }
 
-/// The routes of all pages.
-static ROUTES: [(&str, Page); 18] = [
-    ("/periods", Page::Periods),
+/// The routes of all endpoints.
+static ROUTES: [(&str, Endpoint); 18] = [
+    ("/periods", Endpoint::Periods),
     (
         "/statement/{*rest}",
-        Page::OfPeriod(PeriodReport::Statement),
+        Endpoint::OfPeriod(PeriodReport::Statement),
     ),
     (
         "/statement-csv/{*rest}",
-        Page::OfPeriod(PeriodReport::StatementTable),
+        Endpoint::OfPeriod(PeriodReport::StatementTable),
     ),
     (
         "/adjustments/{*rest}",
-        Page::OfPeriod(PeriodReport::AdjustmentList),
+        Endpoint::OfPeriod(PeriodReport::AdjustmentList),
     ),
     (
         "/adjustments-csv/{*rest}",
-        Page::OfPeriod(PeriodReport::AdjustmentTable),
+        Endpoint::OfPeriod(PeriodReport::AdjustmentTable),
     ),
-    ("/details/{*rest}", Page::Details(StatementForm::Text)),
-    ("/details-csv/{*rest}", Page::Details(StatementForm::Table)),
-    ("/disputes", Page::Disputes),
-    ("/disputes-csv", Page::DisputesCsv),
-    ("/record/{*rest}", Page::Record),
-    ("/rulings", Page::Rulings),
-    ("/tariff/{*rest}", Page::Tariff),
-    ("/what-if/{*rest}", Page::WhatIf(StatementForm::Text)),
-    ("/what-if-csv/{*rest}", Page::WhatIf(StatementForm::Table)),
-    ("/import", Page::Import(Layout::Rdw)),
-    ("/import-bdw", Page::Import(Layout::Bdw)),
-    ("/", Page::Office),
-    ("/period/{*rest}", Page::Period),
+    ("/details/{*rest}", Endpoint::Details(StatementForm::Text)),
+    ("/details-csv/{*rest}", Endpoint::Details(StatementForm::Table)),
+    ("/disputes", Endpoint::Disputes),
+    ("/disputes-csv", Endpoint::DisputesCsv),
+    ("/record/{*rest}", Endpoint::Record),
+    ("/rulings", Endpoint::Rulings),
+    ("/tariff/{*rest}", Endpoint::Tariff),
+    ("/what-if/{*rest}", Endpoint::WhatIf(StatementForm::Text)),
+    ("/what-if-csv/{*rest}", Endpoint::WhatIf(StatementForm::Table)),
+    ("/import", Endpoint::Import(Layout::Rdw)),
+    ("/import-bdw", Endpoint::Import(Layout::Bdw)),
+    ("/", Endpoint::Office),
+    ("/period/{*rest}", Endpoint::Period),
 ];
 
 /// They are read whole here, so that callers need not.
-fn all_routes() -> &'static [(&'static str, Page)]
+fn all_routes() -> &'static [(&'static str, Endpoint)]
     ensures { spec.rows_by result.now ≡ route_rows }
 {
     ROUTES.as_slice()
 }
 
 /// A router of routes, which are put in one after the other. An error means that memory ran out.
-fn router_of(alloc: Global, routes: &[(&str, Page)]) -> Result<Router<Page>, InsertError>
+fn router_of(alloc: Global, routes: &[(&str, Endpoint)]) -> Result<Router<Endpoint>, InsertError>
     ensures { IfOk result (λ router. router ≡ spec.rows_by routes.now) }
 {
     let mut router = Router::new(alloc);
     for route in routes {
-        router = with_page(router, route.0, route.1)?;
+        router = with_endpoint(router, route.0, route.1)?;
     }
     Ok(router)
 }
 
-/// The pages by their paths.
-fn pages(alloc: Global) -> Result<Router<Page>, InsertError>
+/// The endpoints by their paths.
+fn endpoints(alloc: Global) -> Result<Router<Endpoint>, InsertError>
     ensures { IfOk result (λ router. router ≡ route_rows) }
 {
     router_of(alloc, all_routes())
 }
 
-/// The page of a path, if it has one.
-#[tactic(auto, unfolding(crate::specs::Routes::page_of))]
-fn page_at(router: &Router<Page>, path: &str) -> Option<Page>
+/// The endpoint of a path, if it has one.
+#[tactic(auto, unfolding(crate::specs::Routes::endpoint_of))]
+fn endpoint_at(router: &Router<Endpoint>, path: &str) -> Option<Endpoint>
     requires { router.now ≡ route_rows }
-    ensures { result ≡ spec.page_of path.now }
+    ensures { result ≡ spec.endpoint_of path.now }
 {
     match router.at(path) {
         Ok(found) => Some(*found.value),
@@ -294,24 +294,24 @@ fn tariff_after(prefix: &str, path: &str) -> Option<Route>
     Some(Route::Report(Report::TariffText(day)))
 }
 
-/// What a page is for at a path.
+/// What an endpoint is for at a path.
 #[tactic(auto, unfolding(crate::specs::Routes::route_at))]
-fn route_at(page: Page, path: &str) -> Option<Route>
-    ensures { result ≡ spec.route_at page path.now }
+fn route_at(endpoint: Endpoint, path: &str) -> Option<Route>
+    ensures { result ≡ spec.route_at endpoint path.now }
 {
-    match page {
-        Page::Office => Some(Route::Report(Report::OfficePage)),
-        Page::Period => page_after("/period/", path),
-        Page::Periods => Some(Route::Report(Report::PeriodList)),
-        Page::OfPeriod(report) => report_after(report, period_path(report), path),
-        Page::Details(form) => details_after(form, details_path(form), path),
-        Page::Disputes => Some(Route::Report(Report::DisputeList)),
-        Page::DisputesCsv => Some(Route::Report(Report::DisputeTable)),
-        Page::Record => record_after("/record/", path),
-        Page::Rulings => Some(Route::Report(Report::RulingList)),
-        Page::Tariff => tariff_after("/tariff/", path),
-        Page::WhatIf(form) => what_if_after(form, what_if_path(form), path),
-        Page::Import(layout) => Some(Route::Import(layout)),
+    match endpoint {
+        Endpoint::Office => Some(Route::Report(Report::OfficePage)),
+        Endpoint::Period => page_after("/period/", path),
+        Endpoint::Periods => Some(Route::Report(Report::PeriodList)),
+        Endpoint::OfPeriod(report) => report_after(report, period_path(report), path),
+        Endpoint::Details(form) => details_after(form, details_path(form), path),
+        Endpoint::Disputes => Some(Route::Report(Report::DisputeList)),
+        Endpoint::DisputesCsv => Some(Route::Report(Report::DisputeTable)),
+        Endpoint::Record => record_after("/record/", path),
+        Endpoint::Rulings => Some(Route::Report(Report::RulingList)),
+        Endpoint::Tariff => tariff_after("/tariff/", path),
+        Endpoint::WhatIf(form) => what_if_after(form, what_if_path(form), path),
+        Endpoint::Import(layout) => Some(Route::Import(layout)),
     }
 }
 
@@ -334,15 +334,15 @@ pub fn find_route(alloc: Global, target: &[u8]) -> Result<Option<Route>, AllocEr
     ensures finds { IfOk result (λ found. (asked : Route)
         → IsPathOf (spec.path_of target.now) asked → found ≡ Some asked) }
 {
-    let Ok(router) = pages(alloc) else {
+    let Ok(router) = endpoints(alloc) else {
         return Err(AllocError);
     };
     let Ok(target) = str::from_utf8(target) else {
         return Ok(None);
     };
     let path = path_of(target);
-    match page_at(&router, path) {
-        Some(page) => Ok(route_at(page, path)),
+    match endpoint_at(&router, path) {
+        Some(endpoint) => Ok(route_at(endpoint, path)),
         None => Ok(None),
     }
 }
