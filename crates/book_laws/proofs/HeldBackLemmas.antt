@@ -1,4 +1,5 @@
--- What is held back in dispute bounds what is charged for it, whatever is chosen.
+-- Whichever record of each dispute is taken, what these cost a centre together lies between the two
+-- amounts that are held back.
 use Rattle.std.proofs.Common.{◌≡◌, ℕ, ◌≤◌, min, max, List, [], ◌∷◌, map, refl, ap, true, false}
 use Rattle.std.proofs.Common.{true≢false, Bool, cond, ◌||◌, Option, unwrap_or, arith}
 use Rattle.std.specs.Prelude.{All, Contains, fold, sum_by, if◌then◌else◌}

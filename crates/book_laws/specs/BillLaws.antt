@@ -1,6 +1,6 @@
 -- The laws of bills: a bill splits what the statement and the adjustments show, the bills of all
--- centres add up to the office's, what is held back bounds what is charged later, and the bill of a
--- closed period stays.
+-- centres add up to the office's, the two amounts that are held back bound what records cost that are
+-- taken one of each dispute, and the bill of a closed period stays.
 use Rattle.std.specs.Prelude.{◌≡◌, ℕ, ◌+◌, ◌≤◌, ℤ, pos, ◌+ℤ◌, ◌-ℤ◌, List, [], ◌∷◌, ◌++◌, map}
 use Rattle.std.specs.Prelude.{sum_by, All, Contains, Option, Some, None}
 use Rattle.book_model.specs.declared.bill.HeldBack.{HeldBack}
@@ -92,7 +92,8 @@ pub record IsWithin (held : HeldBack) (amount : ℕ) : Type 0 where
   pub least : held.least ≤ amount
   pub greatest : amount ≤ held.greatest
 
--- Whatever is chosen, what a bill holds back bounds what the centre is then charged for all disputes.
+-- Whichever record of each dispute is taken, what these cost the centre together lies between the two
+-- amounts.
 abbrev pub HeldBackBounds : Type 0
 HeldBackBounds =
     (centre : Option (List ℕ)) (disputes : List Disputed) (chosen : Disputed → Variant)

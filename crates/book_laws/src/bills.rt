@@ -15,7 +15,8 @@ pub fn bills_add_up()
     ensures { BillsAddUp }
 {}
 
-/// What is held back in dispute bounds what is charged for it, whatever is chosen.
+/// Whichever record of each dispute is taken, what these cost a centre together lies between the two
+/// amounts that are held back.
 pub fn held_back_bounds()
     ensures { HeldBackBounds }
 {}
