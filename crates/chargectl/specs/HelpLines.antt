@@ -6,7 +6,6 @@ use Rattle.std.specs.Io.KnownBytes.{Appends}
 use Rattle.std.specs.declared.io.ErrorKind.{ErrorKind}
 use Rattle.std.specs.declared.io.ErrorKind.TheVariants.{NotFound, NotADirectory, PermissionDenied}
 use Rattle.std.specs.declared.io.ErrorKind.TheVariants.{ReadOnlyFilesystem, IsADirectory, AddrInUse}
-use Rattle.std.specs.declared.io.ErrorKind.TheVariants.{StorageFull, QuotaExceeded}
 use Rattle.smf_frames.specs.Faults.{frame_number}
 use Rattle.tariff_rules.specs.Faults.{tariff_number}
 use Rattle.tariff_rules.specs.declared.tariff.entry.Entry.{Entry}
@@ -43,8 +42,6 @@ cause_of PermissionDenied = cause.Denied
 cause_of ReadOnlyFilesystem = cause.Denied
 cause_of IsADirectory = cause.Folder
 cause_of AddrInUse = cause.Taken
-cause_of StorageFull = cause.NoSpace
-cause_of QuotaExceeded = cause.NoSpace
 cause_of _ = cause.Failed
 
 -- a word of standard error that has no number

@@ -23,7 +23,6 @@ pub(crate) fn cause_of(kind: ErrorKind) -> Cause
         ErrorKind::PermissionDenied | ErrorKind::ReadOnlyFilesystem => Cause::Denied,
         ErrorKind::IsADirectory => Cause::Folder,
         ErrorKind::AddrInUse => Cause::Taken,
-        ErrorKind::StorageFull | ErrorKind::QuotaExceeded => Cause::NoSpace,
         _ => Cause::Failed,
     }
 }

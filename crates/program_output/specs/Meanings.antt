@@ -72,7 +72,7 @@ ledger_texts =
     (
       codes "The file of the books could not be read or written, or its contents are not books.",
       codes "Make room if the disk is full, and check the file's permissions; then run the "
-          ++ codes "command again; nothing is counted twice.",
+          ++ codes "command again; nothing is counted twice. If it says the same, run audit.",
     ) ∷
     -- 3 Reopen
     (
@@ -83,7 +83,8 @@ ledger_texts =
     (
       codes "A limit is reached: 50,000,000 records, their total cost, 9,999 periods or "
           ++ codes "1,000,000 choices.",
-      codes "Begin new books; if a tariff was refused, submit one with lower prices.",
+      codes "Begin new books; if a tariff was refused, submit one with lower prices; if a list of "
+          ++ codes "names was, split it.",
     ) ∷
     -- 5 DigestClash
     (
@@ -219,8 +220,8 @@ unfoldable pub damage_texts : List Texts
 damage_texts =
     -- 1 Short
     (
-      codes "The record is shorter than its header, or is of type 30 and shorter than its "
-          ++ codes "triplets.",
+      codes "The record ends before its header does; or it is of type 30, and ends before its "
+          ++ codes "subtype does, or, as the end of a step or a job, before its triplets do.",
       not_charged,
     ) ∷
     -- 2 Date
@@ -270,8 +271,8 @@ unfoldable pub word_texts : WordKind → Texts
 word_texts Io = (
   codes "A file or the port could not be opened, or reading or writing failed.",
   codes "Check the path, the permissions and the disk: a file may be missing, a folder or a "
-      ++ codes "second hard link, the port in use, the output full. On a terminal the path and "
-      ++ codes "the cause follow.",
+      ++ codes "second hard link, the port in use, the output full or closed. On a terminal the "
+      ++ codes "path and the cause follow.",
 )
 word_texts Busy = (
   codes "Another program has the books open, and had them for as long as the command waited; "
@@ -279,11 +280,13 @@ word_texts Busy = (
   codes "Wait until it has ended, and run the command again, or run it with a longer --wait.",
 )
 word_texts Exists = (
-  codes "A file that the command would make is there, or a log or journal of it; or books have "
-      ++ codes "the name of a log: BOOK-wal, BOOK-journal or BOOK-shm.",
-  codes "Take another name. What a stopped dry run left as BOOK-try, or a stopped backup as "
-      ++ codes "FILE-new, may be deleted while no command runs. Rename books that have the name of a "
-      ++ codes "log while no command runs, and delete nothing else before you know whose it is.",
+  codes "A file that the command would make is there, or a log or journal of it; or its name "
+      ++ codes "ends in -wal, -journal or -shm; or BOOK-wal is a file of books, or BOOK-wal-kept "
+      ++ codes "is in the way.",
+  codes "Take another name. What a stopped dry run left as BOOK-try and BOOK-try-wal, or a stopped "
+      ++ codes "backup as FILE-new, may be deleted while no command runs. Rename books that are "
+      ++ codes "called BOOK-wal while no command runs; find out whose BOOK-wal-kept is, and move "
+      ++ codes "it. Delete nothing else before you know whose it is.",
 )
 word_texts Word = (
   codes "What was given is no date, or no name of a record or a centre; of a list, the number "
@@ -309,7 +312,8 @@ word_texts Layout = (
       ++ codes "counted twice.",
 )
 word_texts Far = (
-  codes "The day of a close or a tariff lies more than 366 days after the newest record's.",
+  codes "The day of a close or a tariff lies more than 366 days after the newest record's, or, "
+      ++ codes "where the open period charges none, after the last close.",
   codes "Check the year: neither can be taken back. If it is wrong, restore the backup from "
       ++ codes "before it; --dry-run shows first what a ruling changes.",
 )

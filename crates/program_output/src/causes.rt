@@ -14,10 +14,8 @@ pub enum Cause {
     Folder,
     /// The file has another name too, a second hard link.
     Linked,
-    /// Another program has the port.
+    /// Another program has the port, or the books.
     Taken,
-    /// There is no room for what was to be written.
-    NoSpace,
     /// None of these is known to be the cause.
     Failed,
 }
@@ -32,7 +30,6 @@ pub fn cause_text(cause: Cause) -> &'static str
         Cause::Folder => "a folder",
         Cause::Linked => "another name leads to the same file",
         Cause::Taken => "in use",
-        Cause::NoSpace => "no space",
         Cause::Failed => "failed",
     }
 }

@@ -37,7 +37,8 @@ fn meaning_of(damage: Damage) -> &'static str
 {
     match damage {
         Damage::Short => {
-            "The record is shorter than its header, or is of type 30 and shorter than its triplets."
+            "The record ends before its header does; or it is of type 30, and ends before its \
+             subtype does, or, as the end of a step or a job, before its triplets do."
         }
         Damage::Date => "The date in the record's header is not a valid date.",
         Damage::Time => "The time in the record's header is not before midnight.",

@@ -45,7 +45,7 @@ const MEMORY: Explanation = Explanation {
 const STORE: Explanation = Explanation {
     meaning: "The file of the books could not be read or written, or its contents are not books.",
     advice: "Make room if the disk is full, and check the file's permissions; then run the command \
-         again; nothing is counted twice.",
+         again; nothing is counted twice. If it says the same, run audit.",
 };
 
 const REOPEN: Explanation = Explanation {
@@ -56,7 +56,8 @@ const REOPEN: Explanation = Explanation {
 const FULL: Explanation = Explanation {
     meaning: "A limit is reached: 50,000,000 records, their total cost, 9,999 periods or 1,000,000 \
          choices.",
-    advice: "Begin new books; if a tariff was refused, submit one with lower prices.",
+    advice: "Begin new books; if a tariff was refused, submit one with lower prices; if a list of \
+         names was, split it.",
 };
 
 const DIGEST_CLASH: Explanation = Explanation {

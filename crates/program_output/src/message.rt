@@ -67,12 +67,16 @@ pub fn arguments_failed<E: Writer>(errors: &mut E, error: &io::Error) -> Status
     }
 }
 
-/// Says that nothing has the number that was to be explained.
+/// Says that nothing has the number that was to be explained, and which numbers there are.
 pub fn no_such_number<E: Writer>(errors: &mut E) -> Status
     ensures status { result ≡ Status.Usage }
     ensures said { AreSaid E.contents E.may_answer (no_number_line ∷ []) errors.old errors.new }
 {
-    say(errors, "error: nothing has this number\n");
+    say(
+        errors,
+        "error: nothing has this number: frame has 1 to 8, ledger 1 to 19, tariff 1 to 7, damaged \
+         1 to 9, a word none\n",
+    );
     Status::Usage
 }
 

@@ -23,15 +23,15 @@ pub enum WordKind {
     Log,
     /// A dump that reads as blocks was read as segments alone.
     Layout,
-    /// A ruling is dated long after the newest record.
+    /// A ruling is dated long after the newest record, or after the last close.
     Far,
 }
 
 const IO: Explanation = Explanation {
     meaning: "A file or the port could not be opened, or reading or writing failed.",
     advice: "Check the path, the permissions and the disk: a file may be missing, a folder or a \
-         second hard link, the port in use, the output full. On a terminal the path and the cause \
-         follow.",
+         second hard link, the port in use, the output full or closed. On a terminal the path and \
+         the cause follow.",
 };
 
 const BUSY: Explanation = Explanation {
@@ -41,11 +41,13 @@ const BUSY: Explanation = Explanation {
 };
 
 const EXISTS: Explanation = Explanation {
-    meaning: "A file that the command would make is there, or a log or journal of it; or books \
-         have the name of a log: BOOK-wal, BOOK-journal or BOOK-shm.",
-    advice: "Take another name. What a stopped dry run left as BOOK-try, or a stopped backup as \
-         FILE-new, may be deleted while no command runs. Rename books that have the name of a log \
-         while no command runs, and delete nothing else before you know whose it is.",
+    meaning: "A file that the command would make is there, or a log or journal of it; or its name \
+         ends in -wal, -journal or -shm; or BOOK-wal is a file of books, or BOOK-wal-kept is in \
+         the way.",
+    advice: "Take another name. What a stopped dry run left as BOOK-try and BOOK-try-wal, or a \
+         stopped backup as FILE-new, may be deleted while no command runs. Rename books that are \
+         called BOOK-wal while no command runs; find out whose BOOK-wal-kept is, and move it. \
+         Delete nothing else before you know whose it is.",
 };
 
 const WORD: Explanation = Explanation {
@@ -77,7 +79,8 @@ const LAYOUT: Explanation = Explanation {
 };
 
 const FAR: Explanation = Explanation {
-    meaning: "The day of a close or a tariff lies more than 366 days after the newest record's.",
+    meaning: "The day of a close or a tariff lies more than 366 days after the newest record's, \
+         or, where the open period charges none, after the last close.",
     advice: "Check the year: neither can be taken back. If it is wrong, restore the backup from \
          before it; --dry-run shows first what a ruling changes.",
 };
