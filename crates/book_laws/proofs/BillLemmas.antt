@@ -26,11 +26,12 @@ use Rattle.book_model.proofs.SumLemmas.{sum_by-plus}
 use Rattle.book_model.proofs.SumsAlike.{length-sum_by}
 use Rattle.report_texts.specs.AdjustmentLists.{charged_amount, reversed_amount}
 use Rattle.report_texts.specs.Centres.{lines_of_centre, rows_of_centre}
-use Rattle.report_texts.specs.Charges.{centres_of, charges_of, charges_of_centre, plain_lines}
+use Rattle.report_texts.specs.Charges.{all_charges, centres_of, charges_of, charges_of_centre}
+use Rattle.report_texts.specs.Charges.{plain_lines}
 use Rattle.report_texts.specs.declared.charges.Charges.{Charges}
 use Rattle.table_model.proofs.PeriodPlaces.{at_place}
-use Rattle.book_laws.specs.BillLaws.{AddUpTo, BillsAddUp, BillsSplitStatements, Splits, charges_in}
-use Rattle.book_laws.specs.BillLaws.{lines_asked, owed_for, owed_for_all, rows_asked}
+use Rattle.book_laws.specs.BillLaws.{AddUpTo, BillsAddUp, BillsSplitStatements, Splits, lines_asked}
+use Rattle.book_laws.specs.BillLaws.{owed_for, owed_for_all, rows_asked}
 use Rattle.book_laws.specs.DetailLaws.{AddUp}
 use Rattle.book_laws.proofs.CentreLemmas.{by_centres}
 use Rattle.book_laws.proofs.DetailLemmas.{details_add_up}
@@ -269,7 +270,7 @@ bills_add_up naming book number period =
     let office : BillSeen = bill_of naming book number None period in
     let bill_for : List ℕ → BillSeen =
     λ centre. bill_of naming book number (Some centre) period in
-    let each : (centre : List ℕ) → charges_in (bill_for centre)
+    let each : (centre : List ℕ) → all_charges (bill_for centre)
     ≡ charges_of_centre centre office.steps office.jobs (plain_lines office.lines) =
     λ centre.
     let own : plain_lines (bill_for centre).lines ≡ lines_of_centre centre (plain_lines office.lines) =
@@ -286,7 +287,7 @@ bills_add_up naming book number period =
     record {
       each = each;
       all =
-          subst (λ shares. AddUpTo shares (charges_in office))
+          subst (λ shares. AddUpTo shares (all_charges office))
           (λ i. map (λ (centre : List ℕ). sym (each centre) i)
           (centres_of office.steps office.jobs (plain_lines office.lines)))
           (shares_add_up office.steps office.jobs (plain_lines office.lines));

@@ -1,11 +1,12 @@
 -- Imports into an open ledger.
-use Rattle.std.proofs.Common.{false, sym, subst}
+use Rattle.std.proofs.Common.{Ok, ap, false, sym, subst}
 use Rattle.book_model.specs.Words.{front, after_all}
 use Rattle.book_core.specs.Ledgers.{Seen, IsOpenAt}
 use Rattle.book_core.specs.Transition.{IsTransition}
 use Rattle.book_import.specs.Dumps.{stop_after}
 use Rattle.book_import.specs.Imports.{Imports}
 use Rattle.book_import.proofs.RepeatLemmas.{is_whole}
+use Rattle.office.specs.Requests.{Count}
 use Rattle.office.proofs.LeavingLemmas.{work_leaves}
 use Rattle.book_laws.specs.ImportLaws.{OneReceipt}
 
@@ -20,7 +21,7 @@ one_receipt seen naming start old new dump receipt come =
     let all = is_whole naming (stop_after dump.cut found) found.records start receipt gone.events
     false gone.made come.unhindered in
     record {
-      receipt_is = sym all.told.receipt;
+      receipt_is = ap (λ receipt. Ok (Count receipt)) (sym all.told.receipt);
       left = subst (λ events. IsOpenAt naming (after_all events start) (seen new))
           (sym all.told.events) gone.left;
     }

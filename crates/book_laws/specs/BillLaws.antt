@@ -11,7 +11,7 @@ use Rattle.book_model.specs.Words.{BillSeen, Book, Disputed, Event, IsMadeByCall
 use Rattle.book_model.specs.Words.{Period, amount_for, bill_of, bill_outcome, book_after, held_back_in}
 use Rattle.book_model.specs.Words.{lines_of, period_of, rows_for}
 use Rattle.report_texts.specs.Centres.{lines_of_centre, rows_of_centre}
-use Rattle.report_texts.specs.Charges.{centres_of, charges_of, charges_of_centre, plain_lines}
+use Rattle.report_texts.specs.Charges.{all_charges, centres_of, charges_of_centre, plain_lines}
 use Rattle.report_texts.specs.declared.charges.Charges.{Charges}
 use Rattle.book_laws.specs.ClosedPeriods.{IsClosed}
 
@@ -49,10 +49,6 @@ BillsSplitStatements =
     (rows_asked centre (rows_for book.rulings period.counted))
     (lines_asked centre (lines_of naming book.rulings period))
 
--- what a bill charges
-abbrev pub charges_in : BillSeen → Charges
-charges_in bill = charges_of bill.steps bill.jobs (plain_lines bill.lines)
-
 -- what is owed for charges, and for several together
 abbrev pub owed_for : Charges → ℤ
 owed_for charges = pos (charges.steps + charges.jobs + charges.late) -ℤ pos charges.reversed
@@ -73,12 +69,12 @@ pub record AddUpTo (shares : List Charges) (all : Charges) : Type 0 where
 -- the centre is charged; and over the centres that the office's bill names, these add up to what it
 -- charges.
 pub record AreSharesOf (of_centre : List ℕ → BillSeen) (office : BillSeen) : Type 0 where
-  pub each : (centre : List ℕ) → charges_in (of_centre centre)
+  pub each : (centre : List ℕ) → all_charges (of_centre centre)
       ≡ charges_of_centre centre office.steps office.jobs (plain_lines office.lines)
   pub all : AddUpTo
-      (map (λ centre. charges_in (of_centre centre))
+      (map (λ centre. all_charges (of_centre centre))
       (centres_of office.steps office.jobs (plain_lines office.lines)))
-      (charges_in office)
+      (all_charges office)
 
 -- So it is with the bills of each period.
 abbrev pub BillsAddUp : Type 0

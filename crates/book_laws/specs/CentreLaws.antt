@@ -4,12 +4,9 @@ use Rattle.book_model.specs.declared.line.Line.{Line}
 use Rattle.book_model.specs.declared.row.ChargeRow.{ChargeRow}
 use Rattle.book_model.specs.Words.{by_bytes, members, set_of}
 use Rattle.report_texts.specs.Centres.{lines_of_centre, rows_of_centre}
+use Rattle.page_texts.specs.Figures.{centres_of}
 
--- the centres that rows are charged to, each once and in order
-abbrev pub row_centres : List ChargeRow → List (List ℕ)
-row_centres rows = members (set_of by_bytes (map (λ row. row.centre) rows))
-
--- the centres of lines
+-- the centres of lines, each once and in order
 abbrev pub line_centres : List Line → List (List ℕ)
 line_centres lines = members (set_of by_bytes (map (λ line. line.priced.centre) lines))
 
@@ -19,7 +16,7 @@ line_centres lines = members (set_of by_bytes (map (λ line. line.priced.centre)
 pub record CentresAddUp : Type 0 where
   pub rows :
       (part : ChargeRow → ℕ) (rows : List ChargeRow)
-      → sum_by (λ centre. sum_by part (rows_of_centre centre rows)) (row_centres rows)
+      → sum_by (λ centre. sum_by part (rows_of_centre centre rows)) (centres_of rows)
       ≡ sum_by part rows
   pub lines :
       (part : Line → ℕ) (lines : List Line)

@@ -1,22 +1,14 @@
 -- The law of imports: a dump has one receipt, and leaves one book.
-use Rattle.std.specs.Prelude.{◌≡◌}
-use Rattle.book_model.specs.Words.{front, Naming, Book, after_all}
+use Rattle.std.specs.Prelude.{◌≡◌, Ok}
+use Rattle.book_model.specs.Words.{Naming, Book, after_all}
 use Rattle.book_core.specs.Ledgers.{Books, Seen, IsOpenAt, books}
 use Rattle.book_core.specs.Transition.{IsTransition}
 use Rattle.book_import.specs.declared.receipt.Receipt.{Receipt}
-use Rattle.book_import.specs.Dumps.{stop_after}
-use Rattle.book_import.specs.Handled.{Imported}
 use Rattle.book_import.specs.Imports.{Imports}
-use Rattle.book_import.specs.Laws.{import_of_records}
 use Rattle.book_import.specs.Repeats.{IsUnhindered}
 use Rattle.office.specs.Laws.{IsStillOpen}
-use Rattle.office.specs.Requests.{Dump}
-
--- the import of a dump into a book, as the definitions have it
-abbrev pub imported_into : Naming → Dump → Book → Imported
-imported_into naming dump book =
-    let found = front dump.layout dump.bytes in
-    import_of_records naming book (stop_after dump.cut found) found.records
+use Rattle.office.specs.Outcomes.{import_asked_outcome}
+use Rattle.office.specs.Requests.{Count, Dump}
 
 -- A dump was imported into a ledger that was open with this book, and is open now, on a store that
 -- is honest to the end. Neither a lack of memory nor the store stopped the import.
@@ -31,8 +23,8 @@ pub record IsImported (naming : Naming) (start : Book) (books : Books) (dump : D
 -- the receipt is the definitions' one, and the ledger is open with the book after the import
 pub record ImportsAsDefined (naming : Naming) (start : Book) (new : Seen) (dump : Dump)
     (receipt : Receipt) : Type 0 where
-  pub receipt_is : receipt ≡ (imported_into naming dump start).receipt
-  pub left : IsOpenAt naming (after_all (imported_into naming dump start).events start) new
+  pub receipt_is : Ok (Count receipt) ≡ (import_asked_outcome naming dump start).told
+  pub left : IsOpenAt naming (after_all (import_asked_outcome naming dump start).events start) new
 
 -- This holds for every import.
 abbrev pub OneReceipt : {L : Type 0} → (L → Seen) → Type 0
