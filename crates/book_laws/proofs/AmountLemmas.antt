@@ -9,7 +9,7 @@ use Rattle.book_model.specs.Words.{all_periods, charged_of, AreDatedThrough}
 use Rattle.book_model.proofs.SetLemmas.{members-empty}
 use Rattle.book_model.proofs.SumLemmas.{sum_by-plus}
 use Rattle.book_model.proofs.SumsAlike.{sum_by-filter_map}
-use Rattle.book_laws.specs.PeriodAmounts.{rows_amount, added_amount, reversed_amount}
+use Rattle.book_laws.specs.PeriodAmounts.{rows_amount, added_cost, reversed_cost}
 use Rattle.book_laws.specs.HistoryLaws.{ConservedInSets}
 use Rattle.book_laws.proofs.PeriodLemmas.{net, all_nets}
 use Rattle.book_laws.proofs.RowSums.{sum_by-rows_of}
@@ -53,9 +53,9 @@ module _ (rulings : Rulings) where
 
   -- all periods
   pub all_balance : (history : List Event)
-      → rows_amount rulings (all_periods (book_after history)) + added_amount rulings
+      → rows_amount rulings (all_periods (book_after history)) + added_cost rulings
       (all_periods (book_after history))
-      ≡ total_of rulings (charged_of (book_after history)) + reversed_amount rulings
+      ≡ total_of rulings (charged_of (book_after history)) + reversed_cost rulings
       (all_periods (book_after history))
   all_balance history =
       let periods : List Period = all_periods (book_after history) in
@@ -70,5 +70,5 @@ module _ (rulings : Rulings) where
 pub conserved_in_sets : ConservedInSets
 conserved_in_sets rulings history =
     let periods : List Period = all_periods (book_after history) in
-    net (rows_amount rulings periods + added_amount rulings periods) (reversed_amount rulings periods)
+    net (rows_amount rulings periods + added_cost rulings periods) (reversed_cost rulings periods)
     (total_of rulings (charged_of (book_after history))) (all_balance rulings history)

@@ -1,7 +1,7 @@
 -- The lines that are read: one for each record that is added or reversed.
-use Rattle.std.proofs.Common.{◌≡◌, ℕ, List, [], ◌∷◌, ◌++◌, refl, sym, ap, ◌∙◌, true, false}
-use Rattle.std.proofs.Common.{Bool, cond, not, ◌||◌, Option, Some, None, arith}
-use Rattle.std.specs.Prelude.{filter, sum_by}
+use Rattle.std.proofs.Common.{◌≡◌, ℕ, ◌+◌, List, [], ◌∷◌, ◌++◌, refl, sym, ap, ◌∙◌, true, false}
+use Rattle.std.proofs.Common.{Bool, ◌||◌, Option, Some, None, arith}
+use Rattle.std.specs.Prelude.{sum_by}
 use Rattle.std.specs.FinMap as map
 use Rattle.std.specs.List.{list_any, filter_map, cons_option, AllByRecursion}
 use Rattle.std.specs.List.Sorted.{IsPermutation}
@@ -10,23 +10,23 @@ use Rattle.std.specs.Ordering.{int_cmp, eq_by_cmp, is_eq, ordering_then}
 use Rattle.std.specs.declared.cmp.Ordering.{Ordering}
 use Rattle.std.specs.declared.cmp.Ordering.TheVariants.{Less, Equal, Greater}
 use Rattle.std.proofs.lemmas.Cmp.{nat_list_cmp_total}
-use Rattle.std.proofs.lemmas.List.Elements.{filter-append}
 use Rattle.std.proofs.lemmas.List.Folds.{list_any-append}
 use Rattle.std.proofs.lemmas.List.Sorted.{sum_by-IsPermutation}
-use Rattle.std.proofs.lemmas.List.Sums.{sum_by-append}
+use Rattle.std.proofs.lemmas.List.Sums.{sum_by-append, sum_by-cons}
 use Rattle.std.proofs.lemmas.Map.Keys.{IsDistinct-from_sorted}
 use Rattle.std.proofs.lemmas.Map.Lookups.{exact_bytes}
 use Rattle.tariff_rules.specs.declared.priced.Priced.{Priced}
 use Rattle.book_model.specs.declared.line.Line.{Line}
 use Rattle.book_model.specs.Words.{plus_first, by_line, lines_for, lines_of, Period, Records}
 use Rattle.book_model.specs.Words.{Naming, name_of, by_bytes, Rulings, price_in, members, has}
-use Rattle.book_model.specs.Words.{total_of}
+use Rattle.book_model.specs.Words.{prices, total_of}
 use Rattle.book_model.proofs.GivenLemmas.{given-apart}
 use Rattle.book_model.proofs.SetLemmas.{members_rise}
 use Rattle.book_model.proofs.PermutedSets.{Apart, apart_from_distinct, members_permuted}
 use Rattle.book_model.proofs.LineOrder.{by_line_total, name_ties, line_by, line_of}
-use Rattle.book_model.proofs.SumsAlike.{sum_by-filter, sum_by-filter_map}
+use Rattle.book_model.proofs.SumsAlike.{sum_by-filter_map}
 use Rattle.book_model.proofs.RecordSets.{is}
+use Rattle.report_texts.specs.AdjustmentLists.{charged_amount, reversed_amount}
 use Rattle.book_laws.specs.PeriodAmounts.{plus_of, minus_of}
 use Rattle.book_laws.specs.PeriodLines.{both_lines}
 
@@ -63,18 +63,13 @@ both_apart (x ∷ xs) ys first second plus minus =
       both_apart xs ys first.1 second plus.1 minus,
     )
 
--- to choose those of a sign among lines of one sign
-chosen : (p : Line → Bool) (lines : List Line) → AllByRecursion (λ line. p line ≡ true) lines
-    → filter p lines ≡ lines
-chosen p [] all = refl
-chosen p (line ∷ lines) all = λ i. cond (all.0 i) (line ∷ chosen p lines all.1 i)
-    (chosen p lines all.1 i)
-
-none_chosen : (p : Line → Bool) (lines : List Line) → AllByRecursion (λ line. p line ≡ false) lines
-    → filter p lines ≡ []
-none_chosen p [] all = refl
-none_chosen p (line ∷ lines) all = λ i. cond (all.0 i) (line ∷ none_chosen p lines all.1 i)
-    (none_chosen p lines all.1 i)
+-- a sum of nothings is nothing
+nothings : {X : Type 0} (xs : List X) → sum_by (λ _. 0) xs ≡ 0
+nothings [] = refl
+nothings {X} (x ∷ xs) =
+    let all = sum_by-cons (λ (_ : X). 0) x xs in
+    let rest = nothings xs in
+    omega arith
 
 module _ (naming : Naming) (rulings : Rulings) where
   -- it has its record's name
@@ -103,38 +98,38 @@ module _ (naming : Naming) (rulings : Rulings) where
       (IsDistinct-from_sorted by_bytes ks (members_rise nat_list_cmp_total records)))
 
   -- lines have the sign that they are read with
-  signed : (P : Bool → Type 0) (plus : Bool) → P plus → (ks : List (List ℕ))
-      → AllByRecursion (λ line. P line.plus) (filter_map (line_of naming rulings plus) ks)
-  signed P plus holds [] = tt
-  signed P plus holds (k ∷ ks) =
-      let rest = signed P plus holds ks in
+  signed : (plus : Bool) (ks : List (List ℕ))
+      → Signed plus (filter_map (line_of naming rulings plus) ks)
+  signed plus [] = tt
+  signed plus (k ∷ ks) =
+      let rest = signed plus ks in
       let others : List Line = filter_map (line_of naming rulings plus) ks in
       elim (price_in rulings k)
-      as (λ price. AllByRecursion (λ line. P line.plus)
-      (cons_option (line_by naming rulings plus k price) others)) [
+      as (λ price. Signed plus (cons_option (line_by naming rulings plus k price) others)) [
         | None ↦ rest
-        | Some priced ↦ (holds, rest)
+        | Some priced ↦ (refl, rest)
       ]
 
-  -- they amount to what the records cost
-  lines_cost : (plus : Bool) (records : Records)
-      → sum_by (λ line. line.priced.amount) (lines_for naming rulings plus records)
-      ≡ total_of rulings records
-  lines_cost plus records =
+  -- they sum what the prices of their records do
+  lines_sum : (f : Line → ℕ) (g : Priced → ℕ) (plus : Bool)
+      → ((bytes : List ℕ) (priced : Priced)
+      → option_map_or f (line_by naming rulings plus bytes (Some priced)) 0 ≡ g priced)
+      → (records : Records)
+      → sum_by f (lines_for naming rulings plus records) ≡ sum_by g (prices rulings records)
+  lines_sum f g plus each records =
       let same : (bytes : List ℕ)
-      → option_map_or (λ line. line.priced.amount) (line_of naming rulings plus bytes) 0
-      ≡ option_map_or (λ priced. priced.amount) (price_in rulings bytes) 0 =
+      → option_map_or f (line_of naming rulings plus bytes) 0
+      ≡ option_map_or g (price_in rulings bytes) 0 =
       λ bytes.
       elim (price_in rulings bytes)
       as (λ price.
-      option_map_or (λ line. line.priced.amount) (line_by naming rulings plus bytes price) 0
-      ≡ option_map_or (λ priced. priced.amount) price 0) [
+      option_map_or f (line_by naming rulings plus bytes price) 0 ≡ option_map_or g price 0) [
         | None ↦ refl
-        | Some priced ↦ refl
+        | Some priced ↦ each bytes priced
       ] in
-      sum_by-filter_map (λ line. line.priced.amount) (line_of naming rulings plus) (members records)
+      sum_by-filter_map f (line_of naming rulings plus) (members records)
       ∙ (λ i. sum_by (λ bytes. same bytes i) (members records))
-      ∙ sym (sum_by-filter_map (λ priced. priced.amount) (price_in rulings) (members records))
+      ∙ sym (sum_by-filter_map g (price_in rulings) (members records))
 
   module _ (period : Period)
       (added_named : (a b : List ℕ) → has period.added a ≡ true → has period.added b ≡ true
@@ -149,47 +144,33 @@ module _ (naming : Naming) (rulings : Rulings) where
         (both_apart (lines_for naming rulings true period.added)
         (lines_for naming rulings false period.taken)
         (lines_apart true period.added added_named) (lines_apart false period.taken taken_named)
-        (signed (λ plus. plus ≡ true) true refl (members period.added))
-        (signed (λ plus. plus ≡ false) false refl (members period.taken)))
+        (signed true (members period.added)) (signed false (members period.taken)))
 
-    -- those that pass a test amount to the same as those of the list that pass it
-    read_amount : (p : Line → Bool)
-        → sum_by (λ line. line.priced.amount) (filter p (lines_of naming rulings period))
-        ≡ sum_by (λ line. line.priced.amount) (filter p (both_lines naming rulings period))
-    read_amount p =
-        let counted : Line → ℕ = λ line. cond (p line) line.priced.amount 0 in
-        sum_by-filter (λ line. line.priced.amount) p (lines_of naming rulings period)
-        ∙ sym (sum_by-IsPermutation counted (lines_of naming rulings period)
+    -- what is read sums what the lines of both signs do
+    read_sum : (f : Line → ℕ)
+        → sum_by f (lines_of naming rulings period)
+        ≡ sum_by f (lines_for naming rulings true period.added)
+        + sum_by f (lines_for naming rulings false period.taken)
+    read_sum f =
+        sym (sum_by-IsPermutation f (lines_of naming rulings period)
         (both_lines naming rulings period) read_once)
-        ∙ sym (sum_by-filter (λ line. line.priced.amount) p (both_lines naming rulings period))
+        ∙ sum_by-append f (lines_for naming rulings true period.added)
+        (lines_for naming rulings false period.taken)
 
-    -- the plus lines amount to what the added records cost
+    -- the plus lines charge what the added records cost
     pub plus_cost : plus_of (lines_of naming rulings period) ≡ total_of rulings period.added
     plus_cost =
-        let xs : List Line = lines_for naming rulings true period.added in
-        let ys : List Line = lines_for naming rulings false period.taken in
-        let all =
-        chosen (λ line. line.plus) xs
-        (signed (λ plus. plus ≡ true) true refl (members period.added)) in
-        let none = none_chosen (λ line. line.plus) ys
-        (signed (λ plus. plus ≡ false) false refl (members period.taken)) in
-        let both = sum_by-append (λ (line : Line). line.priced.amount) xs [] in
-        let cost = lines_cost true period.added in
-        read_amount (λ line. line.plus)
-        ∙ ap (sum_by (λ line. line.priced.amount))
-        (filter-append (λ line. line.plus) xs ys ∙ (λ i. all i ++ none i))
-        ∙ omega arith
+        let added = lines_sum charged_amount (λ priced. priced.amount) true
+        (λ bytes priced. refl) period.added in
+        let none = lines_sum charged_amount (λ priced. 0) false (λ bytes priced. refl) period.taken
+        ∙ nothings (prices rulings period.taken) in
+        read_sum charged_amount ∙ (λ i. added i + none i) ∙ omega arith
 
-    -- the minus lines amount to what the reversed records cost
+    -- the minus lines reverse what the reversed records cost
     pub minus_cost : minus_of (lines_of naming rulings period) ≡ total_of rulings period.taken
     minus_cost =
-        let xs : List Line = lines_for naming rulings true period.added in
-        let ys : List Line = lines_for naming rulings false period.taken in
-        let none = none_chosen (λ line. not line.plus) xs
-        (signed (λ plus. not plus ≡ false) true refl (members period.added)) in
-        let all = chosen (λ line. not line.plus) ys
-        (signed (λ plus. not plus ≡ true) false refl (members period.taken)) in
-        read_amount (λ line. not line.plus)
-        ∙ ap (sum_by (λ line. line.priced.amount))
-        (filter-append (λ line. not line.plus) xs ys ∙ (λ i. none i ++ all i))
-        ∙ lines_cost false period.taken
+        let none = lines_sum reversed_amount (λ priced. 0) true (λ bytes priced. refl) period.added
+        ∙ nothings (prices rulings period.added) in
+        let taken = lines_sum reversed_amount (λ priced. priced.amount) false
+        (λ bytes priced. refl) period.taken in
+        read_sum reversed_amount ∙ (λ i. none i + taken i) ∙ omega arith

@@ -8,8 +8,8 @@ use Rattle.table_model.specs.Readable.{IsReadable}
 use Rattle.book_laws.specs.NetCounts.{net_count, one_if, NamesOnce}
 use Rattle.book_laws.specs.PeriodLines.{AreReadOnce}
 use Rattle.book_laws.specs.ClosedPeriods.{IsClosed, IsReadAlike}
-use Rattle.book_laws.specs.PeriodAmounts.{rows_amount, plus_amount, minus_amount, added_amount}
-use Rattle.book_laws.specs.PeriodAmounts.{reversed_amount}
+use Rattle.book_laws.specs.PeriodAmounts.{rows_amount, plus_amount, minus_amount, added_cost}
+use Rattle.book_laws.specs.PeriodAmounts.{reversed_cost}
 
 -- Over all periods of the book that a history leaves, including the open one, a record that is
 -- charged now is charged once net; any other nets to nothing.
@@ -64,9 +64,9 @@ Conserved = (naming : Naming) (history : List Event) → IsMadeByCalls naming hi
 abbrev pub ConservedInSets : Type 0
 ConservedInSets =
     (rulings : Rulings) (history : List Event)
-    → pos (rows_amount rulings (all_periods (book_after history)) + added_amount rulings
+    → pos (rows_amount rulings (all_periods (book_after history)) + added_cost rulings
     (all_periods (book_after history)))
-    -ℤ pos (reversed_amount rulings (all_periods (book_after history)))
+    -ℤ pos (reversed_cost rulings (all_periods (book_after history)))
     ≡ pos (total_of rulings (charged_of (book_after history)))
 
 -- In each period of the book that a history leaves, no record is in two of the three sets.
