@@ -1,7 +1,8 @@
--- The sums of a period, in its reports and in pages.
+-- The sums of a period, in its reports and in pages, and the number of the open one.
 use Rattle.std.proofs.Common.{◌≡◌, ◌∙◌, ℕ, suc, zero, ◌+◌, ◌-◌, ◌<◌, ◌≤◌, Bool, true, false, List}
 use Rattle.std.proofs.Common.{[], ◌∷◌, ◌++◌, append-nil, append_assoc, codes, get_or, length}
 use Rattle.std.proofs.Common.{Some, None, Ok, ap, arith, refl, sym}
+use Rattle.std.proofs.lemmas.Bool.{lt-ltb}
 use Rattle.std.proofs.lemmas.Bool.Decides.{nat_tests}
 use Rattle.std.proofs.lemmas.List.FromFn.{get_or-map-range_with_len, length-map-range_with_len}
 use Rattle.std.specs.Option.{ok_or, option_map, option_map_or}
@@ -10,7 +11,7 @@ use Rattle.book_model.specs.declared.fault.LedgerFault.TheVariants.{NoSuchPeriod
 use Rattle.book_model.specs.declared.line.Line.{Line}
 use Rattle.book_model.specs.declared.row.ChargeRow.{ChargeRow}
 use Rattle.book_model.specs.Words.{Book, Naming, Period, disputes_in, lines_of, open_by, open_period}
-use Rattle.book_model.specs.Words.{period_of, rows_for}
+use Rattle.book_model.specs.Words.{last_period, period_of, rows_for}
 use Rattle.report_texts.specs.AdjustmentLists.{adjustment_line, adjustment_list_text, sum_line}
 use Rattle.report_texts.specs.Figures.{period_open}
 use Rattle.report_texts.specs.Periods.{title_line}
@@ -28,8 +29,8 @@ use Rattle.book_reports.specs.BookTexts.{closed_through, report_answer, shown_by
 use Rattle.book_reports.specs.Pages.{first_figures, page_figures}
 use Rattle.book_reports.specs.declared.report.PeriodReport.TheVariants.{AdjustmentList, Statement}
 use Rattle.book_reports.specs.declared.report.Report.TheVariants.{OfPeriod, OfficePage, PeriodPage}
-use Rattle.book_laws.specs.PageLaws.{EndsWith, HasPart, PageTotalsAreTheReports, adjustments_end}
-use Rattle.book_laws.specs.PageLaws.{statement_end}
+use Rattle.book_laws.specs.PageLaws.{EndsWith, HasPart, OpenIsOpen, PageTotalsAreTheReports}
+use Rattle.book_laws.specs.PageLaws.{adjustments_end, statement_end}
 
 -- the row of each period stands among those of the office's page, the last one first
 row_stands : (row : ℕ → FiguresSeen → List ℕ) (before : ℕ) (periods : List FiguresSeen) (i number : ℕ)
@@ -170,6 +171,7 @@ module _ (naming : Naming) (book : Book) (number : ℕ) (period : Period)
               ∙ office_parts start office_head found.0 own found.1 table_end costs office_foot),
         )
 
+-- the law
 pub page_totals_are_the_reports : PageTotalsAreTheReports
 page_totals_are_the_reports naming book number period is = record {
   statement = statement_ends naming book number period is;
@@ -177,3 +179,10 @@ page_totals_are_the_reports naming book number period is = record {
   page = page_begins naming book number period is;
   office = office_has naming book number period is;
 }
+
+-- the law
+pub open_is_open : OpenIsOpen
+open_is_open naming book readable =
+    let closed : ℕ = length book.rulings.closes in
+    ap (λ more. cond more (closed + 1) last_period)
+    (lt-ltb closed last_period readable.limits.closes)

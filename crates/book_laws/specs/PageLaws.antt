@@ -1,7 +1,8 @@
--- The law of pages: their amounts are those of the reports.
+-- The laws of pages: their amounts are those of the reports, and the period that they show as open is
+-- the one that the books have open.
 use Rattle.std.specs.Prelude.{◌≡◌, ℕ, ◌≤◌, List, [], ◌++◌, codes, Some, None, Result, Ok}
 use Rattle.book_model.specs.declared.fault.LedgerFault.{LedgerFault}
-use Rattle.book_model.specs.Words.{Book, Naming, Period, lines_of, period_of, rows_for}
+use Rattle.book_model.specs.Words.{Book, Naming, Period, lines_of, open_number, period_of, rows_for}
 use Rattle.report_texts.specs.AdjustmentLists.{action_columns, signed_column}
 use Rattle.report_texts.specs.Columns.{newline}
 use Rattle.report_texts.specs.Figures.{period_open}
@@ -10,6 +11,7 @@ use Rattle.page_texts.specs.Closes.{close_of}
 use Rattle.page_texts.specs.Figures.{FiguresSeen, figures_of}
 use Rattle.page_texts.specs.OfficePage.{office_row}
 use Rattle.page_texts.specs.PeriodHead.{period_head, period_title}
+use Rattle.table_model.specs.Readable.{IsReadable}
 use Rattle.book_reports.specs.BookTexts.{report_answer}
 use Rattle.book_reports.specs.declared.report.PeriodReport.TheVariants.{AdjustmentList, Statement}
 use Rattle.book_reports.specs.declared.report.Report.TheVariants.{OfPeriod, OfficePage, PeriodPage}
@@ -57,3 +59,9 @@ PageTotalsAreTheReports =
     → period_of book number ≡ Some period
     → AreShown naming book number
     (figures_of (rows_for book.rulings period.counted) (lines_of naming book.rulings period))
+
+-- In books that can be read back the number of the open period, as dry runs and the page of the office
+-- have it, is that of the books: there is no period above the last one.
+abbrev pub OpenIsOpen : Type 0
+OpenIsOpen =
+    (naming : Naming) (book : Book) → IsReadable naming book → period_open book ≡ open_number book

@@ -27,7 +27,7 @@ pub use histories::{
     lines_once, named_once, posted_once, wrong_periods_fail,
 };
 pub use other_prices::{what_if, what_ifs_are_aligned};
-pub use pages::page_totals_are_the_reports;
+pub use pages::{open_is_open, page_totals_are_the_reports};
 pub use records::{lives_net, lives_take_turns, prices_are_reckoned, trails_net};
 pub use runs::{
     calls_follow_history, closed_statements_stay, lists_conserve, open_statement_is_first,
