@@ -397,6 +397,7 @@ module _ (history : List Event) (name : List ℕ) (old new : Shelf)
               flushed = it.flushed;
               listed = so.0 same;
               ends = it.ends;
+              output = it.output;
             },
             so.1,
           ))

@@ -1,7 +1,7 @@
 -- Commands, one after the other, on books that are kept by their names: each tells what the definitions
 -- give for the whole history before it.
 use Rattle.std.specs.Prelude.{◌≡◌, ◌≢◌, Bool, false, ℕ, List, [], ◌∷◌, ◌++◌, Option, None, Some}
-use Rattle.std.specs.Prelude.{IfErr, IfOk, Result, Ok, Err, String}
+use Rattle.std.specs.Prelude.{IfErr, IfOk, OnOk, Result, Ok, Err, String}
 use Rattle.std.specs.Global.{Global}
 use Rattle.std.specs.declared.alloc.AllocError.{AllocError}
 use Rattle.streams.specs.InputOutput.{Input}
@@ -41,7 +41,7 @@ use Rattle.chargectl.specs.Choices.{AreListed, ChoosesNothing, TellsList, chosen
 use Rattle.chargectl.specs.Commands.{AsksNothing, IsAskedBy, IsShelfFault, Tells, answer_of}
 use Rattle.chargectl.specs.Commands.{answer_told, first_fault, notice_of}
 use Rattle.chargectl.specs.DryRuns.{ShowsDry}
-use Rattle.chargectl.specs.Faults.{settled_as, status_by}
+use Rattle.chargectl.specs.Faults.{IsFileFault, settled_as, status_by}
 use Rattle.chargectl.specs.Requests.{CommandsBy}
 use Rattle.chargectl.specs.StreamedLists.{WritesSomeOf, list_answer, list_end, list_of}
 use Rattle.chargectl.specs.Serving.{AnswersSome, IsToldOf}
@@ -224,6 +224,7 @@ pub record ListsHistory (list : StreamedList) (naming : Naming) (history : List 
   pub flushed : Result (Unit {0}) CommandFault
   pub listed : IsListed list (list_answer list naming (book_of history)) Refuses held holds told
   pub ends : ended.came ≡ first_fault (list_end told) flushed
+  pub output : OnOk (list_end told) (IfErr flushed IsFileFault)
 
 -- or the place refused them before
 abbrev pub ListsHistoryBy : StreamedList → Naming → List Event → (RepositoryFault → Type 0)

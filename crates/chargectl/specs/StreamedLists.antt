@@ -1,7 +1,7 @@
 -- Lists that are written while the books are open: the details of a period, the rulings and the
 -- disputes. They are never held whole.
 use Rattle.std.specs.Prelude.{◌≡◌, Bool, false, if◌then◌else◌, ℕ, List, ◌++◌, Option, Some, None, Result}
-use Rattle.std.specs.Prelude.{Ok, Err}
+use Rattle.std.specs.Prelude.{Ok, Err, IfErr, OnOk}
 use Rattle.std.proofs.Common.{sym, subst}
 use Rattle.std.specs.Option.{option_map}
 use Rattle.book_model.specs.declared.fault.LedgerFault.{LedgerFault}
@@ -26,7 +26,7 @@ use Rattle.chargectl.specs.declared.command_fault.CommandFault.TheVariants as fa
 use Rattle.chargectl.specs.declared.ended.Ended.{Ended}
 use Rattle.chargectl.specs.declared.streamed_lists.StreamedList.{StreamedList}
 use Rattle.chargectl.specs.declared.streamed_lists.StreamedList.TheVariants as list
-use Rattle.chargectl.specs.Commands.{IsRefusedBy, asked_centre, first_fault}
+use Rattle.chargectl.specs.Commands.{IsFileFault, IsRefusedBy, asked_centre, first_fault}
 use Rattle.chargectl.specs.Faults.{shelf_fault}
 
 -- the text of a list, or why the books have none: only of a period that is not there
@@ -83,7 +83,7 @@ list_end (Ok (Err refused)) = Err (fault.Report refused)
 list_end (Err shelf) = Err (shelf_fault shelf)
 
 -- A list of the books was written while they were open, and then the output was flushed, where all
--- went well so far.
+-- went well so far; that can fail only as an output does.
 pub record Lists (list : StreamedList) (book : List ℕ) (old new : Shelf)
     (held holds : Option (List ℕ)) (ended : Ended) : Type 0 where
   pub told : Result (Result (Unit {0}) ReportFault) RepositoryFault
@@ -91,6 +91,7 @@ pub record Lists (list : StreamedList) (book : List ℕ) (old new : Shelf)
   pub done : IsOpened (WritesAnswer (list_answer list) old.naming held holds) book old new told
   pub some : ComesBy (WritesSomeOf list held holds) (holds ≡ held) told
   pub ends : ended.came ≡ first_fault (list_end told) flushed
+  pub output : OnOk (list_end told) (IfErr flushed IsFileFault)
   pub log : new.has_log book ended.has_log
   pub change : ended.is_change ≡ false
   pub notice : ended.notice ≡ None

@@ -1,14 +1,14 @@
 //! Lists that are written while the books are open: the details of a period, the rulings and the
 //! disputes. With a million records or choices a list has 90 MB or more, and is never held whole.
 
-ghost use Rattle.std.specs.Prelude.{◌≡◌, Err, IsErr};
+ghost use Rattle.std.specs.Prelude.{◌≡◌, Err, IfErr, IsErr, OnOk};
 ghost use Rattle.std.specs.Io.KnownBytes.{Keeps};
 ghost use Rattle.streams.specs.Sinks.{writer_of};
 ghost use Rattle.book_core.specs.Calls.{Reopens};
 ghost use Rattle.book_core.specs.Transition.{IsTransition};
 ghost use Rattle.book_reports.specs.StreamedAnswers.{WritesAnswer};
 ghost use Rattle.book_reports.specs.StreamedRulings.{refusal_in};
-ghost use Rattle.chargectl.specs.Commands.{first_fault};
+ghost use Rattle.chargectl.specs.Commands.{IsFileFault, first_fault};
 ghost use Rattle.chargectl.specs.StreamedLists as spec;
 ghost use Rattle.chargectl.specs.StreamedLists.{ListsAsked, ListsBy, WritesSomeOf, list_answer};
 
@@ -193,6 +193,9 @@ fn list_end(told: Result<Result<(), ReportFault>, RepositoryFault>) -> Result<()
 fn flushed<O: Write>(came: Result<(), CommandFault>, output: &mut O) -> Result<(), CommandFault>
     // An earlier fault comes first.
     ensures ends { result ≡ first_fault came result }
+
+    // Only the output can fail after that.
+    ensures output { OnOk came (IfErr result IsFileFault) }
     ensures kept { Keeps (O.contents output.old) (O.contents output.new) }
     ensures same { IsErr came → output.new ≡ output.old }
 {

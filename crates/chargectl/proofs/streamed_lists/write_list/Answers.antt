@@ -1,8 +1,8 @@
 use Rattle.std.proofs.Common.{◌≡◌, ◌∙◌, None, Ok, false, ap, refl, subst, sym}
-use Rattle.std.specs.Prelude.{IsErr}
+use Rattle.std.specs.Prelude.{IfErr, IsErr, OnOk}
 use Rattle.std.specs.Io.KnownBytes.{Keeps}
 use Rattle.streams.specs.Sinks.{writer_of}
-use Rattle.chargectl.specs.Commands.{first_fault}
+use Rattle.chargectl.specs.Commands.{IsFileFault, first_fault}
 use Rattle.chargectl.specs.StreamedLists.{ListsBy, list_end}
 use Rattle.chargectl.proofs.StreamedListLemmas.{came_kept, opened_kept}
 use Rattle.chargectl.proofs.streamed_lists.write_list.Goals as goal
@@ -39,6 +39,8 @@ returns g c =
           c.open-answer.ensures.came;
       ends = c.flushed.ensures.ends
           ∙ ap (λ came. first_fault came c.flushed.result) c.list_end.ensures;
+      output = subst (λ came. OnOk came (IfErr c.flushed.result IsFileFault)) c.list_end.ensures
+          c.flushed.ensures.output;
       log = c.open-answer.ensures.log;
       change = refl;
       notice = refl;
