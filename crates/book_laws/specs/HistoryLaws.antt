@@ -3,7 +3,8 @@ use Rattle.std.specs.Prelude.{◌≡◌, ℕ, ◌+◌, true, false, All, List, O
 use Rattle.std.specs.Prelude.{◌-ℤ◌, ◌++◌}
 use Rattle.book_model.specs.Words.{Period, Book, charged_of, all_periods, is_dated_after, Event}
 use Rattle.book_model.specs.Words.{book_after, day_of_close, Naming, Rulings, has, total_of}
-use Rattle.book_model.specs.Words.{IsMadeByCalls, IsSound}
+use Rattle.book_model.specs.Words.{IsAnswered, IsMadeByCalls, IsSound, after}
+use Rattle.table_model.specs.FromCalls.{IsSubmittedTo}
 use Rattle.table_model.specs.Readable.{IsReadable}
 use Rattle.book_laws.specs.NetCounts.{net_count, one_if, NamesOnce}
 use Rattle.book_laws.specs.PeriodLines.{AreReadOnce}
@@ -24,6 +25,12 @@ abbrev pub BooksChargeOnce : Type 0
 BooksChargeOnce =
     (naming : Naming) (book : Book) (bytes : List ℕ) → IsReadable naming book
     → net_count (all_periods book) bytes ≡ pos (one_if (has (charged_of book) bytes))
+
+-- What a call makes of a book that can be read back is such a book again, wherever it came from.
+abbrev pub ReadableStays : Type 0
+ReadableStays =
+    (naming : Naming) (book : Book) (event : Event) → IsReadable naming book
+    → IsSubmittedTo book event → IsAnswered naming event book → IsReadable naming (after event book)
 
 -- Over the closed periods alone it is charged once net if the last close charged it.
 abbrev pub PostedOnce : Type 0

@@ -3,7 +3,7 @@
 
 ghost use Rattle.book_laws.specs.HistoryLaws.{BooksChargeOnce, ChargedOnce, ClosedStays, Conserved};
 ghost use Rattle.book_laws.specs.HistoryLaws.{ConservedInSets, DatedRight, LinesOnce, NamedOnce};
-ghost use Rattle.book_laws.specs.HistoryLaws.{PostedOnce};
+ghost use Rattle.book_laws.specs.HistoryLaws.{PostedOnce, ReadableStays};
 ghost use Rattle.book_laws.specs.WrongPeriods.{WrongPeriodsFail};
 
 /// Over all periods a record that is charged now is charged once net, and any other nets to
@@ -15,6 +15,11 @@ pub fn charged_once()
 /// The same of any book that can be read back, as of one that an audit found in a file.
 pub fn books_charge_once()
     ensures { BooksChargeOnce }
+{}
+
+/// What a call makes of a book that can be read back is such a book again.
+pub fn readable_stays()
+    ensures { ReadableStays }
 {}
 
 /// Over the closed periods a record is charged once net if the last close charged it.
