@@ -3,7 +3,7 @@ use Rattle.std.proofs.Common.{ℕ, List, Result, Ok, Err, inl}
 use Rattle.book_model.specs.Words.{Naming}
 use Rattle.named_books.specs.declared.repository.RepositoryFault.{RepositoryFault}
 use Rattle.named_books.specs.Shelves.{unknown}
-use Rattle.named_books.proofs.ShelfLemmas.{unknown_untouched}
+use Rattle.named_books.proofs.ShelfLemmas.{unknown_name, unknown_untouched}
 use Rattle.book_audit.specs.Copies.{IsAudited, IsCopied}
 use Rattle.book_audit.specs.declared.audited.Audited.{Audited}
 use Rattle.book_audit.specs.declared.audited.Audited.TheVariants.{Sound, Unsound}
@@ -18,16 +18,19 @@ pub unknown_copied : (book copy : List ℕ) (naming : Naming) (answer : Result A
     → IsCopied book copy (unknown naming) (unknown naming) answer
 unknown_copied book copy naming (Ok (Sound counts)) = record {
   kept = unknown_untouched copy naming;
+  name = unknown_name copy naming (Ok (Sound counts));
   copied = λ free. absurd free;
   why = tt;
 }
 unknown_copied book copy naming (Ok (Unsound finding)) = record {
   kept = unknown_untouched copy naming;
+  name = unknown_name copy naming (Ok (Unsound finding));
   copied = λ free. absurd free;
   why = tt;
 }
 unknown_copied book copy naming (Err fault) = record {
   kept = unknown_untouched copy naming;
+  name = unknown_name copy naming (Err fault);
   copied = λ free. absurd free;
   why = inl tt;
 }

@@ -2,7 +2,7 @@
 use Rattle.std.specs.Prelude.{◌⊎◌, ℕ, List, IfErr, Result, Ok, Err}
 use Rattle.book_model.specs.Words.{Event, book_of}
 use Rattle.named_books.specs.declared.repository.RepositoryFault.{RepositoryFault}
-use Rattle.named_books.specs.Shelves.{Shelf, IsUntouched}
+use Rattle.named_books.specs.Shelves.{Shelf, IsUntouched, TakesName}
 use Rattle.book_audit.specs.Counts.{AreCountsOf}
 use Rattle.book_audit.specs.declared.audited.Audited.{Audited}
 use Rattle.book_audit.specs.declared.audited.Audited.TheVariants.{Sound, Unsound}
@@ -24,10 +24,11 @@ HoldsCopy book copy old new (Ok (Sound counts)) =
 HoldsCopy book copy old new (Ok (Unsound finding)) = old.is_free copy → new.is_free copy
 HoldsCopy book copy old new (Err fault) = old.is_free copy → new.is_free copy
 
--- All books that were there are as they were, and the copy is another; or one of the two names was
--- refused.
+-- All books that were there are as they were, no books had the name of the copy, and no other name
+-- was taken; or one of the two names was refused.
 pub record IsCopied (book copy : List ℕ) (old new : Shelf) (answer : Result Audited RepositoryFault)
     : Type 0 where
   pub kept : IsUntouched copy old new
+  pub name : TakesName copy old new answer
   pub copied : HoldsCopy book copy old new answer
   pub why : IfErr answer (λ fault. old.refuses book fault ⊎ old.refuses copy fault)

@@ -1,14 +1,15 @@
 -- What is done to books that are kept by their names.
 use Rattle.std.proofs.Common.{◌≡◌, ◌∙◌, ℕ, Bool, false, List, [], ◌++◌, refl, sym, subst, inl, inr}
 use Rattle.std.proofs.Common.{Result, Ok, Err, append_assoc}
-use Rattle.std.specs.Prelude.{IfErr}
+use Rattle.std.specs.Prelude.{IfErr, OnOk}
 use Rattle.book_model.specs.Words.{Book, Event, Naming, book_after, new_book}
 use Rattle.book_core.specs.Transition.{Transition, NoEvent, Then}
 use Rattle.book_core.proofs.TransitionLemmas.{after_all-append}
 use Rattle.named_books.specs.declared.repository.RepositoryFault.{RepositoryFault}
 use Rattle.named_books.specs.declared.repository.RepositoryFault.TheVariants.{Unseen}
 use Rattle.named_books.specs.Shelves.{Shelf, unknown, OpenedAnew, GoOn, IsDoneTo, IsOpened, IsMade}
-use Rattle.named_books.specs.Shelves.{ComesBy, IsSameShelf, IsTried, IsUntouched, WhereUnopened}
+use Rattle.named_books.specs.Shelves.{ComesBy, IsSameShelf, IsTried, IsUntouched, TakesName}
+use Rattle.named_books.specs.Shelves.{WhereUnopened}
 
 -- books that nothing was done to
 pub stays : (Held : List Event → Type 0) → GoOn NoEvent Held Held
@@ -156,16 +157,29 @@ unknown_tried work book naming (Ok answer) =
     (unknown_untouched book naming, λ history held. absurd held)
 unknown_tried work book naming (Err fault) = (tt, unknown_untouched book naming)
 
+pub unknown_name : {A : Type 0} (book : List ℕ) (naming : Naming) (result : Result A RepositoryFault)
+    → TakesName book (unknown naming) (unknown naming) result
+unknown_name book naming (Ok answer) = record {
+  others = λ other apart free. free;
+  none = λ history held. held;
+}
+unknown_name book naming (Err fault) = record {
+  others = λ other apart free. free;
+  none = tt;
+}
+
 pub unknown_made : (book : List ℕ) (naming : Naming) (result : Result (Unit {0}) RepositoryFault)
     → IsMade book (unknown naming) (unknown naming) result
 unknown_made book naming (Ok made) = record {
   kept = unknown_untouched book naming;
+  name = unknown_name book naming (Ok made);
   made = λ free. absurd free;
   refused = tt;
   why = tt;
 }
 unknown_made book naming (Err fault) = record {
   kept = unknown_untouched book naming;
+  name = unknown_name book naming (Err fault);
   made = tt;
   refused = λ free. absurd free;
   why = tt;
@@ -175,6 +189,11 @@ pub unknown_refused : {A : Type 0} (book : List ℕ) (naming : Naming)
     (answer : Result A RepositoryFault) → IfErr answer ((unknown naming).refuses book)
 unknown_refused book naming (Ok answer) = tt
 unknown_refused book naming (Err fault) = tt
+
+pub unknown_found : {A : Type 0} (book : List ℕ) (naming : Naming)
+    (answer : Result A RepositoryFault) → OnOk answer ((unknown naming).is_free book → ⊥)
+unknown_found book naming (Ok answer) = λ free. free
+unknown_found book naming (Err fault) = tt
 
 -- a visit that was not made is as it is, whatever the fault
 pub same_where : (Visited Same : Type 0) (fault : RepositoryFault) → Same

@@ -71,7 +71,7 @@ pub enum Upgraded {
 
 /// Where books are kept by their names.
 pub trait Repository {
-    ghost use Rattle.std.specs.Prelude.{◌≡◌, IfErr, ℕ};
+    ghost use Rattle.std.specs.Prelude.{◌≡◌, IfErr, OnOk, ℕ};
     ghost use Rattle.named_books.specs.Shelves.{Shelf, ComesBy, IsMade, IsOpened, IsSameShelf, IsTried};
     ghost use Rattle.named_books.specs.Shelves.{IsUntouched};
 
@@ -89,7 +89,8 @@ pub trait Repository {
 
     /// Says whether there is something with that name.
     fn expect(&self, book: &str) -> Result<(), RepositoryFault>
-        ensures { IfErr result ((shelf self.now).refuses book.now) };
+        ensures found { OnOk result ((shelf self.now).is_free book.now → ⊥) }
+        ensures refused { IfErr result ((shelf self.now).refuses book.now) };
 
     /// Makes new books under a name that is not there yet.
     fn make(&mut self, book: &str) -> Result<(), RepositoryFault>
