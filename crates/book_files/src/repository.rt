@@ -11,7 +11,7 @@ use crate::waiting::Visited;
 use book_audit::{Audited, AuditedRepository, Finding, Place, Watch, Wrong};
 use book_core::LedgerFault;
 use book_trees::{LookFault, OpenFault};
-use named_books::{Opened, Repository, RepositoryFault, Upgraded, Visit};
+use named_books::{Opened, Repository, RepositoryFault, Upgraded, Visit, WaitingRepository};
 use sqlite_disk::{Disk, Unknown};
 use std::hash::{BuildHasher, RandomState};
 use std::io::ErrorKind;
@@ -142,17 +142,10 @@ pub(crate) fn not_looked_through(fault: LookFault) -> Result<Audited, Repository
 }
 
 impl Repository for Files<'_> {
-    ghost use Rattle.std.specs.Prelude.{◌≡◌};
     ghost use Rattle.book_restarts.specs.FileBooks.{file_names};
     ghost use Rattle.named_books.specs.Shelves.{unknown};
 
     ghost shelf = { λ _. unknown file_names };
-
-    ghost waits = { λ files seconds. files.wait ≡ seconds };
-
-    fn wait_up_to(&mut self, seconds: u16) {
-        self.wait = seconds;
-    }
 
     /// Says whether the file is there.
     fn expect(&self, book: &str) -> Result<(), RepositoryFault> {
@@ -182,6 +175,16 @@ impl Repository for Files<'_> {
     /// Brings the books of a file that is there to this form, and waits for them.
     fn upgrade(&mut self, book: &str) -> Opened<Upgraded> {
         self.wait_to_upgrade(book)
+    }
+}
+
+impl WaitingRepository for Files<'_> {
+    ghost use Rattle.std.specs.Prelude.{◌≡◌};
+
+    ghost waits = { λ files seconds. files.wait ≡ seconds };
+
+    fn wait_up_to(&mut self, seconds: u16) {
+        self.wait = seconds;
     }
 }
 

@@ -113,8 +113,8 @@ abbrev pub wait_for : BookRequest → ℕ → ℕ
 wait_for (book.Serve port requests) wait = service_wait
 wait_for asked wait = wait
 
--- From here on openings waited for so many seconds, and nothing else was new; and then a command was
--- done on the books of a name.
+-- It was set that openings wait for so many seconds, and nothing else was new; and then a command was
+-- done on the books of a name. What does it knows its place by traits that cannot set this again.
 pub record WaitsAndDoes {S : Type 0} (shelf : S → Shelf) (waits : S → ℕ → Type 0) (old new : S)
     (seconds : ℕ) (asked : BookRequest) (name : List ℕ) (held holds : Option (List ℕ)) (ended : Ended)
     : Type 0 where

@@ -3,12 +3,12 @@
 ghost use Rattle.program_output.specs.Messages.{AreSaid};
 ghost use Rattle.chargectl.specs.CommandLaws.{CommandsFollowHistory};
 
-use named_books::Repository;
+use named_books::WaitingRepository;
 use streams::Writer;
 
 /// Whatever commands, one after the other: the books of a name that held a history which calls made
 /// hold it with what the commands made of it, and each told what the definitions give for the whole
 /// history before it.
-pub fn commands_follow_history<S: Repository, E: Writer>()
+pub fn commands_follow_history<S: WaitingRepository, E: Writer>()
     ensures { CommandsFollowHistory S.shelf S.waits (AreSaid E.contents E.may_answer) }
 {}

@@ -28,7 +28,7 @@ use book_core::{LedgerFault, Sink, Source};
 use book_import::{MAX_READS, Receipt, Stop};
 use book_reports::ReportFault;
 use command_line::{ArgumentFault, BookRequest, DumpFile, NumberKind, Request, requested_by};
-use named_books::RepositoryFault;
+use named_books::{RepositoryFault, WaitingRepository};
 use program_output::{
     Explanation, FaultKind, PROGRAM, Status, WordKind, check_list, explained, io_failed,
     out_of_memory, say, trial,
@@ -45,7 +45,7 @@ const SERVICE_WAIT: u16 = 2;
 /// Does what the words ask for, the first of which is the program's name. Books are kept at a
 /// place. Why it was not done is said on standard error; where that is a terminal, a person is told
 /// more.
-pub fn command<S: AuditedRepository, I: Read + Drop, O: Write + Drop, E: Writer>(
+pub fn command<S, I: Read + Drop, O: Write + Drop, E: Writer>(
     rt: &HostRuntime,
     repository: &mut S,
     words: &[String],
@@ -53,6 +53,8 @@ pub fn command<S: AuditedRepository, I: Read + Drop, O: Write + Drop, E: Writer>
     output: O,
     errors: &mut E,
 ) -> (Status, O)
+where
+    S: AuditedRepository + WaitingRepository,
     ensures { CommandsBy S.shelf S.waits repository.old repository.new words.now
         (I.remaining input) (O.contents output) (O.contents result.1)
         (AreSaid E.contents E.may_answer) errors.old errors.new result.0 }
@@ -69,8 +71,8 @@ pub fn command<S: AuditedRepository, I: Read + Drop, O: Write + Drop, E: Writer>
     }
 }
 
-/// Does what is asked.
-fn run<S: AuditedRepository, I: Read + Drop, O: Write + Drop>(
+/// Does what is asked. Here alone it is set for how long openings wait.
+fn run<S: AuditedRepository + WaitingRepository, I: Read + Drop, O: Write + Drop>(
     rt: &HostRuntime,
     repository: &mut S,
     request: Request<'_>,

@@ -3,6 +3,8 @@
 
 mod looks;
 mod repository;
+mod waiting;
 
 pub use looks::Look;
 pub use repository::{Opened, Repository, RepositoryFault, Upgraded, Visit};
+pub use waiting::WaitingRepository;

@@ -71,21 +71,11 @@ pub enum Upgraded {
 
 /// Where books are kept by their names.
 pub trait Repository {
-    ghost use Rattle.std.specs.Prelude.{◌≡◌, IfErr, OnOk, ℕ};
-    ghost use Rattle.named_books.specs.Shelves.{Shelf, ComesBy, IsMade, IsOpened, IsSameShelf, IsTried};
-    ghost use Rattle.named_books.specs.Shelves.{IsUntouched};
+    ghost use Rattle.std.specs.Prelude.{◌≡◌, IfErr, OnOk};
+    ghost use Rattle.named_books.specs.Shelves.{Shelf, ComesBy, IsMade, IsOpened, IsTried, IsUntouched};
 
     /// What is known of them.
     ghost shelf: { Self → Shelf };
-
-    /// An opening of books that another program is using asks for them again, for up to this many
-    /// seconds, before it says so.
-    ghost waits: { Self → ℕ → Type 0 };
-
-    /// From now on an opening waits for up to this many seconds.
-    fn wait_up_to(&mut self, seconds: u16)
-        ensures set { waits self.new seconds }
-        ensures same { IsSameShelf (shelf self.old) (shelf self.new) };
 
     /// Says whether there is something with that name.
     fn expect(&self, book: &str) -> Result<(), RepositoryFault>

@@ -4,7 +4,7 @@ ghost use Rattle.std.specs.Prelude.{◌≡◌};
 
 use book_audit::{Audited, AuditedRepository, Watch};
 use book_core::Naming;
-use named_books::{Opened, Repository, RepositoryFault, Upgraded, Visit};
+use named_books::{Opened, Repository, RepositoryFault, Upgraded, Visit, WaitingRepository};
 use office::AwayBooks;
 use plain_ledger::PlainLedger;
 use std::alloc::Global;
@@ -51,16 +51,12 @@ impl OneBook {
     }
 }
 
-#[tactic(auto, using(named_books::proofs::ShelfLemmas::unknown_found, named_books::proofs::ShelfLemmas::unknown_made, named_books::proofs::ShelfLemmas::unknown_opened, named_books::proofs::ShelfLemmas::unknown_refused, named_books::proofs::ShelfLemmas::unknown_tried, named_books::proofs::ShelfLemmas::unknown_untouched, named_books::proofs::ShelfLemmas::same_shelf, named_books::proofs::ShelfLemmas::came_by, named_books::proofs::ShelfLemmas::same_by))]
+#[tactic(auto, using(named_books::proofs::ShelfLemmas::unknown_found, named_books::proofs::ShelfLemmas::unknown_made, named_books::proofs::ShelfLemmas::unknown_opened, named_books::proofs::ShelfLemmas::unknown_refused, named_books::proofs::ShelfLemmas::unknown_tried, named_books::proofs::ShelfLemmas::unknown_untouched, named_books::proofs::ShelfLemmas::came_by, named_books::proofs::ShelfLemmas::same_by))]
 impl Repository for OneBook {
     ghost use Rattle.std.specs.Prelude.{replicate};
     ghost use Rattle.named_books.specs.Shelves.{unknown};
 
     ghost shelf = { λ _. unknown (λ _. replicate 32 7) };
-
-    ghost waits = { λ _ _. Unit {0} };
-
-    fn wait_up_to(&mut self, _seconds: u16) {}
 
     fn expect(&self, _book: &str) -> Result<(), RepositoryFault> {
         Ok(())
@@ -87,6 +83,13 @@ impl Repository for OneBook {
     fn upgrade(&mut self, _book: &str) -> Opened<Upgraded> {
         without_log(Ok(Upgraded::Already))
     }
+}
+
+#[tactic(auto, using(named_books::proofs::ShelfLemmas::same_shelf))]
+impl WaitingRepository for OneBook {
+    ghost waits = { λ _ _. Unit {0} };
+
+    fn wait_up_to(&mut self, _seconds: u16) {}
 }
 
 #[tactic(auto, using(book_audit::proofs::CopyLemmas::unknown_audited, book_audit::proofs::CopyLemmas::unknown_copied))]

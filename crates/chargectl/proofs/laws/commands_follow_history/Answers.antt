@@ -4,5 +4,5 @@ use Rattle.chargectl.proofs.laws.commands_follow_history.Goals as goal
 
 pub returns : goal.returns
 returns g c =
-    commands_follow_history g.S.Repository.shelf g.S.Repository.waits
+    commands_follow_history g.S.Repository.shelf g.S.WaitingRepository.waits
     (AreSaid g.E.Write.contents g.E.Writer.may_answer)
