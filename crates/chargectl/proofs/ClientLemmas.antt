@@ -31,7 +31,7 @@ use Rattle.chargectl.specs.declared.client_requests.Told.{Told}
 use Rattle.chargectl.specs.declared.client_requests.Told.TheVariants as tells
 use Rattle.chargectl.specs.ClientRequests.{AsksOpen, EndsBy, EndsUnseen, IsAnsweredFrom, IsReplied}
 use Rattle.chargectl.specs.ClientRequests.{IsServedByReads, IsServedFrom, StreamsAnswer, away_reply}
-use Rattle.chargectl.specs.ClientRequests.{is_streamed}
+use Rattle.chargectl.specs.ClientRequests.{asks_books, is_streamed}
 use Rattle.chargectl.specs.Serving.{AnswersSome, Fits, Replies, ServesOne, is_answered}
 
 -- ---- what is sent
@@ -68,10 +68,16 @@ settled book place answer held holds what sent = record {
   ends = sent;
 }
 
+-- one that is not settled asks something of them
+pub asks_them : (request : Requested)
+    → ((answer : Answer) → request ≡ requested.Settled answer → ⊥) → asks_books request ≡ true
+asks_them (requested.Settled answer) open = absurd (open answer refl)
+asks_them request open = refl
+
 -- what was answered was served
 pub served_from : {S : Type 0} (seen : S → Shelf) (old new : S) (book taken : List ℕ) (ended : Bool)
     (held holds : Option (List ℕ)) (what : Served) → is_unanswered what ≡ false
-    → IsReplied book (seen old) (seen new) taken ended held holds what
+    → IsReplied seen old new book taken ended held holds what
     → IsServedFrom seen old new book ended held holds what taken
 served_from seen old new book taken ended held holds served.Closed begun it =
     absurd (true≢false begun)
@@ -195,7 +201,7 @@ module _ (book : List ℕ) (old new : Shelf) (bytes : List ℕ) (request : Reque
 
 replied_done : {S : Type 0} (seen : S → Shelf) (old new : S) (book taken : List ℕ) (ended : Bool)
     (held holds : Option (List ℕ)) (what : Served)
-    → IsReplied book (seen old) (seen new) taken ended held holds what
+    → IsReplied seen old new book taken ended held holds what
     → Replies book what (seen old) (seen new)
 replied_done seen old new book taken ended held holds what it =
     request_done book (seen old) (seen new) (taken ++ []) it.request (it.asks [] (λ _. refl)) held

@@ -22,6 +22,11 @@ use Rattle.named_books.specs.Shelves.{Shelf, IsOpened}
 use Rattle.chargectl.specs.declared.client_requests.Told.{Told}
 use Rattle.chargectl.specs.declared.client_requests.Told.TheVariants as tells
 
+-- something is asked of the books: a request that is settled asks nothing of them
+abbrev pub asks_books : Requested → Bool
+asks_books (requested.Settled answer) = false
+asks_books request = true
+
 -- details are asked for: long ones are sent while they are read
 abbrev pub is_streamed : Requested → Bool
 is_streamed (requested.Details details) = true
@@ -92,12 +97,14 @@ abbrev pub LeavesLog : {S : Type 0} → (S → Shelf) → List ℕ → S → S �
 LeavesLog shelf book old new (Some is) = (shelf new).has_log book is
 LeavesLog shelf book old new None = new ≡ old
 
--- a request came whole, by the bytes that were taken, and was answered
-pub record IsReplied (book : List ℕ) (old new : Shelf) (taken : List ℕ) (ended : Bool)
+-- A request came whole, by the bytes that were taken, and was answered. For one that asks nothing of the
+-- books, their place was left alone.
+pub record IsReplied {S : Type 0} (shelf : S → Shelf) (old new : S) (book taken : List ℕ) (ended : Bool)
     (held holds : Option (List ℕ)) (what : Served) : Type 0 where
   pub request : Requested
   pub asks : IsAsking ended taken request
-  pub answered : IsAnsweredFrom book old new request held holds what
+  pub answered : IsAnsweredFrom book (shelf old) (shelf new) request held holds what
+  pub alone : asks_books request ≡ false → new ≡ old
 
 -- What was served of the bytes that were taken. Where the input ended before the first of them, or a
 -- read failed, nothing is answered.
@@ -106,7 +113,7 @@ abbrev pub IsServedFrom : {S : Type 0} → (S → Shelf) → S → S → List �
 IsServedFrom shelf old new book ended held holds served.Closed taken = (taken ≡ []) × (ended ≡ true)
 IsServedFrom shelf old new book ended held holds served.ReadFault taken = Unit {0}
 IsServedFrom shelf old new book ended held holds what taken =
-    IsReplied book (shelf old) (shelf new) taken ended held holds what
+    IsReplied shelf old new book taken ended held holds what
 
 -- A client was served by these reads of it, as it came: each was due, and what was served is the answer
 -- to the bytes that they gave. That reading failed is said where the newest of them failed, and nowhere

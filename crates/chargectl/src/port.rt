@@ -143,11 +143,12 @@ pub fn answer_peer<P: Peer + Drop, S: Repository>(
 ) -> (Attended, P)
     ensures served { Attends S.shelf book.now repository.old repository.new result.0 }
 
-    // It is answered by what reads of it gave, each of which was due.
+    // It is answered by what reads of it gave, each of which was due; and the books are not opened
+    // for a request that asks nothing of them.
     ensures reads { IsServedByReads P.may_answer S.shelf repository.old repository.new book.now
         peer (P.contents peer) (P.contents result.1) result.0.served }
 
-    // The books are not opened for a client that asks nothing of them.
+    // Nor are they for a client that is not answered.
     ensures closed { is_unanswered result.0.served ≡ true → repository.new ≡ repository.old }
     ensures drained { is_answered result.0.served ≡ true → P.is_drained result.1 ≡ true }
 {

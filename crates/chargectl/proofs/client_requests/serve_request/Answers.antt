@@ -1,9 +1,9 @@
-use Rattle.std.proofs.Common.{subst}
+use Rattle.std.proofs.Common.{◌∙◌, refl, subst, sym, true≢false}
 use Rattle.streams.specs.Sources.{has_ended}
 use Rattle.book_http.specs.declared.requested.Requested.TheVariants as requested
 use Rattle.book_http.specs.Requested.{IsAsking}
 use Rattle.book_http.proofs.ReadLemmas.{gave_as}
-use Rattle.chargectl.proofs.ClientLemmas.{served_from, settled}
+use Rattle.chargectl.proofs.ClientLemmas.{asks_them, served_from, settled}
 use Rattle.chargectl.proofs.client_requests.serve_request.Goals as goal
 
 pub returns-in-Ok-Settled-clause-served : goal.returns-in-Ok-Settled-clause-served
@@ -23,4 +23,22 @@ returns-in-Ok-Settled-clause-served g c =
       asks = subst (λ request. IsAsking ended taken request) c.in-Ok-Settled.field-0-is asking;
       answered = settled c.args.book.now (shelf old) c.in-Ok-Settled.answer held holds sent.result.0
           sent.ensures.sent;
+      alone = λ none. refl;
+    }))
+
+pub returns-in-Ok-clause-served : goal.returns-in-Ok-clause-served
+returns-in-Ok-clause-served g c =
+    let contents = g.W.Write.contents in
+    let request = c.in-Ok.request in
+    let from = c.answer_from_books in
+    gave_as c.in-Ok.ensures.asks
+    (λ taken asking. served_from g.S.Repository.shelf c.args.repository.now from.new.repository
+    c.args.book.now taken (has_ended c.read_request.new.source) (contents c.args.writer)
+    (contents from.result.1) from.result.0.served from.ensures.answered
+    (record {
+      request = request;
+      asks = asking;
+      answered = from.ensures.from;
+      alone = λ none.
+          absurd (true≢false (sym (asks_them request c.in-Ok.not-Settled) ∙ none));
     }))
