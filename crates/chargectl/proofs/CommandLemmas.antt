@@ -3,8 +3,7 @@ use Rattle.std.proofs.Common.{◌≡◌, List, ℕ, Option, Some, None, Result, 
 use Rattle.std.proofs.Common.{◌⊎◌, sym, subst, refl, take, length, inl, inr}
 use Rattle.std.proofs.KnownBytes.{Appends-kept}
 use Rattle.std.proofs.Math.Seq.{take-length}
-use Rattle.std.specs.Prelude.{IfErr, IsErr, IsErrAnd}
-use Rattle.std.specs.declared.io.ErrorKind.{ErrorKind}
+use Rattle.std.specs.Prelude.{IsErr, IsErrAnd}
 use Rattle.std.specs.Io.KnownBytes.{Appends, Keeps}
 use Rattle.smf_text.specs.Day.{day_of_text_of}
 use Rattle.streams.specs.InputOutput.{Input, Output}
@@ -30,7 +29,6 @@ use Rattle.chargectl.specs.Commands.{AsksNothing, AsksOnceBy, ComesOf}
 use Rattle.chargectl.specs.Commands.{IsFileFault, IsShelfFault}
 use Rattle.chargectl.specs.Commands.{IsTariffFault, IsTextFault, IsWordFault, report_of}
 use Rattle.chargectl.specs.Commands.{what_if_of}
-use Rattle.chargectl.specs.Faults.{io_fault}
 
 -- a request with its answer
 pub asked_once : (asked : Asked) (answer : Result Answer LedgerFault) (books : Books) (input : Input)
@@ -83,12 +81,6 @@ module _ (One Other : RepositoryFault → Type 0)
       word_as (what_if_of form period) (IsTariffFault One) (IsTariffFault Other) why
       (either_as (IsTextFault why) why) it
   nothing_as request why it = shelf_as why it
-
--- the file of a tariff failed
-pub file_fault : {T : Type 0} (result : Result T CommandFault) (kind : ErrorKind)
-    → IsErrAnd result (λ why. why ≡ io_fault kind) → IfErr result IsTextFault
-file_fault (Ok text) kind is = absurd is
-file_fault (Err why) kind is = inl (kind, is)
 
 -- a word that is there is no fault
 pub word_there : {A : Type 0} (read : Option A) (found : A) (IsLater : CommandFault → Type 0)

@@ -4,7 +4,6 @@ use Rattle.std.proofs.Common.{subst, sym, true≢false}
 use Rattle.std.specs.Prelude.{IfErr, IfOk, IsErr, IsErrAnd, OnErr}
 use Rattle.std.specs.declared.alloc.AllocError.{AllocError}
 use Rattle.std.specs.declared.io.ErrorKind.TheVariants.{OutOfMemory}
-use Rattle.tariff_rules.specs.declared.fault.TariffFault.{TariffFault}
 use Rattle.tariff_rules.specs.TariffFile.{terms_in}
 use Rattle.book_model.specs.Words.{Terms}
 use Rattle.book_core.specs.Ledgers.{Seen}
@@ -20,7 +19,7 @@ use Rattle.program_output.specs.Names.{IsNamesFault, names_in}
 use Rattle.chargectl.specs.declared.choices.ListAnswered.{ListAnswered}
 use Rattle.chargectl.specs.declared.command_fault.CommandFault.{CommandFault}
 use Rattle.chargectl.specs.Choices.{ChoosesBy, ChoosesNothing, ComesOfList, IsListFault}
-use Rattle.chargectl.specs.Faults.{IsFaultIn, IsTextFault, names_fault}
+use Rattle.chargectl.specs.Faults.{IsFaultIn, names_fault}
 use Rattle.chargectl.specs.Reading.{IsTariffRead, lasting}
 
 -- the fault that `?` hands on
@@ -59,14 +58,9 @@ not_listed book shelf (Err fault) found bad is why =
     (subst (ChoosesNothing (shelf.refuses book)) (sym is) why, untouched book shelf)
 
 -- the tariff of a text, or why it is none
-refused_text : (said : Result Terms TariffFault) (why : CommandFault) → lasting said ≡ Err why
-    → IsTextFault why
-refused_text (Ok terms) why is = cc
-refused_text (Err refused) why is = inr (refused, (cc))
-
 pub tariff_is : (text : List ℕ) (result : Result Terms CommandFault)
     → IfOk result (λ terms. lasting (terms_in text) ≡ Ok terms)
     → IfErr result (IsFaultIn (lasting (terms_in text))) → IsTariffRead result
 tariff_is text (Ok terms) is why = (text, is)
-tariff_is text (Err fault) is (inl memory) = inl (OutOfMemory, memory)
-tariff_is text (Err fault) is (inr refused) = refused_text (terms_in text) fault refused
+tariff_is text (Err fault) is (inl memory) = inl (inl (OutOfMemory, memory))
+tariff_is text (Err fault) is (inr refused) = inr (text, refused)

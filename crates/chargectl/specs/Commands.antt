@@ -161,7 +161,7 @@ abbrev pub IsRefusedBy : List ℕ → Shelf → Shelf → Option (List ℕ) → 
 IsRefusedBy book old new held holds why =
     IsShelfFault (old.refuses book) why × IsUntouched book old new × (holds ≡ held)
 
--- that, or the file of a tariff failed, or its text is none
+-- that, or the file of a tariff failed, or what it has is no text, or too long a one
 abbrev pub IsTariffFault : (RepositoryFault → Type 0) → CommandFault → Type 0
 IsTariffFault Refuses why = IsShelfFault Refuses why ⊎ IsTextFault why
 

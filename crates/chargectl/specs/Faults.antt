@@ -5,7 +5,7 @@ use Rattle.std.specs.Prelude.{Option, Some, None, Result, Ok, Err}
 use Rattle.std.specs.Io.KnownBytes.{Appends}
 use Rattle.std.specs.declared.io.ErrorKind.{ErrorKind}
 use Rattle.std.specs.declared.io.ErrorKind.TheVariants.{OutOfMemory}
-use Rattle.tariff_rules.specs.declared.fault.TariffFault.{TariffFault}
+use Rattle.tariff_rules.specs.declared.fault.TariffFault.TheVariants.{Syntax, TooMany}
 use Rattle.book_model.specs.declared.fault.LedgerFault.TheVariants as ledger
 use Rattle.book_import.specs.declared.receipt.Stop.{Stop}
 use Rattle.book_import.specs.declared.receipt.Stop.TheVariants.{End}
@@ -153,10 +153,10 @@ abbrev pub EndsText : List ℕ → Option (List ℕ) → Option (List ℕ) → R
 EndsText text held holds (Ok done) = Appends held holds text
 EndsText text held holds (Err why) = IsFileFault why
 
--- the file of a tariff failed, or its text is none
+-- the file of a tariff failed, or has too many bytes, or is no text
 abbrev pub IsTextFault : CommandFault → Type 0
-IsTextFault why = IsFileFault why
-    ⊎ ((refused : TariffFault) × (why ≡ fault.Ledger (ledger.TariffRefused refused)))
+IsTextFault why = IsFileFault why ⊎ ((why ≡ fault.Ledger (ledger.TariffRefused TooMany))
+    ⊎ (why ≡ fault.Ledger (ledger.TariffRefused Syntax)))
 
 -- a list of names has too many, or a line that is none; or there was no memory for them
 abbrev pub names_fault : NamesFault → CommandFault

@@ -75,10 +75,11 @@ abbrev pub lasting : Result Terms TariffFault → Result Terms CommandFault
 lasting (Ok terms) = Ok (on_every_day terms)
 lasting (Err refused) = Err (fault.Ledger (ledger.TariffRefused refused))
 
--- the tariff is that of a text that its file gave; or the file failed, or its text is none
+-- the tariff is that of a text that its file gave; or the file failed or has no such text, or the text is
+-- no tariff, for this reason
 abbrev pub IsTariffRead : Result Terms CommandFault → Type 0
 IsTariffRead (Ok terms) = (text : List ℕ) × (lasting (terms_in text) ≡ Ok terms)
-IsTariffRead (Err why) = IsTextFault why
+IsTariffRead (Err why) = IsTextFault why ⊎ ((text : List ℕ) × (lasting (terms_in text) ≡ Err why))
 
 -- none is made where there is no tariff
 abbrev pub TriesWith : Layout → Result Terms CommandFault → Option (List ℕ) → Option (List ℕ)
