@@ -3,7 +3,6 @@
 
 mod answering;
 mod asking;
-mod away;
 mod choosing;
 mod laws;
 mod request;
@@ -11,7 +10,6 @@ mod running;
 
 pub use answering::{answer_lines, write_answer};
 pub use asking::{ask, ask_without_reader};
-pub use away::AwayBooks;
 pub use book_reports::{PeriodReport, Report, StatementForm, WhatIf, centre_named};
 pub use choosing::{Chosen, choose_each};
 pub use laws::{answers_are_free, answers_follow_book, answers_follow_history, run_twice_is_once};

@@ -3,9 +3,8 @@
 ghost use Rattle.std.specs.Prelude.{◌≡◌};
 
 use book_audit::{Audited, AuditedRepository, Watch};
-use book_core::Naming;
-use named_books::{Opened, Repository, RepositoryFault, Upgraded, Visit, WaitingRepository};
-use office::AwayBooks;
+use book_core::{LedgerFault, Naming};
+use named_books::{Opened, Repository, RepositoryFault, Upgraded, Visit};
 use plain_ledger::PlainLedger;
 use std::alloc::Global;
 use tariff_rules::Tariff;
@@ -71,7 +70,7 @@ impl Repository for OneBook {
         self.opened = opened.saturating_add(1);
         match opened {
             1 => without_log(Err(RepositoryFault::Busy)),
-            2 => without_log(Ok(visit.visit(&mut AwayBooks))),
+            2 => without_log(Err(RepositoryFault::Ledger(LedgerFault::Store))),
             _ => without_log(Ok(visit.visit(&mut self.book))),
         }
     }
