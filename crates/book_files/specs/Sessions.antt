@@ -1,5 +1,5 @@
 -- What may be found of the files of books after a session.
-use Rattle.std.specs.Prelude.{◌≡◌, Option, None, Some, IsTrue, []}
+use Rattle.std.specs.Prelude.{◌≡◌, Option, None, Some, IfSome, IsTrue, [], ⊤}
 use Rattle.sqlite_disk.specs.declared.Disk.{Ghosts}
 use Rattle.sqlite_disk.specs.declared.files.Files.{Files}
 use Rattle.sqlite_wal.specs.Reads.{AreClean}
@@ -7,7 +7,7 @@ use Rattle.sqlite_wal.specs.Recovery.{Image}
 use Rattle.book_restarts.specs.FileBooks.{GoesOn, file_names}
 use Rattle.book_core.specs.Transition.{NoEvent, Transition}
 use Rattle.book_trees.specs.Closing.{MayBeFound}
-use Rattle.book_trees.specs.Refusals.{MayLeave}
+use Rattle.book_trees.specs.Refusals.{IsAsFound, MayLeave}
 use Rattle.book_trees.specs.declared.closing.LogLeft.TheVariants.{Short}
 use Rattle.book_files.specs.declared.session.Ended.{Ended}
 use Rattle.book_files.specs.declared.session.Ended.TheVariants.{Closed, Refused}
@@ -24,6 +24,12 @@ MayFollow g (Refused None) image = ⊥
 abbrev pub FilesGoOn : {D : Type 0} (g : Ghosts D) → Transition → Image → Ended D → Type 0
 FilesGoOn g Made found ended =
     (image : Image) → MayFollow g ended image → GoesOn file_names Made found image
+
+-- Files that were not opened are as they were found, or stand for the same pages, whatever they hold.
+abbrev pub AreAsFound : {D : Type 0} (g : Ghosts D) → Image → Ended D → Type 0
+AreAsFound g found (Closed closed) = ⊤
+AreAsFound g found (Refused files) =
+    IfSome files (λ files. (left : Image) → MayLeave g files left → IsAsFound found left)
 
 -- What may be found of the file of books that were closed, where their log was short, and no log is
 -- there any more.

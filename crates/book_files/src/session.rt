@@ -12,7 +12,7 @@ ghost use Rattle.book_files.specs.Causes.{HaveBookRow, WhyNotAudited, WhyNotCont
 ghost use Rattle.book_files.specs.Causes.{WhyNotUpgraded, WhyNotVisited};
 ghost use Rattle.book_files.specs.Faults.{first_answer, resume_fault};
 ghost use Rattle.book_files.specs.NewBooks.{NewBooksMade};
-ghost use Rattle.book_files.specs.Sessions.{FilesGoOn, IsFileAlone, MayFollow};
+ghost use Rattle.book_files.specs.Sessions.{AreAsFound, FilesGoOn, IsFileAlone, MayFollow};
 ghost use Rattle.book_files.specs.Upgrades.{FilesBroughtOver, upgrade_answer};
 ghost use Rattle.book_restarts.specs.FileBooks.{GoesOn, HoldsHistory, done_by, file_names};
 ghost use Rattle.book_trees.specs.FirstForm.{HoldsFirstForm};
@@ -69,6 +69,9 @@ pub fn visit_at<S: LeftByLedger, V: Visit>(
         → GoesOn file_names (done_by (V.Visit.work file_names visit.old visit.new) result.0)
         (image_at S.Start) image }
 
+    // Files that are not opened are left as they were, whatever they hold.
+    ensures unopened { AreAsFound ⟦<FileFrom<S> as Disk>⟧ (image_at S.Start) result.1 }
+
     ensures came { MatchResult result.0 (V.Visit.comes visit.old visit.new)
         (λ _. visit.new ≡ visit.old) }
 
@@ -102,6 +105,10 @@ pub fn make_at<S: Start>(
 ) -> (Result<(), RepositoryFault>, Ended<FileFrom<S>>)
     ensures made { HoldsNothing (image_at S.Start)
         → NewBooksMade ⟦<FileFrom<S> as Disk>⟧ result.0 result.1 }
+
+    // Files that hold something are not opened, and left as they were.
+    ensures unopened { (¬ HoldsNothing (image_at S.Start))
+        → AreAsFound ⟦<FileFrom<S> as Disk>⟧ (image_at S.Start) result.1 }
     ensures cause { IfErr result.0
         (WhyNotMade ⟦<FileFrom<S> as Disk>⟧ (image_at S.Start) result.1) }
 {
@@ -135,6 +142,7 @@ pub fn resume_at<S: LeftByLedger>(
     start: S,
 ) -> (Result<(), RepositoryFault>, Ended<FileFrom<S>>)
     ensures history { FilesGoOn ⟦<FileFrom<S> as Disk>⟧ NoEvent (image_at S.Start) result.1 }
+    ensures unopened { AreAsFound ⟦<FileFrom<S> as Disk>⟧ (image_at S.Start) result.1 }
     ensures none { (image : Image) → MayFollow ⟦<FileFrom<S> as Disk>⟧ result.1 image
         → (history : List Event) → HoldsHistory file_names history (image_at S.Start)
         → IfOk result.0 (λ made. history ≡ []) }
@@ -165,6 +173,7 @@ pub fn audit_at<S: Start, W: Watch>(
     watch: &mut W,
 ) -> (Result<Audited, RepositoryFault>, Ended<FileFrom<S>>)
     ensures history { FilesGoOn ⟦<FileFrom<S> as Disk>⟧ NoEvent (image_at S.Start) result.1 }
+    ensures unopened { AreAsFound ⟦<FileFrom<S> as Disk>⟧ (image_at S.Start) result.1 }
 
     // Files that are called sound hold a book, whoever wrote them, and the counts are its own. Any
     // other answer too is given of no files but those that list the tables of books.
@@ -225,6 +234,7 @@ pub fn upgrade_at<S: Start>(
 ) -> (Result<Upgraded, RepositoryFault>, Ended<FileFrom<S>>)
     ensures history { HoldsFirstForm (image_at S.Start)
         → FilesBroughtOver ⟦<FileFrom<S> as Disk>⟧ (image_at S.Start) result.0 result.1 }
+    ensures unopened { AreAsFound ⟦<FileFrom<S> as Disk>⟧ (image_at S.Start) result.1 }
 
     // Books of this form are left as they are.
     ensures already { result.0 ≡ Ok Upgraded.Already

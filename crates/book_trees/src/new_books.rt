@@ -7,8 +7,8 @@ ghost use Rattle.sqlite_wal.specs.Reads.{AreClean};
 ghost use Rattle.sqlite_wal.specs.Recovery.{Image};
 ghost use Rattle.book_trees.specs.LedgerFiles.{image_of, page_size, HoldsBooks, trees_held};
 ghost use Rattle.book_trees.specs.LedgerFiles.{AreEmptyTables, HoldsNothing};
-ghost use Rattle.book_trees.specs.Refusals.{AreKept, HasCause, IsBegun, IsRefusal, IsRefusedFor};
-ghost use Rattle.book_trees.specs.Refusals.{IsUnopened, MayLeave, StopCreating};
+ghost use Rattle.book_trees.specs.Refusals.{AreKept, HasCause, IsAsFound, IsBegun, IsRefusal};
+ghost use Rattle.book_trees.specs.Refusals.{IsRefusedFor, IsUnopened, MayLeave, StopCreating};
 ghost use Rattle.book_trees.specs.Schema.{books_schema};
 ghost use Rattle.book_trees.specs.StoreView.{IsOpen};
 ghost use Rattle.tree_tables.specs.Holds.{HasShapes};
@@ -97,6 +97,11 @@ pub fn create_at<S: Start>(
     ensures cause { IfErr result (λ refusal. MatchOption refusal.1 (IsUnopened refusal.0)
         (IsRefusedFor ⟦<FileFrom<S> as Disk>⟧ (HoldsNothing (image_at S.Start))
         (StopCreating ⟦<FileFrom<S> as Disk>⟧) refusal.0)) }
+
+    // What a stop leaves of files that held something is what they held, or stands for the same.
+    ensures kept { IfErr result (λ refusal. (¬ HoldsNothing (image_at S.Start))
+        → IfSome refusal.1 (λ files. (left : Image)
+        → MayLeave ⟦<FileFrom<S> as Disk>⟧ files left → IsAsFound (image_at S.Start) left)) }
 {
     let files = match open(rt, path, start) {
         Ok(files) => files,

@@ -3,7 +3,8 @@ use Rattle.std.proofs.Math.Logic.{∥∥₁_map}
 use Rattle.book_trees.specs.LedgerFiles.{HoldsNothing}
 use Rattle.book_trees.specs.Refusals.{HasCause}
 use Rattle.book_trees.proofs.Begun.{begun_found}
-use Rattle.book_trees.proofs.FreshFiles.{fresh_cause, fresh_faults, fresh_image, fresh_images}
+use Rattle.book_trees.proofs.FreshFiles.{as_found, fresh_cause, fresh_faults, fresh_image}
+use Rattle.book_trees.proofs.FreshFiles.{fresh_images}
 use Rattle.book_trees.proofs.new_books.create_at.Goals as goal
 
 pub returns-in-Ok-create_files-clause-started : goal.returns-in-Ok-create_files-clause-started
@@ -34,3 +35,12 @@ returns-in-Err-create_files-clause-cause g c clean =
     fresh_cause HasCause HoldsNothing (fresh_image g.S.Start.log g.S.Start.db fresh.0 fresh.1)
     (fresh_faults g.S.Start.log g.S.Start.db fresh.0 fresh.1)
     (c.in-Err-create_files.ensures.cause clean)
+
+pub returns-in-Err-create_files-clause-kept : goal.returns-in-Err-create_files-clause-kept
+returns-in-Err-create_files-clause-kept g c something left may =
+    let fresh = c.in-Ok.ensures.fresh in
+    let same = fresh_image g.S.Start.log g.S.Start.db fresh.0 fresh.1 in
+    let kept = c.in-Err-create_files.ensures.unharmed may.0
+    (λ nothing. something (subst HoldsNothing same nothing)) in
+    as_found left (λ was. fresh_images g.S.Start.is_mixing g.S.Start.log g.S.Start.db fresh.0
+    fresh.1 left was.1.0 was.1.1) same (kept.crash left may)
