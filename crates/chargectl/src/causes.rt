@@ -1,4 +1,4 @@
-//! Why a file or a port fails, by a second look at it.
+//! Why a file or a port fails, and which files are there, by a second look at them.
 
 ghost use Rattle.std.specs.Prelude.{◌≡◌};
 ghost use Rattle.chargectl.specs.HelpLines as spec;
@@ -7,12 +7,15 @@ use crate::port::listen_here;
 use program_output::Cause;
 use std::fs;
 use std::fs::{Metadata, OpenOptions};
-use std::io::ErrorKind;
+use std::io::{ErrorKind, Read};
 use std::os::unix::fs::MetadataExt;
 use std::path::Path;
 
 /// A folder of files of this process, which belong to its user.
 const OWN_FILES: &str = "/proc/self";
+
+/// What each file of books begins with, as every database of SQLite does.
+const MAGIC: [u8; 16] = *b"SQLite format 3\0";
 
 /// The cause, by what the system answered.
 pub(crate) fn cause_of(kind: ErrorKind) -> Cause
@@ -65,6 +68,49 @@ pub(crate) fn cause_of_read(rt: &HostRuntime, path: &str) -> Option<Cause> {
         Ok(_) => None,
         Err(error) => Some(cause_of(error.kind())),
     }
+}
+
+/// Whether a file lies at a path which can be opened again. A pipe or a terminal might never end.
+pub(crate) fn is_file(rt: &HostRuntime, path: &str) -> bool {
+    match fs::metadata(rt, path) {
+        Ok(metadata) => metadata.is_file(),
+        Err(_) => false,
+    }
+}
+
+/// Whether something lies at a path with this ending, if only a link that leads nowhere.
+pub(crate) fn is_there(rt: &HostRuntime, path: &str, ending: &str) -> bool {
+    match format!(in rt.alloc(); "{path}{ending}") {
+        Ok(file) => fs::symlink_metadata(rt, file.as_str()).is_ok(),
+        Err(_) => false,
+    }
+}
+
+/// What is in the way of the log of books, by what follows their path: a file of books that has its
+/// name; or a file that was kept, where another of that name is to be kept.
+pub(crate) fn in_place_of_log(rt: &HostRuntime, path: &str) -> Option<&'static str> {
+    let Ok(log) = format!(in rt.alloc(); "{path}-wal") else {
+        return None;
+    };
+    if are_books(rt, log.as_str()) {
+        Some("-wal")
+    } else if is_there(rt, path, "-wal") && is_there(rt, path, "-wal-kept") {
+        Some("-wal-kept")
+    } else {
+        None
+    }
+}
+
+/// Whether a file of books lies at a path.
+fn are_books(rt: &HostRuntime, path: &str) -> bool {
+    if !is_file(rt, path) {
+        return false;
+    }
+    let Ok(mut file) = fs::open(rt, path) else {
+        return false;
+    };
+    let mut first = [0; 16];
+    file.read_exact(&mut first).is_ok() && first == MAGIC
 }
 
 /// Why no file can be made at a path.

@@ -1,23 +1,21 @@
 //! Dry runs: a ruling is tried on a copy of the books, and what it would change is shown.
 
-ghost use Rattle.std.specs.Prelude.{◌≡◌, ◌⊎◌, IfErr, IfOk, Ok};
+ghost use Rattle.std.specs.Prelude.{◌≡◌, ◌⊎◌, IfErr, IfOk};
 ghost use Rattle.book_model.specs.declared.fault.LedgerFault.TheVariants.{Memory};
 ghost use Rattle.book_core.specs.Transition.{IsTransition};
 ghost use Rattle.report_texts.specs.DryRuns.{NamesDay};
-ghost use Rattle.office.specs.Requests as requests;
 ghost use Rattle.office.specs.Requests.{IsAskableRuling};
 ghost use Rattle.office.proofs.AskLemmas.{ruling_once};
 ghost use Rattle.chargectl.specs.DryRuns.{ComesOfDryRun, IsNamedBy, IsShown, IsTriedOnce};
 ghost use Rattle.chargectl.specs.DryRuns.{IsUnnamed, TriesOnceBy, dated_by, tried_answered};
-ghost use Rattle.chargectl.specs.Far.{notice_by};
 
 use crate::asked_rulings::asked_ruling;
 use crate::command_fault::CommandFault;
 use crate::dated_rulings::{DatedAnswer, told_in};
 use crate::ended::Answered;
-use crate::far::is_far_asked;
+use crate::far::{is_far_asked, notice_by};
 use crate::notice::Notice;
-use book_core::{Ledger, LedgerFault, Ruled, Tariff};
+use book_core::{Ledger, LedgerFault, Tariff};
 use book_reports::{open_period, period_figures};
 use command_line::{BookRequest, Ruling};
 use named_books::{Opened, Repository, Visit};
@@ -143,7 +141,7 @@ fn named(alloc: Global, asked: &Asked) -> Result<TriedRuling, LedgerFault>
     }
 }
 
-/// The text of a dry run, by the answer to the ruling, and what is noticed.
+/// The text of a dry run, by the answer to the ruling, and what is noticed, as if it were in force.
 fn shown(
     alloc: Global,
     ruling: TriedRuling,
@@ -159,20 +157,10 @@ fn shown(
     match answer {
         Answer::Ruled(ruled) => {
             let text = dry_run_text(alloc, ruling, ruled, period, before, after)?;
-            let notice = noticed(is_far, ruled);
+            let notice = notice_by(is_far, &Ok(Answer::Ruled(ruled)));
             Ok((Answer::Text(text.into_bytes()), notice))
         }
         // Nothing else is answered to a ruling.
         _ => Err(LedgerFault::Memory),
-    }
-}
-
-/// What is noticed of a ruling, as if it were in force.
-fn noticed(is_far: bool, ruled: Ruled) -> Option<Notice>
-    ensures { result ≡ notice_by is_far (Ok (requests.Ruling ruled)) }
-{
-    match ruled {
-        Ruled::Done => { if is_far { Some(Notice::Far) } else { None } }
-        Ruled::Already => None,
     }
 }

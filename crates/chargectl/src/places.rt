@@ -3,13 +3,13 @@
 
 use crate::book_commands::tariff_text;
 use crate::causes::{cause_of_books, cause_of_new, cause_of_port, cause_of_read};
+use crate::causes::{in_place_of_log, is_file, is_there};
 use crate::command_fault::CommandFault;
 use book_core::LedgerFault;
 use book_import::Stop;
 use book_reports::ReportFault;
 use command_line::{BookRequest, Request, Ruling};
 use program_output::Cause;
-use std::fs;
 use tariff_rules::{Entry, Tariff};
 
 /// What may be in the way of a file that is made, by what follows its path: it, its log and its
@@ -123,9 +123,10 @@ impl<'a> Places<'a> {
     pub(crate) fn spot_of(self, rt: &HostRuntime, fault: CommandFault) -> Option<Spot<'a>> {
         match fault {
             CommandFault::Io => Some(self.failed(rt)),
-            CommandFault::Busy => { Spot::of_file(self.books.or(self.new), Some(Cause::Taken)) }
+            CommandFault::Busy => self.in_use(),
             CommandFault::Exists => self.in_the_way(rt),
-            CommandFault::Unsound => Spot::of_file(self.new.or(self.books), None),
+            // Of an unsound copy nothing is left.
+            CommandFault::Unsound => Spot::of_file(self.books, None),
             CommandFault::ArgumentAt(_) | CommandFault::LedgerAt(_, _) => {
                 Spot::of_file(self.read, None)
             }
@@ -137,7 +138,17 @@ impl<'a> Places<'a> {
         }
     }
 
-    /// The file that is in the way of one that was to be made: the first that a second look finds.
+    /// The books that another program has open: new ones are made under a second name.
+    fn in_use(self) -> Option<Spot<'a>> {
+        let place = match self.books {
+            Some(path) => Place::File(path),
+            None => Place::Beside(self.new?, "-new"),
+        };
+        Some(Spot::at(place, Some(Cause::Taken)))
+    }
+
+    /// The file that is in the way of one that was to be made, or of the log of the books: the first
+    /// that a second look finds.
     fn in_the_way(self, rt: &HostRuntime) -> Option<Spot<'a>> {
         if let Some((path, endings)) = self.made {
             for &ending in endings {
@@ -146,11 +157,16 @@ impl<'a> Places<'a> {
                 }
             }
         }
+        if let Some(path) = self.books {
+            if let Some(ending) = in_place_of_log(rt, path) {
+                return Some(Spot::at(Place::Beside(path, ending), None));
+            }
+        }
         Spot::of_file(self.new.or(self.books), None)
     }
 
     /// The first of the places that a second look finds at fault. Where there is none, the file that
-    /// was to be made has failed, or else the output.
+    /// was to be made has failed, or else the output. A copy that has its name is whole.
     fn failed(self, rt: &HostRuntime) -> Spot<'a> {
         if let Some(spot) = self.failed_books(rt) {
             return spot;
@@ -162,6 +178,7 @@ impl<'a> Places<'a> {
             return spot;
         }
         match self.new {
+            Some(path) if self.books.is_some() && is_there(rt, path, "") => output_failed(),
             Some(path) => {
                 let cause = cause_of_new(rt, path).unwrap_or(Cause::Failed);
                 Spot::at(Place::File(path), Some(cause))
@@ -254,14 +271,6 @@ fn made_by<'a>(
     }
 }
 
-/// Whether something lies at a path with this ending, if only a link that leads nowhere.
-fn is_there(rt: &HostRuntime, path: &str, ending: &str) -> bool {
-    match format!(in rt.alloc(); "{path}{ending}") {
-        Ok(file) => fs::symlink_metadata(rt, file.as_str()).is_ok(),
-        Err(_) => false,
-    }
-}
-
 fn output_failed<'a>() -> Spot<'a> {
     Spot::at(Place::Output, Some(Cause::Failed))
 }
@@ -269,7 +278,7 @@ fn output_failed<'a>() -> Spot<'a> {
 /// The entry at which the text of a tariff file has its fault. None where no entry has it, and where
 /// the file can't be read again.
 fn entry_in(rt: &HostRuntime, path: &str) -> Option<Entry> {
-    if cause_of_read(rt, path).is_some() {
+    if !is_file(rt, path) {
         return None;
     }
     match tariff_text(rt, path) {
