@@ -19,7 +19,6 @@ use Rattle.sqlite_trees.specs.declared.store.Shape.{Shape}
 use Rattle.sqlite_wal.specs.Recovery.{Image}
 use Rattle.book_model.specs.Words.{Book, Event, Naming, book_after}
 use Rattle.named_books.specs.declared.repository.RepositoryFault.{RepositoryFault}
-use Rattle.named_books.specs.declared.repository.Upgraded.TheVariants.{Already}
 use Rattle.table_model.specs.Tables.{Tables}
 use Rattle.table_model.specs.TablesOf.{tables_of}
 use Rattle.tree_tables.specs.Forms.{this_form}
@@ -245,9 +244,3 @@ pub told_why : (Why : RepositoryFault → Type 0) (result : Result (Unit {0}) Re
     → IfErr result Why → IfErr (upgrade_answer result) Why
 told_why Why (Ok done) told = tt
 told_why Why (Err why) told = told
-
--- what was opened was not of this form already
-pub not_already : (result : Result (Unit {0}) RepositoryFault)
-    → upgrade_answer result ≡ Ok Already → ⊥
-not_already (Ok done) is = absurd (cc)
-not_already (Err why) is = absurd (cc)

@@ -1,7 +1,7 @@
 //! One session on the books in a file: it is opened, visited and closed; or looked through; or new
 //! books are made in it, or continued; or old ones are brought over.
 
-ghost use Rattle.std.specs.Prelude.{◌≡◌, [], IfErr, IfOk, List, MatchResult, Ok};
+ghost use Rattle.std.specs.Prelude.{◌≡◌, [], IfErr, IfOk, List, MatchResult};
 ghost use Rattle.sqlite_wal.specs.Files.{image_at};
 ghost use Rattle.sqlite_wal.specs.Recovery.{Image};
 ghost use Rattle.book_model.specs.Words.{Event};
@@ -236,9 +236,8 @@ pub fn upgrade_at<S: Start>(
         → FilesBroughtOver ⟦<FileFrom<S> as Disk>⟧ (image_at S.Start) result.0 result.1 }
     ensures unopened { AreAsFound ⟦<FileFrom<S> as Disk>⟧ (image_at S.Start) result.1 }
 
-    // Books of this form are left as they are.
-    ensures already { result.0 ≡ Ok Upgraded.Already
-        → FilesGoOn ⟦<FileFrom<S> as Disk>⟧ NoEvent (image_at S.Start) result.1 }
+    // Books of this form are left as they are, whatever is answered.
+    ensures kept { FilesGoOn ⟦<FileFrom<S> as Disk>⟧ NoEvent (image_at S.Start) result.1 }
 
     // Files that hold books of the first form, and their row, are refused only because of memory
     // and the disk.

@@ -1,5 +1,5 @@
 -- From what the files held to what an opened store shows.
-use Rattle.std.proofs.Common.{◌≡◌, ◌≢◌, List, [], true, IsTrue}
+use Rattle.std.proofs.Common.{◌≡◌, ◌≢◌, List, [], true, false, true≢false, IsTrue}
 use Rattle.std.proofs.Common.{refl, sym, subst, ap, ◌∙◌, inl, inr, arith}
 use Rattle.std.proofs.Math.Logic.{∥∥₁_elim, ∥∥₁_map}
 use Rattle.sqlite_disk.specs.declared.Disk.{Ghosts}
@@ -65,6 +65,10 @@ module _ {D : Type 0} {g : Ghosts D} (old mid : Unopened D g) (rows : List Row)
       ap lists_books (rows_are
       ∙ ap (λ (p : PageMap). rows_at page_size (in_use page_size p) Table 1)
       (same_pages held.pages held.found)) ∙ books_listed held.pages held.file
+
+  -- files that do not list them hold none
+  pub unlisted_none : lists_books rows ≡ false → HoldsBooks (image old) → ⊥
+  unlisted_none unlisted held = true≢false (sym (held_listed held) ∙ unlisted)
 
   -- files that hold books of the first form list those
   pub held_first_listed : HoldsFirstBooks (image old) → lists_first_books rows ≡ true

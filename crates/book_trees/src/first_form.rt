@@ -13,7 +13,8 @@ ghost use Rattle.book_trees.specs.FirstForm.{first_fault_for, HasFirstCause, Hol
 ghost use Rattle.book_trees.specs.FirstForm.{AddsDetails, HasFirstTrees, IsFirstRefusedFor};
 ghost use Rattle.book_trees.specs.FirstForm.{IsOpenFirst, IsToldFirst, IsToldThis, IsUnopenedFirst};
 ghost use Rattle.tree_rows.specs.Calls.{CommitsNothing, LeavesCommitted};
-ghost use Rattle.book_trees.specs.LedgerFiles.{image_of, page_size, HoldsFirstBooks, trees_held};
+ghost use Rattle.book_trees.specs.LedgerFiles.{image_of, page_size, HoldsBooks, HoldsFirstBooks};
+ghost use Rattle.book_trees.specs.LedgerFiles.{trees_held};
 ghost use Rattle.book_trees.specs.Refusals.{faults_in, AreFull, AreKept, IsAsFound, IsRefusal};
 ghost use Rattle.book_trees.specs.Refusals.{MayLeave};
 ghost use Rattle.book_trees.specs.Schema.{first_schema};
@@ -66,6 +67,8 @@ fn open_first<D: Disk>(files: Unopened<D>) -> Result<FileStore<D>, (FirstFault, 
         → IsTrue (state_of files).is_clean) }
     ensures found { IfOk result (λ store. IsTrue (state store).is_clean
         → (held : HoldsFirstBooks (image files)) → (view store).trees ≡ trees_held held) }
+    ensures older { IfOk result (λ store. IsTrue (state store).is_clean
+        → ¬ HoldsBooks (image files)) }
     ensures kept { IfOk result (λ store. IsTrue (state store).is_clean → Opens files (state store)) }
     ensures cause { IfErr result (λ refusal. IsTrue (state_of refusal.1).is_clean
         → HasFirstCause (state_of files).faults (state_of refusal.1).faults (IsFullFile refusal.1)
@@ -103,6 +106,8 @@ pub fn open_first_files<D: Disk>(
         → AreClean D.Disk files.log files.db) }
     ensures found { IfOk result (λ store. IsTrue (state store).is_clean
         → (held : HoldsFirstBooks (image_of D.Disk files)) → (view store).trees ≡ trees_held held) }
+    ensures older { IfOk result (λ store. IsTrue (state store).is_clean
+        → ¬ HoldsBooks (image_of D.Disk files)) }
 
     // Files of the first form are not opened only because of memory and the disk.
     ensures cause { IfErr result (IsRefusal D.Disk HasFirstCause files
@@ -168,6 +173,10 @@ pub fn open_first_at<S: Start>(
         → (state store).page_size ≡ page_size) }
     ensures found { IfOk result (λ store. IsTrue (state store).is_clean
         → (held : HoldsFirstBooks (image_at S.Start)) → (view store).trees ≡ trees_held held) }
+
+    // Files that are opened hold no books of this form.
+    ensures older { IfOk result (λ store. IsTrue (state store).is_clean
+        → ¬ HoldsBooks (image_at S.Start)) }
 
     // What a stop leaves of files that were not opened is what they held, or stands for the same.
     ensures cause { IfErr result (λ refusal. MatchOption refusal.1 (IsUnopenedFirst refusal.0)

@@ -1,4 +1,5 @@
-use Rattle.std.proofs.Common.{◌≡◌, ◌∙◌, false, inl, refl, subst, sym}
+use Rattle.std.proofs.Common.{◌≡◌, false, inl, refl, subst, sym}
+use Rattle.std.proofs.Math.Logic.{∥∥₁_elim, ∥∥₁_prop}
 use Rattle.std.specs.Prelude.{IfErr, ⊤}
 use Rattle.sqlite_disk.specs.contracts.modelled.ModelledDisk.TheImpl as modelled
 use Rattle.sqlite_std_file.specs.contracts.host.Host.{the_row}
@@ -7,6 +8,7 @@ use Rattle.sqlite_store.specs.FileStore.{view}
 use Rattle.sqlite_trees.proofs.Doubt.{clean_of}
 use Rattle.sqlite_wal.specs.Files.{image_at}
 use Rattle.book_model.specs.Words.{book_after}
+use Rattle.book_restarts.proofs.SessionLemmas.{still_held}
 use Rattle.book_restarts.specs.FileBooks.{file_names}
 use Rattle.book_trees.specs.FirstForm.{HoldsFirstForm}
 use Rattle.book_trees.specs.Refusals.{AreFull}
@@ -15,8 +17,8 @@ use Rattle.book_files.specs.Causes.{HasFaultCause, HaveNoFirstRow, WhyNotUpgrade
 use Rattle.book_files.specs.Upgrades.{BringsOver}
 use Rattle.book_files.specs.declared.session.Ended.TheVariants.{Closed, Refused}
 use Rattle.book_files.proofs.Causes.{cause_so, err_so, first_cause}
-use Rattle.book_files.proofs.SessionParts.{refused_goes_on}
-use Rattle.book_files.proofs.UpgradeParts.{brings_over, not_already, refused_brings, told_why}
+use Rattle.book_files.proofs.SessionParts.{found_clean, refused_goes_on}
+use Rattle.book_files.proofs.UpgradeParts.{brings_over, refused_brings, told_why}
 use Rattle.book_files.proofs.session.upgrade_at.Goals as goal
 
 pub returns-in-Ok-clause-history : goal.returns-in-Ok-clause-history
@@ -27,9 +29,16 @@ returns-in-Ok-clause-history g c = λ form image may history held.
     c.in-Ok.ensures.found held upgraded.result.0
     (λ stands. upgraded.ensures.left (book_after history) stands may.0 image may.1))
 
-pub returns-in-Ok-clause-already : goal.returns-in-Ok-clause-already
-returns-in-Ok-clause-already g c = λ is.
-    absurd (not_already c.upgrade_and_close-upgraded.result.0 (sym c.told_upgraded.ensures ∙ is))
+-- files that were opened held no books of this form
+pub returns-in-Ok-clause-kept : goal.returns-in-Ok-clause-kept
+returns-in-Ok-clause-kept g c = λ image may.
+    let upgraded = c.upgrade_and_close-upgraded in
+    let disk = modelled.ghosts the_row g.row.S host.ghosts host.dict g.S.Start g.S.Start-dict
+    g.S.Destruct-dict in
+    let clean = clean_of _ (upgraded.ensures.clean
+    (found_clean disk upgraded.result.1.files image may.1)) in
+    still_held file_names (image_at g.S.Start) image (λ book held.
+    ∥∥₁_elim held ∥∥₁_prop λ kept. absurd (c.in-Ok.ensures.older clean kept.0))
 
 pub returns-in-Ok-clause-cause : goal.returns-in-Ok-clause-cause
 returns-in-Ok-clause-cause g c =
@@ -66,8 +75,8 @@ returns-in-Err-clause-history g c = λ form image may history held.
     (AreFull disk) c.in-Err.fault c.in-Err.files c.in-Err.ensures.cause c.in-Err.ensures.kept form
     may held)
 
-pub returns-in-Err-clause-already : goal.returns-in-Err-clause-already
-returns-in-Err-clause-already g c = λ is image may.
+pub returns-in-Err-clause-kept : goal.returns-in-Err-clause-kept
+returns-in-Err-clause-kept g c = λ image may.
     refused_goes_on (modelled.ghosts the_row g.row.S host.ghosts host.dict g.S.Start g.S.Start-dict
     g.S.Destruct-dict) (λ file. inl refl) file_names (image_at g.S.Start) c.in-Err.files
     c.in-Err.ensures.kept image may

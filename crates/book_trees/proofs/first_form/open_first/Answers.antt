@@ -4,7 +4,7 @@ use Rattle.sqlite_store.specs.Unopened.{state_of, image, HasFileAs, IsFullFile}
 use Rattle.sqlite_trees.proofs.Doubt.{clean_of}
 use Rattle.book_trees.proofs.FirstCauses.{first_cause_of, first_since}
 use Rattle.book_trees.proofs.Opened.{held_first_listed, held_first_only, held_ours, opens_twice}
-use Rattle.book_trees.proofs.Opened.{shows_held}
+use Rattle.book_trees.proofs.Opened.{shows_held, unlisted_none}
 use Rattle.book_trees.proofs.Refused.{unlisted_refused}
 use Rattle.book_trees.proofs.Trees.{has_first_trees}
 use Rattle.book_trees.specs.FirstForm.{first_fault_for, HasFirstCause, HoldsFirstForm}
@@ -59,6 +59,13 @@ returns-in-Ok-open_numbered-clause-found g c clean =
     c.requires.size c.in-Ok-open_numbered.store opened.ready
     (opened.schema ∙ c.read_catalog.ensures.schema ∙ c.requires.schema)
     (c.read_catalog.ensures.kept then) (opened.kept clean) clean (opened.found clean)
+
+pub returns-in-Ok-open_numbered-clause-older : goal.returns-in-Ok-open_numbered-clause-older
+returns-in-Ok-open_numbered-clause-older g c clean =
+    unlisted_none c.args.files c.read_catalog.new.self c.in-Ok.listed.items
+    (c.in-Ok.ensures.ok (c.in-Ok-open_numbered.ensures.honest clean)) c.requires.size
+    (ap lists_books (sym c.as_slice.ensures.value) ∙ sym c.lists_books.ensures
+    ∙ c.if-lists_books.false)
 
 pub returns-in-Ok-open_numbered-clause-kept : goal.returns-in-Ok-open_numbered-clause-kept
 returns-in-Ok-open_numbered-clause-kept g c clean =

@@ -1,9 +1,9 @@
-use Rattle.std.proofs.Common.{◌≡◌, subst}
+use Rattle.std.proofs.Common.{◌≡◌, subst, sym}
 use Rattle.sqlite_store.specs.FileStore.{view}
 use Rattle.sqlite_wal.specs.Recovery.{Image}
 use Rattle.book_trees.proofs.FreshFiles.{as_found, fresh_image}
 use Rattle.book_trees.proofs.FreshFiles.{fresh_images}
-use Rattle.book_trees.specs.LedgerFiles.{HoldsFirstBooks, trees_held}
+use Rattle.book_trees.specs.LedgerFiles.{HoldsBooks, HoldsFirstBooks, trees_held}
 use Rattle.book_trees.proofs.first_form.open_first_at.Goals as goal
 
 pub returns-in-Ok-open_first_files-clause-found : goal.returns-in-Ok-open_first_files-clause-found
@@ -12,6 +12,12 @@ returns-in-Ok-open_first_files-clause-found g c clean =
     subst (λ (i : Image). (held : HoldsFirstBooks i) → (view c.in-Ok-open_first_files.store).trees
     ≡ trees_held held) (fresh_image g.S.Start.log g.S.Start.db fresh.0 fresh.1)
     (c.in-Ok-open_first_files.ensures.found clean)
+
+pub returns-in-Ok-open_first_files-clause-older : goal.returns-in-Ok-open_first_files-clause-older
+returns-in-Ok-open_first_files-clause-older g c clean held =
+    let fresh = c.in-Ok.ensures.fresh in
+    c.in-Ok-open_first_files.ensures.older clean
+    (subst HoldsBooks (sym (fresh_image g.S.Start.log g.S.Start.db fresh.0 fresh.1)) held)
 
 pub returns-in-Err-open_first_files-clause-kept : goal.returns-in-Err-open_first_files-clause-kept
 returns-in-Err-open_first_files-clause-kept g c left may =

@@ -6,7 +6,7 @@ use Rattle.book_trees.proofs.FirstCauses.{first_file_cause}
 use Rattle.book_trees.proofs.FormNumbers.{newer_refused}
 use Rattle.book_trees.proofs.ToldCauses.{first_told_cause}
 use Rattle.book_trees.specs.FirstForm.{HoldsFirstForm}
-use Rattle.book_trees.specs.LedgerFiles.{image_of}
+use Rattle.book_trees.specs.LedgerFiles.{image_of, HoldsBooks}
 use Rattle.book_trees.specs.Refusals.{faults_in, AreFull}
 use Rattle.book_trees.proofs.first_form.open_first_files.Goals as goal
 
@@ -19,6 +19,14 @@ pub returns-clause-found : goal.returns-clause-found
 returns-clause-found g c =
     shows_given c.in-Ok.files c.in-Ok-open_first.store c.args.files c.in-Ok.ensures.files
     c.in-Ok-open_first.ensures.found
+
+pub returns-clause-older : goal.returns-clause-older
+returns-clause-older g c clean held =
+    let given = c.in-Ok.ensures.files in
+    let old = c.in-Ok.files in
+    let first = c.args.files in
+    c.in-Ok-open_first.ensures.older clean
+    (subst HoldsBooks (sym (first_image old old first first given (sym given))) held)
 
 -- files of the first form do not say that they are of a newer one
 pub returns-then-says_newer-clause-cause : goal.returns-then-says_newer-clause-cause
