@@ -1,12 +1,13 @@
 -- What a session leaves of files, part by part.
 use Rattle.std.proofs.Common.{◌≡◌, IsTrue, List, ◌++◌, ℕ, sym, ap, subst, inl, inr}
-use Rattle.std.proofs.Common.{Option, None, Some, Result, Ok, Err}
+use Rattle.std.proofs.Common.{Bool, true, false, Option, None, Some, Result, Ok, Err}
 use Rattle.std.proofs.Math.Logic.{∥∥₁_elim, ∥∥₁_map, ∥∥₁_prop}
-use Rattle.std.specs.Prelude.{IfOk, IfSome, MatchResult}
+use Rattle.std.specs.Prelude.{if◌then◌else◌, IfOk, IfSome, MatchResult}
 use Rattle.named_books.specs.declared.repository.RepositoryFault.{RepositoryFault}
+use Rattle.named_books.specs.declared.repository.RepositoryFault.TheVariants.{Unseen}
 use Rattle.named_books.specs.Shelves.{ComesBy}
 use Rattle.named_books.proofs.ShelfLemmas.{same_where}
-use Rattle.book_files.specs.Faults.{IsReleased}
+use Rattle.book_files.specs.Releases.{released_answer}
 use Rattle.sqlite_disk.specs.declared.Disk.{Ghosts}
 use Rattle.sqlite_disk.specs.declared.files.Files.{Files}
 use Rattle.sqlite_pool.specs.StoredLaws.{carried}
@@ -35,6 +36,7 @@ use Rattle.book_restarts.specs.FileBooks.{GoesOn, StandsAt, done_by, file_names}
 use Rattle.book_restarts.proofs.SessionLemmas.{book_goes_on, still_held}
 use Rattle.book_files.specs.Sessions.{IsFileAlone, MayFollow, WereOnlyRead}
 use Rattle.book_files.specs.Stores.{CloseLeaves}
+use Rattle.book_files.specs.declared.session.Ended.{Ended}
 use Rattle.book_files.specs.declared.session.Ended.TheVariants.{Refused}
 use Rattle.book_files.specs.declared.session.Ended.TheVariants as ended
 
@@ -192,16 +194,21 @@ were_only_read g stays found first files kept read =
           (λ left may. inl (same left may)) image may;
     }
 
--- what came of a visit, where its answer is handed on, or was not seen
-pub comes_on : {A : Type 0} (Came : A → Type 0) (Same : Type 0)
-    (answer told : Result A RepositoryFault) → IsReleased answer told
+-- what came of a visit, by what was seen of its closed files
+seen_comes : {A : Type 0} (Came : A → Type 0) (Same : Type 0) (answer : Result A RepositoryFault)
+    (kept : Bool) → MatchResult answer Came (λ fault. Same)
+    → ComesBy Came Same (if kept then answer else Err Unseen)
+seen_comes Came Same (Ok answer) true came = came
+seen_comes {A} Came Same (Err fault) true same =
+    same_where ((answer : A) × Came answer) Same fault same
+seen_comes Came Same (Ok answer) false came = inl (answer, came)
+seen_comes Came Same (Err fault) false same = inr same
+
+-- and by what is told of it
+pub comes_on : {A D : Type 0} (Came : A → Type 0) (Same : Type 0) (answer : Result A RepositoryFault)
+    (ended : Ended D) (told : Result A RepositoryFault) → told ≡ released_answer answer ended
     → MatchResult answer Came (λ fault. Same) → ComesBy Came Same told
-comes_on {A} Came Same (Ok answer) told (inl is) came =
-    subst (λ told. ComesBy Came Same told) (sym is) came
-comes_on {A} Came Same (Err fault) told (inl is) same =
-    subst (λ told. ComesBy Came Same told) (sym is)
-    (same_where ((answer : A) × Came answer) Same fault same)
-comes_on {A} Came Same (Ok answer) told (inr is) came =
-    subst (λ told. ComesBy Came Same told) (sym is) (inl (answer, came))
-comes_on {A} Came Same (Err fault) told (inr is) same =
-    subst (λ told. ComesBy Came Same told) (sym is) (inr same)
+comes_on Came Same answer (ended.Closed closed) told is came =
+    subst (ComesBy Came Same) (sym is) (seen_comes Came Same answer closed.is_kept came)
+comes_on Came Same answer (Refused files) told is came =
+    subst (ComesBy Came Same) (sym is) (seen_comes Came Same answer true came)

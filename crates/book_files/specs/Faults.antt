@@ -1,5 +1,5 @@
 -- What the faults of files and of stores mean, and what is answered where a session has none.
-use Rattle.std.specs.Prelude.{◌≡◌, ◌⊎◌, Result, Ok, Err}
+use Rattle.std.specs.Prelude.{Result, Ok, Err}
 use Rattle.std.specs.declared.io.ErrorKind.{ErrorKind}
 use Rattle.std.specs.declared.io.ErrorKind.TheVariants as kind
 use Rattle.sqlite_trees.specs.declared.error.StoreError.{StoreError}
@@ -18,7 +18,7 @@ use Rattle.book_trees.specs.declared.integrity.LookFault.TheVariants.{Pages, Ope
 use Rattle.book_files.specs.declared.copies.CopyFault.{CopyFault}
 use Rattle.book_files.specs.declared.copies.CopyFault.TheVariants as copies
 use Rattle.named_books.specs.declared.repository.RepositoryFault.{RepositoryFault}
-use Rattle.named_books.specs.declared.repository.RepositoryFault.TheVariants.{Io, Exists, Busy, Ledger, Unseen}
+use Rattle.named_books.specs.declared.repository.RepositoryFault.TheVariants.{Io, Exists, Busy, Ledger}
 use Rattle.named_books.specs.declared.repository.Upgraded.{Upgraded}
 use Rattle.named_books.specs.declared.repository.Upgraded.TheVariants.{Already}
 
@@ -75,7 +75,3 @@ abbrev pub tried_answer : {A : Type 0} → Result A CopyFault → Result A Repos
 tried_answer (Ok answer) = Ok answer
 tried_answer (Err copies.Pages) = Err (Ledger ledger.Store)
 tried_answer (Err (copies.Refused fault)) = Err fault
-
--- an answer is handed on, or, where no memory was left to see that closed files hold books, that
-abbrev pub IsReleased : {A : Type 0} → Result A RepositoryFault → Result A RepositoryFault → Type 0
-IsReleased answer told = (told ≡ answer) ⊎ (told ≡ Err Unseen)

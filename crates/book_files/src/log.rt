@@ -1,5 +1,8 @@
 //! The log that lies beside a file of books while a command runs, and what a command leaves of it.
 
+ghost use Rattle.std.specs.Prelude.{◌≡◌, false};
+ghost use Rattle.book_files.specs.Releases.{IsMoved};
+
 use crate::repository::{failed, refused};
 use book_trees::{Closed, LogLeft, is_short, is_unused, lock_at, needs_no_log};
 use named_books::RepositoryFault;
@@ -103,16 +106,21 @@ impl<'a> Log<'a> {
     /// Drops the files of books that were closed, with their log where it holds nothing, and says
     /// whether it holds a part of the books, or one that held nothing was kept. A log that was not to
     /// be moved is left as it was.
-    pub(crate) fn release<D: Disk + Drop>(&self, closed: Closed<D>) -> bool {
-        if closed.log == LogLeft::Unmoved {
-            return self.leave(Some(closed.files));
+    pub(crate) fn release<D: Disk + Drop>(&self, closed: Closed<D>) -> bool
+        ensures { result ≡ false → IsMoved closed.log }
+    {
+        match closed.log {
+            LogLeft::Unmoved => self.leave(Some(closed.files)),
+            LogLeft::Short => {
+                self.remove_if_empty();
+                drop(closed);
+                self.is_kept
+            }
+            LogLeft::Emptied | LogLeft::Kept(_) => {
+                drop(closed);
+                true
+            }
         }
-        let has_log = closed.log != LogLeft::Short;
-        if !has_log {
-            self.remove_if_empty();
-        }
-        drop(closed);
-        has_log || self.is_kept
     }
 
     /// Takes the log of new books away, whatever it holds, where these could not be made.

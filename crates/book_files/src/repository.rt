@@ -1,8 +1,9 @@
 //! The files of one machine, by their paths.
 
-ghost use Rattle.std.specs.Prelude.{◌≡◌, Err};
+ghost use Rattle.std.specs.Prelude.{◌≡◌, false, Err, OnErr, OnOk};
 ghost use Rattle.std.specs.IoError.{error_kind};
-ghost use Rattle.book_files.specs.Faults.{IsReleased, file_fault, look_answer, open_fault};
+ghost use Rattle.book_files.specs.Faults.{file_fault, look_answer, open_fault};
+ghost use Rattle.book_files.specs.Releases.{HasMovedLog, released_answer};
 ghost use Rattle.named_books.specs.Shelves.{ComesBy};
 
 use crate::log::{Log, begins_as_books};
@@ -202,13 +203,15 @@ impl AuditedRepository for Files<'_> {
 }
 
 /// What came of a session, whose files are dropped. Where no memory was left to see that they hold
-/// books, that is said in place of an answer.
+/// books, that is said in place of an answer. Nothing is said of a log only where none is left that
+/// holds pages which were to be moved.
 pub(crate) fn released<T: Drop, D: Disk + Drop>(
     log: &Log<'_>,
     answer: Result<T, RepositoryFault>,
     ended: Ended<D>,
 ) -> Opened<T>
-    ensures { IsReleased answer result.answer }
+    ensures told { result.answer ≡ released_answer answer ended }
+    ensures log { result.has_log ≡ false → HasMovedLog ended }
 {
     match ended {
         Ended::Closed(closed) => {
@@ -237,7 +240,9 @@ fn released_upgraded<D: Disk + Drop>(
     upgraded: Result<Upgraded, RepositoryFault>,
     ended: Ended<D>,
 ) -> Opened<Upgraded>
-    ensures { IsReleased upgraded result.answer }
+    ensures told { OnOk upgraded (result.answer ≡ released_answer upgraded ended) }
+    ensures refused { OnErr upgraded (result.answer ≡ upgraded) }
+    ensures log { result.has_log ≡ false → HasMovedLog ended }
 {
     let Opened { answer, has_log } = released(log, upgraded, ended);
     match upgraded {
