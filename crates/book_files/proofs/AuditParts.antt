@@ -1,29 +1,37 @@
 -- What an audit says of files.
-use Rattle.std.proofs.Common.{◌≡◌, ℕ, List, ◌++◌, Option, None, Some, refl}
+use Rattle.std.proofs.Common.{◌≡◌, ◌∙◌, ℕ, List, ◌++◌, Option, None, Some, IsTrue, refl, subst, sym}
 use Rattle.std.proofs.Math.Logic.{∥∥₁_elim, ∥∥₁_map, ∥∥₁_prop}
 use Rattle.std.specs.Prelude.{IfOk, IfSome, MatchOption}
 use Rattle.sqlite_disk.specs.declared.Disk.{Ghosts}
 use Rattle.sqlite_disk.specs.declared.files.Files.{Files}
+use Rattle.sqlite_store.specs.FileStore.{state, view, IsReady}
+use Rattle.sqlite_store.specs.declared.store.FileStore.{FileStore}
+use Rattle.sqlite_trees.specs.Tree.{Trees}
+use Rattle.sqlite_trees.specs.View.{IsClean}
 use Rattle.sqlite_wal.specs.Reads.{AreClean}
 use Rattle.sqlite_wal.specs.Recovery.{Image}
 use Rattle.book_model.specs.Words.{Event, Naming, book_after}
-use Rattle.book_core.specs.Transition.{Transition}
+use Rattle.book_core.specs.Transition.{NoEvent, Transition}
+use Rattle.table_ledger.specs.Commits.{IsAtRest}
 use Rattle.table_ledger.specs.Ready.{IsStoredIn}
 use Rattle.book_audit.specs.Own.{AreOwn}
 use Rattle.book_audit.specs.declared.audited.Audited.{Audited}
 use Rattle.book_trees.specs.Forms.{HoldsThisForm}
 use Rattle.book_trees.specs.LedgerFiles.{HoldsBooks, trees_held}
 use Rattle.book_trees.specs.Looks.{IsLookRefusedFor, IsUnopenedLook}
+use Rattle.book_trees.specs.Refusals.{IsAsFound, MayLeave}
+use Rattle.book_trees.specs.Schema.{books_schema}
 use Rattle.book_trees.specs.declared.integrity.LookFault.{LookFault}
 use Rattle.book_trees.specs.declared.integrity.LookFault.TheVariants.{Pages, Open}
-use Rattle.book_restarts.specs.FileBooks.{HoldsHistory, file_names}
-use Rattle.book_restarts.proofs.SessionLemmas.{sessions_follow}
-use Rattle.book_files.specs.Audits.{IsUnsoundBy, OwnFilesAreNotUnsound, SoundAreOurs, WhyUnsound}
+use Rattle.book_restarts.specs.FileBooks.{GoesOn, HoldsHistory, file_names}
+use Rattle.book_restarts.proofs.SessionLemmas.{sessions_follow, still_held}
+use Rattle.book_files.specs.Audits.{HoldSameTrees, IsUnsoundBy, OwnFilesAreNotUnsound, SoundAreOurs}
+use Rattle.book_files.specs.Audits.{WhyUnsound}
 use Rattle.book_files.specs.Faults.{look_answer}
 use Rattle.book_files.specs.Sessions.{MayFollow}
 use Rattle.book_files.specs.declared.session.Ended.{Ended}
 use Rattle.book_files.specs.declared.session.Ended.TheVariants.{Closed, Refused}
-use Rattle.book_files.proofs.SessionParts.{found_clean}
+use Rattle.book_files.proofs.SessionParts.{found_clean, opened_rests, refused_tables}
 
 -- nor unsound, where they hold a book that calls made
 pub never_unsound : {D : Type 0} (g : Ghosts D) (found : Image) (AtLimit : Files D → Type 0)
@@ -37,6 +45,35 @@ never_unsound g found AtLimit Pages None cause wrong = absurd cause
 never_unsound g found AtLimit Pages (Some files) cause wrong = λ history ours honest finding is.
     ∥∥₁_elim ours.held (λ one other. absurd one) λ kept. wrong refl honest kept.0
 never_unsound g found AtLimit (Open fault) files cause wrong = tt
+
+-- a store that an audit leaves as it was leaves the trees that its files held
+pub audited_same : {D : Type 0} {g : Ghosts D} (first image : Image) (store : FileStore D g)
+    → IsReady store
+    → (IsTrue (state store).is_clean → (held : HoldsBooks first) → (view store).trees ≡ trees_held held)
+    → IsTrue (state store).is_clean
+    → ((IsClean (view store) → IsAtRest (view store))
+    → ∥ ((left : HoldsBooks image) × (trees_held left ≡ (view store).trees)) ∥₁)
+    → HoldSameTrees first image
+audited_same first image store ready found clean same held =
+    ∥∥₁_map (same (opened_rests store ready)) λ left. (left.0, left.1 ∙ found clean held)
+
+-- so do files that were refused
+pub refused_same : {D : Type 0} (g : Ghosts D) → ((file : D) → g.may_leave file (g.seen file))
+    → (first : Image) (files : Option (Files D))
+    → IfSome files (λ files. (left : Image) → MayLeave g files left → IsAsFound first left)
+    → (image : Image) → MayFollow g (Refused files) image → HoldSameTrees first image
+refused_same g stays first None kept image never held = absurd never
+refused_same g stays first (Some files) kept image may held =
+    refused_tables {wanted = books_schema} g stays (λ (trees : Trees). trees ≡ trees_held held) first
+    files kept image may ∣ (held, refl) ∣₁
+
+-- so they hold the history that they held
+pub same_goes_on : (names : Naming) (first image : Image) → HoldSameTrees first image
+    → GoesOn names NoEvent first image
+same_goes_on names first image same =
+    still_held names first image (λ book held.
+    ∥∥₁_elim held ∥∥₁_prop λ kept.
+    ∥∥₁_map (same kept.0) λ left. (left.0, subst (IsStoredIn names book) (sym left.1) kept.1))
 
 -- files that were looked through show an audit such a book
 pub own_trees : (found : Image) (history : List Event) → HoldsHistory file_names history found

@@ -30,6 +30,7 @@ use Rattle.book_trees.specs.LedgerFiles.{HoldsBooks, HoldsTables, page_size, tre
 use Rattle.book_trees.specs.Refusals.{IsAsFound, MayLeave}
 use Rattle.book_trees.specs.Schema.{books_schema}
 use Rattle.book_trees.proofs.UnusedLogs.{short_alone}
+use Rattle.table_ledger.specs.Commits.{IsAtRest}
 use Rattle.table_ledger.specs.Ready.{IsStoredIn}
 use Rattle.book_restarts.specs.FileBooks.{HoldsBook, LeavesBook}
 use Rattle.book_restarts.specs.FileBooks.{GoesOn, StandsAt, done_by, file_names}
@@ -67,18 +68,23 @@ alone_follows g closed image short alone = (
   inr (record { clean = alone.2; short = short alone.1 alone.2; gone = alone.3; file = alone.4 }),
 )
 
--- a store that was opened on books stands at the book
+-- a store that was opened is between two transactions
+pub opened_rests : {D : Type 0} {g : Ghosts D} (store : FileStore D g) → IsReady store
+    → IsClean (view store) → IsAtRest (view store)
+opened_rests store ready clean = record {
+  is_open = ready.is_open clean;
+  sound = ready.sound clean;
+  settled = ready.clean;
+}
+
+-- and where it was opened on books it stands at the book
 pub opened_stands : {D : Type 0} {g : Ghosts D} (names : Naming) (book : Book) (first : Image)
     (store : FileStore D g) → IsReady store
     → (IsTrue (state store).is_clean → (held : HoldsBooks first) → (view store).trees ≡ trees_held held)
     → (held : HoldsBooks first) → IsStoredIn names book (trees_held held)
     → StandsAt names book (view store)
 opened_stands names book first store ready found held kept = λ clean. record {
-  rest = record {
-    is_open = ready.is_open clean;
-    sound = ready.sound clean;
-    settled = ready.clean;
-  };
+  rest = opened_rests store ready clean;
   kept = subst (IsStoredIn names book) (sym (found (clean_of _ clean) held)) kept;
 }
 

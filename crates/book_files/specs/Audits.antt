@@ -29,6 +29,12 @@ SoundAreOurs =
     (counts : Counts) (image : Image) → HoldCounted counts image
     → ∥ HoldsOurBooks file_names image ∥₁
 
+-- Whatever trees of books files held, they hold them, also where no book can be read back from them.
+abbrev pub HoldSameTrees : Image → Image → Type 0
+HoldSameTrees found image =
+    (held : HoldsBooks found)
+    → ∥ ((left : HoldsBooks image) × (trees_held left ≡ trees_held held)) ∥₁
+
 -- what an audit finds wrong it finds for such a reason
 abbrev pub FindsWrongBy : Type 0 → Audited → Type 0
 FindsWrongBy Why audited = (finding : Finding) → audited ≡ Unsound finding → Why

@@ -1,5 +1,5 @@
 -- What is left of a store of books, and of the files in which it was closed.
-use Rattle.std.specs.Prelude.{IsTrue, Result}
+use Rattle.std.specs.Prelude.{◌≡◌, IsTrue, Result}
 use Rattle.sqlite_disk.specs.declared.Disk.{Ghosts}
 use Rattle.sqlite_trees.specs.Tree.{Trees}
 use Rattle.sqlite_trees.specs.View.{View, IsClean}
@@ -8,7 +8,9 @@ use Rattle.book_model.specs.Words.{Book}
 use Rattle.book_core.specs.Transition.{Transition}
 use Rattle.book_trees.specs.Closing.{MayBeFound}
 use Rattle.book_trees.specs.declared.closing.Closed.{Closed}
+use Rattle.book_trees.specs.LedgerFiles.{HoldsBooks, trees_held}
 use Rattle.tree_tables.specs.States.{State, HasCleanDisk}
+use Rattle.table_ledger.specs.Commits.{IsAtRest}
 use Rattle.table_ledger.specs.Ready.{IsStoredIn}
 use Rattle.book_restarts.specs.FileBooks.{HoldsBook, LeavesBook, LeavesTrees, StandsAt, file_names}
 use Rattle.book_files.specs.NewBooks.{IsEmpty, LeavesNew, LeavesNewBooks}
@@ -44,6 +46,17 @@ abbrev pub CloseKeepsBook : {D : Type 0} (g : Ghosts D) → View → Closed D �
 CloseKeepsBook g found closed =
     (book : Book) → StandsAt file_names book found
     → CloseLeaves g closed (HoldsBook file_names book)
+
+-- a stop leaves the trees of a store that was at rest, whatever they hold
+abbrev pub StopKeepsTrees : View → State → Type 0
+StopKeepsTrees found left =
+    (IsClean found → IsAtRest found) → StopLeaves left (λ trees. trees ≡ found.trees)
+
+-- a close leaves them in the files
+abbrev pub CloseKeepsTrees : {D : Type 0} (g : Ghosts D) → View → Closed D → Type 0
+CloseKeepsTrees g found closed =
+    (IsClean found → IsAtRest found)
+    → CloseLeaves g closed (λ image. ∥ ((held : HoldsBooks image) × (trees_held held ≡ found.trees)) ∥₁)
 
 -- Of a store that had no row a stop leaves new books; or, where they were not made, its tables as they
 -- were.

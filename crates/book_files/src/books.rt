@@ -14,8 +14,9 @@ ghost use Rattle.book_trees.specs.Closing.{HaveFailed, IsShort};
 ghost use Rattle.book_files.specs.Audits.{FindsWrongBy};
 ghost use Rattle.book_files.specs.Causes.{HasFaultCause, IsResumed, IsUnvisitedFor};
 ghost use Rattle.book_files.specs.Faults.{store_fault};
-ghost use Rattle.book_files.specs.Stores.{CloseGoesOn, CloseKeepsBook, CloseLeaves, CloseLeavesNew};
-ghost use Rattle.book_files.specs.Stores.{StopGoesOn, StopKeepsBook, StopLeaves, StopLeavesNew};
+ghost use Rattle.book_files.specs.Stores.{CloseGoesOn, CloseKeepsBook, CloseKeepsTrees};
+ghost use Rattle.book_files.specs.Stores.{CloseLeaves, CloseLeavesNew, StopGoesOn, StopKeepsBook};
+ghost use Rattle.book_files.specs.Stores.{StopKeepsTrees, StopLeaves, StopLeavesNew};
 ghost use Rattle.book_files.specs.Unused.{SaysUnused, are_unused, unused_by};
 ghost use Rattle.book_files.specs.Upgrades.{HoldsUpgraded, LeavesUpgraded, MayBringOver};
 ghost use Rattle.book_files.specs.Upgrades.{RestsBroughtOver};
@@ -306,7 +307,7 @@ fn audit_in<S: Store, W: Watch>(
     watch: &mut W,
 ) -> (Result<Audited, RepositoryFault>, S)
     requires { IsClean (S.Store.view store) → HasShapes (S.Store.view store) }
-    ensures held { StopKeepsBook (S.Store.view store) (state S.Store result.1) }
+    ensures same { StopKeepsTrees (S.Store.view store) (state S.Store result.1) }
     ensures book { IfOk result.0 (λ audited. (counts : Counts) → audited ≡ Audited.Sound counts
         → IsClean (S.Store.view result.1)
         → AreOfBook file_names (S.Store.view store).trees counts) }
@@ -321,14 +322,14 @@ fn audit_in<S: Store, W: Watch>(
 
 /// Audits the books in a file that was looked through, and closes it. Nothing is written, and what
 /// its log holds is left there: whatever may be found of the file then, and wherever a stop comes
-/// within this, holds the books as they were.
+/// within this, holds the trees as they were, whatever these hold.
 pub(crate) fn audit_and_close<D: Disk, W: Watch>(
     alloc: Global,
     store: FileStore<D>,
     watch: &mut W,
 ) -> (Result<Audited, RepositoryFault>, Closed<D>)
     requires { HasShapes (view store) }
-    ensures held { CloseKeepsBook D.Disk (view store) result.1 }
+    ensures same { CloseKeepsTrees D.Disk (view store) result.1 }
     ensures book { IfOk result.0 (λ audited. (counts : Counts) → audited ≡ Audited.Sound counts
         → AreClean D.Disk result.1.files.log result.1.files.db
         → AreOfBook file_names (view store).trees counts) }

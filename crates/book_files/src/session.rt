@@ -7,7 +7,7 @@ ghost use Rattle.sqlite_wal.specs.Recovery.{Image};
 ghost use Rattle.book_model.specs.Words.{Event};
 ghost use Rattle.book_core.specs.Transition.{NoEvent};
 ghost use Rattle.book_audit.specs.declared.audited.Counts.{Counts};
-ghost use Rattle.book_files.specs.Audits.{HoldCounted, WhyUnsound};
+ghost use Rattle.book_files.specs.Audits.{HoldCounted, HoldSameTrees, WhyUnsound};
 ghost use Rattle.book_files.specs.Causes.{HaveBookRow, WhyNotAudited, WhyNotContinued, WhyNotMade};
 ghost use Rattle.book_files.specs.Causes.{WhyNotUpgraded, WhyNotVisited};
 ghost use Rattle.book_files.specs.Faults.{first_answer, resume_fault};
@@ -174,6 +174,10 @@ pub fn audit_at<S: Start, W: Watch>(
 ) -> (Result<Audited, RepositoryFault>, Ended<FileFrom<S>>)
     ensures history { FilesGoOn ⟦<FileFrom<S> as Disk>⟧ NoEvent (image_at S.Start) result.1 }
     ensures unopened { AreAsFound ⟦<FileFrom<S> as Disk>⟧ (image_at S.Start) result.1 }
+
+    // So are their trees as they were, also where no book can be read back from them.
+    ensures same { (image : Image) → MayFollow ⟦<FileFrom<S> as Disk>⟧ result.1 image
+        → HoldSameTrees (image_at S.Start) image }
 
     // Files that are called sound hold a book, whoever wrote them, and the counts are its own. Any
     // other answer too is given of no files but those that list the tables of books.

@@ -1,9 +1,8 @@
-use Rattle.std.proofs.Common.{arith}
-use Rattle.sqlite_store.specs.FileStore.{faults}
+use Rattle.std.proofs.Common.{◌≡◌, arith}
+use Rattle.sqlite_store.specs.FileStore.{faults, view}
 use Rattle.sqlite_trees.proofs.Doubt.{no_doubt}
-use Rattle.book_restarts.specs.FileBooks.{file_names}
+use Rattle.sqlite_trees.specs.Tree.{Trees}
 use Rattle.book_trees.proofs.ClosedFiles.{files_failed}
-use Rattle.table_ledger.specs.Ready.{IsStoredIn}
 use Rattle.book_files.proofs.Causes.{ok_so, since_none}
 use Rattle.book_files.proofs.SessionParts.{close_leaves}
 use Rattle.book_files.proofs.books.audit_and_close.Goals as goal
@@ -15,9 +14,10 @@ returns g c =
     let store = audited.result.1 in
     let files = closed.result.files in
     record {
-      held = λ book stands.
-          close_leaves g.D.Disk store closed.result (IsStoredIn file_names book)
-          closed.ensures.honest closed.ensures.left (audited.ensures.held book stands);
+      same = λ rests.
+          close_leaves g.D.Disk store closed.result
+          (λ (trees : Trees). trees ≡ (view c.args.store).trees) closed.ensures.honest
+          closed.ensures.left (audited.ensures.same rests);
       book = ok_so audited.result.0 audited.ensures.book (λ told book counts is honest.
           book counts is (no_doubt _ (closed.ensures.honest honest)));
       own = ok_so audited.result.0 audited.ensures.own (λ told own honest ours finding is.

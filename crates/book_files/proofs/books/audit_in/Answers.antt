@@ -1,4 +1,4 @@
-use Rattle.std.proofs.Common.{◌∙◌, ◌≡◌, subst, sym}
+use Rattle.std.proofs.Common.{◌∙◌, ◌≡◌, sym}
 use Rattle.sqlite_disk.specs.Disk.{MoreFaults}
 use Rattle.sqlite_trees.specs.View.{IsClean}
 use Rattle.book_audit.specs.OfBook.{AreOfBook}
@@ -8,7 +8,6 @@ use Rattle.book_audit.specs.declared.audited.Counts.{Counts}
 use Rattle.book_restarts.proofs.OpenStores.{clean_before}
 use Rattle.book_restarts.specs.FileBooks.{file_names}
 use Rattle.named_books.specs.declared.repository.RepositoryFault.TheVariants.{Ledger}
-use Rattle.table_ledger.specs.Ready.{IsStoredIn}
 use Rattle.book_files.specs.Audits.{FindsWrongBy}
 use Rattle.book_files.proofs.Causes.{mapped_ok, ok_so}
 use Rattle.book_files.proofs.books.audit_in.Goals as goal
@@ -20,10 +19,9 @@ returns g c =
     let old = c.args.store in
     let new = audited.result.1 in
     record {
-      held = λ book stands clean trees left.
-          let at = stands (clean_before _ _ quiet.clean clean) in
-          subst (IsStoredIn file_names book) (sym (g.met.S.Store.settled old trees
-          at.rest.is_open (quiet.outcomes trees left) ∙ sym at.rest.settled)) at.kept;
+      same = λ rests clean trees left.
+          let rest = rests (clean_before _ _ quiet.clean clean) in
+          g.met.S.Store.settled old trees rest.is_open (quiet.outcomes trees left) ∙ sym rest.settled;
       book = mapped_ok (λ audited. (counts : Counts) → audited ≡ Sound counts
           → IsClean (g.S.Store.view new) → AreOfBook file_names (g.S.Store.view old).trees counts)
           Ledger audited.result.0 c.map_err.result c.map_err.ensures.cases audited.ensures.book;

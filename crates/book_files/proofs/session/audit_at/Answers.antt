@@ -16,22 +16,34 @@ use Rattle.book_audit.specs.Own.{AreOwn}
 use Rattle.book_files.specs.Audits.{WhyUnsound}
 use Rattle.book_files.specs.Sessions.{MayFollow}
 use Rattle.book_files.specs.declared.session.Ended.TheVariants.{Refused}
-use Rattle.book_files.proofs.AuditParts.{looked_listed, never_unsound, own_trees}
+use Rattle.book_files.proofs.AuditParts.{audited_same, looked_listed, never_unsound, own_trees}
+use Rattle.book_files.proofs.AuditParts.{refused_same, same_goes_on}
 use Rattle.book_files.proofs.Causes.{ok_each, ok_so}
-use Rattle.book_files.proofs.SessionParts.{found_clean, held_goes_on, refused_goes_on}
+use Rattle.book_files.proofs.SessionParts.{found_clean}
 use Rattle.book_files.proofs.session.audit_at.Goals as goal
+
+pub returns-in-Ok-clause-same : goal.returns-in-Ok-clause-same
+returns-in-Ok-clause-same g c = λ image may.
+    let audited = c.audit_and_close-audited in
+    let disk = modelled.ghosts the_row g.row.S host.ghosts host.dict g.S.Start g.S.Start-dict
+    g.S.Destruct-dict in
+    audited_same (image_at g.S.Start) image c.in-Ok.store c.in-Ok.ensures.ready c.in-Ok.ensures.found
+    (clean_of _ (audited.ensures.clean (found_clean disk audited.result.1.files image may.1)))
+    (λ rests. audited.ensures.same rests may.0 image may.1)
+
+pub returns-in-Err-clause-same : goal.returns-in-Err-clause-same
+returns-in-Err-clause-same g c = λ image may.
+    refused_same (modelled.ghosts the_row g.row.S host.ghosts host.dict g.S.Start g.S.Start-dict
+    g.S.Destruct-dict) (λ file. inl refl) (image_at g.S.Start) c.in-Err.files c.in-Err.ensures.kept
+    image may
 
 pub returns-in-Ok-clause-history : goal.returns-in-Ok-clause-history
 returns-in-Ok-clause-history g c = λ image may.
-    held_goes_on file_names (image_at g.S.Start) image c.in-Ok.store c.in-Ok.ensures.ready
-    c.in-Ok.ensures.found
-    (λ book stands. c.audit_and_close-audited.ensures.held book stands may.0 image may.1)
+    same_goes_on file_names (image_at g.S.Start) image (returns-in-Ok-clause-same g c image may)
 
 pub returns-in-Err-clause-history : goal.returns-in-Err-clause-history
 returns-in-Err-clause-history g c = λ image may.
-    refused_goes_on (modelled.ghosts the_row g.row.S host.ghosts host.dict g.S.Start g.S.Start-dict
-    g.S.Destruct-dict) (λ file. inl refl) file_names (image_at g.S.Start) c.in-Err.files
-    c.in-Err.ensures.kept image may
+    same_goes_on file_names (image_at g.S.Start) image (returns-in-Err-clause-same g c image may)
 
 pub returns-in-Ok-clause-own : goal.returns-in-Ok-clause-own
 returns-in-Ok-clause-own g c =
