@@ -1,20 +1,34 @@
 -- How an audit ends.
-use Rattle.std.proofs.Common.{◌≡◌, ℕ, List, Option, Result, Ok, Err, ap, inr}
-use Rattle.std.specs.Prelude.{IsErrAnd}
+use Rattle.std.proofs.Common.{◌≡◌, ℕ, List, Option, Result, Ok, Err, ap, inl, inr, refl, subst, sym}
+use Rattle.std.proofs.KnownBytes.{Appends-nil}
 use Rattle.std.specs.declared.io.ErrorKind.TheVariants.{OutOfMemory}
 use Rattle.book_model.specs.declared.fault.LedgerFault.TheVariants as ledger
 use Rattle.book_audit.specs.declared.audited.Audited.{Audited}
 use Rattle.book_audit.specs.declared.audited.Audited.TheVariants.{Sound, Unsound}
+use Rattle.book_audit.specs.declared.finding.Finding.{Finding}
+use Rattle.book_audit.specs.Texts.{IsAuditText}
 use Rattle.chargectl.specs.declared.command_fault.CommandFault.{CommandFault}
 use Rattle.chargectl.specs.declared.command_fault.CommandFault.TheVariants as fault
 use Rattle.chargectl.specs.Audits.{EndsAudit}
+use Rattle.chargectl.specs.Commands.{IsPrinted}
 
 -- there was no memory for the text
-pub audit_memory : (audited : Audited) (held holds : Option (List ℕ))
-    (result : Result (Unit {0}) CommandFault)
-    → IsErrAnd result (λ why. why ≡ fault.Ledger ledger.Memory)
-    → EndsAudit (Ok audited) held holds result
-audit_memory (Sound counts) held holds (Ok done) is = absurd is
-audit_memory (Sound counts) held holds (Err why) is = (OutOfMemory, is)
-audit_memory (Unsound finding) held holds (Ok done) is = absurd is
-audit_memory (Unsound finding) held holds (Err why) is = inr (ap Err is)
+pub audit_memory : (audited : Audited) (held : Option (List ℕ)) (why : CommandFault)
+    → why ≡ fault.Ledger ledger.Memory → EndsAudit (Ok audited) held held (Err why)
+audit_memory (Sound counts) held why is = (inl (OutOfMemory, is), 0, Appends-nil held)
+audit_memory (Unsound finding) held why is = inr (refl, ap Err is)
+
+-- unsound books were found, and it was printed, as far as the output took it
+pub audit_unsound : (audited : Audited) (finding : Finding) (text : List ℕ)
+    (held holds : Option (List ℕ)) (written : Result (Unit {0}) CommandFault)
+    → audited ≡ Unsound finding → IsAuditText audited text → IsPrinted text held holds written
+    → EndsAudit (Ok audited) held holds (Err fault.Unsound)
+audit_unsound audited finding text held holds written is said printed =
+    subst (λ audited. EndsAudit (Ok audited) held holds (Err fault.Unsound)) (sym is)
+    (inl (record {
+      text = text;
+      is = subst (λ audited. IsAuditText audited text) is said;
+      written = written;
+      printed = printed;
+      ends = refl;
+    }))

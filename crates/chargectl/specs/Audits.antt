@@ -3,24 +3,35 @@ use Rattle.std.specs.Prelude.{◌≡◌, ◌⊎◌, false, ℕ, List, Option, No
 use Rattle.book_model.specs.declared.fault.LedgerFault.TheVariants as ledger
 use Rattle.book_audit.specs.declared.audited.Audited.{Audited}
 use Rattle.book_audit.specs.declared.audited.Audited.TheVariants.{Sound, Unsound}
+use Rattle.book_audit.specs.declared.finding.Finding.{Finding}
 use Rattle.book_audit.specs.Copies.{IsAudited, IsCopied}
-use Rattle.book_audit.specs.Texts.{sound_text}
+use Rattle.book_audit.specs.Texts.{IsAuditText, sound_text}
 use Rattle.named_books.specs.declared.repository.RepositoryFault.{RepositoryFault}
 use Rattle.named_books.specs.Shelves.{Shelf, IsUntouched}
 use Rattle.chargectl.specs.declared.command_fault.CommandFault.{CommandFault}
 use Rattle.chargectl.specs.declared.command_fault.CommandFault.TheVariants as fault
 use Rattle.chargectl.specs.declared.ended.Ended.{Ended}
-use Rattle.chargectl.specs.Commands.{IsRefusedBy}
-use Rattle.chargectl.specs.Faults.{EndsText, shelf_fault}
+use Rattle.chargectl.specs.Commands.{IsPrinted, IsRefusedBy}
+use Rattle.chargectl.specs.Faults.{shelf_fault}
 
--- Of sound books the lines are written, unless the output failed or there was no memory for them. Books
--- that are unsound end the command so, whatever became of the text, unless there was no memory for it. Of
--- books that were not opened nothing is written.
+-- Books that are unsound end the command so, whatever becomes of the text that says it: the whole of it is
+-- written, or the output fails, and has a prefix of it.
+pub record EndsUnsound (finding : Finding) (held holds : Option (List ℕ))
+    (came : Result (Unit {0}) CommandFault) : Type 0 where
+  pub text : List ℕ
+  pub is : IsAuditText (Unsound finding) text
+  pub written : Result (Unit {0}) CommandFault
+  pub printed : IsPrinted text held holds written
+  pub ends : came ≡ Err fault.Unsound
+
+-- Of sound books the lines are written, or a prefix of them where the output fails, or nothing where there
+-- was no memory for them. Unsound ones are called so, unless there was no memory for that. Of books that
+-- were not opened nothing is written.
 abbrev pub EndsAudit : Result Audited RepositoryFault → Option (List ℕ) → Option (List ℕ)
     → Result (Unit {0}) CommandFault → Type 0
-EndsAudit (Ok (Sound counts)) held holds came = EndsText (sound_text counts) held holds came
-EndsAudit (Ok (Unsound finding)) held holds came =
-    (came ≡ Err fault.Unsound) ⊎ (came ≡ Err (fault.Ledger ledger.Memory))
+EndsAudit (Ok (Sound counts)) held holds came = IsPrinted (sound_text counts) held holds came
+EndsAudit (Ok (Unsound finding)) held holds came = EndsUnsound finding held holds came
+    ⊎ ((holds ≡ held) × (came ≡ Err (fault.Ledger ledger.Memory)))
 EndsAudit (Err fault) held holds came = (holds ≡ held) × (came ≡ Err (shelf_fault fault))
 
 -- This was done where books were audited with this answer, and whether their log is left.

@@ -1,14 +1,14 @@
 //! Audits of books, and of copies of them.
 
-ghost use Rattle.std.specs.Prelude.{string_bytes};
 ghost use Rattle.chargectl.specs.Audits.{AuditsBooks, BacksUp, EndsAudit};
-ghost use Rattle.chargectl.specs.Faults.{EndsText};
 
+use crate::book_commands::print;
 use crate::command_fault::CommandFault;
 use crate::ended::Ended;
 use crate::progress::WatchedRows;
 use book_audit::{Audited, AuditedRepository, audit_text};
 use named_books::{Opened, RepositoryFault};
+use office::Answer;
 use std::alloc::Global;
 use std::io::{IsTerminal, Write};
 
@@ -18,21 +18,25 @@ pub(crate) fn audit<S: AuditedRepository, O: Write + Drop>(
     repository: &S,
     book: &str,
     quiet: bool,
-    output: &mut O,
-) -> Result<Ended, CommandFault>
+    output: O,
+) -> (Result<Ended, CommandFault>, O)
     ensures { AuditsBooks book.now (S.shelf repository.now) (S.shelf repository.now)
-        (O.contents output.old) (O.contents output.new) result }
+        (O.contents output) (O.contents result.1) result.0 }
 {
-    repository.expect(book)?;
+    if let Err(fault) = repository.expect(book) {
+        return (Err(CommandFault::from(fault)), output);
+    }
     let mut rows = WatchedRows::new(rt, !quiet && rt.stderr().is_terminal());
     let Opened { answer, has_log } = repository.audit(book, &mut rows);
     rows.clear();
-    Ok(Ended {
-        came: show_audited(rt.alloc(), answer, output),
+    let (came, output) = show_audited(rt.alloc(), answer, output);
+    let ended = Ended {
+        came,
         has_log,
         is_change: false,
         notice: None,
-    })
+    };
+    (Ok(ended), output)
 }
 
 /// Copies books to another file, audits the copy, and prints the result.
@@ -42,58 +46,56 @@ pub(crate) fn back_up<S: AuditedRepository, O: Write + Drop>(
     book: &str,
     copy: &str,
     quiet: bool,
-    output: &mut O,
-) -> Result<Ended, CommandFault>
+    output: O,
+) -> (Result<Ended, CommandFault>, O)
     ensures { BacksUp book.now copy.now (S.shelf repository.old) (S.shelf repository.new)
-        (O.contents output.old) (O.contents output.new) result }
+        (O.contents output) (O.contents result.1) result.0 }
 {
-    repository.expect(book)?;
+    if let Err(fault) = repository.expect(book) {
+        return (Err(CommandFault::from(fault)), output);
+    }
     let mut rows = WatchedRows::new(rt, !quiet && rt.stderr().is_terminal());
     let Opened { answer, has_log } = repository.back_up(book, copy, &mut rows);
     rows.clear();
-    Ok(Ended {
-        came: show_audited(rt.alloc(), answer, output),
+    let (came, output) = show_audited(rt.alloc(), answer, output);
+    let ended = Ended {
+        came,
         has_log,
         is_change: false,
         notice: None,
-    })
+    };
+    (Ok(ended), output)
 }
 
-/// Prints what came of an audit. Books that are unsound end the command so, whatever became of the
-/// text.
+/// Prints what came of an audit.
 fn show_audited<O: Write + Drop>(
     alloc: Global,
     audited: Result<Audited, RepositoryFault>,
-    output: &mut O,
-) -> Result<(), CommandFault>
-    ensures { EndsAudit audited (O.contents output.old) (O.contents output.new) result }
+    output: O,
+) -> (Result<(), CommandFault>, O)
+    ensures { EndsAudit audited (O.contents output) (O.contents result.1) result.0 }
 {
     match audited {
         Ok(audited) => write_audited(alloc, &audited, output),
-        Err(fault) => Err(CommandFault::from(fault)),
+        Err(fault) => (Err(CommandFault::from(fault)), output),
     }
 }
 
+/// Writes what was found. Books that are unsound end the command so, whatever became of the text.
 fn write_audited<O: Write + Drop>(
     alloc: Global,
     audited: &Audited,
-    output: &mut O,
-) -> Result<(), CommandFault>
-    ensures { EndsAudit (Ok audited.now) (O.contents output.old) (O.contents output.new) result }
+    output: O,
+) -> (Result<(), CommandFault>, O)
+    ensures { EndsAudit (Ok audited.now) (O.contents output) (O.contents result.1) result.0 }
 {
-    let text = audit_text(alloc, audited)?;
-    let written = write_text(&text, output);
+    let text = match audit_text(alloc, audited) {
+        Ok(text) => text,
+        Err(fault) => return (Err(CommandFault::from(fault)), output),
+    };
+    let (written, output) = print(&Answer::Text(text.into_bytes()), output);
     match audited {
-        Audited::Sound(_) => written,
-        Audited::Unsound(_) => Err(CommandFault::Unsound),
+        Audited::Sound(_) => (written, output),
+        Audited::Unsound(_) => (Err(CommandFault::Unsound), output),
     }
-}
-
-/// Writes a text, so that it has left the program.
-fn write_text<O: Write + Drop>(text: &String, output: &mut O) -> Result<(), CommandFault>
-    ensures { EndsText (string_bytes text.now) (O.contents output.old) (O.contents output.new)
-        result }
-{
-    write!(output, "{text}")?;
-    Ok(output.flush()?)
 }

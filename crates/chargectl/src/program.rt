@@ -144,11 +144,11 @@ fn run_on_books<S: AuditedRepository, O: Write + Drop>(
         }
         BookRequest::Upgrade => (settled(upgrade(repository, book, &mut output)), output),
         BookRequest::Audit { quiet } => {
-            let audited = audit(rt, repository, book, quiet, &mut output);
+            let (audited, output) = audit(rt, repository, book, quiet, output);
             (settled(audited), output)
         }
         BookRequest::BackUp { copy, quiet } => {
-            let audited = back_up(rt, repository, book, copy, quiet, &mut output);
+            let (audited, output) = back_up(rt, repository, book, copy, quiet, output);
             (settled(audited), output)
         }
         BookRequest::Serve { port, requests } => {

@@ -1,7 +1,12 @@
-use Rattle.chargectl.proofs.AuditLemmas.{audit_memory}
+use Rattle.std.specs.Prelude.{string_bytes}
+use Rattle.chargectl.proofs.AuditLemmas.{audit_memory, audit_unsound}
 use Rattle.chargectl.proofs.audits.write_audited.Goals as goal
 
-pub returns-in_err-text : goal.returns-in_err-text
-returns-in_err-text g c =
-    let held = g.O.Write.contents c.args.output.now in
-    audit_memory c.args.audited.now held held c.from_residual.result c.from_residual.ensures.1
+pub returns-in-Err : goal.returns-in-Err
+returns-in-Err g c =
+    audit_memory c.args.audited.now (g.O.Write.contents c.args.output) c.from.result c.from.ensures
+
+pub returns-in-Unsound : goal.returns-in-Unsound
+returns-in-Unsound g c =
+    audit_unsound c.args.audited.now _ (string_bytes c.text) _ _ _ c.in-Unsound.is
+    c.audit_text.ensures c.print-written.ensures
