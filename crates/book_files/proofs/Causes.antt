@@ -1,8 +1,8 @@
 -- Why a session has no answer.
 use Rattle.std.proofs.Common.{◌≡◌, ◌∙◌, ℕ, Bool, Result, Ok, Err, Option, None, Some, inl, inr, refl}
-use Rattle.std.proofs.Common.{◌⊎◌, arith, false, subst, sym, IsTrue}
+use Rattle.std.proofs.Common.{◌⊎◌, ◌≢◌, arith, false, subst, sym, IsTrue}
 use Rattle.std.proofs.Math.Logic.{∥∥₁_elim, ∥∥₁_map, ∥∥₁_prop}
-use Rattle.std.specs.Prelude.{IfErr, IfOk, IsErrAnd, MatchOption, MatchResult}
+use Rattle.std.specs.Prelude.{IfErr, IfOk, IfSome, IsErrAnd, MatchOption, MatchResult}
 use Rattle.sqlite_disk.specs.Disk.{MoreFaults}
 use Rattle.sqlite_disk.specs.declared.Disk.{Ghosts}
 use Rattle.sqlite_disk.specs.declared.files.Files.{Files}
@@ -11,17 +11,20 @@ use Rattle.sqlite_store.specs.declared.store.FileStore.{FileStore}
 use Rattle.sqlite_trees.proofs.Doubt.{clean_of}
 use Rattle.sqlite_trees.specs.Tree.{Trees}
 use Rattle.sqlite_trees.specs.View.{IsClean}
+use Rattle.sqlite_wal.specs.Reads.{AreClean}
 use Rattle.sqlite_wal.specs.Recovery.{Image}
 use Rattle.book_model.specs.Words.{Book, Naming}
 use Rattle.book_model.specs.declared.fault.LedgerFault.{LedgerFault}
 use Rattle.book_model.specs.declared.fault.LedgerFault.TheVariants as ledger
 pub use Rattle.book_trees.proofs.CopyLemmas.{err_so}
 use Rattle.book_trees.specs.Copies.{IsCopyRefusedFor}
-use Rattle.book_trees.specs.FirstForm.{IsFirstRefusedFor, IsUnopenedFirst}
+use Rattle.book_trees.specs.FirstForm.{HoldsFirstForm, IsFirstRefusedFor, IsToldThis}
+use Rattle.book_trees.specs.FirstForm.{IsUnopenedFirst}
 use Rattle.book_trees.specs.Forms.{HoldsThisForm}
 use Rattle.book_trees.specs.LedgerFiles.{image_of, HoldsBooks, trees_held}
 use Rattle.book_trees.specs.Looks.{IsUnopenedLook}
-use Rattle.book_trees.specs.Refusals.{IsRefusedFor, IsUnopened}
+use Rattle.book_trees.specs.Refusals.{AreFull, IsRefusedFor, IsUnopened}
+use Rattle.book_trees.specs.declared.closing.Closed.{Closed}
 use Rattle.book_trees.specs.declared.faults.OpenFault.{OpenFault}
 use Rattle.book_trees.specs.declared.faults.OpenFault.TheVariants as opening
 use Rattle.book_trees.specs.declared.first_form.FirstFault.{FirstFault}
@@ -29,11 +32,14 @@ use Rattle.book_trees.specs.declared.first_form.FirstFault.TheVariants as form
 use Rattle.book_trees.specs.declared.integrity.LookFault.{LookFault}
 use Rattle.book_trees.specs.declared.integrity.LookFault.TheVariants.{Pages, Open}
 use Rattle.book_files.specs.Causes.{HasFaultCause, HasNoAnswerFor, HaveNoBookRow, HoldsOurBooks}
-use Rattle.book_files.specs.Causes.{HoldsOurs, IsWithoutFiles, ShowsOurBooks, ShowsOurs, WhyNotCopied}
+use Rattle.book_files.specs.Causes.{HoldsOurs, IsToldOfThis, IsWithoutFiles, ShowsOurBooks, ShowsOurs}
+use Rattle.book_files.specs.Causes.{WhyNotCopied}
 use Rattle.book_files.specs.Faults.{first_answer, not_copied, open_fault}
+use Rattle.book_files.specs.Upgrades.{upgrade_answer}
 use Rattle.book_files.specs.declared.session.Ended.TheVariants.{Refused}
+use Rattle.book_files.specs.declared.session.Ended.TheVariants as ended
 use Rattle.book_files.proofs.NewParts.{opened_empty}
-use Rattle.book_files.proofs.SessionParts.{opened_stands}
+use Rattle.book_files.proofs.SessionParts.{found_clean, opened_stands}
 use Rattle.named_books.specs.declared.repository.RepositoryFault.{RepositoryFault}
 use Rattle.named_books.specs.declared.repository.RepositoryFault.TheVariants.{Io, Exists, Busy, Ledger}
 use Rattle.table_model.specs.Readable.{IsReadable}
@@ -212,6 +218,47 @@ module _ {D : Type 0} (g : Ghosts D) (Held : Type 0) (AtLimit : Files D → Type
   first_cause (form.Open opening.Store) (Some files) cause = λ clean. inl (cause clean)
   first_cause (form.Open opening.Busy) (Some files) cause = cause
   first_cause (form.Open opening.Path) (Some files) cause = cause
+
+-- files that were opened hold no books of this form
+pub opened_not_this : {D : Type 0} (g : Ghosts D) (closed : Closed D)
+    → (AreClean g closed.files.log closed.files.db → ⊥)
+    → (result : Result (Unit {0}) RepositoryFault)
+    → IsToldOfThis g (upgrade_answer result) (ended.Closed closed)
+opened_not_this g closed never (Ok done) = λ image may.
+    never (found_clean g closed.files image may.1)
+opened_not_this g closed never (Err why) = never
+
+-- but for two faults, none says that books are of this form
+not_this : (why : OpenFault) → why ≢ opening.NewForm → IsToldThis (form.Open why) → ⊥
+not_this why other (inl is) = absurd (cc)
+not_this why other (inr is) = other (cc)
+
+-- files that hold such books are told to, or were not opened
+pub refused_this : {D : Type 0} (g : Ghosts D) (found : Image) → HoldsBooks found → (why : FirstFault)
+    (files : Option (Files D))
+    → MatchOption files (IsUnopenedFirst why)
+    (IsFirstRefusedFor g (HoldsFirstForm found) (AreFull g) why)
+    → ((IsToldThis why → ⊥)
+    → IfSome files (IsFirstRefusedFor g (HoldsBooks found) (AreFull g) why))
+    → IsToldOfThis g (first_answer why) (Refused files)
+refused_this g found held form.Already files cause this = tt
+refused_this g found held form.Pages None cause this = absurd cause
+refused_this g found held form.Pages (Some files) cause this = λ clean.
+    absurd (this (λ told. elim told [ inl is ↦ absurd (cc) | inr is ↦ absurd (cc) ]) clean held)
+refused_this g found held (form.Open why) None cause this =
+    without_files open_fault refl refl refl why cause
+refused_this g found held (form.Open opening.NotBooks) (Some files) cause this = λ clean.
+    absurd (this (not_this opening.NotBooks (λ is. absurd (cc))) clean held)
+refused_this g found held (form.Open opening.OldForm) (Some files) cause this = λ clean.
+    absurd (this (not_this opening.OldForm (λ is. absurd (cc))) clean held)
+refused_this g found held (form.Open opening.NewForm) (Some files) cause this = λ clean. inl refl
+refused_this g found held (form.Open opening.Memory) (Some files) cause this = λ clean. inr tt
+refused_this g found held (form.Open opening.Store) (Some files) cause this = λ clean.
+    inr (this (not_this opening.Store (λ is. absurd (cc))) clean)
+refused_this g found held (form.Open opening.Busy) (Some files) cause this = λ clean.
+    absurd (cause clean)
+refused_this g found held (form.Open opening.Path) (Some files) cause this = λ clean.
+    absurd (cause clean)
 
 -- files of which there is no copy have the cause of the copying
 pub uncopied_cause : {A B : Type 0} (one : Ghosts A) (two : Ghosts B) (found : Image)

@@ -5,7 +5,7 @@ use Rattle.std.proofs.Common.{false, inl, inr, refl, subst, sym, ap, arith}
 use Rattle.std.proofs.Math.Logic.{∥∥₁_elim, ∥∥₁_map, ∥∥₁_prop}
 use Rattle.std.proofs.lemmas.Bool.{cases_Bool}
 use Rattle.std.proofs.lemmas.Bool.Decides.{nat_tests}
-use Rattle.std.specs.Prelude.{◌==◌, IfErr, IfSome, MatchOption}
+use Rattle.std.specs.Prelude.{◌==◌, IfErr, IfOk, IfSome, MatchOption}
 use Rattle.sqlite_disk.specs.declared.Disk.{Ghosts}
 use Rattle.sqlite_disk.specs.declared.files.Files.{Files}
 use Rattle.sqlite_store.specs.FileStore.{recovers, state, view, IsReady}
@@ -41,7 +41,7 @@ use Rattle.book_files.specs.Faults.{first_answer}
 use Rattle.book_files.specs.Sessions.{MayFollow}
 use Rattle.book_files.specs.Upgrades.{BringsOver, HoldsFirstHistory, HoldsUpgraded}
 use Rattle.book_files.specs.Upgrades.{IsBroughtOver, LeavesUpgraded, MayBringOver}
-use Rattle.book_files.specs.Upgrades.{RestsBroughtOver, upgrade_answer}
+use Rattle.book_files.specs.Upgrades.{RestsBroughtOver, TellsThisForm, upgrade_answer}
 use Rattle.book_files.specs.declared.session.Ended.TheVariants.{Refused}
 use Rattle.book_files.proofs.NewParts.{said_tables}
 use Rattle.book_files.proofs.SessionParts.{found_clean, refused_tables}
@@ -244,3 +244,15 @@ pub told_why : (Why : RepositoryFault → Type 0) (result : Result (Unit {0}) Re
     → IfErr result Why → IfErr (upgrade_answer result) Why
 told_why Why (Ok done) told = tt
 told_why Why (Err why) told = told
+
+-- the form that is told is this one
+pub tells_form : (result : Result (Unit {0}) RepositoryFault)
+    → IfOk (upgrade_answer result) TellsThisForm
+tells_form (Ok done) = refl
+tells_form (Err why) = tt
+
+-- and none is told of files that were not opened
+pub first_tells : (why : FirstFault) → IfOk (first_answer why) TellsThisForm
+first_tells fault.Already = tt
+first_tells fault.Pages = tt
+first_tells (fault.Open why) = tt

@@ -17,12 +17,15 @@ use Rattle.book_trees.specs.Refusals.{faults_in, AreFull, StopCreating}
 use Rattle.tree_tables.specs.Holds.{has_book}
 use Rattle.book_restarts.specs.FileBooks.{HoldsBook, RestsAt, file_names}
 use Rattle.book_files.specs.NewBooks.{IsEmpty}
+use Rattle.book_files.specs.Sessions.{MayFollow}
 use Rattle.book_files.specs.declared.copies.CopyFault.{CopyFault}
 use Rattle.book_files.specs.declared.copies.CopyFault.TheVariants as copies
 use Rattle.book_files.specs.declared.session.Ended.{Ended}
 use Rattle.book_files.specs.declared.session.Ended.TheVariants.{Closed, Refused}
 use Rattle.named_books.specs.declared.repository.RepositoryFault.{RepositoryFault}
 use Rattle.named_books.specs.declared.repository.RepositoryFault.TheVariants.{Io, Exists, Busy, Ledger}
+use Rattle.named_books.specs.declared.repository.Upgraded.{Upgraded}
+use Rattle.named_books.specs.declared.repository.Upgraded.TheVariants.{Already, To}
 
 -- the files hold a book that can be read back
 pub record HoldsOurBooks (naming : Naming) (image : Image) : Type 0 where
@@ -136,6 +139,18 @@ module _ {D : Type 0} (g : Ghosts D) (found : Image) (ended : Ended D) where
       HasNoAnswerFor g (AreFull g)
       (λ Failed. HasFaultCause (¬ HoldsFirstForm found) ⊥ (Failed ⊎ (¬ HoldsFirstForm found)))
       (λ Failed. HasFaultCause (HaveNoFirstRow found) ⊥ ⊤) fault ended
+
+-- What is answered of files that hold books of this form: that they are of it; or that they are of a
+-- newer one; or that they were not opened, as a call on them failed, or met a limit of the format, or
+-- memory ran out. No such files are opened.
+abbrev pub IsToldOfThis : {D : Type 0} (g : Ghosts D) → Result Upgraded RepositoryFault → Ended D
+    → Type 0
+IsToldOfThis g (Ok Already) ended = ⊤
+IsToldOfThis g (Ok (To form)) ended = (image : Image) → MayFollow g ended image → ⊥
+IsToldOfThis g (Err fault) ended =
+    HasNoAnswerFor g (AreFull g)
+    (λ Failed other. (other ≡ Ledger ledger.NewForm) ⊎ HasFaultCause ⊥ ⊥ Failed other)
+    (λ Failed other. ⊥) fault ended
 
 -- a fault of a copy has its cause: that its pages are wrong, or that of another fault
 abbrev pub HasCopyCause : Type 0 → Type 0 → Type 0 → CopyFault → Type 0

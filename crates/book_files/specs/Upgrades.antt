@@ -1,5 +1,5 @@
 -- Books of the first form that were to be brought to this one.
-use Rattle.std.specs.Prelude.{◌≡◌, ◌⊎◌, List, Result, Ok, Err}
+use Rattle.std.specs.Prelude.{◌≡◌, ◌⊎◌, List, Result, Ok, Err, ⊤}
 use Rattle.sqlite_disk.specs.declared.Disk.{Ghosts}
 use Rattle.sqlite_store.specs.Listing.{listed_from}
 use Rattle.sqlite_trees.specs.Objects.{catalog_tree}
@@ -66,6 +66,11 @@ HoldsUpgraded naming book (Err fault) image =
 abbrev pub upgrade_answer : Result (Unit {0}) RepositoryFault → Result Upgraded RepositoryFault
 upgrade_answer (Ok done) = Ok (To this_form)
 upgrade_answer (Err fault) = Err fault
+
+-- the form that books were brought to, where that is told, is this one
+abbrev pub TellsThisForm : Upgraded → Type 0
+TellsThisForm (To form) = form ≡ this_form
+TellsThisForm Already = ⊤
 
 -- What may be found of files that held the books of a history in the first form, by what was
 -- answered: the same books in this form; or, where they were not brought over, the old books or the

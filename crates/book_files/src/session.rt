@@ -9,14 +9,14 @@ ghost use Rattle.book_core.specs.Transition.{NoEvent};
 ghost use Rattle.book_audit.specs.declared.audited.Counts.{Counts};
 ghost use Rattle.book_files.specs.Audits.{HoldCounted, HoldSameTrees, WhyUnsound};
 ghost use Rattle.book_files.specs.Causes.{HaveBookRow, WhyNotAudited, WhyNotContinued, WhyNotMade};
-ghost use Rattle.book_files.specs.Causes.{WhyNotUpgraded, WhyNotVisited};
+ghost use Rattle.book_files.specs.Causes.{IsToldOfThis, WhyNotUpgraded, WhyNotVisited};
 ghost use Rattle.book_files.specs.Faults.{first_answer, resume_fault};
 ghost use Rattle.book_files.specs.NewBooks.{NewBooksMade};
 ghost use Rattle.book_files.specs.Sessions.{AreAsFound, FilesGoOn, IsFileAlone, MayFollow};
-ghost use Rattle.book_files.specs.Upgrades.{FilesBroughtOver, upgrade_answer};
+ghost use Rattle.book_files.specs.Upgrades.{FilesBroughtOver, TellsThisForm, upgrade_answer};
 ghost use Rattle.book_restarts.specs.FileBooks.{GoesOn, HoldsHistory, done_by, file_names};
 ghost use Rattle.book_trees.specs.FirstForm.{HoldsFirstForm};
-ghost use Rattle.book_trees.specs.LedgerFiles.{HoldsEmptyBooks, HoldsNothing};
+ghost use Rattle.book_trees.specs.LedgerFiles.{HoldsBooks, HoldsEmptyBooks, HoldsNothing};
 ghost use Rattle.book_trees.specs.StoreView.{ListsBooks};
 
 use crate::books::{
@@ -240,8 +240,12 @@ pub fn upgrade_at<S: Start>(
         → FilesBroughtOver ⟦<FileFrom<S> as Disk>⟧ (image_at S.Start) result.0 result.1 }
     ensures unopened { AreAsFound ⟦<FileFrom<S> as Disk>⟧ (image_at S.Start) result.1 }
 
-    // Books of this form are left as they are, whatever is answered.
+    // Books of this form are left as they are, whatever is answered, and are told to be of it, or of
+    // a newer one. No other form than this one is told of books that were brought over.
     ensures kept { FilesGoOn ⟦<FileFrom<S> as Disk>⟧ NoEvent (image_at S.Start) result.1 }
+    ensures this { HoldsBooks (image_at S.Start)
+        → IsToldOfThis ⟦<FileFrom<S> as Disk>⟧ result.0 result.1 }
+    ensures told { IfOk result.0 TellsThisForm }
 
     // Files that hold books of the first form, and their row, are refused only because of memory
     // and the disk.

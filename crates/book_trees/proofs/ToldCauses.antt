@@ -1,5 +1,5 @@
 -- What is told of files that were refused has the cause of the fault that was met.
-use Rattle.std.proofs.Common.{ℕ, inl, inr, sym, subst, subst₂}
+use Rattle.std.proofs.Common.{◌≢◌, ℕ, inl, inr, sym, subst, subst₂}
 use Rattle.sqlite_disk.specs.declared.Disk.{Ghosts}
 use Rattle.sqlite_disk.specs.declared.files.Files.{Files}
 use Rattle.book_trees.specs.FirstForm.{HasFirstCause, IsToldFirst, IsToldThis}
@@ -75,3 +75,14 @@ module _ {D : Type 0} (g : Ghosts D) (old : ℕ) (AtLimit : Files D → Type 0) 
   first_told_cause (first.Open fault) told is cause =
       subst (λ (fault : FirstFault). HasFirstCause old (faults_in g last) (AtLimit last) Held fault)
       (sym is.1) (told_cause fault is.0 is.2 cause)
+
+  -- where files of this form are told not to be so, that has the cause of what was met
+  pub told_not_this : (fault told : FirstFault) → IsToldFirst fault files told last
+      → (fault ≢ first.Already
+      → HasFirstCause old (faults_in g files) (AtLimit files) Held fault) → (IsToldThis told → ⊥)
+      → HasFirstCause old (faults_in g last) (AtLimit last) Held told
+  told_not_this first.Already told is cause other = absurd (other is)
+  told_not_this first.Pages told is cause other =
+      first_told_cause first.Pages told is (cause (λ same. absurd (cc)))
+  told_not_this (first.Open fault) told is cause other =
+      first_told_cause (first.Open fault) told is (cause (λ same. absurd (cc)))

@@ -1,6 +1,6 @@
 //! Books of the first form are opened, to be brought to this one.
 
-ghost use Rattle.std.specs.Prelude.{◌≡◌, ◌≤◌, IfErr, IfOk, IfSome, IsTrue, MatchOption};
+ghost use Rattle.std.specs.Prelude.{◌≡◌, ◌≢◌, ◌≤◌, IfErr, IfOk, IfSome, IsTrue, MatchOption};
 ghost use Rattle.std.specs.Prelude.{OnErr, OnOk};
 ghost use Rattle.sqlite_store.specs.FileStore.{state, view, schema_of, IsReady};
 ghost use Rattle.sqlite_store.specs.Unopened.{image, state_of, wanted_by, AreUsable};
@@ -73,6 +73,12 @@ fn open_first<D: Disk>(files: Unopened<D>) -> Result<FileStore<D>, (FirstFault, 
     ensures cause { IfErr result (λ refusal. IsTrue (state_of refusal.1).is_clean
         → HasFirstCause (state_of files).faults (state_of refusal.1).faults (IsFullFile refusal.1)
         (HoldsFirstForm (image files)) refusal.0) }
+
+    // Books of this form are told to be so, or are not read only because of memory and the disk.
+    ensures this { IfErr result (λ refusal. refusal.0 ≢ FirstFault.Already
+        → IsTrue (state_of refusal.1).is_clean
+        → HasFirstCause (state_of files).faults (state_of refusal.1).faults (IsFullFile refusal.1)
+        (HoldsBooks (image files)) refusal.0) }
     ensures unharmed { IfErr result (λ refusal. IsTrue (state_of refusal.1).is_clean
         → Opens files (state_of refusal.1)) }
 {
@@ -112,6 +118,11 @@ pub fn open_first_files<D: Disk>(
     // Files of the first form are not opened only because of memory and the disk.
     ensures cause { IfErr result (IsRefusal D.Disk HasFirstCause files
         (HoldsFirstForm (image_of D.Disk files)) (AreFull D.Disk)) }
+
+    // So it is with books of this form, which are told to be of it, or of a newer one.
+    ensures this { IfErr result (λ refusal. (¬ IsToldThis refusal.0)
+        → IsRefusal D.Disk HasFirstCause files (HoldsBooks (image_of D.Disk files))
+        (AreFull D.Disk) refusal) }
     ensures unharmed { IfErr result (λ refusal. AreClean D.Disk refusal.1.log refusal.1.db
         → AreKept D.Disk files refusal.1) }
 {
@@ -181,6 +192,9 @@ pub fn open_first_at<S: Start>(
     // What a stop leaves of files that were not opened is what they held, or stands for the same.
     ensures cause { IfErr result (λ refusal. MatchOption refusal.1 (IsUnopenedFirst refusal.0)
         (IsFirstRefusedFor ⟦<FileFrom<S> as Disk>⟧ (HoldsFirstForm (image_at S.Start))
+        (AreFull ⟦<FileFrom<S> as Disk>⟧) refusal.0)) }
+    ensures this { IfErr result (λ refusal. (¬ IsToldThis refusal.0) → IfSome refusal.1
+        (IsFirstRefusedFor ⟦<FileFrom<S> as Disk>⟧ (HoldsBooks (image_at S.Start))
         (AreFull ⟦<FileFrom<S> as Disk>⟧) refusal.0)) }
     ensures kept { IfErr result (λ refusal. IfSome refusal.1 (λ files. (left : Image)
         → MayLeave ⟦<FileFrom<S> as Disk>⟧ files left → IsAsFound (image_at S.Start) left)) }

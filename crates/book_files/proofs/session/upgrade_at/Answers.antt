@@ -1,6 +1,6 @@
 use Rattle.std.proofs.Common.{◌≡◌, false, inl, refl, subst, sym}
 use Rattle.std.proofs.Math.Logic.{∥∥₁_elim, ∥∥₁_prop}
-use Rattle.std.specs.Prelude.{IfErr, ⊤}
+use Rattle.std.specs.Prelude.{IfErr, IfOk, ⊤}
 use Rattle.sqlite_disk.specs.contracts.modelled.ModelledDisk.TheImpl as modelled
 use Rattle.sqlite_std_file.specs.contracts.host.Host.{the_row}
 use Rattle.sqlite_std_file.specs.contracts.host.HostCalls.TheImpl as host
@@ -13,12 +13,13 @@ use Rattle.book_restarts.specs.FileBooks.{file_names}
 use Rattle.book_trees.specs.FirstForm.{HoldsFirstForm}
 use Rattle.book_trees.specs.Refusals.{AreFull}
 use Rattle.tree_tables.specs.Holds.{has_book}
-use Rattle.book_files.specs.Causes.{HasFaultCause, HaveNoFirstRow, WhyNotUpgraded}
-use Rattle.book_files.specs.Upgrades.{BringsOver}
+use Rattle.book_files.specs.Causes.{HasFaultCause, HaveNoFirstRow, IsToldOfThis, WhyNotUpgraded}
+use Rattle.book_files.specs.Upgrades.{BringsOver, TellsThisForm}
 use Rattle.book_files.specs.declared.session.Ended.TheVariants.{Closed, Refused}
-use Rattle.book_files.proofs.Causes.{cause_so, err_so, first_cause}
+use Rattle.book_files.proofs.Causes.{cause_so, err_so, first_cause, opened_not_this, refused_this}
 use Rattle.book_files.proofs.SessionParts.{found_clean, refused_goes_on}
-use Rattle.book_files.proofs.UpgradeParts.{brings_over, refused_brings, told_why}
+use Rattle.book_files.proofs.UpgradeParts.{brings_over, first_tells, refused_brings, tells_form}
+use Rattle.book_files.proofs.UpgradeParts.{told_why}
 use Rattle.book_files.proofs.session.upgrade_at.Goals as goal
 
 pub returns-in-Ok-clause-history : goal.returns-in-Ok-clause-history
@@ -80,3 +81,32 @@ returns-in-Err-clause-kept g c = λ image may.
     refused_goes_on (modelled.ghosts the_row g.row.S host.ghosts host.dict g.S.Start g.S.Start-dict
     g.S.Destruct-dict) (λ file. inl refl) file_names (image_at g.S.Start) c.in-Err.files
     c.in-Err.ensures.kept image may
+
+pub returns-in-Ok-clause-this : goal.returns-in-Ok-clause-this
+returns-in-Ok-clause-this g c = λ held.
+    let upgraded = c.upgrade_and_close-upgraded in
+    let disk = modelled.ghosts the_row g.row.S host.ghosts host.dict g.S.Start g.S.Start-dict
+    g.S.Destruct-dict in
+    subst (λ result. IsToldOfThis disk result (Closed upgraded.result.1))
+    (sym c.told_upgraded.ensures)
+    (opened_not_this disk upgraded.result.1
+    (λ clean. c.in-Ok.ensures.older (clean_of _ (upgraded.ensures.clean clean)) held)
+    upgraded.result.0)
+
+pub returns-in-Err-clause-this : goal.returns-in-Err-clause-this
+returns-in-Err-clause-this g c = λ held.
+    let disk = modelled.ghosts the_row g.row.S host.ghosts host.dict g.S.Start g.S.Start-dict
+    g.S.Destruct-dict in
+    subst (λ result. IsToldOfThis disk result (Refused c.in-Err.files)) (sym c.not_upgraded.ensures)
+    (refused_this disk (image_at g.S.Start) held c.in-Err.fault c.in-Err.files
+    c.in-Err.ensures.cause c.in-Err.ensures.this)
+
+pub returns-in-Ok-clause-told : goal.returns-in-Ok-clause-told
+returns-in-Ok-clause-told g c =
+    subst (λ result. IfOk result TellsThisForm) (sym c.told_upgraded.ensures)
+    (tells_form c.upgrade_and_close-upgraded.result.0)
+
+pub returns-in-Err-clause-told : goal.returns-in-Err-clause-told
+returns-in-Err-clause-told g c =
+    subst (λ result. IfOk result TellsThisForm) (sym c.not_upgraded.ensures)
+    (first_tells c.in-Err.fault)

@@ -1,13 +1,14 @@
-use Rattle.std.proofs.Common.{◌≡◌, true, sym, ap, ◌∙◌, subst}
+use Rattle.std.proofs.Common.{◌≡◌, true, refl, sym, ap, ◌∙◌, subst}
 use Rattle.sqlite_store.specs.FileStore.{state}
 use Rattle.sqlite_store.specs.Unopened.{state_of, image, HasFileAs, IsFullFile}
 use Rattle.sqlite_trees.proofs.Doubt.{clean_of}
 use Rattle.book_trees.proofs.FirstCauses.{first_cause_of, first_since}
-use Rattle.book_trees.proofs.Opened.{held_first_listed, held_first_only, held_ours, opens_twice}
-use Rattle.book_trees.proofs.Opened.{shows_held, unlisted_none}
+use Rattle.book_trees.proofs.Opened.{held_first_listed, held_first_only, held_listed, held_ours}
+use Rattle.book_trees.proofs.Opened.{opens_twice, shows_held, unlisted_none}
 use Rattle.book_trees.proofs.Refused.{unlisted_refused}
 use Rattle.book_trees.proofs.Trees.{has_first_trees}
 use Rattle.book_trees.specs.FirstForm.{first_fault_for, HasFirstCause, HoldsFirstForm}
+use Rattle.book_trees.specs.LedgerFiles.{HoldsBooks}
 use Rattle.book_trees.specs.Listing.{lists_books, lists_first_books}
 use Rattle.book_trees.specs.declared.first_form.FirstFault.{FirstFault}
 use Rattle.book_trees.proofs.first_form.open_first.Goals as goal
@@ -33,6 +34,22 @@ returns-then-not-lists_first_books-clause-cause g c clean =
     c.as_slice-2.ensures.value
     (sym c.lists_first_books.ensures ∙ c.if-not-lists_first_books.true) _ _
     c.unlisted_fault.ensures
+
+-- nor do files of this form list those of the first alone
+pub returns-then-not-lists_first_books-clause-this :
+    goal.returns-then-not-lists_first_books-clause-this
+returns-then-not-lists_first_books-clause-this g c other clean =
+    let old = c.args.files in
+    let mid = c.read_catalog.new.self in
+    let rows = c.in-Ok.listed.items in
+    unlisted_refused (state_of old).faults (state_of mid).faults (IsFullFile mid)
+    (HoldsBooks (image old)) lists_books rows c.as_slice.result.now
+    (held_listed old mid rows (c.in-Ok.ensures.ok clean) c.requires.size)
+    c.as_slice.ensures.value (sym c.lists_books.ensures ∙ c.if-lists_books.false) _ _
+    c.unlisted_fault.ensures
+
+pub returns-then-lists_books-clause-this : goal.returns-then-lists_books-clause-this
+returns-then-lists_books-clause-this g c other = absurd (other refl)
 
 pub returns-in-Ok-open_numbered-clause-opened : goal.returns-in-Ok-open_numbered-clause-opened
 returns-in-Ok-open_numbered-clause-opened g c =
@@ -97,4 +114,22 @@ returns-clause-cause g c clean =
     (IsFullFile end) (HoldsFirstForm (image old)) fault) (sym c.first_fault.ensures)
     (first_since (state_of old).faults (state_of mid).faults (state_of end).faults
     (IsFullFile end) (HoldsFirstForm (image old)) (c.read_catalog.ensures.kept then).counts
+    (first_fault_for c.in-Err-open_numbered.error) why)
+
+pub returns-clause-this : goal.returns-clause-this
+returns-clause-this g c other clean =
+    let then = c.in-Err-open_numbered.ensures.falls clean in
+    let old = c.args.files in
+    let mid = c.read_catalog.new.self in
+    let end = c.in-Err-open_numbered.files in
+    let why = first_cause_of (state_of mid).faults (state_of end).faults (IsFullFile end)
+    (HasFileAs mid true) (HoldsBooks (image old)) (λ held. absurd (unlisted_none old mid
+    c.in-Ok.listed.items (c.in-Ok.ensures.ok then) c.requires.size
+    (ap lists_books (sym c.as_slice.ensures.value) ∙ sym c.lists_books.ensures
+    ∙ c.if-lists_books.false) held))
+    c.in-Err-open_numbered.error (c.in-Err-open_numbered.ensures.cause clean) in
+    subst (λ (fault : FirstFault). HasFirstCause (state_of old).faults (state_of end).faults
+    (IsFullFile end) (HoldsBooks (image old)) fault) (sym c.first_fault.ensures)
+    (first_since (state_of old).faults (state_of mid).faults (state_of end).faults
+    (IsFullFile end) (HoldsBooks (image old)) (c.read_catalog.ensures.kept then).counts
     (first_fault_for c.in-Err-open_numbered.error) why)

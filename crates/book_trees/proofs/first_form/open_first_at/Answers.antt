@@ -1,8 +1,9 @@
 use Rattle.std.proofs.Common.{◌≡◌, subst, sym}
 use Rattle.sqlite_store.specs.FileStore.{view}
 use Rattle.sqlite_wal.specs.Recovery.{Image}
-use Rattle.book_trees.proofs.FreshFiles.{as_found, fresh_image}
+use Rattle.book_trees.proofs.FreshFiles.{as_found, fresh_cause, fresh_faults, fresh_image}
 use Rattle.book_trees.proofs.FreshFiles.{fresh_images}
+use Rattle.book_trees.specs.FirstForm.{HasFirstCause}
 use Rattle.book_trees.specs.LedgerFiles.{HoldsBooks, HoldsFirstBooks, trees_held}
 use Rattle.book_trees.proofs.first_form.open_first_at.Goals as goal
 
@@ -25,3 +26,10 @@ returns-in-Err-open_first_files-clause-kept g c left may =
     as_found left (λ was. fresh_images g.S.Start.is_mixing g.S.Start.log g.S.Start.db fresh.0
     fresh.1 left was.1.0 was.1.1) (fresh_image g.S.Start.log g.S.Start.db fresh.0 fresh.1)
     ((c.in-Err-open_first_files.ensures.unharmed may.0).crash left may)
+
+pub returns-in-Err-open_first_files-clause-this : goal.returns-in-Err-open_first_files-clause-this
+returns-in-Err-open_first_files-clause-this g c other clean =
+    let fresh = c.in-Ok.ensures.fresh in
+    fresh_cause HasFirstCause HoldsBooks (fresh_image g.S.Start.log g.S.Start.db fresh.0 fresh.1)
+    (fresh_faults g.S.Start.log g.S.Start.db fresh.0 fresh.1)
+    (c.in-Err-open_first_files.ensures.this other clean)

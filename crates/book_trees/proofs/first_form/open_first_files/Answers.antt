@@ -1,10 +1,10 @@
-use Rattle.std.proofs.Common.{sym, subst}
+use Rattle.std.proofs.Common.{inr, refl, sym, subst}
 use Rattle.sqlite_store.specs.Unopened.{image, IsFullFile}
 use Rattle.book_trees.proofs.FileParts.{end_honest, files_kept, first_image, honest_given}
 use Rattle.book_trees.proofs.FileParts.{kept_still, shows_given, store_honest, store_kept}
 use Rattle.book_trees.proofs.FirstCauses.{first_file_cause}
 use Rattle.book_trees.proofs.FormNumbers.{newer_refused}
-use Rattle.book_trees.proofs.ToldCauses.{first_told_cause}
+use Rattle.book_trees.proofs.ToldCauses.{first_told_cause, told_not_this}
 use Rattle.book_trees.specs.FirstForm.{HoldsFirstForm}
 use Rattle.book_trees.specs.LedgerFiles.{image_of, HoldsBooks}
 use Rattle.book_trees.specs.Refusals.{faults_in, AreFull}
@@ -36,6 +36,9 @@ returns-then-says_newer-clause-cause g c clean first =
     c.in-Ok-open_first.ensures.found (c.says_newer.ensures.newer c.if-says_newer.true) clean
     first.held first.form
 
+pub returns-then-says_newer-clause-this : goal.returns-then-says_newer-clause-this
+returns-then-says_newer-clause-this g c other = absurd (other (inr refl))
+
 -- and the others are kept
 pub returns-then-says_newer-clause-unharmed : goal.returns-then-says_newer-clause-unharmed
 returns-then-says_newer-clause-unharmed g c clean =
@@ -61,6 +64,24 @@ returns-in-Err-open_first-clause-cause g c clean =
     (c.in-Err-open_first.ensures.cause
     (end_honest old end c.args.files c.close.result given back
     (c.told_first.ensures.clean clean))))
+
+pub returns-in-Err-open_first-clause-this : goal.returns-in-Err-open_first-clause-this
+returns-in-Err-open_first-clause-this g c other clean =
+    let old = c.in-Ok.files in
+    let end = c.in-Err-open_first.files in
+    let given = c.in-Ok.ensures.files in
+    let back = c.close.ensures in
+    let same = first_image old end c.args.files c.close.result given back in
+    told_not_this g.D.Disk (faults_in g.D.Disk c.args.files) (AreFull g.D.Disk)
+    (HoldsBooks (image_of g.D.Disk c.args.files)) c.close.result c.told_first.result.1
+    c.in-Err-open_first.fault c.told_first.result.0 c.told_first.ensures.told
+    (λ apart. first_file_cause old end c.args.files c.close.result given back (IsFullFile end)
+    (AreFull g.D.Disk c.close.result) (HoldsBooks (image old))
+    (HoldsBooks (image_of g.D.Disk c.args.files)) (λ full. ∣ (end, back, full) ∣₁)
+    (subst HoldsBooks (sym same)) c.in-Err-open_first.fault
+    (c.in-Err-open_first.ensures.this apart
+    (end_honest old end c.args.files c.close.result given back
+    (c.told_first.ensures.clean clean)))) other
 
 pub returns-in-Err-open_first-clause-unharmed : goal.returns-in-Err-open_first-clause-unharmed
 returns-in-Err-open_first-clause-unharmed g c clean =
