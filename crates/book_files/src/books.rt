@@ -212,6 +212,7 @@ pub(crate) fn make_and_close<D: Disk>(
 ) -> (Result<(), RepositoryFault>, Closed<D>)
     requires { HasShapes (view store) }
     ensures left { CloseLeavesNew D.Disk (view store) result.0 result.1 }
+    ensures clean { AreClean D.Disk result.1.files.log result.1.files.db → IsClean (view store) }
     ensures kinds { IfErr result.0 (HasFaultCause ⊥ ⊥ ⊤) }
 {
     let (made, store) = make_in(alloc, store);

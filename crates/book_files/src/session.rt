@@ -11,7 +11,7 @@ ghost use Rattle.book_files.specs.Audits.{HoldCounted, HoldSameTrees, WhyUnsound
 ghost use Rattle.book_files.specs.Causes.{HaveBookRow, WhyNotAudited, WhyNotContinued, WhyNotMade};
 ghost use Rattle.book_files.specs.Causes.{IsToldOfThis, WhyNotUpgraded, WhyNotVisited};
 ghost use Rattle.book_files.specs.Faults.{first_answer, resume_fault};
-ghost use Rattle.book_files.specs.NewBooks.{NewBooksMade};
+ghost use Rattle.book_files.specs.NewBooks.{MayBeMade, NewBooksMade};
 ghost use Rattle.book_files.specs.Sessions.{AreAsFound, FilesGoOn, IsFileAlone, MayFollow};
 ghost use Rattle.book_files.specs.Upgrades.{FilesBroughtOver, TellsThisForm, upgrade_answer};
 ghost use Rattle.book_restarts.specs.FileBooks.{GoesOn, HoldsHistory, done_by, file_names};
@@ -106,7 +106,9 @@ pub fn make_at<S: Start>(
     ensures made { HoldsNothing (image_at S.Start)
         → NewBooksMade ⟦<FileFrom<S> as Disk>⟧ result.0 result.1 }
 
-    // Files that hold something are not opened, and left as they were.
+    // In files that hold something no books are made, and nothing is written.
+    ensures new { IfOk result.0 (λ made. (image : Image)
+        → MayBeMade ⟦<FileFrom<S> as Disk>⟧ result.1 image → ∥ HoldsNothing (image_at S.Start) ∥₁) }
     ensures unopened { (¬ HoldsNothing (image_at S.Start))
         → AreAsFound ⟦<FileFrom<S> as Disk>⟧ (image_at S.Start) result.1 }
     ensures cause { IfErr result.0

@@ -1,4 +1,5 @@
 use Rattle.sqlite_store.specs.FileStore.{view}
+use Rattle.sqlite_trees.proofs.Doubt.{no_doubt}
 use Rattle.sqlite_trees.specs.Tree.{Trees}
 use Rattle.book_restarts.specs.FileBooks.{file_names}
 use Rattle.book_files.specs.NewBooks.{LeavesNew}
@@ -11,3 +12,7 @@ returns-clause-left g c = λ empty.
     close_leaves g.D.Disk made.result.1 c.close_books.result
     (λ (trees : Trees). LeavesNew file_names (view c.args.store) made.result.0 trees)
     c.close_books.ensures.honest c.close_books.ensures.left (made.ensures.left empty)
+
+pub returns-clause-clean : goal.returns-clause-clean
+returns-clause-clean g c = λ clean.
+    c.make_in-made.ensures.clean (no_doubt _ (c.close_books.ensures.honest clean))

@@ -3,14 +3,16 @@ use Rattle.std.specs.Prelude.{⊤}
 use Rattle.sqlite_disk.specs.contracts.modelled.ModelledDisk.TheImpl as modelled
 use Rattle.sqlite_std_file.specs.contracts.host.Host.{the_row}
 use Rattle.sqlite_std_file.specs.contracts.host.HostCalls.TheImpl as host
+use Rattle.sqlite_trees.proofs.Doubt.{clean_of}
 use Rattle.sqlite_wal.specs.Files.{image_at}
 use Rattle.book_restarts.specs.FileBooks.{file_names}
 use Rattle.book_trees.specs.LedgerFiles.{HoldsNothing}
 use Rattle.book_trees.specs.Refusals.{StopCreating}
 use Rattle.book_files.specs.Causes.{HasFaultCause, WhyNotMade}
 use Rattle.book_files.specs.declared.session.Ended.TheVariants.{Refused}
-use Rattle.book_files.proofs.Causes.{refused_cause}
+use Rattle.book_files.proofs.Causes.{ok_each, refused_cause}
 use Rattle.book_files.proofs.NewParts.{made_at, refused_begun}
+use Rattle.book_files.proofs.SessionParts.{found_clean}
 use Rattle.book_files.proofs.session.make_at.Goals as goal
 
 pub returns-in-Ok-clause-made : goal.returns-in-Ok-clause-made
@@ -18,6 +20,15 @@ returns-in-Ok-clause-made g c = λ nothing image may.
     made_at file_names c.in-Ok.store c.in-Ok.ensures.ready c.in-Ok.ensures.empty
     c.make_and_close-made.result.0 image
     (λ empty. c.make_and_close-made.ensures.left empty may.0 image may.1)
+
+pub returns-in-Ok-clause-new : goal.returns-in-Ok-clause-new
+returns-in-Ok-clause-new g c =
+    let made = c.make_and_close-made in
+    let disk = modelled.ghosts the_row g.row.S host.ghosts host.dict g.S.Start g.S.Start-dict
+    g.S.Destruct-dict in
+    ok_each made.result.0 (λ told image may.
+    c.in-Ok.ensures.started (clean_of _ (made.ensures.clean
+    (found_clean disk made.result.1.files image may.1))))
 
 pub returns-in-Err-clause-made : goal.returns-in-Err-clause-made
 returns-in-Err-clause-made g c = λ nothing image may.
