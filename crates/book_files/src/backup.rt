@@ -71,7 +71,7 @@ impl Files<'_> {
     ) -> (Result<(), CopyFault>, bool) {
         let begun_log = match Log::of(self.rt, begun) {
             Ok(begun_log) => begun_log,
-            Err(error) => return (Err(CopyFault::Refused(failed(&error))), false),
+            Err(error) => return (Err(CopyFault::Refused(failed(&error))), log.is_kept()),
         };
         let Copied {
             answer: copied,
