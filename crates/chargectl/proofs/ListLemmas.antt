@@ -1,8 +1,12 @@
 -- Lists of names that a reader gives, choices by them, and the tariff of a text.
-use Rattle.std.proofs.Common.{◌≡◌, List, ℕ, Result, Ok, Err, inl, inr, refl}
-use Rattle.std.proofs.Common.{subst, sym, true≢false}
+use Rattle.std.proofs.Common.{◌≡◌, ◌∙◌, List, [], ◌∷◌, ◌++◌, ℕ, Option, Some, None, Result, Ok, Err}
+use Rattle.std.proofs.Common.{ap, append-nil, inl, inr, refl, subst, sym, true≢false}
+use Rattle.std.proofs.KnownBytes.{Consumes-trans}
+use Rattle.std.specs.Io.Iter.{YieldsKnownByte}
+use Rattle.std.specs.Io.KnownBytes.{Consumes}
 use Rattle.std.specs.Prelude.{IfErr, IfOk, IsErr, IsErrAnd, OnErr}
 use Rattle.std.specs.declared.alloc.AllocError.{AllocError}
+use Rattle.std.specs.declared.io.Error.{Error}
 use Rattle.std.specs.declared.io.ErrorKind.TheVariants.{OutOfMemory}
 use Rattle.tariff_rules.specs.TariffFile.{terms_in}
 use Rattle.book_model.specs.Words.{Terms}
@@ -18,7 +22,7 @@ use Rattle.program_output.specs.declared.names.NamesFault.TheVariants as names
 use Rattle.program_output.specs.Names.{IsNamesFault, names_in}
 use Rattle.chargectl.specs.declared.choices.ListAnswered.{ListAnswered}
 use Rattle.chargectl.specs.declared.command_fault.CommandFault.{CommandFault}
-use Rattle.chargectl.specs.Choices.{ChoosesBy, ChoosesNothing, ComesOfList, IsListFault}
+use Rattle.chargectl.specs.Choices.{AreAllOf, ChoosesBy, ChoosesNothing, ComesOfList, IsListFault}
 use Rattle.chargectl.specs.Faults.{IsFaultIn, names_fault}
 use Rattle.chargectl.specs.Reading.{IsTariffRead, lasting}
 
@@ -28,6 +32,24 @@ pub fault_is : {T : Type 0} (result : Result T CommandFault) (found : CommandFau
     → IfErr result IsOf
 fault_is (Ok value) found IsOf is holds = tt
 fault_is (Err why) found IsOf is holds = subst IsOf (sym is) holds
+
+-- one more byte of a reader came
+pub byte_came : (had old new : Option (List ℕ)) (text : List ℕ) (item : Option (Result ℕ Error))
+    (byte : ℕ) → Consumes had old text → YieldsKnownByte old item new → item ≡ Some (Ok byte)
+    → Consumes had new (text ++ byte ∷ [])
+byte_came had old new text item byte so_far next is =
+    Consumes-trans had old new text (byte ∷ []) so_far
+    (subst (λ item. YieldsKnownByte old item new) is next)
+
+-- no more bytes came, and these are the names of all
+pub all_named : (had left new : Option (List ℕ)) (text : List ℕ) (item : Option (Result ℕ Error))
+    (found : List (List ℕ)) → Consumes had left text → YieldsKnownByte left item new → item ≡ None
+    → names_in text ≡ Ok found → AreAllOf had found
+all_named None left new text item found taken next is read = tt
+all_named (Some bytes) None new text item found taken next is read = absurd taken
+all_named (Some bytes) (Some rest) new text item found taken next is read =
+    let ended : rest ≡ [] = subst (λ item. YieldsKnownByte (Some rest) item new) is next in
+    ap names_in (taken ∙ ap (λ rest. text ++ rest) ended ∙ append-nil text) ∙ read
 
 -- why a text is no list of names
 pub no_list : (text : List ℕ) (found : NamesFault) → IsNamesFault (names_in text) found

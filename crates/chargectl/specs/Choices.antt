@@ -1,7 +1,7 @@
 -- Choices by the names of a list in a file: what the list has to be, what the books are asked, what is
 -- written, and how the command ends.
 use Rattle.std.specs.Prelude.{◌≡◌, ◌⊎◌, ◌+◌, true, ℕ, List, length}
-use Rattle.std.specs.Prelude.{Option, Some, None, Result, Ok, Err}
+use Rattle.std.specs.Prelude.{Option, Some, None, IfSome, Result, Ok, Err}
 use Rattle.std.specs.declared.alloc.AllocError.{AllocError}
 use Rattle.book_model.specs.declared.fault.LedgerFault.{LedgerFault}
 use Rattle.book_model.specs.declared.fault.LedgerFault.TheVariants as ledger
@@ -26,6 +26,10 @@ use Rattle.chargectl.specs.Faults.{names_fault, shelf_fault, without_log}
 -- these are the names of the text that a file gave
 abbrev pub AreListed : List (List ℕ) → Type 0
 AreListed names = (text : List ℕ) × (names_in text ≡ Ok names)
+
+-- where it is known what a reader had to give, they are the names of all of that
+abbrev pub AreAllOf : Option (List ℕ) → List (List ℕ) → Type 0
+AreAllOf had names = IfSome had (λ bytes. names_in bytes ≡ Ok names)
 
 -- its text is no list of names
 pub record IsNoList (why : CommandFault) : Type 0 where

@@ -4,9 +4,9 @@
 ghost use Rattle.std.specs.Prelude.{◌≡◌, IfErr, IfOk};
 ghost use Rattle.office.specs.Choices as choices;
 ghost use Rattle.chargectl.specs.Choices as spec;
-ghost use Rattle.chargectl.specs.Choices.{AreListed, ChoosesBy, ChoosesListed, ComesOfList};
-ghost use Rattle.chargectl.specs.Choices.{EndsChoices, IsListAnswered, IsListFault, TellsChoices};
-ghost use Rattle.chargectl.specs.Choices.{TellsList, chosen_of, list_answered};
+ghost use Rattle.chargectl.specs.Choices.{AreAllOf, AreListed, ChoosesBy, ChoosesListed};
+ghost use Rattle.chargectl.specs.Choices.{ComesOfList, EndsChoices, IsListAnswered, IsListFault};
+ghost use Rattle.chargectl.specs.Choices.{TellsChoices, TellsList, chosen_of, list_answered};
 ghost use Rattle.chargectl.specs.Commands.{IsPrinted};
 
 use crate::book_commands::print;
@@ -94,9 +94,10 @@ fn read_list(rt: &HostRuntime, file: &str) -> Result<Vec<[u8; 32]>, CommandFault
     read_names(rt.alloc(), reader.take(MOST_BYTES))
 }
 
-/// The names of a list that a reader gives.
+/// The names of a list that a reader gives, which is read to its end.
 fn read_names<R: Read + Drop>(alloc: Global, reader: R) -> Result<Vec<[u8; 32]>, CommandFault>
     ensures listed { IfOk result (λ names. AreListed names.items) }
+    ensures all { IfOk result (λ names. AreAllOf (R.remaining reader) names.items) }
     ensures refused { IfErr result IsListFault }
 {
     let mut list = NameList::new(alloc);
