@@ -10,6 +10,7 @@ mod other_prices;
 mod pages;
 mod records;
 mod runs;
+mod tariffs;
 
 pub use bills::{bills_add_up, bills_split_statements, closed_bills_stay, held_back_bounds};
 pub use calls::{
@@ -34,3 +35,4 @@ pub use runs::{
     run_order_is_free, runs_charge_once, runs_conserve, runs_follow_history, runs_make_history,
     statements_are_aligned,
 };
+pub use tariffs::tariff_texts_stay;

@@ -1,0 +1,75 @@
+-- The text of a tariff that was accepted is found on its first day, whatever follows.
+use Rattle.std.proofs.Common.{◌≡◌, ◌∙◌, ℕ, Bool, true, false, true≢false, List, [], ◌∷◌, ◌++◌}
+use Rattle.std.proofs.Common.{Option, Some, None, Ok, ap, refl, ◌||◌}
+use Rattle.std.specs.Prelude.{ℤ, if◌then◌else◌, slice_get}
+use Rattle.std.specs.List.{cons_option, filter_map, list_any}
+use Rattle.std.specs.Option.{option_map}
+use Rattle.std.specs.Ordering.{int_eq}
+use Rattle.std.proofs.lemmas.Bool.Decides.{Decides-int_eq}
+use Rattle.std.proofs.lemmas.List.Elements.{filter_map-append}
+use Rattle.book_model.specs.declared.answer.Ruled.TheVariants.{Done}
+use Rattle.book_model.specs.Words.{AcceptedTerms, Book, Event, RulingGiven, TariffAccepted, TariffSeen}
+use Rattle.book_model.specs.Words.{Terms, after, is_effective, tariff_seen, tariff_text_on}
+use Rattle.book_model.specs.Words.{tariffs_seen, terms_answer, text_on, with_tariff}
+use Rattle.book_model.proofs.TestLemmas.{tariff_passes}
+use Rattle.book_laws.specs.TariffLaws.{TariffTextsStay}
+
+-- what comes first stays first, whatever comes behind
+first_stays : {X : Type 0} (front behind : List X) (x : X) → slice_get front 0 ≡ Some x
+    → slice_get (front ++ behind) 0 ≡ Some x
+first_stays [] behind x none = cc none
+first_stays (first ∷ front) behind x is = is
+
+module _ (day : ℤ) where
+  -- the texts of tariffs that begin on the day
+  abbrev texts : List AcceptedTerms → List (List ℕ)
+  texts tariffs = filter_map (text_on day) (tariffs_seen tariffs)
+
+  -- those of more tariffs come behind
+  texts_behind : (tariffs more : List AcceptedTerms)
+      → texts (tariffs ++ more) ≡ texts tariffs ++ texts more
+  texts_behind tariffs more =
+      ap (filter_map (text_on day)) (filter_map-append tariff_seen tariffs more)
+      ∙ filter_map-append (text_on day) (tariffs_seen tariffs) (tariffs_seen more)
+
+  -- where none begins on it, there are none
+  no_texts : (tariffs : List AcceptedTerms) → list_any (is_effective day) tariffs ≡ false
+      → texts tariffs ≡ []
+  no_texts [] none = refl
+  no_texts (tariff ∷ tariffs) none =
+      by tariff.text (int_eq day tariff.terms.effective) refl (no_texts tariffs) none
+    where
+      by : (text : Option (List ℕ)) (same : Bool) → int_eq day tariff.terms.effective ≡ same
+          → (list_any (is_effective day) tariffs ≡ false → texts tariffs ≡ [])
+          → (same || list_any (is_effective day) tariffs) ≡ false
+          → filter_map (text_on day) (cons_option (option_map (TariffSeen tariff.terms.effective) text)
+          (tariffs_seen tariffs)) ≡ []
+      by text true is rest never = absurd (true≢false never)
+      by None false is rest none = rest none
+      by (Some text) false is rest none =
+          ap (λ same. cons_option (if same then Some text else None) (texts tariffs)) is ∙ rest none
+
+-- so a tariff whose day is new has its own text there
+accepted : (book : Book) (text : List ℕ) (terms : Terms) → terms_answer book text terms ≡ Ok Done
+    → tariff_text_on terms.effective (with_tariff (Some text) terms book.rulings) ≡ Some text
+accepted book text terms done =
+    let day : ℤ = terms.effective in
+    let own : AcceptedTerms = record { text = Some text; terms = terms } in
+    let none = no_texts day book.rulings.tariffs (tariff_passes book text terms done).free in
+    ap (λ all. slice_get all 0)
+    (texts_behind day book.rulings.tariffs (own ∷ [])
+    ∙ (λ i. none i ++ cons_option (if (Decides-int_eq day day).1 refl i then Some text else None) []))
+
+-- and any event leaves it
+stays : (book : Book) (event : Event) (day : ℤ) (text : List ℕ)
+    → tariff_text_on day book.rulings ≡ Some text
+    → tariff_text_on day (after event book).rulings ≡ Some text
+stays book (RulingGiven (TariffAccepted other terms)) day text is =
+    let more : AcceptedTerms = record { text = other; terms = terms } in
+    ap (λ all. slice_get all 0) (texts_behind day book.rulings.tariffs (more ∷ []))
+    ∙ first_stays (texts day book.rulings.tariffs) (texts day (more ∷ [])) text is
+stays book event day text is = is
+
+-- the law
+pub tariff_texts_stay : TariffTextsStay
+tariff_texts_stay = record { accepted = accepted; stays = stays }
