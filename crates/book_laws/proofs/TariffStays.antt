@@ -93,7 +93,7 @@ tariffs_at k closes tariffs =
     tariffs_through (slice_get closes k)
     (tariffs_from (option_map day_after (close_at closes k)) (tariffs_seen tariffs))
 
-tariffs_are : (k : ℕ) (rulings : Rulings)
+pub tariffs_are : (k : ℕ) (rulings : Rulings)
     → tariffs_in (suc k) rulings ≡ tariffs_at k rulings.closes rulings.tariffs
 tariffs_are k rulings =
     let place : suc k - 1 ≡ k = omega arith in

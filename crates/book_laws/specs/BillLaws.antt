@@ -1,18 +1,21 @@
 -- The laws of bills: a bill splits what the statement and the adjustments show, the bills of all
--- centres add up to the office's, the two amounts that are held back bound what records cost that are
--- taken one of each dispute, and the bill of a closed period stays.
+-- centres add up to the office's, a bill has the tariffs of its prices,
+-- the two amounts that are held back bound what records cost that are taken one of each dispute, and
+-- the bill of a closed period stays.
 use Rattle.std.specs.Prelude.{◌≡◌, ℕ, ◌+◌, ◌≤◌, ℤ, pos, ◌+ℤ◌, ◌-ℤ◌, List, [], ◌∷◌, ◌++◌, map}
-use Rattle.std.specs.Prelude.{sum_by, All, Contains, Option, Some, None}
+use Rattle.std.specs.Prelude.{sum_by, All, Contains, Option, Some, None, true}
 use Rattle.book_model.specs.declared.bill.HeldBack.{HeldBack}
 use Rattle.book_model.specs.declared.dispute.Variant.{Variant}
 use Rattle.book_model.specs.declared.line.Line.{Line}
 use Rattle.book_model.specs.declared.row.ChargeRow.{ChargeRow}
 use Rattle.book_model.specs.Words.{BillSeen, Book, Disputed, Event, IsMadeByCalls, IsSound, Naming}
-use Rattle.book_model.specs.Words.{Period, amount_for, bill_of, bill_outcome, book_after, held_back_in}
-use Rattle.book_model.specs.Words.{lines_of, period_of, rows_for}
+use Rattle.book_model.specs.Words.{Period, Terms, amount_for, bill_of, bill_outcome, book_after}
+use Rattle.book_model.specs.Words.{day_of, has, held_back_in, in_force, lines_of, period_of, rows_for}
+use Rattle.book_model.specs.Words.{tariff_by}
 use Rattle.report_texts.specs.Centres.{lines_of_centre, rows_of_centre}
 use Rattle.report_texts.specs.Charges.{all_charges, centres_of, charges_of_centre, plain_lines}
 use Rattle.report_texts.specs.declared.charges.Charges.{Charges}
+use Rattle.table_model.specs.Readable.{IsReadable}
 use Rattle.book_laws.specs.ClosedPeriods.{IsClosed}
 
 -- of charge rows, those of the centre that is named, or all of them where none is
@@ -82,6 +85,19 @@ BillsAddUp =
     (naming : Naming) (book : Book) (number : ℕ) (period : Period)
     → AreSharesOf (λ centre. bill_of naming book number (Some centre) period)
     (bill_of naming book number None period)
+
+-- In books that can be read back a bill has, with its rates, the tariff that is in force on the day of
+-- each record that the period counts, by which the record has its price.
+abbrev pub BilledTariffsPrice : Type 0
+BilledTariffsPrice =
+    (naming : Naming) (book : Book) (number : ℕ) (period : Period) (centre : Option (List ℕ))
+    (bytes : List ℕ) (terms : Terms)
+    → IsReadable naming book
+    → period_of book number ≡ Some period
+    → has period.counted bytes ≡ true
+    → in_force (day_of bytes) book.rulings.tariffs ≡ Some terms
+    → Contains (bill_of naming book number centre period).tariffs
+    (tariff_by terms.effective terms)
 
 -- an amount is no less than the least that is held back, and no more than the greatest
 pub record IsWithin (held : HeldBack) (amount : ℕ) : Type 0 where

@@ -1,8 +1,8 @@
 //! Laws of bills, which hold of the definitions alone. Each is the contract of a function that does
 //! nothing.
 
-ghost use Rattle.book_laws.specs.BillLaws.{BillsAddUp, BillsSplitStatements, ClosedBillsStay};
-ghost use Rattle.book_laws.specs.BillLaws.{HeldBackBounds};
+ghost use Rattle.book_laws.specs.BillLaws.{BilledTariffsPrice, BillsAddUp};
+ghost use Rattle.book_laws.specs.BillLaws.{BillsSplitStatements, ClosedBillsStay, HeldBackBounds};
 
 /// A bill splits the rows of the statement into steps and jobs, and has the lines of the
 /// adjustments.
@@ -13,6 +13,11 @@ pub fn bills_split_statements()
 /// The bills of all centres add up to the office's.
 pub fn bills_add_up()
     ensures { BillsAddUp }
+{}
+
+/// A bill has the tariff by which each record is priced that the period counts.
+pub fn billed_tariffs_price()
+    ensures { BilledTariffsPrice }
 {}
 
 /// Whichever record of each dispute is taken, what these cost a centre together lies between the two
