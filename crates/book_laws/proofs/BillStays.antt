@@ -44,7 +44,7 @@ use Rattle.book_laws.proofs.TurnStays.{charge_stays}
 module _ (naming : Naming) (book : Book) (sound : IsSound naming book) (number : ℕ) (line : Line)
     (bytes : List ℕ) (there : has book.held bytes ≡ true) (named : line.name ≡ name_of naming bytes)
   where
-    abbrev told : Option ℕ
+    abbrev pub told : Option ℕ
     told =
         if line.plus then Some (period_on book.rulings.closes (day_of bytes))
         else charged_before number (life_of book bytes)
@@ -59,7 +59,7 @@ module _ (naming : Naming) (book : Book) (sound : IsSound naming book) (number :
     by_terms None never = absurd (true≢false (sym never))
     by_terms (Some terms) some = refl
 
-    period_told : period_of_line naming book number line ≡ told
+    pub period_told : period_of_line naming book number line ≡ told
     period_told =
         let by : Option (List ℕ) → Option ℕ = λ found.
         option_and_then (period_by_trail number line)
@@ -70,7 +70,7 @@ module _ (naming : Naming) (book : Book) (sound : IsSound naming book) (number :
 
 -- what holds of a line of each record, with any price, holds of the lines
 module _ (naming : Naming) (rulings : Rulings) (P : Line → Type 0) (plus : Bool) where
-  abbrev line_with : List ℕ → Priced → Line
+  abbrev pub line_with : List ℕ → Priced → Line
   line_with bytes priced = record {
     plus = plus;
     name = name_of naming bytes;
@@ -101,7 +101,7 @@ module _ (naming : Naming) (rulings : Rulings) (P : Line → Type 0) (plus : Boo
       (λ k among. holds k (map.contains_key-keys records k ∙ among))
 
 -- what holds of a line of each record that a period adds or reverses holds of its lines
-each_of_period : (naming : Naming) (rulings : Rulings) (period : Period) (P : Line → Type 0)
+pub each_of_period : (naming : Naming) (rulings : Rulings) (period : Period) (P : Line → Type 0)
     → AreReadOnce naming rulings period
     → ((bytes : List ℕ) → has period.added bytes ≡ true → (priced : Priced)
     → P (line_with naming rulings P true bytes priced))

@@ -2,7 +2,8 @@
 -- they refuse; sums over rows and over a period's sets; the amounts of periods; the lines that are
 -- read; and closed periods. Runs, from these; calls one after another, and what they leave; the
 -- lists of all periods; the lines of a statement; single centres; details, which records are counted,
--- what is kept of them, and that they stay; bills, that they stay, and their tariffs; tariff files; pages; rows by another tariff,
+-- what is kept of them, and that they stay; bills, that they stay, their tariffs and the periods of
+-- their lines; tariff files; pages; rows by another tariff,
 -- and their lines. Single records: their lives, and how their prices came about. Single answers: to calls,
 -- reports, imports, and lists of requests.
 pub mod PeriodLemmas
@@ -30,6 +31,7 @@ pub mod TariffStays
 pub mod TurnStays
 pub mod BillStays
 pub mod BilledTariffs
+pub mod LinePeriods
 pub mod TariffTexts
 pub mod PageLemmas
 pub mod OtherPriceLemmas

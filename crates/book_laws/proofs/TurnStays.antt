@@ -16,7 +16,7 @@ use Rattle.book_model.specs.Words.{last_close, life_from, life_of, open_period, 
 use Rattle.book_model.specs.Words.{turns_in}
 
 -- a charge in a period before that of the number
-abbrev is_before : ℕ → Turn → Bool
+abbrev pub is_before : ℕ → Turn → Bool
 is_before number turn = is_charge turn.deed && nat_lt turn.period number
 
 abbrev earlier_charges : ℕ → List Turn → List Turn

@@ -1,9 +1,9 @@
 -- The laws of bills: a bill splits what the statement and the adjustments show, the bills of all
--- centres add up to the office's, a bill has the tariffs of its prices,
+-- centres add up to the office's, a bill has the tariffs of its prices and the periods of its lines,
 -- the two amounts that are held back bound what records cost that are taken one of each dispute, and
 -- the bill of a closed period stays.
 use Rattle.std.specs.Prelude.{◌≡◌, ℕ, ◌+◌, ◌≤◌, ℤ, pos, ◌+ℤ◌, ◌-ℤ◌, List, [], ◌∷◌, ◌++◌, map}
-use Rattle.std.specs.Prelude.{sum_by, All, Contains, Option, Some, None, true}
+use Rattle.std.specs.Prelude.{sum_by, All, Contains, IsSome, Option, Some, None, true}
 use Rattle.book_model.specs.declared.bill.HeldBack.{HeldBack}
 use Rattle.book_model.specs.declared.dispute.Variant.{Variant}
 use Rattle.book_model.specs.declared.line.Line.{Line}
@@ -98,6 +98,15 @@ BilledTariffsPrice =
     → in_force (day_of bytes) book.rulings.tariffs ≡ Some terms
     → Contains (bill_of naming book number centre period).tariffs
     (tariff_by terms.effective terms)
+
+-- And each line of a centre's bill has a period that it speaks of.
+abbrev pub BilledLinesHavePeriods : Type 0
+BilledLinesHavePeriods =
+    (naming : Naming) (book : Book) (number : ℕ) (period : Period) (centre : List ℕ)
+    → IsReadable naming book
+    → period_of book number ≡ Some period
+    → All (λ billed. IsSome billed.period)
+    (bill_of naming book number (Some centre) period).lines
 
 -- an amount is no less than the least that is held back, and no more than the greatest
 pub record IsWithin (held : HeldBack) (amount : ℕ) : Type 0 where

@@ -1,7 +1,7 @@
 //! Laws of bills, which hold of the definitions alone. Each is the contract of a function that does
 //! nothing.
 
-ghost use Rattle.book_laws.specs.BillLaws.{BilledTariffsPrice, BillsAddUp};
+ghost use Rattle.book_laws.specs.BillLaws.{BilledLinesHavePeriods, BilledTariffsPrice, BillsAddUp};
 ghost use Rattle.book_laws.specs.BillLaws.{BillsSplitStatements, ClosedBillsStay, HeldBackBounds};
 
 /// A bill splits the rows of the statement into steps and jobs, and has the lines of the
@@ -18,6 +18,11 @@ pub fn bills_add_up()
 /// A bill has the tariff by which each record is priced that the period counts.
 pub fn billed_tariffs_price()
     ensures { BilledTariffsPrice }
+{}
+
+/// Each line of a centre's bill says the period that it speaks of.
+pub fn billed_lines_have_periods()
+    ensures { BilledLinesHavePeriods }
 {}
 
 /// Whichever record of each dispute is taken, what these cost a centre together lies between the two
