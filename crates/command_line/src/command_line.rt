@@ -18,7 +18,7 @@ use clap::{Arg, ArgAction, Command, Error};
 use std::alloc::{AllocError, Global};
 
 /// The program's version.
-const VERSION: &str = "0.1.0";
+const VERSION: &str = "0.2.0";
 
 /// What a value has to be, where no rate is above the highest.
 fn parser_of<'a>(kind: ValueKind, highest: u32) -> ValueParser<'a>
