@@ -177,7 +177,7 @@ pub fn audit_at<S: Start, W: Watch>(
     ensures history { FilesGoOn ⟦<FileFrom<S> as Disk>⟧ NoEvent (image_at S.Start) result.1 }
     ensures unopened { AreAsFound ⟦<FileFrom<S> as Disk>⟧ (image_at S.Start) result.1 }
 
-    // So are their trees as they were, also where no book can be read back from them.
+    // The trees of books stay as they were, also where no book can be read back from them.
     ensures same { (image : Image) → MayFollow ⟦<FileFrom<S> as Disk>⟧ result.1 image
         → HoldSameTrees (image_at S.Start) image }
 
