@@ -4,7 +4,7 @@ use Rattle.book_files.specs.Faults.{tried_answer}
 use Rattle.book_files.specs.declared.copies.CopyFault.{CopyFault}
 use Rattle.book_files.specs.declared.copies.CopyFault.TheVariants.{Pages, Refused}
 use Rattle.book_files.proofs.SessionParts.{comes_on}
-use Rattle.book_files.proofs.dry_runs.Files.try_out_books.Goals as goal
+use Rattle.book_files.proofs.repository.Files.try_out_books.Goals as goal
 
 -- what came of a visit of a copy
 tried_came : {A : Type 0} (Came : A → Type 0) (Same : Type 0) (answer : Result A CopyFault)
