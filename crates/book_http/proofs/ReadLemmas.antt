@@ -208,10 +208,10 @@ due_behind : {R : Type 0} (MayAnswer : ReadOutcome R)
     → MayGoOn before → AreDue MayAnswer IsDue first before
     → AreDue MayAnswer IsDueThen (reader_after first before) later
     → AreDue MayAnswer IsDue first (later ++ before)
-due_behind MayAnswer IsDue IsDueThen first [] before so open due due_later = due
-due_behind MayAnswer IsDue IsDueThen first (read ∷ later) before so open due due_later = (
-  due_behind MayAnswer IsDue IsDueThen first later before so open due due_later.0,
-  go_on_behind_both later before open due_later.1,
+due_behind MayAnswer IsDue IsDueThen first [] before so goes_on due due_later = due
+due_behind MayAnswer IsDue IsDueThen first (read ∷ later) before so goes_on due due_later = (
+  due_behind MayAnswer IsDue IsDueThen first later before so goes_on due due_later.0,
+  go_on_behind_both later before goes_on due_later.1,
   subst (λ bytes. IsDue bytes (length read.room)) (sym (bytes_behind later before))
       (so (bytes_read later) (length read.room) due_later.2),
   subst (λ reader. MayAnswer reader read.room read.answer read.after read.given)

@@ -62,7 +62,11 @@ pub enum Endpoint {
 const PERIOD_DIGITS: usize = 4;
 
 /// A router with one more endpoint.
-fn with_endpoint(mut router: Router<Endpoint>, route: &str, endpoint: Endpoint) -> Result<Router<Endpoint>, InsertError>
+fn with_endpoint(
+    mut router: Router<Endpoint>,
+    route: &str,
+    endpoint: Endpoint,
+) -> Result<Router<Endpoint>, InsertError>
     ensures { IfOk result (λ more. more ≡ spec.with_route route.now endpoint router) }
 {
     router.insert(route, endpoint)?;
@@ -89,14 +93,20 @@ static ROUTES: [(&str, Endpoint); 18] = [
         Endpoint::OfPeriod(PeriodReport::AdjustmentTable),
     ),
     ("/details/{*rest}", Endpoint::Details(StatementForm::Text)),
-    ("/details-csv/{*rest}", Endpoint::Details(StatementForm::Table)),
+    (
+        "/details-csv/{*rest}",
+        Endpoint::Details(StatementForm::Table),
+    ),
     ("/disputes", Endpoint::Disputes),
     ("/disputes-csv", Endpoint::DisputesCsv),
     ("/record/{*rest}", Endpoint::Record),
     ("/rulings", Endpoint::Rulings),
     ("/tariff/{*rest}", Endpoint::Tariff),
     ("/what-if/{*rest}", Endpoint::WhatIf(StatementForm::Text)),
-    ("/what-if-csv/{*rest}", Endpoint::WhatIf(StatementForm::Table)),
+    (
+        "/what-if-csv/{*rest}",
+        Endpoint::WhatIf(StatementForm::Table),
+    ),
     ("/import", Endpoint::Import(Layout::Rdw)),
     ("/import-bdw", Endpoint::Import(Layout::Bdw)),
     ("/", Endpoint::Office),

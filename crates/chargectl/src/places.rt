@@ -2,8 +2,9 @@
 //! ended, and may meet another state than the command met: it is advice, and no status rests on it.
 
 use crate::book_commands::tariff_text;
-use crate::causes::{cause_of_books, cause_of_new, cause_of_port, cause_of_read};
-use crate::causes::{in_place_of_log, is_file, is_there};
+use crate::causes::{
+    cause_of_books, cause_of_new, cause_of_port, cause_of_read, in_place_of_log, is_file, is_there,
+};
 use crate::command_fault::CommandFault;
 use book_core::LedgerFault;
 use book_import::Stop;

@@ -13,13 +13,12 @@ pub loop-byte-preserved : goal.loop-byte-preserved
 loop-byte-preserved g c =
     let remaining = bytes_remaining g.R.Read.remaining in
     let so_far = c.loop-byte.invariant in
-    let byte = c.in_ok-byte.field-0 in
-    (
+    let byte = c.in_ok-byte.field-0 in (
       so_far.0 ++ byte ∷ [],
       c.in_ok-push.ensures.read so_far.0 so_far.1,
       byte_came (remaining c.loop-byte.initial.byte-iterator) (remaining c.loop-byte.byte-iterator)
-      (remaining c.next.new.self) so_far.0 c.next.result byte so_far.2 c.next.ensures.steps
-      (c.in-Some.is ∙ ap Some c.in_ok-byte.was),
+          (remaining c.next.new.self) so_far.0 c.next.result byte so_far.2 c.next.ensures.steps
+          (c.in-Some.is ∙ ap Some c.in_ok-byte.was),
     )
 
 pub returns-in_err-push-clause-refused : goal.returns-in_err-push-clause-refused
