@@ -71,8 +71,8 @@ settled book place answer held holds what sent = record {
 -- one that is not settled asks something of them
 pub asks_them : (request : Requested)
     → ((answer : Answer) → request ≡ requested.Settled answer → ⊥) → asks_books request ≡ true
-asks_them (requested.Settled answer) open = absurd (open answer refl)
-asks_them request open = refl
+asks_them (requested.Settled answer) other = absurd (other answer refl)
+asks_them request other = refl
 
 -- what was answered was served
 pub served_from : {S : Type 0} (seen : S → Shelf) (old new : S) (book taken : List ℕ) (ended : Bool)

@@ -179,13 +179,19 @@ impl<'a> Places<'a> {
             return spot;
         }
         match self.new {
-            Some(path) if self.books.is_some() && is_there(rt, path, "") => output_failed(),
-            Some(path) => {
-                let cause = cause_of_new(rt, path).unwrap_or(Cause::Failed);
-                Spot::at(Place::File(path), Some(cause))
-            }
+            Some(path) => self.failed_new(rt, path),
             None => output_failed(),
         }
+    }
+
+    fn failed_new(self, rt: &HostRuntime, path: &'a str) -> Spot<'a> {
+        if self.books.is_some() {
+            if is_there(rt, path, "") {
+                return output_failed();
+            }
+        }
+        let cause = cause_of_new(rt, path).unwrap_or(Cause::Failed);
+        Spot::at(Place::File(path), Some(cause))
     }
 
     fn failed_books(self, rt: &HostRuntime) -> Option<Spot<'a>> {
