@@ -31,7 +31,7 @@ use Rattle.chargectl.specs.declared.client_requests.Told.{Told}
 use Rattle.chargectl.specs.declared.client_requests.Told.TheVariants as tells
 use Rattle.chargectl.specs.ClientRequests.{AsksOpen, EndsBy, EndsUnseen, IsAnsweredFrom, IsReplied}
 use Rattle.chargectl.specs.ClientRequests.{IsServedByReads, IsServedFrom, StreamsAnswer, away_reply}
-use Rattle.chargectl.specs.ClientRequests.{asks_books, is_streamed}
+use Rattle.chargectl.specs.ClientRequests.{is_streamed}
 use Rattle.chargectl.specs.Serving.{AnswersSome, Fits, Replies, ServesOne, is_answered}
 
 -- ---- what is sent
@@ -67,12 +67,6 @@ settled book place answer held holds what sent = record {
   quiet = λ quiet. refl;
   ends = sent;
 }
-
--- one that is not settled asks something of them
-pub asks_them : (request : Requested)
-    → ((answer : Answer) → request ≡ requested.Settled answer → ⊥) → asks_books request ≡ true
-asks_them (requested.Settled answer) other = absurd (other answer refl)
-asks_them request other = refl
 
 -- what was answered was served
 pub served_from : {S : Type 0} (seen : S → Shelf) (old new : S) (book taken : List ℕ) (ended : Bool)

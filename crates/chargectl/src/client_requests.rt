@@ -217,7 +217,14 @@ pub fn serve_request<R: Reader + Drop, W: Peer + Drop, S: Repository>(
             let (served, writer) = send_to(writer, &answer);
             (Attended { served, log: None }, writer)
         }
-        Ok(request) => answer_from_books(alloc, request, writer, repository, book),
+        Ok(Requested::Office(request)) => {
+            let request = Requested::Office(request);
+            answer_from_books(alloc, request, writer, repository, book)
+        }
+        Ok(Requested::Details(details)) => {
+            let request = Requested::Details(details);
+            answer_from_books(alloc, request, writer, repository, book)
+        }
         Err(Unanswered::Closed) => {
             let served = Served::Closed;
             (Attended { served, log: None }, writer)

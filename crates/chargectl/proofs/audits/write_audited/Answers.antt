@@ -8,5 +8,5 @@ returns-in-Err g c =
 
 pub returns-in-Unsound : goal.returns-in-Unsound
 returns-in-Unsound g c =
-    audit_unsound c.args.audited.now _ (string_bytes c.text) _ _ _ c.in-Unsound.is
+    audit_unsound c.args.audited.now _ (string_bytes c.in-Ok.text) _ _ _ c.in-Unsound.is
     c.audit_text.ensures c.print-written.ensures
