@@ -1,4 +1,5 @@
-use Rattle.std.specs.Prelude.{string_bytes}
+use Rattle.std.proofs.Common.{subst, sym}
+use Rattle.book_audit.specs.Texts.{IsAuditText}
 use Rattle.chargectl.proofs.AuditLemmas.{audit_memory, audit_unsound}
 use Rattle.chargectl.proofs.audits.write_audited.Goals as goal
 
@@ -8,5 +9,6 @@ returns-in-Err g c =
 
 pub returns-in-Unsound : goal.returns-in-Unsound
 returns-in-Unsound g c =
-    audit_unsound c.args.audited.now _ (string_bytes c.in-Ok.text) _ _ _ c.in-Unsound.is
-    c.audit_text.ensures c.print-written.ensures
+    audit_unsound c.args.audited.now _ c.into_bytes.result.items _ _ _ c.in-Unsound.is
+    (subst (λ text. IsAuditText c.args.audited.now text.items) (sym c.into_bytes.ensures.value)
+    c.in-Ok.ensures) c.print-written.ensures

@@ -16,8 +16,8 @@ loop-byte-preserved g c =
     let byte = c.in_ok-byte.field-0 in (
       so_far.0 ++ byte ∷ [],
       c.in_ok-push.ensures.read so_far.0 so_far.1,
-      byte_came (remaining c.loop-byte.initial.byte-iterator) (remaining c.loop-byte.byte-iterator)
-          (remaining c.next.new.self) so_far.0 c.next.result byte so_far.2 c.next.ensures.steps
+      byte_came _ (remaining c.loop-byte.byte-iterator) (remaining c.next.new.self) so_far.0
+          c.next.result byte so_far.2 c.next.ensures.steps
           (c.in-Some.is ∙ ap Some c.in_ok-byte.was),
     )
 

@@ -19,7 +19,7 @@ returns g c =
     let visited = c.visit_copy_at-answer in
     let Came = g.V.Visit.comes c.args.visit.now visited.new.visit in
     let Same : Type 0 = visited.new.visit ≡ c.args.visit.now in
-    comes_on Came Same c.tried_answer.result visited.result.copy c.released.result.answer
-    c.released.ensures.told
+    comes_on Came Same c.tried_answer.result visited.result.copy c.released-answer.result.answer
+    c.released-answer.ensures.told
     (subst (λ told. MatchResult told Came (λ fault. Same)) (sym c.tried_answer.ensures)
     (tried_came Came Same visited.result.answer visited.ensures.came))
