@@ -31,6 +31,6 @@ pub use client_requests::{Attended, serve_request};
 pub use laws::commands_follow_history;
 pub use port::{Connections, Peer, answer_peer};
 pub use program::command;
-pub use program_output::{Status, arguments_failed};
+pub use program_output::{Status, arguments_failed, check_list, trial};
 pub use serve::serve_each;
 pub use served_lines::ServedLines;

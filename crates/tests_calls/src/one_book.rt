@@ -4,7 +4,7 @@ ghost use Rattle.std.specs.Prelude.{◌≡◌};
 
 use book_audit::{Audited, AuditedRepository, Watch};
 use book_core::{LedgerFault, Naming};
-use named_books::{Opened, Repository, RepositoryFault, Upgraded, Visit};
+use named_books::{Opened, Repository, RepositoryFault, Upgraded, Visit, WaitingRepository};
 use plain_ledger::PlainLedger;
 use std::alloc::Global;
 use tariff_rules::Tariff;
