@@ -50,7 +50,7 @@ figures_seen figures = record {
 }
 
 -- the figures of a period by its charge rows and its adjustment lines: the sums of the statement,
--- and what its adjustments charge and what they reverse
+-- and what its adjustments add and what they reverse
 abbrev pub figures_of : List ChargeRow → List Line → FiguresSeen
 figures_of rows lines = record {
   records = sum_by (λ row. row.count) rows;

@@ -19,7 +19,7 @@ pub struct PeriodFigures {
     pub records: u64,
     /// What its statement charges.
     pub charged: u64,
-    /// What its adjustments charge.
+    /// What its adjustments add.
     pub added: u64,
     /// What they reverse.
     pub reversed: u64,
@@ -80,7 +80,7 @@ pub fn period_figures(
     Ok(PeriodFigures {
         records: sums.records,
         charged: sums.statement,
-        added: sums.charged,
+        added: sums.added,
         reversed: sums.reversed,
         costs,
     })

@@ -95,7 +95,7 @@ fn push_foot(alloc: Global, out: &mut String, lines: &[Line]) -> Result<(), Allo
         ≡ string_bytes out.old ++ spec.adjustment_foot lines.now) }
 {
     let sums = figures_of(&[], lines, 0);
-    let sum = signed_text(alloc, u128::from(sums.charged), sums.reversed)?;
+    let sum = signed_text(alloc, u128::from(sums.added), sums.reversed)?;
     push_table_foot(out, &["Total", "", "", "", sum.as_str(), "", ""])
 }
 

@@ -22,8 +22,8 @@ bill_heading =
     ∷ codes "job" ∷ []
 
 -- where a row of work is charged
-unfoldable pub place_fields : ChargeRow → List (List ℕ)
-place_fields row = day_text_of row.day ∷ row.centre ∷ row.shift ∷ []
+unfoldable pub row_key_fields : ChargeRow → List (List ℕ)
+row_key_fields row = day_text_of row.day ∷ row.centre ∷ row.shift ∷ []
 
 -- what it is and how much, by what it shows of CPU time and of blocks, and what it costs
 unfoldable pub work_fields : List ℕ → List ℕ → List ℕ → ChargeRow → List (List ℕ)
@@ -33,7 +33,7 @@ work_fields kind cpu blocks row =
 -- its line
 unfoldable pub work_row : ℕ → List ℕ → List ℕ → List ℕ → ChargeRow → List ℕ
 work_row period kind cpu blocks row =
-    fields_line (decimal period ∷ place_fields row ++ work_fields kind cpu blocks row)
+    fields_line (decimal period ∷ row_key_fields row ++ work_fields kind cpu blocks row)
 
 -- the line of a row of steps, and that of a row of jobs
 abbrev pub step_row : ℕ → ChargeRow → List ℕ
@@ -44,8 +44,8 @@ abbrev pub job_row : ℕ → ChargeRow → List ℕ
 job_row period = work_row period (codes "JOBS") [] []
 
 -- the amount of a line, the period that it speaks of, and which record it is of
-unfoldable pub line_fields : BilledLine → List (List ℕ)
-line_fields billed =
+unfoldable pub billed_fields : BilledLine → List (List ℕ)
+billed_fields billed =
     let line = billed.line in
     word_of line.plus ∷ [] ∷ [] ∷ []
     ∷ signed_text (charged_amount line) (reversed_amount line) ∷ number_text billed.period
@@ -53,7 +53,7 @@ line_fields billed =
 
 unfoldable pub billed_row : ℕ → BilledLine → List ℕ
 billed_row period billed =
-    fields_line (decimal period ∷ key_fields billed.line.priced ++ line_fields billed)
+    fields_line (decimal period ∷ key_fields billed.line.priced ++ billed_fields billed)
 
 -- the names of the columns, the steps, the jobs, and the lines; there is no total
 abbrev pub bill_table : ℕ → BillSeen → List ℕ

@@ -17,8 +17,8 @@ member_heading =
 
 -- of an identity the system, its first 4 bytes, the job, the next 8, and when a reader took it in,
 -- the 8 after these
-unfoldable pub job_fields : List ℕ → List (List ℕ)
-job_fields identity =
+unfoldable pub identity_fields : List ℕ → List (List ℕ)
+identity_fields identity =
     show_text (part identity 0 4) ∷ show_text (part identity 4 8) ∷ moment_of (part identity 12 8)
     ∷ []
 
@@ -29,7 +29,7 @@ step_fields identity = decimal (number identity 20 2) ∷ decimal (number identi
 -- which work a record measures: the number and the identity of its dispute, and its own initiation
 unfoldable pub work_fields : ℕ → List ℕ → List ℕ → List (List ℕ)
 work_fields dispute identity initiation =
-    decimal dispute ∷ job_fields identity ++ moment_of initiation ∷ step_fields identity
+    decimal dispute ∷ identity_fields identity ++ moment_of initiation ∷ step_fields identity
 
 -- which record it is, and its day, what it measures and what it costs
 unfoldable pub price_fields : Variant → List (List ℕ)

@@ -67,7 +67,7 @@ statement_line period before after =
 unfoldable pub adjustments_line : ℕ → Figures → Figures → List ℕ
 adjustments_line period before after =
     figure_line (figure_name (codes "ADJUSTMENTS") period)
-    (signed_text before.charged before.reversed) (signed_text after.charged after.reversed)
+    (signed_text before.added before.reversed) (signed_text after.added after.reversed)
 
 -- the line of how many records a period counts
 unfoldable pub records_line : ℕ → ℕ → ℕ → List ℕ

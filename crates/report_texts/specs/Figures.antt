@@ -23,12 +23,12 @@ abbrev pub record_count_from : ℤ → List ChargeRow → ℕ
 record_count_from day rows = sum_by (count_from day) rows
 
 -- The figures of a period by its charge rows and its adjustment lines: what its statement comes to,
--- what its adjustments charge and what they reverse, and how many records it counts. The last one is
--- of the ruling.
+-- what its adjustments add and what they reverse, and how many records it counts. The last one is of
+-- the ruling.
 abbrev pub figures_by : List ChargeRow → List Line → ℕ → Figures
 figures_by rows lines own = record {
   statement = sum_by (λ row. row.amount) rows;
-  charged = sum_by charged_amount lines;
+  added = sum_by charged_amount lines;
   reversed = sum_by reversed_amount lines;
   records = record_count rows;
   own = own;

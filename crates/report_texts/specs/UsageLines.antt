@@ -1,15 +1,15 @@
 -- What a record of usage says, as a record's text shows it: when it was written, which work it
 -- measures, how that ran, and its accounting fields.
-use Rattle.std.specs.Prelude.{ℕ, ◌==◌, if◌then◌else◌, List, [], ◌++◌, flat_map, codes}
+use Rattle.std.specs.Prelude.{ℕ, List, [], ◌++◌, flat_map, codes}
 use Rattle.std.specs.Prelude.{Option, Some, None}
 use Rattle.std.specs.Fmt.{decimal}
 use Rattle.smf_type30.specs.Accounts.{accounts_of}
-use Rattle.smf_type30.specs.Layout.{accounting, job_end}
+use Rattle.smf_type30.specs.Layout.{accounting}
 use Rattle.smf_type30.specs.Section.{count_of}
-use Rattle.smf_type30.specs.Usage.{completion_of, day_of, identity_of, initiation_of, job_id_of}
-use Rattle.smf_type30.specs.Usage.{program_of, subtype_of, time_of}
-use Rattle.book_model.specs.Words.{number, part, show_text}
-use Rattle.report_texts.specs.Columns.{newline}
+use Rattle.smf_type30.specs.Usage.{completion_of, day_of, ended_step_of, identity_of, initiation_of}
+use Rattle.smf_type30.specs.Usage.{job_id_of, program_of, subtype_of, time_of}
+use Rattle.book_model.specs.Words.{part, show_text}
+use Rattle.report_texts.specs.Columns.{newline, number_text}
 use Rattle.report_texts.specs.DisputeLists.{completion_text, job_text, moment_text, reader_text}
 use Rattle.report_texts.specs.Moments.{day_time_text}
 
@@ -19,15 +19,11 @@ dated_line bytes period =
     codes "DATED " ++ day_time_text (day_of bytes) (time_of bytes)
     ++ codes " IN PERIOD " ++ decimal period ++ newline
 
--- the number of the step, the last 2 bytes of the identity; the end of a job is no step's
-unfoldable pub step_shown : List ℕ → List ℕ
-step_shown bytes =
-    if subtype_of bytes == job_end then codes "-" else decimal (number (identity_of bytes) 22 2)
-
--- the subtype and the step
+-- the subtype, and the number of the step that ended, `-` where a job ended
 unfoldable pub subtype_text : List ℕ → List ℕ
 subtype_text bytes =
-    codes " SUBTYPE " ++ decimal (subtype_of bytes) ++ codes " STEP " ++ step_shown bytes
+    codes " SUBTYPE " ++ decimal (subtype_of bytes)
+    ++ codes " STEP " ++ number_text (ended_step_of bytes)
 
 -- which work it measures: its identity by the first rule
 unfoldable pub work_line : List ℕ → List ℕ

@@ -11,13 +11,13 @@ use Rattle.report_texts.specs.StatementTables.{row_table}
 use Rattle.report_texts.specs.Centres.{centre_title, rows_of_centre}
 
 -- the line that says which tariff it is, by the SHA-256 of its file
-unfoldable pub tariff_line : List ℕ → List ℕ
-tariff_line digest = codes "TARIFF " ++ encode_lower digest ++ newline
+unfoldable pub digest_line : List ℕ → List ℕ
+digest_line digest = codes "TARIFF " ++ encode_lower digest ++ newline
 
 -- what stands below the title: the tariff, the rows by it, and the rows that the period is charged
 unfoldable pub what_if_lines : List ℕ → List ChargeRow → List ChargeRow → List ℕ
 what_if_lines digest rows charged =
-    tariff_line digest ++ row_lines rows ++ sums_line (codes "CHARGED") charged
+    digest_line digest ++ row_lines rows ++ sums_line (codes "CHARGED") charged
 
 -- the what-if of a period: by its number, the day that it was closed through, if it was, the
 -- tariff, all rows by it, and all rows that the period is charged

@@ -39,11 +39,11 @@ fn write_heading(table: &mut Writer<Vec<u8>>) -> Result<(), AllocError>
 }
 
 /// Adds where a row of work is charged.
-#[tactic(auto, unfolding(crate::specs::BillTables::place_fields))]
+#[tactic(auto, unfolding(crate::specs::BillTables::row_key_fields))]
 fn add_place(alloc: Global, fields: &mut StringRecord, row: &ChargeRow) -> Result<(), AllocError>
     requires { IsDay row.now.day }
     ensures { OnOk result (fields_of fields.new
-        ≡ fields_of fields.old ++ spec.place_fields row.now) }
+        ≡ fields_of fields.old ++ spec.row_key_fields row.now) }
 {
     add_day(alloc, fields, row.day)?;
     fields.push_field(row.centre.text())?;
@@ -139,10 +139,10 @@ fn write_jobs(
 }
 
 /// Adds the amount of a line, the period that it speaks of, and which record it is of.
-#[tactic(auto, unfolding(crate::specs::BillTables::line_fields))]
+#[tactic(auto, unfolding(crate::specs::BillTables::billed_fields))]
 fn add_line(alloc: Global, fields: &mut StringRecord, billed: &BilledLine) -> Result<(), AllocError>
     ensures { OnOk result (fields_of fields.new
-        ≡ fields_of fields.old ++ spec.line_fields billed.now) }
+        ≡ fields_of fields.old ++ spec.billed_fields billed.now) }
 {
     let line = &billed.line;
     fields.push_field(word_of(line))?;

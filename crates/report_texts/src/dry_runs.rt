@@ -153,8 +153,8 @@ fn push_adjustments(
         ≡ string_bytes out.old ++ spec.adjustments_line period before.now after.now) }
 {
     let name = figure_name(alloc, "ADJUSTMENTS", u32::from(period))?;
-    let before = signed_text(alloc, before.charged, before.reversed)?;
-    let after = signed_text(alloc, after.charged, after.reversed)?;
+    let before = signed_text(alloc, before.added, before.reversed)?;
+    let after = signed_text(alloc, after.added, after.reversed)?;
     push_figure(out, name.as_str(), before.as_str(), after.as_str())
 }
 

@@ -12,8 +12,8 @@ use book_model::{ChargeRow, Line};
 pub struct Figures {
     /// What its statement comes to, in ten-thousandths of the money unit.
     pub statement: u64,
-    /// What its adjustments charge, in ten-thousandths of the money unit.
-    pub charged: u64,
+    /// What its adjustments add, in ten-thousandths of the money unit.
+    pub added: u64,
     /// What they reverse, in ten-thousandths of the money unit.
     pub reversed: u64,
     /// How many records it counts.
@@ -32,10 +32,10 @@ pub fn figures_of(rows: &[ChargeRow], lines: &[Line], own: u64) -> Figures
     ensures { result ≡ spec.figures_by rows.now lines.now own }
 {
     let (records, _, _, statement) = statements::row_sums(rows);
-    let (charged, reversed) = adjustment_lists::sums(lines);
+    let (added, reversed) = adjustment_lists::sums(lines);
     Figures {
         statement,
-        charged,
+        added,
         reversed,
         records,
         own,

@@ -2,6 +2,7 @@
 
 ghost use Rattle.std.specs.Prelude.{◌≡◌, ◌++◌, OnOk, string_bytes};
 ghost use Rattle.book_model.specs.Words.{IsDay};
+ghost use Rattle.report_texts.specs.Columns.{number_text};
 ghost use Rattle.report_texts.specs.ReckoningLines as spec;
 
 use crate::columns::{amount_text, push_number, seconds_text};
@@ -9,6 +10,15 @@ use crate::parts::push_day;
 use smf_text::Name;
 use std::alloc::{AllocError, Global};
 use tariff_rules::Reckoning;
+
+/// How many parts make a ten-thousandth of the money unit.
+const WHOLE_PARTS: u64 = 100_000;
+
+/// The parts that a hundredth of a second has, at one percent, by the rate of a CPU second.
+const HUNDREDTH_PARTS: u64 = 10;
+
+/// The parts that a record has, at one percent, by its own rate.
+const RECORD_PARTS: u64 = 1000;
 
 /// Appends what was measured.
 #[tactic(auto, unfolding(crate::specs::ReckoningLines::measured_line))]
@@ -24,10 +34,10 @@ fn push_measured(alloc: Global, out: &mut String, reckoning: &Reckoning) -> Resu
 }
 
 /// Appends the number of the rule that decided, if one did.
-#[tactic(auto, unfolding(crate::specs::ReckoningLines::rule_text))]
+#[tactic(auto, unfolding(crate::specs::Columns::number_text))]
 fn push_rule(out: &mut String, rule: Option<u64>) -> Result<(), AllocError>
     ensures { OnOk result (string_bytes out.new
-        ≡ string_bytes out.old ++ spec.rule_text rule) }
+        ≡ string_bytes out.old ++ number_text rule) }
 {
     match rule {
         Some(number) => push_number(out, number),
@@ -48,11 +58,11 @@ fn push_ruled(out: &mut String, word: &str, name: Name, rule: Option<u64>) -> Re
 }
 
 /// Appends the tariff, and what its rules gave.
-#[tactic(auto, unfolding(crate::specs::ReckoningLines::tariff_line))]
+#[tactic(auto, unfolding(crate::specs::ReckoningLines::rules_line))]
 fn push_tariff(alloc: Global, out: &mut String, reckoning: &Reckoning) -> Result<(), AllocError>
     requires { IsDay reckoning.now.effective }
     ensures { OnOk result (string_bytes out.new
-        ≡ string_bytes out.old ++ spec.tariff_line reckoning.now) }
+        ≡ string_bytes out.old ++ spec.rules_line reckoning.now) }
 {
     out.push_str("TARIFF ")?;
     push_day(alloc, out, reckoning.effective)?;
@@ -66,15 +76,15 @@ fn push_tariff(alloc: Global, out: &mut String, reckoning: &Reckoning) -> Result
     out.push('\n')
 }
 
-/// Appends a number by its rate.
+/// Appends one number by another.
 #[tactic(auto, unfolding(crate::specs::ReckoningLines::product_text))]
-fn push_product(out: &mut String, number: u64, rate: u64) -> Result<(), AllocError>
+fn push_product(out: &mut String, number: u64, other: u64) -> Result<(), AllocError>
     ensures { OnOk result (string_bytes out.new
-        ≡ string_bytes out.old ++ spec.product_text number rate) }
+        ≡ string_bytes out.old ++ spec.product_text number other) }
 {
     push_number(out, number)?;
     out.push_str(" * ")?;
-    push_number(out, rate)
+    push_number(out, other)
 }
 
 /// Appends the parts of the formula.
@@ -83,12 +93,14 @@ fn push_parts(out: &mut String, reckoning: &Reckoning) -> Result<(), AllocError>
     ensures { OnOk result (string_bytes out.new
         ≡ string_bytes out.old ++ spec.parts_text reckoning.now) }
 {
-    out.push_str("(10 * ")?;
-    push_product(out, reckoning.priced.cpu, reckoning.cpu_rate)?;
+    out.push('(')?;
+    push_product(out, HUNDREDTH_PARTS, reckoning.priced.cpu)?;
+    out.push_str(" * ")?;
+    push_number(out, reckoning.cpu_rate)?;
     out.push_str(" + ")?;
     push_product(out, reckoning.priced.excp, reckoning.excp_rate)?;
-    out.push_str(" + 1000 * ")?;
-    push_number(out, reckoning.record_fee)?;
+    out.push_str(" + ")?;
+    push_product(out, RECORD_PARTS, reckoning.record_fee)?;
     out.push(')')
 }
 
@@ -98,7 +110,9 @@ fn push_whole(out: &mut String, amount: u64) -> Result<(), AllocError>
     ensures { OnOk result (string_bytes out.new
         ≡ string_bytes out.old ++ spec.whole_text amount) }
 {
-    out.push_str(" / 100000 = ")?;
+    out.push_str(" / ")?;
+    push_number(out, WHOLE_PARTS)?;
+    out.push_str(" = ")?;
     push_number(out, amount)
 }
 

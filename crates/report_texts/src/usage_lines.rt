@@ -6,16 +6,15 @@ ghost use Rattle.smf_type30.specs.AccountWalk.{BeginsWith, BeginsWithNone};
 ghost use Rattle.smf_type30.specs.Accounts.{fields_in};
 ghost use Rattle.smf_type30.specs.Layout.{accounting};
 ghost use Rattle.smf_type30.specs.Section.{count_of, offset_of};
-ghost use Rattle.smf_type30.specs.Usage.{identity_of};
 ghost use Rattle.book_model.specs.Words.{IsUsage, number};
 ghost use Rattle.report_texts.specs.UsageLines as spec;
 
-use crate::columns::push_number;
+use crate::columns::{number_text, push_number};
 use crate::dispute_lists::{push_completion, push_job, push_moment};
 use crate::moments::day_time_text;
 use crate::parts::push_shown;
 use byteorder::{BigEndian, ByteOrder};
-use smf_type30::{JOB_END, Type30};
+use smf_type30::Type30;
 use std::alloc::{AllocError, Global};
 
 /// Where the offset of the accounting section stands.
@@ -43,30 +42,16 @@ fn push_dated(
     out.push('\n')
 }
 
-/// Appends the number of the step that ended, by the identity of the work.
-#[tactic(auto, unfolding(crate::specs::UsageLines::step_shown))]
-fn push_step(out: &mut String, usage: &Type30<'_>, identity: &[u8; 24]) -> Result<(), AllocError>
-    requires { identity.now ≡ identity_of usage.now }
-    ensures { OnOk result (string_bytes out.new
-        ≡ string_bytes out.old ++ spec.step_shown usage.now) }
-{
-    if usage.subtype() == JOB_END {
-        return out.push('-');
-    }
-    push_number(out, u64::from(BigEndian::read_u16(&identity[22..])))
-}
-
-/// Appends the subtype and the step.
+/// Appends the subtype, and the number of the step that ended.
 #[tactic(auto, unfolding(crate::specs::UsageLines::subtype_text))]
-fn push_subtype(out: &mut String, usage: &Type30<'_>, identity: &[u8; 24]) -> Result<(), AllocError>
-    requires { identity.now ≡ identity_of usage.now }
+fn push_subtype(alloc: Global, out: &mut String, usage: &Type30<'_>) -> Result<(), AllocError>
     ensures { OnOk result (string_bytes out.new
         ≡ string_bytes out.old ++ spec.subtype_text usage.now) }
 {
     out.push_str(" SUBTYPE ")?;
     push_number(out, u64::from(usage.subtype()))?;
     out.push_str(" STEP ")?;
-    push_step(out, usage, identity)
+    out.push_str(number_text(alloc, usage.ended_step())?.as_str())
 }
 
 /// Appends which work a record measures.
@@ -78,7 +63,7 @@ fn push_work(alloc: Global, out: &mut String, usage: &Type30<'_>) -> Result<(), 
     let identity = usage.identity();
     push_job(alloc, out, &identity)?;
     push_moment(alloc, out, " READER ", &identity, 12)?;
-    push_subtype(out, usage, &identity)?;
+    push_subtype(alloc, out, usage)?;
     out.push('\n')
 }
 

@@ -15,10 +15,10 @@ use smf_text::Name;
 use std::alloc::{AllocError, Global};
 
 /// Appends the line that says which tariff it is, by the SHA-256 of its file.
-#[tactic(auto, unfolding(crate::specs::WhatIfs::tariff_line))]
+#[tactic(auto, unfolding(crate::specs::WhatIfs::digest_line))]
 fn push_tariff(alloc: Global, out: &mut String, digest: &[u8; 32]) -> Result<(), AllocError>
     ensures { OnOk result (string_bytes out.new
-        ≡ string_bytes out.old ++ spec.tariff_line digest.now) }
+        ≡ string_bytes out.old ++ spec.digest_line digest.now) }
 {
     out.push_str("TARIFF ")?;
     push_name(alloc, out, digest)?;
