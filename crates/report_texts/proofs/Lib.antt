@@ -9,3 +9,4 @@ pub mod FigureLemmas
 pub mod AccountLines
 pub mod DifferenceLemmas
 pub mod ChargeLemmas
+pub mod CentreAmountLemmas

@@ -18,6 +18,7 @@ pub mod DisputeTables
 pub mod DetailLists
 pub mod DetailTables
 pub mod Charges
+pub mod CentreAmounts
 pub mod BillTexts
 pub mod OfficeBills
 pub mod BillTables

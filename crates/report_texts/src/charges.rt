@@ -6,7 +6,7 @@ ghost use Rattle.report_texts.specs.Charges as spec;
 ghost use Rattle.report_texts.specs.Charges.{FitCharges, IsBill};
 
 use crate::adjustment_lists::signed_text;
-use crate::centres::{keep_lines, keep_rows};
+use crate::centre_amounts::{centre_amounts, charges_among};
 use crate::{adjustment_lists, statements};
 use book_model::{Bill, BilledLine, ChargeRow, Line};
 use smf_text::Name;
@@ -70,29 +70,6 @@ pub(crate) fn charges_of(steps: &[ChargeRow], jobs: &[ChargeRow], lines: &[Line]
     }
 }
 
-/// What the centre is charged of that.
-fn charges_of_centre(
-    alloc: Global,
-    centre: Name,
-    steps: &[ChargeRow],
-    jobs: &[ChargeRow],
-    lines: &[Line],
-) -> Result<Charges, AllocError>
-    requires steps { AreRows steps.now }
-    requires jobs { AreRows jobs.now }
-    requires lines { AreLines lines.now }
-    ensures { IfOk result (λ own.
-        own ≡ spec.charges_of_centre centre steps.now jobs.now lines.now) }
-{
-    let mut own_steps = Vec::from_slice(alloc, steps)?;
-    let mut own_jobs = Vec::from_slice(alloc, jobs)?;
-    let mut own_lines = Vec::from_slice(alloc, lines)?;
-    keep_rows(&mut own_steps, centre);
-    keep_rows(&mut own_jobs, centre);
-    keep_lines(&mut own_lines, centre);
-    Ok(charges_of(&own_steps, &own_jobs, &own_lines))
-}
-
 /// The centres of rows and lines, each once and in order.
 fn centres_of(
     alloc: Global,
@@ -131,9 +108,10 @@ fn each_charges(
         (spec.centres_of steps.now jobs.now lines.now)) }
 {
     let centres = centres_of(alloc, steps, jobs, lines)?;
+    let amounts = centre_amounts(alloc, steps, jobs, lines)?;
     let mut each = Vec::new(alloc);
     for centre in &centres {
-        let charges = charges_of_centre(alloc, *centre, steps, jobs, lines)?;
+        let charges = charges_among(&amounts, *centre);
         each.push(CentreCharges {
             centre: *centre,
             charges,

@@ -58,7 +58,8 @@ fn add_moment(alloc: Global, row: &mut StringRecord, moment: &[u8]) -> Result<()
 #[tactic(auto, unfolding(crate::specs::DisputeTables::identity_fields))]
 fn add_job(alloc: Global, row: &mut StringRecord, identity: &[u8]) -> Result<(), AllocError>
     requires { identity_length ≤ length identity.now }
-    ensures { OnOk result (fields_of row.new ≡ fields_of row.old ++ spec.identity_fields identity.now) }
+    ensures { OnOk result (fields_of row.new
+        ≡ fields_of row.old ++ spec.identity_fields identity.now) }
 {
     add_shown(alloc, row, part(identity, 0, 4))?;
     add_shown(alloc, row, part(identity, 4, 8))?;

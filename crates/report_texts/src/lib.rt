@@ -5,6 +5,7 @@ mod adjustment_lists;
 mod adjustment_tables;
 mod bill_tables;
 mod bill_texts;
+mod centre_amounts;
 mod centres;
 mod charges;
 mod columns;
@@ -34,6 +35,7 @@ pub use adjustment_lists::{adjustment_list_text, word_of};
 pub use adjustment_tables::adjustment_table;
 pub use bill_tables::{bill_table, office_bill_table};
 pub use bill_texts::bill_text;
+pub use centre_amounts::cost_among;
 pub use centres::{
     centre_adjustment_table, centre_adjustments_text, centre_statement_table,
     centre_statement_text, keep_lines,

@@ -1,0 +1,10 @@
+use Rattle.report_texts.proofs.centre_amounts.centre_amounts.Goals as goal
+
+-- these are the amounts of each part
+pub returns : goal.returns
+returns c = record {
+  steps = c.in_ok-of_steps.ensures;
+  jobs = c.in_ok-of_jobs.ensures;
+  late = c.in_ok-late.ensures;
+  reversed = c.in_ok-reversed.ensures;
+}

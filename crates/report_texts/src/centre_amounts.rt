@@ -1,0 +1,120 @@
+//! Amounts by centre: what each centre has of a bill, added up in one pass.
+
+ghost use Rattle.std.specs.Prelude.{◌≡◌, ◌+◌, ◌<◌, ◌^◌, IfOk, OnOk};
+ghost use Rattle.book_model.specs.Words.{AreLines, AreRows};
+ghost use Rattle.report_texts.specs.CentreAmounts as spec;
+ghost use Rattle.report_texts.specs.CentreAmounts.{AreAmounts, AreCharges};
+
+use crate::adjustment_lists::{charged_amount, reversed_amount};
+use crate::charges::Charges;
+use book_model::{ChargeRow, Line};
+use smf_text::Name;
+use std::alloc::{AllocError, Global};
+use std::collections::BTreeMap;
+
+/// What each centre has of a bill, by the parts of what it is charged.
+#[derive(Drop)]
+pub(crate) struct CentreAmounts {
+    /// For steps.
+    pub(crate) steps: BTreeMap<Name, u64>,
+    /// For jobs.
+    pub(crate) jobs: BTreeMap<Name, u64>,
+    /// For what came late.
+    pub(crate) late: BTreeMap<Name, u64>,
+    /// What was reversed.
+    pub(crate) reversed: BTreeMap<Name, u64>,
+}
+
+/// One more amount joins what its centre has.
+fn add_amount(
+    amounts: &mut BTreeMap<Name, u64>,
+    centre: Name,
+    amount: u64,
+) -> Result<(), AllocError>
+    requires { spec.cost_among amounts.old.entries centre + amount < 2 ^ 64 }
+    ensures { OnOk result (AreAmounts amounts.new.entries
+        (spec.with_amount amounts.old.entries centre amount)) }
+{
+    let own = amounts.entry(centre)?.or_insert(0);
+    *own += amount;
+    Ok(())
+}
+
+/// What the rows of each centre come to.
+fn row_amounts(alloc: Global, rows: &[ChargeRow]) -> Result<BTreeMap<Name, u64>, AllocError>
+    requires { AreRows rows.now }
+    ensures { IfOk result (λ amounts. AreAmounts amounts.entries (spec.cost_of rows.now)) }
+{
+    let mut amounts = BTreeMap::new(alloc);
+    for row in rows {
+        add_amount(&mut amounts, row.centre, row.amount)?;
+    }
+    Ok(amounts)
+}
+
+/// What the lines of each centre charge.
+fn late_amounts(alloc: Global, lines: &[Line]) -> Result<BTreeMap<Name, u64>, AllocError>
+    requires { AreLines lines.now }
+    ensures { IfOk result (λ amounts. AreAmounts amounts.entries (spec.late_amount lines.now)) }
+{
+    let mut amounts = BTreeMap::new(alloc);
+    for line in lines {
+        add_amount(&mut amounts, line.priced.centre, charged_amount(line))?;
+    }
+    Ok(amounts)
+}
+
+/// What the lines of each centre reverse.
+fn taken_amounts(alloc: Global, lines: &[Line]) -> Result<BTreeMap<Name, u64>, AllocError>
+    requires { AreLines lines.now }
+    ensures { IfOk result (λ amounts. AreAmounts amounts.entries (spec.taken_amount lines.now)) }
+{
+    let mut amounts = BTreeMap::new(alloc);
+    for line in lines {
+        add_amount(&mut amounts, line.priced.centre, reversed_amount(line))?;
+    }
+    Ok(amounts)
+}
+
+/// What each centre has of rows of steps, rows of jobs and lines.
+pub(crate) fn centre_amounts(
+    alloc: Global,
+    steps: &[ChargeRow],
+    jobs: &[ChargeRow],
+    lines: &[Line],
+) -> Result<CentreAmounts, AllocError>
+    requires steps { AreRows steps.now }
+    requires jobs { AreRows jobs.now }
+    requires lines { AreLines lines.now }
+    ensures { IfOk result (λ amounts. AreCharges amounts steps.now jobs.now lines.now) }
+{
+    let of_steps = row_amounts(alloc, steps)?;
+    let of_jobs = row_amounts(alloc, jobs)?;
+    let late = late_amounts(alloc, lines)?;
+    let reversed = taken_amounts(alloc, lines)?;
+    Ok(CentreAmounts {
+        steps: of_steps,
+        jobs: of_jobs,
+        late,
+        reversed,
+    })
+}
+
+/// What a centre has among amounts, nothing where it is not there.
+pub fn cost_among(amounts: &BTreeMap<Name, u64>, centre: Name) -> u64
+    ensures { result ≡ spec.cost_among amounts.now.entries centre }
+{
+    amounts.get(&centre).copied().unwrap_or(0)
+}
+
+/// What a centre is charged by the amounts.
+pub(crate) fn charges_among(amounts: &CentreAmounts, centre: Name) -> Charges
+    ensures { result ≡ spec.charges_among amounts.now centre }
+{
+    Charges {
+        steps: cost_among(&amounts.steps, centre),
+        jobs: cost_among(&amounts.jobs, centre),
+        late: cost_among(&amounts.late, centre),
+        reversed: cost_among(&amounts.reversed, centre),
+    }
+}
