@@ -3,9 +3,9 @@ use Rattle.std.specs.Prelude.{ℕ, ◌+◌, ◌*◌, ◌/◌, ◌%◌, ◌==◌,
 use Rattle.std.specs.Prelude.{List, [], ◌∷◌, ◌++◌, codes, map, unwrap_or}
 use Rattle.std.specs.Fmt.{decimal}
 use Rattle.std.specs.List.{concat, reduce}
+use Rattle.report_texts.specs.CentreAmounts.{cost_among}
 use Rattle.report_texts.specs.Columns.{amount_text}
 use Rattle.html_text.specs.Escaping.{escaped}
-use Rattle.page_texts.specs.Figures.{cost_among}
 use Rattle.page_texts.specs.Markup.{table_row}
 
 -- the width of a picture

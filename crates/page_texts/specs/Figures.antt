@@ -1,19 +1,13 @@
 -- Figures of a period: how many records it counts, what it charges, adds and reverses, and what each
 -- centre costs in it.
-use Rattle.std.specs.Prelude.{ℕ, ℤ, ◌+◌, List, filter, map, sum_by, unwrap_or}
-use Rattle.std.specs.BTreeMap.{is_at}
-use Rattle.std.specs.Map.{lookup}
+use Rattle.std.specs.Prelude.{ℕ, ℤ, ◌+◌, List, filter, map, sum_by}
 use Rattle.std.specs.Ordering.{int_cmp, int_eq}
 use Rattle.book_model.specs.declared.line.Line.{Line}
 use Rattle.book_model.specs.declared.row.ChargeRow.{ChargeRow}
-use Rattle.book_model.specs.Words.{by_bytes, members, same_bytes, set_of}
+use Rattle.book_model.specs.Words.{by_bytes, members, set_of}
 use Rattle.report_texts.specs.AdjustmentLists.{charged_amount, reversed_amount, signed_text}
+use Rattle.report_texts.specs.CentreAmounts.{cost_of}
 use Rattle.page_texts.specs.declared.figures.PeriodFigures.{PeriodFigures}
-
--- what the rows of a centre come to
-abbrev pub cost_of : List ChargeRow → List ℕ → ℕ
-cost_of rows centre =
-    sum_by (λ row. row.amount) (filter (λ row. same_bytes row.centre centre) rows)
 
 -- the centres of rows, each once and in order
 abbrev pub centres_of : List ChargeRow → List (List ℕ)
@@ -63,7 +57,3 @@ figures_of rows lines = record {
 -- what is owed: what is charged and added, less what is reversed
 unfoldable pub owed_text : FiguresSeen → List ℕ
 owed_text figures = signed_text (figures.charged + figures.added) figures.reversed
-
--- what a centre costs, nothing where it is not among them
-abbrev pub cost_among : List (List ℕ × ℕ) → List ℕ → ℕ
-cost_among costs centre = unwrap_or (lookup (is_at (by_bytes centre)) costs) 0

@@ -1,4 +1,4 @@
-//! Amounts, times and days as texts, by the definitions of the reports.
+//! Amounts and days as texts, by the definitions of the reports.
 
 ghost use Rattle.std.specs.Prelude.{◌≡◌, IfOk, string_bytes};
 ghost use Rattle.std.specs.Option.{ForSome};
@@ -7,19 +7,8 @@ ghost use Rattle.report_texts.specs.AdjustmentLists as lists;
 ghost use Rattle.report_texts.specs.Columns as columns;
 ghost use Rattle.report_texts.specs.Periods as periods;
 
-use crate::markup::joined;
 use smf_text::day_text;
 use std::alloc::{AllocError, Global};
-
-/// Hundredths of a second, in seconds.
-#[tactic(auto, using(report_texts::proofs::ColumnLemmas::places_written), unfolding(report_texts::specs::Columns::seconds_text))]
-pub(crate) fn seconds_text(alloc: Global, hundredths: u64) -> Result<String, AllocError>
-    ensures { IfOk result (λ text. string_bytes text ≡ columns.seconds_text hundredths) }
-{
-    let seconds = hundredths / 100;
-    let rest = hundredths % 100;
-    format!(in alloc; "{seconds}.{rest:02}")
-}
 
 /// Ten-thousandths of the money unit, in units.
 #[tactic(auto, using(report_texts::proofs::ColumnLemmas::places_written), unfolding(report_texts::specs::Columns::amount_text))]

@@ -4,9 +4,9 @@ ghost use Rattle.std.specs.Prelude.{◌≡◌, ◌≤◌, ◌++◌, IfOk, OnOk, 
 ghost use Rattle.page_texts.specs.Bars as spec;
 
 use crate::amounts::money;
-use crate::figures::cost_among;
 use crate::markup::{joined, push_all, push_row};
 use html_text::escaped;
+use report_texts::cost_among;
 use smf_text::Name;
 use std::alloc::{AllocError, Global};
 use std::collections::BTreeMap;

@@ -5,6 +5,8 @@ ghost use Rattle.std.specs.Option.{ForSome};
 ghost use Rattle.book_model.specs.Words.{IsDay};
 ghost use Rattle.page_texts.specs.Closes as spec;
 
+use book_core::{is_after, is_through};
+
 /// The day that the period of a number was closed through, if it was.
 pub(crate) fn close_of(closes: &[i32], period: usize) -> Option<i32>
     requires { All IsDay closes.now }
@@ -21,13 +23,5 @@ pub(crate) fn close_of(closes: &[i32], period: usize) -> Option<i32>
 pub(crate) fn is_between(before: Option<i32>, through: Option<i32>, day: i32) -> bool
     ensures { result ≡ spec.is_between before through day }
 {
-    let is_after = match before {
-        Some(close) => close < day,
-        None => true,
-    };
-    let is_through = match through {
-        Some(close) => day <= close,
-        None => true,
-    };
-    is_after && is_through
+    is_after(before, day) && is_through(through, day)
 }

@@ -95,10 +95,3 @@ pub(crate) fn owed_text(alloc: Global, figures: &PeriodFigures) -> Result<String
     let charged = u128::from(figures.charged) + u128::from(figures.added);
     signed_text(alloc, charged, figures.reversed)
 }
-
-/// What a centre costs, nothing where it is not among them.
-pub(crate) fn cost_among(costs: &BTreeMap<Name, u64>, centre: Name) -> u64
-    ensures { result ≡ spec.cost_among costs.now.entries centre }
-{
-    costs.get(&centre).copied().unwrap_or(0)
-}

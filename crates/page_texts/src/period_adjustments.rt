@@ -10,7 +10,7 @@ use crate::frame::push_table_foot;
 use crate::markup::{push_row, record_link};
 use book_model::Line;
 use html_text::{escaped, shown};
-use report_texts::figures_of;
+use report_texts::{figures_of, word_of};
 use smf_text::day_text;
 use std::alloc::{AllocError, Global};
 
@@ -27,13 +27,6 @@ fn push_head(out: &mut String) -> Result<(), AllocError>
     ensures { OnOk result (string_bytes out.new ≡ string_bytes out.old ++ spec.adjustment_head) }
 {
     out.push_str(HEAD)
-}
-
-/// The word for whether a line charges its record, or takes the charge back.
-fn word_of(line: &Line) -> &'static str
-    ensures { result.now ≡ lists.word_of line.now.plus }
-{
-    if line.plus { "PLUS" } else { "MINUS" }
 }
 
 /// What a line charges, or a minus sign and what it takes back.

@@ -1,14 +1,15 @@
 //! The statement on a period's page.
 
-ghost use Rattle.std.specs.Prelude.{◌≡◌, ◌++◌, OnOk, flat_map, string_bytes, sum_by};
+ghost use Rattle.std.specs.Prelude.{◌≡◌, ◌++◌, OnOk, flat_map, string_bytes};
 ghost use Rattle.book_model.specs.Words.{AreRows, IsDay};
 ghost use Rattle.page_texts.specs.PeriodTables as spec;
 
-use crate::amounts::{money, seconds_text};
+use crate::amounts::money;
 use crate::frame::push_table_foot;
 use crate::markup::push_row;
 use book_model::ChargeRow;
 use html_text::escaped;
+use report_texts::{row_sums, seconds_text};
 use smf_text::day_text;
 use std::alloc::{AllocError, Global};
 
@@ -66,30 +67,6 @@ fn push_charge_rows(alloc: Global, out: &mut String, rows: &[ChargeRow]) -> Resu
     Ok(())
 }
 
-/// The sums of rows: how many records there are, their CPU time, their blocks, and what they cost.
-#[tactic(auto, using(std::proofs::lemmas::List::Sums::sum_by_more_le))]
-fn sums(rows: &[ChargeRow]) -> (u64, u64, u64, u64)
-    requires { AreRows rows.now }
-    ensures { result ≡ (
-      sum_by (λ row. row.count) rows.now,
-      sum_by (λ row. row.cpu) rows.now,
-      sum_by (λ row. row.blocks) rows.now,
-      sum_by (λ row. row.amount) rows.now,
-    ) }
-{
-    let mut count = 0;
-    let mut cpu = 0;
-    let mut blocks = 0;
-    let mut amount = 0;
-    for row in rows {
-        count += row.count;
-        cpu += row.cpu;
-        blocks += row.blocks;
-        amount += row.amount;
-    }
-    (count, cpu, blocks, amount)
-}
-
 /// Appends the end of the statement, with the sums of charge rows.
 #[tactic(auto, unfolding(crate::specs::PeriodTables::statement_foot))]
 fn push_foot(alloc: Global, out: &mut String, rows: &[ChargeRow]) -> Result<(), AllocError>
@@ -97,7 +74,7 @@ fn push_foot(alloc: Global, out: &mut String, rows: &[ChargeRow]) -> Result<(), 
     ensures { OnOk result (string_bytes out.new
         ≡ string_bytes out.old ++ spec.statement_foot rows.now) }
 {
-    let (count, cpu, blocks, amount) = sums(rows);
+    let (count, cpu, blocks, amount) = row_sums(rows);
     let count = count.to_string(alloc)?;
     let cpu = seconds_text(alloc, cpu)?;
     let blocks = blocks.to_string(alloc)?;
