@@ -1,4 +1,3 @@
-pub mod ListLemmas
 pub mod NumberLemmas
 pub mod WritingLemmas
 pub mod BookLemmas

@@ -1,5 +1,6 @@
 -- An answer with its value shown, and the day that a period was closed through.
-use Rattle.std.specs.Prelude.{ℕ, ℤ, ◌-◌, Option, slice_get, Result, Ok, Err}
+use Rattle.std.specs.Prelude.{ℕ, ℤ, Option, Result, Ok, Err}
+use Rattle.book_model.specs.RulingAnswers.{through_of}
 use Rattle.book_model.specs.declared.fault.LedgerFault.{LedgerFault}
 use Rattle.book_model.specs.Words.{Book, Outcome, no_event}
 
@@ -10,7 +11,7 @@ shown_by show (Err fault) = Err fault
 
 -- the day that a period was closed through, if it is closed
 abbrev pub closed_through : Book → ℕ → Option ℤ
-closed_through book period = slice_get book.rulings.closes (period - 1)
+closed_through book period = through_of period book.rulings
 
 -- that day, as a ledger is asked for it
 abbrev pub closed_through_outcome : ℕ → Book → Outcome (Option ℤ)

@@ -12,6 +12,7 @@ use crate::pages::{office_page_report, period_page_report};
 use crate::report::{PeriodReport, Report};
 use crate::ruling_texts::{ruling_list, tariff_text};
 use book_core::{ChargeRow, Ledger, LedgerFault, Line};
+use page_texts::close_of;
 use report_texts::{
     adjustment_list_text, adjustment_table, centre_adjustment_table, centre_adjustments_text,
     centre_statement_table, centre_statement_text, dispute_list_text, dispute_table,
@@ -30,7 +31,7 @@ pub(crate) fn closed_through<L: Ledger>(
     ensures shown { IfOk result (λ through. ForSome through IsDay) }
 {
     let days = ledger.periods()?;
-    Ok(days.get(usize::from(period).saturating_sub(1)).copied())
+    Ok(close_of(&days, usize::from(period)))
 }
 
 /// What is made of a list that a ledger answered. A refusal stays one, and a lack of memory is one.

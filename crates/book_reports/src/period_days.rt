@@ -1,10 +1,12 @@
 //! The closes between which a period lies.
 
-ghost use Rattle.std.specs.Prelude.{◌≡◌, is_some};
+ghost use Rattle.std.specs.Prelude.{◌≡◌, All, is_some};
+ghost use Rattle.book_model.specs.Words.{IsDay};
 ghost use Rattle.book_core.specs.Calls.{IsCall};
 ghost use Rattle.book_reports.specs.PeriodDays as spec;
 
 use book_core::{Ledger, LedgerFault};
+use page_texts::close_of;
 
 /// The days of the closes of a period and of the one before it, counted from 1970-01-01.
 #[derive(Clone, Copy, Debug, PartialEq, Eq)]
@@ -15,20 +17,12 @@ pub(crate) struct PeriodDays {
     pub(crate) through: Option<i32>,
 }
 
-/// The day through which the period of a number was closed, by the days of all closes.
-fn close_of(closes: &[i32], number: u16) -> Option<i32>
-    ensures { result ≡ spec.close_of number closes.now }
-{
-    if number == 0 {
-        return None;
-    }
-    closes.get(usize::from(number) - 1).copied()
-}
-
 /// The days of a period, by those of all closes.
 fn days_by(closes: &[i32], number: u16) -> PeriodDays
+    requires { All IsDay closes.now }
     ensures { result ≡ spec.days_by number closes.now }
 {
+    let number = usize::from(number);
     PeriodDays {
         before: close_of(closes, number.saturating_sub(1)),
         through: close_of(closes, number),

@@ -8,7 +8,7 @@ ghost use Rattle.page_texts.specs.Closes as spec;
 use book_core::{is_after, is_through};
 
 /// The day that the period of a number was closed through, if it was.
-pub(crate) fn close_of(closes: &[i32], period: usize) -> Option<i32>
+pub fn close_of(closes: &[i32], period: usize) -> Option<i32>
     requires { All IsDay closes.now }
     ensures close { result ≡ spec.close_of period closes.now }
     ensures day { ForSome result IsDay }

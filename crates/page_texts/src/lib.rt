@@ -17,6 +17,7 @@ mod period_head;
 mod period_pictures;
 mod period_statement;
 
+pub use closes::close_of;
 pub use figures::{PeriodFigures, period_figures};
 pub use office::office_page;
 pub use period::period_page;
