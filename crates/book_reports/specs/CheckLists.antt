@@ -1,6 +1,7 @@
 -- Lists of a check: of which type and class each record is, and how many there are.
 use Rattle.std.specs.Prelude.{ℕ, ◌+◌, if◌then◌else◌, nat_lt, List, [], ◌∷◌, ◌++◌, length, codes}
 use Rattle.std.specs.Fmt.{decimal}
+use Rattle.smf_frames.specs.Header.{header_len}
 use Rattle.smf_type30.specs.declared.record_class.Class.{Class}
 use Rattle.smf_type30.specs.declared.record_class.Class.TheVariants.{DumpHeader, DumpTrailer, DataLost}
 use Rattle.smf_type30.specs.declared.record_class.Class.TheVariants.{Other, Continuation, Usage, Damaged}
@@ -9,10 +10,10 @@ use Rattle.book_import.specs.declared.receipt.Stop.{Stop}
 use Rattle.report_texts.specs.Columns.{newline}
 use Rattle.book_reports.specs.ReceiptLines.{fault_text, stop_text}
 
--- the type of a record, which a record shorter than the 18 bytes of a header does not show
--- (SA38-0667, standard SMF record header)
+-- the type of a record, which a record shorter than a header does not show (SA38-0667, standard SMF
+-- record header)
 abbrev pub type_text : List ℕ → List ℕ
-type_text bytes = if nat_lt (length bytes) 18 then codes "-" else decimal (type_of bytes)
+type_text bytes = if nat_lt (length bytes) header_len then codes "-" else decimal (type_of bytes)
 
 -- the class of a record; for a damaged one, the number of its damage too
 abbrev pub class_text : Class → List ℕ

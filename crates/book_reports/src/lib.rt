@@ -35,11 +35,6 @@ pub use output::{write_bytes, write_text};
 pub use receipt_lines::receipt_line_text;
 pub use record_names::name_of_text;
 pub use report::{PeriodReport, Report, centre_named};
-pub use report_texts::{
-    adjustment_list_text, adjustment_table, centre_adjustment_table, centre_adjustments_text,
-    centre_statement_table, centre_statement_text, dispute_list_text, dispute_table,
-    period_list_text, statement_table, statement_text,
-};
 pub use reports::{
     adjustment_list, dispute_list, period_list, receipt_line, statement, statement_csv,
     write_report,

@@ -1,7 +1,7 @@
 //! The list of rulings, written as it is read: with a million choices it has 90 MB, and is never
 //! made whole. What is held of it is one ruling, and the lines that wait to be written.
 
-ghost use Rattle.std.specs.Prelude.{◌≡◌, ◌++◌, [], IfErr, OnOk, false, string_bytes, true};
+ghost use Rattle.std.specs.Prelude.{◌≡◌, ◌++◌, IfErr, IfOk, false, true};
 ghost use Rattle.streams.specs.Sinks.{has_failed, writer_of};
 ghost use Rattle.book_model.specs.Words.{HasDays, ruling_shown};
 ghost use Rattle.book_core.specs.Calls.{Reopens};
@@ -9,55 +9,45 @@ ghost use Rattle.book_core.specs.Transition.{IsTransition};
 ghost use Rattle.report_texts.specs.RulingLists.{ruling_line};
 ghost use Rattle.book_reports.specs.StreamedRulings.{WritesAllBut, WritesRulings, WritesSomeRulings};
 ghost use Rattle.book_reports.specs.StreamedRulings.{refusal_in};
-ghost use Rattle.book_reports.specs.Writing.{WritesPrefix, is_write_fault, is_write_or_memory};
+ghost use Rattle.book_reports.specs.Writing.{is_write_fault, is_write_or_memory};
 
 use crate::fault::ReportFault;
-use crate::output::write_text;
+use crate::waiting::{flush, push_part};
 use book_core::{Ledger, ListedRuling, Sink};
 use report_texts::{push_ruling_line, ruling_list_head};
-use std::alloc::Global;
+use std::alloc::{AllocError, Global};
 use std::io::Write;
 
 /// More rulings than any books have.
 pub(crate) const MOST_RULINGS: u64 = 1 << 32;
 
-/// How many bytes wait to be written, at most, before one more line.
-const MOST_WAITING: usize = 65_536;
-
-/// Writes what waits.
-fn flush<W: Write + Drop>(text: &mut String, sink: &mut Sink<W>) -> Result<(), ReportFault>
-    requires { has_failed sink.old ≡ false }
-    ensures written { WritesPrefix (string_bytes text.old)
-        (W.contents (writer_of sink.old)) (W.contents (writer_of sink.new)) result }
-    ensures waits { OnOk result (string_bytes text.new ≡ []) }
-    ensures failed { has_failed sink.new ≡ is_write_fault result }
-    ensures fault { IfErr result (λ fault. fault ≡ ReportFault.Write) }
+/// The line of a ruling.
+fn line_of(alloc: Global, ruling: &ListedRuling) -> Result<Vec<u8>, AllocError>
+    requires { HasDays (ruling_shown ruling.now) }
+    ensures { IfOk result (λ line. line.items ≡ ruling_line (ruling_shown ruling.now)) }
 {
-    write_text(sink, text.as_str())?;
-    text.clear();
-    Ok(())
+    let mut text = String::new(alloc);
+    push_ruling_line(alloc, &mut text, ruling)?;
+    Ok(text.into_bytes())
 }
 
-/// Adds a line to what waits, and writes it where enough waits.
+/// Adds the line of a ruling to what waits, which is written before where it is much.
 fn push_line<W: Write + Drop>(
     alloc: Global,
-    text: &mut String,
+    waiting: &mut Vec<u8>,
     ruling: &ListedRuling,
     sink: &mut Sink<W>,
 ) -> Result<(), ReportFault>
     requires days { HasDays (ruling_shown ruling.now) }
     requires unwritten { has_failed sink.old ≡ false }
-    ensures written { WritesAllBut (string_bytes text.old ++ ruling_line (ruling_shown ruling.now))
-        (string_bytes text.new) (W.contents (writer_of sink.old)) (W.contents (writer_of sink.new))
+    ensures written { WritesAllBut (waiting.old.items ++ ruling_line (ruling_shown ruling.now))
+        waiting.new.items (W.contents (writer_of sink.old)) (W.contents (writer_of sink.new))
         result }
     ensures failed { has_failed sink.new ≡ is_write_fault result }
     ensures fault { IfErr result (λ fault. is_write_or_memory fault ≡ true) }
 {
-    push_ruling_line(alloc, text, ruling)?;
-    if text.len() > MOST_WAITING {
-        flush(text, sink)?;
-    }
-    Ok(())
+    let line = line_of(alloc, ruling)?;
+    push_part(waiting, &line, sink)
 }
 
 /// Writes the list of rulings: the whole of it, or a prefix before a fault. The ledger is asked for
@@ -81,12 +71,13 @@ pub fn write_rulings<L: Ledger, W: Write + Drop>(
     if sink.failed() {
         return Err(ReportFault::Write);
     }
-    let mut text = ruling_list_head(alloc)?;
+    let head = ruling_list_head(alloc)?;
+    let mut waiting = head.into_bytes();
     for before in 0..MOST_RULINGS {
         let Some(ruling) = next else {
-            return flush(&mut text, sink);
+            return flush(&mut waiting, sink);
         };
-        push_line(alloc, &mut text, &ruling, sink)?;
+        push_line(alloc, &mut waiting, &ruling, sink)?;
         next = ledger.ruling(before + 1)?;
     }
     Err(ReportFault::Memory)

@@ -1,21 +1,14 @@
 use Rattle.std.proofs.lemmas.Result.{err_from_is_err_and}
-use Rattle.streams.specs.Sinks.{writer_of}
-use Rattle.book_reports.proofs.StreamedLemmas.{first_written, none_written, written_as}
+use Rattle.book_reports.proofs.StreamedLemmas.{none_written}
 use Rattle.book_reports.proofs.streamed_rulings.push_line.Goals as goal
 
-pub returns-in_err-push_ruling_line-clause-written :
-    goal.returns-in_err-push_ruling_line-clause-written
-returns-in_err-push_ruling_line-clause-written g c =
+-- there is no memory for the line
+pub returns-in_err-line-clause-written : goal.returns-in_err-line-clause-written
+returns-in_err-line-clause-written g c =
     let failed = err_from_is_err_and c.from_residual.result c.from_residual.ensures.1 in
     rw failed.1 (_, none_written _ _)
 
-pub returns-in_err-flush-clause-written : goal.returns-in_err-flush-clause-written
-returns-in_err-flush-clause-written g c =
-    let failed = err_from_is_err_and c.from_residual-in_err-flush.result
-    c.from_residual-in_err-flush.ensures.1 in
-    let held = g.W.Write.contents (writer_of c.args.sink.now) in
-    let holds = g.W.Write.contents (writer_of c.flush.new.sink) in
-    let wrote = c.in_err-flush.ensures.written in
-    let part = first_written _ wrote.0 held holds wrote.1 in
-    rw failed.1
-    (part.0, written_as _ _ part.0 held holds c.in_ok-push_ruling_line.ensures part.1)
+-- it waits, or was not written
+pub returns-clause-written : goal.returns-clause-written
+returns-clause-written g c =
+    rw (c.deref.ensures.value, c.in_ok-line.ensures) at c.push_part.ensures.written

@@ -1,7 +1,8 @@
-use Rattle.std.proofs.Common.{◌≡◌, [], ap, refl, rules, string_bytes, true}
+use Rattle.std.proofs.Common.{◌≡◌, [], ap, refl, rules, true}
 use Rattle.std.proofs.lemmas.Result.{IfErr-weaker, err_from_is_err_and}
 use Rattle.std.proofs.KnownBytes.{Appends-nil}
 use Rattle.streams.specs.Sinks.{writer_of}
+use Rattle.report_texts.specs.RulingLists.{ruling_list_head}
 use Rattle.book_reports.specs.declared.fault.ReportFault.TheVariants as report
 use Rattle.book_reports.specs.Writing.{is_write_or_memory}
 use Rattle.book_reports.proofs.RulingLemmas.{list_begun, list_cut, list_ended, list_more}
@@ -23,26 +24,28 @@ returns-then-failed-clause-written g c =
     read_written (first_read _ _ c.in_ok-next.next c.in_ok-next.ensures.ruling) held held _ refl
     (λ all front found. (0, Appends-nil held))
 
-pub returns-in_err-text-clause-written : goal.returns-in_err-text-clause-written
-returns-in_err-text-clause-written g c =
-    let failed = err_from_is_err_and c.from_residual-in_err-text.result
-    c.from_residual-in_err-text.ensures.1 in
+pub returns-in_err-head-clause-written : goal.returns-in_err-head-clause-written
+returns-in_err-head-clause-written g c =
+    let failed = err_from_is_err_and c.from_residual-in_err-head.result
+    c.from_residual-in_err-head.ensures.1 in
     let held = g.W.Write.contents (writer_of c.args.sink.now) in
     rw (failed.1, failed.2)
     (read_written (first_read _ _ c.in_ok-next.next c.in_ok-next.ensures.ruling) held held _ refl
     (λ all front found. (0, Appends-nil held)))
 
-pub returns-in_err-text-clause-some : goal.returns-in_err-text-clause-some
-returns-in_err-text-clause-some g c =
-    let failed = err_from_is_err_and c.from_residual-in_err-text.result
-    c.from_residual-in_err-text.ensures.1 in
+pub returns-in_err-head-clause-some : goal.returns-in_err-head-clause-some
+returns-in_err-head-clause-some g c =
+    let failed = err_from_is_err_and c.from_residual-in_err-head.result
+    c.from_residual-in_err-head.ensures.1 in
     rw failed.1 ([], (0, Appends-nil (g.W.Write.contents (writer_of c.args.sink.now))))
 
 pub loop-before-init : goal.loop-before-init
 loop-before-init g c = record {
   unwritten = search rules;
   days = c.in_ok-next.ensures.shown;
-  far = list_begun _ _ c.in_ok-next.next (string_bytes c.in_ok-text.text) _ c.in_ok-text.ensures
+  far =
+      let begun : c.into_bytes-waiting.result.items ≡ ruling_list_head = search rules in
+      list_begun _ _ c.in_ok-next.next c.into_bytes-waiting.result.items _ begun
       c.in_ok-next.ensures.ruling;
 }
 
@@ -84,7 +87,7 @@ returns-in_err-next-2-clause-written g c =
     c.from_residual-in_err-next-2.ensures.1 in
     rw (failed.1, failed.2)
     (list_refused c.loop-before.invariant.far c.in-Some.ruling c.in-Some.is
-    (string_bytes c.push_line.new.text) (g.W.Write.contents (writer_of c.push_line.new.sink))
+    c.push_line.new.waiting.items (g.W.Write.contents (writer_of c.push_line.new.sink))
     c.in_ok-push_line.ensures.written (g.L.Ledger.seen c.ruling-in-loop-before.new.self)
     c.in_err-next-2.field-0.0 c.in_err-next-2.ensures.ruling)
 
@@ -94,7 +97,7 @@ returns-in_err-next-2-clause-some g c =
     c.from_residual-in_err-next-2.ensures.1 in
     rw failed.1
     (some_cut c.loop-before.invariant.far c.in-Some.ruling c.in-Some.is
-    (string_bytes c.push_line.new.text) (g.W.Write.contents (writer_of c.push_line.new.sink))
+    c.push_line.new.waiting.items (g.W.Write.contents (writer_of c.push_line.new.sink))
     c.in_ok-push_line.ensures.written failed.0)
 
 pub loop-before-preserved : goal.loop-before-preserved
@@ -102,7 +105,7 @@ loop-before-preserved g c = record {
   unwritten = c.in_ok-push_line.ensures.failed;
   days = c.in_ok-next-2.ensures.shown;
   far = list_more c.loop-before.invariant.far c.in-Some.ruling c.in-Some.is
-      (string_bytes c.push_line.new.text) (g.W.Write.contents (writer_of c.push_line.new.sink))
+      c.push_line.new.waiting.items (g.W.Write.contents (writer_of c.push_line.new.sink))
       c.in_ok-push_line.ensures.written (g.L.Ledger.seen c.ruling-in-loop-before.new.self)
       c.in_ok-next-2.next c.in_ok-next-2.ensures.ruling;
 }

@@ -1,4 +1,4 @@
-use Rattle.std.proofs.Common.{◌≡◌, false, string_bytes}
+use Rattle.std.proofs.Common.{◌≡◌, false}
 use Rattle.streams.specs.Sinks.{has_failed, writer_of}
 use Rattle.book_model.specs.Words.{ShowsDays}
 use Rattle.book_reports.proofs.RulingLemmas.{WritesSoFar}
@@ -10,6 +10,6 @@ invariant-loop-before g l = record {
   unwritten : has_failed l.sink ≡ false;
   days : ShowsDays l.next;
   far : WritesSoFar (g.L.Ledger.seen l.fn.ledger) (g.L.Ledger.seen l.ledger) l.before l.next
-      (string_bytes l.text) (g.W.Write.contents (writer_of l.initial.sink))
+      l.waiting.items (g.W.Write.contents (writer_of l.initial.sink))
       (g.W.Write.contents (writer_of l.sink));
 }
