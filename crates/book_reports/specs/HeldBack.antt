@@ -1,10 +1,10 @@
 -- What is held back in dispute, as a ledger answers it by calls that are no event.
-use Rattle.std.specs.Prelude.{ℕ, ◌+◌, Bool, List, map, max, min, unwrap_or, Option, Ok}
-use Rattle.std.specs.List.{list_any, reduce}
+use Rattle.std.specs.Prelude.{ℕ, ◌+◌, Bool, List, Option, Ok}
+use Rattle.std.specs.List.{list_any}
 use Rattle.book_model.specs.declared.bill.HeldBack.{HeldBack}
 use Rattle.book_model.specs.declared.dispute.Variant.{Variant}
-use Rattle.book_model.specs.Words.{Book, Disputed, Naming, Outcome, amount_for, disputes_in}
-use Rattle.book_model.specs.Words.{held_back_in, held_back_of, is_paid_by, no_event}
+use Rattle.book_model.specs.Words.{Book, Disputed, Naming, Outcome, disputes_in, held_back_in}
+use Rattle.book_model.specs.Words.{held_back_of, is_paid_by, no_event}
 
 abbrev pub AllDisputes : Type 0
 AllDisputes = List Disputed
@@ -13,13 +13,6 @@ AllDisputes = List Disputed
 abbrev pub is_any_paid_by : Option (List ℕ) → List Variant → Bool
 is_any_paid_by centre members =
     list_any (λ (member : Variant). is_paid_by centre member.priced) members
-
--- the least of what it would pay for one of them, and the greatest
-abbrev pub least_of : Option (List ℕ) → List Variant → ℕ
-least_of centre members = unwrap_or (reduce min (map (amount_for centre) members)) 0
-
-abbrev pub greatest_of : Option (List ℕ) → List Variant → ℕ
-greatest_of centre members = unwrap_or (reduce max (map (amount_for centre) members)) 0
 
 -- what is held back with one more dispute of these amounts
 abbrev pub with_amounts : HeldBack → ℕ → ℕ → HeldBack

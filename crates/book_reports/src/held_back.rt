@@ -53,10 +53,11 @@ fn is_any_paid_by(centre: &Option<Name>, members: &[Variant]) -> bool
         .any(|member| is_paid_by(centre, &member.priced))
 }
 
-/// The least that it would pay for one of the records.
-fn least_of(centre: &Option<Name>, members: &[Variant]) -> u64
-    ensures { result ≡ spec.least_of centre.now members.now }
+/// The least that it would pay for one of the records of a dispute.
+fn least_for(centre: &Option<Name>, dispute: &Dispute) -> u64
+    ensures { result ≡ words.least_for centre.now (dispute_shown dispute.now) }
 {
+    let members = dispute.members.as_slice();
     let least = members
         .iter()
         .map(|member| amount_for(centre, member))
@@ -65,9 +66,10 @@ fn least_of(centre: &Option<Name>, members: &[Variant]) -> u64
 }
 
 /// The greatest.
-fn greatest_of(centre: &Option<Name>, members: &[Variant]) -> u64
-    ensures { result ≡ spec.greatest_of centre.now members.now }
+fn greatest_for(centre: &Option<Name>, dispute: &Dispute) -> u64
+    ensures { result ≡ words.greatest_for centre.now (dispute_shown dispute.now) }
 {
+    let members = dispute.members.as_slice();
     let greatest = members
         .iter()
         .map(|member| amount_for(centre, member))
@@ -91,12 +93,11 @@ fn with_dispute(held: HeldBack, centre: &Option<Name>, dispute: &Dispute) -> Opt
     ensures { IfSome result (λ more. (disputes : AllDisputes) → held ≡ held_back_in centre.now disputes
         → more ≡ held_back_in centre.now (disputes ++ dispute_shown dispute.now ∷ [])) }
 {
-    let members = dispute.members.as_slice();
-    if !is_any_paid_by(centre, members) {
+    if !is_any_paid_by(centre, dispute.members.as_slice()) {
         return Some(held);
     }
-    let least = least_of(centre, members);
-    let greatest = greatest_of(centre, members);
+    let least = least_for(centre, dispute);
+    let greatest = greatest_for(centre, dispute);
     let Some(more) = with_amounts(held, least, greatest) else {
         return None;
     };

@@ -1,0 +1,18 @@
+use Rattle.std.proofs.Common.{◌∙◌, ap, map, max, rules, sym, unwrap_or}
+use Rattle.std.specs.List.{reduce}
+use Rattle.std.proofs.lemmas.Iterator.{YieldsList-from_map, YieldsList-from_slice}
+use Rattle.std.proofs.lemmas.Iterator.Adapters.{option_map_id}
+use Rattle.std.proofs.lemmas.Iterator.Consumers.{max_from_yields_List}
+use Rattle.book_model.specs.Words.{amount_for}
+use Rattle.book_reports.proofs.held_back.greatest_for.Goals as goal
+
+pub returns : goal.returns
+returns c =
+    let cost = amount_for c.args.centre.now in
+    c.unwrap_or.ensures
+    ∙ ap (λ found. unwrap_or found 0)
+    (sym (option_map_id _)
+    ∙ max_from_yields_List _ _ c.max-greatest.ensures.ran
+    (YieldsList-from_map _ cost (YieldsList-from_slice c.as_slice-members.result.now cc)
+    c.map.ensures.closure (λ x r q k. search rules)))
+    ∙ ap (λ members. unwrap_or (reduce max (map cost members)) 0) c.as_slice-members.ensures.value
