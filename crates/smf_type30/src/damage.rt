@@ -5,8 +5,9 @@ use thiserror::Error;
 /// What is wrong with a record. Where more than one thing is, the first in this order is reported.
 #[derive(Clone, Copy, Debug, PartialEq, Eq, Error)]
 pub enum Damage {
-    /// The record lacks a whole header: it ends before its standard header does, or, where it is of
-    /// type 30, before its subtype or the last triplet that is read.
+    /// The record is shorter than its header, the descriptor included: than the 18 bytes of the
+    /// standard header; or, of type 30, than the 24 up to the end of its subtype; or, of a step's
+    /// or a job's end, than the 72 up to the end of the last triplet that is read.
     #[error("the record lacks a whole header")]
     Short,
     /// The header's date is no date.
