@@ -7,8 +7,9 @@ ghost use Rattle.smf_type30.specs.AccountWalk.{BeginsWith, BeginsWithNone, EndsB
 use crate::layout::{ACCOUNTING, Section};
 use crate::section::{count, offset};
 
-/// The first field of a text, a length byte and that many bytes, and what follows it.
-fn split_field(text: &[u8]) -> Option<(&[u8], &[u8])>
+/// The first accounting field of a text, which is a length byte and that many bytes, and what
+/// follows it: nothing where the text ends before the field does.
+pub fn split_account(text: &[u8]) -> Option<(&[u8], &[u8])>
     ensures none { IsNone result → BeginsWithNone text.now }
     ensures some { IfSome result (λ split. BeginsWith text.now split.0.now split.1.now) }
 {
@@ -24,7 +25,7 @@ fn skip_fields(count: u16, text: &[u8]) -> Option<&[u8]>
 {
     let mut rest = text;
     for _ in 0..count {
-        let (_, after) = split_field(rest)?;
+        let (_, after) = split_account(rest)?;
         rest = after;
     }
     Some(rest)
@@ -38,12 +39,12 @@ fn nth_field(count: u16, text: &[u8], n: u16) -> Option<&[u8]>
     if count <= n {
         return None;
     }
-    let (field, _) = split_field(skip_fields(n, text)?)?;
+    let (field, _) = split_account(skip_fields(n, text)?)?;
     Some(field)
 }
 
 /// A record from a section on that need not have any field: nothing where it begins outside.
-fn from_section(bytes: &[u8], section: Section) -> &[u8]
+pub fn from_section(bytes: &[u8], section: Section) -> &[u8]
     requires triplet { HasTriplet bytes.now section }
     requires no_field { section.least ≡ 0 }
     ensures { result.now ≡ drop (offset_of bytes.now section) bytes.now }

@@ -11,6 +11,7 @@ mod record_class;
 mod section;
 mod usage;
 
+pub use accounts::split_account;
 pub use class_of::class;
 pub use damage::Damage;
 pub use layout::{HUNDREDTHS_PER_DAY, JOB_END, STEP_END};

@@ -1,8 +1,8 @@
-ghost use Rattle.std.specs.Prelude.{◌≡◌, ◌≤◌, ◌<◌, ◌+◌, ◌-◌, ◌^◌, ◌↔◌, ◌⊎◌, ◌++◌, length, take, IsTrue, IsOk, IsSome, IfOk, IfErr, IfSome, Some, option_copied};
+ghost use Rattle.std.specs.Prelude.{◌≡◌, ◌≤◌, ◌<◌, ◌+◌, ◌-◌, ◌^◌, ◌↔◌, ◌⊎◌, ◌++◌, drop, length, take, IsTrue, IsOk, IsSome, IfOk, IfErr, IfSome, Some, option_copied};
 ghost use Rattle.smf_text.specs.Day.{IsDay};
-ghost use Rattle.smf_type30.specs.Layout.{hundredths_per_day, identification, initiation, job_end, job_id, job_name, program_name, step_end, step_number, triplets_end};
-ghost use Rattle.smf_type30.specs.Accounts.{IsAccount};
-ghost use Rattle.smf_type30.specs.Section.{part_in};
+ghost use Rattle.smf_type30.specs.Layout.{accounting, hundredths_per_day, identification, initiation, job_end, job_id, job_name, program_name, step_end, step_number, triplets_end};
+ghost use Rattle.smf_type30.specs.Accounts.{IsAccount, fields_in};
+ghost use Rattle.smf_type30.specs.Section.{count_of, offset_of, part_in};
 ghost use Rattle.smf_type30.specs.Usage as spec;
 ghost use Rattle.smf_type30.specs.Class.{IsUsage, measures_work, read_fault};
 
@@ -10,8 +10,9 @@ use crate::accounts;
 use crate::class_of::{has_usage, undamaged};
 use crate::damage::Damage;
 use crate::layout::{
-    BLOCKS, COMPLETION, Field, IDENTIFICATION, INITIATION, IO_ACTIVITY, JOB_END, JOB_ID, JOB_NAME,
-    PROCESSOR, PROGRAM_NAME, READER_START, SRB_TIME, STEP_NUMBER, SUBTYPE, TCB_TIME, TRIPLETS_END,
+    ACCOUNTING, BLOCKS, COMPLETION, Field, IDENTIFICATION, INITIATION, IO_ACTIVITY, JOB_END, JOB_ID,
+    JOB_NAME, PROCESSOR, PROGRAM_NAME, READER_START, SRB_TIME, STEP_NUMBER, SUBTYPE, TCB_TIME,
+    TRIPLETS_END,
 };
 use crate::moment::{Moment, moment_in};
 use crate::number::{number2, number4, part};
@@ -221,6 +222,24 @@ impl<'a> Type30<'a> {
         ensures field { IsAccount self.now n (option_copied result) }
     {
         accounts::account(self.bytes, n)
+    }
+
+    /// The number of accounting fields.
+    #[tactic(auto, using(crate::proofs::UsageFacts::usage))]
+    pub fn account_count(&self) -> u16
+        ensures { result ≡ count_of self.now accounting }
+    {
+        count(self.bytes, ACCOUNTING)
+    }
+
+    /// The record from its accounting fields on, `account_count` of them: `split_account` takes one
+    /// after the other.
+    #[tactic(auto, using(crate::proofs::UsageFacts::usage), unfolding(crate::specs::Accounts::accounts_of))]
+    pub fn accounts(&self) -> &'a [u8]
+        ensures text { result.now ≡ drop (offset_of self.now accounting) self.now }
+        ensures inside { IsSome (fields_in (count_of self.now accounting) result.now) }
+    {
+        accounts::from_section(self.bytes, ACCOUNTING)
     }
 
     /// The completion code and the termination indicator, None without a completion section.
