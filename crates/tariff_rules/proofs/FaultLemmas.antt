@@ -205,9 +205,3 @@ pub has_its_fault : (text : List ℕ) (found : Option Entry) → found ≡ entry
     → IfSome found (HasItsFault text)
 has_its_fault text None is = tt
 has_its_fault text (Some entry) is = text_fails text entry (sym is)
-
--- an entry that was found is the one at fault
-pub is_at_fault : (text : List ℕ) (found : Option Entry) → found ≡ entry_in text
-    → IfSome found (λ entry. entry_in text ≡ Some entry)
-is_at_fault text None is = tt
-is_at_fault text (Some entry) is = sym is

@@ -110,9 +110,10 @@ pub(crate) fn push_file_of(named: &Named, out: &mut AnswerText, ask: Ask<'_>) ->
 /// Adds the entry at which a tariff file has its fault.
 fn push_entry(out: &mut AnswerText, text: &str) {
     match Tariff::entry_at_fault(out.alloc(), text) {
-        Some(Entry::Shift(place)) => out.value_line("AT shift ", place),
-        Some(Entry::Centre(place)) => out.value_line("AT centre ", place),
-        None => out.line("NO ENTRY"),
+        Ok(Some(Entry::Shift(place))) => out.value_line("AT shift ", place),
+        Ok(Some(Entry::Centre(place))) => out.value_line("AT centre ", place),
+        Ok(None) => out.line("NO ENTRY"),
+        Err(_) => out.cut(),
     }
 }
 

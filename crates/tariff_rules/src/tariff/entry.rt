@@ -1,6 +1,6 @@
 //! The entry of a tariff file at which reading met its fault.
 
-ghost use Rattle.std.specs.Prelude.{◌≡◌, ◌<◌, ◌^◌, length, map, IfOk, IfSome, Some};
+ghost use Rattle.std.specs.Prelude.{◌≡◌, ◌<◌, ◌^◌, length, map, IfOk, IfSome};
 ghost use Rattle.toml.specs.View.{table_view, view};
 ghost use Rattle.tariff_rules.specs.Entry as spec;
 ghost use Rattle.tariff_rules.specs.Entry.{HasItsFault, entry_in};
@@ -124,15 +124,12 @@ fn entry_of_text(alloc: Global, text: &str) -> Result<Option<Entry>, AllocError>
 
 impl Tariff {
     /// The entry at which `parse` meets the fault that it answers. `None` where the text is a
-    /// tariff, where no single entry has the fault (a key before the lists, a list that is no array
-    /// or too long, two shifts of one name that disagree), and where memory runs out.
-    pub fn entry_at_fault(alloc: Global, text: &str) -> Option<Entry>
-        ensures entry { IfSome result (λ entry. entry_in text.now ≡ Some entry) }
-        ensures fault { IfSome result (HasItsFault text.now) }
+    /// tariff, and where no single entry has the fault (a key before the lists, a list that is no
+    /// array or too long, two shifts of one name that disagree). Nothing but want of memory fails.
+    pub fn entry_at_fault(alloc: Global, text: &str) -> Result<Option<Entry>, AllocError>
+        ensures entry { IfOk result (λ entry. entry ≡ entry_in text.now) }
+        ensures fault { IfOk result (λ entry. IfSome entry (HasItsFault text.now)) }
     {
-        match entry_of_text(alloc, text) {
-            Ok(entry) => entry,
-            Err(_) => None,
-        }
+        entry_of_text(alloc, text)
     }
 }

@@ -1,8 +1,10 @@
-use Rattle.tariff_rules.proofs.FaultLemmas.{has_its_fault, is_at_fault}
+use Rattle.std.proofs.Common.{◌≡◌}
+use Rattle.std.proofs.lemmas.Result.{IfOk-weaker}
+use Rattle.tariff_rules.specs.Entry.{entry_in}
+use Rattle.tariff_rules.proofs.FaultLemmas.{has_its_fault}
 use Rattle.tariff_rules.proofs.tariff.Tariff.entry_at_fault.Goals as goal
 
-pub returns-in-Ok-clause-entry : goal.returns-in-Ok-clause-entry
-returns-in-Ok-clause-entry c = is_at_fault _ _ c.in-Ok.ensures
-
-pub returns-in-Ok-clause-fault : goal.returns-in-Ok-clause-fault
-returns-in-Ok-clause-fault c = has_its_fault _ _ c.in-Ok.ensures
+pub returns-clause-fault : goal.returns-clause-fault
+returns-clause-fault c =
+    IfOk-weaker c.entry_of_text.result (λ found. found ≡ entry_in c.args.text.now) _
+    (λ found is. has_its_fault c.args.text.now found is) c.entry_of_text.ensures
