@@ -187,10 +187,11 @@ found_fails entry (Some document) is = document_fails document entry is
 
 -- where it is not too long
 short_fails : (text : List ℕ) (entry : Entry) (long : Bool)
-    → (if long then None else option_and_then entry_of (parse_document text)) ≡ Some entry
+    → option_and_then entry_of (if long then None else parse_document text) ≡ Some entry
     → (fault : TariffFault)
     × ((if long then Err TooMany else terms_of_document (parse_document text)) ≡ Err fault)
-    × (option_and_then (λ document. fault_of document entry) (parse_document text) ≡ Some fault)
+    × (option_and_then (λ document. fault_of document entry)
+    (if long then None else parse_document text) ≡ Some fault)
 short_fails text entry true is = absurd (cc)
 short_fails text entry false is = found_fails entry (parse_document text) is
 

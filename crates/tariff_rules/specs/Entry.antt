@@ -5,12 +5,11 @@ use Rattle.std.specs.List.{position_from}
 use Rattle.std.specs.Option.{option_and_then, option_map}
 use Rattle.std.specs.Result.{result_err}
 use Rattle.toml.specs.Data.{Data, Members}
-use Rattle.toml.specs.Parse.{parse_document}
 use Rattle.tariff_rules.specs.CentreEntry.{centre_rule_in}
 use Rattle.tariff_rules.specs.Document.{entries_in, value_at}
-use Rattle.tariff_rules.specs.Limits.{most_centres, most_shifts, most_text}
+use Rattle.tariff_rules.specs.Limits.{most_centres, most_shifts}
 use Rattle.tariff_rules.specs.ShiftEntry.{shift_rule_in}
-use Rattle.tariff_rules.specs.TariffFile.{head_of, shifts_at, terms_in}
+use Rattle.tariff_rules.specs.TariffFile.{document_in, head_of, shifts_at, terms_in}
 use Rattle.tariff_rules.specs.declared.fault.TariffFault.{TariffFault}
 use Rattle.tariff_rules.specs.declared.key.Key.{Key}
 use Rattle.tariff_rules.specs.declared.key.Key.TheVariants as key
@@ -58,9 +57,7 @@ entry_of document =
 
 -- the entry at fault of a text, where it is a document that is not too long
 abbrev pub entry_in : List ℕ → Option Entry
-entry_in text =
-    if nat_lt most_text (length text) then None
-    else option_and_then entry_of (parse_document text)
+entry_in text = option_and_then entry_of (document_in text)
 
 -- the fault that a value has, if it is no rule
 abbrev pub refusal : {A : Type 0} → (Data → Result A TariffFault) → Data → Option TariffFault
@@ -83,4 +80,4 @@ fault_of document (Centre n) =
 pub record HasItsFault (text : List ℕ) (entry : Entry) : Type 0 where
   pub fault : TariffFault
   pub refused : terms_in text ≡ Err fault
-  pub own : option_and_then (λ document. fault_of document entry) (parse_document text) ≡ Some fault
+  pub own : option_and_then (λ document. fault_of document entry) (document_in text) ≡ Some fault

@@ -1,12 +1,12 @@
 -- What a tariff file says of the office that bills by it. Both texts need not be there, and are
 -- never at fault.
-use Rattle.std.specs.Prelude.{ℕ, ◌&&◌, nat_le, nat_lt, Bool, if◌then◌else◌, List, length, codes}
+use Rattle.std.specs.Prelude.{ℕ, ◌&&◌, nat_le, Bool, if◌then◌else◌, List, length, codes}
 use Rattle.std.specs.Prelude.{Option, Some, None, string_bytes}
 use Rattle.std.specs.List.{list_all}
 use Rattle.std.specs.Option.{option_and_then, option_map, option_map_or}
 use Rattle.toml.specs.Data.{as_str, get_member, Members}
-use Rattle.toml.specs.Parse.{parse_document}
-use Rattle.tariff_rules.specs.Limits.{most_letters, most_text}
+use Rattle.tariff_rules.specs.Limits.{most_letters}
+use Rattle.tariff_rules.specs.TariffFile.{document_in}
 use Rattle.tariff_rules.specs.declared.letterhead.Letterhead.{Letterhead}
 
 -- the name of the office, and the currency that it bills in
@@ -56,10 +56,6 @@ letterhead_of document = record {
   office = letters_at document office_key;
   currency = letters_at document currency_key;
 }
-
--- the document that the text of a tariff file is, if it is one and not too long
-abbrev pub document_in : List ℕ → Option Members
-document_in text = if nat_lt most_text (length text) then None else parse_document text
 
 -- the letterhead of the text: neither part, where it is no document
 abbrev pub letterhead_in : List ℕ → LetterheadSeen

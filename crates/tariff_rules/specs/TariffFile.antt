@@ -66,7 +66,11 @@ terms_of document = do
     centres = centres;
   })
 
--- the same, where the text is a document at all
+-- the document that the text of a tariff file is, if it is one and not too long
+abbrev pub document_in : List ℕ → Option Members
+document_in text = if nat_lt most_text (length text) then None else parse_document text
+
+-- the terms, where the text is a document at all
 abbrev pub terms_of_document : Option Members → Result Terms TariffFault
 terms_of_document None = Err Syntax
 terms_of_document (Some document) = terms_of document

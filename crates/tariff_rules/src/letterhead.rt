@@ -6,7 +6,7 @@ ghost use Rattle.toml.specs.View.{table_view};
 ghost use Rattle.tariff_rules.specs.Letterhead as spec;
 
 use crate::document::member_at;
-use crate::tariff::MAX_TEXT;
+use crate::tariff::document_in;
 use std::alloc::{AllocError, Global};
 use toml::Table;
 
@@ -61,21 +61,6 @@ fn letters_at(alloc: Global, document: &Table, key: &str) -> Result<Option<Strin
     match value.as_str() {
         Some(text) if is_letters(text) => Ok(Some(String::from_str(alloc, text)?)),
         _ => Ok(None),
-    }
-}
-
-/// The document that the text of a tariff file is, if it is one and not too long.
-fn document_in(alloc: Global, text: &str) -> Result<Option<Table>, AllocError>
-    ensures { IfOk result (λ found.
-        option_map (λ document. table_view document) found ≡ spec.document_in text.now) }
-{
-    if text.len() > MAX_TEXT {
-        return Ok(None);
-    }
-    match toml::table_from_str(alloc, text) {
-        Ok(document) => Ok(Some(document)),
-        Err(error) if error.is_memory() => Err(AllocError),
-        Err(_) => Ok(None),
     }
 }
 

@@ -15,6 +15,7 @@ use crate::centre::{CentreRule, centre_of, centre_rule};
 use crate::rates::Rates;
 use crate::shift::{Shift, ShiftRule, shift_at, shift_rule};
 pub use entry::Entry;
+pub(crate) use file::document_in;
 pub use file::{MAX_CENTRES, MAX_SHIFTS, MAX_TEXT};
 use smf_text::{FIRST_DAY, Name};
 use smf_type30::{Moment, STEP_END, Type30};

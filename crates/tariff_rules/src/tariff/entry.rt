@@ -6,7 +6,7 @@ ghost use Rattle.tariff_rules.specs.Entry as spec;
 ghost use Rattle.tariff_rules.specs.Entry.{HasItsFault, entry_in};
 
 use super::Tariff;
-use super::file::{MAX_CENTRES, MAX_SHIFTS, MAX_TEXT, head_of, shifts_at};
+use super::file::{MAX_CENTRES, MAX_SHIFTS, document_in, head_of, shifts_at};
 use crate::centre::CentreRule;
 use crate::document::{entries_in, value_at};
 use crate::fault::TariffFault;
@@ -112,13 +112,9 @@ fn entry_of(alloc: Global, document: &Table) -> Result<Option<Entry>, AllocError
 fn entry_of_text(alloc: Global, text: &str) -> Result<Option<Entry>, AllocError>
     ensures { IfOk result (λ entry. entry ≡ entry_in text.now) }
 {
-    if text.len() > MAX_TEXT {
-        return Ok(None);
-    }
-    match toml::table_from_str(alloc, text) {
-        Ok(document) => entry_of(alloc, &document),
-        Err(error) if error.is_memory() => Err(AllocError),
-        Err(_) => Ok(None),
+    match document_in(alloc, text)? {
+        Some(document) => entry_of(alloc, &document),
+        None => Ok(None),
     }
 }
 

@@ -1,6 +1,6 @@
 //! Tariff files.
 
-ghost use Rattle.std.specs.Prelude.{◌≡◌, ◌≢◌, IfErr, IfOk, Ok, Err};
+ghost use Rattle.std.specs.Prelude.{◌≡◌, ◌≢◌, IfErr, IfOk, Ok, Err, option_map};
 ghost use Rattle.smf_text.specs.Day.{IsDay};
 ghost use Rattle.toml.specs.View.{table_view};
 ghost use Rattle.tariff_rules.specs.Document.{IsUnlessMemory, AreUnlessMemory};
@@ -15,7 +15,7 @@ use crate::rates::Rates;
 use crate::rules::rules_at;
 use crate::shift::{ShiftRule, has_conflict};
 use smf_text::day_of_text;
-use std::alloc::Global;
+use std::alloc::{AllocError, Global};
 use toml::Table;
 
 /// The most bytes of a tariff file.
@@ -72,6 +72,21 @@ pub(super) fn shifts_at(alloc: Global, document: &Table) -> Result<Vec<ShiftRule
         return Err(TariffFault::ShiftConflict);
     }
     Ok(rules)
+}
+
+/// The document that the text of a tariff file is, if it is one and not too long.
+pub(crate) fn document_in(alloc: Global, text: &str) -> Result<Option<Table>, AllocError>
+    ensures { IfOk result (λ found.
+        option_map (λ document. table_view document) found ≡ spec.document_in text.now) }
+{
+    if text.len() > MAX_TEXT {
+        return Ok(None);
+    }
+    match toml::table_from_str(alloc, text) {
+        Ok(document) => Ok(Some(document)),
+        Err(error) if error.is_memory() => Err(AllocError),
+        Err(_) => Ok(None),
+    }
 }
 
 impl Tariff {
