@@ -1,9 +1,9 @@
 -- The table in the code is the page's runs, by computation.
-use Rattle.std.proofs.Common.{◌≡◌, ℕ, zero, suc, ◌<◌, ◌≢◌, ◌&&◌, ◌||◌, Bool, true, nat_eq, nat_lt, get_or, refl, ap, ◌∙◌, arith, Option, Some, None, inl, inr}
-use Rattle.std.proofs.lemmas.Bool.{eqb-true, ne_eqb, and_parts, cases_lt}
+use Rattle.std.proofs.Common.{◌≡◌, ℕ, zero, suc, ◌<◌, ◌≢◌, ◌&&◌, ◌||◌, Bool, true, nat_eq, nat_lt, get_or, refl, ap, arith, Option, Some, None}
+use Rattle.std.proofs.lemmas.Bool.{eqb-true, ne_eqb}
 use Rattle.std.specs.List.{position}
 use Rattle.std.specs.Option.{option_eq, option_map_or}
-use Rattle.std.proofs.lemmas.Bool.Decides.{nat_tests}
+use Rattle.std.proofs.lemmas.Bool.Decides.{nat_tests, Decides-below_and}
 use Rattle.smf_text.specs.declared.code_page.TheConstants.{PAGE}
 use Rattle.smf_text.specs.CodePage.{char_of, char_in, byte_of, byte_in, runs}
 
@@ -14,13 +14,9 @@ all_below test (suc n) = test n && all_below test n
 
 -- a number below n passes it
 pub all_below_holds : (test : ℕ → Bool) (n k : ℕ) → all_below test n ≡ true → k < n → test k ≡ true
-all_below_holds test zero k all h = absurd (omega arith)
-all_below_holds test (suc n) k all h =
-    let parts = and_parts (test n) (all_below test n) all in
-    elim (cases_lt k n) [
-      | inl lt ↦ all_below_holds test n k parts.1 lt
-      | inr ge ↦ let is : k ≡ n = omega arith in ap test is ∙ parts.0
-    ]
+all_below_holds test n k all h =
+    (Decides-below_and test (λ j. test j ≡ true) (all_below test)
+    (λ j. (λ passes. passes, λ passes. passes)) refl (λ m. refl) n).0 all k h
 
 -- an entry of the table says so: an ASCII character, or 0 for none
 abbrev is_entry : ℕ → Option ℕ → Bool
