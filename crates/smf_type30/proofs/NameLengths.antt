@@ -1,26 +1,13 @@
 -- The fields of a record that measures work have the lengths that they need.
-use Rattle.std.proofs.Common.{◌≡◌, ◌+◌, ◌≤◌, ◌<◌, ◌%◌, ◌^◌, ◌==◌, ℕ, List, length, true, false, None}
-use Rattle.std.proofs.Common.{Some, arith}
+use Rattle.std.proofs.Common.{◌≡◌, ◌<◌, ◌%◌, ◌^◌, ◌==◌, ℕ, List, length, true, false, None, Some}
+use Rattle.std.proofs.Common.{arith}
 use Rattle.std.specs.Prelude.{IfSome, if◌then◌else◌}
 use Rattle.std.proofs.lemmas.Nat.{mod_below}
-use Rattle.smf_frames.specs.Number.{number, part}
+use Rattle.smf_frames.specs.Number.{number}
 use Rattle.smf_type30.specs.Class.{IsUsage}
-use Rattle.smf_type30.specs.Layout.{identification, job_end}
-use Rattle.smf_type30.specs.Section.{offset_of}
+use Rattle.smf_type30.specs.Layout.{job_end}
 use Rattle.smf_type30.specs.Usage.{ended_step_of, job_id_of, job_of, program_of, step_of, subtype_of}
-use Rattle.smf_type30.proofs.IdentityLength.{part_length}
-use Rattle.smf_type30.proofs.SectionLemmas.{fits_there}
-use Rattle.smf_type30.proofs.UsageFacts.{usage_identified, usage_identification}
-
--- eight bytes of the identification section
-eight_long : (bytes : List ℕ) (at : ℕ) → IsUsage bytes → at + 8 ≤ 72
-    → length (part bytes (offset_of bytes identification + at) 8) ≡ 8
-eight_long bytes at usage within =
-    let there = fits_there bytes identification (usage_identified bytes usage)
-    (usage_identification bytes usage) in
-    let least = there.least in
-    let inside = there.inside in
-    part_length bytes (offset_of bytes identification + at) 8 (omega (arith, within, least, inside))
+use Rattle.smf_type30.proofs.IdentityLength.{eight_long}
 
 -- the names of the job and of its program, and the identifier of the job
 pub job_long : (bytes : List ℕ) → IsUsage bytes → length (job_of bytes) ≡ 8
