@@ -1,15 +1,15 @@
 use crate::damage::Damage;
 
-/// What a record is for the office.
+/// What a record is for the office, by its type and subtype (SA38-0667).
 #[derive(Clone, Copy, Debug, PartialEq, Eq)]
 pub enum Class {
-    /// Begins a dump.
+    /// Begins a dump: type 2.
     DumpHeader,
-    /// Ends a dump.
+    /// Ends a dump: type 3.
     DumpTrailer,
-    /// Says that records were lost.
+    /// Says that records were lost: type 7.
     DataLost,
-    /// Is of no concern: another type, or another subtype of type 30.
+    /// Is of no concern: another type, or type 30 with a subtype other than 4 and 5.
     Other,
     /// Measures no CPU time, as it has no processor section: a word of this project. It is counted
     /// and never charged.

@@ -147,7 +147,8 @@ impl<'a> Type30<'a> {
         Some(BigEndian::read_u16(self.step()))
     }
 
-    /// When the work was initiated: time and date, as in the record.
+    /// When the work was initiated, as in the record: 4 bytes of time, in hundredths of a second
+    /// since midnight, and 4 of a packed date.
     #[tactic(auto, unfolding(crate::specs::Usage::initiation_of))]
     pub fn initiation(&self) -> &'a [u8]
         ensures value { result.now ≡ spec.initiation_of self.now }
@@ -188,7 +189,7 @@ impl<'a> Type30<'a> {
         number4(section_bytes(self.bytes, IO_ACTIVITY), BLOCKS)
     }
 
-    /// The name of the job, in EBCDIC.
+    /// The name of the job: 8 bytes of EBCDIC.
     #[tactic(auto, unfolding(crate::specs::Usage::job_of))]
     pub fn job(&self) -> &'a [u8]
         ensures value { result.now ≡ spec.job_of self.now }
@@ -197,7 +198,7 @@ impl<'a> Type30<'a> {
         self.identified(JOB_NAME)
     }
 
-    /// The name of the program, in EBCDIC.
+    /// The name of the program: 8 bytes of EBCDIC.
     #[tactic(auto, unfolding(crate::specs::Usage::program_of))]
     pub fn program(&self) -> &'a [u8]
         ensures value { result.now ≡ spec.program_of self.now }
@@ -206,7 +207,7 @@ impl<'a> Type30<'a> {
         self.identified(PROGRAM_NAME)
     }
 
-    /// The JES job identifier, in EBCDIC.
+    /// The JES job identifier: 8 bytes of EBCDIC.
     #[tactic(auto, unfolding(crate::specs::Usage::job_id_of))]
     pub fn job_id(&self) -> &'a [u8]
         ensures value { result.now ≡ spec.job_id_of self.now }
@@ -215,7 +216,7 @@ impl<'a> Type30<'a> {
         self.identified(JOB_ID)
     }
 
-    /// Accounting field n, the first being 1.
+    /// Accounting field n, the first being 1, None where the record has fewer.
     #[tactic(auto, using(crate::proofs::UsageFacts::usage))]
     pub fn account(&self, n: u16) -> Option<&'a [u8]>
         ensures value { option_copied result ≡ spec.account_of self.now n }
@@ -242,7 +243,8 @@ impl<'a> Type30<'a> {
         accounts::from_section(self.bytes, ACCOUNTING)
     }
 
-    /// The completion code and the termination indicator, None without a completion section.
+    /// The completion code and the termination indicator, 2 bytes each, None without a completion
+    /// section.
     #[tactic(auto, using(crate::proofs::UsageFacts::usage), unfolding(crate::specs::Usage::completion_of))]
     pub fn completion(&self) -> Option<[u8; 4]>
         ensures value { result ≡ spec.completion_of self.now }

@@ -19,12 +19,13 @@ const CURRENCY: &str = "currency";
 /// The most characters of each text in a letterhead.
 const MAX_LETTERS: usize = 40;
 
-/// What stands in the head of a bill, where the tariff file says it.
+/// What stands in the head of a bill, where the tariff file says it: texts of 1 to 40 printable
+/// characters of ASCII. Any other value is as if it were not there.
 #[derive(Debug, Drop)]
 pub struct Letterhead {
-    /// The name of the office.
+    /// The name of the office, at the key `office`.
     pub office: Option<String>,
-    /// The currency of the amounts.
+    /// The currency of the amounts, at the key `currency`.
     pub currency: Option<String>,
 }
 
