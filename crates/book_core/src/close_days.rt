@@ -1,11 +1,11 @@
 //! Days beside that of a close.
 
-ghost use Rattle.std.specs.Prelude.{◌≡◌, int_lt, not, true};
-ghost use Rattle.std.specs.Option.{option_map_or};
+ghost use Rattle.std.specs.Prelude.{◌≡◌};
+ghost use Rattle.book_model.specs.CloseDays as spec;
 
 /// A day is later than that of a close, if there was one.
 pub fn is_after(close: Option<i32>, day: i32) -> bool
-    ensures { result ≡ option_map_or (λ close. int_lt close day) close true }
+    ensures { result ≡ spec.is_after close day }
 {
     match close {
         Some(close) => close < day,
@@ -13,9 +13,9 @@ pub fn is_after(close: Option<i32>, day: i32) -> bool
     }
 }
 
-/// A day is no later than another, if there is one.
+/// A day is no later than that of a close, if there was one.
 pub fn is_through(through: Option<i32>, day: i32) -> bool
-    ensures { result ≡ option_map_or (λ through. not (int_lt through day)) through true }
+    ensures { result ≡ spec.is_through through day }
 {
     match through {
         Some(through) => !(through < day),

@@ -3,8 +3,9 @@
 
 ghost use Rattle.std.specs.Prelude.{◌≡◌};
 ghost use Rattle.book_core.specs.Effects.{HasOnly, charge, charge_held, choice_effects, effects_of};
-ghost use Rattle.book_core.specs.Effects.{is_after, withdraw};
+ghost use Rattle.book_core.specs.Effects.{withdraw};
 
+use crate::close_days::is_after;
 use tariff_rules::Priced;
 
 /// What a ledger looks at for a new record.
@@ -129,7 +130,7 @@ pub fn plan_charge(through: Option<i32>, member: &Member) -> Effects
 fn charged(through: Option<i32>, name: [u8; 32], priced: &Priced) -> Effects
     ensures { result ≡ charge through name priced.now }
 {
-    let by = if is_after_close(through, priced.day) {
+    let by = if is_after(through, priced.day) {
         (Some(DayChange::Add(*priced)), None)
     } else {
         (None, Some(LineChange::AddPlus(name)))
@@ -149,7 +150,7 @@ fn withdrawn(through: Option<i32>, member: &Member) -> Effects
     let name = member.name;
     let by = if member.posted {
         (None, Some(LineChange::AddMinus(name)))
-    } else if is_after_close(through, member.priced.day) {
+    } else if is_after(through, member.priced.day) {
         (Some(DayChange::Take(member.priced)), None)
     } else {
         (None, Some(LineChange::DropPlus(name)))
@@ -159,15 +160,5 @@ fn withdrawn(through: Option<i32>, member: &Member) -> Effects
         unmark: Some(name),
         day: by.0,
         line: by.1,
-    }
-}
-
-/// The day is after the last close, if there was one.
-fn is_after_close(through: Option<i32>, day: i32) -> bool
-    ensures { result ≡ is_after through day }
-{
-    match through {
-        Some(close) => close < day,
-        None => true,
     }
 }

@@ -180,14 +180,11 @@ impl Rulings {
         }
     }
 
-    /// A day is not later than that of the last close, if there was one.
+    /// There was a close, and a day is not later than that of the last one.
     fn is_early(&self, day: i32) -> bool
         ensures { result ≡ spec.is_early day (ruled_in self.now) }
     {
-        match self.last_close() {
-            Some(close) => close >= day,
-            None => false,
-        }
+        !is_after(self.last_close(), day)
     }
 
     /// What is answered to a close.

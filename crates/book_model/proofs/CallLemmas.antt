@@ -1,38 +1,32 @@
 -- The calls let rulings go forward only, so what is settled keeps its price.
-use Rattle.std.proofs.Common.{◌≡◌, ℕ, List, sym, arith, not, ◌&&◌, Bool, true, false}
-use Rattle.std.proofs.Common.{true≢false, Option, Some, None, Ok}
-use Rattle.std.specs.Prelude.{int_lt, ℤ, ◌<ℤ◌, MatchOption}
-use Rattle.std.specs.List.{list_any}
-use Rattle.std.specs.Option.{option_map_or}
+use Rattle.std.proofs.Common.{◌≡◌, ℕ, List, arith, not, true, false, true≢false, Option, Some, None, Ok}
+use Rattle.std.specs.Prelude.{ℤ, ◌<ℤ◌, MatchOption}
 use Rattle.std.proofs.lemmas.Int.{ints}
 use Rattle.smf_type30.specs.Usage.{day_of}
 use Rattle.tariff_rules.specs.Terms.{Terms}
 use Rattle.book_model.specs.declared.answer.Ruled.TheVariants.{Done}
 use Rattle.book_model.specs.Books.{Book}
 use Rattle.book_model.specs.Charged.{is_dated_after}
+use Rattle.book_model.specs.CloseDays.{is_after}
 use Rattle.book_model.specs.Laws.{IsAfterLastClose, CallsGoForward, ClosedPricesStay}
 use Rattle.book_model.specs.Rulings.{last_close}
 use Rattle.book_model.specs.RulingAnswers.{terms_answer, close_answer}
+use Rattle.book_model.proofs.LatestLemmas.{later-after}
 use Rattle.book_model.proofs.PricingLemmas.{earlier_prices_stay}
 use Rattle.book_model.proofs.TestLemmas.{close_passes, tariff_passes}
 
--- the test of a tariff's day
-later_than : (alone : Bool) (last : Option ℤ) (day : ℤ)
-    → (alone && option_map_or (λ close. int_lt close day) last true) ≡ true
+-- a day that is after the last close, if there was one
+later_than : (last : Option ℤ) (day : ℤ) → is_after last day ≡ true
     → MatchOption last (Unit {0}) (λ close. close <ℤ day)
-later_than alone None day is = tt
-later_than true (Some close) day is = grind (arith, ints)
-later_than false (Some close) day is = absurd (true≢false (sym is))
+later_than None day is = tt
+later_than (Some close) day is = grind (arith, ints)
 
 -- a tariff that is put in force begins after the last close
 tariff_done : (book : Book) (text : List ℕ) (terms : Terms) → terms_answer book text terms ≡ Ok Done
     → IsAfterLastClose book.rulings terms.effective
 tariff_done book text terms is =
-    let day : ℤ = terms.effective in
-    let alone =
-    not (list_any (λ tariff. not (int_lt tariff.terms.effective day)) book.rulings.tariffs) in
-    later_than alone (last_close book.rulings) day
-    (tariff_passes book text terms is).later
+    later_than (last_close book.rulings) terms.effective
+    (later-after terms.effective book.rulings (tariff_passes book text terms is).later)
 
 -- a day that is not after the last close is before a day that is
 before_it : (last : Option ℤ) (bytes : List ℕ) (day : ℤ) → is_dated_after last bytes ≡ false
@@ -47,18 +41,17 @@ closed_prices_stay book text terms bytes is early =
     (before_it (last_close book.rulings) bytes terms.effective early
     (tariff_done book text terms is))
 
--- the test of a close's day
-after_last : (last : Option ℤ) (day : ℤ)
-    → option_map_or (λ close. not (int_lt close day)) last false ≡ false
+-- or is not early
+not_early : (last : Option ℤ) (day : ℤ) → not (is_after last day) ≡ false
     → MatchOption last (Unit {0}) (λ close. close <ℤ day)
-after_last None day is = tt
-after_last (Some close) day is = grind (arith, ints)
+not_early None day is = tt
+not_early (Some close) day is = grind (arith, ints)
 
 -- a period is closed through a day after the last close
 close_done : (book : Book) (number : ℕ) (day : ℤ) → close_answer book.rulings number day ≡ Ok Done
     → IsAfterLastClose book.rulings day
 close_done book number day is =
-    after_last (last_close book.rulings) day (close_passes book number day is).later
+    not_early (last_close book.rulings) day (close_passes book number day is).later
 
 -- the law of it
 pub calls_go_forward : CallsGoForward

@@ -7,7 +7,6 @@ use Rattle.std.specs.Prelude.{ℤ, pos, ◌<ℤ◌, int_lt, nat_lt, slice_get, i
 use Rattle.std.specs.Cmp.{int_ranked}
 use Rattle.std.specs.List.{list_any}
 use Rattle.std.specs.List.Sorted.{IsStrictlySortedBy}
-use Rattle.std.specs.Option.{option_map_or}
 use Rattle.std.specs.Ordering.{int_cmp}
 use Rattle.std.specs.declared.cmp.Ordering.TheVariants.{Less}
 use Rattle.std.proofs.Math.Bool.{or-true}
@@ -19,6 +18,7 @@ use Rattle.std.proofs.lemmas.Option.{get_or_from_slice_get, slice_get-get_or, sl
 use Rattle.smf_type30.specs.Usage.{day_of}
 use Rattle.book_model.specs.Books.{Book, all_periods, charged_of, open_period}
 use Rattle.book_model.specs.Charged.{is_dated_after, is_dated_through, is_undisputed}
+use Rattle.book_model.specs.CloseDays.{is_after, is_between, is_through}
 use Rattle.book_model.specs.Counted.{counted_of, is_counted}
 use Rattle.book_model.specs.Details.{is_dated_in}
 use Rattle.book_model.specs.Periods.{Period}
@@ -63,11 +63,6 @@ module _ {X : Type 0} (p : X → Bool) where
             (suc later.0, omega arith, later.2)
       ] refl found
 
--- a record is dated after a close, if there was one, and through another, if there was one
-abbrev pub is_between : Option ℤ → Option ℤ → List ℕ → Bool
-is_between last through bytes =
-    is_dated_after last bytes && option_map_or (λ day. is_dated_through day bytes) through true
-
 -- the day of the close after so many others, if there was one
 abbrev pub close_at : List ℤ → ℕ → Option ℤ
 close_at closes zero = None
@@ -91,7 +86,7 @@ never_later early late bytes order through after =
 module _ (closes : List ℤ) (rising : IsStrictlySortedBy int_cmp closes) (bytes : List ℕ) where
   -- the record is dated in the period after k closes
   abbrev pub in_window : ℕ → Bool
-  in_window k = is_between (close_at closes k) (close_at closes (suc k)) bytes
+  in_window k = is_between (close_at closes k) (close_at closes (suc k)) (day_of bytes)
 
   -- in no two periods
   windows_apart : (j m : ℕ) → j ≤ m → m < length closes → in_window j ≡ true
@@ -101,13 +96,12 @@ module _ (closes : List ℤ) (rising : IsStrictlySortedBy int_cmp closes) (bytes
       let other : ℤ = get_or closes m (pos 0) in
       let at_one : slice_get closes j ≡ Some one = slice_get-get_or closes j (pos 0) (omega arith) in
       let at_other : slice_get closes m ≡ Some other = slice_get-get_or closes m (pos 0) within in
-      let through = subst (λ day. option_map_or (λ day. is_dated_through day bytes) day true ≡ true)
-      at_one
-      (second_of (is_dated_after (close_at closes j) bytes)
-      (option_map_or (λ day. is_dated_through day bytes) (slice_get closes j) true) early) in
-      let after = subst (λ day. is_dated_after day bytes ≡ true) at_other
-      (first_of (is_dated_after (slice_get closes m) bytes)
-      (option_map_or (λ day. is_dated_through day bytes) (slice_get closes (suc m)) true) late) in
+      let day : ℤ = day_of bytes in
+      let through = subst (λ close. is_through close day ≡ true) at_one
+      (second_of (is_after (close_at closes j) day) (is_through (slice_get closes j) day) early) in
+      let after = subst (λ close. is_after close day ≡ true) at_other
+      (first_of (is_after (slice_get closes m) day)
+      (is_through (slice_get closes (suc m)) day) late) in
       let ordered : (one ≡ other) ⊎ (one <ℤ other) =
       elim (nat_lt j m) as (λ b. nat_lt j m ≡ b → (one ≡ other) ⊎ (one <ℤ other)) [
         | true ↦ λ is_less.
@@ -150,7 +144,7 @@ abbrev pub AreInWindows : Book → Type 0
 AreInWindows book =
     (k : ℕ) (period : Period) (bytes : List ℕ) → slice_get (all_periods book) k ≡ Some period
     → has period.counted bytes ≡ true
-    → is_between (close_at book.rulings.closes k) (close_at book.rulings.closes (suc k)) bytes
+    → is_between (close_at book.rulings.closes k) (close_at book.rulings.closes (suc k)) (day_of bytes)
     ≡ true
 
 -- a record is among what is counted where a period counts it
@@ -203,5 +197,6 @@ module _ (naming : Naming) (book : Book) (sound : IsSound naming book)
       let through = through_at (suc k) book.rulings in
       same_records period.counted (those (is_dated_in book.rulings (suc k)) (counted_of book))
       (λ bytes. counted_there bytes k period there
-      ∙ (λ i. is_between (sym last i) (sym through i) bytes && has (counted_of book) bytes)
+      ∙ (λ i. is_between (sym last i) (sym through i) (day_of bytes)
+      && has (counted_of book) bytes)
       ∙ sym (has_those (is_dated_in book.rulings (suc k)) (counted_of book) bytes))

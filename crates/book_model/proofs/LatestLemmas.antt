@@ -12,24 +12,30 @@ use Rattle.tariff_rules.specs.declared.priced.Priced.{Priced}
 use Rattle.tariff_rules.specs.Terms.{Terms}
 use Rattle.book_model.specs.Rulings.{Rulings, AcceptedTerms, later_of, latest, are_rising, has_begun}
 use Rattle.book_model.specs.Rulings.{in_force, last_close, price_in, price_under, with_tariff}
+use Rattle.book_model.specs.CloseDays.{is_after}
 use Rattle.book_model.specs.RulingAnswers.{is_later}
-use Rattle.book_model.proofs.ListLemmas.{list_all-not_any}
 use Rattle.book_model.proofs.RecordSets.{first_of, second_of}
 
--- a day is later where the day of each tariff is before it, and so is the last close, if there was
--- one
+-- a later day is so than the first day of each tariff,
+pub later-before : (day : ℤ) (rulings : Rulings) → is_later day rulings ≡ true
+    → list_all (λ tariff. int_lt tariff.terms.effective day) rulings.tariffs ≡ true
+later-before day rulings later =
+    first_of (list_all (λ tariff. int_lt tariff.terms.effective day) rulings.tariffs)
+    (is_after (last_close rulings) day) later
+
+-- and than the last close
+pub later-after : (day : ℤ) (rulings : Rulings) → is_later day rulings ≡ true
+    → is_after (last_close rulings) day ≡ true
+later-after day rulings later =
+    second_of (list_all (λ tariff. int_lt tariff.terms.effective day) rulings.tariffs)
+    (is_after (last_close rulings) day) later
+
+-- it is later by these two tests
 pub is_later-by : (day : ℤ) (rulings : Rulings)
     → is_later day rulings
     ≡ (list_all (λ tariff. int_lt tariff.terms.effective day) rulings.tariffs
-    && option_map_or (λ close. int_lt close day) (last_close rulings) true)
-is_later-by day rulings =
-    ap (λ b. b && option_map_or (λ close. int_lt close day) (last_close rulings) true)
-    (sym (list_all-not_any (λ tariff. int_lt tariff.terms.effective day) rulings.tariffs))
-
--- then the day of each tariff is before it
-pub later-before : (day : ℤ) (rulings : Rulings) → is_later day rulings ≡ true
-    → list_all (λ tariff. int_lt tariff.terms.effective day) rulings.tariffs ≡ true
-later-before day rulings later = first_of _ _ (sym (is_later-by day rulings) ∙ later)
+    && is_after (last_close rulings) day)
+is_later-by day rulings = refl
 
 -- the first tariff begins before the other
 abbrev pub precedes : AcceptedTerms → AcceptedTerms → Bool

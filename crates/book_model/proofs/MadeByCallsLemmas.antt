@@ -1,9 +1,9 @@
 -- Histories that calls made.
-use Rattle.std.proofs.Common.{◌≡◌, ℕ, List, [], ◌∷◌, refl, sym, ap, ◌∙◌, subst, true, Bool, not}
+use Rattle.std.proofs.Common.{◌≡◌, ℕ, List, [], ◌∷◌, refl, sym, ap, ◌∙◌, subst, true}
 use Rattle.std.proofs.Common.{Some, None, Ok}
-use Rattle.std.specs.Prelude.{ℤ, int_lt, not}
-use Rattle.std.specs.List.{list_any, list_all}
-use Rattle.std.specs.Option.{option_map, option_map_or}
+use Rattle.std.specs.Prelude.{ℤ, int_lt}
+use Rattle.std.specs.List.{list_all}
+use Rattle.std.specs.Option.{option_map}
 use Rattle.tariff_rules.specs.Terms.{Terms}
 use Rattle.book_model.specs.declared.answer.Ruled.TheVariants.{Done}
 use Rattle.book_model.specs.MadeByCalls.{IsMadeByCalls}
@@ -15,12 +15,9 @@ use Rattle.book_model.specs.Records.{Naming, name_of}
 use Rattle.book_model.specs.RulingAnswers.{terms_answer}
 use Rattle.book_model.specs.Rulings.{Rulings, AcceptedTerms, are_rising, with_tariff, with_close}
 use Rattle.book_model.specs.Rulings.{TariffAccepted, RecordChosen, SecondRuleAdopted, with_ruling}
-use Rattle.book_model.specs.Rulings.{last_close}
 use Rattle.book_model.specs.Sound.{IsSound}
 use Rattle.book_model.proofs.TestLemmas.{tariff_passes}
-use Rattle.book_model.proofs.LatestLemmas.{rising-behind, begun-last}
-use Rattle.book_model.proofs.ListLemmas.{list_all-not_any}
-use Rattle.book_model.proofs.RecordSets.{first_of}
+use Rattle.book_model.proofs.LatestLemmas.{rising-behind, begun-last, later-before}
 use Rattle.book_model.proofs.SoundLemmas.{steps_stay_sound}
 
 -- the rulings of the book are those of the history
@@ -52,27 +49,15 @@ sound_after naming (RulingGiven (RecordChosen bytes) ∷ older) answered =
 sound_after naming (RulingGiven SecondRuleAdopted ∷ older) answered =
     steps_stay_sound.adopt naming (book_after older) (sound_after naming older answered.1)
 
--- a tariff that comes into force begins later than every other one
-begins_later : (book : Book) (text : List ℕ) (terms : Terms)
-    → terms_answer book text terms ≡ Ok Done
-    → list_all (λ tariff. int_lt tariff.terms.effective terms.effective) book.rulings.tariffs ≡ true
-begins_later book text terms done =
-    let day : ℤ = terms.effective in
-    let others : List AcceptedTerms = book.rulings.tariffs in
-    let later = (tariff_passes book text terms done).later in
-    let before : AcceptedTerms → Bool = λ tariff. int_lt tariff.terms.effective day in
-    let after : Bool = option_map_or (λ close. int_lt close day) (last_close book.rulings) true in
-    list_all-not_any before others
-    ∙ first_of (not (list_any (λ tariff. not (before tariff)) others)) after later
-
--- so the tariffs rise
+-- a tariff that comes into force begins later than every other one: so the tariffs rise
 rising : (naming : Naming) (history : List Event) → IsMadeByCalls naming history
     → are_rising (rulings history).tariffs ≡ true
 rising naming [] answered = refl
 rising naming (RulingGiven (TariffAccepted (Some text) terms) ∷ older) answered =
     let later : AcceptedTerms = record { text = Some text; terms = terms } in
     let day : ℤ = terms.effective in
-    let before = begins_later (book_after older) text terms answered.0 in
+    let before = later-before day (book_after older).rulings
+    (tariff_passes (book_after older) text terms answered.0).later in
     rising-behind (rulings older).tariffs later (rising naming older answered.1)
     (ap (λ (ruled : Rulings). list_all (λ tariff. int_lt tariff.terms.effective day) ruled.tariffs)
     (sym (rulings_are older)) ∙ before)

@@ -1,13 +1,13 @@
 -- The details of a period: each record that its charge rows count, in the order of the rows, then by
 -- time, then by name.
-use Rattle.std.specs.Prelude.{ℕ, ◌-◌, ◌&&◌, Bool, true, List, filter}
+use Rattle.std.specs.Prelude.{ℕ, ℤ, ◌-◌, Bool, true, List, filter}
 use Rattle.std.specs.Prelude.{[], ◌∷◌, find, IfSome, Option, Some, None}
 use Rattle.std.specs.declared.cmp.Ordering.{Ordering}
 use Rattle.std.specs.Ordering.{is_lt, nat_cmp, ordering_then}
 use Rattle.std.specs.Option.{option_map, option_map_or, ok_or}
 use Rattle.std.specs.List.{filter_map}
 use Rattle.smf_text.specs.Day.{IsDay}
-use Rattle.smf_type30.specs.Usage.{ended_step_of, job_id_of, job_of, program_of, time_of}
+use Rattle.smf_type30.specs.Usage.{day_of, ended_step_of, job_id_of, job_of, program_of, time_of}
 use Rattle.tariff_rules.specs.declared.priced.Priced.{Priced}
 use Rattle.book_model.specs.declared.detail.Detail.{Detail}
 use Rattle.book_model.specs.declared.fault.LedgerFault.TheVariants.{NoSuchPeriod}
@@ -15,7 +15,7 @@ use Rattle.book_model.specs.declared.row.RowKey.{RowKey}
 use Rattle.book_model.specs.Sets.{members, set_of}
 use Rattle.book_model.specs.Records.{Naming, Records, by_bytes, name_of, same_bytes}
 use Rattle.book_model.specs.Rulings.{Rulings, price_in}
-use Rattle.book_model.specs.Charged.{is_dated_after, is_dated_through}
+use Rattle.book_model.specs.CloseDays.{is_between}
 use Rattle.book_model.specs.Rows.{by_key, key_of, same_key}
 use Rattle.book_model.specs.Periods.{Period}
 use Rattle.book_model.specs.Books.{Book, period_of}
@@ -108,8 +108,11 @@ next_detail_outcome naming number centre last book =
 abbrev pub ShowsDetail : Option Detail → Type 0
 ShowsDetail found = IfSome found (λ detail. IsDay detail.priced.day)
 
--- the record is dated in the period of that number
+-- the day is one of the period of that number: later than the close before it, and no later than its
+-- own
+abbrev pub is_day_of : ℕ → Rulings → ℤ → Bool
+is_day_of number rulings = is_between (through_of (number - 1) rulings) (through_of number rulings)
+
+-- the record is dated in it
 abbrev pub is_dated_in : Rulings → ℕ → List ℕ → Bool
-is_dated_in rulings number bytes =
-    is_dated_after (through_of (number - 1) rulings) bytes
-    && option_map_or (λ day. is_dated_through day bytes) (through_of number rulings) true
+is_dated_in rulings number bytes = is_day_of number rulings (day_of bytes)

@@ -1,13 +1,15 @@
--- Read in this order: sets and records; what the office ruled, and what a record costs by it; which
--- records are undisputed and charged; what a period is, and the rows, lines and disputes that are
--- read, and the rows by another tariff; the book, which records it counts, and the events that
--- change it; what is answered to a record and to a ruling, how the rulings are listed, and what each
--- call is; the details of a period; the life of a record and its trail; the bill of a period; what
--- a whole history defines, which histories calls make, and how a history is cut at its rulings; what
--- is always true of a book; and laws. Then the answers and the faults of a ledger.
+-- Read in this order: sets and records; days beside those of closes; what the office ruled, and what
+-- a record costs by it; which records are undisputed and charged; what a period is, and the rows,
+-- lines and disputes that are read, and the rows by another tariff; the book, which records it
+-- counts, and the events that change it; what is answered to a record and to a ruling, how the
+-- rulings are listed, and what each call is; the details of a period; the life of a record and its
+-- trail; the bill of a period; what a whole history defines, which histories calls make, and how a
+-- history is cut at its rulings; what is always true of a book; and laws. Then the answers and the
+-- faults of a ledger.
 pub mod Sets
 pub mod Records
 pub mod Limits
+pub mod CloseDays
 pub mod Rulings
 pub mod Charged
 pub mod Periods

@@ -29,6 +29,7 @@ pub use Rattle.book_model.specs.Sets.{Set, has, members, set_of, those, with, wi
 pub use Rattle.book_model.specs.Records.{IsUsageRecord, Naming, Records, by_bytes, name_of}
 pub use Rattle.book_model.specs.Records.{same_bytes}
 pub use Rattle.book_model.specs.Limits.{last_period, most_choices, most_cost, most_held}
+pub use Rattle.book_model.specs.CloseDays.{close_of, is_after, is_between, is_through}
 pub use Rattle.book_model.specs.Rulings.{Ruling, TariffAccepted, RecordChosen, SecondRuleAdopted}
 pub use Rattle.book_model.specs.Rulings.{Choice, Rulings, AcceptedTerms, are_rising, has_begun}
 pub use Rattle.book_model.specs.Rulings.{identity_by, in_force, last_close, no_rulings, open_by}
@@ -71,8 +72,8 @@ pub use Rattle.book_model.specs.OtherPrices.{costs_under, rows_if_room, what_if_
 pub use Rattle.book_model.specs.Details.{by_detail, comes_after, detail_by, detail_of, detail_with}
 pub use Rattle.book_model.specs.Details.{details_asked, is_asked}
 pub use Rattle.book_model.specs.Details.{details_at, details_for, details_of, details_of_centre}
-pub use Rattle.book_model.specs.Details.{details_outcome, first_detail, is_dated_in, next_after}
-pub use Rattle.book_model.specs.Details.{next_detail_outcome, ShowsDetail}
+pub use Rattle.book_model.specs.Details.{details_outcome, first_detail, is_dated_in, is_day_of}
+pub use Rattle.book_model.specs.Details.{next_after, next_detail_outcome, ShowsDetail}
 pub use Rattle.book_model.specs.Lives.{charges_in, is_charge, life_from, life_of, net_of}
 pub use Rattle.book_model.specs.Lives.{reversals_in, turn_if, turns_in}
 pub use Rattle.book_model.specs.Trails.{IsTrail, TrailSeen, choice_named, choices_among, period_on}

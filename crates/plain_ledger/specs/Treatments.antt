@@ -1,13 +1,13 @@
 -- How a plain ledger keeps closed periods, and reads the open one: what a period does with each
 -- record that is held.
-use Rattle.std.specs.Prelude.{◌≡◌, Bool, true, false, not, ◌&&◌, ◌||◌, List, [], ℕ, ℤ, int_lt}
+use Rattle.std.specs.Prelude.{◌≡◌, Bool, true, false, not, ◌&&◌, ◌||◌, List, [], ℕ, ℤ}
 use Rattle.std.specs.Prelude.{filter, All, Option, Some, None}
 use Rattle.std.specs.BTreeMap as map
 use Rattle.std.specs.BTreeSet as set
 use Rattle.std.specs.Map.{lookup}
 use Rattle.std.specs.Option.{option_map_or, option_and_then}
 use Rattle.book_model.specs.Words.{job_of, set_of, Records, by_bytes, same_bytes, Period}
-use Rattle.book_model.specs.Words.{Rulings, identity_by, last_close}
+use Rattle.book_model.specs.Words.{Rulings, identity_by, is_after, is_through, last_close}
 use Rattle.book_model.specs.declared.line.Line.{Line}
 use Rattle.plain_ledger.specs.declared.treatment.ClosedPeriod.{ClosedPeriod}
 use Rattle.plain_ledger.specs.declared.period_end.PeriodEnd.{PeriodEnd}
@@ -76,13 +76,13 @@ abbrev pub charges : PeriodEnd → HeldRecord → Bool
 charges period_end held =
     (not (set.contains by_bytes period_end.shared (identity_at period_end held))
     || is_choice period_end held)
-    && option_map_or (λ through. not (int_lt through held.priced.day)) period_end.through true
+    && is_through period_end.through held.priced.day
 
 -- the share of a record at the end of a period
 abbrev pub treatment_at : PeriodEnd → Bool → HeldRecord → Option Treatment
 treatment_at period_end posted held =
     treatment_of (charges period_end held) posted
-    (option_map_or (λ last. int_lt last held.priced.day) period_end.last true)
+    (is_after period_end.last held.priced.day)
 
 -- an entry's name is among these
 abbrev pub has_name_in : Names → Entry → Bool

@@ -1,11 +1,9 @@
-use Rattle.std.proofs.Common.{◌∙◌, ◌&&◌, sym, ap, true, Bool, List, Option, w32}
+use Rattle.std.proofs.Common.{◌∙◌, ◌&&◌, sym, ap, Bool, List, w32}
 use Rattle.std.proofs.lemmas.Int.{to_z-of_z}
 use Rattle.std.specs.List.{list_all}
-use Rattle.std.specs.Option.{option_map_or}
 use Rattle.std.specs.Prelude.{int_lt, ℤ}
-use Rattle.book_model.specs.Words.{AcceptedTerms, last_close}
+use Rattle.book_model.specs.Words.{AcceptedTerms, is_after, last_close}
 use Rattle.book_model.proofs.DayLemmas.{day_fits}
-use Rattle.book_model.proofs.LatestLemmas.{is_later-by}
 use Rattle.book_core.specs.OfficeRulings.{ruled_in}
 use Rattle.book_core.proofs.rulings.Rulings.is_later.Goals as goal
 
@@ -13,19 +11,15 @@ use Rattle.book_core.proofs.rulings.Rulings.is_later.Goals as goal
 abbrev all_before : ℤ → List AcceptedTerms → Bool
 all_before day = list_all (λ tariff. int_lt tariff.terms.effective day)
 
--- a day is later than a close, if there was one
-abbrev late : ℤ → Option ℤ → Bool
-late day close = option_map_or (λ close. int_lt close day) close true
-
 pub returns-then-are_before : goal.returns-then-are_before
 returns-then-are_before c =
     let day = c.args.tariff.now.effective in
     let before = ap (all_before day) (sym c.deref.ensures.value) ∙ sym c.are_before.ensures
     ∙ c.if-are_before.true in
     let last = c.last_close.result in
-    sym (is_later-by day (ruled_in c.args.self.now)
-    ∙ (λ i. before i && late (sym c.effective.ensures.value i) (sym c.last_close.ensures i))
-    ∙ ap (λ day. late day last) (sym (to_z-of_z w32 c.effective.result
+    sym (ap (λ b. b && is_after (last_close (ruled_in c.args.self.now)) day) before
+    ∙ (λ i. is_after (sym c.last_close.ensures i) (sym c.effective.ensures.value i))
+    ∙ ap (is_after last) (sym (to_z-of_z w32 c.effective.result
     (day_fits c.effective.result c.effective.ensures.day)))
     ∙ sym c.is_after.ensures)
 
@@ -35,5 +29,4 @@ returns-else-are_before c =
     let before = ap (all_before day) (sym c.deref.ensures.value) ∙ sym c.are_before.ensures
     ∙ c.if-are_before.false in
     c.if-are_before.false
-    ∙ sym (is_later-by day (ruled_in c.args.self.now)
-    ∙ (λ i. before i && late day (last_close (ruled_in c.args.self.now))))
+    ∙ sym (ap (λ b. b && is_after (last_close (ruled_in c.args.self.now)) day) before)
