@@ -8,7 +8,7 @@ use Rattle.book_core.proofs.TransitionLemmas.{after_all-append}
 use Rattle.named_books.specs.declared.repository.RepositoryFault.{RepositoryFault}
 use Rattle.named_books.specs.declared.repository.RepositoryFault.TheVariants.{Unseen}
 use Rattle.named_books.specs.Shelves.{Shelf, unknown, OpenedAnew, GoOn, IsDoneTo, IsOpened, IsMade}
-use Rattle.named_books.specs.Shelves.{ComesBy, IsSameShelf, IsTried, IsUntouched, TakesName}
+use Rattle.named_books.specs.Shelves.{ComesBy, IsSameShelf, IsThere, IsTried, IsUntouched, TakesName}
 use Rattle.named_books.specs.Shelves.{WhereUnopened}
 
 -- books that nothing was done to
@@ -25,6 +25,7 @@ untouched book shelf = record {
   naming = refl;
   here = stays (shelf.holds book);
   elsewhere = λ other _. stays (shelf.holds other);
+  free = λ other _ free. free;
 }
 
 pub same_shelf : (shelf : Shelf) → IsSameShelf shelf shelf
@@ -51,6 +52,7 @@ done_as book Made Other old new implies done = record {
         now = more.now;
       };
   elsewhere = done.elsewhere;
+  free = done.free;
 }
 
 -- work, and then work on the books as they were opened anew
@@ -95,6 +97,7 @@ done_then book First Next one two three first next = record {
       (subst (λ naming. GoOn (Next naming) (two.holds book) (three.holds book)) first.naming next.here);
   elsewhere = λ other apart. still_on NoEvent (one.holds other) (two.holds other) (three.holds other)
       (first.elsewhere other apart) (next.elsewhere other apart);
+  free = λ other apart free. next.free other apart (first.free other apart free);
 }
 
 -- work after nothing was done
@@ -107,6 +110,7 @@ done_after book Made one two three first next = record {
       (subst (λ naming. GoOn (Made naming) (two.holds book) (three.holds book)) first.naming next.here);
   elsewhere = λ other apart. still_on NoEvent (one.holds other) (two.holds other) (three.holds other)
       (first.elsewhere other apart) (next.elsewhere other apart);
+  free = λ other apart free. next.free other apart (first.free other apart free);
 }
 
 -- books that were opened and asked nothing
@@ -131,6 +135,7 @@ unknown_done book naming Made = record {
   naming = refl;
   here = λ history held. absurd held;
   elsewhere = λ other _ history held. absurd held;
+  free = λ other _ free. free;
 }
 
 pub unknown_untouched : (book : List ℕ) (naming : Naming)
@@ -194,6 +199,11 @@ pub unknown_found : {A : Type 0} (book : List ℕ) (naming : Naming)
     (answer : Result A RepositoryFault) → OnOk answer ((unknown naming).is_free book → ⊥)
 unknown_found book naming (Ok answer) = λ free. free
 unknown_found book naming (Err fault) = tt
+
+pub unknown_there : {A : Type 0} (book : List ℕ) (naming : Naming)
+    (answer : Result A RepositoryFault) → IsThere book (unknown naming) (unknown naming) answer
+unknown_there book naming (Ok answer) = λ free. free
+unknown_there book naming (Err fault) = λ free. free
 
 -- a visit that was not made is as it is, whatever the fault
 pub same_where : (Visited Same : Type 0) (fault : RepositoryFault) → Same

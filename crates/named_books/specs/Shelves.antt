@@ -54,11 +54,12 @@ pub record HoldsMore (Made : Transition) (history : List Event) (Holds : List Ev
 abbrev pub GoOn : Transition → (List Event → Type 0) → (List Event → Type 0) → Type 0
 GoOn Made Held Holds = (history : List Event) → Held history → HoldsMore Made history Holds
 
--- Such work was done on the books of a name, and nothing was done to others.
+-- Such work was done on the books of a name, and nothing was done to others: no other name was taken.
 pub record IsDoneTo (book : List ℕ) (Made : Transition) (old new : Shelf) : Type 0 where
   pub naming : new.naming ≡ old.naming
   pub here : GoOn Made (old.holds book) (new.holds book)
   pub elsewhere : (other : List ℕ) → other ≢ book → GoOn NoEvent (old.holds other) (new.holds other)
+  pub free : (other : List ℕ) → other ≢ book → old.is_free other → new.is_free other
 
 -- nothing was done to any books; the name is that of books that might have been visited
 abbrev pub IsUntouched : List ℕ → Shelf → Shelf → Type 0
@@ -90,6 +91,11 @@ abbrev pub IsTried : {A : Type 0} → (A → Transition) → List ℕ → Shelf 
     → Result A RepositoryFault → Type 0
 IsTried work book old new (Ok answer) = IsUntouched book old new × TriesOn (work answer) book old
 IsTried work book old new (Err fault) = old.refuses book fault × IsUntouched book old new
+
+-- Books that were opened were there; where they were refused, a name that was free is free still.
+abbrev pub IsThere : {A : Type 0} → List ℕ → Shelf → Shelf → Result A RepositoryFault → Type 0
+IsThere book old new (Ok answer) = old.is_free book → ⊥
+IsThere book old new (Err fault) = old.is_free book → new.is_free book
 
 -- What is so by what came of an opening: this of the visit's answer; or the visit is as it was.
 abbrev pub ComesBy : {A : Type 0} → (A → Type 0) → Type 0 → Result A RepositoryFault → Type 0

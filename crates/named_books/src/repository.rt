@@ -72,7 +72,8 @@ pub enum Upgraded {
 /// Where books are kept by their names.
 pub trait Repository {
     ghost use Rattle.std.specs.Prelude.{◌≡◌, IfErr, OnOk};
-    ghost use Rattle.named_books.specs.Shelves.{Shelf, ComesBy, IsMade, IsOpened, IsTried, IsUntouched};
+    ghost use Rattle.named_books.specs.Shelves.{Shelf, ComesBy, IsMade, IsOpened, IsThere, IsTried};
+    ghost use Rattle.named_books.specs.Shelves.{IsUntouched};
 
     /// What is known of them.
     ghost shelf: { Self → Shelf };
@@ -91,6 +92,7 @@ pub trait Repository {
     fn open<V: Visit>(&mut self, book: &str, visit: &mut V) -> Opened<V::Answer>
         ensures opened { IsOpened (V.Visit.work (shelf self.old).naming visit.old visit.new) book.now
             (shelf self.old) (shelf self.new) result.answer }
+        ensures there { IsThere book.now (shelf self.old) (shelf self.new) result.answer }
         ensures log { (shelf self.new).has_log book.now result.has_log }
         ensures came { ComesBy (V.Visit.comes visit.old visit.new) (visit.new ≡ visit.old)
             result.answer };
@@ -99,13 +101,16 @@ pub trait Repository {
     fn try_out<V: Visit>(&mut self, book: &str, visit: &mut V) -> Opened<V::Answer>
         ensures tried { IsTried (V.Visit.work (shelf self.old).naming visit.old visit.new) book.now
             (shelf self.old) (shelf self.new) result.answer }
+        ensures there { IsThere book.now (shelf self.old) (shelf self.new) result.answer }
         ensures log { (shelf self.new).has_log book.now result.has_log }
         ensures came { ComesBy (V.Visit.comes visit.old visit.new) (visit.new ≡ visit.old)
             result.answer };
 
     /// Brings the books of a name to the form that this program keeps: they hold the same history.
+    /// That they are of this form already is told only where there is something under the name.
     fn upgrade(&mut self, book: &str) -> Opened<Upgraded>
         ensures same { IsUntouched book.now (shelf self.old) (shelf self.new) }
+        ensures there { IsThere book.now (shelf self.old) (shelf self.new) result.answer }
         ensures refused { IfErr result.answer ((shelf self.old).refuses book.now) }
         ensures log { (shelf self.new).has_log book.now result.has_log };
 }
