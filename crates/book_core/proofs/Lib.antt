@@ -15,3 +15,4 @@ pub mod GroupLemmas
 pub mod KeyedRowLemmas
 pub mod ListLimits
 pub mod MemoryLemmas
+pub mod OpenAnswers

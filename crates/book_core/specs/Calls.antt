@@ -32,6 +32,11 @@ abbrev pub is_reopen : {V : Type 0} → Result V LedgerFault → Bool
 is_reopen (Err Reopen) = true
 is_reopen result = false
 
+-- an answer that leaves open books open
+pub record LeavesOpen {V : Type 0} (answer : Result V LedgerFault) : Type 0 where
+  pub stored : is_store answer ≡ false
+  pub served : is_reopen answer ≡ false
+
 -- A call answers Reopen exactly where the ledger is to be reopened, as it is from the first fault
 -- of the store on.
 pub record Reopens {V : Type 0} (result : Result V LedgerFault) (was is : Bool) : Type 0 where

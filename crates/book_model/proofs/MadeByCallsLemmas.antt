@@ -1,18 +1,14 @@
 -- Histories that calls made.
-use Rattle.std.proofs.Common.{◌≡◌, ℕ, List, [], ◌∷◌, refl, sym, ap, ◌∙◌, subst, true}
-use Rattle.std.proofs.Common.{Some, None, Ok}
+use Rattle.std.proofs.Common.{◌≡◌, List, [], ◌∷◌, refl, sym, ap, ◌∙◌, subst, true, Some, None}
 use Rattle.std.specs.Prelude.{ℤ, int_lt}
 use Rattle.std.specs.List.{list_all}
 use Rattle.std.specs.Option.{option_map}
-use Rattle.tariff_rules.specs.Terms.{Terms}
-use Rattle.book_model.specs.declared.answer.Ruled.TheVariants.{Done}
 use Rattle.book_model.specs.MadeByCalls.{IsMadeByCalls}
 use Rattle.book_model.specs.Books.{Book, open_number}
 use Rattle.book_model.specs.Events.{Event, RecordKept, PeriodClosed, RulingGiven, give}
 use Rattle.book_model.specs.History.{rulings, book_after}
 use Rattle.book_model.specs.Laws.{LatestIsLast}
 use Rattle.book_model.specs.Records.{Naming, name_of}
-use Rattle.book_model.specs.RulingAnswers.{terms_answer}
 use Rattle.book_model.specs.Rulings.{Rulings, AcceptedTerms, are_rising, with_tariff, with_close}
 use Rattle.book_model.specs.Rulings.{TariffAccepted, RecordChosen, SecondRuleAdopted, with_ruling}
 use Rattle.book_model.specs.Sound.{IsSound}

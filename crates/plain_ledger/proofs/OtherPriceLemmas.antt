@@ -14,7 +14,7 @@ use Rattle.book_model.specs.declared.fault.LedgerFault.{LedgerFault}
 use Rattle.book_model.specs.declared.fault.LedgerFault.TheVariants.{Full, NoSuchPeriod}
 use Rattle.book_model.specs.declared.row.ChargeRow.{ChargeRow}
 use Rattle.book_model.specs.Words.{AreRows, FitSums, IsPriced, Naming, Period, Rulings}
-use Rattle.book_model.specs.Words.{Terms, by_bytes, costs_under, most_cost, most_held, price_by}
+use Rattle.book_model.specs.Words.{Terms, by_bytes, most_cost, most_held, price_by}
 use Rattle.book_model.specs.Words.{rows_if_room, rows_of, what_if_answer}
 use Rattle.book_model.proofs.RowLemmas.{rows_if_room-alike}
 use Rattle.book_model.proofs.SumsAlike.{SumsAlike, map-alike}
@@ -22,7 +22,6 @@ use Rattle.plain_ledger.specs.Plain.{AreBooked, Entry, record_of}
 use Rattle.plain_ledger.specs.Treatments.{records_where}
 use Rattle.plain_ledger.proofs.HeldLemmas.{bytes_of}
 use Rattle.book_core.proofs.ListLimits.{priced_fit, priced_shown}
-use Rattle.plain_ledger.proofs.PlainCallLemmas.{IsOfBooks}
 use Rattle.plain_ledger.proofs.TreatmentLemmas.{where-alike}
 
 -- what the entries would cost by a tariff that pass a test
@@ -124,15 +123,3 @@ pub shown_under : (terms : Terms) (test : Entry → Bool) (entries : List Entry)
     → nat_lt most_cost (sum_by (λ one. one.amount) prices) ≡ false → AreRows (rows_of prices)
 shown_under terms test entries prices few is priced room =
     priced_shown prices priced (few_under terms test entries prices few is) (cost_small prices room)
-
--- no fault of a store is answered
-pub what_if-of_books : (terms : Terms) (found : Option Period)
-    → IsOfBooks (what_if_answer terms found)
-what_if-of_books terms None = record { store = refl; reopen = refl }
-what_if-of_books terms (Some period) =
-    by_cost (nat_lt most_cost (sum_by (λ one. one.amount) (costs_under terms period.counted)))
-  where
-    by_cost : (dear : Bool)
-        → IsOfBooks (if dear then Err Full else Ok (rows_of (costs_under terms period.counted)))
-    by_cost true = record { store = refl; reopen = refl }
-    by_cost false = record { store = refl; reopen = refl }

@@ -22,7 +22,9 @@ use Rattle.book_model.proofs.ListLemmas.{filter-map}
 use Rattle.plain_ledger.specs.declared.chosen.ChosenRecord.{ChosenRecord}
 use Rattle.plain_ledger.specs.declared.treatment.ClosedPeriod.{ClosedPeriod}
 use Rattle.plain_ledger.specs.declared.held.HeldRecord.{HeldRecord}
+use Rattle.book_core.specs.Calls.{LeavesOpen}
 use Rattle.book_core.specs.declared.rulings.Rulings.{Rulings as OfficeRulings}
+use Rattle.book_core.proofs.OpenAnswers.{opens}
 use Rattle.plain_ledger.specs.Choices.{choice_of, is_of}
 use Rattle.plain_ledger.specs.Plain.{AreBooked, Entry, entry_has_identity, record_of, ruled_by}
 use Rattle.plain_ledger.specs.Plain.{variant_at}
@@ -31,7 +33,6 @@ use Rattle.plain_ledger.specs.Treatments.{Names, under_name}
 use Rattle.plain_ledger.proofs.ChosenLemmas.{found_holds, named-found, named-missing}
 use Rattle.plain_ledger.proofs.DisputeLemmas.{dispute_at-held}
 use Rattle.plain_ledger.proofs.HeldLemmas.{bytes_of}
-use Rattle.plain_ledger.proofs.PlainCallLemmas.{IsOfBooks}
 use Rattle.plain_ledger.proofs.TariffLemmas.{each_dated}
 
 -- what is made of the elements that pass a test, with one element more
@@ -129,11 +130,11 @@ module _ {naming : Naming} (ruled : OfficeRulings) (choices : List ChosenRecord)
         ∙ (λ i. ok_or (option_map (λ reckoning. trail-held reckoning i) (sym is i)) NoSuchRecord)
 
 -- no trail is a fault of a store
-pub trail-of_books : (naming : Naming) (book : Book) (name : List ℕ)
-    → IsOfBooks (trail_outcome naming name book).answer
-trail-of_books naming book name =
+pub trail_open : (naming : Naming) (book : Book) (name : List ℕ)
+    → LeavesOpen (trail_outcome naming name book).answer
+trail_open naming book name =
     by_trail (option_and_then (trail_of naming book) (record_named naming book.held name))
   where
-    by_trail : (found : Option TrailSeen) → IsOfBooks (ok_or found NoSuchRecord)
-    by_trail None = record { store = refl; reopen = refl }
-    by_trail (Some trail) = record { store = refl; reopen = refl }
+    by_trail : (found : Option TrailSeen) → LeavesOpen (ok_or found NoSuchRecord)
+    by_trail None = opens refl refl
+    by_trail (Some trail) = opens refl refl

@@ -3,11 +3,12 @@ use Rattle.std.proofs.lemmas.Result.{err_from_is_err_and}
 use Rattle.book_model.specs.declared.answer.Accepted.{Accepted}
 use Rattle.book_model.specs.declared.fault.LedgerFault.TheVariants.{Memory}
 use Rattle.book_model.specs.Words.{accept_outcome}
+use Rattle.book_core.proofs.OpenAnswers.{accept_open}
 use Rattle.plain_ledger.specs.PlainBook.{book_in, naming_in, seen_in}
 use Rattle.book_core.specs.Submissions.{Accepts, Takes, first_of, records_in}
 use Rattle.book_core.specs.Transition.{IsTransition}
 use Rattle.book_core.specs.Calls.{Calls}
-use Rattle.plain_ledger.proofs.PlainCallLemmas.{plain_call, call_in_memory, accept-of_books}
+use Rattle.plain_ledger.proofs.PlainCallLemmas.{plain_call, call_in_memory}
 use Rattle.book_core.proofs.SubmissionLemmas.{accepts_one, refused_one, first_is, some_in}
 use Rattle.book_core.proofs.TransitionLemmas.{work_as}
 use Rattle.plain_ledger.proofs.plain.PlainLedgerLedger.accept_many.Goals as goal
@@ -22,7 +23,7 @@ returns-in_err-answers-clause-takes g c =
     (sym (p.1 ∙ ap Err p.2))
     (call_in_memory (λ (accepted : Accepted). accepted) names (book_in old) (book_in old)
     (Err Memory) (accept_outcome names (first_of records))
-    (accept-of_books names (book_in old) (first_of records)) tt refl).work
+    (accept_open names (book_in old) (first_of records)) tt refl).work
 
 pub returns-in_err-accepted-clause-takes : goal.returns-in_err-accepted-clause-takes
 returns-in_err-accepted-clause-takes g c =
@@ -37,7 +38,7 @@ returns-in_err-accepted-clause-takes g c =
     let first : first_of records ≡ bytes = first_is c.args.records.now c.index-records-0.result
     c.requires.some c.index-records-0.is ∙ sym c.deref.ensures.value in
     let called = (plain_call (λ (accepted : Accepted). accepted) old new (Err fault)
-    (accept_outcome names bytes) (accept-of_books names (book_in old) bytes)
+    (accept_outcome names bytes) (accept_open names (book_in old) bytes)
     c.in_err-accepted.ensures).work in
     subst (λ result. IsTransition (seen_in old) (seen_in new) (Takes names records result))
     (sym (p.1 ∙ ap Err p.2))
@@ -58,7 +59,7 @@ returns-clause-takes g c =
     let first : first_of records ≡ bytes = first_is c.args.records.now c.index-records-0.result
     c.requires.some c.index-records-0.is ∙ sym c.deref.ensures.value in
     let called = (plain_call (λ (accepted : Accepted). accepted) old new (Ok accepted)
-    (accept_outcome names bytes) (accept-of_books names (book_in old) bytes)
+    (accept_outcome names bytes) (accept_open names (book_in old) bytes)
     c.in_ok-accepted.ensures).work in
     let all : c.push.new.self.items ≡ accepted ∷ [] = c.in_ok-push.ensures.items
     ∙ ap (λ before. before ++ accepted ∷ []) c.in_ok-answers.ensures.items in

@@ -1,8 +1,9 @@
 use Rattle.std.proofs.Common.{Vec, Global, refl}
 use Rattle.book_model.specs.declared.line.Line.{Line}
 use Rattle.book_model.specs.Words.{adjustments_outcome}
+use Rattle.book_core.proofs.OpenAnswers.{listed_open}
 use Rattle.plain_ledger.specs.PlainBook.{book_in, naming_in}
-use Rattle.plain_ledger.proofs.PlainCallLemmas.{read_in_memory, listed-of_books}
+use Rattle.plain_ledger.proofs.PlainCallLemmas.{read_in_memory}
 use Rattle.plain_ledger.proofs.plain.PlainLedgerLedger.adjustments.Goals as goal
 
 pub returns-clause-lines : goal.returns-clause-lines
@@ -11,5 +12,5 @@ returns-clause-lines g c =
     let names = g.N.Naming.name_of (naming_in ledger) in
     read_in_memory (λ (lines : Vec Line Global). lines.items) names
     (book_in ledger) c.lines.result (adjustments_outcome names c.args.period) refl
-    (listed-of_books _)
+    (listed_open _)
     c.lines.ensures.lines

@@ -1,8 +1,9 @@
 use Rattle.std.proofs.Common.{Vec, Global, refl}
 use Rattle.book_model.specs.declared.row.ChargeRow.{ChargeRow}
 use Rattle.book_model.specs.Words.{charges_outcome}
+use Rattle.book_core.proofs.OpenAnswers.{listed_open}
 use Rattle.plain_ledger.specs.PlainBook.{book_in, naming_in}
-use Rattle.plain_ledger.proofs.PlainCallLemmas.{read_in_memory, listed-of_books}
+use Rattle.plain_ledger.proofs.PlainCallLemmas.{read_in_memory}
 use Rattle.plain_ledger.proofs.plain.PlainLedgerLedger.charges.Goals as goal
 
 pub returns-clause-rows : goal.returns-clause-rows
@@ -10,5 +11,5 @@ returns-clause-rows g c =
     let ledger = c.args.self.now in
     let names = g.N.Naming.name_of (naming_in ledger) in
     read_in_memory (λ (rows : Vec ChargeRow Global). rows.items) names
-    (book_in ledger) c.charge_rows.result (charges_outcome c.args.period) refl (listed-of_books _)
+    (book_in ledger) c.charge_rows.result (charges_outcome c.args.period) refl (listed_open _)
     c.charge_rows.ensures.rows

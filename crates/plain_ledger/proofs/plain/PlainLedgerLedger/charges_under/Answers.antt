@@ -1,9 +1,9 @@
 use Rattle.std.proofs.Common.{Vec, Global, refl}
 use Rattle.book_model.specs.declared.row.ChargeRow.{ChargeRow}
 use Rattle.book_model.specs.Words.{period_of, what_if_outcome}
+use Rattle.book_core.proofs.OpenAnswers.{what_if_open}
 use Rattle.plain_ledger.specs.PlainBook.{book_in, naming_in}
 use Rattle.plain_ledger.proofs.PlainCallLemmas.{read_in_memory}
-use Rattle.plain_ledger.proofs.OtherPriceLemmas.{what_if-of_books}
 use Rattle.plain_ledger.proofs.plain.PlainLedgerLedger.charges_under.Goals as goal
 
 pub returns-clause-rows : goal.returns-clause-rows
@@ -13,5 +13,5 @@ returns-clause-rows g c =
     let terms = c.args.tariff.now in
     read_in_memory (λ (rows : Vec ChargeRow Global). rows.items) names
     (book_in ledger) c.charge_rows_under.result (what_if_outcome c.args.period terms) refl
-    (what_if-of_books terms (period_of (book_in ledger) c.args.period))
+    (what_if_open terms (period_of (book_in ledger) c.args.period))
     c.charge_rows_under.ensures.rows

@@ -2,8 +2,9 @@ use Rattle.std.proofs.Common.{Option, refl}
 use Rattle.std.specs.Option.{option_map}
 use Rattle.book_model.specs.declared.dispute.Dispute.{Dispute}
 use Rattle.book_model.specs.Words.{dispute_outcome, dispute_shown}
+use Rattle.book_core.proofs.OpenAnswers.{answered_open}
 use Rattle.plain_ledger.specs.PlainBook.{book_in, naming_in}
-use Rattle.plain_ledger.proofs.PlainCallLemmas.{read_in_memory, answered-of_books}
+use Rattle.plain_ledger.proofs.PlainCallLemmas.{read_in_memory}
 use Rattle.plain_ledger.proofs.plain.PlainLedgerLedger.dispute_from.Goals as goal
 
 pub returns-clause-dispute : goal.returns-clause-dispute
@@ -12,4 +13,4 @@ returns-clause-dispute g c =
     let names = g.N.Naming.name_of (naming_in ledger) in
     read_in_memory (λ (found : Option Dispute). option_map dispute_shown found) names
     (book_in ledger) c.dispute_held.result (dispute_outcome names c.args.from.now) refl
-    (answered-of_books _) c.dispute_held.ensures.dispute
+    (answered_open _) c.dispute_held.ensures.dispute

@@ -1,8 +1,9 @@
 use Rattle.std.proofs.Common.{Vec, Global, refl, map}
 use Rattle.book_model.specs.declared.dispute.Dispute.{Dispute}
 use Rattle.book_model.specs.Words.{dispute_shown, disputes_outcome}
+use Rattle.book_core.proofs.OpenAnswers.{answered_open}
 use Rattle.plain_ledger.specs.PlainBook.{book_in, naming_in}
-use Rattle.plain_ledger.proofs.PlainCallLemmas.{read_in_memory, answered-of_books}
+use Rattle.plain_ledger.proofs.PlainCallLemmas.{read_in_memory}
 use Rattle.plain_ledger.proofs.plain.PlainLedgerLedger.disputes.Goals as goal
 
 pub returns-clause-disputes : goal.returns-clause-disputes
@@ -10,5 +11,5 @@ returns-clause-disputes g c =
     let ledger = c.args.self.now in
     let names = g.N.Naming.name_of (naming_in ledger) in
     read_in_memory (λ (found : Vec Dispute Global). map dispute_shown found.items) names
-    (book_in ledger) c.disputes_held.result (disputes_outcome names) refl (answered-of_books _)
+    (book_in ledger) c.disputes_held.result (disputes_outcome names) refl (answered_open _)
     c.disputes_held.ensures.disputes

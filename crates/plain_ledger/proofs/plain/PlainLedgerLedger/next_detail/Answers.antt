@@ -1,8 +1,9 @@
 use Rattle.std.proofs.Common.{Option, refl}
 use Rattle.book_model.specs.declared.detail.Detail.{Detail}
 use Rattle.book_model.specs.Words.{next_detail_outcome}
+use Rattle.book_core.proofs.OpenAnswers.{listed_open}
 use Rattle.plain_ledger.specs.PlainBook.{book_in, naming_in}
-use Rattle.plain_ledger.proofs.PlainCallLemmas.{read_in_memory, listed-of_books}
+use Rattle.plain_ledger.proofs.PlainCallLemmas.{read_in_memory}
 use Rattle.plain_ledger.proofs.plain.PlainLedgerLedger.next_detail.Goals as goal
 
 pub returns-clause-detail : goal.returns-clause-detail
@@ -10,5 +11,5 @@ returns-clause-detail g c =
     let ledger = c.args.self.now in
     let names = g.N.Naming.name_of (naming_in ledger) in
     read_in_memory (λ (found : Option Detail). found) names (book_in ledger) c.detail_after.result
-    (next_detail_outcome names c.args.period c.args.centre c.args.after) refl (listed-of_books _)
+    (next_detail_outcome names c.args.period c.args.centre c.args.after) refl (listed_open _)
     c.detail_after.ensures.detail

@@ -1,8 +1,9 @@
 use Rattle.std.proofs.Common.{Vec, Global, refl}
 use Rattle.std.specs.Prelude.{ℤ}
 use Rattle.book_model.specs.Words.{periods_outcome}
+use Rattle.book_core.proofs.OpenAnswers.{answered_open}
 use Rattle.plain_ledger.specs.PlainBook.{book_in, naming_in}
-use Rattle.plain_ledger.proofs.PlainCallLemmas.{read_in_memory, answered-of_books}
+use Rattle.plain_ledger.proofs.PlainCallLemmas.{read_in_memory}
 use Rattle.plain_ledger.proofs.plain.PlainLedgerLedger.periods.Goals as goal
 
 pub returns-clause-days : goal.returns-clause-days
@@ -10,5 +11,5 @@ returns-clause-days g c =
     let ledger = c.args.self.now in
     let names = g.N.Naming.name_of (naming_in ledger) in
     read_in_memory (λ (days : Vec ℤ Global). days.items) names
-    (book_in ledger) c.close_days.result (periods_outcome) refl (answered-of_books _)
+    (book_in ledger) c.close_days.result (periods_outcome) refl (answered_open _)
     c.close_days.ensures.days

@@ -2,8 +2,9 @@ use Rattle.std.proofs.Common.{Option, refl}
 use Rattle.std.specs.Option.{option_map}
 use Rattle.book_model.specs.declared.listed_ruling.ListedRuling.{ListedRuling}
 use Rattle.book_model.specs.Words.{ruling_outcome, ruling_shown}
+use Rattle.book_core.proofs.OpenAnswers.{answered_open}
 use Rattle.plain_ledger.specs.PlainBook.{book_in, naming_in}
-use Rattle.plain_ledger.proofs.PlainCallLemmas.{read_in_memory, answered-of_books}
+use Rattle.plain_ledger.proofs.PlainCallLemmas.{read_in_memory}
 use Rattle.plain_ledger.proofs.plain.PlainLedgerLedger.ruling.Goals as goal
 
 pub returns-clause-ruling : goal.returns-clause-ruling
@@ -12,4 +13,4 @@ returns-clause-ruling g c =
     let names = g.N.Naming.name_of (naming_in ledger) in
     read_in_memory (λ (found : Option ListedRuling). option_map ruling_shown found) names
     (book_in ledger) c.ruling_listed.result (ruling_outcome names c.args.number) refl
-    (answered-of_books _) c.ruling_listed.ensures.ruling
+    (answered_open _) c.ruling_listed.ensures.ruling

@@ -1,0 +1,98 @@
+-- What the definitions answer leaves open books open: they tell no fault of a store, and not that
+-- books are to be reopened.
+use Rattle.std.proofs.Common.{◌≡◌, ℕ, List, refl, Bool, true, false, not, Option, None, Some}
+use Rattle.std.proofs.Common.{Result, Ok, Err, length}
+use Rattle.std.specs.Prelude.{ℤ, ◌==◌, if◌then◌else◌, ok_or, nat_le, nat_lt, sum_by}
+use Rattle.std.specs.List.{list_any}
+use Rattle.tariff_rules.specs.declared.fault.TariffFault.{TariffFault}
+use Rattle.tariff_rules.specs.declared.priced.Priced.{Priced}
+use Rattle.book_model.specs.declared.fault.LedgerFault.{LedgerFault}
+use Rattle.book_model.specs.declared.fault.LedgerFault.TheVariants.{NoSuchPeriod}
+use Rattle.book_model.specs.RulingAnswers.{terms_ruled}
+use Rattle.book_model.specs.Words.{Book, Naming, Period, Rulings, Terms, accept_answer, accept_priced}
+use Rattle.book_model.specs.Words.{adopt_answer, chosen_answer, clashes, close_answer, costs_under}
+use Rattle.book_model.specs.Words.{has, has_text, is_chosen, is_closed, is_early, is_effective, is_full}
+use Rattle.book_model.specs.Words.{is_later, is_too_dear, is_unrivalled, last_period, most_choices}
+use Rattle.book_model.specs.Words.{most_cost, open_by, price_in, rule_by, second_rule, tariff_answer}
+use Rattle.book_model.specs.Words.{what_if_answer, with_tariff}
+use Rattle.book_core.specs.Calls.{LeavesOpen, is_reopen, is_store}
+
+-- an answer leaves books open
+pub opens : {V : Type 0} {answer : Result V LedgerFault} → is_store answer ≡ false
+    → is_reopen answer ≡ false → LeavesOpen answer
+opens stored served = record { stored = stored; served = served }
+
+-- so does one of two that do, by a test
+pub opens_if : {V : Type 0} {one other : Result V LedgerFault} (test : Bool) → LeavesOpen one
+    → LeavesOpen other → LeavesOpen (if test then one else other)
+opens_if true first second = first
+opens_if false first second = second
+
+-- what is there in any case,
+pub answered_open : {A : Type 0} (list : A) → LeavesOpen {V = A} (Ok list)
+answered_open list = opens refl refl
+
+-- and what is found, where there is such a period
+pub listed_open : {A : Type 0} (found : Option A) → LeavesOpen (ok_or found NoSuchPeriod)
+listed_open None = opens refl refl
+listed_open (Some list) = opens refl refl
+
+-- the rows by another tariff
+pub what_if_open : (terms : Terms) (found : Option Period) → LeavesOpen (what_if_answer terms found)
+what_if_open terms None = opens refl refl
+what_if_open terms (Some period) =
+    opens_if (nat_lt most_cost (sum_by (λ one. one.amount) (costs_under terms period.counted)))
+    (opens refl refl) (opens refl refl)
+
+-- a record
+by_price : (book : Book) (price : Option Priced) → LeavesOpen (accept_priced book price)
+by_price book None = opens refl refl
+by_price book (Some priced) =
+    opens_if (is_full book priced.amount) (opens refl refl) (opens refl refl)
+
+pub accept_open : (naming : Naming) (book : Book) (bytes : List ℕ)
+    → LeavesOpen (accept_answer naming book bytes)
+accept_open naming book bytes =
+    opens_if (has book.held bytes) (opens refl refl)
+    (opens_if (clashes naming book.held bytes) (opens refl refl)
+    (by_price book (price_in book.rulings bytes)))
+
+-- a tariff
+pub terms_open : (rulings : Rulings) (dear : Bool) (text : List ℕ) (terms : Terms)
+    → LeavesOpen (terms_ruled rulings dear text terms)
+terms_open rulings dear text terms =
+    opens_if (list_any (has_text text) rulings.tariffs) (opens refl refl)
+    (opens_if (list_any (is_effective terms.effective) rulings.tariffs) (opens refl refl)
+    (opens_if (not (is_later terms.effective rulings)) (opens refl refl)
+    (opens_if dear (opens refl refl) (opens refl refl))))
+
+pub tariff_open : (book : Book) (text : List ℕ) (said : Result Terms TariffFault)
+    → LeavesOpen (tariff_answer book text said)
+tariff_open book text (Err fault) = opens refl refl
+tariff_open book text (Ok terms) =
+    terms_open book.rulings (is_too_dear (with_tariff (Some text) terms book.rulings) book.held) text
+    terms
+
+-- a close
+pub close_open : (rulings : Rulings) (number : ℕ) (day : ℤ)
+    → LeavesOpen (close_answer rulings number day)
+close_open rulings number day =
+    opens_if (is_closed number day rulings) (opens refl refl)
+    (opens_if (not (number == open_by rulings)) (opens refl refl)
+    (opens_if (is_early day rulings) (opens refl refl)
+    (opens_if (number == last_period) (opens refl refl) (opens refl refl))))
+
+-- a choice
+pub choose_open : (book : Book) (meant : Option (List ℕ)) → LeavesOpen (chosen_answer book meant)
+choose_open book None = opens refl refl
+choose_open book (Some bytes) =
+    opens_if (is_unrivalled book.rulings book.held bytes) (opens refl refl)
+    (opens_if (is_chosen book.rulings bytes) (opens refl refl)
+    (opens_if (nat_le most_choices (length book.rulings.choices)) (opens refl refl)
+    (opens refl refl)))
+
+-- a rule of identity
+pub adopt_open : (rulings : Rulings) (rule : ℕ) → LeavesOpen (adopt_answer rulings rule)
+adopt_open rulings rule =
+    opens_if (rule == rule_by rulings) (opens refl refl)
+    (opens_if (rule == second_rule) (opens refl refl) (opens refl refl))
