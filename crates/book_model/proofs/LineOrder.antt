@@ -14,9 +14,8 @@ use Rattle.std.proofs.lemmas.Cmp.{nat_list_eq_equiv}
 use Rattle.std.proofs.lemmas.List.Sorted.{IsPermutation-map}
 use Rattle.std.proofs.lemmas.Map.Keys.{IsDistinct-IsPermutation}
 use Rattle.tariff_rules.specs.declared.priced.Priced.{Priced}
-use Rattle.smf_type30.specs.Usage.{job_of}
 use Rattle.book_model.specs.declared.line.Line.{Line}
-use Rattle.book_model.specs.Lines.{plus_first, by_line}
+use Rattle.book_model.specs.Lines.{plus_first, by_line, line_with}
 use Rattle.book_model.specs.Records.{Naming, name_of, by_bytes, same_bytes}
 use Rattle.book_model.specs.Rulings.{Rulings, price_in}
 use Rattle.book_model.specs.Sets.{set_of, members}
@@ -166,13 +165,7 @@ sorted_lines lines sorted distinct same in_order =
 module _ (naming : Naming) (rulings : Rulings) where
   -- a line, where its record has a price
   abbrev pub line_by : Bool → List ℕ → Option Priced → Option Line
-  line_by plus bytes price =
-      option_map (λ priced. record {
-        plus = plus;
-        name = name_of naming bytes;
-        job = job_of bytes;
-        priced = priced;
-      }) price
+  line_by plus bytes price = option_map (line_with plus (name_of naming bytes) bytes) price
 
   -- the line of a record, if the record has a price
   abbrev pub line_of : Bool → List ℕ → Option Line

@@ -1,5 +1,5 @@
 -- Adjustment lines: what a period adds to closed periods and reverses, as it is read.
-use Rattle.std.specs.Prelude.{Bool, true, false, List, ◌++◌, ◌<◌, ◌^◌, All, sum_by}
+use Rattle.std.specs.Prelude.{Bool, true, false, ℕ, List, ◌++◌, ◌<◌, ◌^◌, All, sum_by, Option}
 use Rattle.std.specs.declared.cmp.Ordering.{Ordering}
 use Rattle.std.specs.declared.cmp.Ordering.TheVariants.{Less, Equal, Greater}
 use Rattle.std.specs.Ordering.{int_cmp, ordering_then}
@@ -7,25 +7,29 @@ use Rattle.std.specs.Option.{option_map}
 use Rattle.std.specs.List.{filter_map}
 use Rattle.smf_text.specs.Day.{IsDay}
 use Rattle.smf_type30.specs.Usage.{job_of}
+use Rattle.tariff_rules.specs.declared.priced.Priced.{Priced}
 use Rattle.book_model.specs.declared.line.Line.{Line}
 use Rattle.book_model.specs.Sets.{set_of, members}
 use Rattle.book_model.specs.Records.{Records, Naming, name_of, by_bytes}
 use Rattle.book_model.specs.Rulings.{Rulings, price_in}
 use Rattle.book_model.specs.Periods.{Period}
 
--- the lines for some records that have a price: a plus for each, or a minus
+-- a line of a record, a plus or a minus, by the record's name and by what it costs
+abbrev pub line_with : Bool → List ℕ → List ℕ → Priced → Line
+line_with plus name bytes priced =
+    record { plus = plus; name = name; job = job_of bytes; priced = priced }
+
+-- the line of a record, where it has a price
+abbrev pub line_for : Naming → Rulings → Bool → List ℕ → Option Line
+line_for naming rulings plus bytes =
+    option_map (line_with plus (name_of naming bytes) bytes) (price_in rulings bytes)
+
+-- the lines for some records: a plus for each, or a minus
 abbrev pub lines_for : Naming → Rulings → Bool → Records → List Line
 lines_for naming rulings plus records =
-    filter_map (λ bytes.
-    option_map
-    (λ priced. record {
-      plus = plus;
-      name = name_of naming bytes;
-      job = job_of bytes;
-      priced = priced;
-    })
-    (price_in rulings bytes)) (members records)
+    filter_map (line_for naming rulings plus) (members records)
 
+-- of two lines of one record the plus comes first
 abbrev pub plus_first : Bool → Bool → Ordering
 plus_first true false = Less
 plus_first false true = Greater

@@ -41,11 +41,11 @@ pub use Rattle.book_model.specs.Charged.{is_unrivalled, last_chosen, share_ident
 pub use Rattle.book_model.specs.Periods.{Period, period_by}
 pub use Rattle.book_model.specs.Rows.{AreRows, FitSums, by_key, charged_at, key_of, keys_of, row_at}
 pub use Rattle.book_model.specs.Rows.{rows_for, rows_of, same_key}
-pub use Rattle.book_model.specs.Lines.{AreLines, by_line, lines_for, lines_of, plus_first}
+pub use Rattle.book_model.specs.Lines.{AreLines, by_line, line_with, lines_for, lines_of, plus_first}
 pub use Rattle.book_model.specs.Disputes.{AreDisputes, Disputed, IsDispute, ShowsDispute, by_name}
 pub use Rattle.book_model.specs.Disputes.{dispute_at, dispute_from, dispute_shown, disputes_in}
 pub use Rattle.book_model.specs.Disputes.{identities, is_from, is_in_dispute, is_settled}
-pub use Rattle.book_model.specs.Disputes.{records_of, variant_of}
+pub use Rattle.book_model.specs.Disputes.{records_of, variant_of, variant_with}
 pub use Rattle.book_model.specs.Books.{Book, all_periods, charged_of, flat_book, new_book}
 pub use Rattle.book_model.specs.Books.{open_number, open_period, period_of}
 pub use Rattle.book_model.specs.Counted.{counted_of, is_counted, is_counted_in}

@@ -4,10 +4,9 @@ use Rattle.std.specs.Prelude.{List, map, length, sum_by, Some, Option, Vec, All}
 use Rattle.std.specs.BTreeSet.{BTreeSet, contains}
 use Rattle.std.specs.Global.{Global}
 use Rattle.std.specs.Rc.{rc_slice_items}
-use Rattle.book_model.specs.Words.{most_held, most_cost, Disputed, job_id_of, program_of}
-use Rattle.book_model.specs.Words.{completion_of, set_of, members, has, Records, Naming, name_of}
-use Rattle.book_model.specs.Words.{by_bytes, same_bytes, Rulings, are_rising, no_rulings}
-use Rattle.book_model.specs.Words.{initiation_of, price_in, identity_by, is_settled}
+use Rattle.book_model.specs.Words.{most_held, most_cost, Disputed, set_of, members, has, Records}
+use Rattle.book_model.specs.Words.{Naming, name_of, by_bytes, same_bytes, Rulings, are_rising}
+use Rattle.book_model.specs.Words.{no_rulings, price_in, identity_by, is_settled, variant_with}
 use Rattle.plain_ledger.specs.declared.chosen.ChosenRecord.{ChosenRecord}
 use Rattle.plain_ledger.specs.declared.held.HeldRecord.{HeldRecord}
 use Rattle.plain_ledger.specs.declared.record_cache.RecordCache.{RecordCache}
@@ -110,22 +109,16 @@ is_disputed rulings entries entry =
 
 -- a record as a list of disputes shows it
 abbrev pub variant_at : Entry → Variant
-variant_at entry = record {
-  name = entry.0;
-  priced = entry.1.priced;
-  job_id = job_id_of (record_of entry.1);
-  program = program_of (record_of entry.1);
-  completion = completion_of (record_of entry.1);
-  initiation = initiation_of (record_of entry.1);
-}
+variant_at entry = variant_with entry.0 (record_of entry.1) entry.1.priced
 
--- the disputes among entries in order by name, under some rulings
+-- the dispute of an identity among entries in order by name, under some rulings
 abbrev pub dispute_among : Rulings → List Entry → List ℕ → Disputed
 dispute_among rulings entries identity = record {
   identity = identity;
   members = map variant_at (filter (entry_has_identity rulings identity) entries);
 }
 
+-- all of them, by identity
 abbrev pub disputes_among : Rulings → List Entry → List Disputed
 disputes_among rulings entries =
     map (dispute_among rulings entries)

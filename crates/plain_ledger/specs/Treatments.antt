@@ -6,8 +6,8 @@ use Rattle.std.specs.BTreeMap as map
 use Rattle.std.specs.BTreeSet as set
 use Rattle.std.specs.Map.{lookup}
 use Rattle.std.specs.Option.{option_map_or, option_and_then}
-use Rattle.book_model.specs.Words.{job_of, set_of, Records, by_bytes, same_bytes, Period}
-use Rattle.book_model.specs.Words.{Rulings, identity_by, is_after, is_through, last_close}
+use Rattle.book_model.specs.Words.{set_of, Records, by_bytes, same_bytes, Period, Rulings}
+use Rattle.book_model.specs.Words.{identity_by, is_after, is_through, last_close, line_with}
 use Rattle.book_model.specs.declared.line.Line.{Line}
 use Rattle.plain_ledger.specs.declared.treatment.ClosedPeriod.{ClosedPeriod}
 use Rattle.plain_ledger.specs.declared.period_end.PeriodEnd.{PeriodEnd}
@@ -47,13 +47,9 @@ is_taken treatment = false
 
 -- the line of a record that is held under a name
 abbrev pub line_of : Bool → Entry → Line
-line_of plus entry = record {
-  plus = plus;
-  name = entry.0;
-  job = job_of (record_of entry.1);
-  priced = entry.1.priced;
-}
+line_of plus entry = line_with plus entry.0 (record_of entry.1) entry.1.priced
 
+-- the line that a period has for it, if it adds the record or takes it back
 abbrev pub line_at : Option Treatment → Entry → Option Line
 line_at (Some Added) entry = Some (line_of true entry)
 line_at (Some Taken) entry = Some (line_of false entry)
