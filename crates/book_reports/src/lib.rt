@@ -19,6 +19,7 @@ mod receipt_lines;
 mod record_names;
 mod report;
 mod reports;
+mod reports_apart;
 mod ruling_texts;
 mod streamed_details;
 mod streamed_disputes;
@@ -35,10 +36,8 @@ pub use output::{write_bytes, write_text};
 pub use receipt_lines::receipt_line_text;
 pub use record_names::name_of_text;
 pub use report::{PeriodReport, Report, centre_named};
-pub use reports::{
-    adjustment_list, dispute_list, period_list, receipt_line, statement, statement_csv,
-    write_report,
-};
+pub use reports::{dispute_list, receipt_line, statement, write_report};
+pub use reports_apart::{adjustment_list, period_list, statement_csv};
 pub use streamed_details::{DetailReport, write_details};
 pub use streamed_disputes::{DisputeForm, write_disputes};
 pub use streamed_rulings::write_rulings;

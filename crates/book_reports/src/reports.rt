@@ -1,5 +1,6 @@
 //! Reports, written to any writer. The text is made before its first byte is written: if the
-//! books refuse, or memory runs out, nothing is written.
+//! books refuse, or memory runs out, nothing is written. `write_report` writes any of them by its
+//! name; those of a trial have a call of their own.
 
 ghost use Rattle.std.specs.Prelude.{◌≡◌, ◌∷◌, [], false, IfErr, None};
 ghost use Rattle.streams.specs.InputOutput.{output};
@@ -85,46 +86,6 @@ pub fn statement<L: Ledger, W: Write + Drop>(
     write_report(alloc, ledger, asked, sink)
 }
 
-/// Writes the statement of a period as a table of comma-separated values.
-pub fn statement_csv<L: Ledger, W: Write + Drop>(
-    alloc: Global,
-    ledger: &mut L,
-    period: u16,
-    sink: &mut Sink<W>,
-) -> Result<(), ReportFault>
-    requires { has_failed sink.old ≡ false }
-    ensures report { IsReport (Report.OfPeriod PeriodReport.StatementTable period None)
-        (books L.seen ledger.old ledger.new) (output W.contents sink.old sink.new) result }
-    ensures failed { has_failed sink.new ≡ is_write_fault result }
-{
-    let asked = Report::OfPeriod {
-        report: PeriodReport::StatementTable,
-        period,
-        centre: None,
-    };
-    write_report(alloc, ledger, asked, sink)
-}
-
-/// Writes the adjustments of a period.
-pub fn adjustment_list<L: Ledger, W: Write + Drop>(
-    alloc: Global,
-    ledger: &mut L,
-    period: u16,
-    sink: &mut Sink<W>,
-) -> Result<(), ReportFault>
-    requires { has_failed sink.old ≡ false }
-    ensures report { IsReport (Report.OfPeriod PeriodReport.AdjustmentList period None)
-        (books L.seen ledger.old ledger.new) (output W.contents sink.old sink.new) result }
-    ensures failed { has_failed sink.new ≡ is_write_fault result }
-{
-    let asked = Report::OfPeriod {
-        report: PeriodReport::AdjustmentList,
-        period,
-        centre: None,
-    };
-    write_report(alloc, ledger, asked, sink)
-}
-
 /// Writes the disputes.
 pub fn dispute_list<L: Ledger, W: Write + Drop>(
     alloc: Global,
@@ -137,18 +98,4 @@ pub fn dispute_list<L: Ledger, W: Write + Drop>(
     ensures failed { has_failed sink.new ≡ is_write_fault result }
 {
     write_report(alloc, ledger, Report::DisputeList, sink)
-}
-
-/// Writes the list of periods.
-pub fn period_list<L: Ledger, W: Write + Drop>(
-    alloc: Global,
-    ledger: &mut L,
-    sink: &mut Sink<W>,
-) -> Result<(), ReportFault>
-    requires { has_failed sink.old ≡ false }
-    ensures report { IsReport Report.PeriodList (books L.seen ledger.old ledger.new)
-        (output W.contents sink.old sink.new) result }
-    ensures failed { has_failed sink.new ≡ is_write_fault result }
-{
-    write_report(alloc, ledger, Report::PeriodList, sink)
 }
