@@ -1,27 +1,16 @@
 //! What a record of usage says, as a record's text shows it.
 
-ghost use Rattle.std.specs.Prelude.{◌≡◌, ◌+◌, ◌≤◌, ◌++◌, IfSome, IsNone, IsSome, OnOk};
-ghost use Rattle.std.specs.Prelude.{drop, length, string_bytes};
-ghost use Rattle.smf_type30.specs.AccountWalk.{BeginsWith, BeginsWithNone};
+ghost use Rattle.std.specs.Prelude.{◌≡◌, ◌++◌, IsSome, OnOk, string_bytes};
 ghost use Rattle.smf_type30.specs.Accounts.{fields_in};
-ghost use Rattle.smf_type30.specs.Layout.{accounting};
-ghost use Rattle.smf_type30.specs.Section.{count_of, offset_of};
-ghost use Rattle.book_model.specs.Words.{IsUsage, number};
+ghost use Rattle.book_model.specs.Words.{IsUsage};
 ghost use Rattle.report_texts.specs.UsageLines as spec;
 
 use crate::columns::{number_text, push_number};
 use crate::dispute_lists::{push_completion, push_job, push_moment};
 use crate::moments::day_time_text;
 use crate::parts::push_shown;
-use byteorder::{BigEndian, ByteOrder};
-use smf_type30::Type30;
+use smf_type30::{Type30, split_account};
 use std::alloc::{AllocError, Global};
-
-/// Where the offset of the accounting section stands.
-const ACCOUNTS_AT: usize = 64;
-
-/// Where the number of its fields stands.
-const ACCOUNT_COUNT_AT: usize = 70;
 
 /// Appends when a record was written, and the period that its day belongs to.
 #[tactic(auto, unfolding(crate::specs::UsageLines::dated_line))]
@@ -90,50 +79,6 @@ fn push_program(alloc: Global, out: &mut String, usage: &Type30<'_>) -> Result<(
     push_shown(alloc, out, usage.program())
 }
 
-/// The number of two bytes at an offset, the high one first.
-fn number2(bytes: &[u8], at: usize) -> u16
-    requires { at + 2 ≤ length bytes.now }
-    ensures { result ≡ number bytes.now at 2 }
-{
-    BigEndian::read_u16(&bytes[at..])
-}
-
-/// The number of four bytes at an offset, the high one first.
-fn number4(bytes: &[u8], at: usize) -> u32
-    requires { at + 4 ≤ length bytes.now }
-    ensures { result ≡ number bytes.now at 4 }
-{
-    BigEndian::read_u32(&bytes[at..])
-}
-
-/// The number of a usage record's accounting fields.
-#[tactic(auto, using(smf_type30::proofs::UsageFacts::usage_long))]
-fn account_count(bytes: &[u8]) -> u16
-    requires { IsUsage bytes.now }
-    ensures { result ≡ count_of bytes.now accounting }
-{
-    number2(bytes, ACCOUNT_COUNT_AT)
-}
-
-/// A usage record from its accounting section on, which need not have any field.
-#[tactic(auto, using(smf_type30::proofs::UsageFacts::usage_long))]
-fn accounts_on(bytes: &[u8]) -> &[u8]
-    requires { IsUsage bytes.now }
-    ensures { result.now ≡ drop (offset_of bytes.now accounting) bytes.now }
-{
-    let offset = number4(bytes, ACCOUNTS_AT) as usize;
-    bytes.get(offset..).unwrap_or_default()
-}
-
-/// The first field of a text, a length byte and that many bytes, and what follows it.
-fn split_field(text: &[u8]) -> Option<(&[u8], &[u8])>
-    ensures none { IsNone result → BeginsWithNone text.now }
-    ensures some { IfSome result (λ split. BeginsWith text.now split.0.now split.1.now) }
-{
-    let (len, rest) = text.split_first()?;
-    rest.split_at_checked(*len as usize)
-}
-
 /// Appends the line of an accounting field.
 #[tactic(auto, unfolding(crate::specs::UsageLines::account_line))]
 fn push_account(alloc: Global, out: &mut String, field: &[u8]) -> Result<(), AllocError>
@@ -153,7 +98,7 @@ fn push_fields(alloc: Global, out: &mut String, count: u16, text: &[u8]) -> Resu
 {
     let mut rest = text;
     for _ in 0..count {
-        let Some((field, after)) = split_field(rest) else {
+        let Some((field, after)) = split_account(rest) else {
             return Ok(());
         };
         push_account(alloc, out, field)?;
@@ -163,17 +108,16 @@ fn push_fields(alloc: Global, out: &mut String, count: u16, text: &[u8]) -> Resu
 }
 
 /// Appends how many accounting fields a usage record has, and a line for each.
-#[tactic(auto, using(smf_type30::proofs::UsageFacts::usage_accounts), unfolding(crate::specs::UsageLines::accounts_text, smf_type30::specs::Accounts::accounts_of))]
-fn push_accounts(alloc: Global, out: &mut String, bytes: &[u8]) -> Result<(), AllocError>
-    requires { IsUsage bytes.now }
+#[tactic(auto, unfolding(crate::specs::UsageLines::accounts_text, smf_type30::specs::Accounts::accounts_of))]
+fn push_accounts(alloc: Global, out: &mut String, usage: &Type30<'_>) -> Result<(), AllocError>
     ensures { OnOk result (string_bytes out.new
-        ≡ string_bytes out.old ++ spec.accounts_text bytes.now) }
+        ≡ string_bytes out.old ++ spec.accounts_text usage.now) }
 {
-    let count = account_count(bytes);
+    let count = usage.account_count();
     out.push_str(" ACCOUNTS ")?;
     push_number(out, u64::from(count))?;
     out.push('\n')?;
-    push_fields(alloc, out, count, accounts_on(bytes))
+    push_fields(alloc, out, count, usage.accounts())
 }
 
 /// Appends what a usage record says, and the period that its day belongs to.
@@ -193,5 +137,5 @@ pub(crate) fn push_usage(
     push_work(alloc, out, &usage)?;
     push_start(alloc, out, &usage)?;
     push_program(alloc, out, &usage)?;
-    push_accounts(alloc, out, bytes)
+    push_accounts(alloc, out, &usage)
 }
