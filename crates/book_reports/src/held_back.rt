@@ -2,7 +2,7 @@
 //! record, and the least and the greatest amount that choices come to. Disputes are read one at a
 //! time.
 
-ghost use Rattle.std.specs.Prelude.{◌≡◌, ◌++◌, ◌∷◌, [], IfSome};
+ghost use Rattle.std.specs.Prelude.{◌≡◌, ◌<◌, ◌+◌, ◌^◌, ◌++◌, ◌∷◌, [], IfSome, None};
 ghost use Rattle.book_model.specs.Words as words;
 ghost use Rattle.book_model.specs.Words.{dispute_shown, held_back_in};
 ghost use Rattle.book_core.specs.Calls.{IsCall};
@@ -79,7 +79,9 @@ fn greatest_for(centre: &Option<Name>, dispute: &Dispute) -> u64
 
 /// What is held back with one more dispute of these amounts, if 64 bits hold it.
 fn with_amounts(held: HeldBack, least: u64, greatest: u64) -> Option<HeldBack>
-    ensures { IfSome result (λ more. more ≡ spec.with_amounts held least greatest) }
+    ensures more { IfSome result (λ more. more ≡ spec.with_amounts held least greatest) }
+    ensures large { result ≡ None → held.disputes + 1 < 2 ^ 64 → held.least + least < 2 ^ 64
+        → ¬ (held.greatest + greatest < 2 ^ 64) }
 {
     Some(HeldBack {
         disputes: held.disputes.checked_add(1)?,
