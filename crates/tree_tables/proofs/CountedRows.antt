@@ -7,7 +7,7 @@ use Rattle.std.specs.FinMap.{contains_key, get, insert, remove, same_map}
 use Rattle.std.specs.FinMap.{get-insert, get-remove, get-retain_keys}
 use Rattle.std.specs.Option.{option_map}
 use Rattle.std.specs.Ordering.{eq_by_cmp}
-use Rattle.std.proofs.lemmas.Map.Views.{tells_apart}
+use Rattle.book_model.proofs.MapLemmas.{by_tie}
 use Rattle.book_model.specs.declared.detail.Detail.{Detail}
 use Rattle.table_model.specs.Tables.{CountedTable, RecordRow, RecordTable}
 use Rattle.tree_rows.specs.Changes.{updated}
@@ -79,19 +79,13 @@ pub details_same : (counted : CountedTable) (records : RecordTable) (name : List
 details_same counted records name row now some same =
     details_alike counted (insert records name now) records (λ other.
     ap (option_map (shown other)) (get-insert nat_list_cmp_total records name now other)
-    ∙ by other (eq_by_cmp by_bytes other name) refl)
-  where
-    by : (other : List ℕ) (b : Bool) → eq_by_cmp by_bytes other name ≡ b
-        → option_map (shown other) (cond (eq_by_cmp by_bytes other name) (Some now) (get records other))
-        ≡ option_map (shown other) (get records other)
-    by other true tie =
-        let is = tells_apart by_bytes_exact other name tie in
-        ap (λ b. option_map (shown other) (cond b (Some now) (get records other))) tie
-        ∙ ap (λ one. Some (shown one now)) is ∙ ap (λ one. Some one) same
-        ∙ ap (option_map (shown name)) (sym some)
-        ∙ ap (λ one. option_map (shown one) (get records one)) (sym is)
-    by other false tie =
-        ap (λ b. option_map (shown other) (cond b (Some now) (get records other))) tie
+    ∙ by_tie nat_list_cmp_total by_bytes_exact other name
+    (λ b. option_map (shown other) (cond b (Some now) (get records other)))
+    (λ b. option_map (shown other) (get records other))
+    (λ is. ap (λ one. Some (shown one now)) is ∙ ap (λ one. Some one) same
+    ∙ ap (option_map (shown name)) (sym some)
+    ∙ ap (λ one. option_map (shown one) (get records one)) (sym is))
+    (λ apart. refl))
 
 -- and where all rows do
 pub details_stay : (counted : CountedTable) (records : RecordTable) (change : RecordRow → RecordRow)
@@ -119,27 +113,13 @@ counted_changed counted records name now is =
     get_counted counted (insert records name now) other
     ∙ ap (λ found. cond (contains_key counted other) found None)
     (get-insert nat_list_cmp_total records name now other)
-    ∙ by other (eq_by_cmp by_bytes other name) refl
+    ∙ by_tie nat_list_cmp_total by_bytes_exact other name
+    (λ b. cond (contains_key counted other) (cond b (Some now) (get records other)) None)
+    (λ b. cond b (Some now) (cond (contains_key counted other) (get records other) None))
+    (λ same. ap (λ b. cond b (Some now) None) (ap (contains_key counted) same ∙ is))
+    (λ apart. refl)
     ∙ sym (get-insert nat_list_cmp_total (counted_among counted records) name now other
     ∙ ap (cond (eq_by_cmp by_bytes other name) (Some now)) (get_counted counted records other)))
-  where
-    by : (other : List ℕ) (b : Bool) → eq_by_cmp by_bytes other name ≡ b
-        → cond (contains_key counted other)
-        (cond (eq_by_cmp by_bytes other name) (Some now) (get records other)) None
-        ≡ cond (eq_by_cmp by_bytes other name) (Some now)
-        (cond (contains_key counted other) (get records other) None)
-    by other true tie =
-        let there : contains_key counted other ≡ true =
-        ap (contains_key counted) (tells_apart by_bytes_exact other name tie) ∙ is in
-        ap (λ b. cond b (cond (eq_by_cmp by_bytes other name) (Some now) (get records other)) None)
-        there
-        ∙ ap (λ b. cond b (Some now) (get records other)) tie
-        ∙ sym (ap (λ b. cond b (Some now)
-        (cond (contains_key counted other) (get records other) None)) tie)
-    by other false tie =
-        ap (λ b. cond (contains_key counted other) (cond b (Some now) (get records other)) None) tie
-        ∙ sym (ap (λ b. cond b (Some now)
-        (cond (contains_key counted other) (get records other) None)) tie)
 
 -- and where that of one that is not counted is new or changed, they stay
 pub counted_stays : (counted : CountedTable) (records : RecordTable) (name : List ℕ)
@@ -151,21 +131,14 @@ counted_stays counted records name now isnt =
     get_counted counted (insert records name now) other
     ∙ ap (λ found. cond (contains_key counted other) found None)
     (get-insert nat_list_cmp_total records name now other)
-    ∙ by other (eq_by_cmp by_bytes other name) refl
+    ∙ by_tie nat_list_cmp_total by_bytes_exact other name
+    (λ b. cond (contains_key counted other) (cond b (Some now) (get records other)) None)
+    (λ b. cond (contains_key counted other) (get records other) None)
+    (λ same.
+    let none : contains_key counted other ≡ false = ap (contains_key counted) same ∙ isnt in
+    ap (λ b. cond b (Some now) None) none ∙ sym (ap (λ b. cond b (get records other) None) none))
+    (λ apart. refl)
     ∙ sym (get_counted counted records other))
-  where
-    by : (other : List ℕ) (b : Bool) → eq_by_cmp by_bytes other name ≡ b
-        → cond (contains_key counted other)
-        (cond (eq_by_cmp by_bytes other name) (Some now) (get records other)) None
-        ≡ cond (contains_key counted other) (get records other) None
-    by other true tie =
-        let none : contains_key counted other ≡ false =
-        ap (contains_key counted) (tells_apart by_bytes_exact other name tie) ∙ isnt in
-        ap (λ b. cond b (cond (eq_by_cmp by_bytes other name) (Some now) (get records other)) None)
-        none
-        ∙ sym (ap (λ b. cond b (get records other) None) none)
-    by other false tie =
-        ap (λ b. cond (contains_key counted other) (cond b (Some now) (get records other)) None) tie
 
 -- ---- the names change
 
@@ -177,17 +150,14 @@ pub counted_missing : (counted now : CountedTable) (records : RecordTable) (name
 counted_missing counted now records name none same =
     same_map nat_list_cmp_total by_bytes_exact (counted_among now records)
     (counted_among counted records) (λ other.
-    get_counted now records other ∙ by other (eq_by_cmp by_bytes other name) refl
+    get_counted now records other
+    ∙ by_tie nat_list_cmp_total by_bytes_exact other name
+    (λ b. cond (contains_key now other) (get records other) None)
+    (λ b. cond (contains_key counted other) (get records other) None)
+    (λ one. none_either (contains_key now other) (contains_key counted other) (get records other)
+    (ap (get records) one ∙ none))
+    (λ apart. ap (λ found. cond (is_some found) (get records other) None) (same other apart))
     ∙ sym (get_counted counted records other))
-  where
-    by : (other : List ℕ) (b : Bool) → eq_by_cmp by_bytes other name ≡ b
-        → cond (contains_key now other) (get records other) None
-        ≡ cond (contains_key counted other) (get records other) None
-    by other true tie =
-        none_either (contains_key now other) (contains_key counted other) (get records other)
-        (ap (get records) (tells_apart by_bytes_exact other name tie) ∙ none)
-    by other false tie =
-        ap (λ found. cond (is_some found) (get records other) None) (same other tie)
 
 -- the name of a record joins, and its row with it
 pub counted_joined : (counted : CountedTable) (records : RecordTable) (name : List ℕ)
@@ -200,26 +170,13 @@ counted_joined counted records name row some =
     get_counted (insert counted name tt) records other
     ∙ ap (λ found. cond (is_some found) (get records other) None)
     (get-insert nat_list_cmp_total counted name tt other)
-    ∙ by other (eq_by_cmp by_bytes other name) refl
+    ∙ by_tie nat_list_cmp_total by_bytes_exact other name
+    (λ b. cond (is_some (cond b (Some (tt {0})) (get counted other))) (get records other) None)
+    (λ b. cond b (Some row) (cond (contains_key counted other) (get records other) None))
+    (λ same. ap (get records) same ∙ some)
+    (λ apart. refl)
     ∙ sym (get-insert nat_list_cmp_total (counted_among counted records) name row other
     ∙ ap (cond (eq_by_cmp by_bytes other name) (Some row)) (get_counted counted records other)))
-  where
-    by : (other : List ℕ) (b : Bool) → eq_by_cmp by_bytes other name ≡ b
-        → cond (is_some (cond (eq_by_cmp by_bytes other name) (Some (tt {0})) (get counted other)))
-        (get records other) None
-        ≡ cond (eq_by_cmp by_bytes other name) (Some row)
-        (cond (contains_key counted other) (get records other) None)
-    by other true tie =
-        ap (λ b. cond (is_some (cond b (Some (tt {0})) (get counted other))) (get records other) None)
-        tie
-        ∙ ap (get records) (tells_apart by_bytes_exact other name tie) ∙ some
-        ∙ sym (ap (λ b. cond b (Some row)
-        (cond (contains_key counted other) (get records other) None)) tie)
-    by other false tie =
-        ap (λ b. cond (is_some (cond b (Some (tt {0})) (get counted other))) (get records other) None)
-        tie
-        ∙ sym (ap (λ b. cond b (Some row)
-        (cond (contains_key counted other) (get records other) None)) tie)
 
 -- a name leaves, and the row with it
 pub counted_left : (counted : CountedTable) (records : RecordTable) (name : List ℕ)
