@@ -42,7 +42,7 @@ uncharged last member = by_tests member.posted (is_after last member.priced.day)
     by_tests false false = refl
 
 -- and uncounted
-pub uncounted : (last : Option ℤ) (member : Member) (name : List ℕ) (counted : CountedTable)
+uncounted : (last : Option ℤ) (member : Member) (name : List ℕ) (counted : CountedTable)
     → count_where (withdraw last member).day name counted ≡ counted
 uncounted last member name counted = by_tests member.posted (is_after last member.priced.day)
   where
