@@ -20,13 +20,10 @@ use book_core::{LedgerFault, Ruled, is_done, plan_charge};
 use sqlite_trees::error::StoreError;
 use sqlite_trees::store::Store;
 use std::alloc::Global;
-use tree_tables::{StoredRecord, TreeTables};
+use tree_tables::{MOST_STEPS, StoredRecord, TreeTables};
 
 /// The second rule, as the row of the book gives it.
 const SECOND_RULE: u64 = 2;
-
-/// The most records that are walked over: more than any tree of a sound store has.
-const MOST_STEPS: u64 = 1 << 32;
 
 /// A record is to be charged: it is alone in its identity, or is the one that was chosen last.
 fn is_due<S: Store>(

@@ -10,7 +10,7 @@ ghost use Rattle.table_ledger.specs.Posting.{CanClose, Gathers, RestIsPosted, na
 ghost use Rattle.table_ledger.specs.Stages.{AttemptsOne};
 
 use crate::commits::commit_written;
-use crate::details::{MOST_STEPS, Sought, next_sought};
+use crate::details::{Sought, next_sought};
 use crate::many::counts_many;
 use crate::summary::Summary;
 use book_core::{Detail, LedgerFault, Ruled, is_done};
@@ -18,7 +18,7 @@ use smf_text::FIRST_DAY;
 use sqlite_trees::error::StoreError;
 use sqlite_trees::store::Store;
 use std::alloc::Global;
-use tree_tables::{Close, StoredLine, TreeTables};
+use tree_tables::{Close, MOST_STEPS, StoredLine, TreeTables};
 
 /// The most records that are posted at once: their names take 3.2 MB.
 const MOST_AT_ONCE: usize = 100_000;

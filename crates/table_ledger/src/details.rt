@@ -17,10 +17,7 @@ use book_core::{Detail, LedgerFault, Name, comes_after, is_after, is_asked, is_t
 use sqlite_trees::error::StoreError;
 use sqlite_trees::store::Store;
 use std::cmp::Ordering;
-use tree_tables::{DetailStart, TreeTables};
-
-/// The most details that are passed over: more than any books have records.
-pub(crate) const MOST_STEPS: u64 = 1 << 32;
+use tree_tables::{DetailStart, MOST_STEPS, TreeTables};
 
 /// Which details are sought.
 #[derive(Clone, Copy)]

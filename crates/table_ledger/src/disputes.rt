@@ -21,16 +21,13 @@ use smf_type30::Type30;
 use sqlite_trees::error::StoreError;
 use sqlite_trees::store::Store;
 use std::alloc::Global;
-use tree_tables::{StoredRecord, TreeTables, usage_bytes};
+use tree_tables::{MOST_STEPS, StoredRecord, TreeTables, usage_bytes};
 
 /// The bytes of an identity by the first rule.
 pub(crate) const IDENTITY_LENGTH: usize = 24;
 
 /// The bytes of an identity by the second rule.
 const IDENTITY2_LENGTH: usize = 32;
-
-/// The most identities that are passed over: more than any books have records.
-const MOST_STEPS: u64 = 1 << 32;
 
 /// The bytes are as many as the parts of an identity need by one of the two rules.
 fn is_identity(bytes: &[u8]) -> bool

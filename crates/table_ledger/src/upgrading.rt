@@ -28,30 +28,14 @@ use sqlite_value::value::ValueRef;
 use std::alloc::{AllocError, Global};
 use std::collections::BTreeMap;
 use tree_rows::find_row;
+use tree_tables::trees::{BOOK, CLOSES, DETAILS, LINES, RECORDS};
 use tree_tables::{
-    Close, DetailScratch, closes_in, count_in, lines_in, next_record_in, read_mark, start_records,
+    Close, DetailScratch, MOST_STEPS, closes_in, count_in, lines_in, next_record_in, read_mark,
+    start_records,
 };
 
-/// The tree of the book.
-const BOOK: u32 = 0;
-
-/// The number of its one row.
+/// The number of the book's one row.
 const FIRST: i64 = 1;
-
-/// The tree of the closes.
-const CLOSES: u32 = 2;
-
-/// The tree of the records.
-const RECORDS: u32 = 3;
-
-/// The tree of the adjustment lines.
-const LINES: u32 = 5;
-
-/// The tree of the details.
-const DETAILS: u32 = 10;
-
-/// The most rows that are walked over: more than any tree of a sound store has.
-const MOST_STEPS: u64 = 1 << 32;
 
 /// A record that is counted, and its day: details are written day by day, so that few pages of
 /// their tree are changed at a time.

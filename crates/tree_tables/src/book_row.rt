@@ -11,14 +11,12 @@ use crate::column_values::{count_at, make_row};
 use crate::columns::{BOOK_ADOPTED, BOOK_AMOUNT, BOOK_HELD, BOOK_RULE};
 use crate::keys::number_key;
 use crate::tables::TreeTables;
+use crate::trees::BOOK;
 use sqlite_trees::error::StoreError;
 use sqlite_trees::store::Store;
 use sqlite_value::row::Row;
 use sqlite_value::value::ValueRef;
 use tree_rows::{change_row, find_row};
-
-/// The tree of the book.
-const BOOK: u32 = 0;
 
 /// The number of the one row.
 const FIRST: i64 = 1;

@@ -10,18 +10,13 @@ use crate::column_values::{hash_at, number_at, period_at};
 use crate::columns::{CHOICE_NAME, CHOICE_NUMBER, CHOICE_PERIOD};
 use crate::keys::{bytes_key, choice_key};
 use crate::tables::TreeTables;
+use crate::trees::{CHOICE_NAMES, CHOICES};
 use sqlite_trees::error::StoreError;
 use sqlite_trees::store::Store;
 use sqlite_value::row::Row;
 use sqlite_value::value::ValueRef;
 use std::alloc::Global;
 use tree_rows::{ReadRow, add_row, find_row, last_row, list_run};
-
-/// The tree of choices.
-const CHOICES: u32 = 8;
-
-/// The tree of the names that choices name.
-const CHOICE_NAMES: u32 = 9;
 
 /// A choice: its number, the name of the record that was chosen, and the period that was open then.
 #[derive(Clone, Copy, Drop)]

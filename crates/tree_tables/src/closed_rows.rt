@@ -8,15 +8,13 @@ use crate::column_values::{day_at, make_row, period_at};
 use crate::columns::{CLOSE_PERIOD, CLOSE_THROUGH};
 use crate::keys::period_key;
 use crate::tables::TreeTables;
+use crate::trees::CLOSES;
 use sqlite_trees::error::StoreError;
 use sqlite_trees::store::Store;
 use sqlite_value::row::Row;
 use sqlite_value::value::ValueRef;
 use std::alloc::Global;
 use tree_rows::{ReadRow, put_row};
-
-/// The tree of closes.
-pub(crate) const CLOSES: u32 = 2;
 
 /// A close: the period, and the day through which it was closed.
 #[derive(Clone, Copy, Drop)]

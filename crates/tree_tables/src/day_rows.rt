@@ -16,6 +16,7 @@ use crate::columns::{
 use crate::keys::period_key;
 use crate::record_walks::MOST_STEPS;
 use crate::tables::TreeTables;
+use crate::trees::DAYS;
 use book_model::{ChargeRow, RowKey};
 use sqlite_trees::error::StoreError;
 use sqlite_trees::store::Store;
@@ -23,9 +24,6 @@ use sqlite_value::row::Row;
 use sqlite_value::value::ValueRef;
 use std::alloc::Global;
 use tree_rows::{ReadRow, change_row, drop_row, find_row, first_from, list_run, put_row};
-
-/// The tree of charge rows.
-const DAYS: u32 = 4;
 
 /// A charge row of a period.
 #[derive(Clone, Copy)]

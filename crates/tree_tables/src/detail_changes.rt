@@ -10,12 +10,13 @@ ghost use Rattle.tree_tables.specs.States.{state, state_of};
 ghost use Rattle.tree_tables.specs.Steps.{Always, Does, Looks};
 ghost use Rattle.tree_tables.specs.Stored.{IsUncounted, new_entry};
 
-use crate::detail_rows::{DETAILS, detail_row};
+use crate::detail_rows::detail_row;
 use crate::keys::bytes_key;
-use crate::record_rows::{NewRecord, RECORDS};
+use crate::record_rows::NewRecord;
 use crate::stored_record::{StoredRecord, data_of, read_price};
 use crate::stored_usage::{put_data, usage_in};
 use crate::tables::TreeTables;
+use crate::trees::{DETAILS, RECORDS};
 use smf_type30::Type30;
 use sqlite_trees::error::StoreError;
 use sqlite_trees::store::Store;

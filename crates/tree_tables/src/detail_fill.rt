@@ -11,10 +11,10 @@ ghost use Rattle.tree_tables.specs.Passes.{HasRecordsLeft, TakesNext};
 ghost use Rattle.tree_tables.specs.States.{state};
 ghost use Rattle.tree_tables.specs.Steps.{Looks};
 
-use crate::closed_rows::{CLOSES, Close};
+use crate::closed_rows::Close;
 use crate::keys::period_key;
-use crate::line_rows::{LINES, StoredLine};
-use crate::record_rows::RECORDS;
+use crate::line_rows::StoredLine;
+use crate::trees::{CLOSES, LINES, RECORDS};
 use sqlite_trees::error::StoreError;
 use sqlite_trees::store::Store;
 use sqlite_value::row::Row;

@@ -17,6 +17,7 @@ use crate::columns::{
 use crate::keys::number_key;
 use crate::record_rows::push_price;
 use crate::tables::TreeTables;
+use crate::trees::DETAILS;
 use book_model::Detail;
 use smf_text::Name;
 use smf_type30::Type30;
@@ -26,9 +27,6 @@ use sqlite_value::row::Row;
 use sqlite_value::value::ValueRef;
 use tariff_rules::Priced;
 use tree_rows::first_from;
-
-/// The tree of details.
-pub(crate) const DETAILS: u32 = 10;
 
 /// Which detail is the first of some.
 #[derive(Clone, Copy)]

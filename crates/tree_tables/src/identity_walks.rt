@@ -11,10 +11,11 @@ use crate::column_values::{blob_at, make_row, with_column};
 use crate::columns::{
     IDENTITY_IDENTITY, IDENTITY_NAME, RECORD_CHARGED, RECORD_DATA, RECORD_IDENTITY, RECORD_NAME,
 };
-use crate::record_rows::{IDENTITIES, RECORDS, change_mark};
+use crate::record_rows::change_mark;
 use crate::record_walks::{MOST_STEPS, column_key, first_past};
 use crate::stored_usage::usage_bytes;
 use crate::tables::TreeTables;
+use crate::trees::{IDENTITIES, RECORDS};
 use smf_type30::Type30;
 use sqlite_trees::error::StoreError;
 use sqlite_trees::store::Store;

@@ -27,11 +27,12 @@ mod stored_record;
 mod stored_usage;
 mod tables;
 mod tariff_rows;
+pub mod trees;
 
 pub use book_row::{StoredBook, Sums};
-// How columns are read, for who reads the rows anew.
 pub use choice_rows::StoredChoice;
 pub use closed_rows::Close;
+// How columns are read, for who reads the rows anew.
 pub use column_values::{
     bytes_at, count_at, day_at, eight_at, hash_at, mark_at, name_at, number_at, period_at, step_at,
     text_at,
@@ -45,6 +46,7 @@ pub use late_records::LateRecord;
 pub use line_rows::{LineKey, StoredLine};
 pub use memory::trees_in_memory;
 pub use record_rows::NewRecord;
+pub use record_walks::MOST_STEPS;
 pub use stored_record::{RecordMark, StoredRecord, data_of, read_mark, read_record};
 pub use stored_usage::{put_data, record_with, usage_bytes, usage_in};
 pub use tables::TreeTables;

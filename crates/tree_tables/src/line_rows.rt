@@ -10,15 +10,13 @@ use crate::column_values::{hash_at, mark_at};
 use crate::columns::{LINE_NAME, LINE_PLUS};
 use crate::keys::{number_key, period_key};
 use crate::tables::TreeTables;
+use crate::trees::LINES;
 use sqlite_trees::error::StoreError;
 use sqlite_trees::store::Store;
 use sqlite_value::row::Row;
 use sqlite_value::value::ValueRef;
 use std::alloc::Global;
 use tree_rows::{ReadRow, drop_row, find_row, list_run, put_row};
-
-/// The tree of adjustment lines.
-pub(crate) const LINES: u32 = 5;
 
 /// Where a line is: its period, and the name of its record.
 #[derive(Clone, Copy)]

@@ -14,6 +14,7 @@ use crate::columns::{RECORD_CHARGED, RECORD_IDENTITY, RECORD_NAME};
 use crate::keys::{bytes_key, number_key};
 use crate::stored_record::{StoredRecord, read_record};
 use crate::tables::TreeTables;
+use crate::trees::{IDENTITIES, MARKS, RECORDS};
 use sqlite_trees::error::StoreError;
 use sqlite_trees::store::Store;
 use sqlite_value::row::Row;
@@ -21,15 +22,6 @@ use sqlite_value::value::ValueRef;
 use std::alloc::Global;
 use tariff_rules::Priced;
 use tree_rows::{add_row, change_row, find_row, list_first, list_run};
-
-/// The tree of the records.
-pub(crate) const RECORDS: u32 = 3;
-
-/// The tree of their identities.
-pub(crate) const IDENTITIES: u32 = 6;
-
-/// The tree of their marks.
-pub(crate) const MARKS: u32 = 7;
 
 /// The most records of one identity that are looked at: whether there are two is all that counts.
 const MOST_SHARING: usize = 2;

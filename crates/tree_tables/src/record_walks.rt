@@ -14,9 +14,9 @@ ghost use Rattle.tree_tables.specs.Walks.{RenewsRow, last_name_key, rows_past};
 use crate::column_values::{day_at, mark_at, with_column};
 use crate::columns::{RECORD_CHARGED, RECORD_DAY, RECORD_NAME, RECORD_POSTED};
 use crate::keys::bytes_key;
-use crate::record_rows::RECORDS;
 use crate::stored_record::{StoredRecord, read_record};
 use crate::tables::TreeTables;
+use crate::trees::RECORDS;
 use sqlite_trees::error::StoreError;
 use sqlite_trees::store::Store;
 use sqlite_value::row::Row;
@@ -24,7 +24,7 @@ use std::alloc::Global;
 use tree_rows::{change_row, find_row, first_after, first_from, next_row, start_pass};
 
 /// The most rows that are walked over: more than any tree of a sound store has.
-pub(crate) const MOST_STEPS: u64 = 1 << 32;
+pub const MOST_STEPS: u64 = 1 << 32;
 
 /// Reads the first row of a tree after those of the key over `row`, or the very first where the key
 /// has no columns; or answers that there is none.

@@ -10,10 +10,7 @@ use sqlite_value::row::Row;
 use std::alloc::Global;
 use tree_rows::{ReadRow, list_run};
 
-/// The tables of books in the trees of a store, a tree each: 0 the book, 1 tariffs, 2 closes,
-/// 3 records, 4 charge rows, 5 adjustment lines, 8 choices; two more that find records, 6 by
-/// identity and 7 by mark; 9, which finds choices by the names of their records; and 10, which
-/// shows the records that are counted.
+/// The tables of books in the trees of a store, one or more each: `trees` says which.
 #[derive(Drop)]
 pub struct TreeTables<S: Store> {
     pub(crate) store: S,

@@ -7,15 +7,13 @@ use crate::column_values::{day_at, make_row, text_at};
 use crate::columns::{TARIFF_DAY, TARIFF_TEXT};
 use crate::keys::day_key;
 use crate::tables::TreeTables;
+use crate::trees::TARIFFS;
 use sqlite_trees::error::StoreError;
 use sqlite_trees::store::Store;
 use sqlite_value::row::Row;
 use sqlite_value::value::ValueRef;
 use std::alloc::Global;
 use tree_rows::{ReadRow, put_row};
-
-/// The tree of tariffs.
-const TARIFFS: u32 = 1;
 
 /// A tariff that came as a text: its first day, and the text.
 #[derive(Clone, Copy)]
