@@ -13,12 +13,12 @@ ghost use Rattle.table_ledger.specs.Loaded.{IsNextClose, IsOpenFault, IsLoaded, 
 ghost use Rattle.table_ledger.specs.Loaded.{Reads, ReadsItsOwn, SaysRule, SaysTariff, SummarizesRows};
 ghost use Rattle.table_ledger.specs.Loaded.{ReadsByRow, TellsBooks, TellsTariff};
 
+use crate::days::is_day;
 use crate::finish::fault_of;
 use crate::summary::Summary;
 use book_core::{
     AcceptedTariff, LAST_PERIOD, LedgerFault, MAX_CHOICES, MAX_COST, MAX_HELD, are_before, is_after,
 };
-use smf_text::{FIRST_DAY, LAST_DAY};
 use sqlite_trees::error::StoreError;
 use sqlite_trees::store::Store;
 use std::alloc::Global;
@@ -89,8 +89,7 @@ fn is_next(days: &[i32], row: &Close) -> bool
 {
     row.period as usize == days.len() + 1
         && is_after(last_of(days), row.through)
-        && FIRST_DAY <= row.through
-        && row.through <= LAST_DAY
+        && is_day(row.through)
 }
 
 /// The day of the next close: of the period after the last, through a later day.
