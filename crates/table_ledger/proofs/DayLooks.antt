@@ -17,7 +17,8 @@ use Rattle.book_model.specs.Words.{by_key, key_of, row_at}
 use Rattle.book_model.proofs.MapLemmas.{by_tie, get-inserted, insert-insert}
 use Rattle.book_model.proofs.RowLemmas.{by_key_total, by_key_exact}
 use Rattle.book_core.specs.declared.effects.DayChange.TheVariants.{Add, Take}
-use Rattle.table_model.specs.RowChanges.{with_price, less_price, take_at, add_price}
+use Rattle.book_core.specs.KeyedRows.{with_price}
+use Rattle.table_model.specs.RowChanges.{less_price, take_at, add_price}
 use Rattle.table_model.specs.Steps.{change_day_row, put_day_row}
 use Rattle.table_model.specs.Tables.{DayTable, Tables}
 use Rattle.table_model.specs.TablesOf.{row_key}

@@ -8,7 +8,8 @@ use Rattle.tariff_rules.specs.declared.priced.Priced.{Priced}
 use Rattle.book_model.specs.declared.row.ChargeRow.{ChargeRow}
 use Rattle.book_model.specs.Words.{key_of, row_at}
 use Rattle.book_core.specs.declared.effects.DayChange.TheVariants.{Add, Take}
-use Rattle.table_model.specs.RowChanges.{less_price, take_at, with_price}
+use Rattle.book_core.specs.KeyedRows.{with_price}
+use Rattle.table_model.specs.RowChanges.{less_price, take_at}
 use Rattle.table_model.specs.Steps.{change_day_row, drop_day_row, put_day_row}
 use Rattle.table_model.specs.Tables.{Tables}
 use Rattle.table_model.specs.TablesOf.{row_key}

@@ -21,20 +21,19 @@ use Rattle.std.proofs.lemmas.List.Sums.{sum_by_push}
 use Rattle.std.proofs.lemmas.Map.{lookup-none}
 use Rattle.std.proofs.lemmas.Map.Entries.{none_below_head}
 use Rattle.std.proofs.lemmas.Map.Keys.{sorted_tail}
-use Rattle.std.proofs.lemmas.Simd.{map-map}
 use Rattle.sqlite_trees.specs.View.{View}
 use Rattle.sqlite_value.specs.Order.{Row}
 use Rattle.tariff_rules.specs.declared.priced.Priced.{Priced}
 use Rattle.book_model.specs.declared.fault.LedgerFault.TheVariants.{Full}
 use Rattle.book_model.specs.declared.row.ChargeRow.{ChargeRow}
 use Rattle.book_model.specs.declared.row.RowKey.{RowKey}
-use Rattle.book_model.specs.Words.{IsPriced, Terms, by_key, charged_at, key_of, keys_of, most_cost}
+use Rattle.book_model.specs.Words.{IsPriced, Terms, by_key, charged_at, key_of, most_cost}
 use Rattle.book_model.specs.Words.{most_held, price_by, row_at, rows_of}
 use Rattle.book_model.proofs.RowLemmas.{by_key_total}
-use Rattle.book_core.proofs.KeyedRowLemmas.{keyed_rows-push, length-charged_at-le, row_so_far}
+use Rattle.book_core.specs.KeyedRows.{keyed_rows}
+use Rattle.book_core.proofs.KeyedRowLemmas.{length-charged_at-le, row_so_far, rows_under_keys}
 use Rattle.book_core.proofs.KeyedRowLemmas.{sum_by-charged_at-le}
 use Rattle.book_core.proofs.ListLimits.{priced_fit}
-use Rattle.table_model.specs.RowChanges.{with_price}
 use Rattle.table_model.specs.Tables.{Tables}
 use Rattle.table_model.proofs.CountedLemmas.{few_costs}
 use Rattle.table_model.specs.BookIn.{row_record}
@@ -44,7 +43,7 @@ use Rattle.tree_tables.specs.Columns.{record_columns}
 use Rattle.tree_tables.specs.Passes.{HasRecordsLeft, TakesFirst, TakesNext}
 use Rattle.tree_tables.proofs.FoundNames.{entries_had}
 use Rattle.table_ledger.specs.OtherPrices.{AreRowsOf, AreSumsOf, CostsFit, SumsUp, costs_of}
-use Rattle.table_ledger.specs.OtherPrices.{keyed_rows, passes}
+use Rattle.table_ledger.specs.OtherPrices.{passes}
 use Rattle.table_ledger.specs.TotalsFit.{FitsPrice}
 use Rattle.table_ledger.specs.declared.count_test.CountTest.{CountTest}
 use Rattle.table_ledger.specs.declared.other_prices.RowSums.{RowSums}
@@ -73,18 +72,6 @@ row_at_found key row (first ∷ rows) sorted found =
         absurd (true≢false (sym found ∙ ap is_some none))
     by Equal is found later = refl
     by Greater is found later = ap (λ rows. first ∷ rows) (later found)
-
--- a price joins the row that was found for its key
-pub price_added : (costs : List Priced) (one : Priced) (rows : List (RowKey × ChargeRow))
-    (key : RowKey) (empty row more : ChargeRow) → rows ≡ keyed_rows costs → key ≡ key_of one
-    → empty ≡ row_at [] key → row ≡ unwrap_or (lookup (is_at (by_key key)) rows) empty
-    → more ≡ with_price row one
-    → insert_entry by_key rows key more ≡ keyed_rows (costs ++ one ∷ [])
-price_added costs one rows key empty row more kept keyed is_empty found is =
-    let own : row ≡ row_at costs (key_of one) =
-    row_so_far costs rows key empty row kept is_empty found ∙ ap (row_at costs) keyed in
-    let joined = is ∙ ap (λ (row : ChargeRow). with_price row one) own in
-    (λ i. insert_entry by_key (kept i) (keyed i) (joined i)) ∙ sym (keyed_rows-push costs one)
 
 -- what is charged at a key, with one more price, is no more than all costs with it
 charged_within : (f : Priced → ℕ) (costs : List Priced) (one : Priced) (key : RowKey)
@@ -132,13 +119,6 @@ costs_fit costs one are priced few small =
       sums = priced_fit (costs ++ one ∷ []) all (omega (arith, many, few))
           (omega (arith, cost, more, small));
     }
-
--- the rows under their keys are those of the costs
-rows_under_keys : (costs : List Priced)
-    → map (λ (entry : RowKey × ChargeRow). entry.1) (keyed_rows costs) ≡ rows_of costs
-rows_under_keys costs =
-    map-map (λ (entry : RowKey × ChargeRow). entry.1) (λ key. (key, row_at costs key))
-    (keys_of costs)
 
 -- the rows of costs that the books hold are answered
 pub rows_summed : {sums : RowSums} (costs : List Priced) (rows : Vec ChargeRow Global)

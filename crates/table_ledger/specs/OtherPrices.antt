@@ -1,7 +1,7 @@
 -- What is found out about a period, and about its records by another tariff, in a walk over all
 -- records.
 use Rattle.std.specs.Prelude.{◌≡◌, ◌≤◌, ◌<◌, ◌^◌, ◌++◌, ◌∷◌, [], ℕ, Bool, true, false, ◌&&◌, List, All}
-use Rattle.std.specs.Prelude.{filter, length, map, MatchOption, Ok, Err, Option, Vec, sum_by}
+use Rattle.std.specs.Prelude.{filter, length, MatchOption, Ok, Err, Option, Vec, sum_by}
 use Rattle.std.specs.BTreeMap.{get}
 use Rattle.std.specs.FinMap.{entries}
 use Rattle.std.specs.Global.{Global}
@@ -11,9 +11,9 @@ use Rattle.sqlite_value.specs.Order.{Row}
 use Rattle.tariff_rules.specs.declared.priced.Priced.{Priced}
 use Rattle.book_model.specs.declared.fault.LedgerFault.TheVariants.{Full}
 use Rattle.book_model.specs.declared.row.ChargeRow.{ChargeRow}
-use Rattle.book_model.specs.declared.row.RowKey.{RowKey}
-use Rattle.book_model.specs.Words.{FitSums, IsPriced, Rulings, Terms, by_bytes, keys_of, most_cost}
-use Rattle.book_model.specs.Words.{most_held, row_at, rows_if_room}
+use Rattle.book_model.specs.Words.{FitSums, IsPriced, Rulings, Terms, by_bytes, most_cost}
+use Rattle.book_model.specs.Words.{most_held, rows_if_room}
+use Rattle.book_core.specs.KeyedRows.{keyed_rows}
 use Rattle.table_model.specs.Tables.{Tables}
 use Rattle.table_model.specs.CountedRead.{charged_before_lines, is_day_between, is_row_counted}
 use Rattle.table_model.specs.CountedRead.{row_costs}
@@ -56,10 +56,6 @@ pub record CanBeWalked (tables : Tables) : Type 0 where
 -- what some records cost
 abbrev pub Costs : Type 0
 Costs = List Priced
-
--- the rows of some costs, each under its key
-abbrev pub keyed_rows : List Priced → List (RowKey × ChargeRow)
-keyed_rows costs = map {B = RowKey × ChargeRow} (λ key. (key, row_at costs key)) (keys_of costs)
 
 -- 64 bits hold the number of some costs, and their sums
 pub record CostsFit (costs : List Priced) : Type 0 where

@@ -2,6 +2,7 @@
 
 ghost use Rattle.std.specs.Prelude.{◌≡◌, ◌<◌, ◌==◌, [], if◌then◌else◌, IfSome, IsTrue, None, Some};
 ghost use Rattle.std.specs.Option.{option_map_or};
+ghost use Rattle.book_core.specs.KeyedRows.{with_price};
 ghost use Rattle.book_core.specs.declared.effects.DayChange.TheVariants.{Add, Take};
 ghost use Rattle.book_model.specs.Rows as rows;
 ghost use Rattle.table_model.specs.RowChanges as changed;
@@ -11,7 +12,7 @@ ghost use Rattle.tree_tables.specs.States.{state_of};
 ghost use Rattle.tree_tables.specs.Steps.{Always, Does};
 ghost use Rattle.table_ledger.specs.TotalsFit.{FitsPrice};
 
-use book_core::{ChargeRow, DayChange, RowKey, empty_row};
+use book_core::{ChargeRow, DayChange, empty_row, key_of, row_with};
 use sqlite_trees::error::StoreError;
 use sqlite_trees::store::Store;
 use tariff_rules::Priced;
@@ -19,17 +20,6 @@ use tree_tables::{DayKey, DayRow, TreeTables};
 
 /// The first number that signed 64-bit integers do not hold.
 const SIGNED_END: u64 = 1 << 63;
-
-/// Where a price is charged.
-pub(crate) fn key_of(priced: &Priced) -> RowKey
-    ensures { result ≡ rows.key_of priced.now }
-{
-    RowKey {
-        day: priced.day,
-        centre: priced.centre,
-        shift: priced.shift,
-    }
-}
 
 /// The numbers of the row can be stored.
 fn fits(row: &ChargeRow) -> bool
@@ -43,7 +33,7 @@ fn fits(row: &ChargeRow) -> bool
 
 /// The row of a price that is alone at its place.
 pub(crate) fn first_row(priced: &Priced) -> ChargeRow
-    ensures { result ≡ changed.with_price (rows.row_at [] (rows.key_of priced.now)) priced.now }
+    ensures { result ≡ with_price (rows.row_at [] (rows.key_of priced.now)) priced.now }
 {
     ChargeRow {
         day: priced.day,
@@ -58,7 +48,7 @@ pub(crate) fn first_row(priced: &Priced) -> ChargeRow
 
 /// A price joins a row, if 64 bits hold its sums. If they do not, the row is of no use any more.
 pub(crate) fn join_price(row: &mut ChargeRow, priced: &Priced) -> Option<()>
-    ensures more { IfSome result (λ done. row.new ≡ changed.with_price row.old priced.now) }
+    ensures more { IfSome result (λ done. row.new ≡ with_price row.old priced.now) }
     ensures full { result ≡ None → ¬ FitsPrice row.old priced.now }
 {
     row.count = row.count.checked_add(1)?;
@@ -66,15 +56,6 @@ pub(crate) fn join_price(row: &mut ChargeRow, priced: &Priced) -> Option<()>
     row.blocks = row.blocks.checked_add(priced.excp)?;
     row.amount = row.amount.checked_add(priced.amount)?;
     Some(())
-}
-
-/// The row with one more price, if 64 bits hold its sums.
-fn with_price(row: &ChargeRow, priced: &Priced) -> Option<ChargeRow>
-    ensures { IfSome result (λ more. more ≡ changed.with_price row.now priced.now) }
-{
-    let mut more = *row;
-    join_price(&mut more, priced)?;
-    Some(more)
 }
 
 /// The row with one price less.
@@ -128,9 +109,9 @@ fn put_with<S: Store>(
     priced: &Priced,
 ) -> Result<(), StoreError>
     ensures does { Does result (state_of tables.old) (state_of tables.new) Always
-        (step.put_day_row period (changed.with_price row.now priced.now)) }
+        (step.put_day_row period (with_price row.now priced.now)) }
 {
-    let Some(more) = with_price(row, priced) else {
+    let Some(more) = row_with(row, priced) else {
         return Err(StoreError::Corrupt);
     };
     put_row(tables, period, &more)

@@ -1,30 +1,28 @@
 //! The charge rows that a period would have by another tariff.
 
 ghost use Rattle.std.specs.Prelude.{◌≡◌, ◌++◌, ◌∷◌, [], IfErr, IfOk, OnOk};
+ghost use Rattle.book_core.specs.KeyedRows.{keyed_rows};
 ghost use Rattle.book_model.specs.Words.{AreRows, Naming, what_if_outcome};
 ghost use Rattle.tree_tables.specs.States.{state_of};
 ghost use Rattle.tree_tables.specs.Steps.{FailsByStore, Looks};
 ghost use Rattle.table_ledger.specs.Attempts.{IsWhatIfRefusal, TriesBut};
 ghost use Rattle.table_ledger.specs.OtherPrices.{CanBeWalked, Costs, CostsFit, FindsRowsUnder};
-ghost use Rattle.table_ledger.specs.OtherPrices.{JoinsSums, WantsMemory, keyed_rows};
+ghost use Rattle.table_ledger.specs.OtherPrices.{JoinsSums, WantsMemory};
 ghost use Rattle.table_ledger.specs.RecordReads.{HasWideNames};
 ghost use Rattle.table_ledger.specs.Stages.{AttemptsOne};
 
 use crate::charges::can_show;
 use crate::count_test::CountTest;
-use crate::day_write::{first_row, join_price, key_of};
+use crate::day_write::{first_row, join_price};
 use crate::summary::Summary;
-use book_core::{ChargeRow, LedgerFault, MAX_COST, RowKey};
+use book_core::{ChargeRow, LedgerFault, MAX_COST, RowKey, key_of};
 use sqlite_trees::error::StoreError;
 use sqlite_trees::store::Store;
 use sqlite_value::row::Row;
 use std::alloc::{AllocError, Global};
 use std::collections::BTreeMap;
 use tariff_rules::{Priced, Tariff, price};
-use tree_tables::{TreeTables, data_of, put_data, read_mark, usage_in};
-
-/// The most records that are walked over: more than any tree of a sound store has.
-const MOST_STEPS: u64 = 1 << 32;
+use tree_tables::{MOST_STEPS, TreeTables, data_of, put_data, read_mark, usage_in};
 
 /// The charge rows of some prices, which come one at a time, and what they are together.
 #[derive(Drop)]

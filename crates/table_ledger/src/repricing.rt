@@ -15,17 +15,14 @@ ghost use Rattle.tree_tables.specs.Stored.{IsAsRead, stored_entry};
 ghost use Rattle.table_ledger.specs.Repricing.{CanBeRepriced, CanBeSummed, CanCost, CostUnder};
 ghost use Rattle.table_ledger.specs.Repricing.{TakesTariff, tariff_price};
 
-use crate::day_write::{add_price, key_of, replace_price, take_price};
-use book_core::MAX_COST;
+use crate::day_write::{add_price, replace_price, take_price};
+use book_core::{MAX_COST, key_of};
 use smf_type30::Type30;
 use sqlite_trees::error::StoreError;
 use sqlite_trees::store::Store;
 use std::alloc::Global;
 use tariff_rules::{Priced, Tariff, price};
-use tree_tables::{LateRecord, StoredRecord, TreeTables, usage_bytes};
-
-/// The most records that are walked over: more than any tree of a sound store has.
-const MOST_STEPS: u64 = 1 << 32;
+use tree_tables::{LateRecord, MOST_STEPS, StoredRecord, TreeTables, usage_bytes};
 
 /// What a record costs by a tariff, if it is dated on the first day or later.
 fn new_price(

@@ -2,7 +2,7 @@
 -- joins or leaves, and which a close may move; to a line; to the name of a record that the charge
 -- rows count; and to a record's row, where the record
 -- becomes charged or is so no more, costs something else, is posted, or gets another identity.
-use Rattle.std.specs.Prelude.{ℕ, ℤ, suc, ◌+◌, ◌-◌, ◌==◌, int_lt, Bool, true, false, ◌&&◌}
+use Rattle.std.specs.Prelude.{ℕ, ℤ, suc, ◌-◌, ◌==◌, int_lt, Bool, true, false, ◌&&◌}
 use Rattle.std.specs.Prelude.{if◌then◌else◌, List, [], Option, Some, None, unwrap_or}
 use Rattle.std.specs.FinMap.{get, insert, remove}
 use Rattle.std.specs.Option.{option_map_or}
@@ -10,6 +10,7 @@ use Rattle.tariff_rules.specs.declared.priced.Priced.{Priced}
 use Rattle.book_model.specs.declared.row.ChargeRow.{ChargeRow}
 use Rattle.book_model.specs.declared.row.RowKey.{RowKey}
 use Rattle.book_model.specs.Words.{identity2_of, key_of, record_with, row_at}
+use Rattle.book_core.specs.KeyedRows.{with_price}
 use Rattle.book_core.specs.declared.effects.DayChange.{DayChange}
 use Rattle.book_core.specs.declared.effects.DayChange.TheVariants.{Add, Take}
 use Rattle.book_core.specs.declared.effects.Effects.{Effects}
@@ -17,15 +18,6 @@ use Rattle.book_core.specs.declared.effects.LineChange.{LineChange}
 use Rattle.book_core.specs.declared.effects.LineChange.TheVariants.{AddPlus, DropPlus}
 use Rattle.book_core.specs.declared.effects.LineChange.TheVariants.{AddMinus, DropMinus}
 use Rattle.table_model.specs.Tables.{CountedTable, DayTable, LineTable, RecordRow, RecordTable}
-
--- the charge row with one more price
-abbrev pub with_price : ChargeRow → Priced → ChargeRow
-with_price row one = record row {
-  count = row.count + 1;
-  cpu = row.cpu + one.cpu;
-  blocks = row.blocks + one.excp;
-  amount = row.amount + one.amount;
-}
 
 -- the charge row with one price less
 abbrev pub less_price : ChargeRow → Priced → ChargeRow

@@ -1,7 +1,7 @@
 use Rattle.std.proofs.Common.{◌≡◌, ◌∙◌, [], ap, sym}
 use Rattle.std.specs.Prelude.{unwrap_or}
 use Rattle.book_model.specs.Words.{key_of, row_at}
-use Rattle.table_model.specs.RowChanges.{with_price}
+use Rattle.book_core.specs.KeyedRows.{with_price}
 use Rattle.table_model.specs.Steps.{put_day_row}
 use Rattle.table_ledger.proofs.DaySteps.{joins}
 use Rattle.table_ledger.proofs.DayLooks.{day_stepped}

@@ -1,5 +1,5 @@
 use Rattle.std.proofs.Common.{◌∙◌, ap, sym}
-use Rattle.table_model.specs.RowChanges.{with_price}
+use Rattle.book_core.specs.KeyedRows.{with_price}
 use Rattle.table_model.specs.Steps.{put_day_row}
 use Rattle.table_ledger.proofs.DayLooks.{day_stepped, replaced}
 use Rattle.table_ledger.proofs.day_write.replace_price.Goals as goal

@@ -1,8 +1,9 @@
 use Rattle.std.proofs.Common.{◌∙◌, [], ap, refl, rules, sym, unwrap_or}
 use Rattle.std.specs.Prelude.{is_some}
 use Rattle.book_model.specs.Words.{row_at}
-use Rattle.table_model.specs.RowChanges.{with_price}
-use Rattle.table_ledger.proofs.OtherPriceLemmas.{price_added, price_fits, row_at_found}
+use Rattle.book_core.specs.KeyedRows.{with_price}
+use Rattle.book_core.proofs.KeyedRowLemmas.{price_joined}
+use Rattle.table_ledger.proofs.OtherPriceLemmas.{price_fits, row_at_found}
 use Rattle.table_ledger.proofs.other_prices.add_price.Goals as goal
 
 -- a price joins the row that was found
@@ -14,7 +15,7 @@ returns-in-Some-clause-joined c = λ costs kept.
     let found = c.in-Some.ensures.value in
     (c.get_mut.follows.holds row).0
     ∙ row_at_found key row rows c.in-Some.ensures.ordered (ap is_some (sym found))
-    ∙ price_added costs c.args.priced.now rows key (row_at [] key) c.in-Some.row.now row kept
+    ∙ price_joined costs c.args.priced.now rows key (row_at [] key) c.in-Some.row.now row kept
     c.key_of-key.ensures refl (ap (λ row. unwrap_or row (row_at [] key)) found)
     c.in-Some-join_price.ensures.more
 
@@ -34,7 +35,7 @@ returns-clause-joined c = λ costs kept.
     let none = ap (λ row. unwrap_or row (row_at [] key))
     (rw c.in_default.is at c.get_mut.ensures.value) in
     let more =
-    price_added costs c.args.priced.now c.args.rows.now.entries key (row_at [] key)
+    price_joined costs c.args.priced.now c.args.rows.now.entries key (row_at [] key)
     (row_at [] key) c.first_row.result kept c.key_of-key.ensures refl none
     (c.first_row.ensures ∙ ap (λ key. with_price (row_at [] key) c.args.priced.now)
     (sym c.key_of-key.ensures)) in
