@@ -1,16 +1,8 @@
-use Rattle.std.proofs.Common.{Result, Ok, Err}
 use Rattle.std.proofs.lemmas.Result.{IfOk-weaker}
-use Rattle.std.specs.Prelude.{OnErr}
 use Rattle.sqlite_trees.specs.View.{IsClean}
-use Rattle.sqlite_trees.specs.declared.error.StoreError.{StoreError}
 use Rattle.tree_rows.specs.Rows.{Finds}
 use Rattle.tree_tables.proofs.TheBook.{book_found}
 use Rattle.table_ledger.proofs.upgrading.has_book_row.Goals as goal
-
--- what holds whatever is answered holds of an error
-on_err : {A P : Type 0} (result : Result A StoreError) → P → OnErr result P
-on_err (Ok value) said = tt
-on_err (Err error) said = said
 
 -- a look at the tree tells it
 pub returns-clause-row : goal.returns-clause-row
