@@ -5,7 +5,7 @@ ghost use Rattle.tree_tables.specs.Columns.{charged_part};
 
 use crate::column_values::hash_at;
 use crate::columns::MARK_NAME;
-use crate::keys::number_key;
+use crate::keys::{IS_CHARGED, number_key};
 use crate::stored_record::StoredRecord;
 use crate::tables::TreeTables;
 use crate::trees::MARKS;
@@ -15,9 +15,6 @@ use sqlite_value::row::Row;
 use sqlite_value::value::ValueRef;
 use std::alloc::Global;
 use tree_rows::find_row;
-
-/// The mark of a charged record.
-const IS_CHARGED: i64 = 1;
 
 /// The first columns of the marks of charged records that have an identity.
 fn charged_key(key: &mut Row, identity: &[u8]) -> Result<(), StoreError>

@@ -7,7 +7,7 @@ ghost use Rattle.tree_tables.specs.Stored.{SaysUncharged};
 
 use crate::column_values::{bytes_at, mark_at};
 use crate::columns::{MARK_CHARGED, MARK_IDENTITY};
-use crate::keys::{bytes_key, number_key};
+use crate::keys::{NOT_CHARGED, bytes_key, number_key};
 use crate::stored_record::StoredRecord;
 use crate::tables::TreeTables;
 use crate::trees::{IDENTITIES, MARKS};
@@ -17,9 +17,6 @@ use sqlite_value::row::Row;
 use sqlite_value::value::ValueRef;
 use std::alloc::Global;
 use tree_rows::{first_from, list_run};
-
-/// The mark of a record that is not charged.
-const NOT_CHARGED: i64 = 0;
 
 /// The first columns of the marks of records that are not charged and have an identity.
 fn uncharged_key(key: &mut Row, identity: &[u8]) -> Result<(), StoreError>

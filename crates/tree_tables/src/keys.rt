@@ -7,6 +7,12 @@ use sqlite_trees::error::StoreError;
 use sqlite_value::row::Row;
 use sqlite_value::value::ValueRef;
 
+/// The mark of a record that is not charged.
+pub(crate) const NOT_CHARGED: i64 = 0;
+
+/// The mark of a charged record.
+pub(crate) const IS_CHARGED: i64 = 1;
+
 /// A number as a key.
 pub(crate) fn number_key(key: &mut Row, number: i64) -> Result<(), StoreError>
     ensures made { OnOk result (key.new ≡ Int number ∷ []) }

@@ -9,7 +9,7 @@ ghost use Rattle.tree_tables.specs.LateRecords.{SaysUnchargedName, mark_start, s
 use crate::column_values::{hash_at, mark_at};
 use crate::columns::{MARK_CHARGED, MARK_NAME};
 use crate::detail_rows::{DetailStart, bytes_after};
-use crate::keys::number_key;
+use crate::keys::{NOT_CHARGED, number_key};
 use crate::stored_record::StoredRecord;
 use crate::tables::TreeTables;
 use crate::trees::MARKS;
@@ -20,9 +20,6 @@ use sqlite_value::row::Row;
 use sqlite_value::value::ValueRef;
 use std::alloc::Global;
 use tree_rows::first_from;
-
-/// The mark of a record that is not charged.
-const NOT_CHARGED: i64 = 0;
 
 /// A record that the walk has come to.
 #[derive(Drop)]

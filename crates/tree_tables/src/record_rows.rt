@@ -11,7 +11,7 @@ ghost use Rattle.tree_tables.specs.Stored.{new_entry, priced_entry};
 
 use crate::column_values::{make_row, with_column};
 use crate::columns::{RECORD_CHARGED, RECORD_IDENTITY, RECORD_NAME};
-use crate::keys::{bytes_key, number_key};
+use crate::keys::{NOT_CHARGED, bytes_key, number_key};
 use crate::stored_record::{StoredRecord, read_record};
 use crate::tables::TreeTables;
 use crate::trees::{IDENTITIES, MARKS, RECORDS};
@@ -190,7 +190,7 @@ impl<S: Store> TreeTables<S> {
             (λ tables list. ListsUncharged tables list.items) }
         ensures cause { FailsByStore result (state_of self.old) (state_of self.new) RecordsFit }
     {
-        number_key(&mut self.key, 0)?;
+        number_key(&mut self.key, NOT_CHARGED)?;
         let names = list_run(&mut self.store, MARKS, &self.key, &mut self.row, alloc)?;
         self.read_named(alloc, &names)
     }
