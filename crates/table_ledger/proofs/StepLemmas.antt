@@ -16,7 +16,7 @@ use Rattle.table_ledger.specs.Commits.{IsAtRest, Saw, Stores}
 use Rattle.table_ledger.specs.NewBooks.{MakesNew}
 use Rattle.table_ledger.proofs.UnchangedStores.{rest_on, trees_same}
 use Rattle.table_ledger.proofs.SurvivalLemmas.{clean_before, survives_both, survives_none}
-use Rattle.table_ledger.proofs.SurvivalLemmas.{survives_so, survives_then}
+use Rattle.table_ledger.proofs.SurvivalLemmas.{survives_then}
 
 -- two changes, one after the other
 changes_then : {When First After : Tables → Type 0} {one other : Tables → Tables}
@@ -107,16 +107,7 @@ rests first middle last rest only commits = record {
 
 -- ---- new books
 
--- a store in which there is a book, or which was not read, gets none
-pub makes_none : {T : Type 0} {old new : State} {error : StoreError}
-    → Survives old new (λ trees. ⊥) → MakesNew {T = T} (Err error) old new
-makes_none survives = record {
-  survives = survives_so survives (λ clean trees none. absurd none);
-  absent = λ clean. tt;
-  made = λ clean rest none. tt;
-}
-
--- it was written after a look, and committed
+-- they are written after a look, and committed
 pub makes_all : {T U : Type 0} {first old middle last : State} {Known : Tables → Type 0} {made : U}
     (result : Result T StoreError) → Saw first old Known
     → (HasCleanDisk old → has_book first.view.trees ≡ false) → Makes (Ok made) old middle
