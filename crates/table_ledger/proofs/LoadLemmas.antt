@@ -1,11 +1,10 @@
 -- The summary that is read is that of the tables, and so of their book.
-use Rattle.std.proofs.Common.{◌≡◌, ◌∙◌, ℕ, ℤ, zero, suc, List, [], ◌∷◌, ◌++◌, ap, arith, map, refl}
-use Rattle.std.proofs.Common.{subst, sym, None, Option, Some, slice_index_or, take, ◌<◌, inl, inr}
+use Rattle.std.proofs.Common.{◌≡◌, ◌∙◌, ℕ, ℤ, List, [], ◌∷◌, ap, arith, map, refl}
+use Rattle.std.proofs.Common.{subst, sym, None, Option, Some, inl, inr}
 use Rattle.std.proofs.Common.{Err, Ok, Result, false, length}
 use Rattle.std.specs.Prelude.{All, IfErr, IfOk, ◌==◌, if◌then◌else◌}
 use Rattle.std.specs.List.{AllZip, cons_option, filter_map}
 use Rattle.std.specs.Option.{option_map}
-use Rattle.std.proofs.lemmas.List.{get_or_default}
 use Rattle.std.proofs.lemmas.List.Elements.{All-cons}
 use Rattle.tree_tables.specs.States.{State, HasCleanDisk}
 use Rattle.book_model.specs.Words.{no_rulings}
@@ -34,29 +33,6 @@ use Rattle.table_ledger.proofs.OpenLemmas.{opened}
 use Rattle.table_ledger.proofs.LastChoice.{last_counts}
 use Rattle.table_ledger.proofs.RowsTaken.{AreRowsIn, rows_of}
 use Rattle.table_ledger.proofs.UnchangedStores.{holds_on, rest_on}
-
--- one row more is read
-pub zip_next : {A B : Type 0} (Says : A → B → Type 0) (rows : List A) (at : ℕ) (values : List B)
-    (row : A) (value : B) → AllZip Says (take at rows) values → at < length rows
-    → row ≡ slice_index_or rows at row → Says row value
-    → AllZip Says (take (suc at) rows) (values ++ value ∷ [])
-zip_next Says [] at values row value so_far below is said = absurd (omega (arith, below))
-zip_next Says (first ∷ rows) zero [] row value so_far below is said =
-    (subst (λ it. Says it value) is said, tt)
-zip_next Says (first ∷ rows) zero (other ∷ values) row value so_far below is said = absurd so_far
-zip_next Says (first ∷ rows) (suc at) [] row value so_far below is said = absurd so_far
-zip_next Says (first ∷ rows) (suc at) (other ∷ values) row value so_far below is said =
-    let rest : at < length rows = omega (arith, below) in
-    (so_far.0, zip_next Says rows at values row value so_far.1 rest is said)
-
--- one more row gives a value
-pub zip_at : {A B : Type 0} (Says : A → B → Type 0) (rows : List A) (at : ℕ) (values : List B)
-    (row : A) (value : B) → AllZip Says (take at rows) values → at < length rows
-    → Says (slice_index_or rows at row) value
-    → AllZip Says (take (suc at) rows) (values ++ value ∷ [])
-zip_at Says rows at values row value so_far below says =
-    zip_next Says rows at values (slice_index_or rows at row) value so_far below
-    (get_or_default rows at row (slice_index_or rows at row) below) says
 
 -- tariffs that rows give are those that are read from them
 pub tariffs_said : (rows : List StoredTariff) (tariffs : List AcceptedTerms)

@@ -11,6 +11,7 @@ use Rattle.std.specs.Ordering.{int_cmp}
 use Rattle.std.proofs.lemmas.List.{get_or_default}
 use Rattle.std.proofs.lemmas.List.Elements.{All-head, All-tail}
 use Rattle.std.proofs.lemmas.Option.{same_Some}
+use Rattle.std.proofs.lemmas.Slice.Zip.{AllZip-long}
 use Rattle.book_model.specs.Words.{IsDay, AcceptedTerms, are_rising, Book, Naming, members}
 use Rattle.book_model.specs.Words.{total_of, most_choices, most_cost, most_held, first_rule}
 use Rattle.book_model.specs.Words.{second_rule}
@@ -157,18 +158,11 @@ closes_count number (row ∷ rows) (day ∷ closes) same =
     let others : map close_entry rows ≡ close_entries (suc number) closes = (let e = same in cc) in
     ap suc (closes_count (suc number) rows closes others)
 
-days_count : (rows : List Close) (days : List ℤ) → AllZip IsCloseDay rows days
-    → length rows ≡ length days
-days_count [] [] had = refl
-days_count [] (day ∷ days) had = absurd had
-days_count (row ∷ rows) [] had = absurd had
-days_count (row ∷ rows) (day ∷ days) had = ap suc (days_count rows days had.1)
-
 -- so the days that are read are as many as the closes of the rulings
 pub as_many : (rows : List Close) (days closes : List ℤ) → AllZip IsCloseDay rows days
     → AreCloses rows closes → length days ≡ length closes
 as_many rows days closes had are =
-    sym (days_count rows days had) ∙ closes_count 1 rows closes are.numbered
+    AllZip-long IsCloseDay rows days had ∙ closes_count 1 rows closes are.numbered
 
 -- rows that hold tariffs with texts give them
 texts_tell : (rows : List StoredTariff) (tariffs : List AcceptedTerms) → All IsTexted tariffs

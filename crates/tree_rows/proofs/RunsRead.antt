@@ -1,10 +1,10 @@
 -- What was read of a run so far, and what it says at the end.
 use Rattle.std.proofs.Common.{◌≡◌, ℕ, ◌<◌, ◌≤◌, List, [], ◌∷◌, ◌++◌, length, take, Some}
-use Rattle.std.proofs.Common.{true, false, cond, take_while}
+use Rattle.std.proofs.Common.{true, false, cond, take_while, slice_index_or, ◌+◌}
 use Rattle.std.proofs.Common.{refl, sym, ap, subst, ◌∙◌, arith, append_assoc}
 use Rattle.std.specs.List.{AllByRecursion, AllZip}
 use Rattle.std.proofs.Math.Seq.{take-append_seam}
-use Rattle.std.proofs.lemmas.List.{append-nil, length-take, take_all}
+use Rattle.std.proofs.lemmas.List.{append-nil, length-take, take_all, take_more}
 use Rattle.std.proofs.lemmas.List.Sums.{take_while-cons}
 use Rattle.std.proofs.lemmas.Option.{same_Some}
 use Rattle.std.proofs.lemmas.Slice.Zip.{all_zipped_more, AllZip-long}
@@ -14,6 +14,17 @@ use Rattle.sqlite_value.specs.Keys.{plain}
 use Rattle.sqlite_value.specs.Order.{Row}
 use Rattle.tree_rows.specs.Runs.{has_part, run_of}
 use Rattle.tree_rows.specs.declared.listing.TheConstants.{LIST}
+
+-- one more value of a list is read
+pub zipped_next : {A B : Type 0} (Says : A → B → Type 0) (rows : List A) (at : ℕ) (default : A)
+    (values more : List B) (value : B) → at < length rows → more ≡ values ++ value ∷ []
+    → AllZip Says (take at rows) values → Says (slice_index_or rows at default) value
+    → AllZip Says (take (at + 1) rows) more
+zipped_next Says rows at default values more value within more_is so_far says =
+    let next = slice_index_or rows at default in
+    subst (λ front. AllZip Says front more) (sym (take_more rows at default within))
+    (subst (AllZip Says (take at rows ++ next ∷ [])) (sym more_is)
+    (all_zipped_more Says (take at rows) values next value so_far says))
 
 -- where the values are fewer than were asked for, they are those of all rows
 pub all_read : {A : Type 0} (says : Row → A → Type 0) (rows : List Row) (all : List A) (most : ℕ)

@@ -6,10 +6,9 @@ use Rattle.std.specs.Cmp.{nat_cmp_total}
 use Rattle.std.specs.FinMap.{entries, get, nat_cmp-IsAntisymmetric}
 use Rattle.std.specs.List.{AllByRecursion, AllZip}
 use Rattle.std.specs.Option.{option_map}
-use Rattle.std.proofs.lemmas.List.{length-map, take_more}
+use Rattle.std.proofs.lemmas.List.{length-map}
 use Rattle.std.proofs.lemmas.List.Elements.{All-filter, All-from_recursion, recursion_from_All}
 use Rattle.std.proofs.lemmas.List.Sums.{count_by-le-length, length-filter}
-use Rattle.std.proofs.lemmas.Slice.Zip.{all_zipped_more}
 use Rattle.sqlite_trees.proofs.ListLemmas.{all-get_or, map-map}
 use Rattle.sqlite_value.specs.Order.{Row, column}
 use Rattle.sqlite_value.specs.declared.value.Value.TheVariants.{Blob, Int}
@@ -17,6 +16,7 @@ use Rattle.book_model.proofs.SetLemmas.{same_bytes-by_cmp}
 use Rattle.table_model.specs.Tables.{ChoiceRow, ChoiceTable, Tables}
 use Rattle.tree_rows.specs.Indexes.{indexed_by}
 use Rattle.tree_rows.specs.Runs.{RowsFit, run_of}
+use Rattle.tree_rows.proofs.RunsRead.{zipped_next}
 use Rattle.tree_rows.proofs.Taking.{some_is}
 use Rattle.tree_tables.specs.Answers.{FindsChoice, FindsNumbered, ListsChosen, names_it}
 use Rattle.tree_tables.specs.Columns.{choice_name_columns}
@@ -44,13 +44,8 @@ pub numbered_more : (numbers : List ChosenNumber) (i : ℕ) (default : ChosenNum
     → FindsChoice (get_or numbers i default).number tables (Some one)
     → FindsNumbered (take (i + 1) numbers) tables more
 numbered_more numbers i default tables all more one within more_is so_far found =
-    let next = get_or numbers i default in
-    let both : FindsNumbered (take i numbers ++ next ∷ []) tables (all ++ one ∷ []) =
-    all_zipped_more
-    (λ (its : ChosenNumber) stored. FindsChoice its.number tables (Some stored))
-    (take i numbers) all next one so_far found in
-    subst (λ front. FindsNumbered front tables more) (sym (take_more numbers i default within))
-    (subst (FindsNumbered (take i numbers ++ next ∷ []) tables) (sym more_is) both)
+    zipped_next (λ (its : ChosenNumber) stored. FindsChoice its.number tables (Some stored)) numbers
+    i default all more one within more_is so_far found
 
 -- where each of some numbers is that of a choice, one of them is
 pub one_numbered : (tables : Tables) (numbers : List ChosenNumber) (i : ℕ) (default : ChosenNumber)

@@ -6,9 +6,7 @@ use Rattle.std.specs.Cmp.Lexicographic.{nat_list_cmp_total}
 use Rattle.std.specs.FinMap.{entries, get}
 use Rattle.std.specs.List.{All, AllByRecursion, AllZip, flat_map}
 use Rattle.std.specs.Option.{option_map, option_to_list}
-use Rattle.std.proofs.lemmas.List.{take_more}
 use Rattle.std.proofs.lemmas.List.Elements.{All-filter, All-from_recursion, recursion_from_All}
-use Rattle.std.proofs.lemmas.Slice.Zip.{all_zipped_more}
 use Rattle.sqlite_trees.proofs.ListLemmas.{all-get_or}
 use Rattle.sqlite_value.specs.Order.{Row, column}
 use Rattle.sqlite_value.specs.declared.value.Value.TheVariants.{Blob}
@@ -16,6 +14,7 @@ use Rattle.table_model.specs.Tables.{RecordRow, RecordTable, Tables}
 use Rattle.tree_rows.specs.Indexes.{IsKeyOf}
 use Rattle.tree_rows.proofs.IndexOrders.{by_bytes_exact}
 use Rattle.tree_rows.proofs.Maps.{not_none}
+use Rattle.tree_rows.proofs.RunsRead.{zipped_next}
 use Rattle.tree_tables.specs.Answers.{FindsNamed, FindsRecord}
 use Rattle.tree_tables.specs.Fits.{AllNamed, EachFits, IsNamed}
 use Rattle.tree_tables.specs.Stored.{stored_entry}
@@ -43,11 +42,8 @@ pub named_more : (names : List FoundName) (i : ℕ) (default : FoundName) (table
     → FindsRecord (get_or names i default).name tables (Some one)
     → FindsNamed (take (i + 1) names) tables more
 named_more names i default tables all more one within more_is so_far found =
-    let both : FindsNamed (take i names ++ get_or names i default ∷ []) tables (all ++ one ∷ []) =
-    all_zipped_more (λ (named : FoundName) stored. FindsRecord named.name tables (Some stored))
-    (take i names) all (get_or names i default) one so_far found in
-    subst (λ front. FindsNamed front tables more) (sym (take_more names i default within))
-    (subst (FindsNamed (take i names ++ get_or names i default ∷ []) tables) (sym more_is) both)
+    zipped_next (λ (named : FoundName) stored. FindsRecord named.name tables (Some stored)) names i
+    default all more one within more_is so_far found
 
 -- where each of some names is that of a record, one of them is
 pub one_named : (tables : Tables) (names : List FoundName) (i : ℕ) (default : FoundName)

@@ -1,10 +1,9 @@
-use Rattle.std.proofs.Common.{◌≡◌, ◌∙◌, ◌+◌, ◌++◌, ◌∷◌, [], ap, arith, subst, suc, sym, take, w32}
+use Rattle.std.proofs.Common.{◌∙◌, ◌++◌, ◌∷◌, [], ap, subst, sym, w32}
 use Rattle.std.proofs.Common.{ℤ, List, rules, slice_index_or, pos}
-use Rattle.std.specs.List.{AllZip}
 use Rattle.std.proofs.lemmas.Int.{to_z-of_z}
 use Rattle.book_model.proofs.DayLemmas.{day_fits}
+use Rattle.tree_rows.proofs.RunsRead.{zipped_next}
 use Rattle.table_ledger.specs.Loaded.{AreCloses, IsCloseDay, IsNextClose}
-use Rattle.table_ledger.proofs.LoadLemmas.{zip_at}
 use Rattle.table_ledger.proofs.RowsTaken.{next_at}
 use Rattle.tree_tables.specs.declared.closed_rows.Close.{Close}
 use Rattle.table_ledger.proofs.load.days_of.Goals as goal
@@ -16,12 +15,10 @@ loop-row-preserved c =
     let day = c.in_ok-day.day in
     let had = c.in_ok-day.ensures.has in
     let so_far = c.loop-row.days.items in
-    let next : suc at ≡ at + 1 = omega arith in
     let itself = to_z-of_z w32 day (day_fits day had.1) in
     let pushed = c.in_ok-push.ensures.items ∙ ap (λ (one : ℤ). so_far ++ one ∷ []) itself in
-    subst (λ n. AllZip IsCloseDay (take n rows) c.push.new.self.items) next
-    (subst (AllZip IsCloseDay (take (suc at) rows)) (sym pushed)
-    (zip_at IsCloseDay rows at so_far _ day c.loop-row.invariant c.loop-row-test.true had))
+    zipped_next IsCloseDay rows at _ so_far c.push.new.self.items day c.loop-row-test.true pushed
+    c.loop-row.invariant had
 
 pub returns-in_err-day-clause-refused : goal.returns-in_err-day-clause-refused
 returns-in_err-day-clause-refused c =
