@@ -111,7 +111,8 @@ module _ {D : Type 0} {g : Ghosts D} (old end : Unopened D g) (first last : File
         subst₂ (λ (m n : ℕ). HasCause m n Limit' Held' fault)
         (faults_are old.pool ∙ ap (λ (p : D × D). faults_in g (named p)) given)
         (faults_are end.pool ∙ ap (λ (p : D × D). faults_in g (named p)) (sym back))
-        (cause_for _ _ Limit Limit' Held Held' wider so fault cause)
+        (cause_for (state_of old).faults (state_of end).faults (state_of old).faults
+        (state_of end).faults Limit Limit' Held Held' (λ more. more) wider so fault cause)
 
 -- a store was honest, if the files that it is closed to are
 pub store_honest : {D : Type 0} {g : Ghosts D} (store : FileStore D g) (last : Files D)

@@ -9,8 +9,6 @@ pub mod ListingLemmas
 pub mod FormLemmas
 pub mod Refused
 pub mod FileParts
-pub mod LookCauses
-pub mod FirstCauses
 pub mod ToldCauses
 pub mod FirstTrees
 pub mod BlankFiles

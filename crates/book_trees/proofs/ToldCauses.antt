@@ -1,5 +1,5 @@
 -- What is told of files that were refused has the cause of the fault that was met.
-use Rattle.std.proofs.Common.{◌≢◌, ℕ, inl, inr, sym, subst, subst₂}
+use Rattle.std.proofs.Common.{◌≡◌, ◌≢◌, ◌∙◌, ℕ, inl, inr, refl, sym, subst, subst₂}
 use Rattle.sqlite_disk.specs.declared.Disk.{Ghosts}
 use Rattle.sqlite_disk.specs.declared.files.Files.{Files}
 use Rattle.book_trees.specs.FirstForm.{HasFirstCause, IsToldFirst, IsToldThis}
@@ -86,3 +86,9 @@ module _ {D : Type 0} (g : Ghosts D) (old : ℕ) (AtLimit : Files D → Type 0) 
       first_told_cause first.Pages told is (cause (λ same. absurd (cc)))
   told_not_this (first.Open fault) told is cause other =
       first_told_cause (first.Open fault) told is (cause (λ same. absurd (cc)))
+
+-- pages that are told of files were met
+pub told_pages : {D : Type 0} (fault : LookFault) (files : Files D) (told : LookFault)
+    (last : Files D) → IsToldLook fault files told last → told ≡ Pages → fault ≡ Pages
+told_pages Pages files told last tells is = refl
+told_pages (Open fault) files told last tells is = absurd (let other = sym tells.1 ∙ is in cc)

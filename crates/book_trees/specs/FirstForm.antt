@@ -21,7 +21,7 @@ use Rattle.book_trees.specs.Refusals.{fault_for, faults_in, HasCause, IsUnopened
 use Rattle.book_trees.specs.Schema.{first_schema}
 use Rattle.book_trees.specs.StoreView.{IsOpenAs}
 use Rattle.book_trees.specs.declared.faults.OpenFault.{OpenFault}
-use Rattle.book_trees.specs.declared.faults.OpenFault.TheVariants.{NewForm}
+use Rattle.book_trees.specs.declared.faults.OpenFault.TheVariants.{NewForm, NotBooks}
 use Rattle.book_trees.specs.declared.first_form.FirstFault.{FirstFault}
 use Rattle.book_trees.specs.declared.first_form.FirstFault.TheVariants.{Already, Open, Pages}
 
@@ -40,12 +40,17 @@ first_fault_for store.OutOfMemory = Open (fault_for store.OutOfMemory)
 first_fault_for store.Io = Open (fault_for store.Io)
 first_fault_for store.Full = Open (fault_for store.Full)
 
+-- the fault of an opening that comes for the same causes: files that are of this form already, and
+-- those whose pages are wrong, hold no books of the first
+abbrev pub first_opening : FirstFault → OpenFault
+first_opening Already = NotBooks
+first_opening Pages = NotBooks
+first_opening (Open fault) = fault
+
 -- A fault has its cause: files of the first form are not of this one already, and their pages are not
 -- wrong; any other fault is that of an opening.
 abbrev pub HasFirstCause : ℕ → ℕ → Type 0 → Type 0 → FirstFault → Type 0
-HasFirstCause old new AtLimit Held Already = ¬ Held
-HasFirstCause old new AtLimit Held Pages = ¬ Held
-HasFirstCause old new AtLimit Held (Open fault) = HasCause old new AtLimit Held fault
+HasFirstCause old new AtLimit Held fault = HasCause old new AtLimit Held (first_opening fault)
 
 -- what is told of files that list the tables of this form: they are of it, or of a newer one
 abbrev pub IsToldThis : FirstFault → Type 0

@@ -8,6 +8,7 @@ use Rattle.sqlite_wal.specs.Reads.{AreClean}
 use Rattle.book_trees.specs.Forms.{IsToldOf}
 use Rattle.book_trees.specs.Refusals.{fault_for, faults_in, HasCause, IsUnopened}
 use Rattle.book_trees.specs.declared.faults.OpenFault.{OpenFault}
+use Rattle.book_trees.specs.declared.faults.OpenFault.TheVariants.{NotBooks}
 use Rattle.book_trees.specs.declared.integrity.LookFault.{LookFault}
 use Rattle.book_trees.specs.declared.integrity.LookFault.TheVariants.{Pages, Open}
 
@@ -19,11 +20,15 @@ look_fault_for store.OutOfMemory = Open (fault_for store.OutOfMemory)
 look_fault_for store.Io = Open (fault_for store.Io)
 look_fault_for store.Full = Open (fault_for store.Full)
 
+-- the fault of an opening that comes for the same causes: pages are wrong where there are no books
+abbrev pub look_opening : LookFault → OpenFault
+look_opening Pages = NotBooks
+look_opening (Open fault) = fault
+
 -- A fault has its cause: pages are wrong only in files that do not hold what they have to; any other
 -- fault is that of an opening.
 abbrev pub HasLookCause : ℕ → ℕ → Type 0 → Type 0 → LookFault → Type 0
-HasLookCause old new AtLimit Held Pages = ¬ Held
-HasLookCause old new AtLimit Held (Open fault) = HasCause old new AtLimit Held fault
+HasLookCause old new AtLimit Held fault = HasCause old new AtLimit Held (look_opening fault)
 
 -- what is told of files that were not looked through
 abbrev pub IsToldLook : {D : Type 0} → LookFault → Files D → LookFault → Files D → Type 0

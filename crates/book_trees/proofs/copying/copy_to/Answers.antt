@@ -5,9 +5,10 @@ use Rattle.sqlite_std_file.specs.contracts.host.HostCalls.TheImpl as host
 use Rattle.sqlite_store.specs.FileStore.{view}
 use Rattle.sqlite_wal.specs.Recovery.{Image}
 use Rattle.book_trees.proofs.CopyLemmas.{copied_image}
-use Rattle.book_trees.proofs.LookCauses.{look_cause_for}
+use Rattle.book_trees.proofs.Refused.{cause_for}
 use Rattle.book_trees.specs.Forms.{HoldsThisForm}
 use Rattle.book_trees.specs.LedgerFiles.{image_of, HoldsBooks, trees_held}
+use Rattle.book_trees.specs.Looks.{look_opening}
 use Rattle.book_trees.specs.Refusals.{faults_in, AreFull}
 use Rattle.book_trees.proofs.copying.copy_to.Goals as goal
 
@@ -29,8 +30,9 @@ returns-in-Err-look_through-clause-cause g c = λ honest clean.
     let files = c.in-Err-look_through.files in
     let same = copied_image first last copy c.copy_files.ensures.read
     c.in-Ok-copy_files.ensures.copied honest in
-    look_cause_for (faults_in disk copy) (faults_in disk files) (faults_in g.D.Disk first)
-    (faults_in g.D.Disk last + faults_in disk files) (AreFull disk files)
+    cause_for (faults_in disk copy) (faults_in disk files) (faults_in g.D.Disk first)
+    (faults_in g.D.Disk last + faults_in disk files) (AreFull disk files) (AreFull disk files)
     (HoldsThisForm (image_of disk copy)) (HoldsThisForm (image_of g.D.Disk first))
-    (λ more. omega (arith, more, c.copy_files.ensures.counts)) (subst HoldsThisForm (sym same))
-    c.in-Err-look_through.fault (c.in-Err-look_through.ensures.cause clean)
+    (λ more. omega (arith, more, c.copy_files.ensures.counts)) (λ full. full)
+    (subst HoldsThisForm (sym same)) (look_opening c.in-Err-look_through.fault)
+    (c.in-Err-look_through.ensures.cause clean)

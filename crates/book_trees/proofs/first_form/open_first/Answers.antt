@@ -2,12 +2,12 @@ use Rattle.std.proofs.Common.{◌≡◌, true, refl, sym, ap, ◌∙◌, subst}
 use Rattle.sqlite_store.specs.FileStore.{state}
 use Rattle.sqlite_store.specs.Unopened.{state_of, image, HasFileAs, IsFullFile}
 use Rattle.sqlite_trees.proofs.Doubt.{clean_of}
-use Rattle.book_trees.proofs.FirstCauses.{first_cause_of, first_since}
 use Rattle.book_trees.proofs.Opened.{held_first_listed, held_first_only, held_listed, held_ours}
 use Rattle.book_trees.proofs.Opened.{opens_twice, shows_held, unlisted_none}
-use Rattle.book_trees.proofs.Refused.{unlisted_refused}
+use Rattle.book_trees.proofs.Refused.{cause_since, first_cause_of, unlisted_refused}
 use Rattle.book_trees.proofs.Trees.{has_first_trees}
-use Rattle.book_trees.specs.FirstForm.{first_fault_for, HasFirstCause, HoldsFirstForm}
+use Rattle.book_trees.specs.FirstForm.{first_fault_for, first_opening, HasFirstCause}
+use Rattle.book_trees.specs.FirstForm.{HoldsFirstForm}
 use Rattle.book_trees.specs.LedgerFiles.{HoldsBooks}
 use Rattle.book_trees.specs.Listing.{lists_books, lists_first_books}
 use Rattle.book_trees.specs.declared.first_form.FirstFault.{FirstFault}
@@ -112,9 +112,9 @@ returns-clause-cause g c clean =
     schema) c.in-Err-open_numbered.error (c.in-Err-open_numbered.ensures.cause clean) in
     subst (λ (fault : FirstFault). HasFirstCause (state_of old).faults (state_of end).faults
     (IsFullFile end) (HoldsFirstForm (image old)) fault) (sym c.first_fault.ensures)
-    (first_since (state_of old).faults (state_of mid).faults (state_of end).faults
+    (cause_since (state_of old).faults (state_of mid).faults (state_of end).faults
     (IsFullFile end) (HoldsFirstForm (image old)) (c.read_catalog.ensures.kept then).counts
-    (first_fault_for c.in-Err-open_numbered.error) why)
+    (first_opening (first_fault_for c.in-Err-open_numbered.error)) why)
 
 pub returns-clause-this : goal.returns-clause-this
 returns-clause-this g c other clean =
@@ -130,6 +130,6 @@ returns-clause-this g c other clean =
     c.in-Err-open_numbered.error (c.in-Err-open_numbered.ensures.cause clean) in
     subst (λ (fault : FirstFault). HasFirstCause (state_of old).faults (state_of end).faults
     (IsFullFile end) (HoldsBooks (image old)) fault) (sym c.first_fault.ensures)
-    (first_since (state_of old).faults (state_of mid).faults (state_of end).faults
+    (cause_since (state_of old).faults (state_of mid).faults (state_of end).faults
     (IsFullFile end) (HoldsBooks (image old)) (c.read_catalog.ensures.kept then).counts
-    (first_fault_for c.in-Err-open_numbered.error) why)
+    (first_opening (first_fault_for c.in-Err-open_numbered.error)) why)

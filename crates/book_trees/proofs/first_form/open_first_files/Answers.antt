@@ -1,11 +1,11 @@
 use Rattle.std.proofs.Common.{inr, refl, sym, subst}
 use Rattle.sqlite_store.specs.Unopened.{image, IsFullFile}
-use Rattle.book_trees.proofs.FileParts.{end_honest, files_kept, first_image, honest_given}
-use Rattle.book_trees.proofs.FileParts.{kept_still, shows_given, store_honest, store_kept}
-use Rattle.book_trees.proofs.FirstCauses.{first_file_cause}
+use Rattle.book_trees.proofs.FileParts.{end_honest, file_cause, files_kept, first_image}
+use Rattle.book_trees.proofs.FileParts.{honest_given, kept_still, shows_given, store_honest}
+use Rattle.book_trees.proofs.FileParts.{store_kept}
 use Rattle.book_trees.proofs.FormNumbers.{newer_refused}
 use Rattle.book_trees.proofs.ToldCauses.{first_told_cause, told_not_this}
-use Rattle.book_trees.specs.FirstForm.{HoldsFirstForm}
+use Rattle.book_trees.specs.FirstForm.{first_opening, HoldsFirstForm}
 use Rattle.book_trees.specs.LedgerFiles.{image_of, HoldsBooks}
 use Rattle.book_trees.specs.Refusals.{faults_in, AreFull}
 use Rattle.book_trees.proofs.first_form.open_first_files.Goals as goal
@@ -57,10 +57,10 @@ returns-in-Err-open_first-clause-cause g c clean =
     first_told_cause g.D.Disk (faults_in g.D.Disk c.args.files) (AreFull g.D.Disk)
     (HoldsFirstForm (image_of g.D.Disk c.args.files)) c.close.result c.told_first.result.1
     c.in-Err-open_first.fault c.told_first.result.0 c.told_first.ensures.told
-    (first_file_cause old end c.args.files c.close.result given back (IsFullFile end)
+    (file_cause old end c.args.files c.close.result given back (IsFullFile end)
     (AreFull g.D.Disk c.close.result) (HoldsFirstForm (image old))
     (HoldsFirstForm (image_of g.D.Disk c.args.files)) (λ full. ∣ (end, back, full) ∣₁)
-    (subst HoldsFirstForm (sym same)) c.in-Err-open_first.fault
+    (subst HoldsFirstForm (sym same)) (first_opening c.in-Err-open_first.fault)
     (c.in-Err-open_first.ensures.cause
     (end_honest old end c.args.files c.close.result given back
     (c.told_first.ensures.clean clean))))
@@ -75,10 +75,10 @@ returns-in-Err-open_first-clause-this g c other clean =
     told_not_this g.D.Disk (faults_in g.D.Disk c.args.files) (AreFull g.D.Disk)
     (HoldsBooks (image_of g.D.Disk c.args.files)) c.close.result c.told_first.result.1
     c.in-Err-open_first.fault c.told_first.result.0 c.told_first.ensures.told
-    (λ apart. first_file_cause old end c.args.files c.close.result given back (IsFullFile end)
+    (λ apart. file_cause old end c.args.files c.close.result given back (IsFullFile end)
     (AreFull g.D.Disk c.close.result) (HoldsBooks (image old))
     (HoldsBooks (image_of g.D.Disk c.args.files)) (λ full. ∣ (end, back, full) ∣₁)
-    (subst HoldsBooks (sym same)) c.in-Err-open_first.fault
+    (subst HoldsBooks (sym same)) (first_opening c.in-Err-open_first.fault)
     (c.in-Err-open_first.ensures.this apart
     (end_honest old end c.args.files c.close.result given back
     (c.told_first.ensures.clean clean)))) other

@@ -1,14 +1,14 @@
 use Rattle.std.proofs.Common.{sym, subst}
 use Rattle.sqlite_store.specs.Unopened.{image, state_of, IsFullFile}
 use Rattle.sqlite_wal.specs.Recovery.{Image}
-use Rattle.book_trees.proofs.FileParts.{end_honest, files_kept, first_image, honest_given}
-use Rattle.book_trees.proofs.FileParts.{kept_still, shows_given, store_honest, store_kept}
+use Rattle.book_trees.proofs.FileParts.{end_honest, file_cause, files_kept, first_image}
+use Rattle.book_trees.proofs.FileParts.{honest_given, kept_still, shows_given, store_honest}
+use Rattle.book_trees.proofs.FileParts.{store_kept}
 use Rattle.book_trees.proofs.FormNumbers.{newer_refused}
-use Rattle.book_trees.proofs.LookCauses.{look_file_cause, told_pages}
-use Rattle.book_trees.proofs.ToldCauses.{look_told_cause}
+use Rattle.book_trees.proofs.ToldCauses.{look_told_cause, told_pages}
 use Rattle.book_trees.specs.Forms.{HoldsThisForm}
 use Rattle.book_trees.specs.LedgerFiles.{image_of, HoldsBooks}
-use Rattle.book_trees.specs.Looks.{HasLookCause}
+use Rattle.book_trees.specs.Looks.{look_opening, HasLookCause}
 use Rattle.book_trees.specs.Refusals.{faults_in, AreFull}
 use Rattle.book_trees.specs.StoreView.{ListsBooks}
 use Rattle.book_trees.specs.declared.integrity.LookFault.{LookFault}
@@ -58,10 +58,10 @@ returns-in-Err-look_through_all-clause-cause g c clean =
     look_told_cause g.D.Disk (faults_in g.D.Disk c.args.files) (AreFull g.D.Disk)
     (HoldsThisForm (image_of g.D.Disk c.args.files)) c.close.result c.told_look.result.1
     c.in-Err-look_through_all.fault c.told_look.result.0 c.told_look.ensures.told
-    (look_file_cause old end c.args.files c.close.result given back (IsFullFile end)
+    (file_cause old end c.args.files c.close.result given back (IsFullFile end)
     (AreFull g.D.Disk c.close.result) (HoldsBooks (image old))
     (HoldsThisForm (image_of g.D.Disk c.args.files)) (λ full. ∣ (end, back, full) ∣₁)
-    (λ this. subst HoldsBooks (sym same) this.held) c.in-Err-look_through_all.fault
+    (λ this. subst HoldsBooks (sym same) this.held) (look_opening c.in-Err-look_through_all.fault)
     (c.in-Err-look_through_all.ensures.cause
     (end_honest old end c.args.files c.close.result given back
     (c.told_look.ensures.clean clean))))

@@ -2,13 +2,12 @@ use Rattle.std.proofs.Common.{◌≡◌, sym, ap, ◌∙◌, subst, true}
 use Rattle.std.proofs.Math.Logic.{∥∥₁_map}
 use Rattle.sqlite_store.specs.FileStore.{state}
 use Rattle.sqlite_store.specs.Unopened.{state_of, image, HasFile, IsFullFile}
-use Rattle.book_trees.proofs.LookCauses.{look_cause_of, look_since}
 use Rattle.book_trees.proofs.Opened.{committed_listed, found_old, held_file, held_listed, is_open}
 use Rattle.book_trees.proofs.Opened.{opens_twice, rows_are, shows_held, sound_tables}
-use Rattle.book_trees.proofs.Refused.{unlisted_refused}
+use Rattle.book_trees.proofs.Refused.{cause_since, look_cause_of, unlisted_refused}
 use Rattle.book_trees.specs.LedgerFiles.{page_size, HoldsBooks}
 use Rattle.book_trees.specs.Listing.{lists_books}
-use Rattle.book_trees.specs.Looks.{HasLookCause}
+use Rattle.book_trees.specs.Looks.{look_fault_for, look_opening, HasLookCause}
 use Rattle.book_trees.specs.declared.integrity.LookFault.{LookFault}
 use Rattle.book_trees.proofs.integrity.look_through_all.Goals as goal
 
@@ -52,8 +51,9 @@ returns-clause-cause g c clean =
     (c.in-Err-open.ensures.cause clean) in
     subst (λ (fault : LookFault). HasLookCause (state_of old).faults (state_of end).faults
     (IsFullFile end) (HoldsBooks (image old)) fault) (sym c.look_fault.ensures)
-    (look_since (state_of old).faults (state_of mid).faults (state_of end).faults
-    (IsFullFile end) (HoldsBooks (image old)) (c.read_catalog.ensures.kept then).counts _ why)
+    (cause_since (state_of old).faults (state_of mid).faults (state_of end).faults
+    (IsFullFile end) (HoldsBooks (image old)) (c.read_catalog.ensures.kept then).counts
+    (look_opening (look_fault_for c.in-Err-open.error)) why)
 
 pub returns-in-Ok-open-clause-honest : goal.returns-in-Ok-open-clause-honest
 returns-in-Ok-open-clause-honest g c clean =
