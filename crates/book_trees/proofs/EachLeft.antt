@@ -7,7 +7,7 @@ use Rattle.sqlite_pool.specs.Stored.{Recovers}
 use Rattle.sqlite_pool.specs.StoredLaws.{recovers_once}
 use Rattle.sqlite_store.proofs.FileLemmas.{every_image, one_schema}
 use Rattle.sqlite_store.specs.Db.{IsFile}
-use Rattle.sqlite_store.specs.FileStore.{state, view, schema_of, schema_in, reading, recovers}
+use Rattle.sqlite_store.specs.FileStore.{state, schema_of, schema_in, reading, recovers}
 use Rattle.sqlite_store.specs.Listing.{file_trees}
 use Rattle.sqlite_store.specs.declared.catalog.Wanted.{Wanted}
 use Rattle.sqlite_store.specs.declared.store.FileStore.{FileStore}
@@ -15,8 +15,6 @@ use Rattle.sqlite_trees.specs.Tree.{Trees}
 use Rattle.sqlite_wal.specs.Recovery.{Image}
 use Rattle.book_trees.proofs.FileParts.{clean_if_left}
 use Rattle.book_trees.specs.LedgerFiles.{page_size, HoldsTables, trees_held}
-use Rattle.book_trees.specs.Schema.{books_schema}
-use Rattle.book_trees.specs.StoreView.{ShowsBooks}
 
 module _ {wanted : List Wanted} {D : Type 0} {g : Ghosts D} (it : FileStore D g)
     (schema : schema_of it ≡ wanted)
@@ -75,22 +73,4 @@ module _ {wanted : List Wanted} {D : Type 0} {g : Ghosts D} (it : FileStore D g)
         held_at image all.0 here all.1 file,
         outcome.2,
         sym (reads all.0 here) ∙ ap (reading it) same ∙ sym outcome.4,
-      )
-
-module _ {D : Type 0} {g : Ghosts D} (it : FileStore D g) (schema : schema_of it ≡ books_schema)
-    (size : IsTrue (state it).is_clean → (state it).page_size ≡ page_size)
-    (unaltered : it.saved ≡ None) where
-  -- what an open shows of files that it may have left is an outcome
-  pub shown_outcome : (image : Image) → (state it).may_leave image
-      → {E : Type 0} {h : Ghosts E} (next : FileStore E h) → ShowsBooks image next
-      → recovers it (view next).trees
-  shown_outcome image may next shows =
-      let here = sized it schema size unaltered image may in
-      let pages = shows.lists.pages in
-      let found = subst (λ s. Recovers s image pages) (sym here) shows.lists.found in (
-        image,
-        pages,
-        may,
-        ∣ found ∣₁,
-        shows.trees ∙ sym (reads it schema size unaltered pages here),
       )

@@ -1,17 +1,14 @@
 -- The trees of books, from the schema of a store, and through what calls do to them.
-use Rattle.std.proofs.Common.{◌≡◌, ◌<◌, ℕ, zero, suc, Bool, true, false, IsTrue, List, length, None}
-use Rattle.std.proofs.Common.{true≢false, refl, sym, ap, ◌∙◌, arith}
+use Rattle.std.proofs.Common.{◌≡◌, ◌<◌, ℕ, zero, suc, IsTrue, List, length, None}
+use Rattle.std.proofs.Common.{refl, ap, ◌∙◌, arith}
 use Rattle.sqlite_disk.specs.declared.Disk.{Ghosts}
 use Rattle.sqlite_store.specs.Catalog.{shape_at}
 use Rattle.sqlite_store.specs.FileStore.{view, schema_of}
-use Rattle.sqlite_store.specs.Laws.{shut_is_broken, unaltered_at}
 use Rattle.sqlite_store.specs.Listing.{all_shapes, all_trees, listed_from}
 use Rattle.sqlite_store.specs.Saved.{kept_schema}
 use Rattle.sqlite_store.specs.declared.catalog.Wanted.{Wanted}
 use Rattle.sqlite_store.specs.declared.store.FileStore.{FileStore}
 use Rattle.sqlite_trees.specs.Objects.{catalog_tree}
-use Rattle.sqlite_trees.specs.Tree.{Trees}
-use Rattle.sqlite_trees.specs.View.{IsReopened, View}
 use Rattle.sqlite_trees.specs.declared.store.Shape.TheVariants.{Absent, Index}
 use Rattle.sqlite_value.specs.Keys.{plain}
 use Rattle.book_trees.specs.FirstForm.{HasFirstTrees}
@@ -118,37 +115,3 @@ has_first_trees store schema unaltered numbered clean =
       none = ap (λ s. all_shapes s 10) schema ∙ first_only;
       settled = ap all_shapes kept;
     }
-
--- views with the same shapes have the same trees of books
-pub same_trees : (old new : View) → HasShapes old → new.shape ≡ old.shape
-    → new.committed_shape ≡ new.shape → HasShapes new
-same_trees old new trees shape committed = record {
-  book = ap (λ f. f 0) shape ∙ trees.book;
-  tariffs = ap (λ f. f 1) shape ∙ trees.tariffs;
-  closes = ap (λ f. f 2) shape ∙ trees.closes;
-  records = ap (λ f. f 3) shape ∙ trees.records;
-  days = ap (λ f. f 4) shape ∙ trees.days;
-  lines = ap (λ f. f 5) shape ∙ trees.lines;
-  identity_index = ap (λ f. f 6) shape ∙ trees.identity_index;
-  marks = ap (λ f. f 7) shape ∙ trees.marks;
-  choices = ap (λ f. f 8) shape ∙ trees.choices;
-  choice_name_index = ap (λ f. f 9) shape ∙ trees.choice_name_index;
-  details = ap (λ f. f 10) shape ∙ trees.details;
-  committed = committed;
-}
-
-module _ {D : Type 0} {g : Ghosts D} (old : View) (trees : HasShapes old) (next : FileStore D g)
-  where
-    -- and so are the trees, where the store is sound
-    pub trees_reopened : IsReopened old (view next) → (view next).is_broken ≡ false
-        → HasShapes (view next)
-    trees_reopened again sound =
-        let same = unaltered_at next sound (ap (λ (t : Trees). t catalog_tree) again.clean) in
-        same_trees old (view next) trees (again.shape (sym trees.committed)) (sym same.0)
-
--- a store that is sound is open
-pub sound_is_open : {D : Type 0} {g : Ghosts D} (store : FileStore D g) (flag : Bool)
-    → (view store).is_open ≡ flag → (view store).is_broken ≡ false → IsTrue (view store).is_open
-sound_is_open store true is sound = is
-sound_is_open store false is sound =
-    absurd (true≢false (sym (shut_is_broken store is) ∙ sound))

@@ -1,19 +1,20 @@
 //! The log of books is moved into their file, as is done before they are closed.
 
 ghost use Rattle.std.specs.Prelude.{◌≡◌, ◌≢◌, ◌≤◌, ◌<◌, ◌↔◌, ℕ, List, length};
-ghost use Rattle.std.specs.Prelude.{IfErr, IsOk, IsTrue, OnOk, map};
+ghost use Rattle.std.specs.Prelude.{IfErr, IfOk, IsOk, IsTrue, None, OnOk, map};
 ghost use Rattle.sqlite_disk.specs.Disk.{MoreFaults};
 ghost use Rattle.sqlite_store.specs.Catalog.{wanted_of};
 ghost use Rattle.sqlite_store.specs.FileStore.{faults, files as files_of, log_frames};
-ghost use Rattle.sqlite_store.specs.FileStore.{recovers, state, view};
+ghost use Rattle.sqlite_store.specs.FileStore.{recovers, schema_of, state, view};
 ghost use Rattle.sqlite_trees.specs.Tree.{Trees};
 ghost use Rattle.sqlite_trees.specs.View.{doubt, IsClean};
 ghost use Rattle.sqlite_wal.specs.Reads.{AreClean, IsClean as IsCleanFile};
 ghost use Rattle.sqlite_wal.specs.Recovery.{Image};
 ghost use Rattle.book_trees.specs.Closing.{HasSchema, HaveFailed, IsStuckFor, LeavesLog};
 ghost use Rattle.book_trees.specs.Closing.{MayBeFound};
-ghost use Rattle.book_trees.specs.LedgerFiles.{shortest_log, HoldsAlone, HoldsBooks};
+ghost use Rattle.book_trees.specs.LedgerFiles.{page_size, shortest_log, HoldsAlone, HoldsBooks};
 ghost use Rattle.book_trees.specs.LedgerFiles.{HoldsFirstBooks, HoldsTables, trees_held};
+ghost use Rattle.book_trees.specs.Schema.{books_schema};
 
 use crate::schema::{books_objects, first_objects};
 use crate::unopened::size_of_a_page;
@@ -22,6 +23,7 @@ use sqlite_store::FileStore;
 use sqlite_trees::error::StoreError;
 use sqlite_trees::schema::Object;
 use sqlite_trees::store::Store;
+use std::alloc::AllocError;
 
 /// Rolls back what was not committed, and moves what the log holds into the file. What was
 /// committed is in one of the two all the while: however this ends, and wherever a stop comes
@@ -132,6 +134,15 @@ fn is_seen<D: Disk>(store: &FileStore<D>, objects: &[Object<'_>]) -> bool
         Ok(is_over) => is_over,
         Err(_refused) => false,
     }
+}
+
+/// Whether the store is one of books: with the pages and the list of tables of books, neither of
+/// which was changed in its transaction.
+pub fn keeps_books<D: Disk>(store: &FileStore<D>) -> Result<bool, AllocError>
+    ensures { IfOk result (λ keeps. IsTrue keeps ↔ (((state store.now).page_size ≡ page_size)
+        × (schema_of store.now ≡ books_schema) × (store.now.saved ≡ None))) }
+{
+    store.is_over(size_of_a_page(), &books_objects())
 }
 
 /// Closes books to which nothing is to be written: what their log holds is left there. Whatever may

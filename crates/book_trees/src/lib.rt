@@ -13,14 +13,13 @@ mod ledger_files;
 mod new_books;
 mod opening;
 mod outcomes;
-mod reopening;
 mod schema;
 mod unopened;
 mod unused_logs;
 
 pub use closing::{
     Closed, LogLeft, checkpoint_log, close_books, close_first, close_unchanged, is_short,
-    needs_no_log,
+    keeps_books, needs_no_log,
 };
 pub use copying::{copy_files, copy_to, lock_at};
 pub use faults::OpenFault;
@@ -28,9 +27,8 @@ pub use first_form::{FirstFault, add_details, open_first_at, open_first_files};
 pub use forms::commit_form;
 pub use integrity::{LookFault, look_through, look_through_at};
 pub use ledger_files::LeftByLedger;
-pub use new_books::{create_at, create_files, open_new_books};
+pub use new_books::{create_at, create_files};
 pub use opening::{CACHE_PAGES, open_at, open_files, open_left};
 pub use outcomes::{finds_each, leaves_books};
-pub use reopening::{close_and_open, crash_and_open, keeps_books};
 pub use schema::books_objects;
 pub use unused_logs::is_unused;

@@ -1,6 +1,6 @@
 //! New books are made.
 
-ghost use Rattle.std.specs.Prelude.{◌≡◌, ◌⊎◌, None, IsTrue, IfOk, IfErr, IfSome, MatchOption};
+ghost use Rattle.std.specs.Prelude.{◌≡◌, ◌⊎◌, IsTrue, IfOk, IfErr, IfSome, MatchOption};
 ghost use Rattle.sqlite_store.specs.FileStore.{state, view, schema_of, IsReady};
 ghost use Rattle.sqlite_wal.specs.Files.{image_at};
 ghost use Rattle.sqlite_wal.specs.Reads.{AreClean};
@@ -14,8 +14,6 @@ ghost use Rattle.book_trees.specs.StoreView.{IsOpen};
 ghost use Rattle.tree_tables.specs.Holds.{HasShapes};
 
 use crate::faults::{OpenFault, fault_at, fault_of};
-use crate::ledger_files::LeftByLedger;
-use crate::reopening::close_and_open;
 use crate::unopened::unopened;
 use sqlite_disk::{Disk, Files, Start};
 use sqlite_pager::Options;
@@ -110,30 +108,5 @@ pub fn create_at<S: Start>(
     match create_files(rt.alloc(), files, Options::new(seed)) {
         Ok(store) => Ok(store),
         Err((fault, files)) => Err((fault, Some(files))),
-    }
-}
-
-/// Closes new books, and opens the files at the path, which hold what these may have left: no
-/// table has a row.
-pub fn open_new_books<D: Disk + Drop, S: LeftByLedger>(
-    rt: &HostRuntime,
-    path: &str,
-    seed: u64,
-    made: FileStore<D>,
-    start: S,
-) -> Result<FileStore<FileFrom<S>>, OpenFault>
-    requires schema { schema_of made ≡ books_schema }
-    requires size { IsTrue (state made).is_clean → (state made).page_size ≡ page_size }
-    requires unaltered { made.saved ≡ None }
-    requires open { IsTrue (view made).is_open }
-    requires empty { AreEmptyTables (view made).committed }
-    requires left { (state made).may_leave (image_at S.Start) }
-    ensures trees { IfOk result (λ store. HasShapes (view store)) }
-    ensures empty { IfOk result (λ store. IsTrue (state store).is_clean
-        → AreEmptyTables (view store).trees) }
-{
-    match close_and_open(rt, path, seed, made, start) {
-        Ok(store) => Ok(store),
-        Err(fault) => Err(fault),
     }
 }

@@ -1,6 +1,6 @@
 //! A log of which books take nothing.
 
-ghost use Rattle.std.specs.Prelude.{◌≡◌, ◌↔◌, ◌≤◌, IfErr, IfOk, IsTrue, ⊤};
+ghost use Rattle.std.specs.Prelude.{◌≡◌, ◌↔◌, IfErr, IfOk, IsTrue, ⊤};
 ghost use Rattle.sqlite_wal.specs.Reads.{IsClean};
 ghost use Rattle.sqlite_wal.specs.Recovery.{Image, Replays};
 ghost use Rattle.book_trees.specs.Copies.{IsOnlyRead};
