@@ -5,6 +5,7 @@ use Rattle.tree_tables.specs.Forms.{this_form}
 use Rattle.book_audit.specs.declared.audited.Audited.{Audited}
 use Rattle.book_audit.specs.declared.audited.Audited.TheVariants.{Sound, Unsound}
 use Rattle.book_audit.specs.declared.audited.Counts.{Counts}
+use Rattle.book_audit.specs.Findings.{unsound_text}
 
 -- a line with a word and a number
 abbrev pub count_line : List ℕ → ℕ → List ℕ
@@ -18,8 +19,7 @@ sound_text counts = codes "SOUND\n" ++ count_line (codes "FORM") this_form
     ++ count_line (codes "CHOICES") counts.choices ++ count_line (codes "ROWS") counts.rows
     ++ count_line (codes "LINES") counts.lines
 
--- Books that are sound have these lines; of others it is said that they are unsound. The words for
--- what is wrong have no definition.
+-- Books that are sound have these lines; of others one line says what is wrong with them, and where.
 abbrev pub IsAuditText : Audited → List ℕ → Type 0
 IsAuditText (Sound counts) text = text ≡ sound_text counts
-IsAuditText (Unsound finding) text = (rest : List ℕ) × (text ≡ codes "UNSOUND " ++ rest)
+IsAuditText (Unsound finding) text = text ≡ unsound_text finding

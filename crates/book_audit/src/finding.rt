@@ -4,6 +4,7 @@ ghost use Rattle.std.specs.Prelude.{◌≡◌};
 ghost use Rattle.sqlite_trees.specs.View.{View};
 ghost use Rattle.sqlite_value.specs.Keys.{plain};
 ghost use Rattle.tree_tables.specs.Holds.{HasShapes};
+ghost use Rattle.book_audit.specs.Findings.{tree_name};
 ghost use Rattle.book_audit.specs.Trees.{tree_number};
 ghost use Rattle.book_audit.specs.Walks.{key_width, width};
 
@@ -55,7 +56,10 @@ impl Tree {
     }
 
     /// Its name in the file.
-    pub fn name(self) -> &'static str {
+    #[tactic(auto, unfolding(crate::specs::Findings::tree_name))]
+    pub fn name(self) -> &'static str
+        ensures { result.now ≡ tree_name self }
+    {
         match self {
             Tree::Book => "book",
             Tree::Tariffs => "tariff",

@@ -1,6 +1,10 @@
 //! What is printed for an audit.
 
-ghost use Rattle.std.specs.Prelude.{◌≡◌, ℕ, List, ◌++◌, IfOk, OnOk, codes, string_bytes};
+ghost use Rattle.std.specs.Prelude.{◌≡◌, ◌++◌, IfOk, IsTrue, OnOk, string_bytes};
+ghost use Rattle.std.specs.Fmt.{decimal};
+ghost use Rattle.hex.specs.Hex.{encode_lower};
+ghost use Rattle.smf_text.specs.Day.{IsDay, is_day};
+ghost use Rattle.book_audit.specs.Findings as spec;
 ghost use Rattle.book_audit.specs.Texts.{IsAuditText, count_line, sound_text};
 
 use crate::audited::{Audited, Counts};
@@ -11,7 +15,10 @@ use std::alloc::{AllocError, Global};
 use tree_tables::{DayKey, THIS_FORM};
 
 /// What is wrong, in words.
-fn wrong_text(wrong: Wrong) -> &'static str {
+#[tactic(auto, unfolding(crate::specs::Findings::wrong_text))]
+fn wrong_text(wrong: Wrong) -> &'static str
+    ensures { result.now ≡ spec.wrong_text wrong }
+{
     match wrong {
         Wrong::Pages => "its pages are not those of sorted tables",
         Wrong::Unreadable => "a page or a row of it can't be read",
@@ -56,19 +63,30 @@ fn wrong_text(wrong: Wrong) -> &'static str {
     }
 }
 
-/// Adds a day, or its number if it is not a valid day.
-fn push_day(alloc: Global, out: &mut String, day: i32) -> Result<(), AllocError>
-    ensures { OnOk result ((more : List ℕ) × (string_bytes out.new ≡ string_bytes out.old ++ more)) }
+/// The number is one of a day that this product knows.
+fn is_day(day: i32) -> bool
+    ensures value { result ≡ is_day day }
+    ensures day { IsTrue result → IsDay day }
 {
-    if FIRST_DAY <= day && day <= LAST_DAY {
-        return out.push_str(day_text(alloc, day)?.as_str());
+    FIRST_DAY <= day && day <= LAST_DAY
+}
+
+/// Adds a day, or its number if it is not a valid day.
+#[tactic(auto, unfolding(crate::specs::Findings::day_shown))]
+fn push_day(alloc: Global, out: &mut String, day: i32) -> Result<(), AllocError>
+    ensures { OnOk result (string_bytes out.new ≡ string_bytes out.old ++ spec.day_shown day) }
+{
+    if !is_day(day) {
+        return write!(out, "{day}");
     }
-    write!(out, "{day}")
+    out.push_str(day_text(alloc, day)?.as_str())
 }
 
 /// Adds where records are charged.
+#[tactic(auto, unfolding(crate::specs::Findings::key_shown))]
 fn push_key(alloc: Global, out: &mut String, place: &RowKey) -> Result<(), AllocError>
-    ensures { OnOk result ((more : List ℕ) × (string_bytes out.new ≡ string_bytes out.old ++ more)) }
+    ensures { OnOk result (string_bytes out.new
+        ≡ string_bytes out.old ++ spec.key_shown place.now) }
 {
     push_day(alloc, out, place.day)?;
     out.push_str(" ")?;
@@ -77,54 +95,91 @@ fn push_key(alloc: Global, out: &mut String, place: &RowKey) -> Result<(), Alloc
     out.push_str(place.shift.text())
 }
 
-/// Adds where a charge row is.
-fn push_spot(alloc: Global, out: &mut String, spot: &DayKey) -> Result<(), AllocError>
-    ensures { OnOk result ((more : List ℕ) × (string_bytes out.new ≡ string_bytes out.old ++ more)) }
-{
-    let period = spot.period;
-    write!(out, "day_sum {period} ")?;
-    push_key(alloc, out, &spot.place)
-}
-
-/// Adds a time of day, given in hundredths of a second since midnight.
-fn push_time(out: &mut String, time: u32) -> Result<(), AllocError>
-    ensures { OnOk result ((more : List ℕ) × (string_bytes out.new ≡ string_bytes out.old ++ more)) }
-{
-    let (hours, minutes) = (time / 360_000, time / 6_000 % 60);
-    write!(out, "{hours:02}:{minutes:02}:")?;
-    let (seconds, hundredths) = (time / 100 % 60, time % 100);
-    write!(out, "{seconds:02}.{hundredths:02}")
-}
-
-/// Adds where records are charged, and the time of one.
-fn push_moment(alloc: Global, out: &mut String, spot: &DetailKey) -> Result<(), AllocError>
-    ensures { OnOk result ((more : List ℕ) × (string_bytes out.new ≡ string_bytes out.old ++ more)) }
-{
-    push_key(alloc, out, &spot.place)?;
-    out.push_str(" ")?;
-    push_time(out, spot.time)
-}
-
-/// Adds where a row of details is.
-fn push_detail(alloc: Global, out: &mut String, spot: &DetailKey) -> Result<(), AllocError>
-    ensures { OnOk result ((more : List ℕ) × (string_bytes out.new ≡ string_bytes out.old ++ more)) }
-{
-    out.push_str("detail ")?;
-    push_moment(alloc, out, spot)?;
-    out.push_str(" ")?;
-    push_name(alloc, out, &spot.name)
-}
-
 /// Adds the name of a record.
 fn push_name(alloc: Global, out: &mut String, name: &[u8; 32]) -> Result<(), AllocError>
-    ensures { OnOk result ((more : List ℕ) × (string_bytes out.new ≡ string_bytes out.old ++ more)) }
+    ensures { OnOk result (string_bytes out.new
+        ≡ string_bytes out.old ++ encode_lower name.now) }
 {
     out.push_str(hex::encode(alloc, *name)?.as_str())
 }
 
+/// Adds a word and the number after it.
+fn push_number(out: &mut String, word: &str, number: u32) -> Result<(), AllocError>
+    ensures { OnOk result (string_bytes out.new
+        ≡ string_bytes out.old ++ word.now ++ decimal number) }
+{
+    write!(out, "{word}{number}")
+}
+
+/// Adds where a charge row is.
+#[tactic(auto, unfolding(crate::specs::Findings::place_text))]
+fn push_spot(alloc: Global, out: &mut String, spot: &DayKey) -> Result<(), AllocError>
+    ensures { OnOk result (string_bytes out.new
+        ≡ string_bytes out.old ++ spec.place_text (Place.Day spot.now)) }
+{
+    push_number(out, "day_sum ", u32::from(spot.period))?;
+    out.push_str(" ")?;
+    push_key(alloc, out, &spot.place)
+}
+
+/// Adds where a line is.
+#[tactic(auto, unfolding(crate::specs::Findings::place_text))]
+fn push_line(
+    alloc: Global,
+    out: &mut String,
+    period: u16,
+    name: &[u8; 32],
+) -> Result<(), AllocError>
+    ensures { OnOk result (string_bytes out.new
+        ≡ string_bytes out.old ++ spec.place_text (Place.Line period name.now)) }
+{
+    push_number(out, "line ", u32::from(period))?;
+    out.push_str(" ")?;
+    push_name(alloc, out, name)
+}
+
+/// Adds a number in two digits.
+#[tactic(auto, using(crate::proofs::FindingLemmas::digits_written), unfolding(crate::specs::Findings::in_two_digits))]
+fn push_two_digits(out: &mut String, number: u32) -> Result<(), AllocError>
+    ensures { OnOk result (string_bytes out.new
+        ≡ string_bytes out.old ++ spec.in_two_digits number) }
+{
+    write!(out, "{number:02}")
+}
+
+/// Adds a time of day, given in hundredths of a second since midnight.
+#[tactic(auto, unfolding(crate::specs::Findings::time_shown))]
+fn push_time(out: &mut String, time: u32) -> Result<(), AllocError>
+    ensures { OnOk result (string_bytes out.new ≡ string_bytes out.old ++ spec.time_shown time) }
+{
+    push_two_digits(out, time / 360_000)?;
+    out.push(':')?;
+    push_two_digits(out, time / 6_000 % 60)?;
+    out.push(':')?;
+    push_two_digits(out, time / 100 % 60)?;
+    out.push('.')?;
+    push_two_digits(out, time % 100)
+}
+
+/// Adds where a row of details is.
+#[tactic(auto, unfolding(crate::specs::Findings::place_text))]
+fn push_detail(alloc: Global, out: &mut String, spot: &DetailKey) -> Result<(), AllocError>
+    ensures { OnOk result (string_bytes out.new
+        ≡ string_bytes out.old ++ spec.place_text (Place.Detail spot.now)) }
+{
+    out.push_str("detail ")?;
+    push_key(alloc, out, &spot.place)?;
+    out.push_str(" ")?;
+    push_time(out, spot.time)?;
+    out.push_str(" ")?;
+    push_name(alloc, out, &spot.name)
+}
+
 /// Adds a place.
+#[tactic(auto, unfolding(crate::specs::Findings::place_text))]
 fn push_place(alloc: Global, out: &mut String, place: &Place) -> Result<(), AllocError>
-    ensures { OnOk result ((more : List ℕ) × (string_bytes out.new ≡ string_bytes out.old ++ more)) }
+    ensures { OnOk result (string_bytes out.new
+        ≡ string_bytes out.old ++ spec.place_text place.now) }
 {
     match place {
         Place::File => out.push_str("file"),
@@ -133,25 +188,23 @@ fn push_place(alloc: Global, out: &mut String, place: &Place) -> Result<(), Allo
             out.push_str("tariff ")?;
             push_day(alloc, out, *day)
         }
-        Place::Close(period) => write!(out, "closed {period}"),
-        Place::Choice(number) => write!(out, "choice {number}"),
+        Place::Close(period) => push_number(out, "closed ", u32::from(*period)),
+        Place::Choice(number) => push_number(out, "choice ", *number),
         Place::Record(name) => {
             out.push_str("record ")?;
             push_name(alloc, out, name)
         }
         Place::Day(spot) => push_spot(alloc, out, spot),
-        Place::Line(period, name) => {
-            write!(out, "line {period} ")?;
-            push_name(alloc, out, name)
-        }
+        Place::Line(period, name) => push_line(alloc, out, *period, name),
         Place::Detail(spot) => push_detail(alloc, out, spot),
     }
 }
 
 /// Adds the line of what is wrong.
+#[tactic(auto, unfolding(crate::specs::Findings::unsound_text))]
 fn push_finding(alloc: Global, out: &mut String, finding: &Finding) -> Result<(), AllocError>
-    ensures { OnOk result ((rest : List ℕ)
-        × (string_bytes out.new ≡ string_bytes out.old ++ codes "UNSOUND " ++ rest)) }
+    ensures { OnOk result (string_bytes out.new
+        ≡ string_bytes out.old ++ spec.unsound_text finding.now) }
 {
     out.push_str("UNSOUND ")?;
     push_place(alloc, out, &finding.place)?;
