@@ -1,26 +1,36 @@
 -- Calls on one ledger, one after another: their work, and the events that they make.
-use Rattle.std.proofs.Common.{false, List, [], ◌∷◌, ◌++◌, Result, map, refl, sym, subst}
+use Rattle.std.proofs.Common.{false, ℕ, List, [], ◌∷◌, ◌++◌, Result, Ok, Err, map, refl, sym}
+use Rattle.std.proofs.Common.{subst}
+use Rattle.std.specs.Prelude.{Vec}
+use Rattle.std.specs.Global.{Global}
 use Rattle.std.specs.Option.{option_map}
+use Rattle.book_model.specs.declared.answer.Accepted.{Accepted}
 use Rattle.book_model.specs.Words.{accept_answer, IsMadeByCalls, Book, new_book, dispute_shown}
 use Rattle.book_model.specs.Words.{book_after, Outcome, accept_outcome, charges_outcome}
 use Rattle.book_model.specs.Words.{adjustments_outcome, disputes_outcome, periods_outcome, Naming}
 use Rattle.book_model.specs.Words.{dispute_outcome, next_detail_outcome, ruling_outcome}
 use Rattle.book_model.specs.Words.{ruling_shown, trail_outcome, trail_shown, what_if_outcome}
 use Rattle.book_model.specs.declared.fault.LedgerFault.{LedgerFault}
+use Rattle.book_model.specs.declared.fault.LedgerFault.TheVariants.{Store}
 use Rattle.book_core.specs.Calls.{Calls, listed}
 use Rattle.book_core.specs.Ledgers.{Seen, IsOpenAt}
+use Rattle.book_core.specs.Submissions.{Accepts, Takes, first_of}
 use Rattle.book_core.specs.Transition.{IsTransition}
 use Rattle.book_core.proofs.FollowLemmas.{then_answered, calls_answered, none_answered}
 use Rattle.book_core.specs.Follow.{MakesAnswered}
-use Rattle.book_core.proofs.FollowLemmas.{accept_event-answered}
+use Rattle.book_core.proofs.FollowLemmas.{accept_event-answered, adopt_answered, choose_answered}
+use Rattle.book_core.proofs.FollowLemmas.{close_answered, tariff_answered}
 use Rattle.book_core.proofs.TransitionLemmas.{no_work, work_then, after_all-append}
 use Rattle.book_reports.proofs.ReadingLemmas.{IsReading}
+use Rattle.office.proofs.ChoiceLemmas.{choices_answered}
 use Rattle.office.proofs.LawLemmas.{asks_answered}
 use Rattle.office.proofs.LeavingLemmas.{work_leaves}
 use Rattle.office.proofs.RunLemmas.{runs_answered}
 use Rattle.book_http.proofs.LawLemmas.{requests_make_history}
 use Rattle.book_laws.specs.CallLaws.{CallsFollowHistory}
 use Rattle.book_laws.specs.Calls.{Call, Request, RunRequests, AcceptRecord, ReadCharges}
+use Rattle.book_laws.specs.Calls.{AcceptRecords, AdoptRule, ChooseEach, ChooseRecord, ClosePeriod}
+use Rattle.book_laws.specs.Calls.{HttpDetails, SubmitTariff}
 use Rattle.book_laws.specs.Calls.{HttpRequest, ReadAdjustments, ReadDisputes, ReadPeriods}
 use Rattle.book_laws.specs.Calls.{ReadChargesUnder, ReadDetail, ReadDispute, ReadRuling, ReadTrail}
 use Rattle.book_laws.specs.Calls.{Step}
@@ -35,16 +45,57 @@ readings_answered naming view outcome result none =
     subst (λ event. IsMadeByCalls naming (listed event ++ history))
     (sym (none (book_after history))) answered)
 
+-- a record makes only an event that the books answered
+record_answered : (naming : Naming) (bytes : List ℕ) (answer : Result Accepted LedgerFault)
+    → MakesAnswered naming
+    (Calls (λ (accepted : Accepted). accepted) (accept_outcome naming bytes) answer)
+record_answered naming bytes answer =
+    calls_answered naming (λ (accepted : Accepted). accepted) (accept_outcome naming bytes) answer
+    (λ history.
+    accept_event-answered naming bytes history (accept_answer naming (book_after history) bytes)
+    refl)
+
+-- and so do records one after another,
+accepts_answered : (naming : Naming) (records : List (List ℕ)) (answers : List Accepted)
+    → MakesAnswered naming (Accepts naming records answers)
+accepts_answered naming records [] = none_answered naming
+accepts_answered naming [] (answer ∷ later) = λ history was events is never. absurd never
+accepts_answered naming (bytes ∷ rest) (answer ∷ later) =
+    then_answered naming
+    (Calls (λ (accepted : Accepted). accepted) (accept_outcome naming bytes) (Ok answer))
+    (Accepts naming rest later) (record_answered naming bytes (Ok answer))
+    (accepts_answered naming rest later)
+
+-- also several together
+takes_answered : (naming : Naming) (records : List (List ℕ))
+    (answers : Result (Vec Accepted Global) LedgerFault)
+    → MakesAnswered naming (Takes naming records answers)
+takes_answered naming records (Ok answers) = accepts_answered naming records answers.items
+takes_answered naming records (Err Store) = λ history was events is first answered.
+    accepts_answered naming records first.answers history false events false first.kept answered
+takes_answered naming records (Err fault) = record_answered naming (first_of records) (Err fault)
+
 -- each call makes only events that the books answered
 call_answered : (naming : Naming) (call : Call) → MakesAnswered naming (work_of naming call)
 call_answered naming (Request asked dump told) = asks_answered naming asked dump told
 call_answered naming (RunRequests requests answers) = runs_answered naming requests answers
+call_answered naming (ChooseEach names answers refusal) =
+    choices_answered naming names answers refusal
 call_answered naming (HttpRequest bytes reply) = λ history was events is made answered.
     (requests_make_history naming history bytes reply was events is answered made).answered
-call_answered naming (AcceptRecord bytes answer) =
-    calls_answered naming (λ answer. answer) (accept_outcome naming bytes) answer (λ history.
-    accept_event-answered naming bytes history (accept_answer naming (book_after history) bytes)
-    refl)
+call_answered naming (HttpDetails bytes held holds served) = λ history was events is made answered.
+    let goes_on = requests_make_history naming history bytes made.reply was events was answered
+    made.answer in
+    goes_on.answered
+call_answered naming (SubmitTariff text answer) =
+    tariff_answered naming (λ ruled. ruled) text answer
+call_answered naming (ClosePeriod period through answer) =
+    close_answered naming (λ ruled. ruled) period through answer
+call_answered naming (ChooseRecord name answer) =
+    choose_answered naming (λ ruled. ruled) name answer
+call_answered naming (AdoptRule rule answer) = adopt_answered naming (λ ruled. ruled) rule answer
+call_answered naming (AcceptRecord bytes answer) = record_answered naming bytes answer
+call_answered naming (AcceptRecords records answers) = takes_answered naming records answers
 call_answered naming (ReadCharges period answer) =
     readings_answered naming (λ rows. rows.items) (charges_outcome period) answer (λ book. refl)
 call_answered naming (ReadChargesUnder period terms answer) =
