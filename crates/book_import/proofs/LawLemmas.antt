@@ -24,8 +24,8 @@ use Rattle.book_import.specs.declared.receipt.Stop.{Stop}
 use Rattle.book_import.specs.Handled.{Imported, after_answer, handle_by, handle, continue_with, handle_all}
 use Rattle.book_import.specs.Handled.{nothing_imported}
 use Rattle.book_import.specs.Laws.{is_class_of_usage, is_priced_usage, priced_usage, IsUnrefused}
-use Rattle.book_import.specs.Laws.{import_of_records, book_after_import, HoldsMore, HoldsWhatCame, Batch}
-use Rattle.book_import.specs.Laws.{all_records, book_after_batches, AreUnrefused}
+use Rattle.book_import.specs.Laws.{import_of_records, book_after_import, HoldsMore, HoldsWhatCame, DumpRead}
+use Rattle.book_import.specs.Laws.{all_records, book_after_dumps, AreUnrefused}
 use Rattle.book_import.specs.Laws.{CutsMakeNoDifference}
 use Rattle.book_import.proofs.BookLemmas.{left_is}
 
@@ -208,7 +208,7 @@ has-both rulings (bytes ∷ rest) later other =
     ∙ ap (λ b. b || has (priced_usage rulings later) other)
     (sym (has-first rulings bytes rest other))
 
--- a batch and then others: the books hold what came of all of them
+-- a dump and then others: the books hold what came of all of them
 then_later : (records later : List (List ℕ)) {old between new : Book}
     → HoldsMore (priced_usage old.rulings records) old between
     → HoldsMore (priced_usage between.rulings later) between new
@@ -226,16 +226,16 @@ then_later records later {old} {between} one more = record {
   past = more.past ∙ one.past;
 }
 
--- after batches in which no record was refused, the books hold what came of all of them
-holds_batches : (naming : Naming) (before : Book) (batches : List Batch)
-    → AreUnrefused naming before batches
-    → HoldsMore (priced_usage before.rulings (all_records batches)) before
-    (book_after_batches naming before batches)
-holds_batches naming before [] unrefused = none_came before
-holds_batches naming before (batch ∷ later) unrefused =
-    then_later batch.records (all_records later)
-    (holds_what_came naming before batch.stop batch.records unrefused.0)
-    (holds_batches naming (book_after_import naming before batch.stop batch.records) later unrefused.1)
+-- after dumps of which no record was refused, the books hold what came of all of them
+holds_dumps : (naming : Naming) (before : Book) (dumps : List DumpRead)
+    → AreUnrefused naming before dumps
+    → HoldsMore (priced_usage before.rulings (all_records dumps)) before
+    (book_after_dumps naming before dumps)
+holds_dumps naming before [] unrefused = none_came before
+holds_dumps naming before (dump ∷ later) unrefused =
+    then_later dump.records (all_records later)
+    (holds_what_came naming before dump.stop dump.records unrefused.0)
+    (holds_dumps naming (book_after_import naming before dump.stop dump.records) later unrefused.1)
 
 -- lists with one set have one set of priced usage records
 same_priced : (rulings : Rulings) (records others : List (List ℕ))
@@ -262,11 +262,11 @@ same_book {one} {other} first second =
 
 -- the law
 pub cuts_make_no_difference : CutsMakeNoDifference
-cuts_make_no_difference naming before batches others same unrefused other_unrefused =
-    let after : Book = book_after_batches naming before others in
-    let first = holds_batches naming before batches unrefused in
-    let second = holds_batches naming before others other_unrefused in
-    let priced = sym (same_priced before.rulings (all_records batches) (all_records others) same) in
+cuts_make_no_difference naming before dumps others same unrefused other_unrefused =
+    let after : Book = book_after_dumps naming before others in
+    let first = holds_dumps naming before dumps unrefused in
+    let second = holds_dumps naming before others other_unrefused in
+    let priced = sym (same_priced before.rulings (all_records dumps) (all_records others) same) in
     same_book first (subst (λ came. HoldsMore came before after) priced second)
 
 -- the same for two dumps, each in one import
@@ -277,9 +277,9 @@ pub one_import_each : (naming : Naming) (before : Book) (stop other_stop : Stop)
     → IsUnrefused (import_of_records naming before other_stop others)
     → book_after_import naming before stop records ≡ book_after_import naming before other_stop others
 one_import_each naming before stop other_stop records others same unrefused other_unrefused =
-    let batch : Batch = record { records = records; stop = stop } in
-    let other_batch : Batch = record { records = others; stop = other_stop } in
-    cuts_make_no_difference naming before (batch ∷ []) (other_batch ∷ [])
+    let dump : DumpRead = record { records = records; stop = stop } in
+    let other_dump : DumpRead = record { records = others; stop = other_stop } in
+    cuts_make_no_difference naming before (dump ∷ []) (other_dump ∷ [])
     (ap (set_of by_bytes) (append-nil records) ∙ same
     ∙ sym (ap (set_of by_bytes) (append-nil others)))
     (unrefused, tt) (other_unrefused, tt)
