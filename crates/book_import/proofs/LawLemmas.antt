@@ -24,8 +24,8 @@ use Rattle.book_import.specs.declared.receipt.Stop.{Stop}
 use Rattle.book_import.specs.Handled.{Imported, after_answer, handle_by, handle, continue_with, handle_all}
 use Rattle.book_import.specs.Handled.{nothing_imported}
 use Rattle.book_import.specs.Laws.{is_class_of_usage, is_priced_usage, priced_usage, IsUnrefused}
-use Rattle.book_import.specs.Laws.{import_of_records, book_after_import, HoldsMore, HoldsWhatCame, DumpRead}
-use Rattle.book_import.specs.Laws.{all_records, book_after_dumps, AreUnrefused}
+use Rattle.book_import.specs.Laws.{import_of_records, book_after_import, HoldsMore, HoldsWhatCame}
+use Rattle.book_import.specs.Laws.{DumpRead, all_records, book_after_dumps, AreUnrefused}
 use Rattle.book_import.specs.Laws.{CutsMakeNoDifference}
 use Rattle.book_import.proofs.BookLemmas.{left_is}
 

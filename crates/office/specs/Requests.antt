@@ -1,6 +1,6 @@
 -- What is asked of books, what they answer, and what it does to them.
-use Rattle.std.specs.Prelude.{◌≡◌, ℕ, ◌+◌, ◌≤◌, ◌^◌, false, List, [], Option, Some, None, Result}
-use Rattle.std.specs.Prelude.{Ok, if◌then◌else◌, string_bytes}
+use Rattle.std.specs.Prelude.{◌≡◌, ℕ, ◌+◌, ◌≤◌, ◌^◌, false, List, [], Option, None, Result}
+use Rattle.std.specs.Prelude.{Ok, string_bytes}
 use Rattle.smf_frames.specs.declared.dump.Layout.{Layout}
 use Rattle.smf_frames.specs.declared.dump.Layout.TheVariants.{Rdw}
 use Rattle.streams.specs.AnswerFlags.{NothingUnread}
@@ -14,10 +14,9 @@ use Rattle.book_core.specs.Transition.{Transition, IsTransition}
 use Rattle.book_core.specs.Ledgers.{Books}
 use Rattle.book_import.specs.declared.receipt.Receipt as receipt
 use Rattle.book_import.specs.declared.receipt.Stop.{Stop}
-use Rattle.book_import.specs.declared.receipt.Stop.TheVariants.{Read, ReadLimit}
 use Rattle.book_import.specs.Imports.{Imports}
 use Rattle.book_import.specs.Reach.{IsReadFor}
-use Rattle.book_import.specs.ReadLimits.{most_reads}
+use Rattle.book_import.specs.ReadLimits.{cut_where, most_reads}
 use Rattle.book_reports.specs.BookTexts.{shown_by, report_outcome}
 use Rattle.book_reports.specs.WhatIfTexts.{what_if_report}
 use Rattle.office.specs.declared.request.Asked.{Asked}
@@ -78,10 +77,7 @@ IsAskableRuling asked = ⊥
 
 -- what cut the reading short, if anything did
 abbrev pub cut_by : ReaderSeen → Option Stop
-cut_by reader =
-    if reader.has_failed then Some Read
-    else if reader.has_ended then None
-    else Some ReadLimit
+cut_by reader = cut_where reader.has_failed reader.has_ended
 
 -- the bytes of a dump were taken for this receipt, and no more than it needed
 abbrev pub IsReadBy : Dump → Result Response LedgerFault → Input → Type 0
