@@ -1,6 +1,6 @@
 -- Requests, one after the other, and the history that they make.
 use Rattle.std.proofs.Common.{◌≡◌, ◌∙◌, Bool, true, false, ℕ, List, [], ◌∷◌, ◌++◌, Result, Ok, Err}
-use Rattle.std.proofs.Common.{inr, refl, sym, ap, subst}
+use Rattle.std.proofs.Common.{inr, refl, sym, ap, subst, true≢false}
 use Rattle.std.specs.Prelude.{string_bytes}
 use Rattle.book_model.specs.declared.fault.LedgerFault.{LedgerFault}
 use Rattle.book_model.specs.declared.fault.LedgerFault.TheVariants.{Memory, Store, Reopen}
@@ -147,6 +147,21 @@ asks_done naming (ImportBytes layout bytes) dump told book events is made free =
 asks_done naming other dump told book events is made free =
     calls_done _ told book events is made free
 
+-- a call that was refused made no event, where the books are still open
+called_unmade : (outcome : Book → Outcome Response) (fault : LedgerFault) (book : Book)
+    (events : List Event)
+    → Calls (λ (told : Response). told) outcome (Err fault) false book events false → events ≡ []
+called_unmade outcome Memory book events called = called.makes
+called_unmade outcome Store book events called = absurd (true≢false (sym called.reopens.store))
+called_unmade outcome Reopen book events called = called.makes
+called_unmade outcome fault book events called = called.makes.1
+
+asked_unmade : (naming : Naming) (asked : Asked) (dump : Dump) (fault : LedgerFault) (book : Book)
+    (events : List Event) → Asks naming asked dump (Err fault) false book events false → events ≡ []
+asked_unmade naming (Import layout) dump fault book events made = absurd made
+asked_unmade naming (ImportBytes layout bytes) dump fault book events made = absurd made
+asked_unmade naming other dump fault book events made = called_unmade _ fault book events made
+
 -- a ledger that is open after requests was open before them
 open_at_first : {L : Type 0} (seen : L → Seen) (before : L) (exchanges : List (Exchange L))
     → AreAnswered seen before exchanges → IsStillOpen (seen (ledger_after before exchanges))
@@ -176,6 +191,10 @@ answers_follow_book seen naming start before (exchange ∷ later) opened done st
           dump = one.dump;
           given = one.given;
           work = work;
+          unmade = λ fault refused.
+              asked_unmade naming exchange.asked one.dump fault start gone.events
+              (subst (λ said. Asks naming exchange.asked one.dump said false start gone.events
+              false) refused work);
           is = asks_done naming exchange.asked one.dump told start gone.events false work;
         },
         rest.told,

@@ -1,6 +1,6 @@
 -- Requests, one after the other, on one ledger: each has the answer that the book before it
 -- defines, and where that is the book of a history, the whole history.
-use Rattle.std.specs.Prelude.{◌≡◌, false, List, [], ◌∷◌, ◌++◌, Result}
+use Rattle.std.specs.Prelude.{◌≡◌, false, List, [], ◌∷◌, ◌++◌, Result, Err}
 use Rattle.streams.specs.InputOutput.{Input}
 use Rattle.book_model.specs.declared.fault.LedgerFault.{LedgerFault}
 use Rattle.book_model.specs.Words.{Book, IsMadeByCalls, Event, after_all, book_after, book_of}
@@ -41,13 +41,15 @@ AreAnswered seen before (exchange ∷ later) =
     IsAsked exchange.asked exchange.answer (books seen before exchange.after) exchange.input
     × AreAnswered seen exchange.after later
 
--- Of a book this was asked and answered, and it made these events, the newest first. Unless a lack of
--- memory or the store hindered it, the answer is what the definitions say of the book.
+-- Of a book this was asked and answered, and it made these events, the newest first; a refusal made
+-- none. Unless a lack of memory or the store hindered it, the answer is what the definitions say of
+-- the book.
 pub record IsAnsweredOf {L : Type 0} (naming : Naming) (book : Book) (exchange : Exchange L)
     (made : List Event) : Type 0 where
   pub dump : Dump
   pub given : Gives exchange.asked dump (response_by exchange.answer) exchange.input
   pub work : Asks naming exchange.asked dump (response_by exchange.answer) false book made false
+  pub unmade : (fault : LedgerFault) → response_by exchange.answer ≡ Err fault → made ≡ []
   pub is : is_hindered (response_by exchange.answer) ≡ false
       → asked_outcome naming exchange.asked dump book
       ≡ record { told = response_by exchange.answer; events = made }
