@@ -271,6 +271,6 @@ sent_done old new bytes held holds served work = record {
   history =
       follows old new (SendsAsRead old.naming bytes held holds served)
       (λ past was events is made.
-      request_answered old.naming bytes made.reply past was events was made.answer)
+      request_answered old.naming bytes made.reply past was events was made.answer.0)
       work;
 }

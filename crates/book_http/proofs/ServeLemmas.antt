@@ -24,8 +24,9 @@ use Rattle.book_http.specs.Replies.{Reply, refusal}
 use Rattle.book_http.specs.Requested.{AnswersRequest, AreAsking, IsAsking, RequestSeen, Settles}
 use Rattle.book_http.specs.Requested.{WantsDetails, WantsImport, WantsWhatIf}
 use Rattle.book_http.specs.Requested.{headed, headless, request_seen, wanted_by}
-use Rattle.book_http.specs.Served.{AsksDetails, IsReplied, IsSent, IsServed, IsStreamed}
-use Rattle.book_http.specs.Served.{SendsAsRead, SendsReplyAsRead, ServesDetails, is_unanswered}
+use Rattle.book_http.specs.Served.{AnswersLong, AsksDetails, IsReplied, IsSent, IsServed}
+use Rattle.book_http.specs.Served.{IsStreamed, SendsAsRead, SendsReplyAsRead, ServesDetails}
+use Rattle.book_http.specs.Served.{is_unanswered}
 use Rattle.book_http.proofs.LawLemmas.{request_done, sent_done}
 
 -- ---- what answers a request answers its bytes
@@ -157,7 +158,7 @@ details_begin bytes details (headed head behind stands (inr same)) =
 details_streamed : (books : Books) (taken : List ℕ) (ended : Bool) (output : Output)
     (details : DetailReport) (what : Served) → IsAsking ended taken (requested.Details details)
     → IsTransition books.old books.new
-    (SendsReplyAsRead (AnswersDetails books.old.naming details) output.old.holds
+    (SendsReplyAsRead (AnswersLong (AnswersDetails books.old.naming details)) output.old.holds
     output.new.holds what)
     → IsStreamed books taken ended output what
 details_streamed books taken ended output details what asking sends =
@@ -171,12 +172,15 @@ details_streamed books taken ended output details what asking sends =
       done = λ more none.
           sent_done books.old books.new (taken ++ more) held holds what
           (work_as books.old books.new
-          (SendsReplyAsRead (AnswersDetails naming details) held holds what)
+          (SendsReplyAsRead (AnswersLong (AnswersDetails naming details)) held holds what)
           (SendsAsRead naming (taken ++ more) held holds what)
           (λ was before events is sent. record {
             reply = sent.reply;
-            answer = bytes_answered naming (taken ++ more) (WantsDetails details) sent.reply
-                (asking more none) was before events was sent.answer;
+            answer = (
+              bytes_answered naming (taken ++ more) (WantsDetails details) sent.reply
+                  (asking more none) was before events was sent.answer.0,
+              sent.answer.1,
+            );
             sent = sent.sent;
             stands = sent.stands;
           })

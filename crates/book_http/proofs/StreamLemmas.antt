@@ -28,11 +28,11 @@ use Rattle.book_http.specs.declared.answer_head.BodyKind.{BodyKind}
 use Rattle.book_http.specs.declared.served.Served.{Served}
 use Rattle.book_http.specs.declared.served.Served.TheVariants as served
 use Rattle.book_http.specs.declared.status.Status.TheVariants.{Done}
-use Rattle.book_http.specs.Answer.{AnswersDetails, form_kind}
+use Rattle.book_http.specs.Answer.{AnswersDetails, form_kind, most_gathered}
 use Rattle.book_http.specs.AnswerHead.{answer_head}
 use Rattle.book_http.specs.Replies.{Reply, success}
-use Rattle.book_http.specs.Served.{IsMeasured, IsSentAsRead, SendsDetails, SendsReplyAsRead, is_cut}
-use Rattle.book_http.specs.Served.{is_unanswered, served_as}
+use Rattle.book_http.specs.Served.{AnswersLong, IsMeasured, IsSentAsRead, SendsDetails}
+use Rattle.book_http.specs.Served.{SendsReplyAsRead, is_cut, is_unanswered, served_as}
 use Rattle.book_http.proofs.AnswerLemmas.{front_behind}
 
 -- ---- what measures details
@@ -183,17 +183,19 @@ sized_sent old mid new details size held holds what measured sends =
     (subst (λ naming. IsTransition mid new (SendsDetails details size naming held holds what))
     measured.naming sends))
 
--- so they were sent, however many bytes they have
+-- so long ones were sent
 pub measured_sent : (old mid new : Seen) (details : DetailReport) (size : ℕ)
-    (held holds : Option (List ℕ)) (what : Served) → IsMeasured old mid details size
+    (held holds : Option (List ℕ)) (what : Served) → most_gathered < size
+    → IsMeasured old mid details size
     → IsTransition mid new (SendsDetails details size mid.naming held holds what)
-    → IsTransition old new (SendsReplyAsRead (AnswersDetails old.naming details) held holds what)
-measured_sent old mid new details size held holds what measured sends =
+    → IsTransition old new
+    (SendsReplyAsRead (AnswersLong (AnswersDetails old.naming details)) held holds what)
+measured_sent old mid new details size held holds what long measured sends =
     work_as old new (SendsReplyAsRead (AnswersSized old.naming details size) held holds what)
-    (SendsReplyAsRead (AnswersDetails old.naming details) held holds what)
+    (SendsReplyAsRead (AnswersLong (AnswersDetails old.naming details)) held holds what)
     (λ was before events is it. record {
       reply = it.reply;
-      answer = it.answer.0;
+      answer = (it.answer.0, subst (λ size. most_gathered < size) (sym it.answer.1) long);
       sent = it.sent;
       stands = it.stands;
     })

@@ -21,7 +21,7 @@ use Rattle.book_http.specs.declared.served.Served.TheVariants.{Answered, Cut}
 use Rattle.book_http.specs.declared.served.Unanswered.{Unanswered}
 use Rattle.book_http.specs.declared.served.Unanswered.TheVariants.{Failed}
 use Rattle.book_http.specs.declared.status.Status.TheVariants.{Done}
-use Rattle.book_http.specs.Answer.{Answers, AnswersDetails, form_kind}
+use Rattle.book_http.specs.Answer.{Answers, AnswersDetails, form_kind, most_gathered}
 use Rattle.book_http.specs.Asked.{asked}
 use Rattle.book_http.specs.Head.{HasHead}
 use Rattle.book_http.specs.Replies.{Reply, reply_bytes, reply_of, success}
@@ -104,6 +104,12 @@ pub record SendsReplyAsRead (Answering : Reply → Transition) (held holds : Opt
   pub sent : IsSentAsRead reply held holds served
   pub stands : is_cut served ≡ false → is ≡ was
 
+-- Something was answered, by more bytes than are gathered before they are sent: a shorter text is never
+-- cut off.
+abbrev pub AnswersLong : (Reply → Transition) → Reply → Transition
+AnswersLong Answering reply = λ was before events is.
+    Answering reply was before events is × (most_gathered < length reply.body)
+
 -- the ledger answered why there are no details, and that was sent
 pub record RefusesDetails (books : Books) (wanted : DetailReport) (output : Output) (served : Served)
     : Type 0 where
@@ -111,12 +117,12 @@ pub record RefusesDetails (books : Books) (wanted : DetailReport) (output : Outp
   pub answer : IsTransition books.old books.new (AnswersDetails books.old.naming wanted reply)
   pub sent : IsSent reply output.old.holds output.new.holds served
 
--- details were served: refused so, or sent while they were read
+-- details were served: refused or gathered so, or long ones sent while they were read
 abbrev pub ServesDetails : Books → DetailReport → Output → Served → Type 0
 ServesDetails books wanted output served =
     RefusesDetails books wanted output served
     ⊎ IsTransition books.old books.new
-    (SendsReplyAsRead (AnswersDetails books.old.naming wanted)
+    (SendsReplyAsRead (AnswersLong (AnswersDetails books.old.naming wanted))
     output.old.holds output.new.holds served)
 
 -- ---- a request as a whole
@@ -128,9 +134,9 @@ pub record AsksDetails (bytes : List ℕ) (details : DetailReport) : Type 0 wher
   pub stands : HasHead bytes head behind
   pub asks_them : asked head ≡ asks.Details details
 
--- a request was answered, and the answer was sent while it was read
+-- a request was answered, and the long answer was sent while it was read
 abbrev pub SendsAsRead : Naming → List ℕ → Option (List ℕ) → Option (List ℕ) → Served → Transition
-SendsAsRead naming bytes = SendsReplyAsRead (Answers naming bytes)
+SendsAsRead naming bytes = SendsReplyAsRead (AnswersLong (Answers naming bytes))
 
 -- a request was answered, by the bytes that were taken from the reader, and the answer was sent
 pub record IsReplied (books : Books) (taken : List ℕ) (ended : Bool) (output : Output)
@@ -139,7 +145,7 @@ pub record IsReplied (books : Books) (taken : List ℕ) (ended : Bool) (output :
   pub answer : IsAnswer books.old books.new ended taken reply
   pub sent : IsSent reply output.old.holds output.new.holds served
 
--- details were asked for, and sent while they were read
+-- details were asked for, and sent while they were read, since they are long
 pub record IsStreamed (books : Books) (taken : List ℕ) (ended : Bool) (output : Output)
     (served : Served) : Type 0 where
   pub details : DetailReport

@@ -85,7 +85,7 @@ call_answered naming (HttpRequest bytes reply) = λ history was events is made a
     (requests_make_history naming history bytes reply was events is answered made).answered
 call_answered naming (HttpDetails bytes held holds served) = λ history was events is made answered.
     let goes_on = requests_make_history naming history bytes made.reply was events was answered
-    made.answer in
+    made.answer.0 in
     goes_on.answered
 call_answered naming (SubmitTariff text answer) =
     tariff_answered naming (λ ruled. ruled) text answer

@@ -10,4 +10,4 @@ returns-in-Ok-clause-served g c =
     let holds = g.W.Write.contents (writer_of c.send_details.new.sink) in
     inr (measured_sent (seen c.args.ledger.now) (seen c.ask_details.new.ledger)
     (seen c.send_details.new.ledger) c.args.details c.in-Ok.size held holds c.send_details.result
-    c.in-Ok.ensures.asked c.send_details.ensures.sent)
+    c.in-Ok.ensures.long c.in-Ok.ensures.asked c.send_details.ensures.sent)
