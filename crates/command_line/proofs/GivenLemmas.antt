@@ -87,8 +87,8 @@ word_given s highest i (word.InPlace valued) words is own none =
     kind_given highest valued.kind valued.name.now (rows_after s.rules [] words)
     (value_given s t words own (valued_takes s.args_override_self t) none
     (required_row s t words none is))
-word_given s highest i (word.Last valued text) words is own none =
-    let t = built_rule highest i (word.Last valued text) in
+word_given s highest i (word.InPlaceOr valued text) words is own none =
+    let t = built_rule highest i (word.InPlaceOr valued text) in
     kind_given highest valued.kind valued.name.now (rows_after s.rules [] words)
     (value_given s t words own (valued_takes s.args_override_self t) none
     (default_row s t words (defaulted_has text.now [] t) is))
@@ -97,13 +97,13 @@ word_given s highest i (word.Named valued) words is own none =
     kind_given highest valued.kind valued.name.now (rows_after s.rules [] words)
     (value_given s t words own (valued_takes s.args_override_self t) none
     (required_row s t words none is))
-word_given s highest i (word.Optional valued text) words is own none =
-    let t = built_rule highest i (word.Optional valued text) in
+word_given s highest i (word.NamedOr valued text) words is own none =
+    let t = built_rule highest i (word.NamedOr valued text) in
     kind_given highest valued.kind valued.name.now (rows_after s.rules [] words)
     (value_given s t words own (valued_takes s.args_override_self t) none
     (default_row s t words (defaulted_has text.now [] t) is))
-word_given s highest i (word.Maybe valued) words is own none = tt
-word_given s highest i (word.MaybeLast valued) words is own none = tt
+word_given s highest i (word.NamedIfGiven valued) words is own none = tt
+word_given s highest i (word.InPlaceIfGiven valued) words is own none = tt
 
 words_given : (s : Shape) (highest : ℕ) (ws : List Argument) (i : ℕ) (words : List Text)
     → ((t : Rule) → In t (filled_from i (map (rule_for highest) ws ++ help_rule ∷ []))

@@ -34,11 +34,11 @@ HasValue rows name known.rate = HasRate rows name
 abbrev pub HasWord : List Row → WordSeen → Type 0
 HasWord rows (known.flag name) = (flag : Bool) × IsFlag rows name flag
 HasWord rows (known.place name value) = HasValue rows name value
-HasWord rows (known.last name value text) = HasValue rows name value
+HasWord rows (known.place_or name value text) = HasValue rows name value
 HasWord rows (known.named name value) = HasValue rows name value
-HasWord rows (known.optional name value text) = HasValue rows name value
-HasWord rows (known.maybe name value) = ⊤
-HasWord rows (known.maybe_last name value) = ⊤
+HasWord rows (known.named_or name value text) = HasValue rows name value
+HasWord rows (known.named_if_given name value) = ⊤
+HasWord rows (known.place_if_given name value) = ⊤
 
 abbrev pub HasWords : List Row → List WordSeen → Type 0
 HasWords rows [] = ⊤

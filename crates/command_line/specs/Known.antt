@@ -35,11 +35,11 @@ pub data ValueSeen : Type 0 where
 pub data WordSeen : Type 0 where
   flag : Text → WordSeen
   place : Text → ValueSeen → WordSeen
-  last : Text → ValueSeen → Text → WordSeen
+  place_or : Text → ValueSeen → Text → WordSeen
+  place_if_given : Text → ValueSeen → WordSeen
   named : Text → ValueSeen → WordSeen
-  optional : Text → ValueSeen → Text → WordSeen
-  maybe : Text → ValueSeen → WordSeen
-  maybe_last : Text → ValueSeen → WordSeen
+  named_or : Text → ValueSeen → Text → WordSeen
+  named_if_given : Text → ValueSeen → WordSeen
 
 abbrev pub value_seen : ValueKind → ValueSeen
 value_seen kind.Text = any
@@ -51,12 +51,11 @@ value_seen kind.Rate = rate
 abbrev pub word_seen : Argument → WordSeen
 word_seen (word.Flag name help) = flag name.now
 word_seen (word.InPlace valued) = place valued.name.now (value_seen valued.kind)
-word_seen (word.Last valued text) = last valued.name.now (value_seen valued.kind) text.now
+word_seen (word.InPlaceOr valued text) = place_or valued.name.now (value_seen valued.kind) text.now
 word_seen (word.Named valued) = named valued.name.now (value_seen valued.kind)
-word_seen (word.Optional valued text) =
-    optional valued.name.now (value_seen valued.kind) text.now
-word_seen (word.Maybe valued) = maybe valued.name.now (value_seen valued.kind)
-word_seen (word.MaybeLast valued) = maybe_last valued.name.now (value_seen valued.kind)
+word_seen (word.NamedOr valued text) = named_or valued.name.now (value_seen valued.kind) text.now
+word_seen (word.NamedIfGiven valued) = named_if_given valued.name.now (value_seen valued.kind)
+word_seen (word.InPlaceIfGiven valued) = place_if_given valued.name.now (value_seen valued.kind)
 
 abbrev pub command_seen : KnownCommand → Text × List WordSeen
 command_seen known = (known.name.now, map word_seen known.words.now)
@@ -80,13 +79,13 @@ abbrev pub date : WordSeen
 date = place (codes "date") any
 
 abbrev pub digest : WordSeen
-digest = maybe_last (codes "sha256") any
+digest = place_if_given (codes "sha256") any
 
 abbrev pub record_name : WordSeen
 record_name = place (codes "sha256") any
 
 abbrev pub names : WordSeen
-names = maybe (codes "from") any
+names = named_if_given (codes "from") any
 
 abbrev pub number_kind : WordSeen
 number_kind = place (codes "kind") (among (codes "frame" ∷ codes "ledger" ∷ codes "tariff"
@@ -94,7 +93,7 @@ number_kind = place (codes "kind") (among (codes "frame" ∷ codes "ledger" ∷ 
     ∷ codes "unsound" ∷ codes "log" ∷ codes "layout" ∷ codes "far" ∷ []))
 
 abbrev pub kind_number : WordSeen
-kind_number = last (codes "number") (at_most most_number) (codes "0")
+kind_number = place_or (codes "number") (at_most most_number) (codes "0")
 
 abbrev pub port : WordSeen
 port = named (codes "port") (up_to (pos 65535))
@@ -103,14 +102,14 @@ abbrev pub requests : WordSeen
 requests = named (codes "requests") (up_to (pos 1000000))
 
 abbrev pub layouts : WordSeen
-layouts = optional (codes "layout") (among (codes "rdw" ∷ codes "bdw" ∷ [])) (codes "rdw")
+layouts = named_or (codes "layout") (among (codes "rdw" ∷ codes "bdw" ∷ [])) (codes "rdw")
 
 abbrev pub rate_of : Text → WordSeen
-rate_of name = optional name rate (codes "0")
+rate_of name = named_or name rate (codes "0")
 
 -- a tariff file: of a trial, or of a statement by other prices
 abbrev pub prices : WordSeen
-prices = maybe (codes "tariff") any
+prices = named_if_given (codes "tariff") any
 
 abbrev pub quiet : WordSeen
 quiet = flag (codes "quiet")
@@ -122,7 +121,7 @@ abbrev pub csv : WordSeen
 csv = flag (codes "csv")
 
 abbrev pub centre : WordSeen
-centre = maybe (codes "centre") any
+centre = named_if_given (codes "centre") any
 
 -- for how many seconds a command may be asked to wait for books that are in use, and waits unasked
 abbrev pub most_wait : ℤ
@@ -132,7 +131,7 @@ abbrev pub usual_wait : Text
 usual_wait = codes "10"
 
 abbrev pub wait : WordSeen
-wait = optional (codes "wait") (at_most most_wait) usual_wait
+wait = named_or (codes "wait") (at_most most_wait) usual_wait
 
 -- The table of the commands.
 unfoldable pub known_table : List (Text × List WordSeen)

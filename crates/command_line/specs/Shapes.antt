@@ -38,15 +38,15 @@ abbrev pub rule_for : ℕ → Argument → Rule
 rule_for highest (word.Flag name help) =
     record (new_rule name.now) { long = Some name.now; action = Some SetTrue }
 rule_for highest (word.InPlace valued) = record (value_rule highest valued) { required = true }
-rule_for highest (word.Last valued text) =
+rule_for highest (word.InPlaceOr valued text) =
     record (value_rule highest valued) { defaults = text.now ∷ [] }
 rule_for highest (word.Named valued) =
     record (value_rule highest valued) { long = Some valued.name.now; required = true }
-rule_for highest (word.Optional valued text) =
+rule_for highest (word.NamedOr valued text) =
     record (value_rule highest valued) { long = Some valued.name.now; defaults = text.now ∷ [] }
-rule_for highest (word.Maybe valued) =
+rule_for highest (word.NamedIfGiven valued) =
     record (value_rule highest valued) { long = Some valued.name.now }
-rule_for highest (word.MaybeLast valued) = value_rule highest valued
+rule_for highest (word.InPlaceIfGiven valued) = value_rule highest valued
 
 -- a command of the program
 abbrev pub shape_for : ℕ → KnownCommand → Shape

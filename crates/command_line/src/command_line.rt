@@ -54,15 +54,15 @@ fn clap_arg<'a>(alloc: Global, word: Argument, highest: u32) -> Arg<'a>
             .help(help.text())
             .action(ArgAction::SetTrue),
         Argument::InPlace(valued) => value_arg(alloc, valued, highest).required(true),
-        Argument::Last(valued, text) => value_arg(alloc, valued, highest).default_value(text),
+        Argument::InPlaceOr(valued, text) => value_arg(alloc, valued, highest).default_value(text),
         Argument::Named(valued) => value_arg(alloc, valued, highest)
             .long(valued.name)
             .required(true),
-        Argument::Optional(valued, text) => value_arg(alloc, valued, highest)
+        Argument::NamedOr(valued, text) => value_arg(alloc, valued, highest)
             .long(valued.name)
             .default_value(text),
-        Argument::Maybe(valued) => value_arg(alloc, valued, highest).long(valued.name),
-        Argument::MaybeLast(valued) => value_arg(alloc, valued, highest),
+        Argument::NamedIfGiven(valued) => value_arg(alloc, valued, highest).long(valued.name),
+        Argument::InPlaceIfGiven(valued) => value_arg(alloc, valued, highest),
     }
 }
 

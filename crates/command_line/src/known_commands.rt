@@ -18,16 +18,16 @@ pub(crate) enum Argument {
     Flag { name: &'static str, help: Help },
     /// A value in its place.
     InPlace(ValuedArgument),
-    /// The last value in its place, and its default where it is left out.
-    Last(ValuedArgument, &'static str),
+    /// A value in its place, the last one, and what it is where it is left out.
+    InPlaceOr(ValuedArgument, &'static str),
+    /// A value in its place, the last one, if it is given.
+    InPlaceIfGiven(ValuedArgument),
     /// A value after its name, which may not be left out.
     Named(ValuedArgument),
-    /// A value after its name, and its default where it is left out.
-    Optional(ValuedArgument, &'static str),
-    /// A value after its name, or none.
-    Maybe(ValuedArgument),
-    /// The last value in its place, or none.
-    MaybeLast(ValuedArgument),
+    /// A value after its name, and what it is where it is left out.
+    NamedOr(ValuedArgument, &'static str),
+    /// A value after its name, if it is given.
+    NamedIfGiven(ValuedArgument),
 }
 
 /// What has a value.
@@ -111,7 +111,7 @@ const FIRST_DAY: Argument = Argument::InPlace(ValuedArgument {
     kind: ValueKind::Text,
 });
 
-const SHA256: Argument = Argument::MaybeLast(ValuedArgument {
+const SHA256: Argument = Argument::InPlaceIfGiven(ValuedArgument {
     name: "sha256",
     shown: "SHA256",
     help: Help::Sha256,
@@ -125,14 +125,14 @@ const RECORD_NAME: Argument = Argument::InPlace(ValuedArgument {
     kind: ValueKind::Text,
 });
 
-const NAMES: Argument = Argument::Maybe(ValuedArgument {
+const NAMES: Argument = Argument::NamedIfGiven(ValuedArgument {
     name: "from",
     shown: "FILE",
     help: Help::Names,
     kind: ValueKind::Text,
 });
 
-const LAYOUT: Argument = Argument::Optional(
+const LAYOUT: Argument = Argument::NamedOr(
     ValuedArgument {
         name: "layout",
         shown: "LAYOUT",
@@ -162,7 +162,7 @@ const DISPUTE_CSV: Argument = Argument::Flag {
     help: Help::DisputeCsv,
 };
 
-const WAIT: Argument = Argument::Optional(
+const WAIT: Argument = Argument::NamedOr(
     ValuedArgument {
         name: "wait",
         shown: "SECONDS",
@@ -172,14 +172,14 @@ const WAIT: Argument = Argument::Optional(
     "10",
 );
 
-const CENTRE: Argument = Argument::Maybe(ValuedArgument {
+const CENTRE: Argument = Argument::NamedIfGiven(ValuedArgument {
     name: "centre",
     shown: "CENTRE",
     help: Help::Centre,
     kind: ValueKind::Text,
 });
 
-const CPU: Argument = Argument::Optional(
+const CPU: Argument = Argument::NamedOr(
     ValuedArgument {
         name: "cpu",
         shown: "RATE",
@@ -189,7 +189,7 @@ const CPU: Argument = Argument::Optional(
     "0",
 );
 
-const EXCP: Argument = Argument::Optional(
+const EXCP: Argument = Argument::NamedOr(
     ValuedArgument {
         name: "excp",
         shown: "RATE",
@@ -199,7 +199,7 @@ const EXCP: Argument = Argument::Optional(
     "0",
 );
 
-const RECORD: Argument = Argument::Optional(
+const RECORD: Argument = Argument::NamedOr(
     ValuedArgument {
         name: "record",
         shown: "RATE",
@@ -209,14 +209,14 @@ const RECORD: Argument = Argument::Optional(
     "0",
 );
 
-const PRICES: Argument = Argument::Maybe(ValuedArgument {
+const PRICES: Argument = Argument::NamedIfGiven(ValuedArgument {
     name: "tariff",
     shown: "FILE",
     help: Help::Prices,
     kind: ValueKind::Text,
 });
 
-const OTHER_PRICES: Argument = Argument::Maybe(ValuedArgument {
+const OTHER_PRICES: Argument = Argument::NamedIfGiven(ValuedArgument {
     name: "tariff",
     shown: "FILE",
     help: Help::OtherPrices,
@@ -247,7 +247,7 @@ const NUMBER_KIND: Argument = Argument::InPlace(ValuedArgument {
     ]),
 });
 
-const NUMBER: Argument = Argument::Last(
+const NUMBER: Argument = Argument::InPlaceOr(
     ValuedArgument {
         name: "number",
         shown: "NUMBER",
