@@ -1,6 +1,6 @@
 -- Lists that are written while the books are open: the details of a period, the rulings and the
 -- disputes. They are never held whole.
-use Rattle.std.specs.Prelude.{◌≡◌, Bool, false, if◌then◌else◌, ℕ, List, ◌++◌, Option, Some, None, Result}
+use Rattle.std.specs.Prelude.{◌≡◌, false, ℕ, List, ◌++◌, Option, Some, None, Result}
 use Rattle.std.specs.Prelude.{Ok, Err, IfErr, OnOk}
 use Rattle.std.proofs.Common.{sym, subst}
 use Rattle.std.specs.Option.{option_map}
@@ -8,9 +8,7 @@ use Rattle.book_model.specs.declared.fault.LedgerFault.{LedgerFault}
 use Rattle.book_model.specs.Words.{Book, IsMadeByCalls, Naming}
 use Rattle.book_core.specs.Follow.{MakesAnswered}
 use Rattle.book_reports.specs.declared.fault.ReportFault.{ReportFault}
-use Rattle.book_reports.specs.declared.streamed_disputes.DisputeForm.TheVariants as form
 use Rattle.book_reports.specs.declared.what_if.StatementForm.{StatementForm}
-use Rattle.book_reports.specs.declared.what_if.StatementForm.TheVariants as shown_as
 use Rattle.book_reports.specs.BookTexts.{ruling_text}
 use Rattle.book_reports.specs.StreamedAnswers.{WritesAnswer, answered_by}
 use Rattle.book_reports.specs.StreamedDetails.{WritesSomeDetails, detail_answer}
@@ -42,30 +40,19 @@ WritesSomeOf (list.Details report) = WritesSomeDetails report
 WritesSomeOf list.Rulings = WritesSomeRulings
 WritesSomeOf (list.Disputes form) = WritesSomeDisputes form
 
--- as a table, or as a text
-abbrev pub details_form : Bool → StatementForm
-details_form csv = if csv then shown_as.Table else shown_as.Text
-
--- details in that form, of one centre or of the whole office
-abbrev pub details_for : Bool → ℕ → Option (List ℕ) → StreamedList
-details_for csv period centre = list.Details (record {
-  form = details_form csv;
-  period = period;
-  centre = centre;
-})
+-- details in this form, of one centre or of the whole office
+abbrev pub details_for : StatementForm → ℕ → Option (List ℕ) → StreamedList
+details_for form period centre =
+    list.Details (record { form = form; period = period; centre = centre })
 
 -- those that words ask for, if the centre is what it has to be
-abbrev pub details_by : Bool → PeriodWords → Option StreamedList
-details_by csv period = option_map (details_for csv period.number) (asked_centre period.centre)
-
--- the disputes, as a table or as a list for people
-abbrev pub disputes_by : Bool → StreamedList
-disputes_by csv = list.Disputes (if csv then form.Table else form.List)
+abbrev pub details_by : StatementForm → PeriodWords → Option StreamedList
+details_by form period = option_map (details_for form period.number) (asked_centre period.centre)
 
 -- the list that words ask for, if each of them is what it has to be
 abbrev pub list_of : ListWords → Option StreamedList
-list_of (worded.Details csv period) = details_by csv period
-list_of (worded.Disputes csv) = Some (disputes_by csv)
+list_of (worded.Details form period) = details_by form period
+list_of (worded.Disputes form) = Some (list.Disputes form)
 list_of worded.Rulings = Some list.Rulings
 
 -- a list makes events that the books answered, since it makes none

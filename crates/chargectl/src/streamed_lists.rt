@@ -33,21 +33,10 @@ pub(crate) enum StreamedList {
     Disputes(DisputeForm),
 }
 
-fn details_form(csv: bool) -> StatementForm
-    ensures { result ≡ spec.details_form csv }
-{
-    if csv {
-        StatementForm::Table
-    } else {
-        StatementForm::Text
-    }
-}
-
 /// The details of a period. `None`: the text of the centre is no name.
-fn details_by(csv: bool, period: PeriodWords<'_>) -> Option<StreamedList>
-    ensures { result ≡ spec.details_by csv period.entry }
+fn details_by(form: StatementForm, period: PeriodWords<'_>) -> Option<StreamedList>
+    ensures { result ≡ spec.details_by form period.entry }
 {
-    let form = details_form(csv);
     let centre = asked_centre(period.centre)?;
     Some(StreamedList::Details(DetailReport {
         form,
@@ -56,24 +45,13 @@ fn details_by(csv: bool, period: PeriodWords<'_>) -> Option<StreamedList>
     }))
 }
 
-/// The disputes as a table of comma-separated values, or as a list for people.
-fn disputes_by(csv: bool) -> StreamedList
-    ensures { result ≡ spec.disputes_by csv }
-{
-    if csv {
-        StreamedList::Disputes(DisputeForm::Table)
-    } else {
-        StreamedList::Disputes(DisputeForm::List)
-    }
-}
-
 /// The list that words ask for. `None`: one of them is not what it has to be.
 fn list_of(words: ListWords<'_>) -> Option<StreamedList>
     ensures { result ≡ spec.list_of words.entry }
 {
     match words {
-        ListWords::Details { csv, period } => details_by(csv, period),
-        ListWords::Disputes { csv } => Some(disputes_by(csv)),
+        ListWords::Details { form, period } => details_by(form, period),
+        ListWords::Disputes { form } => Some(StreamedList::Disputes(form)),
         ListWords::Rulings => Some(StreamedList::Rulings),
     }
 }

@@ -12,6 +12,8 @@ use Rattle.smf_frames.specs.declared.dump.Layout.{Layout}
 use Rattle.smf_frames.specs.declared.dump.Layout.TheVariants.{Rdw, Bdw}
 use Rattle.book_reports.specs.declared.report.PeriodReport.{PeriodReport}
 use Rattle.book_reports.specs.declared.report.PeriodReport.TheVariants as of_period
+use Rattle.book_reports.specs.declared.streamed_disputes.DisputeForm.{DisputeForm}
+use Rattle.book_reports.specs.declared.streamed_disputes.DisputeForm.TheVariants as disputes
 use Rattle.book_reports.specs.declared.what_if.StatementForm.{StatementForm}
 use Rattle.book_reports.specs.declared.what_if.StatementForm.TheVariants as form
 use Rattle.command_line.specs.declared.request.BookRequest.{BookRequest}
@@ -116,7 +118,7 @@ IsOfPeriod name rows of_period.StatementTable =
 IsOfPeriod name rows of_period.AdjustmentList = (name ≡ codes "adjustments") × IsCsv rows false
 IsOfPeriod name rows of_period.AdjustmentTable = (name ≡ codes "adjustments") × IsCsv rows true
 
--- a statement is a table where `--csv` asks for one, or else a text
+-- a statement, a bill or details are a table where `--csv` asks for one, or else a text
 abbrev pub is_table : StatementForm → Bool
 is_table form.Text = false
 is_table form.Table = true
@@ -137,11 +139,17 @@ AsksReport name rows worded.Periods = name ≡ codes "periods"
 AsksReport name rows (worded.TariffText date) =
     (name ≡ codes "tariff-text") × IsText rows (codes "date") date
 
+-- disputes are so too, or else a list for people
+abbrev pub is_dispute_table : DisputeForm → Bool
+is_dispute_table disputes.List = false
+is_dispute_table disputes.Table = true
+
 -- a list
 abbrev pub AsksList : Text → List Row → ListWords → Type 0
-AsksList name rows (list.Details csv period) =
-    (name ≡ codes "details") × NamesPeriod rows period × IsCsv rows csv
-AsksList name rows (list.Disputes csv) = (name ≡ codes "disputes") × IsCsv rows csv
+AsksList name rows (list.Details form period) =
+    (name ≡ codes "details") × NamesPeriod rows period × IsForm rows form
+AsksList name rows (list.Disputes form) =
+    (name ≡ codes "disputes") × IsCsv rows (is_dispute_table form)
 AsksList name rows list.Rulings = name ≡ codes "rulings"
 
 -- a ruling

@@ -9,14 +9,14 @@ ghost use Rattle.command_line.specs.Known as known;
 ghost use Rattle.command_line.specs.Requests.{IsAtOnce, IsCsv, IsDump, IsFlag, IsKind};
 ghost use Rattle.command_line.specs.Requests.{IsLayout, IsLeftOut, IsNumber, IsOfBooks, IsOfCommand};
 ghost use Rattle.command_line.specs.Requests.{IsOfPeriod, IsRequest, IsRuling, IsText, NamesPeriod};
-ghost use Rattle.command_line.specs.Requests.{is_table, rows_in};
+ghost use Rattle.command_line.specs.Requests.{is_dispute_table, is_table, rows_in};
 ghost use Rattle.command_line.specs.Requests as spec;
 
 use crate::request::{
     BookRequest, DumpFile, ListWords, NumberKind, PeriodWords, ReportWords, Request, Ruling,
     Unclear,
 };
-use book_reports::{PeriodReport, StatementForm};
+use book_reports::{DisputeForm, PeriodReport, StatementForm};
 use clap::ArgMatches;
 use smf_frames::Layout;
 
@@ -407,7 +407,8 @@ fn details_in<'a>(found: &ArgMatches<'a>) -> Option<BookRequest<'a>>
 {
     let period = period_in(found)?;
     let csv = flag_in(found, "csv")?;
-    Some(BookRequest::List(ListWords::Details { csv, period }))
+    let form = statement_form(csv);
+    Some(BookRequest::List(ListWords::Details { form, period }))
 }
 
 /// The bill of the centre that is named, or what each centre owes.
@@ -435,7 +436,18 @@ fn disputes_in<'a>(found: &ArgMatches<'_>) -> Option<BookRequest<'a>>
     ensures some { HasWord (rows_in found.now) known.csv → IsSome result }
 {
     let csv = flag_in(found, "csv")?;
-    Some(BookRequest::List(ListWords::Disputes { csv }))
+    let form = dispute_form(csv);
+    Some(BookRequest::List(ListWords::Disputes { form }))
+}
+
+fn dispute_form(csv: bool) -> DisputeForm
+    ensures { is_dispute_table result ≡ csv }
+{
+    if csv {
+        DisputeForm::Table
+    } else {
+        DisputeForm::List
+    }
 }
 
 fn record_in<'a>(found: &ArgMatches<'a>) -> Option<BookRequest<'a>>

@@ -1,4 +1,4 @@
-use book_reports::{PeriodReport, StatementForm};
+use book_reports::{DisputeForm, PeriodReport, StatementForm};
 use smf_frames::Layout;
 
 /// What kind of thing a number stands for, or a word on standard error that has none: 0 stands for
@@ -125,15 +125,11 @@ pub enum ReportWords<'a> {
 pub enum ListWords<'a> {
     /// The records that a period counts, each with what it costs.
     Details {
-        /// As a table of comma-separated values.
-        csv: bool,
+        form: StatementForm,
         period: PeriodWords<'a>,
     },
     /// The disputes.
-    Disputes {
-        /// As a table of comma-separated values.
-        csv: bool,
-    },
+    Disputes { form: DisputeForm },
     /// The rulings.
     Rulings,
 }
