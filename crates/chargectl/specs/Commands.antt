@@ -1,9 +1,7 @@
 -- What each command on books asks of the office, what is written, and how it ends.
 use Rattle.std.specs.Prelude.{◌≡◌, ◌⊎◌, ⊤, Bool, true, false, ℕ, List, Option, Some, None, Result, Ok, Err}
-use Rattle.std.specs.Prelude.{take}
 use Rattle.std.specs.Borrow.{Bor}
 use Rattle.std.specs.Option.{option_map}
-use Rattle.std.specs.Io.KnownBytes.{Appends}
 use Rattle.smf_text.specs.Day.{day_of_text_of}
 use Rattle.streams.specs.InputOutput.{Input}
 use Rattle.book_model.specs.declared.fault.LedgerFault.{LedgerFault}
@@ -40,8 +38,8 @@ use Rattle.chargectl.specs.declared.ended.Answered.{Answered}
 use Rattle.chargectl.specs.declared.ended.Ended.{Ended}
 use Rattle.chargectl.specs.declared.notice.Notice.{Notice}
 use Rattle.chargectl.specs.Far.{far_notice}
-pub use Rattle.chargectl.specs.Faults.{IsFileFault, IsTextFault}
-use Rattle.chargectl.specs.Faults.{IsOutputFault, end_of, shelf_fault, without_log}
+pub use Rattle.chargectl.specs.Faults.{IsFileFault, IsPrinted, IsTextFault}
+use Rattle.chargectl.specs.Faults.{end_of, shelf_fault, without_log}
 use Rattle.chargectl.specs.FirstBytes.{IsLookedAt, layout_notice}
 
 -- the centre that is asked for, if that is a name; or none, for the whole office
@@ -240,13 +238,6 @@ first_fault (Err fault) later = Err fault
 abbrev pub ends_by : Answer → Result (Unit {0}) CommandFault → Result (Unit {0}) CommandFault
 ends_by (answers.Receipt receipt) written = first_fault (end_of receipt.stop) written
 ends_by answer written = written
-
--- the text was written whole; or the output failed, and has a prefix of it
-abbrev pub IsPrinted : List ℕ → Option (List ℕ) → Option (List ℕ) → Result (Unit {0}) CommandFault
-    → Type 0
-IsPrinted text held holds (Ok done) = Appends held holds text
-IsPrinted text held holds (Err why) =
-    IsOutputFault why × (count : ℕ) × Appends held holds (take count text)
 
 -- What a command writes of an answer, and how it ends. Of a fault nothing is written.
 abbrev pub IsTold : Result Answer CommandFault → Option (List ℕ) → Option (List ℕ)

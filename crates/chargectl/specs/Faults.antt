@@ -1,7 +1,7 @@
 -- Why a command did not do what it was asked, what it noticed beside that, and the exit status and the
 -- lines on standard error that say so.
 use Rattle.std.specs.Prelude.{◌≡◌, ◌⊎◌, if◌then◌else◌, false, ℕ, List, [], ◌∷◌, ◌++◌, codes}
-use Rattle.std.specs.Prelude.{Option, Some, None, Result, Ok, Err}
+use Rattle.std.specs.Prelude.{Option, Some, None, Result, Ok, Err, take}
 use Rattle.std.specs.Io.KnownBytes.{Appends}
 use Rattle.std.specs.declared.io.ErrorKind.{ErrorKind}
 use Rattle.std.specs.declared.io.ErrorKind.TheVariants.{OutOfMemory}
@@ -147,11 +147,12 @@ IsFileFault why = (kind : ErrorKind) × (why ≡ io_fault kind)
 abbrev pub IsOutputFault : CommandFault → Type 0
 IsOutputFault why = IsFileFault why ⊎ (why ≡ fault.Report report.Write)
 
--- a text was written, unless the output failed
-abbrev pub EndsText : List ℕ → Option (List ℕ) → Option (List ℕ) → Result (Unit {0}) CommandFault
+-- the text was written whole; or the output failed, and has a prefix of it
+abbrev pub IsPrinted : List ℕ → Option (List ℕ) → Option (List ℕ) → Result (Unit {0}) CommandFault
     → Type 0
-EndsText text held holds (Ok done) = Appends held holds text
-EndsText text held holds (Err why) = IsFileFault why
+IsPrinted text held holds (Ok done) = Appends held holds text
+IsPrinted text held holds (Err why) =
+    IsOutputFault why × (count : ℕ) × Appends held holds (take count text)
 
 -- the file of a tariff failed, or has too many bytes, or is no text
 abbrev pub IsTextFault : CommandFault → Type 0

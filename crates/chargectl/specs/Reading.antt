@@ -28,7 +28,7 @@ use Rattle.program_output.specs.Trials.{IsTrial}
 use Rattle.chargectl.specs.declared.command_fault.CommandFault.{CommandFault}
 use Rattle.chargectl.specs.declared.command_fault.CommandFault.TheVariants as fault
 use Rattle.chargectl.specs.declared.ended.Ended.{Ended}
-use Rattle.chargectl.specs.Faults.{EndsText, IsTextFault, io_fault, without_log}
+use Rattle.chargectl.specs.Faults.{IsPrinted, IsTextFault, io_fault, without_log}
 use Rattle.chargectl.specs.FirstBytes.{IsLookedAt, dump_end}
 
 -- how a trial ends of a dump that looked misread or not
@@ -138,7 +138,7 @@ abbrev pub TellsNumber : Option Explanation → Option (List ℕ) → Option (Li
     → Result (Unit {0}) CommandFault → Type 0
 TellsNumber None held holds ended = (holds ≡ held) × (ended ≡ Err fault.Number)
 TellsNumber (Some told) held holds ended =
-    EndsText (explanation_text told.meaning.now told.advice.now) held holds ended
+    IsPrinted (explanation_text told.meaning.now told.advice.now) held holds ended
 
 pub record TellsOf (kind : FaultKind) (number : ℕ) (held holds : Option (List ℕ))
     (ended : Result (Unit {0}) CommandFault) : Type 0 where

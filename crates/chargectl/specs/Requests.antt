@@ -2,7 +2,6 @@
 use Rattle.std.specs.Prelude.{◌≡◌, ◌⊎◌, Bool, true, ℕ, List, [], ◌∷◌, ◌++◌, length, Option, None}
 use Rattle.std.specs.Prelude.{IfErr, IfOk, Result, Ok, Err, String, string_bytes}
 use Rattle.std.specs.Global.{Global}
-use Rattle.std.specs.Io.KnownBytes.{Appends}
 use Rattle.tariff_rules.specs.Limits.{most_rate}
 use Rattle.book_model.specs.declared.fault.LedgerFault.TheVariants as ledger
 use Rattle.book_http.specs.declared.served.Served.{Served}
@@ -17,7 +16,7 @@ use Rattle.command_line.specs.Known.{AreReadAs, as_texts}
 use Rattle.command_line.specs.declared.fault.ArgumentFault.TheVariants as words
 use Rattle.program_output.specs.declared.status.Status.{Status}
 use Rattle.program_output.specs.declared.status.Status.TheVariants as status
-use Rattle.program_output.specs.Messages.{io_line, ledger_line, program_name}
+use Rattle.program_output.specs.Messages.{ledger_line, program_name}
 use Rattle.chargectl.specs.declared.command_fault.CommandFault.{CommandFault}
 use Rattle.chargectl.specs.declared.command_fault.CommandFault.TheVariants as fault
 use Rattle.chargectl.specs.declared.ended.Ended.{Ended}
@@ -25,8 +24,8 @@ use Rattle.chargectl.specs.Audits.{AuditsBooks, BacksUp}
 use Rattle.chargectl.specs.Choices.{ChoosesListed}
 use Rattle.chargectl.specs.Commands.{AsksAndTells, IsRefusedBy, IsShelfFault}
 use Rattle.chargectl.specs.DryRuns.{TriesAndTells}
-use Rattle.chargectl.specs.Faults.{IsFileFault, error_lines, settled_as, shelf_end, status_by}
-use Rattle.chargectl.specs.Faults.{without_log}
+use Rattle.chargectl.specs.Faults.{IsFileFault, IsPrinted, came_lines, came_status, error_lines}
+use Rattle.chargectl.specs.Faults.{settled_as, shelf_end, status_by, without_log}
 use Rattle.chargectl.specs.Reading.{Checks, TellsOf, TriesAt, TriesUnder, kind_of}
 use Rattle.chargectl.specs.StreamedLists.{ListsAsked, list_of}
 use Rattle.chargectl.specs.Upgrades.{UpgradesBy}
@@ -139,6 +138,14 @@ Runs shelf waits old new (request.OfBooks name wait asked) had held holds ended 
 Runs shelf waits old new (request.Unclear why) had held holds ended =
     (new ≡ old) × (holds ≡ held) × (ended ≡ without_log (Err (fault.Unclear why)))
 
+-- help was written, or why not, which is said as of any command
+pub record Helps (text : List ℕ) (held holds : Option (List ℕ)) (Says : List (List ℕ) → Type 0)
+    (ended : Status) : Type 0 where
+  pub written : Result (Unit {0}) CommandFault
+  pub printed : IsPrinted text held holds written
+  pub ends : ended ≡ came_status written
+  pub said : Says (came_lines written)
+
 -- What was wrong with the words, or help, which is written to standard output; and what is said on
 -- standard error.
 abbrev pub IsRefusedFor : ArgumentFault → Option (List ℕ) → Option (List ℕ)
@@ -148,8 +155,7 @@ IsRefusedFor words.Memory held holds Says ended =
 IsRefusedFor (words.Wrong text) held holds Says ended =
     (holds ≡ held) × (ended ≡ status.Usage) × Says (string_bytes text ∷ [])
 IsRefusedFor (words.Help text) held holds Says ended =
-    (Appends held holds (string_bytes text) × (ended ≡ status.Done) × Says [])
-    ⊎ ((ended ≡ status.Io) × Says (io_line ∷ []))
+    Helps (string_bytes text) held holds Says ended
 
 -- What was asked was done; or nothing was asked.
 abbrev pub DoesOrRefuses : {S : Type 0} → (S → Shelf) → (S → ℕ → Type 0) → S → S

@@ -8,7 +8,7 @@ use Rattle.named_books.specs.Shelves.{Shelf, IsUntouched}
 use Rattle.chargectl.specs.declared.command_fault.CommandFault.{CommandFault}
 use Rattle.chargectl.specs.declared.ended.Ended.{Ended}
 use Rattle.chargectl.specs.Commands.{IsRefusedBy}
-use Rattle.chargectl.specs.Faults.{EndsText, shelf_fault}
+use Rattle.chargectl.specs.Faults.{IsPrinted, shelf_fault}
 
 -- what is written of them, by what came of it: the number of the form that they have now, or that they
 -- had it before
@@ -19,7 +19,7 @@ upgrade_text Already = codes "ALREADY\n"
 -- It was written, unless the output failed. Of books that were not opened nothing is.
 abbrev pub EndsUpgrade : Result Upgraded RepositoryFault → Option (List ℕ) → Option (List ℕ)
     → Result (Unit {0}) CommandFault → Type 0
-EndsUpgrade (Ok upgraded) held holds came = EndsText (upgrade_text upgraded) held holds came
+EndsUpgrade (Ok upgraded) held holds came = IsPrinted (upgrade_text upgraded) held holds came
 EndsUpgrade (Err fault) held holds came = (holds ≡ held) × (came ≡ Err (shelf_fault fault))
 
 -- The books of a name were brought over, or had the present form, or why not; and whether their log is

@@ -115,7 +115,7 @@ fn say_notice<E: Writer>(notice: Option<Notice>, errors: &mut E)
 }
 
 /// Says why a command was not done, if it was not.
-fn say_fault<E: Writer>(came: Result<(), CommandFault>, errors: &mut E) -> Status
+pub(crate) fn say_fault<E: Writer>(came: Result<(), CommandFault>, errors: &mut E) -> Status
     ensures status { result ≡ came_status came }
     ensures said { AreSaid E.contents E.may_answer (came_lines came) errors.old errors.new }
 {

@@ -19,6 +19,7 @@ mod laws;
 mod notice;
 mod places;
 mod port;
+mod printed_text;
 mod program;
 mod progress;
 mod report_commands;

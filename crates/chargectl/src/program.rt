@@ -1,23 +1,24 @@
 //! What the program does with its words and streams.
 
-ghost use Rattle.std.specs.Prelude.{◌≡◌, IfErr, IfOk, Ok};
+ghost use Rattle.std.specs.Prelude.{◌≡◌, IfErr, IfOk, Ok, string_bytes};
 ghost use Rattle.tariff_rules.specs.TariffFile.{terms_in};
 ghost use Rattle.program_output.specs.Messages.{AreSaid};
-ghost use Rattle.chargectl.specs.Faults.{EndsText, IsFaultIn, shelf_end};
+ghost use Rattle.chargectl.specs.Faults.{IsFaultIn, IsPrinted, shelf_end};
 ghost use Rattle.chargectl.specs.Reading as spec;
 ghost use Rattle.chargectl.specs.Reading.{Checks, IsTariffRead, Lists, TellsOf, TriesBy, TriesUnder};
 ghost use Rattle.chargectl.specs.Reading.{check_end, lasting, trial_end};
 ghost use Rattle.chargectl.specs.Requests as requests;
-ghost use Rattle.chargectl.specs.Requests.{CommandsBy, Does, IsRefusedFor, Runs};
+ghost use Rattle.chargectl.specs.Requests.{CommandsBy, Does, Helps, IsRefusedFor, Runs};
 
 use crate::audits::{audit, back_up};
 use crate::book_commands::{import_dump, rule, tariff_text, tell};
 use crate::choices::choose_listed;
 use crate::command_fault::CommandFault;
 use crate::dry_runs::dry_run;
-use crate::ended::{Ended, settled};
+use crate::ended::{Ended, say_fault, settled};
 use crate::first_bytes::{LookedAt, look_at};
 use crate::help_lines::{Said, help};
+use crate::printed_text::print_text;
 use crate::progress::{WatchedReader, clear_line};
 use crate::report_commands::{report, what_if};
 use crate::serve::serve;
@@ -30,11 +31,11 @@ use book_reports::ReportFault;
 use command_line::{ArgumentFault, BookRequest, DumpFile, NumberKind, Request, requested_by};
 use named_books::{RepositoryFault, WaitingRepository};
 use program_output::{
-    Explanation, FaultKind, PROGRAM, Status, WordKind, check_list, explained, io_failed,
-    out_of_memory, say, trial,
+    Explanation, FaultKind, PROGRAM, Status, WordKind, check_list, explained, out_of_memory, say,
+    trial,
 };
 use smf_frames::Layout;
-use std::alloc::Global;
+use std::alloc::{AllocError, Global};
 use std::io::{IsTerminal, Read, Write};
 use streams::Writer;
 use tariff_rules::{MAX_RATE, Tariff, TariffFault};
@@ -95,7 +96,7 @@ fn run<S: AuditedRepository + WaitingRepository, I: Read + Drop, O: Write + Drop
         Request::TrialUnder { layout, file } => run_trial_under(rt, layout, file, input, output),
         Request::Check(dump) => check(rt, dump, output),
         Request::Explain { kind, number } => {
-            let came = explain(kind, number, &mut output);
+            let came = explain(rt.alloc(), kind, number, &mut output);
             (Ended::without_log(came), output)
         }
         Request::OfBooks { book, wait, asked } => {
@@ -183,15 +184,22 @@ fn refuse<O: Write + Drop, E: Writer>(
             say(errors, text.as_str());
             (Status::Usage, output)
         }
-        ArgumentFault::Help(text) => match write!(output, "{text}") {
-            Ok(()) => (Status::Done, output),
-            Err(_) => (io_failed(errors), output),
-        },
+        ArgumentFault::Help(text) => (print_help(text.as_str(), &mut output, errors), output),
     }
+}
+
+/// Writes help. Why it was not written is said as of any command.
+fn print_help<O: Write, E: Writer>(text: &str, output: &mut O, errors: &mut E) -> Status
+    ensures { Helps text.now (O.contents output.old) (O.contents output.new)
+        (λ lines. AreSaid E.contents E.may_answer lines errors.old errors.new) result }
+{
+    let written = print_text(text, output);
+    say_fault(written, errors)
 }
 
 /// Says what a number or a word means.
 fn explain<O: Write + Drop>(
+    alloc: Global,
     kind: NumberKind,
     number: u16,
     output: &mut O,
@@ -202,20 +210,30 @@ fn explain<O: Write + Drop>(
     let Some(Explanation { meaning, advice }) = explained(numbered(kind), number) else {
         return Err(CommandFault::Number);
     };
-    tell_lines(meaning, advice, output)
+    tell_lines(alloc, meaning, advice, output)
 }
 
-/// Writes what a number means and what to do, so that it has left the program.
+/// Writes what a number means and what to do.
 fn tell_lines<O: Write + Drop>(
+    alloc: Global,
     meaning: &str,
     advice: &str,
     output: &mut O,
 ) -> Result<(), CommandFault>
-    ensures { EndsText (spec.explanation_text meaning.now advice.now)
+    ensures { IsPrinted (spec.explanation_text meaning.now advice.now)
         (O.contents output.old) (O.contents output.new) result }
 {
-    writeln!(output, "{meaning}\n{advice}")?;
-    Ok(output.flush()?)
+    match explanation_text(alloc, meaning, advice) {
+        Ok(text) => print_text(text.as_str(), output),
+        Err(_) => Err(CommandFault::Ledger(LedgerFault::Memory)),
+    }
+}
+
+fn explanation_text(alloc: Global, meaning: &str, advice: &str) -> Result<String, AllocError>
+    ensures { IfOk result (λ text. string_bytes text
+        ≡ spec.explanation_text meaning.now advice.now) }
+{
+    format!(in alloc; "{meaning}\n{advice}\n")
 }
 
 fn numbered(kind: NumberKind) -> FaultKind

@@ -4,7 +4,7 @@
 ghost use Rattle.std.specs.Prelude.{◌≡◌, false};
 ghost use Rattle.chargectl.specs.ServedLines.{Gains, GainsBy, seen_of, unfailed};
 
-use program_output::hand_all;
+use crate::printed_text::print_bytes;
 use std::io::Write;
 
 /// An output that takes lines up to the first write that fails.
@@ -55,10 +55,8 @@ impl<O: Write + Drop> ServedLines<O> {
 fn fails_to_write<O: Write>(output: &mut O, bytes: &[u8]) -> bool
     ensures { GainsBy false result (O.contents output.old) (O.contents output.new) bytes.now }
 {
-    let written = hand_all(output, bytes);
-    let size = bytes.len();
-    if written < size {
-        return true;
+    match print_bytes(bytes, output) {
+        Ok(()) => false,
+        Err(_) => true,
     }
-    output.flush().is_err()
 }

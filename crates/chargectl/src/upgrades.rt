@@ -1,14 +1,18 @@
 //! Books of an older form are brought over to the present one.
 
-ghost use Rattle.std.specs.Prelude.{Ok, OnOk};
-ghost use Rattle.std.specs.Io.KnownBytes.{Appends};
+ghost use Rattle.std.specs.Prelude.{◌≡◌, Ok};
 ghost use Rattle.chargectl.specs.Upgrades.{EndsUpgrade, UpgradesBy, upgrade_text};
 
 use crate::command_fault::CommandFault;
 use crate::ended::Ended;
+use crate::printed_text::print_text;
+use arrayvec::ArrayString;
+use itoa::Buffer;
 use named_books::{Opened, Repository, RepositoryFault, Upgraded};
-use std::io;
 use std::io::Write;
+
+/// Room for the line of books that were brought over.
+type Line = ArrayString<32>;
 
 /// Brings the books of a name over, and says whether they had the present form before.
 pub(crate) fn upgrade<S: Repository, O: Write + Drop>(
@@ -42,20 +46,26 @@ fn show_upgraded<O: Write + Drop>(
     }
 }
 
-/// Writes it, so that it has left the program.
-fn tell_upgraded<O: Write + Drop>(upgraded: Upgraded, output: &mut O) -> Result<(), CommandFault>
+fn tell_upgraded<O: Write>(upgraded: Upgraded, output: &mut O) -> Result<(), CommandFault>
     ensures { EndsUpgrade (Ok upgraded) (O.contents output.old) (O.contents output.new) result }
 {
-    write_upgraded(upgraded, output)?;
-    Ok(output.flush()?)
+    match upgraded {
+        Upgraded::To(form) => {
+            let line = form_line(form);
+            print_text(line.as_str(), output)
+        }
+        Upgraded::Already => print_text("ALREADY\n", output),
+    }
 }
 
-fn write_upgraded<O: Write>(upgraded: Upgraded, output: &mut O) -> io::Result<()>
-    ensures { OnOk result (Appends (O.contents output.old) (O.contents output.new)
-        (upgrade_text upgraded)) }
+/// The line of books that have this form now.
+fn form_line(form: u32) -> Line
+    ensures { result.bytes ≡ upgrade_text (Upgraded.To form) }
 {
-    match upgraded {
-        Upgraded::To(form) => writeln!(output, "UPGRADED {form}"),
-        Upgraded::Already => writeln!(output, "ALREADY"),
-    }
+    let mut digits = Buffer::new();
+    let mut line = Line::new();
+    line.push_str("UPGRADED ");
+    line.push_str(digits.format(form));
+    line.push_str("\n");
+    line
 }
