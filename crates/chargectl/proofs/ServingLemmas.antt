@@ -23,7 +23,7 @@ use Rattle.chargectl.specs.declared.ended.Ended.{Ended}
 use Rattle.chargectl.specs.ClientRequests.{LeavesLog}
 use Rattle.chargectl.specs.CommandLaws.{AnswersOrNot, OpenedSo, ServesAny, ServesEach}
 use Rattle.chargectl.specs.Faults.{IsFileFault}
-use Rattle.chargectl.specs.Requests.{IsServiceFault, Serves}
+use Rattle.chargectl.specs.Requests.{IsServiceFault, Serves, WritesEarly, WritesLines}
 use Rattle.chargectl.specs.ServedLines.{Gains, unfailed}
 use Rattle.chargectl.specs.Serving.{AnswersSome, IsServing, IsToldOf, ServesInTurn, ServesOne}
 use Rattle.chargectl.specs.Serving.{line_of, lines_of, ready, service_end}
@@ -153,21 +153,31 @@ log_left shelf book old new was None before same =
 
 -- ---- a whole service
 
+-- the first line was written, or lost, and then those of the connections
+lines_written : (held holds : Option (List ℕ)) (first before after : WriterSeen) (told : List Served)
+    → first ≡ unfailed held → Gains first before ready → Gains before after (lines_of told)
+    → holds ≡ after.holds → WritesLines told held holds after.has_failed
+lines_written held holds first before after told begun said lines bytes =
+    subst (λ holds. WritesLines told held holds after.has_failed) (sym bytes)
+    (gains_then (unfailed held) before after ready (lines_of told)
+    (subst (λ first. Gains first before ready) begun said) lines)
+
 -- a service that ended with a fault
 cut_by : {S : Type 0} (shelf : S → Shelf) (Refuses : RepositoryFault → Type 0) (book : List ℕ)
     (old new : S) (requests : ℕ) (held holds : Option (List ℕ)) (ended : Ended) (why : CommandFault)
     (has_log : Bool) (told : List Served)
     → ended ≡ record { came = Err why; has_log = has_log; is_change = true; notice = None }
     → IsServiceFault Refuses why → ServesInTurn shelf book old new told
-    → (shelf new).has_log book has_log
+    → WritesEarly told held holds → (shelf new).has_log book has_log
     → Serves shelf Refuses requests book old new held holds ended
-cut_by shelf Refuses book old new requests held holds ended why has_log told is known turn log =
+cut_by shelf Refuses book old new requests held holds ended why has_log told is known turn wrote log =
     subst (λ ended. Serves shelf Refuses requests book old new held holds ended) (sym is)
     (record {
       told = told;
       turn = turn;
       served = Err why;
       all = tt;
+      early = wrote;
       cause = known;
       ends = refl;
       log = log;
@@ -178,32 +188,35 @@ cut_by shelf Refuses book old new requests held holds ended why has_log told is 
 -- a connection did not come
 pub serves_cut : {S : Type 0} (shelf : S → Shelf) (Refuses : RepositoryFault → Type 0)
     (book : List ℕ) (old new : S) (requests due left : ℕ) (held holds : Option (List ℕ))
-    (before after : WriterSeen) (ended : Ended) (why : CommandFault) (has_log : Bool)
+    (first before after : WriterSeen) (ended : Ended) (why : CommandFault) (has_log : Bool)
+    → first ≡ unfailed held → Gains first before ready → holds ≡ after.holds
     → ended ≡ record { came = Err why; has_log = has_log; is_change = true; notice = None }
     → IsServiceFault Refuses why → IsServing shelf due left book old new before after
     → (shelf new).has_log book has_log
     → Serves shelf Refuses requests book old new held holds ended
-serves_cut shelf Refuses book old new requests due left held holds before after ended why has_log is
-    known it log =
+serves_cut shelf Refuses book old new requests due left held holds first before after ended why has_log
+    begun said bytes is known it log =
     cut_by shelf Refuses book old new requests held holds ended why has_log it.told is known it.turn
+    (inl (after.has_failed,
+    lines_written held holds first before after it.told begun said it.lines bytes))
     log
 
 -- or the books were refused, or the port was in the way
 pub serves_none : {S : Type 0} (shelf : S → Shelf) (book : List ℕ) (old new : S) (requests : ℕ)
-    (held holds : Option (List ℕ)) (ended : Ended) (why : CommandFault) (has_log : Bool)
+    (held : Option (List ℕ)) (ended : Ended) (why : CommandFault) (has_log : Bool)
     (opened : Result (Unit {0}) RepositoryFault)
     → ended ≡ record { came = Err why; has_log = has_log; is_change = true; notice = None }
     → IsServiceFault (λ fault. opened ≡ Err fault) why
     → IsOpened (λ told. NoEvent) book (shelf old) (shelf new) opened
     → (shelf new).has_log book has_log
-    → Serves shelf ((shelf old).refuses book) requests book old new held holds ended
-serves_none shelf book old new requests held holds ended why has_log opened is known none log =
+    → Serves shelf ((shelf old).refuses book) requests book old new held held ended
+serves_none shelf book old new requests held ended why has_log opened is known none log =
     let Refuses = (shelf old).refuses book in
-    cut_by shelf Refuses book old new requests held holds ended why has_log [] is
+    cut_by shelf Refuses book old new requests held held ended why has_log [] is
     (either_as (λ fault. opened ≡ Err fault) Refuses
     (λ fault told. opened_refused (λ told. NoEvent) book (shelf old) (shelf new) opened fault none told)
     (IsFileFault why) why known)
-    (opened_untouched book (shelf old) (shelf new) opened none) log
+    (opened_untouched book (shelf old) (shelf new) opened none) (inr (refl, refl)) log
 
 -- a service of all connections, whose lines were written, or lost from one on
 pub serves_all : {S : Type 0} (shelf : S → Shelf) (book : List ℕ) (old new : S)
@@ -222,7 +235,6 @@ pub serves_all : {S : Type 0} (shelf : S → Shelf) (book : List ℕ) (old new :
     → Serves shelf (λ _. ⊥) requests book old new held holds ended
 serves_all shelf book old new requests due left held holds first before after failed ended has_log
     begun said all none it bytes flag is log =
-    let text = ready ++ lines_of it.told in
     subst (λ ended. Serves shelf (λ _. ⊥) requests book old new held holds ended) (sym is)
     (record {
       told = it.told;
@@ -230,14 +242,10 @@ serves_all shelf book old new requests due left held holds first before after fa
       served = Ok failed;
       all = (
         (let counted : left + length it.told ≡ due = it.count in omega arith),
-        subst (λ failed. Gains (unfailed held) (record { holds = holds; has_failed = failed }) text)
-            (sym flag)
-            (subst
-            (λ holds. Gains (unfailed held) (record { holds = holds; has_failed = after.has_failed })
-            text) (sym bytes)
-            (gains_then (unfailed held) before after ready (lines_of it.told)
-            (subst (λ first. Gains first before ready) begun said) it.lines)),
+        subst (λ failed. WritesLines it.told held holds failed) (sym flag)
+            (lines_written held holds first before after it.told begun said it.lines bytes),
       );
+      early = tt;
       cause = tt;
       ends = refl;
       log = log;
@@ -262,6 +270,7 @@ serves_after shelf book one two three requests held holds ended none it = record
   turn = turn_after shelf book one two three it.told none it.turn;
   served = it.served;
   all = it.all;
+  early = it.early;
   cause = cause_after ((shelf one).refuses book) it.served it.cause;
   ends = it.ends;
   log = it.log;

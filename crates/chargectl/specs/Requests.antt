@@ -1,6 +1,6 @@
 -- What the program does: for each request, and for words that are none.
 use Rattle.std.specs.Prelude.{◌≡◌, ◌⊎◌, Bool, true, ℕ, List, [], ◌∷◌, ◌++◌, length, Option, None}
-use Rattle.std.specs.Prelude.{IfErr, IfOk, Result, Ok, Err, String, string_bytes}
+use Rattle.std.specs.Prelude.{IfErr, IfOk, OnErr, Result, Ok, Err, String, string_bytes}
 use Rattle.std.specs.Global.{Global}
 use Rattle.tariff_rules.specs.Limits.{most_rate}
 use Rattle.book_model.specs.declared.fault.LedgerFault.TheVariants as ledger
@@ -45,6 +45,16 @@ pub record Makes (book : List ℕ) (old new : Shelf) (held holds : Option (List 
 abbrev pub IsServiceFault : (RepositoryFault → Type 0) → CommandFault → Type 0
 IsServiceFault Refuses why = IsShelfFault Refuses why ⊎ IsFileFault why
 
+-- what a service wrote: its lines, up to a write that failed, if one did
+abbrev pub WritesLines : List Served → Option (List ℕ) → Option (List ℕ) → Bool → Type 0
+WritesLines told held holds failed = Gains (unfailed held)
+    (record { holds = holds; has_failed = failed }) (ready ++ lines_of told)
+
+-- what one wrote that ended early: the lines of the connections that came; or nothing, if it did not begin
+abbrev pub WritesEarly : List Served → Option (List ℕ) → Option (List ℕ) → Type 0
+WritesEarly told held holds =
+    ((failed : Bool) × WritesLines told held holds failed) ⊎ ((told ≡ []) × (holds ≡ held))
+
 -- What a service came to: these connections were answered; and all that were due, with their lines, unless
 -- one did not come or the books were in the way. A write of a line that failed is told at the end, and
 -- ends nothing before. And whether a log is left.
@@ -53,8 +63,8 @@ pub record Serves {S : Type 0} (shelf : S → Shelf) (Refuses : RepositoryFault 
   pub told : List Served
   pub turn : ServesInTurn shelf book old new told
   pub served : Result Bool CommandFault
-  pub all : IfOk served (λ failed. (length told ≡ requests) × Gains (unfailed held)
-      (record { holds = holds; has_failed = failed }) (ready ++ lines_of told))
+  pub all : IfOk served (λ failed. (length told ≡ requests) × WritesLines told held holds failed)
+  pub early : OnErr served (WritesEarly told held holds)
   pub cause : IfErr served (IsServiceFault Refuses)
   pub ends : ended.came ≡ service_end served
   pub log : (shelf new).has_log book ended.has_log

@@ -19,6 +19,6 @@ pub returns-in-Err-listen : goal.returns-in-Err-listen
 returns-in-Err-listen g c =
     let held = g.O.Write.contents c.args.output in
     serves_none g.S.Repository.shelf c.args.book.now c.args.repository.now c.open-answer.new.self
-    c.args.requests held held c.ended.result c.in-Err-listen.fault
+    c.args.requests held c.ended.result c.in-Err-listen.fault
     c.open-answer.result.has_log c.open-answer.result.answer c.ended.ensures c.in-Err-listen.ensures
     c.open-answer.ensures.opened c.open-answer.ensures.log

@@ -24,7 +24,8 @@ returns-in-Err g c =
     let each = c.serve_each-answered in
     serves_cut g.S.Repository.shelf (λ _. ⊥) c.args.book.now c.args.repository.now
     each.new.repository c.args.requests c.over-port.result.left _ (contents c.args.output)
-    (contents c.into_inner-in-Err.result) (seen c.say_ready.new.lines) (seen each.new.lines)
-    c.ended-in-Err.result c.from-fault.result each.result.1 c.ended-in-Err.ensures
+    (contents c.into_inner-in-Err.result) (seen c.new-lines.result) (seen c.say_ready.new.lines)
+    (seen each.new.lines) c.ended-in-Err.result c.from-fault.result each.result.1
+    c.new-lines.ensures c.say_ready.ensures c.into_inner-in-Err.ensures c.ended-in-Err.ensures
     (inr (error_kind c.in-Err.error, c.from-fault.ensures)) (rw c.in-Err.is at each.ensures.served)
     each.ensures.log
