@@ -1,6 +1,6 @@
 -- Lists of names that a reader gives, choices by them, and the tariff of a text.
-use Rattle.std.proofs.Common.{◌≡◌, ◌∙◌, List, [], ◌∷◌, ◌++◌, ℕ, Option, Some, None, Result, Ok, Err}
-use Rattle.std.proofs.Common.{ap, append-nil, inl, inr, refl, subst, sym, true≢false}
+use Rattle.std.proofs.Common.{◌≡◌, List, [], ◌∷◌, ◌++◌, ℕ, Option, Some, Result, Ok, Err}
+use Rattle.std.proofs.Common.{inl, inr, refl, subst, sym, true≢false}
 use Rattle.std.proofs.KnownBytes.{Consumes-trans}
 use Rattle.std.specs.Io.Iter.{YieldsKnownByte}
 use Rattle.std.specs.Io.KnownBytes.{Consumes}
@@ -22,7 +22,7 @@ use Rattle.program_output.specs.declared.names.NamesFault.TheVariants as names
 use Rattle.program_output.specs.Names.{IsNamesFault, names_in}
 use Rattle.chargectl.specs.declared.choices.ListAnswered.{ListAnswered}
 use Rattle.chargectl.specs.declared.command_fault.CommandFault.{CommandFault}
-use Rattle.chargectl.specs.Choices.{AreAllOf, ChoosesBy, ChoosesNothing, ComesOfList, IsListFault}
+use Rattle.chargectl.specs.Choices.{ChoosesBy, ChoosesNothing, ComesOfList, IsListFault}
 use Rattle.chargectl.specs.Faults.{IsFaultIn, names_fault}
 use Rattle.chargectl.specs.Reading.{IsTariffRead, lasting}
 
@@ -40,16 +40,6 @@ pub byte_came : (had old new : Option (List ℕ)) (text : List ℕ) (item : Opti
 byte_came had old new text item byte so_far next is =
     Consumes-trans had old new text (byte ∷ []) so_far
     (subst (λ item. YieldsKnownByte old item new) is next)
-
--- no more bytes came, and these are the names of all
-pub all_named : (had left new : Option (List ℕ)) (text : List ℕ) (item : Option (Result ℕ Error))
-    (found : List (List ℕ)) → Consumes had left text → YieldsKnownByte left item new → item ≡ None
-    → names_in text ≡ Ok found → AreAllOf had found
-all_named None left new text item found taken next is read = tt
-all_named (Some bytes) None new text item found taken next is read = absurd taken
-all_named (Some bytes) (Some rest) new text item found taken next is read =
-    let ended : rest ≡ [] = subst (λ item. YieldsKnownByte (Some rest) item new) is next in
-    ap names_in (taken ∙ ap (λ rest. text ++ rest) ended ∙ append-nil text) ∙ read
 
 -- why a text is no list of names
 pub no_list : (text : List ℕ) (found : NamesFault) → IsNamesFault (names_in text) found

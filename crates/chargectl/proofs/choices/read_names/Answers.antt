@@ -3,7 +3,7 @@ use Rattle.std.proofs.KnownBytes.{Consumes-nil}
 use Rattle.std.specs.Io.Iter.{bytes_remaining}
 use Rattle.chargectl.specs.Choices.{IsListFault}
 use Rattle.chargectl.specs.Faults.{names_fault}
-use Rattle.chargectl.proofs.ListLemmas.{all_named, byte_came, fault_is, no_list}
+use Rattle.chargectl.proofs.ListLemmas.{byte_came, fault_is, no_list}
 use Rattle.chargectl.proofs.choices.read_names.Goals as goal
 
 pub loop-byte-init : goal.loop-byte-init
