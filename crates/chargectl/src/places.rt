@@ -282,14 +282,14 @@ fn output_failed<'a>() -> Spot<'a> {
     Spot::at(Place::Output, Some(Cause::Failed))
 }
 
-/// The entry at which the text of a tariff file has its fault. None where no entry has it, and where
-/// the file can't be read again.
+/// The entry at which the text of a tariff file has its fault. None where no entry has it, where
+/// the file can't be read again, and where memory runs out.
 fn entry_in(rt: &HostRuntime, path: &str) -> Option<Entry> {
     if !is_file(rt, path) {
         return None;
     }
     match tariff_text(rt, path) {
-        Ok(text) => Tariff::entry_at_fault(rt.alloc(), text.as_str()),
+        Ok(text) => Tariff::entry_at_fault(rt.alloc(), text.as_str()).ok()?,
         Err(_) => None,
     }
 }
