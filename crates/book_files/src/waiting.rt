@@ -1,7 +1,7 @@
 //! Books that another program is using are asked for again, for a time. An opening that finds them in
 //! use has touched nothing of theirs: their file is locked before their log is opened, or made.
 
-ghost use Rattle.std.specs.Prelude.{◌≡◌, Err, MatchOption};
+ghost use Rattle.std.specs.Prelude.{◌≡◌, ◌||◌, Err, MatchOption};
 ghost use Rattle.named_books.specs.Shelves.{ComesBy};
 
 use crate::repository::Files;
@@ -50,11 +50,16 @@ impl Waiting<'_> {
     /// What came of an opening, if that is all. None where the books were in use: then they are to be
     /// asked for again now, after a pause.
     fn settle<T: Drop>(&mut self, opened: Opened<T>) -> Option<Opened<T>>
-        ensures { MatchOption result (opened.answer ≡ Err RepositoryFault.Busy)
+        ensures answer { MatchOption result (opened.answer ≡ Err RepositoryFault.Busy)
             (λ told. told.answer ≡ opened.answer) }
+
+        // A log that any opening told of is told of in the end.
+        ensures log { MatchOption result
+            (self.new.has_log ≡ (opened.has_log || self.old.has_log))
+            (λ told. told.has_log ≡ (opened.has_log || self.old.has_log)) }
     {
         let Opened { answer, has_log } = opened;
-        let has_log = has_log || self.has_log;
+        let has_log = has_log | self.has_log;
         match answer {
             Err(RepositoryFault::Busy) if self.has_time() => {
                 self.has_log = has_log;
@@ -67,12 +72,13 @@ impl Waiting<'_> {
 
     /// What came of the last opening.
     fn end<T: Drop>(&self, opened: Opened<T>) -> Opened<T>
-        ensures { result.answer ≡ opened.answer }
+        ensures answer { result.answer ≡ opened.answer }
+        ensures log { result.has_log ≡ (opened.has_log || self.now.has_log) }
     {
         let Opened { answer, has_log } = opened;
         Opened {
             answer,
-            has_log: has_log || self.has_log,
+            has_log: has_log | self.has_log,
         }
     }
 }
