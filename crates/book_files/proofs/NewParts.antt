@@ -36,7 +36,7 @@ use Rattle.table_ledger.specs.ReadyBooks.{LeavesTheLast, settled_on, book_of_sto
 use Rattle.table_ledger.specs.declared.summary.Summary.{Summary}
 
 -- the tables of new books are those of the new book
-new_follow : (naming : Naming) → new_tables ≡ tables_of naming new_book
+pub new_follow : (naming : Naming) → new_tables ≡ tables_of naming new_book
 new_follow naming =
     tables_follow naming [] tt (λ bytes there. absurd (true≢false (sym there ∙ none_in bytes)))
 

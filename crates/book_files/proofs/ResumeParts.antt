@@ -2,14 +2,17 @@
 use Rattle.std.proofs.Common.{◌≡◌, ◌∙◌, Bool, true, false, List, Option, None, Some, Result, Ok}
 use Rattle.std.proofs.Common.{Err, length, ap, is_some, subst, sym, true≢false}
 use Rattle.std.proofs.lemmas.List.{length-map}
-use Rattle.std.specs.Prelude.{IfOk}
+use Rattle.std.proofs.Math.Logic.{∥∥₁_elim}
+use Rattle.std.specs.Prelude.{IfErr, IfOk, ⊤}
 use Rattle.std.specs.Option.{option_map}
 use Rattle.sqlite_trees.specs.View.{View, IsClean}
 use Rattle.sqlite_trees.specs.declared.error.StoreError.{StoreError}
 use Rattle.book_model.specs.Words.{Book, Naming}
+use Rattle.book_model.specs.declared.fault.LedgerFault.TheVariants as ledger
 use Rattle.table_model.specs.Tables.{Tables}
 use Rattle.table_model.specs.TablesOf.{tables_of}
 use Rattle.named_books.specs.declared.repository.RepositoryFault.{RepositoryFault}
+use Rattle.named_books.specs.declared.repository.RepositoryFault.TheVariants.{Exists, Ledger}
 use Rattle.tree_tables.proofs.Looking.{looks_also, was_clean}
 use Rattle.tree_tables.proofs.TheBook.{book_absent, book_held}
 use Rattle.tree_tables.specs.Answers.{FindsBook, ListsCloses, ListsTariffs}
@@ -21,7 +24,7 @@ use Rattle.tree_tables.specs.declared.book_row.StoredBook.{StoredBook}
 use Rattle.tree_tables.specs.declared.closed_rows.Close.{Close}
 use Rattle.tree_tables.specs.declared.tariff_rows.StoredTariff.{StoredTariff}
 use Rattle.book_restarts.specs.FileBooks.{RestsAt, StandsAt, file_names}
-use Rattle.book_files.specs.Causes.{IsResumed}
+use Rattle.book_files.specs.Causes.{HasFaultCause, IsResumed}
 use Rattle.book_files.specs.NewBooks.{IsEmpty}
 use Rattle.book_files.specs.Unused.{SaysUnused, are_unused, unused_by}
 
@@ -115,3 +118,24 @@ pub resumed_unused : {A : Type 0} (unused : Bool) (result : Result A RepositoryF
     → IsResumed unused result → IfOk result (λ made. unused ≡ true)
 resumed_unused unused (Ok made) told = told
 resumed_unused unused (Err fault) told = tt
+
+-- and that books are there is answered of none that are new
+not_new : (Row Kept : Type 0) (fault : RepositoryFault) → HasFaultCause ⊥ Row ⊤ fault
+    → (Kept → IsResumed {A = Unit {0}} true (Err fault))
+    → HasFaultCause ⊥ (Row × (∥ Kept ∥₁ → ⊥)) ⊤ fault
+not_new Row Kept (Ledger ledger.NotBooks) cause told = cause
+not_new Row Kept (Ledger ledger.OldForm) cause told = cause
+not_new Row Kept (Ledger ledger.NewForm) cause told = cause
+not_new Row Kept (Ledger ledger.Memory) cause told = tt
+not_new Row Kept (Ledger ledger.Store) cause told = tt
+not_new Row Kept Exists cause told =
+    (cause, λ new. ∥∥₁_elim new (λ one other. absurd one) λ kept. true≢false (told kept))
+not_new Row Kept other cause told = cause
+
+pub why_unresumed : (Clean Row Kept : Type 0) (result : Result (Unit {0}) RepositoryFault)
+    → IfErr result (λ fault. Clean → HasFaultCause ⊥ Row ⊤ fault)
+    → (Kept → Clean → IsResumed true result)
+    → IfErr result (λ fault. Clean → HasFaultCause ⊥ (Row × (∥ Kept ∥₁ → ⊥)) ⊤ fault)
+why_unresumed Clean Row Kept (Ok made) cause told = tt
+why_unresumed Clean Row Kept (Err fault) cause told = λ clean.
+    not_new Row Kept fault (cause clean) (λ kept. told kept clean)

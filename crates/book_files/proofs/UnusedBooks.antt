@@ -1,10 +1,10 @@
 -- Books to which nothing was submitted are those of no history.
 use Rattle.std.proofs.Common.{◌≡◌, ◌∙◌, ℕ, ℤ, suc, true, List, [], ◌∷◌, ◌++◌, ◌||◌}
 use Rattle.std.proofs.Common.{Some, Result, Ok, Err, length, ap, arith, refl}
-use Rattle.std.proofs.Common.{sym, true≢false, unwrap_or, length-append}
+use Rattle.std.proofs.Common.{subst, sym, true≢false, unwrap_or, length-append}
 use Rattle.std.specs.Prelude.{◌&&◌, ◌==◌, IfOk}
 use Rattle.std.specs.FinMap as fin
-use Rattle.std.specs.FinMap.{entries}
+use Rattle.std.specs.FinMap.{empty, entries}
 use Rattle.std.specs.List.{list_any}
 use Rattle.std.proofs.Math.Logic.{∥∥₁_elim}
 use Rattle.std.proofs.lemmas.Bool.Decides.{nat_tests}
@@ -14,16 +14,19 @@ use Rattle.book_model.proofs.RecordSets.{first_of, has_with, is, is_itself, seco
 use Rattle.book_model.specs.Words.{AcceptedTerms, Book, Choice, Event, Naming, Records}
 use Rattle.book_model.specs.Words.{PeriodClosed, RecordChosen, RecordKept, RulingGiven}
 use Rattle.book_model.specs.Words.{SecondRuleAdopted, TariffAccepted, book_after, has, members}
-use Rattle.book_model.specs.Words.{open_by}
+use Rattle.book_model.specs.Words.{new_book, open_by}
 use Rattle.book_model.specs.Sound.{IsChoiceOf}
 use Rattle.book_trees.specs.LedgerFiles.{HoldsBooks, trees_held}
 use Rattle.table_model.proofs.RulingsReading.{tariffs_kept}
 use Rattle.table_model.proofs.UnderNumbers.{entries-numbers}
 use Rattle.table_model.specs.Readable.{IsReadable}
+use Rattle.table_model.specs.Tables.{Tables}
+use Rattle.table_model.specs.TablesAfter.{new_tables}
 use Rattle.table_model.specs.TablesOf.{close_entries, tables_of, tariff_entries}
 use Rattle.table_ledger.specs.Ready.{IsStoredIn}
 use Rattle.book_restarts.specs.FileBooks.{HoldsHistory}
 use Rattle.book_files.specs.Unused.{are_unused, unused_by}
+use Rattle.book_files.proofs.NewParts.{new_follow}
 
 -- there are as many rows as tariffs
 tariffs_many : (tariffs : List AcceptedTerms) → length (tariff_entries tariffs) ≡ length tariffs
@@ -135,3 +138,12 @@ none_resumed names (event ∷ older) first (Ok made) held unused =
     let never : ⊥ = ∥∥₁_elim held.held (λ one other. absurd one) λ kept.
     used names event older kept.1.readable (unused kept.0 kept.1) in
     absurd never
+
+-- and to new books nothing was submitted
+none_submitted : are_unused new_tables ≡ true
+unfolding entries empty
+none_submitted = refl
+
+pub new_unused : (naming : Naming) → are_unused (tables_of naming new_book) ≡ true
+new_unused naming =
+    subst (λ (tables : Tables). are_unused tables ≡ true) (new_follow naming) none_submitted

@@ -6,7 +6,7 @@ use Rattle.sqlite_disk.specs.declared.files.Files.{Files}
 use Rattle.sqlite_trees.specs.View.{View}
 use Rattle.sqlite_wal.specs.Reads.{AreClean}
 use Rattle.sqlite_wal.specs.Recovery.{Image}
-use Rattle.book_model.specs.Words.{Book, Naming}
+use Rattle.book_model.specs.Words.{Book, Naming, new_book}
 use Rattle.book_model.specs.declared.fault.LedgerFault.TheVariants as ledger
 use Rattle.book_trees.specs.Closing.{HaveFailed}
 use Rattle.book_trees.specs.FirstForm.{HoldsFirstForm}
@@ -48,6 +48,10 @@ ShowsOurs naming view = ShowsOurBooks naming view ⊎ IsEmpty view
 -- whatever books the files hold, the row of the book is there
 abbrev pub HaveBookRow : Image → Type 0
 HaveBookRow found = (held : HoldsBooks found) → has_book (trees_held held) ≡ true
+
+-- so it is, and they hold no new books
+abbrev pub HaveUsedBook : Image → Type 0
+HaveUsedBook found = HaveBookRow found × (¬ HoldsBook file_names new_book found)
 
 -- whatever books the files hold, the row of the book is not there
 abbrev pub HaveNoBookRow : Image → Type 0
@@ -118,12 +122,12 @@ module _ {D : Type 0} (g : Ghosts D) (found : Image) (ended : Ended D) where
       HasNoAnswerFor g (StopCreating g) (HasFaultCause (¬ HoldsNothing found) ⊥)
       (λ Failed. HasFaultCause ⊥ ⊥ ⊤) fault ended
 
-  -- Why new books were not continued: the files hold none of this form, or the row of a book; or a call
-  -- on them failed, or met a limit of the format; or memory ran out.
+  -- Why new books were not continued: the files hold none of this form, or a book that is not new; or a
+  -- call on them failed, or met a limit of the format; or memory ran out.
   abbrev pub WhyNotContinued : RepositoryFault → Type 0
   WhyNotContinued fault =
       HasNoAnswerFor g (AreFull g) (HasFaultCause ⊥ (¬ HoldsThisForm found))
-      (λ Failed. HasFaultCause ⊥ (HaveBookRow found) ⊤) fault ended
+      (λ Failed. HasFaultCause ⊥ (HaveUsedBook found) ⊤) fault ended
 
   -- Why books were not looked through: the files hold none of this form; or a call on them failed, or
   -- met a limit of the format; or memory ran out. Of files that were looked through this says nothing.

@@ -151,7 +151,7 @@ pub fn resume_at<S: LeftByLedger>(
     ensures made { HoldsEmptyBooks (image_at S.Start)
         → NewBooksMade ⟦<FileFrom<S> as Disk>⟧ result.0 result.1 }
 
-    // That books are there is answered of files that hold none of ours, or have their row.
+    // That books are there is answered of files that hold none of ours, or books that are not new.
     ensures cause { IfErr result.0
         (WhyNotContinued ⟦<FileFrom<S> as Disk>⟧ (image_at S.Start) result.1) }
 {

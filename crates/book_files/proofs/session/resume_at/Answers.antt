@@ -1,22 +1,25 @@
-use Rattle.std.proofs.Common.{◌≡◌, inl, refl, true}
+use Rattle.std.proofs.Common.{◌≡◌, inl, refl, subst, true}
 use Rattle.std.specs.Prelude.{⊤}
 use Rattle.sqlite_disk.specs.contracts.modelled.ModelledDisk.TheImpl as modelled
 use Rattle.sqlite_std_file.specs.contracts.host.Host.{the_row}
 use Rattle.sqlite_std_file.specs.contracts.host.HostCalls.TheImpl as host
 use Rattle.sqlite_store.specs.FileStore.{view}
 use Rattle.sqlite_wal.specs.Files.{image_at}
-use Rattle.book_model.specs.Words.{book_after}
+use Rattle.sqlite_wal.specs.Reads.{AreClean}
+use Rattle.book_model.specs.Words.{book_after, new_book}
 use Rattle.book_restarts.specs.FileBooks.{file_names}
+use Rattle.book_trees.specs.LedgerFiles.{HoldsBooks, trees_held}
+use Rattle.table_ledger.specs.Ready.{IsStoredIn}
 use Rattle.table_model.specs.TablesOf.{tables_of}
 use Rattle.tree_tables.specs.Holds.{has_book}
-use Rattle.book_files.specs.Causes.{HaveBookRow}
+use Rattle.book_files.specs.Causes.{HaveBookRow, IsResumed}
 use Rattle.book_files.specs.Unused.{are_unused}
 use Rattle.book_files.proofs.Causes.{cause_so, err_so, told_by_row}
 use Rattle.book_files.proofs.NewParts.{refused_still, resumed_at}
-use Rattle.book_files.proofs.ResumeParts.{resumed_unused}
+use Rattle.book_files.proofs.ResumeParts.{resumed_unused, why_unresumed}
 use Rattle.book_files.proofs.SessionParts.{found_clean, held_goes_on, opened_stands}
 use Rattle.book_files.proofs.SessionParts.{refused_goes_on}
-use Rattle.book_files.proofs.UnusedBooks.{none_resumed}
+use Rattle.book_files.proofs.UnusedBooks.{new_unused, none_resumed}
 use Rattle.book_files.proofs.session.resume_at.Goals as goal
 
 pub returns-in-Ok-clause-history : goal.returns-in-Ok-clause-history
@@ -45,11 +48,21 @@ returns-in-Ok-clause-made g c = λ begun image may.
 pub returns-in-Ok-clause-cause : goal.returns-in-Ok-clause-cause
 returns-in-Ok-clause-cause g c =
     let resumed = c.resume_and_close-made in
+    let disk = modelled.ghosts the_row g.row.S host.ghosts host.dict g.S.Start g.S.Start-dict
+    g.S.Destruct-dict in
     let first = image_at g.S.Start in
-    err_so resumed.result.0 resumed.ensures.cause (λ fault cause clean.
-    cause_so ⊥ ⊥ (has_book (view c.in-Ok.store).trees ≡ true) (HaveBookRow first) ⊤ ⊤ (λ never. never)
-    (told_by_row file_names first c.in-Ok.store c.in-Ok.ensures.ready c.in-Ok.ensures.found
-    (resumed.ensures.clean clean) true) (λ failed. failed) fault (cause clean))
+    let store = c.in-Ok.store in
+    let opened = c.in-Ok.ensures in
+    why_unresumed (AreClean disk resumed.result.1.files.log resumed.result.1.files.db)
+    (HaveBookRow first)
+    ((held : HoldsBooks first) × IsStoredIn file_names new_book (trees_held held)) resumed.result.0
+    (err_so resumed.result.0 resumed.ensures.cause (λ fault cause clean.
+    cause_so ⊥ ⊥ (has_book (view store).trees ≡ true) (HaveBookRow first) ⊤ ⊤ (λ never. never)
+    (told_by_row file_names first store opened.ready opened.found (resumed.ensures.clean clean) true)
+    (λ failed. failed) fault (cause clean)))
+    (λ kept clean. subst (λ unused. IsResumed unused resumed.result.0) (new_unused file_names)
+    (resumed.ensures.told new_book
+    (opened_stands file_names new_book first store opened.ready opened.found kept.0 kept.1) clean))
 
 pub returns-in-Err-clause-history : goal.returns-in-Err-clause-history
 returns-in-Err-clause-history g c = λ image may.
