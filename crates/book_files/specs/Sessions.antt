@@ -39,6 +39,11 @@ IsFileAlone g (Closed closed) image =
     × (image.log ≡ []) × g.may_leave closed.files.db image.db
 IsFileAlone g (Refused files) image = ⊥
 
+-- Where the log is left short, the file alone, without any log, goes on from it.
+abbrev pub FileAloneGoesOn : {D : Type 0} (g : Ghosts D) → Transition → Image → Ended D → Type 0
+FileAloneGoesOn g Made found ended =
+    (image : Image) → IsFileAlone g ended image → GoesOn file_names Made found image
+
 -- The files are in hand, and no lie of a disk was taken as true.
 abbrev pub AreHonest : {D : Type 0} (g : Ghosts D) → Option (Files D) → Type 0
 AreHonest g (Some files) = AreClean g files.log files.db

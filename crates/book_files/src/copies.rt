@@ -2,10 +2,12 @@
 
 ghost use Rattle.std.specs.Prelude.{◌≡◌, IfErr, IfOk, IfSome, IsOk, IsSome, MatchResult};
 ghost use Rattle.sqlite_wal.specs.Files.{image_at};
+ghost use Rattle.sqlite_wal.specs.Recovery.{Image};
 ghost use Rattle.book_core.specs.Transition.{NoEvent};
-ghost use Rattle.book_files.specs.Causes.{WhyNotCopied};
+ghost use Rattle.book_files.specs.Causes.{HaveBookRow, WhyNotCopied};
 ghost use Rattle.book_files.specs.Faults.{not_copied, tried_answer};
-ghost use Rattle.book_files.specs.Sessions.{AreHonest, FilesGoOn, WereOnlyRead};
+ghost use Rattle.book_files.specs.Sessions.{AreHonest, FileAloneGoesOn, FilesGoOn, MayFollow};
+ghost use Rattle.book_files.specs.Sessions.{WereOnlyRead};
 ghost use Rattle.book_restarts.specs.FileBooks.{file_names};
 
 use crate::books::visit_and_close;
@@ -51,6 +53,17 @@ pub fn visit_copy_at<S: Start, T: Start, V: Visit>(
     ensures history { IfOk result.answer (λ answer.
         AreHonest ⟦<FileFrom<S> as Disk>⟧ result.original → FilesGoOn ⟦<FileFrom<T> as Disk>⟧
         (V.Visit.work file_names visit.old visit.new answer) (image_at S.Start) result.copy) }
+
+    // Where the log of the copy is left short, its file alone, without any log, holds all of that.
+    ensures alone { IfOk result.answer (λ answer.
+        AreHonest ⟦<FileFrom<S> as Disk>⟧ result.original
+        → FileAloneGoesOn ⟦<FileFrom<T> as Disk>⟧
+        (V.Visit.work file_names visit.old visit.new answer) (image_at S.Start) result.copy) }
+
+    // There is no copy of files in which the row of their book is not there.
+    ensures there { IfOk result.answer (λ answer.
+        AreHonest ⟦<FileFrom<S> as Disk>⟧ result.original → (image : Image)
+        → MayFollow ⟦<FileFrom<T> as Disk>⟧ result.copy image → HaveBookRow (image_at S.Start)) }
 
     // The books that are copied were only read.
     ensures original { IfSome result.original
@@ -103,6 +116,12 @@ pub fn copy_at<S: Start, T: Start>(
     ensures history { IfOk result.answer (λ copied.
         AreHonest ⟦<FileFrom<S> as Disk>⟧ result.original
         → FilesGoOn ⟦<FileFrom<T> as Disk>⟧ NoEvent (image_at S.Start) result.copy) }
+    ensures alone { IfOk result.answer (λ copied.
+        AreHonest ⟦<FileFrom<S> as Disk>⟧ result.original
+        → FileAloneGoesOn ⟦<FileFrom<T> as Disk>⟧ NoEvent (image_at S.Start) result.copy) }
+    ensures there { IfOk result.answer (λ copied.
+        AreHonest ⟦<FileFrom<S> as Disk>⟧ result.original → (image : Image)
+        → MayFollow ⟦<FileFrom<T> as Disk>⟧ result.copy image → HaveBookRow (image_at S.Start)) }
     ensures original { IfSome result.original
         (WereOnlyRead ⟦<FileFrom<S> as Disk>⟧ (image_at S.Start)) }
     ensures in_hand { IsOk result.answer → IsSome result.original }

@@ -12,9 +12,9 @@ ghost use Rattle.book_files.specs.Causes.{HaveBookRow, WhyNotAudited, WhyNotCont
 ghost use Rattle.book_files.specs.Causes.{IsToldOfThis, WhyNotUpgraded, WhyNotVisited};
 ghost use Rattle.book_files.specs.Faults.{first_answer, resume_fault};
 ghost use Rattle.book_files.specs.NewBooks.{MayBeMade, NewBooksMade};
-ghost use Rattle.book_files.specs.Sessions.{AreAsFound, FilesGoOn, IsFileAlone, MayFollow};
+ghost use Rattle.book_files.specs.Sessions.{AreAsFound, FileAloneGoesOn, FilesGoOn, MayFollow};
 ghost use Rattle.book_files.specs.Upgrades.{FilesBroughtOver, TellsThisForm, upgrade_answer};
-ghost use Rattle.book_restarts.specs.FileBooks.{GoesOn, HoldsHistory, done_by, file_names};
+ghost use Rattle.book_restarts.specs.FileBooks.{HoldsHistory, done_by, file_names};
 ghost use Rattle.book_trees.specs.FirstForm.{HoldsFirstForm};
 ghost use Rattle.book_trees.specs.LedgerFiles.{HoldsBooks, HoldsEmptyBooks, HoldsNothing};
 ghost use Rattle.book_trees.specs.StoreView.{ListsBooks};
@@ -65,9 +65,8 @@ pub fn visit_at<S: LeftByLedger, V: Visit>(
         (done_by (V.Visit.work file_names visit.old visit.new) result.0) (image_at S.Start) result.1 }
 
     // Where the log is left short, the file alone, without any log, holds all of that.
-    ensures alone { (image : Image) → IsFileAlone ⟦<FileFrom<S> as Disk>⟧ result.1 image
-        → GoesOn file_names (done_by (V.Visit.work file_names visit.old visit.new) result.0)
-        (image_at S.Start) image }
+    ensures alone { FileAloneGoesOn ⟦<FileFrom<S> as Disk>⟧
+        (done_by (V.Visit.work file_names visit.old visit.new) result.0) (image_at S.Start) result.1 }
 
     // Files that are not opened are left as they were, whatever they hold.
     ensures unopened { AreAsFound ⟦<FileFrom<S> as Disk>⟧ (image_at S.Start) result.1 }

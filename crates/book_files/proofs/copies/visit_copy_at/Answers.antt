@@ -1,4 +1,4 @@
-use Rattle.std.proofs.Common.{◌≡◌, Some, inl, refl, subst, sym}
+use Rattle.std.proofs.Common.{◌≡◌, Some, inl, refl, subst, sym, true}
 use Rattle.sqlite_disk.specs.contracts.modelled.ModelledDisk.TheImpl as modelled
 use Rattle.sqlite_std_file.specs.contracts.host.Host.{the_row}
 use Rattle.sqlite_std_file.specs.contracts.host.HostCalls.TheImpl as host
@@ -8,14 +8,14 @@ use Rattle.sqlite_wal.specs.Recovery.{Image}
 use Rattle.book_core.specs.Transition.{Transition}
 use Rattle.book_restarts.specs.FileBooks.{done_by, file_names}
 use Rattle.book_trees.specs.LedgerFiles.{HoldsBooks, trees_held}
-use Rattle.book_files.specs.Causes.{WhyNotCopied}
-use Rattle.book_files.specs.Sessions.{AreHonest, FilesGoOn}
+use Rattle.book_files.specs.Causes.{HaveBookRow, WhyNotCopied}
+use Rattle.book_files.specs.Sessions.{AreHonest, FilesGoOn, MayFollow}
 use Rattle.book_files.specs.declared.copies.CopyFault.TheVariants as copies
 use Rattle.book_files.specs.declared.session.Ended.TheVariants.{Closed, Refused}
-use Rattle.book_files.proofs.Causes.{mapped_err, mapped_ok, uncopied_cause}
+use Rattle.book_files.proofs.Causes.{mapped_err, mapped_ok, ok_so, told_by_row, uncopied_cause}
 use Rattle.book_files.proofs.Causes.{visited_cause}
-use Rattle.book_files.proofs.SessionParts.{done_answered, session_goes_on, were_only_read}
-use Rattle.book_files.proofs.SessionParts.{where_answered}
+use Rattle.book_files.proofs.SessionParts.{alone_follows, done_answered, found_clean}
+use Rattle.book_files.proofs.SessionParts.{session_goes_on, were_only_read, where_answered}
 use Rattle.book_files.proofs.copies.visit_copy_at.Goals as goal
 
 pub returns-in-Ok-copy_to-clause-history : goal.returns-in-Ok-copy_to-clause-history
@@ -40,6 +40,34 @@ returns-in-Ok-copy_to-clause-history g c =
     (done_answered work file_names
     (g.met.V.Visit.answered file_names c.args.visit.now visited.new.visit) visited.result.0)
     (λ book stands. visited.ensures.left book stands may.0 image may.1)))
+
+pub returns-in-Ok-copy_to-clause-alone : goal.returns-in-Ok-copy_to-clause-alone
+returns-in-Ok-copy_to-clause-alone g c =
+    let two = modelled.ghosts the_row g.row.T host.ghosts host.dict g.T.Start g.T.Start-dict
+    g.T.Destruct-dict in
+    let visited = c.visit_and_close-opened in
+    ok_so c.map_err.result (returns-in-Ok-copy_to-clause-history g c)
+    (λ answer history honest image alone.
+    history honest image (alone_follows two visited.result.1 image visited.ensures.short alone))
+
+pub returns-in-Ok-copy_to-clause-there : goal.returns-in-Ok-copy_to-clause-there
+returns-in-Ok-copy_to-clause-there g c =
+    let one = modelled.ghosts the_row g.row.S host.ghosts host.dict g.S.Start g.S.Start-dict
+    g.S.Destruct-dict in
+    let two = modelled.ghosts the_row g.row.T host.ghosts host.dict g.T.Start g.T.Start-dict
+    g.T.Destruct-dict in
+    let visited = c.visit_and_close-opened in
+    let first = image_at g.S.Start in
+    let store = c.in-Ok-copy_to.store in
+    mapped_ok (λ answer. AreHonest one (Some c.copy_to.new.from) → (image : Image)
+    → MayFollow two (Closed visited.result.1) image → HaveBookRow first)
+    copies.Refused visited.result.0 c.map_err.result c.map_err.ensures.cases
+    (ok_so visited.result.0 visited.ensures.there (λ answer there honest image may.
+    let clean = found_clean two visited.result.1.files image may.1 in
+    told_by_row file_names first store c.in-Ok-copy_to.ensures.ready
+    (λ sound. subst (λ (i : Image). (held : HoldsBooks i) → (view store).trees ≡ trees_held held)
+    c.in-Ok.ensures.held (c.in-Ok-copy_to.ensures.found sound honest))
+    (visited.ensures.clean clean) true (there clean)))
 
 pub returns-in-Ok-copy_to-clause-original : goal.returns-in-Ok-copy_to-clause-original
 returns-in-Ok-copy_to-clause-original g c =
