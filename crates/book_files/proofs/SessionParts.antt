@@ -24,7 +24,7 @@ use Rattle.book_core.specs.Follow.{MakesAnswered}
 use Rattle.book_core.specs.Transition.{Transition, NoEvent}
 use Rattle.book_trees.proofs.ClosedFiles.{both_true, first_true, second_true}
 use Rattle.book_trees.specs.Copies.{AreOnlyRead}
-use Rattle.book_trees.specs.Closing.{IsShort, IsWithoutLog, MayBeFound}
+use Rattle.book_trees.specs.Closing.{IsShort, IsWithoutLog, LeavesLog, MayBeFound}
 use Rattle.book_trees.specs.declared.closing.Closed.{Closed}
 use Rattle.book_trees.specs.LedgerFiles.{HoldsBooks, HoldsTables, page_size, trees_held, without_log}
 use Rattle.book_trees.specs.Refusals.{IsAsFound, MayLeave}
@@ -36,7 +36,7 @@ use Rattle.book_restarts.specs.FileBooks.{HoldsBook, LeavesBook}
 use Rattle.book_restarts.specs.FileBooks.{GoesOn, StandsAt, done_by, file_names}
 use Rattle.book_restarts.proofs.SessionLemmas.{book_goes_on, still_held}
 use Rattle.book_files.specs.Sessions.{IsFileAlone, MayFollow, WereOnlyRead}
-use Rattle.book_files.specs.Stores.{CloseLeaves}
+use Rattle.book_files.specs.Stores.{CloseLeaves, CloseTriesToMoveLog}
 use Rattle.book_files.specs.declared.session.Ended.{Ended}
 use Rattle.book_files.specs.declared.session.Ended.TheVariants.{Refused}
 use Rattle.book_files.specs.declared.session.Ended.TheVariants as ended
@@ -58,6 +58,11 @@ pub close_leaves : {D : Type 0} (g : Ghosts D) (store : FileStore D g) (closed :
 close_leaves g store closed So honest left each = λ kept image may.
     let clean = no_doubt _ (honest (found_clean g closed.files image may)) in
     ∥∥₁_map (left kept image may) λ found. (found.0, each clean (trees_held found.0) found.1)
+
+-- pages of a log that were to be moved are not said to have been left
+pub to_be_moved : {D : Type 0} (g : Ghosts D) (store : FileStore D g) (closed : Closed D)
+    → LeavesLog g store closed.files closed.log → CloseTriesToMoveLog closed
+to_be_moved g store closed left = λ is. subst (LeavesLog g store closed.files) is left
 
 -- so what is found of the file alone may be found
 pub alone_follows : {D : Type 0} (g : Ghosts D) (closed : Closed D) (image : Image)

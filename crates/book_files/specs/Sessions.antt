@@ -1,5 +1,5 @@
 -- What may be found of the files of books after a session.
-use Rattle.std.specs.Prelude.{◌≡◌, Option, None, Some, IfSome, IsTrue, [], ⊤}
+use Rattle.std.specs.Prelude.{◌≡◌, ◌≢◌, Option, None, Some, IfSome, IsTrue, [], ⊤}
 use Rattle.sqlite_disk.specs.declared.Disk.{Ghosts}
 use Rattle.sqlite_disk.specs.declared.files.Files.{Files}
 use Rattle.sqlite_wal.specs.Reads.{AreClean}
@@ -8,7 +8,7 @@ use Rattle.book_restarts.specs.FileBooks.{GoesOn, file_names}
 use Rattle.book_core.specs.Transition.{NoEvent, Transition}
 use Rattle.book_trees.specs.Closing.{MayBeFound}
 use Rattle.book_trees.specs.Refusals.{IsAsFound, MayLeave}
-use Rattle.book_trees.specs.declared.closing.LogLeft.TheVariants.{Short}
+use Rattle.book_trees.specs.declared.closing.LogLeft.TheVariants.{Short, Unmoved}
 use Rattle.book_files.specs.declared.session.Ended.{Ended}
 use Rattle.book_files.specs.declared.session.Ended.TheVariants.{Closed, Refused}
 
@@ -30,6 +30,11 @@ abbrev pub AreAsFound : {D : Type 0} (g : Ghosts D) → Image → Ended D → Ty
 AreAsFound g found (Closed closed) = ⊤
 AreAsFound g found (Refused files) =
     IfSome files (λ files. (left : Image) → MayLeave g files left → IsAsFound found left)
+
+-- The pages of the log of files that were opened were to be moved into the other file.
+abbrev pub TriesToMoveLog : {D : Type 0} → Ended D → Type 0
+TriesToMoveLog (Closed closed) = closed.log ≢ Unmoved
+TriesToMoveLog (Refused files) = ⊤
 
 -- What may be found of the file of books that were closed, where their log was short, and no log is
 -- there any more.

@@ -1,5 +1,5 @@
 -- What is left of a store of books, and of the files in which it was closed.
-use Rattle.std.specs.Prelude.{◌≡◌, IsTrue, Result}
+use Rattle.std.specs.Prelude.{◌≡◌, ◌≢◌, IsTrue, Result}
 use Rattle.sqlite_disk.specs.declared.Disk.{Ghosts}
 use Rattle.sqlite_trees.specs.Tree.{Trees}
 use Rattle.sqlite_trees.specs.View.{View, IsClean}
@@ -8,6 +8,7 @@ use Rattle.book_model.specs.Words.{Book}
 use Rattle.book_core.specs.Transition.{Transition}
 use Rattle.book_trees.specs.Closing.{MayBeFound}
 use Rattle.book_trees.specs.declared.closing.Closed.{Closed}
+use Rattle.book_trees.specs.declared.closing.LogLeft.TheVariants.{Unmoved}
 use Rattle.book_trees.specs.LedgerFiles.{HoldsBooks, trees_held}
 use Rattle.tree_tables.specs.States.{State, HasCleanDisk}
 use Rattle.table_ledger.specs.Commits.{IsAtRest}
@@ -23,6 +24,10 @@ StopLeaves left So = HasCleanDisk left → (trees : Trees) → left.may_leave tr
 abbrev pub CloseLeaves : {D : Type 0} (g : Ghosts D) → Closed D → (Image → Type 0) → Type 0
 CloseLeaves g closed So =
     IsTrue closed.is_kept → (image : Image) → MayBeFound g closed.files image → So image
+
+-- the pages of the log of closed files were to be moved into the other file
+abbrev pub CloseTriesToMoveLog : {D : Type 0} → Closed D → Type 0
+CloseTriesToMoveLog closed = closed.log ≢ Unmoved
 
 -- a stop leaves what such work made of the book at which a store stood
 abbrev pub StopGoesOn : Transition → View → State → Type 0

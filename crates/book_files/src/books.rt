@@ -15,8 +15,9 @@ ghost use Rattle.book_files.specs.Audits.{FindsWrongBy};
 ghost use Rattle.book_files.specs.Causes.{HasFaultCause, IsResumed, IsUnvisitedFor};
 ghost use Rattle.book_files.specs.Faults.{store_fault};
 ghost use Rattle.book_files.specs.Stores.{CloseGoesOn, CloseKeepsBook, CloseKeepsTrees};
-ghost use Rattle.book_files.specs.Stores.{CloseLeaves, CloseLeavesNew, StopGoesOn, StopKeepsBook};
-ghost use Rattle.book_files.specs.Stores.{StopKeepsTrees, StopLeaves, StopLeavesNew};
+ghost use Rattle.book_files.specs.Stores.{CloseLeaves, CloseLeavesNew, CloseTriesToMoveLog};
+ghost use Rattle.book_files.specs.Stores.{StopGoesOn, StopKeepsBook, StopKeepsTrees, StopLeaves};
+ghost use Rattle.book_files.specs.Stores.{StopLeavesNew};
 ghost use Rattle.book_files.specs.Unused.{SaysUnused, are_unused, unused_by};
 ghost use Rattle.book_files.specs.Upgrades.{HoldsUpgraded, LeavesUpgraded, MayBringOver};
 ghost use Rattle.book_files.specs.Upgrades.{RestsBroughtOver};
@@ -189,6 +190,7 @@ pub(crate) fn visit_and_close<D: Disk, V: Visit>(
     ensures left { CloseGoesOn D.Disk
         (done_by (V.Visit.work file_names visit.old visit.new) result.0) (view store) result.1 }
     ensures short { IsShort D.Disk result.1 }
+    ensures moves { CloseTriesToMoveLog result.1 }
     ensures clean { AreClean D.Disk result.1.files.log result.1.files.db → IsClean (view store) }
     ensures came { MatchResult result.0 (V.Visit.comes visit.old visit.new)
         (λ _. visit.new ≡ visit.old) }
@@ -212,6 +214,7 @@ pub(crate) fn make_and_close<D: Disk>(
 ) -> (Result<(), RepositoryFault>, Closed<D>)
     requires { HasShapes (view store) }
     ensures left { CloseLeavesNew D.Disk (view store) result.0 result.1 }
+    ensures moves { CloseTriesToMoveLog result.1 }
     ensures clean { AreClean D.Disk result.1.files.log result.1.files.db → IsClean (view store) }
     ensures kinds { IfErr result.0 (HasFaultCause ⊥ ⊥ ⊤) }
 {
@@ -232,6 +235,7 @@ pub(crate) fn resume_and_close<D: Disk>(
         → AreClean D.Disk result.1.files.log result.1.files.db
         → IsResumed (are_unused (tables_of file_names book)) result.0 }
     ensures left { CloseLeavesNew D.Disk (view store) result.0 result.1 }
+    ensures moves { CloseTriesToMoveLog result.1 }
     ensures clean { AreClean D.Disk result.1.files.log result.1.files.db → IsClean (view store) }
     ensures cause { IfErr result.0 (λ fault.
         AreClean D.Disk result.1.files.log result.1.files.db
@@ -289,6 +293,7 @@ pub(crate) fn upgrade_and_close<D: Disk>(
     requires { IsClean (view store) → HasFirstTrees (view store) }
     ensures left { (book : Book) → StandsAtFirst file_names book (view store)
         → CloseLeaves D.Disk result.1 (HoldsUpgraded file_names book result.0) }
+    ensures moves { CloseTriesToMoveLog result.1 }
     ensures clean { AreClean D.Disk result.1.files.log result.1.files.db → IsClean (view store) }
     ensures cause { IfErr result.0 (λ fault.
         AreClean D.Disk result.1.files.log result.1.files.db

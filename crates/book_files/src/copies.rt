@@ -7,7 +7,7 @@ ghost use Rattle.book_core.specs.Transition.{NoEvent};
 ghost use Rattle.book_files.specs.Causes.{HaveBookRow, WhyNotCopied};
 ghost use Rattle.book_files.specs.Faults.{not_copied, tried_answer};
 ghost use Rattle.book_files.specs.Sessions.{AreHonest, FileAloneGoesOn, FilesGoOn, MayFollow};
-ghost use Rattle.book_files.specs.Sessions.{WereOnlyRead};
+ghost use Rattle.book_files.specs.Sessions.{TriesToMoveLog, WereOnlyRead};
 ghost use Rattle.book_restarts.specs.FileBooks.{file_names};
 
 use crate::books::visit_and_close;
@@ -59,6 +59,7 @@ pub fn visit_copy_at<S: Start, T: Start, V: Visit>(
         AreHonest ⟦<FileFrom<S> as Disk>⟧ result.original
         → FileAloneGoesOn ⟦<FileFrom<T> as Disk>⟧
         (V.Visit.work file_names visit.old visit.new answer) (image_at S.Start) result.copy) }
+    ensures moves { TriesToMoveLog result.copy }
 
     // There is no copy of files in which the row of their book is not there.
     ensures there { IfOk result.answer (λ answer.
@@ -119,6 +120,7 @@ pub fn copy_at<S: Start, T: Start>(
     ensures alone { IfOk result.answer (λ copied.
         AreHonest ⟦<FileFrom<S> as Disk>⟧ result.original
         → FileAloneGoesOn ⟦<FileFrom<T> as Disk>⟧ NoEvent (image_at S.Start) result.copy) }
+    ensures moves { TriesToMoveLog result.copy }
     ensures there { IfOk result.answer (λ copied.
         AreHonest ⟦<FileFrom<S> as Disk>⟧ result.original → (image : Image)
         → MayFollow ⟦<FileFrom<T> as Disk>⟧ result.copy image → HaveBookRow (image_at S.Start)) }

@@ -13,6 +13,7 @@ ghost use Rattle.book_files.specs.Causes.{IsToldOfThis, WhyNotUpgraded, WhyNotVi
 ghost use Rattle.book_files.specs.Faults.{first_answer, resume_fault};
 ghost use Rattle.book_files.specs.NewBooks.{MayBeMade, NewBooksMade};
 ghost use Rattle.book_files.specs.Sessions.{AreAsFound, FileAloneGoesOn, FilesGoOn, MayFollow};
+ghost use Rattle.book_files.specs.Sessions.{TriesToMoveLog};
 ghost use Rattle.book_files.specs.Upgrades.{FilesBroughtOver, TellsThisForm, upgrade_answer};
 ghost use Rattle.book_restarts.specs.FileBooks.{HoldsHistory, done_by, file_names};
 ghost use Rattle.book_trees.specs.FirstForm.{HoldsFirstForm};
@@ -67,6 +68,7 @@ pub fn visit_at<S: LeftByLedger, V: Visit>(
     // Where the log is left short, the file alone, without any log, holds all of that.
     ensures alone { FileAloneGoesOn ⟦<FileFrom<S> as Disk>⟧
         (done_by (V.Visit.work file_names visit.old visit.new) result.0) (image_at S.Start) result.1 }
+    ensures moves { TriesToMoveLog result.1 }
 
     // Files that are not opened are left as they were, whatever they hold.
     ensures unopened { AreAsFound ⟦<FileFrom<S> as Disk>⟧ (image_at S.Start) result.1 }
@@ -108,6 +110,7 @@ pub fn make_at<S: Start>(
     // In files that hold something no books are made, and nothing is written.
     ensures new { IfOk result.0 (λ made. (image : Image)
         → MayBeMade ⟦<FileFrom<S> as Disk>⟧ result.1 image → ∥ HoldsNothing (image_at S.Start) ∥₁) }
+    ensures moves { TriesToMoveLog result.1 }
     ensures unopened { (¬ HoldsNothing (image_at S.Start))
         → AreAsFound ⟦<FileFrom<S> as Disk>⟧ (image_at S.Start) result.1 }
     ensures cause { IfErr result.0
@@ -149,6 +152,7 @@ pub fn resume_at<S: LeftByLedger>(
         → IfOk result.0 (λ made. history ≡ []) }
     ensures made { HoldsEmptyBooks (image_at S.Start)
         → NewBooksMade ⟦<FileFrom<S> as Disk>⟧ result.0 result.1 }
+    ensures moves { TriesToMoveLog result.1 }
 
     // That books are there is answered of files that hold none of ours, or books that are not new.
     ensures cause { IfErr result.0
@@ -239,6 +243,7 @@ pub fn upgrade_at<S: Start>(
 ) -> (Result<Upgraded, RepositoryFault>, Ended<FileFrom<S>>)
     ensures history { HoldsFirstForm (image_at S.Start)
         → FilesBroughtOver ⟦<FileFrom<S> as Disk>⟧ (image_at S.Start) result.0 result.1 }
+    ensures moves { TriesToMoveLog result.1 }
     ensures unopened { AreAsFound ⟦<FileFrom<S> as Disk>⟧ (image_at S.Start) result.1 }
 
     // Books of this form are left as they are, whatever is answered, and are told to be of it, or of

@@ -5,7 +5,7 @@ use Rattle.book_restarts.specs.FileBooks.{file_names}
 use Rattle.table_ledger.specs.Ready.{IsStoredIn}
 use Rattle.book_files.specs.NewBooks.{LeavesNew}
 use Rattle.book_files.proofs.Causes.{err_so}
-use Rattle.book_files.proofs.SessionParts.{close_leaves}
+use Rattle.book_files.proofs.SessionParts.{close_leaves, to_be_moved}
 use Rattle.book_files.proofs.books.resume_and_close.Goals as goal
 
 pub returns-clause-held : goal.returns-clause-held
@@ -33,3 +33,7 @@ pub returns-clause-cause : goal.returns-clause-cause
 returns-clause-cause g c =
     err_so c.resume_in-made.result.0 c.resume_in-made.ensures.cause (λ fault cause clean.
     cause (no_doubt _ (c.close_books.ensures.honest clean)))
+
+pub returns-clause-moves : goal.returns-clause-moves
+returns-clause-moves g c =
+    to_be_moved g.D.Disk c.resume_in-made.result.1 c.close_books.result c.close_books.ensures.log

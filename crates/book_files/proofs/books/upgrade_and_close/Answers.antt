@@ -1,6 +1,6 @@
 use Rattle.sqlite_trees.proofs.Doubt.{no_doubt}
 use Rattle.book_restarts.specs.FileBooks.{file_names}
-use Rattle.book_files.proofs.SessionParts.{found_clean}
+use Rattle.book_files.proofs.SessionParts.{found_clean, to_be_moved}
 use Rattle.book_files.proofs.Causes.{err_so}
 use Rattle.book_files.proofs.UpgradeParts.{brought_holds, unbrought_holds}
 use Rattle.book_files.proofs.books.upgrade_and_close.Goals as goal
@@ -36,3 +36,11 @@ pub returns-in-Err-clause-cause : goal.returns-in-Err-clause-cause
 returns-in-Err-clause-cause g c =
     err_so c.upgrade_in-upgraded.result.0 c.upgrade_in-upgraded.ensures.cause
     (λ fault cause clean. cause (no_doubt _ (c.close_first.ensures.honest clean)))
+
+pub returns-in-Ok-clause-moves : goal.returns-in-Ok-clause-moves
+returns-in-Ok-clause-moves g c =
+    to_be_moved g.D.Disk c.upgrade_in-upgraded.result.1 c.close_books.result c.close_books.ensures.log
+
+pub returns-in-Err-clause-moves : goal.returns-in-Err-clause-moves
+returns-in-Err-clause-moves g c =
+    to_be_moved g.D.Disk c.upgrade_in-upgraded.result.1 c.close_first.result c.close_first.ensures.log

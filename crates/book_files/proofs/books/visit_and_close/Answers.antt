@@ -9,7 +9,7 @@ use Rattle.book_restarts.specs.FileBooks.{LeavesTrees, done_by, file_names}
 use Rattle.tree_tables.specs.Holds.{has_book}
 use Rattle.book_files.specs.Causes.{ShowsOurs}
 use Rattle.book_files.proofs.Causes.{cause_so, err_so, ok_so, since_none}
-use Rattle.book_files.proofs.SessionParts.{close_leaves}
+use Rattle.book_files.proofs.SessionParts.{close_leaves, to_be_moved}
 use Rattle.book_files.proofs.books.visit_and_close.Goals as goal
 
 pub returns-clause-left : goal.returns-clause-left
@@ -42,3 +42,7 @@ pub returns-clause-there : goal.returns-clause-there
 returns-clause-there g c =
     ok_so c.visit_in-answer.result.0 c.visit_in-answer.ensures.there (λ answer there clean.
     there (no_doubt _ (c.close_books.ensures.honest clean)))
+
+pub returns-clause-moves : goal.returns-clause-moves
+returns-clause-moves g c =
+    to_be_moved g.D.Disk c.visit_in-answer.result.1 c.close_books.result c.close_books.ensures.log

@@ -30,6 +30,7 @@ returns-in-Ok g c =
       history = gone_on;
       alone = λ image alone.
           gone_on image (alone_follows disk visited.result.1 image visited.ensures.short alone);
+      moves = visited.ensures.moves;
       unopened = tt;
       came = visited.ensures.came;
       there = ok_so visited.result.0 visited.ensures.there (λ answer there image may.
