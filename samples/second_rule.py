@@ -10,8 +10,7 @@ ON_BOOKS = ("new", "one-name", "flat")
 # The scripts whose rows are played so, by the script that has them then.
 SCRIPTS = {
     "second_rule.rows": "closed_periods command_lists tariffs open_tariffs choices sample_tariff closes last_period "
-                        "calls accounts classes disputes statements reports largest one_name requests "
-                        "requests_imports requests_failures",
+                        "calls accounts classes disputes statements reports largest one_name",
     "second_rule_flat.rows": "flat_books",
     "second_rule_in_tables.rows": "kept_rows kept_tables kept_choices changed_rows unavailable",
     "second_rule_in_files.rows": "choices_in_files"}
