@@ -1,5 +1,6 @@
 //! Rows that are changed behind the books' back.
 
+use crate::tree_numbers::{BOOK, CHARGES, LINES};
 use crate::trees::Trees;
 use sqlite_trees::store::Store;
 use sqlite_value::row::Row;
@@ -7,8 +8,10 @@ use sqlite_value::value::ValueRef;
 use std::alloc::{AllocError, Global};
 use tests_scripts::{AnswerText, Ask, LineFault, LineResult};
 
-/// The tree of the charge rows.
-const CHARGES: u32 = 4;
+/// The columns of a charge row that are changed: how many records it counts, and their amount.
+const COUNT: usize = 4;
+
+const AMOUNT: usize = 7;
 
 /// A change of all rows of a table.
 #[derive(Clone, Copy)]
@@ -22,10 +25,10 @@ enum Change {
 /// The change that a line asks for, if it asks for one.
 fn change_of(ask: Ask<'_>) -> LineResult<Change> {
     match (ask.verb, ask.words) {
-        ("set", ["day_sum.count", number]) => set(4, number),
-        ("set", ["day_sum.amount", number]) => set(7, number),
-        ("empty", ["book"]) => Ok(Change::Empty { tree: 0 }),
-        ("empty", ["line"]) => Ok(Change::Empty { tree: 5 }),
+        ("set", ["day_sum.count", number]) => set(COUNT, number),
+        ("set", ["day_sum.amount", number]) => set(AMOUNT, number),
+        ("empty", ["book"]) => Ok(Change::Empty { tree: BOOK }),
+        ("empty", ["line"]) => Ok(Change::Empty { tree: LINES }),
         _ => Err(LineFault::NotUnderstood),
     }
 }

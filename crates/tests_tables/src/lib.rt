@@ -49,6 +49,7 @@ mod stopping_disk;
 mod stops;
 mod sweep;
 mod tree_books;
+mod tree_numbers;
 mod trees;
 mod uninterrupted;
 

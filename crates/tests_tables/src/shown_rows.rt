@@ -1,43 +1,13 @@
 //! The rows of the trees of books, a text line a row.
 
+use crate::tree_numbers::{
+    BOOK, CHARGES, CHOICE_NAMES, CHOICES, CLOSES, DETAILS, IDENTITIES, LINES, MARKS, RECORDS, TARIFFS,
+};
 use crate::trees::{Trees, WholeRow};
 use sqlite_trees::store::Store;
 use sqlite_value::row::Row;
 use sqlite_value::value::ValueRef;
 use tests_scripts::{AnswerText, Ask, LineFault, LineResult, value_of};
-
-/// The tree of the book's row.
-const BOOK: u32 = 0;
-
-/// That of the tariffs.
-const TARIFFS: u32 = 1;
-
-/// That of what is closed.
-const CLOSES: u32 = 2;
-
-/// That of the records.
-const RECORDS: u32 = 3;
-
-/// That of the charge rows.
-const CHARGES: u32 = 4;
-
-/// That of the adjustment lines.
-const LINES: u32 = 5;
-
-/// That which finds records by their identities.
-const IDENTITIES: u32 = 6;
-
-/// That which finds them by their marks.
-const MARKS: u32 = 7;
-
-/// That of the choices.
-const CHOICES: u32 = 8;
-
-/// That which finds choices by the records that they name.
-const CHOICE_NAMES: u32 = 9;
-
-/// That of the details, the last.
-const DETAILS: u32 = 10;
 
 /// The columns of a record that an adjustment line shows: day, centre, shift, CPU, blocks, amount.
 const CHARGED: [usize; 6] = [3, 5, 4, 6, 7, 8];
