@@ -23,7 +23,7 @@ use Rattle.book_restarts.specs.FileBooks.{HoldsHistory}
 use Rattle.book_files.specs.NewBooks.{HaveSameTables, IsEmpty, LeavesNewBooks, MakesBooks}
 use Rattle.book_files.specs.NewBooks.{MayBeMade}
 use Rattle.book_files.specs.declared.session.Ended.TheVariants.{Refused}
-use Rattle.book_files.proofs.SessionParts.{held_still}
+use Rattle.book_files.proofs.SessionParts.{held_still, opened_rests}
 use Rattle.table_model.proofs.EventLemmas.{tables_follow}
 use Rattle.table_model.specs.TablesAfter.{new_tables}
 use Rattle.table_model.specs.TablesOf.{tables_of}
@@ -68,11 +68,7 @@ pub made_empty : {D : Type 0} {g : Ghosts D} (store : FileStore D g) → IsReady
     → (IsTrue (state store).is_clean → AreEmptyTables (view store).committed)
     → IsClean (view store) → IsEmpty (view store)
 made_empty store ready empty clean = record {
-  rest = record {
-    is_open = ready.is_open clean;
-    sound = ready.sound clean;
-    settled = ready.clean;
-  };
+  rest = opened_rests store ready clean;
   none = record {
     empty = λ tree low. ap (λ (trees : Trees). trees tree) ready.clean
         ∙ empty (clean_of _ clean) tree (omega (arith, low));
@@ -133,11 +129,7 @@ module _ {D : Type 0} {g : Ghosts D} (first : Image) (store : FileStore D g) (re
 
     pub opened_empty : IsClean (view store) → IsEmpty (view store)
     opened_empty clean = record {
-      rest = record {
-        is_open = ready.is_open clean;
-        sound = ready.sound clean;
-        settled = ready.clean;
-      };
+      rest = opened_rests store ready clean;
       none = record { empty = λ tree low. opened_tables clean tree (omega (arith, low)) };
     }
 

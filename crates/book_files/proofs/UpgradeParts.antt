@@ -44,7 +44,7 @@ use Rattle.book_files.specs.Upgrades.{IsBroughtOver, LeavesUpgraded, MayBringOve
 use Rattle.book_files.specs.Upgrades.{RestsBroughtOver, TellsThisForm, upgrade_answer}
 use Rattle.book_files.specs.declared.session.Ended.TheVariants.{Refused}
 use Rattle.book_files.proofs.NewParts.{said_tables}
-use Rattle.book_files.proofs.SessionParts.{found_clean, refused_tables}
+use Rattle.book_files.proofs.SessionParts.{found_clean, opened_rests, refused_tables}
 
 -- ---- what is written
 
@@ -177,11 +177,7 @@ first_stands : {D : Type 0} {g : Ghosts D} (names : Naming) (book : Book) (first
     → (held : HoldsFirstBooks first) → IsStoredInFirst names book (trees_held held)
     → StandsAtFirst names book (view store)
 first_stands names book first store ready found held kept = λ clean. record {
-  rest = record {
-    is_open = ready.is_open clean;
-    sound = ready.sound clean;
-    settled = ready.clean;
-  };
+  rest = opened_rests store ready clean;
   kept = subst (IsStoredInFirst names book) (sym (found (clean_of _ clean) held)) kept;
 }
 
