@@ -49,10 +49,7 @@ abbrev pub resume_fault : OpenFault → RepositoryFault
 resume_fault opening.NotBooks = Exists
 resume_fault opening.OldForm = Exists
 resume_fault opening.NewForm = Exists
-resume_fault opening.Memory = Ledger ledger.Memory
-resume_fault opening.Store = Ledger ledger.Store
-resume_fault opening.Busy = Busy
-resume_fault opening.Path = Io
+resume_fault fault = open_fault fault
 
 -- what is answered where a file was not audited: where its pages are wrong, that it is unsound
 abbrev pub look_answer : LookFault → Result Audited RepositoryFault
