@@ -197,8 +197,10 @@ pub serves_cut : {S : Type 0} (shelf : S â†’ Shelf) (Refuses : RepositoryFault â
 serves_cut shelf Refuses book old new requests due left held holds first before after ended why has_log
     begun said bytes is known it log =
     cut_by shelf Refuses book old new requests held holds ended why has_log it.told is known it.turn
-    (inl (after.has_failed,
-    lines_written held holds first before after it.told begun said it.lines bytes))
+    (inl (
+      after.has_failed,
+      lines_written held holds first before after it.told begun said it.lines bytes,
+    ))
     log
 
 -- or the books were refused, or the port was in the way

@@ -129,7 +129,9 @@ pub enum ListWords<'a> {
         period: PeriodWords<'a>,
     },
     /// The disputes.
-    Disputes { form: DisputeForm },
+    Disputes {
+        form: DisputeForm,
+    },
     /// The rulings.
     Rulings,
 }

@@ -10,9 +10,9 @@ use crate::accounts;
 use crate::class_of::{has_usage, undamaged};
 use crate::damage::Damage;
 use crate::layout::{
-    ACCOUNTING, BLOCKS, COMPLETION, Field, IDENTIFICATION, INITIATION, IO_ACTIVITY, JOB_END, JOB_ID,
-    JOB_NAME, PROCESSOR, PROGRAM_NAME, READER_START, SRB_TIME, STEP_NUMBER, SUBTYPE, TCB_TIME,
-    TRIPLETS_END,
+    ACCOUNTING, BLOCKS, COMPLETION, Field, IDENTIFICATION, INITIATION, IO_ACTIVITY, JOB_END,
+    JOB_ID, JOB_NAME, PROCESSOR, PROGRAM_NAME, READER_START, SRB_TIME, STEP_NUMBER, SUBTYPE,
+    TCB_TIME, TRIPLETS_END,
 };
 use crate::moment::{Moment, moment_in};
 use crate::number::{number2, number4, part};

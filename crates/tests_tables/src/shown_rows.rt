@@ -1,7 +1,8 @@
 //! The rows of the trees of books, a text line a row.
 
 use crate::tree_numbers::{
-    BOOK, CHARGES, CHOICE_NAMES, CHOICES, CLOSES, DETAILS, IDENTITIES, LINES, MARKS, RECORDS, TARIFFS,
+    BOOK, CHARGES, CHOICE_NAMES, CHOICES, CLOSES, DETAILS, IDENTITIES, LINES, MARKS, RECORDS,
+    TARIFFS,
 };
 use crate::trees::{Trees, WholeRow};
 use sqlite_trees::store::Store;
