@@ -24,10 +24,12 @@ Makes view outcome (Err Store) events = (events ≡ []) ⊎ (events ≡ listed o
 Makes view outcome (Err Reopen) events = events ≡ []
 Makes view outcome (Err fault) events = (outcome.answer ≡ Err fault) × (events ≡ [])
 
+-- the store failed
 abbrev pub is_store : {V : Type 0} → Result V LedgerFault → Bool
 is_store (Err Store) = true
 is_store result = false
 
+-- the ledger is to be reopened
 abbrev pub is_reopen : {V : Type 0} → Result V LedgerFault → Bool
 is_reopen (Err Reopen) = true
 is_reopen result = false

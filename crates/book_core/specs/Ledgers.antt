@@ -18,9 +18,11 @@ pub record Books : Type 1 where
   pub old : Seen
   pub new : Seen
 
+-- the same, by what is seen of a ledger
 abbrev pub books : {L : Type 0} → (L → Seen) → L → L → Books
 books seen old new = record { old = seen old; new = seen new }
 
+-- by whether the ledger is to be reopened:
 abbrev pub may_have : Bool → Seen → Book → Type 0
 may_have true seen book = seen.left book
 may_have false seen book = book ≡ seen.book

@@ -28,10 +28,12 @@ is_full book amount =
     nat_le most_held (length (members book.held))
     || nat_lt most_cost (total_of book.rulings book.held + amount)
 
+-- the answer to a record that is new, by what it costs, if a tariff is in force on its day
 abbrev pub accept_priced : Book → Option Priced → Result Accepted LedgerFault
 accept_priced book None = Ok Unpriced
 accept_priced book (Some priced) = if is_full book priced.amount then Err Full else Ok Kept
 
+-- The answer to a record. One that is held already is known, whatever else is so of it.
 abbrev pub accept_answer : Naming → Book → List ℕ → Result Accepted LedgerFault
 accept_answer naming book bytes =
     if has book.held bytes then Ok Known

@@ -12,9 +12,11 @@ use Rattle.book_model.specs.Sets.{Set}
 abbrev pub by_bytes : List ℕ → List ℕ → Ordering
 by_bytes = slice_cmp nat_cmp
 
+-- they are the same, byte for byte
 abbrev pub same_bytes : List ℕ → List ℕ → Bool
 same_bytes = pointwise (λ a b. a == b)
 
+-- sets of records
 abbrev pub Records : Type 0
 Records = Set by_bytes
 
@@ -27,5 +29,6 @@ pub record IsUsageRecord (bytes : List ℕ) : Type 0 where
 abbrev pub Naming : Type 0
 Naming = List ℕ → List ℕ
 
+-- the name of a record
 abbrev pub name_of : Naming → List ℕ → List ℕ
 name_of naming bytes = naming (data_of bytes)

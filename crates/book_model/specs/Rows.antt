@@ -20,6 +20,7 @@ by_key a b =
     ordering_then (int_cmp a.day b.day)
     (ordering_then (by_bytes a.centre b.centre) (by_bytes a.shift b.shift))
 
+-- they are one place
 abbrev pub same_key : RowKey → RowKey → Bool
 same_key a b = int_eq a.day b.day && (same_bytes a.centre b.centre && same_bytes a.shift b.shift)
 

@@ -37,6 +37,7 @@ pub record Rulings : Type 0 where
   pub choices : List Choice
   pub adopted : Option ℕ
 
+-- nothing was ruled: the first rule of identity is in force
 abbrev pub no_rulings : Rulings
 no_rulings = record { tariffs = []; closes = []; choices = []; adopted = None }
 
@@ -119,6 +120,7 @@ abbrev pub price_under : List AcceptedTerms → List ℕ → Option Priced
 price_under tariffs bytes = option_map (λ terms. price_by terms bytes)
     (in_force (day_of bytes) tariffs)
 
+-- the same by the rulings
 abbrev pub price_in : Rulings → List ℕ → Option Priced
 price_in rulings bytes = price_under rulings.tariffs bytes
 
