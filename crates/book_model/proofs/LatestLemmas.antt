@@ -107,7 +107,7 @@ first-latest tariff (Some found) before =
     ap (λ b. Some (cond b found tariff)) (before found refl)
 
 -- nothing else than nothing
-or-none : {X : Type 0} (found : Option X) → option_or found None ≡ found
+pub or-none : {X : Type 0} (found : Option X) → option_or found None ≡ found
 or-none None = refl
 or-none (Some x) = refl
 

@@ -14,7 +14,8 @@ use Rattle.book_model.specs.declared.answer.Accepted.TheVariants.{Kept, Known}
 use Rattle.book_model.specs.declared.fault.LedgerFault.TheVariants.{Full, DigestClash}
 use Rattle.plain_ledger.specs.declared.held.HeldRecord.{HeldRecord}
 use Rattle.plain_ledger.specs.Plain.{Entry, AreBooked, held_in, record_of}
-use Rattle.plain_ledger.proofs.HeldLemmas.{under_name, has-found, has-missing, kept_more}
+use Rattle.plain_ledger.specs.Treatments.{under_name}
+use Rattle.plain_ledger.proofs.HeldLemmas.{has-found, has-missing, kept_more}
 use Rattle.plain_ledger.proofs.HeldLemmas.{clashes-found, clashes-missing, length-held}
 use Rattle.plain_ledger.proofs.HeldLemmas.{total_of-held}
 

@@ -18,7 +18,8 @@ use Rattle.book_model.proofs.RecordSets.{has_with, is_itself}
 use Rattle.plain_ledger.specs.declared.held.HeldRecord.{HeldRecord}
 use Rattle.plain_ledger.specs.declared.record_cache.RecordCache.{RecordCache}
 use Rattle.plain_ledger.specs.Plain.{Entry, CacheIsHeld, held_in, record_of}
-use Rattle.plain_ledger.proofs.HeldLemmas.{under_name, held_in-more}
+use Rattle.plain_ledger.specs.Treatments.{under_name}
+use Rattle.plain_ledger.proofs.HeldLemmas.{held_in-more}
 
 module _ {K X E : Type 0} (Holds : X → Type 0) (is_key : K → Bool) (key : K) (value : X)
     (before after : List (K × X)) where

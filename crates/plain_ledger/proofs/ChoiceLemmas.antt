@@ -20,6 +20,7 @@ use Rattle.std.proofs.lemmas.List.Folds.{find-append, list_any-append}
 use Rattle.std.proofs.lemmas.Simd.{map-map}
 use Rattle.book_model.specs.Words.{by_bytes, same_bytes, identity_by, is_chosen, is_settled}
 use Rattle.book_model.specs.Words.{Choice, Rulings}
+use Rattle.book_model.proofs.LatestLemmas.{or-none}
 use Rattle.book_model.proofs.ListLemmas.{filter-map, last_or-behind, list_any-map}
 use Rattle.plain_ledger.specs.declared.chosen.ChosenRecord.{ChosenRecord}
 use Rattle.plain_ledger.specs.declared.held.HeldRecord.{HeldRecord}
@@ -32,11 +33,6 @@ pub next_choices : (choices : List ChosenRecord) (i : ℕ) (choice : ChosenRecor
     → take (i + 1) choices ≡ take i choices ++ choice ∷ []
 next_choices choices i choice within is =
     take_more choices i choice within ∙ ap (λ one. take i choices ++ one ∷ []) (sym is)
-
--- nothing else than nothing
-pub or-none : {X : Type 0} (found : Option X) → option_or found None ≡ found
-or-none None = refl
-or-none (Some x) = refl
 
 -- what is found from the end of a list is the last that passes
 last-passing : {X : Type 0} (p : X → Bool) (was : Option X) (xs : List X)

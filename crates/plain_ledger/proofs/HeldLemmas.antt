@@ -28,6 +28,7 @@ use Rattle.book_model.specs.Words.{most_held, most_cost, by_name, Naming, name_o
 use Rattle.book_model.specs.Words.{same_bytes, Rulings, price_in, members, has, with, clashes}
 use Rattle.book_model.specs.Words.{total_of}
 use Rattle.plain_ledger.specs.Plain.{Entry, AreBooked, entry_records, held_in, record_of}
+use Rattle.plain_ledger.specs.Treatments.{under_name}
 use Rattle.book_core.proofs.EntryLemmas.{list_any-at_key}
 use Rattle.plain_ledger.proofs.EntryLemmas.{insert_entry-alike, All-insert_entry}
 use Rattle.book_model.proofs.ListLemmas.{agree_from_map, map-agree, list_any-map, list_any-agree}
@@ -36,10 +37,6 @@ use Rattle.book_model.proofs.SetLemmas.{has-texts, any-members, members-alike, s
 use Rattle.book_model.proofs.SetLemmas.{same_ties}
 use Rattle.book_model.proofs.SumsAlike.{SumsAlike, length-alike, filter_map-alike, map-alike}
 use Rattle.book_core.proofs.NamedLemmas.{by_name_total, by_name_exact}
-
--- the record that has a name
-abbrev pub under_name : List ℕ → List Entry → Option HeldRecord
-under_name name entries = lookup (is_at (by_bytes name)) entries
 
 -- an entry's record
 abbrev pub bytes_of : Entry → List ℕ

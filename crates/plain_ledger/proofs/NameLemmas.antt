@@ -22,6 +22,7 @@ use Rattle.std.proofs.lemmas.Map.Keys.{IsDistinct-from_sorted, IsDistinct-head, 
 use Rattle.std.proofs.lemmas.Map.Lookups.{exact_bytes}
 use Rattle.std.proofs.lemmas.Map.Views.{tells_apart}
 use Rattle.book_model.specs.Words.{by_bytes, set_of}
+use Rattle.book_model.proofs.LatestLemmas.{or-none}
 use Rattle.book_model.proofs.SetLemmas.{set_of-alike}
 use Rattle.book_model.proofs.SumsAlike.{filter-alike, map-alike}
 use Rattle.plain_ledger.specs.declared.treatment.ClosedPeriod.{ClosedPeriod}
@@ -64,12 +65,8 @@ under_name-more done entry name missing =
           let same = tells_apart exact_bytes entry.0 name tied in
           ap (λ found. option_or found (Some entry.1))
           (ap (λ n. under_name n done) (sym same) ∙ missing)
-      | false ↦ λ other. nothing_or (under_name name done)
+      | false ↦ λ other. or-none (under_name name done)
     ] refl
-  where
-    nothing_or : (found : Option HeldRecord) → option_or found None ≡ found
-    nothing_or None = refl
-    nothing_or (Some h) = refl
 
 -- an entry's name is that of none before it
 missing_so_far : (all done rest : List Entry) (entry : Entry) → all ≡ done ++ entry ∷ rest
