@@ -53,7 +53,7 @@ use Rattle.tree_tables.specs.Fits.{ChargeFits, DaysFit, LineFits, LinesFit, Reco
 use Rattle.tree_tables.specs.Stored.{stored_entry}
 use Rattle.tree_tables.specs.declared.stored_record.StoredRecord.{StoredRecord}
 use Rattle.tree_tables.proofs.Layouts.{day_layout, record_layout}
-use Rattle.tree_tables.proofs.RecordLists.{keys_rise}
+use Rattle.book_model.proofs.SetLemmas.{keys_rise}
 use Rattle.tree_tables.proofs.RowsRead.{all_entries as each_of}
 use Rattle.table_ledger.specs.DisputeReads.{IsShownRow}
 use Rattle.table_ledger.specs.RecordReads.{CanBeRead, HasWideNames}

@@ -1,9 +1,10 @@
 -- The place of a period among all periods of a book.
-use Rattle.std.proofs.Common.{◌≡◌, ℕ, zero, suc, ◌+◌, ◌-◌, List, [], ◌∷◌, map, length, refl, sym}
+use Rattle.std.proofs.Common.{◌≡◌, ℕ, ◌+◌, ◌-◌, List, [], ◌∷◌, map, length, refl, sym}
 use Rattle.std.proofs.Common.{ap, ◌∙◌, true, false, true≢false, Bool, Option, Some, None, arith}
 use Rattle.std.proofs.Common.{◌≢◌}
 use Rattle.std.specs.Prelude.{slice_get, ◌==◌, if◌then◌else◌}
 use Rattle.std.proofs.lemmas.Bool.{eqb-true, eq-eqb}
+use Rattle.std.proofs.lemmas.Option as options
 use Rattle.std.proofs.lemmas.Option.{slice_get_within}
 use Rattle.book_model.specs.Words.{Book, open_number, open_period, all_periods, period_of, Period}
 use Rattle.book_model.specs.Words.{Naming, IsSound}
@@ -15,16 +16,10 @@ eqb-not : (a b : ℕ) → (a == b) ≡ false → a ≢ b
 eqb-not a b apart same = true≢false (sym (eq-eqb a b same) ∙ apart)
 
 -- an element of a list of results
-pub slice_get-results : {X Y : Type 0} (f : X → Y) (xs : List X) (k : ℕ)
-    → slice_get (map f xs) k ≡ option_map f (slice_get xs k)
-slice_get-results f [] k = refl
-slice_get-results f (x ∷ xs) zero = refl
-slice_get-results f (x ∷ xs) (suc k) = slice_get-results f xs k
-
 pub slice_get-map : {X Y : Type 0} (f : X → Y) (xs : List X) (k : ℕ) (x : X)
     → slice_get xs k ≡ Some x
     → slice_get (map f xs) k ≡ Some (f x)
-slice_get-map f xs k x there = slice_get-results f xs k ∙ ap (option_map f) there
+slice_get-map f xs k x there = options.slice_get-map f xs k ∙ ap (option_map f) there
 
 -- a period of a number is the one at its place, counted from 1
 place_by : (book : Book) → length book.past ≡ length book.rulings.closes

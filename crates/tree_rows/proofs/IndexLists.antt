@@ -1,6 +1,6 @@
 -- The keys of an index as a list: what they stand for, which of them pass a test, in which order.
 use Rattle.std.proofs.Common.{◌≡◌, List, [], ◌∷◌, map, Bool, true, false, cond}
-use Rattle.std.proofs.Common.{Some, None, refl, sym, ap, ap₂, subst, ◌∙◌, length, arith}
+use Rattle.std.proofs.Common.{Some, None, refl, sym, ap, ap₂, subst, ◌∙◌}
 use Rattle.std.specs.Prelude.{filter, T, ◌&&◌}
 use Rattle.std.specs.Cmp.{IsTotalOrder, tied_itself}
 use Rattle.std.specs.FinMap.{FinMap, entries, entries_sorted, entries-insert, find, put}
@@ -14,6 +14,7 @@ use Rattle.std.specs.Ordering.{is_eq, is_lt, eq_by_cmp, ordering_then}
 use Rattle.std.specs.declared.cmp.Ordering.{Ordering}
 use Rattle.std.specs.declared.cmp.Ordering.TheVariants.{Less, Equal, Greater}
 use Rattle.std.proofs.lemmas.Cmp.{eq_by_cmp_equiv}
+use Rattle.std.proofs.lemmas.List.{nil_from_length}
 use Rattle.std.proofs.lemmas.List.Elements.{All-from_recursion}
 use Rattle.std.proofs.lemmas.List.Sorted.{IsPermutation-refl, IsPermutation-cons}
 use Rattle.std.proofs.lemmas.List.Sorted.{IsPermutation-trans, IsPermutation-middle}
@@ -65,17 +66,11 @@ module _ {Q : Type 0} (P : Q → Q → Ordering) where
       alike true = refl
       alike false = refl
 
--- a list of no length is empty
-no_length : {A : Type 0} (xs : List A) → length xs ≡ 0 → xs ≡ []
-no_length [] none = refl
-no_length (x ∷ xs) none = absurd (omega arith)
-
 -- the empty map has no entries
-no_entries : {Q : Type 0} (P : Q → Q → Ordering)
-    → entries (empty {X = Unit {0}} {R = P}) ≡ []
-no_entries P =
-    no_length (entries (empty {X = Unit {0}} {R = P}))
-    (sym (len-entries (empty {X = Unit {0}} {R = P})) ∙ len-empty P (Unit {0}))
+pub no_entries : {K V : Type 0} (R : K → K → Ordering) → entries (empty {X = V} {R = R}) ≡ []
+no_entries {K} {V} R =
+    nil_from_length (entries (empty {X = V} {R = R}))
+    (sym (len-entries (empty {X = V} {R = R})) ∙ len-empty R V)
 
 module _ {K V Q : Type 0} {R : K → K → Ordering} {P : Q → Q → Ordering} {key : K × V → Q}
     {name : Q → K} (index : IsIndexKey R P key name)

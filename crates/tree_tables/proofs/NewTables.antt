@@ -7,7 +7,7 @@ use Rattle.std.specs.Prelude.{◌==◌, IfErr, OnOk}
 use Rattle.std.specs.List.{AllByRecursion}
 use Rattle.std.specs.Cmp.Lexicographic.{nat_list_cmp_total}
 use Rattle.std.specs.FinMap.{empty, entries, from_entries, get-empty}
-use Rattle.std.specs.FinMap.{get-from_entries, len-empty, len-entries, same_map}
+use Rattle.std.specs.FinMap.{get-from_entries, same_map}
 use Rattle.std.specs.declared.cmp.Ordering.{Ordering}
 use Rattle.sqlite_trees.specs.Tree.{Trees, insert_entry, with_tree}
 use Rattle.sqlite_trees.specs.View.{View, IsClean, IsFailure, OnlyWrites, SetsTree}
@@ -29,23 +29,17 @@ use Rattle.tree_tables.proofs.ChoiceRows.{chosen_named}
 use Rattle.tree_tables.proofs.CountedRows.{detail_named, get_counted}
 use Rattle.tree_tables.proofs.RecordIndexes.{identity_named, mark_named}
 use Rattle.tree_rows.proofs.Calls.{Quiet}
+use Rattle.tree_rows.proofs.IndexLists.{no_entries}
 use Rattle.tree_rows.proofs.IndexOrders.{by_bytes_exact}
 use Rattle.tree_rows.proofs.Maps.{not_none}
 use Rattle.tree_tables.proofs.Looking.{survives}
-use Rattle.book_model.proofs.FilterLemmas.{no_length}
 
--- a map of nothing has no entries
-no_entries : {K V : Type 0} (R : K → K → Ordering) → entries (empty {X = V} {R = R}) ≡ []
-no_entries {K} {V} R =
-    no_length (entries (empty {X = V} {R = R}))
-    (sym (len-entries (empty {X = V} {R = R})) ∙ len-empty R V)
-
--- so there are no rows of it
+-- a map of nothing has no rows,
 no_rows : {K V : Type 0} (R : K → K → Ordering) (columns : K × V → Row)
     → map columns (entries (empty {X = V} {R = R})) ≡ []
 no_rows R columns = ap (map columns) (no_entries R)
 
--- and none of an index of it
+-- and neither has an index of it
 no_index : {K V Q : Type 0} {R : K → K → Ordering} {P : Q → Q → Ordering} {key : K × V → Q}
     {name : Q → K} → IsIndexKey R P key name → (columns : Q × Unit {0} → Row)
     → map columns (entries (index_of {P = P} key (empty {X = V} {R = R}))) ≡ []

@@ -1,14 +1,13 @@
 -- The records that are not charged, as the tree of marks lists them.
 use Rattle.std.proofs.Common.{◌≡◌, ◌∙◌, ℕ, ◌==◌, ◌-◌, List, [], ◌∷◌, Bool, true, false, not}
 use Rattle.std.proofs.Common.{map, pos, refl, sym, ap, subst, arith, length}
-use Rattle.std.specs.Prelude.{◌≤◌, T, filter}
+use Rattle.std.specs.Prelude.{◌≤◌, filter}
 use Rattle.std.specs.Cmp.{nat_cmp_total, tied_itself}
-use Rattle.std.specs.FinMap.{entries, entries_sorted, is_sorted}
-use Rattle.std.specs.FinMap.Entries.{below_all, is_sorted-where_key}
+use Rattle.std.specs.FinMap.{entries, entries_sorted}
+use Rattle.std.specs.FinMap.Entries.{is_sorted-where_key}
 use Rattle.std.specs.List.{AllByRecursion, AllZip, flat_map}
 use Rattle.std.specs.List.Sorted.{IsPermutation, IsStrictlySortedBy}
 use Rattle.std.specs.Ordering.{nat_cmp, ordering_then}
-use Rattle.std.specs.declared.cmp.Ordering.{Ordering}
 use Rattle.std.specs.declared.cmp.Ordering.TheVariants.{Less}
 use Rattle.std.proofs.lemmas.Bool.Decides.{nat_tests}
 use Rattle.std.proofs.lemmas.List.{length-map}
@@ -19,11 +18,11 @@ use Rattle.std.proofs.lemmas.List.Sums.{count_by-le-length, length-filter}
 use Rattle.sqlite_trees.proofs.ListLemmas.{IsPermutation-flat_map, filter-map, map-map}
 use Rattle.sqlite_value.specs.Order.{Row, column}
 use Rattle.sqlite_value.specs.declared.value.Value.TheVariants.{Blob, Int}
+use Rattle.book_model.proofs.SetLemmas.{keys_rise}
 use Rattle.table_model.specs.Tables.{RecordTable, Tables}
 use Rattle.tree_rows.specs.Indexes.{IsKeyOf, by_both, by_mark}
 use Rattle.tree_rows.specs.Runs.{RowsFit, run_of}
 use Rattle.tree_rows.proofs.IndexLists.{index_names_all, index_permutes}
-use Rattle.tree_rows.proofs.Maps.{first, second, less}
 use Rattle.tree_rows.proofs.Runs.{run_numbered}
 use Rattle.tree_tables.proofs.FoundNames.{Entry, at_name, entries_named, keys_named}
 use Rattle.tree_tables.proofs.FoundNames.{named_fit, named_found, names_of, names_read, some_had}
@@ -52,20 +51,6 @@ EndIn rows names =
     rows names
 
 -- ---- the records that are not charged
-
--- what is below all keys of entries is below each
-below_each : {K V : Type 0} (R : K → K → Ordering) (k : K) (es : List (K × V))
-    → T (below_all R k es) → AllByRecursion (λ x. R k x ≡ Less) (map (λ e. e.0) es)
-below_each R k [] below = tt
-below_each R k (e ∷ es) below = (less _ (first _ _ below), below_each R k es (second _ _ below))
-
--- the keys of sorted entries are in strict order
-pub keys_rise : {K V : Type 0} (R : K → K → Ordering) (es : List (K × V)) → T (is_sorted R es)
-    → IsStrictlySortedBy R (map (λ e. e.0) es)
-unfolding IsStrictlySortedBy
-keys_rise R [] sorted = tt
-keys_rise R (e ∷ es) sorted =
-    (below_each R e.0 es (first _ _ sorted), keys_rise R es (second _ _ sorted))
 
 -- a key has the mark of the records that are not charged
 abbrev Key : Type 0
