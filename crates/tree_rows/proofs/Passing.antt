@@ -19,10 +19,10 @@ use Rattle.tree_rows.specs.Rows.{IsFirst, past_key}
 use Rattle.tree_rows.proofs.Maps.{find_below, first, not_none, none_there, head_is}
 use Rattle.tree_rows.proofs.Walking.{walked}
 
--- what stays where a test is not passed is nothing
-passed : {A : Type 0} (b : Bool) (found : Option A) (x : A) → cond b found None ≡ Some x
-    → found ≡ Some x
-passed true found x is = is
+-- what is there by a test has passed it
+pub passed : {A : Type 0} (b : Bool) (found : Option A) (x : A) → cond b found None ≡ Some x
+    → (b ≡ true) × (found ≡ Some x)
+passed true found x is = (refl, is)
 passed false found x is = absurd (not_none x (sym is))
 
 -- what is there and does not stay has not passed the test
@@ -56,8 +56,8 @@ module _ {K V : Type 0} {R : K → K → Ordering} (total : IsTotalOrder R)
   pub first_there : (at : Option K) (m : FinMap R V) (k : K) (v : V) (more : List (K × V))
       → above at m ≡ (k, v) ∷ more → get m k ≡ Some v
   first_there at m k v more is =
-      passed (is_above R at k) (get m k) v
-      (sym (find_come at m k) ∙ ap (find R k) is ∙ find_front k v more)
+      (passed (is_above R at k) (get m k) v
+      (sym (find_come at m k) ∙ ap (find R k) is ∙ find_front k v more)).1
 
   -- where it is passed, what is passed then is its key, or was passed before
   pub passed_with : (at : Option K) (m : FinMap R V) (k : K) (v : V) (more : List (K × V))

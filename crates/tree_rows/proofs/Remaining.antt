@@ -9,15 +9,9 @@ use Rattle.std.specs.Ordering.{is_lt, is_eq, ordering_reverse}
 use Rattle.std.specs.declared.cmp.Ordering.{Ordering}
 use Rattle.std.specs.declared.cmp.Ordering.TheVariants.{Less, Equal, Greater}
 use Rattle.tree_rows.specs.Changes.{is_above, above}
-use Rattle.tree_rows.proofs.Maps.{find_below, first, second, not_none}
-use Rattle.tree_rows.proofs.Passing.{above_sorted, find_come, find_front}
+use Rattle.tree_rows.proofs.Maps.{find_below, first, second}
+use Rattle.tree_rows.proofs.Passing.{above_sorted, find_come, find_front, passed}
 use Rattle.tree_rows.proofs.Taking.{find_above}
-
--- what stays has passed the test
-has_passed : {A : Type 0} (b : Bool) (found : Option A) (x : A) → cond b found None ≡ Some x
-    → b ≡ true
-has_passed true found x is = refl
-has_passed false found x is = absurd (not_none x (sym is))
 
 -- a comparison that passes the test is less
 pub is_less : (o : Ordering) → is_lt o ≡ true → o ≡ Less
@@ -44,9 +38,9 @@ module _ {K V : Type 0} {R : K → K → Ordering} (total : IsTotalOrder R)
     -- it is above what was passed before
     come : is_above R at k ≡ true
     come =
-        has_passed (is_above R at k) (get m k) v
+        (passed (is_above R at k) (get m k) v
         (sym (find_come total exact at m k) ∙ ap (find R k) is
-        ∙ find_front total exact k v more)
+        ∙ find_front total exact k v more)).0
 
     -- and so is what is above it
     still : (at : Option K) (q : K) → is_above R at k ≡ true → R k q ≡ Less

@@ -23,7 +23,8 @@ use Rattle.tree_rows.specs.Layouts.{row_of, rows_of}
 use Rattle.tree_rows.specs.Rows.{IsFirst}
 use Rattle.tree_rows.proofs.FromPart.{FindsFrom, finds_from}
 use Rattle.tree_rows.proofs.Indexes.{index_names}
-use Rattle.tree_rows.proofs.Maps.{not_none, prefix_of}
+use Rattle.tree_rows.proofs.Maps.{prefix_of}
+use Rattle.tree_rows.proofs.Passing.{passed}
 use Rattle.tree_tables.specs.Columns.{detail_columns}
 use Rattle.tree_tables.specs.Details.{DetailsFit, FindsDetail, is_reached, start_columns}
 use Rattle.tree_tables.specs.Fits.{DetailFits}
@@ -162,12 +163,6 @@ at_part (After last) e =
     (then-Equal _ ∙ value_cmp-Blob e.0.name (last.name ++ 0 ∷ [])))))
 
 -- ---- the details of the tables
-
--- what is there by a test has passed it
-passed : {A : Type 0} (b : Bool) (found : Option A) (x : A) → cond b found None ≡ Some x
-    → (b ≡ true) × (found ≡ Some x)
-passed true found x is = (refl, is)
-passed false found x is = absurd (not_none x (sym is))
 
 -- what the tree has is a detail
 is_detail : (tables : Tables) (detail : Detail)
