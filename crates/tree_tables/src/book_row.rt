@@ -21,20 +21,25 @@ use tree_rows::{change_row, find_row};
 /// The number of the one row.
 const FIRST: i64 = 1;
 
-/// How many records the book has, and what they cost together.
+/// The sums of the book's records.
 #[derive(Clone, Copy)]
 pub struct Sums {
+    /// How many records are held.
     pub held: u64,
+    /// What they cost together, in ten-thousandths of the money unit.
     pub amount: u64,
 }
 
-/// The row of the book, as it was kept: the rule of identity, the period of its adoption, and the
-/// sums.
+/// The row of the book, as it was kept: the rule of identity, and the sums.
 #[derive(Clone, Copy, Drop)]
 pub struct StoredBook {
+    /// The rule of identity in force, 1 or 2.
     pub rule: u64,
+    /// The period in which the second rule was adopted, or 0 where it was not.
     pub adopted: u64,
+    /// How many records are held.
     pub held: u64,
+    /// What they cost together, in ten-thousandths of the money unit.
     pub amount: u64,
 }
 

@@ -18,11 +18,14 @@ use sqlite_value::value::ValueRef;
 use std::alloc::Global;
 use tree_rows::{ReadRow, add_row, find_row, last_row, list_run};
 
-/// A choice: its number, the name of the record that was chosen, and the period that was open then.
+/// A choice as its row says.
 #[derive(Clone, Copy, Drop)]
 pub struct StoredChoice {
+    /// Its number among all choices, from 1.
     pub number: u32,
+    /// The name of the data of the record that was chosen.
     pub name: [u8; 32],
+    /// The period that was open then.
     pub period: u16,
 }
 

@@ -19,7 +19,9 @@ use tree_rows::{ReadRow, put_row};
 /// A close: the period, and the day through which it was closed.
 #[derive(Clone, Copy, Drop)]
 pub struct Close {
+    /// The number of the period, from 1.
     pub period: u16,
+    /// Its last day, in days since 1970-01-01.
     pub through: i32,
 }
 

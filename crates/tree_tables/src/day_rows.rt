@@ -28,6 +28,7 @@ use tree_rows::{ReadRow, change_row, drop_row, find_row, first_from, list_run, p
 /// A charge row of a period.
 #[derive(Clone, Copy)]
 pub struct DayRow {
+    /// The number of the period, from 1.
     pub period: u16,
     pub row: ChargeRow,
 }
@@ -35,6 +36,7 @@ pub struct DayRow {
 /// Where a charge row is: its period, and its day, centre and shift.
 #[derive(Clone, Copy)]
 pub struct DayKey {
+    /// The number of the period, from 1.
     pub period: u16,
     pub place: RowKey,
 }

@@ -33,7 +33,7 @@ use tree_rows::first_from;
 pub enum DetailStart {
     /// The first of all.
     First,
-    /// The first of a day, or of a later one.
+    /// The first of a day, in days since 1970-01-01, or of a later one.
     Day(i32),
     /// The first of a centre on a day, or the first that comes after its place.
     Centre(i32, Name),

@@ -24,6 +24,7 @@ use tree_rows::first_from;
 /// A record that the walk has come to.
 #[derive(Drop)]
 pub struct LateRecord {
+    /// The record, as its row says.
     pub stored: StoredRecord,
     /// The detail that it was found by, where it was not found by its mark.
     pub detail: Option<Detail>,

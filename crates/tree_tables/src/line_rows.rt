@@ -21,7 +21,9 @@ use tree_rows::{ReadRow, drop_row, find_row, list_run, put_row};
 /// Where a line is: its period, and the name of its record.
 #[derive(Clone, Copy)]
 pub struct LineKey<'a> {
+    /// The number of the period, from 1.
     pub period: u16,
+    /// The name of the record's data.
     pub name: &'a [u8],
 }
 

@@ -23,9 +23,11 @@ use tariff_rules::Priced;
 pub struct StoredRecord {
     /// The name of the record's data.
     pub name: [u8; 32],
+    /// Whose work it measures, by the rule of identity in force.
     pub identity: Vec<u8>,
     /// The data after the descriptor.
     pub data_bytes: Vec<u8>,
+    /// What it costs, and where.
     pub priced: Priced,
     /// It is charged now.
     pub charged: bool,
@@ -38,6 +40,7 @@ pub struct StoredRecord {
 pub struct RecordMark {
     /// The name of the record's data.
     pub name: [u8; 32],
+    /// The day of its header, in days since 1970-01-01.
     pub day: i32,
     /// It is charged now.
     pub charged: bool,

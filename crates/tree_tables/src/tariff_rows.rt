@@ -18,13 +18,15 @@ use tree_rows::{ReadRow, put_row};
 /// A tariff that came as a text: its first day, and the text.
 #[derive(Clone, Copy)]
 pub struct TariffText<'a> {
+    /// Days since 1970-01-01.
     pub day: i32,
     pub body: &'a str,
 }
 
-/// A tariff as it was kept.
+/// A tariff as it was kept: its first day, and its text.
 #[derive(Drop)]
 pub struct StoredTariff {
+    /// Days since 1970-01-01.
     pub day: i32,
     pub body: String,
 }
