@@ -20,10 +20,7 @@ use book_core::{LedgerFault, Ruled, is_done, plan_charge};
 use sqlite_trees::error::StoreError;
 use sqlite_trees::store::Store;
 use std::alloc::Global;
-use tree_tables::{MOST_STEPS, StoredRecord, TreeTables};
-
-/// The second rule, as the row of the book gives it.
-const SECOND_RULE: u64 = 2;
+use tree_tables::{MOST_STEPS, SECOND_RULE, StoredRecord, TreeTables};
 
 /// A record is to be charged: it is alone in its identity, or is the one that was chosen last.
 fn is_due<S: Store>(

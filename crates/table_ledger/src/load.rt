@@ -23,16 +23,9 @@ use sqlite_trees::error::StoreError;
 use sqlite_trees::store::Store;
 use std::alloc::Global;
 use tariff_rules::{Tariff, TariffFault};
-use tree_tables::{Close, StoredBook, StoredTariff, TreeTables};
-
-/// The rule of identity under which books begin.
-const FIRST_RULE: u64 = 1;
-
-/// The rule of identity that they adopt.
-const SECOND_RULE: u64 = 2;
-
-/// The period of adoption where no rule was adopted.
-const NEVER_ADOPTED: u64 = 0;
+use tree_tables::{
+    Close, FIRST_RULE, NEVER_ADOPTED, SECOND_RULE, StoredBook, StoredTariff, TreeTables,
+};
 
 /// The tariff of a row, if its text is one and gives the row's day.
 fn tariff_at(alloc: Global, row: &StoredTariff) -> Result<AcceptedTariff, LedgerFault>

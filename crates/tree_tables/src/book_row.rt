@@ -21,6 +21,15 @@ use tree_rows::{change_row, find_row};
 /// The number of the one row.
 const FIRST: i64 = 1;
 
+/// The rule of identity under which books begin.
+pub const FIRST_RULE: u64 = 1;
+
+/// The rule of identity that they adopt.
+pub const SECOND_RULE: u64 = 2;
+
+/// The period of adoption where no rule was adopted.
+pub const NEVER_ADOPTED: u64 = 0;
+
 /// The sums of the book's records.
 #[derive(Clone, Copy)]
 pub struct Sums {
@@ -33,9 +42,9 @@ pub struct Sums {
 /// The row of the book, as it was kept: the rule of identity, and the sums.
 #[derive(Clone, Copy, Drop)]
 pub struct StoredBook {
-    /// The rule of identity in force, 1 or 2.
+    /// The rule of identity in force.
     pub rule: u64,
-    /// The period in which the second rule was adopted, or 0 where it was not.
+    /// The period in which the second rule was adopted, if it was.
     pub adopted: u64,
     /// How many records are held.
     pub held: u64,
@@ -143,8 +152,8 @@ impl<S: Store> TreeTables<S> {
         ensures makes { Makes result (state_of self.old) (state_of self.new) }
     {
         let book = StoredBook {
-            rule: 1,
-            adopted: 0,
+            rule: FIRST_RULE,
+            adopted: NEVER_ADOPTED,
             held: 0,
             amount: 0,
         };

@@ -29,7 +29,7 @@ mod tables;
 mod tariff_rows;
 pub mod trees;
 
-pub use book_row::{StoredBook, Sums};
+pub use book_row::{FIRST_RULE, NEVER_ADOPTED, SECOND_RULE, StoredBook, Sums};
 pub use choice_rows::StoredChoice;
 pub use closed_rows::Close;
 // How columns are read, for who reads the rows anew.
