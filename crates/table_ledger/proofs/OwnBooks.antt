@@ -27,6 +27,7 @@ use Rattle.tree_tables.specs.Fits.{CloseFits, TariffFits}
 use Rattle.tree_tables.specs.Holds.{Holds}
 use Rattle.tree_tables.specs.States.{State, HasCleanDisk, Survives}
 use Rattle.tree_tables.specs.Steps.{FailsByStore, IsCaused, Looks}
+use Rattle.tree_tables.proofs.Looking.{err_on}
 use Rattle.tree_tables.proofs.RulingRows.{closes_fit, tariffs_fit}
 use Rattle.table_ledger.specs.Commits.{IsAtRest, Saw}
 use Rattle.table_ledger.specs.Loaded.{CanBeListed, IsOpenCause, IsLoaded, ReadsItsOwn}
@@ -37,17 +38,6 @@ use Rattle.table_ledger.proofs.LastChoice.{last_counts}
 use Rattle.table_ledger.proofs.UnchangedStores.{holds_on}
 use Rattle.table_ledger.proofs.SurvivalLemmas.{clean_before, survives_then}
 
--- a cause is one of the error that is passed on
-pub cause_passed : {A : Type 0} {When : Tables → Type 0} (old new : State) (error : StoreError)
-    (result : Result A StoreError) → IsErrAnd result (λ other. other ≡ error)
-    → (HasCleanDisk new → (tables : Tables) → Holds old.view.trees tables → When tables
-    → IsCaused old new error)
-    → FailsByStore result old new When
-cause_passed {When = When} old new error (Err other) is cause =
-    subst (λ (error : StoreError). HasCleanDisk new → (tables : Tables)
-    → Holds old.view.trees tables → When tables → IsCaused old new error) (sym is) cause
-cause_passed old new error (Ok value) is cause = absurd is
-
 -- a look that fails after others has a cause in the store as it was before them
 pub fails_after_look : {A B : Type 0} {old middle new : State} {Known When : Tables → Type 0}
     {Answers : Tables → B → Type 0} {error : StoreError} (result : Result A StoreError)
@@ -57,7 +47,7 @@ pub fails_after_look : {A B : Type 0} {old middle new : State} {Known When : Tab
     → IsCaused middle new error)
     → FailsByStore result old new When
 fails_after_look {old = old} {middle = middle} {new = new} {error = error} result is saw looks cause =
-    cause_passed old new error result is (λ clean tables holds when.
+    err_on _ result is (λ clean tables holds when.
     let seen = saw.seen (clean_before looks.survives clean) in
     caused_after old.view middle.view old.faults middle.faults new.faults error seen.same
     saw.survives.counts

@@ -1,12 +1,11 @@
 use Rattle.std.proofs.Common.{subst, sym}
 use Rattle.table_ledger.proofs.LineReadings.{found_there}
-use Rattle.table_ledger.proofs.OwnBooks.{cause_passed, fails_after_look}
+use Rattle.table_ledger.proofs.OwnBooks.{fails_after_look}
 use Rattle.table_ledger.proofs.TryLemmas.{saw_none}
 use Rattle.tree_tables.specs.Answers.{FindsRecord}
 use Rattle.tree_tables.specs.States.{state}
 use Rattle.tree_tables.specs.Stored.{stored_entry}
-use Rattle.tree_tables.proofs.Looking.{caused_memory}
-use Rattle.table_ledger.specs.RecordReads.{CanBeRead}
+use Rattle.tree_tables.proofs.Looking.{caused_memory, err_on}
 use Rattle.tree_tables.specs.UsageData.{IsUsageData}
 use Rattle.table_ledger.proofs.adjustments.read_line.Goals as goal
 
@@ -23,7 +22,8 @@ returns-in_err-bytes-clause-cause g c =
     let end = state g.S.Store c.find_record.new.self.store in
     let name = c.args.stored.now.name in
     let held = c.in-Some.held in
-    cause_passed {When = CanBeRead} start end _ _ c.from_residual-in_err-bytes.ensures.1 (λ clean tables holds read.
+    err_on _ c.from_residual-in_err-bytes.result c.from_residual-in_err-bytes.ensures.1
+    (λ clean tables holds read.
     let finds = subst (FindsRecord name tables) c.in-Some.is
     ((c.in_ok-held.ensures.looks.found clean).known tables holds) in
     caused_memory start end _ (c.in_err-bytes.ensures.taken

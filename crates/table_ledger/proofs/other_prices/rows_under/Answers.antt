@@ -1,19 +1,17 @@
 use Rattle.std.proofs.Common.{◌++◌, ◌∷◌, [], arith, subst, sym}
 use Rattle.tree_tables.specs.Fits.{RecordFits}
 use Rattle.tree_tables.specs.States.{state}
-use Rattle.tree_tables.proofs.Looking.{caused_memory}
-use Rattle.table_ledger.specs.OtherPrices.{CanBeWalked, SumsUp, costs_of}
+use Rattle.tree_tables.proofs.Looking.{caused_memory, err_on}
+use Rattle.table_ledger.specs.OtherPrices.{SumsUp, costs_of}
 use Rattle.table_ledger.proofs.OtherPriceLemmas.{entry_there, passed_all, passed_dear}
 use Rattle.table_ledger.proofs.OtherPriceLemmas.{passed_on, passed_with}
-use Rattle.table_ledger.proofs.OwnBooks.{cause_passed, fails_after_look}
+use Rattle.table_ledger.proofs.OwnBooks.{fails_after_look}
 use Rattle.table_ledger.proofs.TryLemmas.{looks_known, saw_found, saw_so, saw_then}
 use Rattle.table_ledger.proofs.other_prices.rows_under.Goals as goal
 
 pub returns-in_err-start_pass-clause-cause : goal.returns-in_err-start_pass-clause-cause
 returns-in_err-start_pass-clause-cause g c =
-    let start = state g.S.Store c.args.tables.now.store in
-    let end = state g.S.Store c.start_pass.new.self.store in
-    cause_passed {When = CanBeWalked} start end _ _ c.from_residual.ensures.1
+    err_on _ c.from_residual.result c.from_residual.ensures.1
     (λ clean tables holds walked. c.in_err-start_pass.ensures.cause clean tables holds tt)
 
 pub returns-in_err-there-clause-cause : goal.returns-in_err-there-clause-cause
@@ -44,7 +42,7 @@ returns-in_err-room-clause-cause g c =
     let terms = c.args.tariff.now in
     let test = c.args.test.now in
     let row = c.next_record.new.row in
-    cause_passed {When = CanBeWalked} start end _ _ c.from_residual-in_err-room.ensures.1
+    err_on _ c.from_residual-in_err-room.result c.from_residual-in_err-room.ensures.1
     (λ clean tables holds walked.
     let saw = saw_then c.records.invariant.seen
     (saw_found (rw c.if-not-there.false at c.in_ok-there.ensures.looks)) in

@@ -5,10 +5,10 @@ use Rattle.tree_tables.specs.States.{state}
 use Rattle.tree_tables.specs.Stored.{stored_entry}
 use Rattle.tree_tables.specs.UsageData.{IsUsageData}
 use Rattle.tree_tables.specs.declared.stored_record.StoredRecord.{StoredRecord}
-use Rattle.tree_tables.proofs.Looking.{caused_memory}
+use Rattle.tree_tables.proofs.Looking.{caused_memory, err_on}
 use Rattle.table_ledger.specs.DisputeReads.{IsShownRow}
 use Rattle.table_ledger.specs.TrailReads.{CanBeTraced}
-use Rattle.table_ledger.proofs.OwnBooks.{cause_passed, fails_after_look}
+use Rattle.table_ledger.proofs.OwnBooks.{fails_after_look}
 use Rattle.table_ledger.proofs.TrailTries.{members_dated, sharing_shown, sharing_usage}
 use Rattle.table_ledger.proofs.TryLemmas.{saw_found}
 use Rattle.table_ledger.proofs.trails.look_for_kin.Goals as goal
@@ -25,7 +25,7 @@ pub returns-in_err-members-clause-cause : goal.returns-in_err-members-clause-cau
 returns-in_err-members-clause-cause g c =
     let start = state g.S.Store c.args.tables.now.store in
     let end = state g.S.Store c.list_sharing.new.self.store in
-    cause_passed {When = CanBeTraced} start end _ _ c.from_residual-in_err-members.ensures.1
+    err_on _ c.from_residual-in_err-members.result c.from_residual-in_err-members.ensures.1
     (λ clean tables holds can.
     let known = (c.in_ok-rows.ensures.looks.found clean).known tables holds in
     caused_memory start end _ (c.in_err-members.ensures.taken
