@@ -98,10 +98,11 @@ FindsUncharged from tables None =
     (row : List ℕ × RecordRow) → IsUnchargedFrom from tables row → ⊥
 FindsUncharged from tables (Some identity) = IsNextUncharged from tables identity.items
 
--- the records that have an identity and are charged, by name
+-- a record that is charged
 abbrev pub is_charged : List ℕ × RecordRow → Bool
 is_charged entry = entry.1.charged
 
+-- the records that have an identity and are charged, by name
 abbrev pub charged_with : List ℕ → RecordTable → List (List ℕ × RecordRow)
 charged_with identity records = filter is_charged (rows_with identity records)
 
