@@ -14,7 +14,7 @@ use Rattle.table_ledger.specs.Stages.{StagesBy, MayKeepBy, AttemptsBy}
 use Rattle.table_ledger.specs.declared.summary.Summary.{Summary}
 use Rattle.table_ledger.proofs.StepLemmas.{rests, stands_only}
 use Rattle.table_ledger.proofs.SurvivalLemmas.{clean_before, survives_both, survives_so}
-use Rattle.table_ledger.proofs.TryLemmas.{at_ready, stored_in, untried}
+use Rattle.table_ledger.proofs.TryLemmas.{at_ready, untried}
 use Rattle.table_ledger.proofs.UnchangedStores.{stands_then}
 
 module _ {S V T : Type 0} {answered : T → Result V LedgerFault}
@@ -34,7 +34,7 @@ module _ {S V T : Type 0} {answered : T → Result V LedgerFault}
         events = staged.events;
         leaves = staged.leaves;
         stored = subst (IsStoredIn naming (after_all staged.events book)) (sym whole.whole)
-            (stored_in staged.kept);
+            staged.kept;
       })
 
   -- What was staged is committed,
@@ -59,7 +59,7 @@ module _ {S V T : Type 0} {answered : T → Result V LedgerFault}
                 rest = rests first.view (ghosts.view middle) (ghosts.view last) ready.rest
                     staged.only whole;
                 kept = subst (IsStoredIn naming (after_all staged.events book))
-                    (sym (ap (λ (v : View). v.trees) whole.is)) (stored_in staged.kept);
+                    (sym (ap (λ (v : View). v.trees) whole.is)) staged.kept;
                 remembers = staged.remembers is told;
               };
             };

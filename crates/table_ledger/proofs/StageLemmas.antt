@@ -18,8 +18,8 @@ use Rattle.tree_tables.specs.Steps.{Does, KeepsLastCommit}
 use Rattle.tree_tables.proofs.Looking.{does_err, kept_last, only_both}
 use Rattle.table_ledger.specs.Attempts.{LeavesOpen}
 use Rattle.table_ledger.specs.Commits.{Saw}
-use Rattle.table_ledger.specs.Ready.{Remembers}
-use Rattle.table_ledger.specs.Stages.{IsAtAs, IsStoredAs, LeavesOne, MakesOf, StagesAs, StagesBy}
+use Rattle.table_ledger.specs.Ready.{IsStoredAs, Remembers}
+use Rattle.table_ledger.specs.Stages.{IsAtAs, LeavesOne, MakesOf, StagesAs, StagesBy}
 use Rattle.table_ledger.specs.declared.summary.Summary.{Summary}
 use Rattle.table_model.proofs.ReadableStays.{readable_stays}
 use Rattle.table_ledger.proofs.Remembered.{remembers_as}

@@ -1,7 +1,6 @@
 -- A call that is tried: looks at the tables, and then an answer or a refusal.
 use Rattle.std.proofs.Common.{List, Result, Ok, Err, [], refl, sym, subst, true≢false}
 use Rattle.std.specs.Prelude.{IsErr}
-use Rattle.sqlite_trees.specs.Tree.{Trees}
 use Rattle.sqlite_trees.specs.View.{View}
 use Rattle.sqlite_trees.specs.declared.error.StoreError.{StoreError}
 use Rattle.book_model.specs.declared.fault.LedgerFault.{LedgerFault}
@@ -17,7 +16,7 @@ use Rattle.tree_tables.proofs.Looking.{kept_last}
 use Rattle.table_ledger.specs.Commits.{Saw}
 use Rattle.table_ledger.specs.Ready.{IsReadyAt, IsStoredIn, Remembers}
 use Rattle.table_ledger.specs.Attempts.{LeavesOpen}
-use Rattle.table_ledger.specs.Stages.{AttemptsBy, AttemptsOne, IsAt, IsStoredAs, MayKeepBy}
+use Rattle.table_ledger.specs.Stages.{AttemptsBy, AttemptsOne, IsAt, MayKeepBy}
 use Rattle.table_ledger.specs.declared.summary.Summary.{Summary}
 use Rattle.table_ledger.proofs.UnchangedStores.{holds_on, rest_on}
 use Rattle.table_ledger.proofs.UnchangedStores.{trees_same}
@@ -81,15 +80,7 @@ looks_known saw answers = record {
 -- a ledger that is ready is at its book
 pub at_ready : {naming : Naming} {summary : Summary} {view : View} {book : Book}
     → IsReadyAt naming summary view book → IsAt naming summary view book
-at_ready ready = record {
-  kept = record { readable = ready.kept.readable; holds = ready.kept.holds };
-  remembers = ready.remembers;
-}
-
--- trees that hold the tables with all that was written hold the book
-pub stored_in : {naming : Naming} {book : Book} {trees : Trees}
-    → IsStoredAs (λ tables. tables) naming book trees → IsStoredIn naming book trees
-stored_in kept = record { readable = kept.readable; holds = kept.holds }
+at_ready ready = record { kept = ready.kept; remembers = ready.remembers }
 
 -- a ledger is ready after what changes nothing
 pub ready_same : {naming : Naming} {was : Summary} {book : Book} (old new : View)

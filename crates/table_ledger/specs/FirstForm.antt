@@ -7,12 +7,10 @@ use Rattle.sqlite_trees.specs.Tree.{Trees}
 use Rattle.sqlite_trees.specs.View.{View, IsClean}
 use Rattle.book_model.specs.Words.{Book, Naming, by_bytes, set_of}
 use Rattle.table_model.specs.CountedRead.{charged_before_lines, first_line}
-use Rattle.table_model.specs.Readable.{IsReadable}
 use Rattle.table_model.specs.Steps.{count_row}
 use Rattle.table_model.specs.Tables.{RecordRow, Tables}
-use Rattle.table_model.specs.TablesOf.{tables_of}
-use Rattle.tree_tables.specs.Holds.{Holds}
 use Rattle.table_ledger.specs.Commits.{IsAtRest}
+use Rattle.table_ledger.specs.Ready.{IsStoredAs}
 use Rattle.table_ledger.specs.declared.upgrading.Counted.{Counted}
 
 -- the tables, of which none says that a record is counted
@@ -20,9 +18,8 @@ abbrev pub uncounted : Tables → Tables
 uncounted tables = record tables { counted = empty }
 
 -- the trees hold the book, which can be read back, without its details
-pub record IsStoredInFirst (naming : Naming) (book : Book) (trees : Trees) : Type 0 where
-  pub readable : IsReadable naming book
-  pub holds : Holds trees (uncounted (tables_of naming book))
+abbrev pub IsStoredInFirst : Naming → Book → Trees → Type 0
+IsStoredInFirst = IsStoredAs uncounted
 
 -- a store is open between two transactions, and its trees hold the book so
 pub record RestsAtFirst (naming : Naming) (book : Book) (view : View) : Type 0 where

@@ -6,6 +6,7 @@ use Rattle.sqlite_trees.specs.View.{View}
 use Rattle.book_model.specs.Words.{total_of, Book, Naming, members}
 use Rattle.table_model.specs.TablesOf.{tables_of}
 use Rattle.table_model.specs.Readable.{IsReadable}
+use Rattle.table_model.specs.Tables.{Tables}
 use Rattle.tree_tables.specs.Holds.{Holds}
 use Rattle.table_ledger.specs.Commits.{IsAtRest}
 use Rattle.book_core.specs.OfficeRulings.{ruled_in}
@@ -18,10 +19,16 @@ pub record Remembers (summary : Summary) (book : Book) : Type 0 where
   pub held : summary.held ≡ length (members book.held)
   pub total : summary.total ≡ total_of book.rulings book.held
 
--- the trees hold the book, which can be read back
-pub record IsStoredIn (naming : Naming) (book : Book) (trees : Trees) : Type 0 where
+-- the trees hold the tables of the book, which can be read back, as they are when only so much of
+-- them is written
+pub record IsStoredAs (written : Tables → Tables) (naming : Naming) (book : Book) (trees : Trees)
+    : Type 0 where
   pub readable : IsReadable naming book
-  pub holds : Holds trees (tables_of naming book)
+  pub holds : Holds trees (written (tables_of naming book))
+
+-- all of them
+abbrev pub IsStoredIn : Naming → Book → Trees → Type 0
+IsStoredIn = IsStoredAs (λ tables. tables)
 
 -- this holds for some book
 pub record StoreSomeBook (naming : Naming) (trees : Trees) : Type 0 where

@@ -12,29 +12,19 @@ use Rattle.book_core.specs.Calls.{Calls, Makes, is_store, is_reopen, listed}
 use Rattle.book_core.specs.OfficeRulings.{ruled_in}
 use Rattle.book_core.specs.Submissions.{Accepts, Takes, first_of}
 use Rattle.table_model.specs.Changed.{kept_at}
-use Rattle.table_model.specs.Readable.{IsReadable}
 use Rattle.table_model.specs.Steps.{set_sums}
 use Rattle.table_model.specs.Tables.{Tables}
-use Rattle.table_model.specs.TablesOf.{tables_of}
-use Rattle.tree_tables.specs.Holds.{Holds}
 use Rattle.tree_tables.specs.States.{State, HasCleanDisk, Survives}
 use Rattle.tree_tables.specs.Steps.{KeepsLastCommit}
-use Rattle.table_ledger.specs.Ready.{IsReadyAt, IsStoredIn, Remembers}
+use Rattle.table_ledger.specs.Ready.{IsReadyAt, IsStoredAs, IsStoredIn, Remembers}
 use Rattle.table_ledger.specs.LedgerState.{LedgerState}
 use Rattle.table_ledger.specs.Attempts.{IsRefused, LeavesOpen}
 use Rattle.table_ledger.specs.declared.summary.Summary.{Summary}
 
 -- ---- inside a transaction
 
--- the trees hold the tables of the book, which can be read back, as they are at this point of the
--- transaction: what is written later is not there yet
-pub record IsStoredAs (written : Tables → Tables) (naming : Naming) (book : Book) (trees : Trees)
-    : Type 0 where
-  pub readable : IsReadable naming book
-  pub holds : Holds trees (written (tables_of naming book))
-
--- The trees hold the tables of the book so, as the transaction sees them; and the summary is that
--- of the book.
+-- The trees hold the tables of the book, as they are at this point of the transaction: what is
+-- written later is not there yet. And the summary is that of the book.
 pub record IsAtAs (written : Tables → Tables) (naming : Naming) (summary : Summary) (view : View)
     (book : Book) : Type 0 where
   pub kept : IsStoredAs written naming book view.trees
