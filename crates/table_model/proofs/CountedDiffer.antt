@@ -80,7 +80,8 @@ module _ {before now : CountedTable} {most : ℕ} (few : Within before most now)
 -- so a choice, with what it withdraws, changes two
 two_differ : (number period : ℕ) (name : List ℕ) (chosen : Effects) (withdrawn : Option Effects)
     (tables : Tables) → Within tables.counted 2
-    (put_choice number period name (record { chosen = chosen; withdrawn = withdrawn }) tables).counted
+    (put_choice number period name (record { chosen = chosen; withdrawn = withdrawn })
+    tables).counted
 two_differ number period name chosen None tables =
     few_counted (no_more (none_differ tables.counted)) name chosen
 two_differ number period name chosen (Some gone) tables =
