@@ -3,12 +3,13 @@ use Rattle.std.specs.Prelude.{◌≡◌, ◌⊎◌, ◌≤◌, ◌<◌, ℕ, Lis
 use Rattle.sqlite_disk.specs.declared.files.Files.{Files}
 use Rattle.sqlite_pool.specs.File.{version_in}
 use Rattle.sqlite_pool.specs.Header.{user_version}
+use Rattle.sqlite_store.specs.declared.catalog.Wanted.{Wanted}
 use Rattle.sqlite_trees.specs.Objects.{version_rows, version_tree, with_version}
 use Rattle.sqlite_trees.specs.Tree.{Trees}
 use Rattle.sqlite_trees.specs.View.{View}
 use Rattle.sqlite_wal.specs.Recovery.{Image}
 use Rattle.tree_tables.specs.Forms.{this_form}
-use Rattle.book_trees.specs.LedgerFiles.{HoldsBooks}
+use Rattle.book_trees.specs.LedgerFiles.{HoldsBooks, HoldsTables}
 use Rattle.book_trees.specs.declared.faults.OpenFault.{OpenFault}
 use Rattle.book_trees.specs.declared.faults.OpenFault.TheVariants.{NewForm, NotBooks, OldForm}
 
@@ -24,6 +25,10 @@ AreNewer trees = (form : ℕ) × SayForm form trees × (this_form < form)
 pub record HoldsThisForm (image : Image) : Type 0 where
   pub held : HoldsBooks image
   pub form : version_in held.pages ≤ this_form
+
+-- whatever such tables the files hold, they do not say that they are of a newer form
+abbrev pub HoldNoNewer : List Wanted → Image → Type 0
+HoldNoNewer schema image = (held : HoldsTables schema image) → version_in held.pages ≤ this_form
 
 -- where a file says its form, in its first page
 abbrev pub form_in : List ℕ → ℕ

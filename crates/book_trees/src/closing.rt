@@ -149,6 +149,7 @@ pub fn keeps_books<D: Disk>(store: &FileStore<D>) -> Result<bool, AllocError>
 /// be found of the files then holds tables that an open might have found before.
 pub fn close_unchanged<D: Disk>(store: FileStore<D>) -> Closed<D>
     ensures files { (result.files.log, result.files.db) ≡ files_of store }
+    ensures log { result.log ≡ LogLeft.Unmoved }
     ensures honest { AreClean D.Disk result.files.log result.files.db
         → IsTrue (state store).is_clean }
     ensures left { IsTrue result.is_kept → (image : Image) → MayBeFound D.Disk result.files image
@@ -160,6 +161,7 @@ pub fn close_unchanged<D: Disk>(store: FileStore<D>) -> Closed<D>
 /// The same of a store of these tables and indexes.
 fn close_over<D: Disk>(store: FileStore<D>, objects: &[Object<'_>]) -> Closed<D>
     ensures files { (result.files.log, result.files.db) ≡ files_of store }
+    ensures log { result.log ≡ LogLeft.Unmoved }
     ensures kept { IsTrue result.is_kept → HasSchema (map wanted_of objects.now) store }
     ensures honest { AreClean D.Disk result.files.log result.files.db
         → IsTrue (state store).is_clean }

@@ -10,6 +10,7 @@ ghost use Rattle.sqlite_wal.specs.Reads.{AreClean};
 ghost use Rattle.sqlite_wal.specs.Recovery.{Image};
 ghost use Rattle.book_trees.specs.Copies.{copy_fault_for, AreCopiesOf, AreOnlyRead, BeginsAs};
 ghost use Rattle.book_trees.specs.Copies.{IsCopyOf, IsCopyRefusedFor, IsOnlyRead, StopsCopy};
+ghost use Rattle.book_trees.specs.Forms.{HoldNoNewer};
 ghost use Rattle.book_trees.specs.LedgerFiles.{image_of, page_size, HoldsBooks, trees_held};
 ghost use Rattle.book_trees.specs.Looks.{IsUnopenedLook};
 ghost use Rattle.book_trees.specs.Refusals.{faults_in, IsUnopened, MayLeave};
@@ -138,6 +139,9 @@ pub fn copy_to<D: Disk, T: Start>(
     ensures found { IfOk result (λ store. IsTrue (state store).is_clean
         → AreClean D.Disk from.new.log from.new.db
         → (held : HoldsBooks (image_of D.Disk from.old)) → (view store).trees ≡ trees_held held) }
+    ensures form { IfOk result (λ store. IsTrue (state store).is_clean
+        → AreClean D.Disk from.new.log from.new.db
+        → HoldNoNewer books_schema (image_of D.Disk from.old)) }
 
     // Of files that hold books of this form there is no copy only because of memory and the disks.
     ensures cause { IfErr result (λ refusal. MatchOption refusal.1 (IsUnopenedLook refusal.0)

@@ -12,6 +12,7 @@ ghost use Rattle.sqlite_wal.specs.Recovery.{Image};
 ghost use Rattle.book_trees.specs.FirstForm.{first_fault_for, HasFirstCause, HoldsFirstForm};
 ghost use Rattle.book_trees.specs.FirstForm.{AddsDetails, HasFirstTrees, IsFirstRefusedFor};
 ghost use Rattle.book_trees.specs.FirstForm.{IsOpenFirst, IsToldFirst, IsToldThis, IsUnopenedFirst};
+ghost use Rattle.book_trees.specs.Forms.{HoldNoNewer};
 ghost use Rattle.tree_rows.specs.Calls.{CommitsNothing, LeavesCommitted};
 ghost use Rattle.book_trees.specs.LedgerFiles.{image_of, page_size, HoldsBooks, HoldsFirstBooks};
 ghost use Rattle.book_trees.specs.LedgerFiles.{trees_held};
@@ -114,6 +115,8 @@ pub fn open_first_files<D: Disk>(
         → (held : HoldsFirstBooks (image_of D.Disk files)) → (view store).trees ≡ trees_held held) }
     ensures older { IfOk result (λ store. IsTrue (state store).is_clean
         → ¬ HoldsBooks (image_of D.Disk files)) }
+    ensures form { IfOk result (λ store. IsTrue (state store).is_clean
+        → HoldNoNewer first_schema (image_of D.Disk files)) }
 
     // Files of the first form are not opened only because of memory and the disk.
     ensures cause { IfErr result (IsRefusal D.Disk HasFirstCause files
@@ -185,9 +188,11 @@ pub fn open_first_at<S: Start>(
     ensures found { IfOk result (λ store. IsTrue (state store).is_clean
         → (held : HoldsFirstBooks (image_at S.Start)) → (view store).trees ≡ trees_held held) }
 
-    // Files that are opened hold no books of this form.
+    // Files that are opened hold no books of this form, nor say that they are of a newer one.
     ensures older { IfOk result (λ store. IsTrue (state store).is_clean
         → ¬ HoldsBooks (image_at S.Start)) }
+    ensures form { IfOk result (λ store. IsTrue (state store).is_clean
+        → HoldNoNewer first_schema (image_at S.Start)) }
 
     // What a stop leaves of files that were not opened is what they held, or stands for the same.
     ensures cause { IfErr result (λ refusal. MatchOption refusal.1 (IsUnopenedFirst refusal.0)

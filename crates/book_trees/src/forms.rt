@@ -1,6 +1,6 @@
 //! The form of books, which their file says by SQLite's user version.
 
-ghost use Rattle.std.specs.Prelude.{◌≡◌, ◌≢◌, ◌⊎◌, ◌≤◌, ◌<◌, IsTrue, OnErr, OnOk};
+ghost use Rattle.std.specs.Prelude.{◌≡◌, ◌≢◌, ◌⊎◌, ◌≤◌, ◌<◌, IsTrue, OnErr, OnOk, false};
 ghost use Rattle.sqlite_store.specs.FileStore.{view};
 ghost use Rattle.sqlite_trees.specs.Objects.{with_version};
 ghost use Rattle.sqlite_trees.specs.View.{IsClean};
@@ -26,6 +26,8 @@ use tree_tables::THIS_FORM;
 pub(crate) fn says_newer<D: Disk>(store: &FileStore<D>) -> bool
     ensures newer { IsTrue result → IsClean (view store.now) → IsTrue (view store.now).is_open
         → AreNewer (view store.now).trees }
+    ensures other { result ≡ false → IsClean (view store.now) → IsTrue (view store.now).is_open
+        → ¬ AreNewer (view store.now).trees }
 {
     store.version() > THIS_FORM
 }

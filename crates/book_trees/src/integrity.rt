@@ -7,7 +7,7 @@ ghost use Rattle.sqlite_store.specs.Unopened.{IsFullFile, Opens};
 ghost use Rattle.sqlite_wal.specs.Files.{image_at};
 ghost use Rattle.sqlite_wal.specs.Reads.{AreClean};
 ghost use Rattle.sqlite_wal.specs.Recovery.{Image};
-ghost use Rattle.book_trees.specs.Forms.{HoldsThisForm};
+ghost use Rattle.book_trees.specs.Forms.{HoldNoNewer, HoldsThisForm};
 ghost use Rattle.book_trees.specs.LedgerFiles.{image_of, page_size, HoldsBooks, trees_held};
 ghost use Rattle.book_trees.specs.Looks.{look_fault_for, HasLookCause, IsLookRefusedFor};
 ghost use Rattle.book_trees.specs.Looks.{IsToldLook, IsUnopenedLook};
@@ -98,6 +98,8 @@ pub fn look_through<D: Disk>(
         → (held : HoldsBooks (image_of D.Disk files)) → (view store).trees ≡ trees_held held) }
     ensures held { IfOk result (λ store. IsTrue (state store).is_clean
         → ∥ HoldsBooks (image_of D.Disk files) ∥₁) }
+    ensures form { IfOk result (λ store. IsTrue (state store).is_clean
+        → HoldNoNewer books_schema (image_of D.Disk files)) }
 
     // Files that hold books of this form are not looked through only because of memory and the
     // disk.
@@ -158,6 +160,8 @@ pub fn look_through_at<S: Start>(
         → (held : HoldsBooks (image_at S.Start)) → (view store).trees ≡ trees_held held) }
     ensures held { IfOk result (λ store. IsTrue (state store).is_clean
         → ∥ HoldsBooks (image_at S.Start) ∥₁) }
+    ensures form { IfOk result (λ store. IsTrue (state store).is_clean
+        → HoldNoNewer books_schema (image_at S.Start)) }
 
     // What a stop leaves of files that were not looked through is what they held, or stands for the
     // same.

@@ -6,10 +6,11 @@ use Rattle.sqlite_store.specs.FileStore.{view}
 use Rattle.sqlite_wal.specs.Recovery.{Image}
 use Rattle.book_trees.proofs.CopyLemmas.{copied_image}
 use Rattle.book_trees.proofs.Refused.{cause_for}
-use Rattle.book_trees.specs.Forms.{HoldsThisForm}
+use Rattle.book_trees.specs.Forms.{HoldNoNewer, HoldsThisForm}
 use Rattle.book_trees.specs.LedgerFiles.{image_of, HoldsBooks, trees_held}
 use Rattle.book_trees.specs.Looks.{look_opening}
 use Rattle.book_trees.specs.Refusals.{faults_in, AreFull}
+use Rattle.book_trees.specs.Schema.{books_schema}
 use Rattle.book_trees.proofs.copying.copy_to.Goals as goal
 
 pub returns-in-Ok-look_through-clause-found : goal.returns-in-Ok-look_through-clause-found
@@ -19,6 +20,13 @@ returns-in-Ok-look_through-clause-found g c clean honest =
     (copied_image c.args.from.now c.copy_files.new.from c.copy_files.new.to
     c.copy_files.ensures.read c.in-Ok-copy_files.ensures.copied honest)
     (c.in-Ok-look_through.ensures.found clean)
+
+pub returns-in-Ok-look_through-clause-form : goal.returns-in-Ok-look_through-clause-form
+returns-in-Ok-look_through-clause-form g c clean honest =
+    subst (HoldNoNewer books_schema)
+    (copied_image c.args.from.now c.copy_files.new.from c.copy_files.new.to
+    c.copy_files.ensures.read c.in-Ok-copy_files.ensures.copied honest)
+    (c.in-Ok-look_through.ensures.form clean)
 
 pub returns-in-Err-look_through-clause-cause : goal.returns-in-Err-look_through-clause-cause
 returns-in-Err-look_through-clause-cause g c = λ honest clean.

@@ -4,7 +4,9 @@ use Rattle.sqlite_wal.specs.Recovery.{Image}
 use Rattle.book_trees.proofs.FreshFiles.{as_found, fresh_cause, fresh_faults, fresh_image}
 use Rattle.book_trees.proofs.FreshFiles.{fresh_images}
 use Rattle.book_trees.specs.FirstForm.{HasFirstCause}
+use Rattle.book_trees.specs.Forms.{HoldNoNewer}
 use Rattle.book_trees.specs.LedgerFiles.{HoldsBooks, HoldsFirstBooks, trees_held}
+use Rattle.book_trees.specs.Schema.{first_schema}
 use Rattle.book_trees.proofs.first_form.open_first_at.Goals as goal
 
 pub returns-in-Ok-open_first_files-clause-found : goal.returns-in-Ok-open_first_files-clause-found
@@ -19,6 +21,12 @@ returns-in-Ok-open_first_files-clause-older g c clean held =
     let fresh = c.in-Ok.ensures.fresh in
     c.in-Ok-open_first_files.ensures.older clean
     (subst HoldsBooks (sym (fresh_image g.S.Start.log g.S.Start.db fresh.0 fresh.1)) held)
+
+pub returns-in-Ok-open_first_files-clause-form : goal.returns-in-Ok-open_first_files-clause-form
+returns-in-Ok-open_first_files-clause-form g c clean =
+    let fresh = c.in-Ok.ensures.fresh in
+    subst (HoldNoNewer first_schema) (fresh_image g.S.Start.log g.S.Start.db fresh.0 fresh.1)
+    (c.in-Ok-open_first_files.ensures.form clean)
 
 pub returns-in-Err-open_first_files-clause-kept : goal.returns-in-Err-open_first_files-clause-kept
 returns-in-Err-open_first_files-clause-kept g c left may =

@@ -3,7 +3,7 @@ use Rattle.sqlite_store.specs.Unopened.{image, IsFullFile}
 use Rattle.book_trees.proofs.FileParts.{end_honest, file_cause, files_kept, first_image}
 use Rattle.book_trees.proofs.FileParts.{honest_given, kept_still, shows_given, store_honest}
 use Rattle.book_trees.proofs.FileParts.{store_kept}
-use Rattle.book_trees.proofs.FormNumbers.{newer_refused}
+use Rattle.book_trees.proofs.FormNumbers.{newer_refused, none_newer}
 use Rattle.book_trees.proofs.ToldCauses.{first_told_cause, told_not_this}
 use Rattle.book_trees.specs.FirstForm.{first_opening, HoldsFirstForm}
 use Rattle.book_trees.specs.LedgerFiles.{image_of, HoldsBooks}
@@ -27,6 +27,13 @@ returns-clause-older g c clean held =
     let first = c.args.files in
     c.in-Ok-open_first.ensures.older clean
     (subst HoldsBooks (sym (first_image old old first first given (sym given))) held)
+
+-- what is opened does not say that it is of a newer form
+pub returns-clause-form : goal.returns-clause-form
+returns-clause-form g c =
+    none_newer c.in-Ok.files c.in-Ok-open_first.store c.args.files c.in-Ok.ensures.files
+    c.in-Ok-open_first.ensures.opened.ready c.in-Ok-open_first.ensures.found
+    (c.says_newer.ensures.other c.if-says_newer.false)
 
 -- files of the first form do not say that they are of a newer one
 pub returns-then-says_newer-clause-cause : goal.returns-then-says_newer-clause-cause

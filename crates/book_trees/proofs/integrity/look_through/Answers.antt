@@ -4,7 +4,7 @@ use Rattle.sqlite_wal.specs.Recovery.{Image}
 use Rattle.book_trees.proofs.FileParts.{end_honest, file_cause, files_kept, first_image}
 use Rattle.book_trees.proofs.FileParts.{honest_given, kept_still, shows_given, store_honest}
 use Rattle.book_trees.proofs.FileParts.{store_kept}
-use Rattle.book_trees.proofs.FormNumbers.{newer_refused}
+use Rattle.book_trees.proofs.FormNumbers.{newer_refused, none_newer}
 use Rattle.book_trees.proofs.ToldCauses.{look_told_cause, told_pages}
 use Rattle.book_trees.specs.Forms.{HoldsThisForm}
 use Rattle.book_trees.specs.LedgerFiles.{image_of, HoldsBooks}
@@ -31,6 +31,13 @@ returns-clause-held g c clean =
     subst (λ (i : Image). ∥ HoldsBooks i ∥₁)
     (first_image old old c.args.files c.args.files given (sym given))
     (c.in-Ok-look_through_all.ensures.held clean)
+
+-- what is opened does not say that it is of a newer form
+pub returns-clause-form : goal.returns-clause-form
+returns-clause-form g c =
+    none_newer c.in-Ok.files c.in-Ok-look_through_all.store c.args.files c.in-Ok.ensures.files
+    c.in-Ok-look_through_all.ensures.opened.ready c.in-Ok-look_through_all.ensures.found
+    (c.says_newer.ensures.other c.if-says_newer.false)
 
 -- files that hold books of this form do not say that they are of a newer one
 pub returns-then-says_newer-clause-cause : goal.returns-then-says_newer-clause-cause

@@ -3,7 +3,9 @@ use Rattle.sqlite_store.specs.FileStore.{view}
 use Rattle.sqlite_wal.specs.Recovery.{Image}
 use Rattle.book_trees.proofs.FreshFiles.{as_found, fresh_image}
 use Rattle.book_trees.proofs.FreshFiles.{fresh_images}
+use Rattle.book_trees.specs.Forms.{HoldNoNewer}
 use Rattle.book_trees.specs.LedgerFiles.{HoldsBooks, trees_held}
+use Rattle.book_trees.specs.Schema.{books_schema}
 use Rattle.book_trees.proofs.integrity.look_through_at.Goals as goal
 
 pub returns-in-Ok-look_through-clause-found : goal.returns-in-Ok-look_through-clause-found
@@ -12,6 +14,12 @@ returns-in-Ok-look_through-clause-found g c clean =
     subst (λ (i : Image). (held : HoldsBooks i) → (view c.in-Ok-look_through.store).trees
     ≡ trees_held held) (fresh_image g.S.Start.log g.S.Start.db fresh.0 fresh.1)
     (c.in-Ok-look_through.ensures.found clean)
+
+pub returns-in-Ok-look_through-clause-form : goal.returns-in-Ok-look_through-clause-form
+returns-in-Ok-look_through-clause-form g c clean =
+    let fresh = c.in-Ok.ensures.fresh in
+    subst (HoldNoNewer books_schema) (fresh_image g.S.Start.log g.S.Start.db fresh.0 fresh.1)
+    (c.in-Ok-look_through.ensures.form clean)
 
 pub returns-in-Err-look_through-clause-kept : goal.returns-in-Err-look_through-clause-kept
 returns-in-Err-look_through-clause-kept g c left may =

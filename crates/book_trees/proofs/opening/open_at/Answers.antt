@@ -1,7 +1,9 @@
 use Rattle.std.proofs.Common.{◌≡◌, subst, sym}
 use Rattle.sqlite_store.specs.FileStore.{view}
 use Rattle.sqlite_wal.specs.Recovery.{Image}
+use Rattle.book_trees.specs.Forms.{HoldNoNewer}
 use Rattle.book_trees.specs.LedgerFiles.{AreLeft, HoldsBooks, trees_held}
+use Rattle.book_trees.specs.Schema.{books_schema}
 use Rattle.book_trees.specs.StoreView.{ShowsBooks}
 use Rattle.book_trees.proofs.FreshFiles.{as_found, fresh_image, fresh_images}
 use Rattle.book_trees.proofs.opening.open_at.Goals as goal
@@ -25,6 +27,12 @@ returns-in-Ok-open_files-clause-read g c clean =
     subst (λ (i : Image). ShowsBooks i c.in-Ok-open_files.store)
     (fresh_image g.S.Start.log g.S.Start.db fresh.0 fresh.1)
     (c.in-Ok-open_files.ensures.read clean)
+
+pub returns-in-Ok-open_files-clause-form : goal.returns-in-Ok-open_files-clause-form
+returns-in-Ok-open_files-clause-form g c clean =
+    let fresh = c.in-Ok.ensures.fresh in
+    subst (HoldNoNewer books_schema) (fresh_image g.S.Start.log g.S.Start.db fresh.0 fresh.1)
+    (c.in-Ok-open_files.ensures.form clean)
 
 pub returns-in-Err-open_files-clause-kept : goal.returns-in-Err-open_files-clause-kept
 returns-in-Err-open_files-clause-kept g c left may =

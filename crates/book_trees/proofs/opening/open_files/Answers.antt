@@ -4,7 +4,7 @@ use Rattle.sqlite_wal.specs.Recovery.{Image}
 use Rattle.book_trees.proofs.FileParts.{end_honest, file_cause, files_kept, first_honest}
 use Rattle.book_trees.proofs.FileParts.{first_image, honest_given, kept_still, shows_given}
 use Rattle.book_trees.proofs.FileParts.{store_honest, store_kept}
-use Rattle.book_trees.proofs.FormNumbers.{newer_refused}
+use Rattle.book_trees.proofs.FormNumbers.{newer_refused, none_newer}
 use Rattle.book_trees.proofs.ToldCauses.{told_cause}
 use Rattle.book_trees.specs.Forms.{HoldsThisForm}
 use Rattle.book_trees.specs.LedgerFiles.{image_of, AreLeft, HoldsBooks}
@@ -38,6 +38,13 @@ returns-clause-read g c clean =
     subst (λ (i : Image). ShowsBooks i c.in-Ok-open_left.store)
     (first_image old old c.args.files c.args.files given (sym given))
     (c.in-Ok-open_left.ensures.read clean)
+
+-- what is opened does not say that it is of a newer form
+pub returns-clause-form : goal.returns-clause-form
+returns-clause-form g c =
+    none_newer c.in-Ok.files c.in-Ok-open_left.store c.args.files c.in-Ok.ensures.files
+    c.in-Ok-open_left.ensures.opened.ready c.in-Ok-open_left.ensures.found
+    (c.says_newer.ensures.other c.if-says_newer.false)
 
 -- files that hold books of this form do not say that they are of a newer one
 pub returns-then-says_newer-clause-cause : goal.returns-then-says_newer-clause-cause
