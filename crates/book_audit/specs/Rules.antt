@@ -3,12 +3,9 @@ use Rattle.std.specs.Prelude.{ℕ, Bool, true, false, ◌==◌, ◌&&◌, nat_le
 use Rattle.std.specs.Prelude.{Option, Some, None, if◌then◌else◌}
 use Rattle.smf_type30.specs.Usage.{identity_of, identity2_of}
 use Rattle.book_model.specs.Words.{first_rule, second_rule, last_period}
+use Rattle.table_model.specs.Tables.{never_adopted}
 use Rattle.book_audit.specs.declared.identity_rule.IdentityRule.{IdentityRule}
 use Rattle.book_audit.specs.declared.identity_rule.IdentityRule.TheVariants.{First, SecondSince}
-
--- the period of adoption where none was adopted
-abbrev pub never_adopted : ℕ
-never_adopted = 0
 
 -- such a period may be open
 abbrev pub may_be_open : ℕ → Bool
