@@ -12,12 +12,11 @@ use Rattle.sqlite_trees.specs.Tree.{Trees}
 use Rattle.sqlite_trees.specs.View.{IsClean, View}
 use Rattle.sqlite_trees.specs.declared.store.Shape.TheVariants.{Absent, Index}
 use Rattle.sqlite_value.specs.Keys.{plain}
-use Rattle.sqlite_wal.specs.Reads.{AreClean}
 use Rattle.sqlite_wal.specs.Recovery.{Image}
 use Rattle.tree_tables.specs.Forms.{this_form}
 use Rattle.book_trees.specs.Forms.{IsToldOf}
 use Rattle.book_trees.specs.LedgerFiles.{page_size, HoldsFirstBooks}
-use Rattle.book_trees.specs.Refusals.{fault_for, faults_in, HasCause, IsUnopened}
+use Rattle.book_trees.specs.Refusals.{fault_for, HasCause, IsRefusedFor, IsUnopened}
 use Rattle.book_trees.specs.Schema.{first_schema}
 use Rattle.book_trees.specs.StoreView.{IsOpenAs}
 use Rattle.book_trees.specs.declared.faults.OpenFault.{OpenFault}
@@ -73,8 +72,7 @@ module _ {D : Type 0} (g : Ghosts D) where
   -- files were there, and held this: why they were not opened as books of the first form
   abbrev pub IsFirstRefusedFor : Type 0 → (Files D → Type 0) → FirstFault → Files D → Type 0
   IsFirstRefusedFor Held AtLimit fault files =
-      AreClean g files.log files.db
-      → HasFirstCause 0 (faults_in g files) (AtLimit files) Held fault
+      IsRefusedFor g Held AtLimit (first_opening fault) files
 
 -- A store shows the trees of books of the first form, and may have one more.
 pub record HasFirstTrees (view : View) : Type 0 where

@@ -4,9 +4,8 @@ use Rattle.sqlite_disk.specs.declared.Disk.{Ghosts}
 use Rattle.sqlite_disk.specs.declared.files.Files.{Files}
 use Rattle.sqlite_store.specs.declared.error.OpenError.{OpenError}
 use Rattle.sqlite_store.specs.declared.error.OpenError.TheVariants as store
-use Rattle.sqlite_wal.specs.Reads.{AreClean}
 use Rattle.book_trees.specs.Forms.{IsToldOf}
-use Rattle.book_trees.specs.Refusals.{fault_for, faults_in, HasCause, IsUnopened}
+use Rattle.book_trees.specs.Refusals.{fault_for, HasCause, IsRefusedFor, IsUnopened}
 use Rattle.book_trees.specs.declared.faults.OpenFault.{OpenFault}
 use Rattle.book_trees.specs.declared.faults.OpenFault.TheVariants.{NotBooks}
 use Rattle.book_trees.specs.declared.integrity.LookFault.{LookFault}
@@ -45,4 +44,4 @@ module _ {D : Type 0} (g : Ghosts D) where
   -- files were there, and held this: why they were not looked through
   abbrev pub IsLookRefusedFor : Type 0 → (Files D → Type 0) → LookFault → Files D → Type 0
   IsLookRefusedFor Held AtLimit fault files =
-      AreClean g files.log files.db → HasLookCause 0 (faults_in g files) (AtLimit files) Held fault
+      IsRefusedFor g Held AtLimit (look_opening fault) files
