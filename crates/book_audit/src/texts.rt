@@ -96,11 +96,11 @@ fn push_key(alloc: Global, out: &mut String, place: &RowKey) -> Result<(), Alloc
 }
 
 /// Adds the name of a record.
-fn push_name(alloc: Global, out: &mut String, name: &[u8; 32]) -> Result<(), AllocError>
+fn push_name(alloc: Global, out: &mut String, name: &[u8]) -> Result<(), AllocError>
     ensures { OnOk result (string_bytes out.new
         ≡ string_bytes out.old ++ encode_lower name.now) }
 {
-    out.push_str(hex::encode(alloc, *name)?.as_str())
+    out.push_str(hex::encode(alloc, name)?.as_str())
 }
 
 /// Adds a word and the number after it.
@@ -124,12 +124,7 @@ fn push_spot(alloc: Global, out: &mut String, spot: &DayKey) -> Result<(), Alloc
 
 /// Adds where a line is.
 #[tactic(auto, unfolding(crate::specs::Findings::place_text))]
-fn push_line(
-    alloc: Global,
-    out: &mut String,
-    period: u16,
-    name: &[u8; 32],
-) -> Result<(), AllocError>
+fn push_line(alloc: Global, out: &mut String, period: u16, name: &[u8]) -> Result<(), AllocError>
     ensures { OnOk result (string_bytes out.new
         ≡ string_bytes out.old ++ spec.place_text (Place.Line period name.now)) }
 {
