@@ -29,7 +29,7 @@ use Rattle.book_trees.specs.LedgerFiles.{page_size, AreLeft, HoldsBooks, HoldsFi
 use Rattle.book_trees.specs.LedgerFiles.{HoldsTables, trees_held}
 use Rattle.book_trees.specs.Listing.{lists_books, lists_first_books}
 use Rattle.book_trees.specs.Schema.{books_schema, first_schema}
-use Rattle.book_trees.specs.StoreView.{IsOpen}
+use Rattle.book_trees.specs.StoreView.{IsOpen, ListsBooks}
 
 -- an empty list of rows does not list books
 none_listed : lists_books [] ≡ true → ⊥
@@ -54,6 +54,14 @@ module _ {D : Type 0} {g : Ghosts D} (old mid : Unopened D g) (rows : List Row)
   -- the rows are those of the pages
   pub rows_are : rows ≡ rows_at page_size (in_use page_size listed.pages) Table 1
   rows_are = subst (λ s. rows ≡ rows_at s (in_use s listed.pages) Table 1) sized listed.lists
+
+  -- so files list books where these do
+  pub lists_here : lists_books rows ≡ true → ListsBooks (image old)
+  lists_here books = record {
+    pages = listed.pages;
+    found = found_old;
+    listed = ap lists_books (sym rows_are) ∙ books;
+  }
 
   -- the pages are those of files that are known
   same_pages : (pages : PageMap) → Recovers page_size (image old) pages → listed.pages ≡ pages
@@ -222,3 +230,19 @@ shows_held old mid rows listed sized store ready schema first second clean found
     let size : (state_of mid).page_size ≡ page_size = first.size ∙ sized in
     shows_tables store ready schema (second.size ∙ size) clean held.pages
     (committed_is old mid rows listed sized held (state store).committed size found)
+
+-- and so they hold such tables
+pub holds_shown : {wanted : List Wanted} {D : Type 0} {g : Ghosts D} (old mid : Unopened D g)
+    (rows : List Row) → IsCatalogOf old mid rows → (state_of old).page_size ≡ page_size
+    → (store : FileStore D g) → IsReady store → schema_of store ≡ wanted
+    → Opens old (state_of mid) → Opens mid (state store) → IsTrue (state store).is_clean
+    → Recovers (state_of mid).page_size (image mid) (state store).committed
+    → ∥ HoldsTables wanted (image old) ∥₁
+holds_shown old mid rows listed sized store ready schema first second clean found =
+    let size : (state_of mid).page_size ≡ page_size = first.size ∙ sized in
+    ∥∥₁_map (sound_tables store ready schema (second.size ∙ size) clean listed.pages
+    (committed_listed old mid rows listed sized (state store).committed size found)) λ file. record {
+      pages = listed.pages;
+      found = found_old old mid rows listed sized;
+      file = file;
+    }

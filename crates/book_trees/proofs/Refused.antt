@@ -16,6 +16,7 @@ use Rattle.book_trees.specs.Schema.{first_table}
 use Rattle.book_trees.specs.declared.faults.OpenFault.{OpenFault}
 use Rattle.book_trees.specs.declared.faults.OpenFault.TheVariants.{NotBooks, Memory, Store, Busy}
 use Rattle.book_trees.specs.declared.faults.OpenFault.TheVariants.{NewForm, OldForm, Path}
+use Rattle.book_trees.specs.declared.first_form.FirstFault.TheVariants.{Already}
 
 -- the cause of an error is a cause of the fault that it stands for
 pub cause_of : (old new : ℕ) (AtLimit Wanted Held : Type 0) → (Held → Wanted) → (e : OpenError)
@@ -41,6 +42,13 @@ first_cause_of old new AtLimit Wanted Held so OutOfMemory fails = tt
 first_cause_of old new AtLimit Wanted Held so Io fails = inl fails
 first_cause_of old new AtLimit Wanted Held so Full fails = inr fails
 first_cause_of old new AtLimit Wanted Held so Refused fails = λ held. fails (so held)
+
+-- no error stands for files that are of this form already
+pub never_already : (e : OpenError) → first_fault_for e ≡ Already → ⊥
+never_already OutOfMemory is = absurd (cc)
+never_already Io is = absurd (cc)
+never_already Full is = absurd (cc)
+never_already Refused is = absurd (cc)
 
 -- a cause by one count is one by another that rose with it, with a higher limit, and where more was
 -- to be held

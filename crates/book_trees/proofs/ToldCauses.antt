@@ -92,3 +92,12 @@ pub told_pages : {D : Type 0} (fault : LookFault) (files : Files D) (told : Look
     (last : Files D) → IsToldLook fault files told last → told ≡ Pages → fault ≡ Pages
 told_pages Pages files told last tells is = refl
 told_pages (Open fault) files told last tells is = absurd (let other = sym tells.1 ∙ is in cc)
+
+-- so were files that are of this form already
+pub told_already : {D : Type 0} (fault : FirstFault) (files : Files D) (told : FirstFault)
+    (last : Files D) → IsToldFirst fault files told last → told ≡ first.Already
+    → fault ≡ first.Already
+told_already first.Already files told last tells is = refl
+told_already first.Pages files told last tells is = absurd (let other = sym tells.0 ∙ is in cc)
+told_already (first.Open fault) files told last tells is =
+    absurd (let other = sym tells.1 ∙ is in cc)

@@ -19,6 +19,7 @@ ghost use Rattle.book_trees.specs.LedgerFiles.{trees_held};
 ghost use Rattle.book_trees.specs.Refusals.{faults_in, AreFull, AreKept, IsAsFound, IsRefusal};
 ghost use Rattle.book_trees.specs.Refusals.{MayLeave};
 ghost use Rattle.book_trees.specs.Schema.{first_schema};
+ghost use Rattle.book_trees.specs.StoreView.{ListsBooks};
 
 use crate::catalog::{lists_books, lists_first_books, unlisted_fault};
 use crate::faults::{OpenFault, fault_at, fault_of};
@@ -70,6 +71,8 @@ fn open_first<D: Disk>(files: Unopened<D>) -> Result<FileStore<D>, (FirstFault, 
         → (held : HoldsFirstBooks (image files)) → (view store).trees ≡ trees_held held) }
     ensures older { IfOk result (λ store. IsTrue (state store).is_clean
         → ¬ HoldsBooks (image files)) }
+    ensures held { IfOk result (λ store. IsTrue (state store).is_clean
+        → ∥ HoldsFirstBooks (image files) ∥₁) }
     ensures kept { IfOk result (λ store. IsTrue (state store).is_clean → Opens files (state store)) }
     ensures cause { IfErr result (λ refusal. IsTrue (state_of refusal.1).is_clean
         → HasFirstCause (state_of files).faults (state_of refusal.1).faults (IsFullFile refusal.1)
@@ -80,6 +83,8 @@ fn open_first<D: Disk>(files: Unopened<D>) -> Result<FileStore<D>, (FirstFault, 
         → IsTrue (state_of refusal.1).is_clean
         → HasFirstCause (state_of files).faults (state_of refusal.1).faults (IsFullFile refusal.1)
         (HoldsBooks (image files)) refusal.0) }
+    ensures listed { IfErr result (λ refusal. refusal.0 ≡ FirstFault.Already
+        → IsTrue (state_of refusal.1).is_clean → ListsBooks (image files)) }
     ensures unharmed { IfErr result (λ refusal. IsTrue (state_of refusal.1).is_clean
         → Opens files (state_of refusal.1)) }
 {
@@ -115,6 +120,8 @@ pub fn open_first_files<D: Disk>(
         → (held : HoldsFirstBooks (image_of D.Disk files)) → (view store).trees ≡ trees_held held) }
     ensures older { IfOk result (λ store. IsTrue (state store).is_clean
         → ¬ HoldsBooks (image_of D.Disk files)) }
+    ensures held { IfOk result (λ store. IsTrue (state store).is_clean
+        → ∥ HoldsFirstBooks (image_of D.Disk files) ∥₁) }
     ensures form { IfOk result (λ store. IsTrue (state store).is_clean
         → HoldNoNewer first_schema (image_of D.Disk files)) }
 
@@ -126,6 +133,10 @@ pub fn open_first_files<D: Disk>(
     ensures this { IfErr result (λ refusal. (¬ IsToldThis refusal.0)
         → IsRefusal D.Disk HasFirstCause files (HoldsBooks (image_of D.Disk files))
         (AreFull D.Disk) refusal) }
+
+    // Files are told to be of this form already only where they list the tables of books.
+    ensures listed { IfErr result (λ refusal. refusal.0 ≡ FirstFault.Already
+        → AreClean D.Disk refusal.1.log refusal.1.db → ListsBooks (image_of D.Disk files)) }
     ensures unharmed { IfErr result (λ refusal. AreClean D.Disk refusal.1.log refusal.1.db
         → AreKept D.Disk files refusal.1) }
 {
@@ -191,6 +202,8 @@ pub fn open_first_at<S: Start>(
     // Files that are opened hold no books of this form, nor say that they are of a newer one.
     ensures older { IfOk result (λ store. IsTrue (state store).is_clean
         → ¬ HoldsBooks (image_at S.Start)) }
+    ensures held { IfOk result (λ store. IsTrue (state store).is_clean
+        → ∥ HoldsFirstBooks (image_at S.Start) ∥₁) }
     ensures form { IfOk result (λ store. IsTrue (state store).is_clean
         → HoldNoNewer first_schema (image_at S.Start)) }
 
@@ -201,6 +214,9 @@ pub fn open_first_at<S: Start>(
     ensures this { IfErr result (λ refusal. (¬ IsToldThis refusal.0) → IfSome refusal.1
         (IsFirstRefusedFor ⟦<FileFrom<S> as Disk>⟧ (HoldsBooks (image_at S.Start))
         (AreFull ⟦<FileFrom<S> as Disk>⟧) refusal.0)) }
+    ensures listed { IfErr result (λ refusal. refusal.0 ≡ FirstFault.Already
+        → IfSome refusal.1 (λ files. AreClean ⟦<FileFrom<S> as Disk>⟧ files.log files.db
+        → ListsBooks (image_at S.Start))) }
     ensures kept { IfErr result (λ refusal. IfSome refusal.1 (λ files. (left : Image)
         → MayLeave ⟦<FileFrom<S> as Disk>⟧ files left → IsAsFound (image_at S.Start) left)) }
 {

@@ -3,8 +3,10 @@ use Rattle.sqlite_store.specs.FileStore.{state}
 use Rattle.sqlite_store.specs.Unopened.{state_of, image, HasFileAs, IsFullFile}
 use Rattle.sqlite_trees.proofs.Doubt.{clean_of}
 use Rattle.book_trees.proofs.Opened.{held_first_listed, held_first_only, held_listed, held_ours}
-use Rattle.book_trees.proofs.Opened.{opens_twice, shows_held, unlisted_none}
-use Rattle.book_trees.proofs.Refused.{cause_since, first_cause_of, unlisted_refused}
+use Rattle.book_trees.proofs.Opened.{holds_shown, lists_here, opens_twice, shows_held}
+use Rattle.book_trees.proofs.Opened.{unlisted_none}
+use Rattle.book_trees.proofs.Refused.{cause_since, first_cause_of, never_already}
+use Rattle.book_trees.proofs.Refused.{unlisted_refused}
 use Rattle.book_trees.proofs.Trees.{has_first_trees}
 use Rattle.book_trees.specs.FirstForm.{first_fault_for, first_opening, HasFirstCause}
 use Rattle.book_trees.specs.FirstForm.{HoldsFirstForm}
@@ -21,6 +23,18 @@ returns-then-lists_books-clause-cause g c clean first =
     ∙ c.if-lists_books.true in
     held_first_only c.args.files c.read_catalog.new.self c.in-Ok.listed.items
     (c.in-Ok.ensures.ok clean) c.requires.size first.held books
+
+-- files that are told to be of this form list the tables of books
+pub returns-then-lists_books-clause-listed : goal.returns-then-lists_books-clause-listed
+returns-then-lists_books-clause-listed g c is clean =
+    lists_here c.args.files c.read_catalog.new.self c.in-Ok.listed.items
+    (c.in-Ok.ensures.ok clean) c.requires.size
+    (ap lists_books (sym c.as_slice.ensures.value) ∙ sym c.lists_books.ensures
+    ∙ c.if-lists_books.true)
+
+pub returns-clause-listed : goal.returns-clause-listed
+returns-clause-listed g c is clean =
+    absurd (never_already c.in-Err-open_numbered.error (sym c.first_fault.ensures ∙ is))
 
 pub returns-then-not-lists_first_books-clause-cause :
     goal.returns-then-not-lists_first_books-clause-cause
@@ -73,6 +87,15 @@ returns-in-Ok-open_numbered-clause-found g c clean =
     let opened = c.in-Ok-open_numbered.ensures in
     let then = opened.honest clean in
     shows_held c.args.files c.read_catalog.new.self c.in-Ok.listed.items (c.in-Ok.ensures.ok then)
+    c.requires.size c.in-Ok-open_numbered.store opened.ready
+    (opened.schema ∙ c.read_catalog.ensures.schema ∙ c.requires.schema)
+    (c.read_catalog.ensures.kept then) (opened.kept clean) clean (opened.found clean)
+
+pub returns-in-Ok-open_numbered-clause-held : goal.returns-in-Ok-open_numbered-clause-held
+returns-in-Ok-open_numbered-clause-held g c clean =
+    let opened = c.in-Ok-open_numbered.ensures in
+    let then = opened.honest clean in
+    holds_shown c.args.files c.read_catalog.new.self c.in-Ok.listed.items (c.in-Ok.ensures.ok then)
     c.requires.size c.in-Ok-open_numbered.store opened.ready
     (opened.schema ∙ c.read_catalog.ensures.schema ∙ c.requires.schema)
     (c.read_catalog.ensures.kept then) (opened.kept clean) clean (opened.found clean)

@@ -1,13 +1,15 @@
 use Rattle.std.proofs.Common.{inr, refl, sym, subst}
 use Rattle.sqlite_store.specs.Unopened.{image, IsFullFile}
+use Rattle.sqlite_wal.specs.Recovery.{Image}
 use Rattle.book_trees.proofs.FileParts.{end_honest, file_cause, files_kept, first_image}
 use Rattle.book_trees.proofs.FileParts.{honest_given, kept_still, shows_given, store_honest}
 use Rattle.book_trees.proofs.FileParts.{store_kept}
 use Rattle.book_trees.proofs.FormNumbers.{newer_refused, none_newer}
-use Rattle.book_trees.proofs.ToldCauses.{first_told_cause, told_not_this}
+use Rattle.book_trees.proofs.ToldCauses.{first_told_cause, told_already, told_not_this}
 use Rattle.book_trees.specs.FirstForm.{first_opening, HoldsFirstForm}
-use Rattle.book_trees.specs.LedgerFiles.{image_of, HoldsBooks}
+use Rattle.book_trees.specs.LedgerFiles.{image_of, HoldsBooks, HoldsFirstBooks}
 use Rattle.book_trees.specs.Refusals.{faults_in, AreFull}
+use Rattle.book_trees.specs.StoreView.{ListsBooks}
 use Rattle.book_trees.proofs.first_form.open_first_files.Goals as goal
 
 pub returns-clause-honest : goal.returns-clause-honest
@@ -34,6 +36,14 @@ returns-clause-form g c =
     none_newer c.in-Ok.files c.in-Ok-open_first.store c.args.files c.in-Ok.ensures.files
     c.in-Ok-open_first.ensures.opened.ready c.in-Ok-open_first.ensures.found
     (c.says_newer.ensures.other c.if-says_newer.false)
+
+pub returns-clause-held : goal.returns-clause-held
+returns-clause-held g c clean =
+    let given = c.in-Ok.ensures.files in
+    let old = c.in-Ok.files in
+    subst (λ (i : Image). ∥ HoldsFirstBooks i ∥₁)
+    (first_image old old c.args.files c.args.files given (sym given))
+    (c.in-Ok-open_first.ensures.held clean)
 
 -- files of the first form do not say that they are of a newer one
 pub returns-then-says_newer-clause-cause : goal.returns-then-says_newer-clause-cause
@@ -89,6 +99,19 @@ returns-in-Err-open_first-clause-this g c other clean =
     (c.in-Err-open_first.ensures.this apart
     (end_honest old end c.args.files c.close.result given back
     (c.told_first.ensures.clean clean)))) other
+
+pub returns-in-Err-open_first-clause-listed : goal.returns-in-Err-open_first-clause-listed
+returns-in-Err-open_first-clause-listed g c is clean =
+    let old = c.in-Ok.files in
+    let end = c.in-Err-open_first.files in
+    let given = c.in-Ok.ensures.files in
+    let back = c.close.ensures in
+    subst ListsBooks (first_image old end c.args.files c.close.result given back)
+    (c.in-Err-open_first.ensures.listed
+    (told_already c.in-Err-open_first.fault c.close.result c.told_first.result.0
+    c.told_first.result.1 c.told_first.ensures.told is)
+    (end_honest old end c.args.files c.close.result given back
+    (c.told_first.ensures.clean clean)))
 
 pub returns-in-Err-open_first-clause-unharmed : goal.returns-in-Err-open_first-clause-unharmed
 returns-in-Err-open_first-clause-unharmed g c clean =

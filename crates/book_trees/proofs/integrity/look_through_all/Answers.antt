@@ -1,11 +1,10 @@
-use Rattle.std.proofs.Common.{◌≡◌, sym, ap, ◌∙◌, subst, true}
-use Rattle.std.proofs.Math.Logic.{∥∥₁_map}
+use Rattle.std.proofs.Common.{sym, ap, ◌∙◌, subst, true}
 use Rattle.sqlite_store.specs.FileStore.{state}
 use Rattle.sqlite_store.specs.Unopened.{state_of, image, HasFile, IsFullFile}
-use Rattle.book_trees.proofs.Opened.{committed_listed, found_old, held_file, held_listed, is_open}
-use Rattle.book_trees.proofs.Opened.{opens_twice, rows_are, shows_held, sound_tables}
+use Rattle.book_trees.proofs.Opened.{held_file, held_listed, holds_shown, is_open, lists_here}
+use Rattle.book_trees.proofs.Opened.{opens_twice, shows_held}
 use Rattle.book_trees.proofs.Refused.{cause_since, look_cause_of, unlisted_refused}
-use Rattle.book_trees.specs.LedgerFiles.{page_size, HoldsBooks}
+use Rattle.book_trees.specs.LedgerFiles.{HoldsBooks}
 use Rattle.book_trees.specs.Listing.{lists_books}
 use Rattle.book_trees.specs.Looks.{look_fault_for, look_opening, HasLookCause}
 use Rattle.book_trees.specs.declared.integrity.LookFault.{LookFault}
@@ -79,34 +78,14 @@ pub returns-in-Ok-open-clause-held : goal.returns-in-Ok-open-clause-held
 returns-in-Ok-open-clause-held g c clean =
     let opened = c.in-Ok-open.ensures in
     let then = opened.honest clean in
-    let store = c.in-Ok-open.store in
-    let old = c.args.files in
-    let mid = c.read_catalog.new.self in
-    let rows = c.in-Ok.listed.items in
-    let listed = c.in-Ok.ensures.ok then in
-    let size : (state_of mid).page_size ≡ page_size =
-    (c.read_catalog.ensures.kept then).size ∙ c.requires.size in
-    ∥∥₁_map (sound_tables store opened.ready
+    holds_shown c.args.files c.read_catalog.new.self c.in-Ok.listed.items (c.in-Ok.ensures.ok then)
+    c.requires.size c.in-Ok-open.store opened.ready
     (opened.schema ∙ c.read_catalog.ensures.schema ∙ c.requires.schema)
-    ((opened.kept clean).size ∙ size) clean listed.pages
-    (committed_listed old mid rows listed c.requires.size (state store).committed size
-    (opened.found clean))) λ file. record {
-      pages = listed.pages;
-      found = found_old old mid rows listed c.requires.size;
-      file = file;
-    }
+    (c.read_catalog.ensures.kept then) (opened.kept clean) clean (opened.found clean)
 
 pub returns-clause-listed : goal.returns-clause-listed
 returns-clause-listed g c is clean =
-    let old = c.args.files in
-    let mid = c.read_catalog.new.self in
-    let rows = c.in-Ok.listed.items in
-    let listed = c.in-Ok.ensures.ok (c.in-Err-open.ensures.falls clean) in
-    let books : lists_books rows ≡ true =
-    ap lists_books (sym c.as_slice.ensures.value) ∙ sym c.lists_books.ensures
-    ∙ c.if-not-lists_books.false in
-    record {
-      pages = listed.pages;
-      found = found_old old mid rows listed c.requires.size;
-      listed = ap lists_books (sym (rows_are old mid rows listed c.requires.size)) ∙ books;
-    }
+    lists_here c.args.files c.read_catalog.new.self c.in-Ok.listed.items
+    (c.in-Ok.ensures.ok (c.in-Err-open.ensures.falls clean)) c.requires.size
+    (ap lists_books (sym c.as_slice.ensures.value) ∙ sym c.lists_books.ensures
+    ∙ c.if-not-lists_books.false)
