@@ -3,7 +3,6 @@ use Rattle.std.proofs.Common.{◌≡◌, ◌∙◌, Bool, false, ℕ, List, [], 
 use Rattle.std.proofs.Common.{Result, Ok, Err, sym, ap, subst, append_assoc, append-nil}
 use Rattle.std.proofs.Common.{◌+◌, ◌<◌, drop, get_or, length, take, take-append-drop}
 use Rattle.std.proofs.lemmas.List.{take_more}
-use Rattle.std.proofs.lemmas.List.Concat.{flat_map-append}
 use Rattle.book_model.specs.declared.answer.Ruled.{Ruled}
 use Rattle.book_model.specs.declared.fault.LedgerFault.{LedgerFault}
 use Rattle.book_model.specs.declared.fault.LedgerFault.TheVariants.{Memory, Store, Reopen}
@@ -16,9 +15,7 @@ use Rattle.book_core.proofs.FollowLemmas.{choose_answered, none_answered, then_a
 use Rattle.book_core.proofs.ThenLemmas.{last_two, next_as, nothing_more, nothing_then}
 use Rattle.book_core.proofs.TransitionLemmas.{Implies, work_as, work_then}
 use Rattle.office.specs.Choices.{Chooses, ChoosesEach, ChoicesOutcome, are_hindered}
-use Rattle.office.specs.Answers.{answer_text}
-use Rattle.office.specs.Choices.{answer_lines, choices_after, choices_by, choices_outcome}
-use Rattle.office.specs.Requests.{Ruling}
+use Rattle.office.specs.Choices.{choices_after, choices_by, choices_outcome}
 
 -- choices that were all answered, and then others
 choices_then : (naming : Naming) (names : List (List ℕ)) (answers : List Ruled)
@@ -167,14 +164,3 @@ choices_done naming (name ∷ names) (ruled ∷ answers) refusal book events is 
     ∙ ap (choices_by (Ok ruled) (listed outcome.event)) rest
     ∙ ap (λ events. record { answers = ruled ∷ answers; refusal = refusal; events = events })
     (ap (λ event. made.late ++ event) (sym one.makes.1) ∙ sym made.all)
-
--- the lines of one more answer
-pub lines_more : (answers : List Ruled) (i : ℕ) (d : Ruled) (line : List ℕ) → i < length answers
-    → line ≡ answer_text (Ruling (get_or answers i d))
-    → answer_lines (take (i + 1) answers) ≡ answer_lines (take i answers) ++ line
-lines_more answers i d line small is =
-    let ruled : Ruled = get_or answers i d in
-    let line_of : Ruled → List ℕ = λ ruled. answer_text (Ruling ruled) in
-    ap answer_lines (take_more answers i d small)
-    ∙ flat_map-append line_of (take i answers) (ruled ∷ [])
-    ∙ ap (λ last. answer_lines (take i answers) ++ last) (append-nil (line_of ruled) ∙ sym is)
