@@ -3,9 +3,9 @@
 -- read; and closed periods. Runs, from these; calls one after another, and what they leave; the
 -- lists of all periods; the lines of a statement; single centres; details, which records are counted,
 -- what is kept of them, and that they stay; bills, that they stay, their tariffs and the periods of
--- their lines; tariff files; pages; rows by another tariff,
--- and their lines. Single records: their lives, and how their prices came about. Single answers: to calls,
--- reports, imports, and lists of requests.
+-- their lines; tariff files; pages; rows by another tariff, and their lines; and the texts about a
+-- closed period. Single records: their lives, and how their prices came about. Single answers: to
+-- calls, reports, imports, and lists of requests.
 pub mod PeriodLemmas
 pub mod NetLemmas
 pub mod WrongPeriodLemmas
@@ -37,6 +37,7 @@ pub mod PageLemmas
 pub mod OtherPriceLemmas
 pub mod OtherWorkLemmas
 pub mod OtherWidthLemmas
+pub mod ClosedTexts
 pub mod LifeLemmas
 pub mod ReckoningLemmas
 pub mod AnswerLemmas

@@ -3,9 +3,9 @@
 -- definitions of a period, which the laws refuse. Runs: what a run is, and on which books; the
 -- statement of a period; and the laws. Then calls one after another and what they leave, the lists
 -- of all periods, how wide the lines of a statement are, the reports on single centres, details, what
--- is kept of them and that they stay, bills, tariff files, pages, and a period's rows by another
--- tariff. Single records: their lives, and how their prices came about. Single answers: to calls,
--- reports, imports, and lists of requests.
+-- is kept of them and that they stay, bills, tariff files, pages, a period's rows by another
+-- tariff, and all texts about a closed period. Single records: their lives, and how their prices
+-- came about. Single answers: to calls, reports, imports, and lists of requests.
 pub mod NetCounts
 pub mod PeriodAmounts
 pub mod PeriodLines
@@ -27,6 +27,7 @@ pub mod BillLaws
 pub mod TariffLaws
 pub mod PageLaws
 pub mod OtherPriceLaws
+pub mod ClosedTexts
 pub mod LifeLaws
 pub mod ReckoningLaws
 pub mod AnswerLaws

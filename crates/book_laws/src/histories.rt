@@ -1,6 +1,7 @@
 //! Laws of whole histories, which hold of the definitions alone. Each is the contract of a function
 //! that does nothing.
 
+ghost use Rattle.book_laws.specs.ClosedTexts.{ClosedTextsStay};
 ghost use Rattle.book_laws.specs.HistoryLaws.{BooksChargeOnce, ChargedOnce, ClosedStays, Conserved};
 ghost use Rattle.book_laws.specs.HistoryLaws.{ConservedInSets, DatedRight, LinesOnce, NamedOnce};
 ghost use Rattle.book_laws.specs.HistoryLaws.{PostedOnce, ReadableStays};
@@ -57,6 +58,12 @@ pub fn lines_once()
 /// was.
 pub fn closed_stays()
     ensures { ClosedStays }
+{}
+
+/// So does each text about a closed period, of the office and of each centre: its statement, its
+/// adjustments, its bill, its details, and what it would have cost by another tariff.
+pub fn closed_texts_stay()
+    ensures { ClosedTextsStay }
 {}
 
 /// The law of the net count is false for periods that reverse nothing, that count records dated no

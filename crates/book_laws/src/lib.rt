@@ -27,8 +27,8 @@ pub use details::{
     tariffs_read_kept,
 };
 pub use histories::{
-    books_charge_once, charged_once, closed_stays, conserved, conserved_in_sets, dated_right,
-    lines_once, named_once, posted_once, readable_stays, wrong_periods_fail,
+    books_charge_once, charged_once, closed_stays, closed_texts_stay, conserved, conserved_in_sets,
+    dated_right, lines_once, named_once, posted_once, readable_stays, wrong_periods_fail,
 };
 pub use other_prices::{what_if, what_ifs_are_aligned};
 pub use pages::{open_is_open, page_totals_are_the_reports};

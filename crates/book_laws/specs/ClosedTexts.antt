@@ -1,0 +1,37 @@
+-- The law of all texts about a closed period.
+use Rattle.std.specs.Prelude.{◌≡◌, ℕ, List, ◌++◌, Option, Result}
+use Rattle.book_model.specs.declared.fault.LedgerFault.{LedgerFault}
+use Rattle.book_model.specs.Words.{Book, Event, IsMadeByCalls, Naming, book_after}
+use Rattle.book_reports.specs.declared.report.PeriodReport.{PeriodReport}
+use Rattle.book_reports.specs.declared.report.Report.TheVariants.{Bill, OfPeriod}
+use Rattle.book_reports.specs.declared.streamed_details.DetailReport.{DetailReport}
+use Rattle.book_reports.specs.declared.what_if.StatementForm.{StatementForm}
+use Rattle.book_reports.specs.declared.what_if.WhatIf.{WhatIf}
+use Rattle.book_reports.specs.BookTexts.{report_answer}
+use Rattle.book_reports.specs.StreamedDetails.{detail_answer}
+use Rattle.book_reports.specs.WhatIfTexts.{what_if_report}
+use Rattle.book_laws.specs.ClosedPeriods.{IsClosed}
+
+-- what books answer once a period is closed, they answer whatever calls follow
+abbrev pub IsFinal : Naming → ℕ → (Book → Result (List ℕ) LedgerFault) → Type 0
+IsFinal naming number answer =
+    (later earlier : List Event) → IsMadeByCalls naming (later ++ earlier)
+    → IsClosed number (book_after earlier)
+    → answer (book_after (later ++ earlier)) ≡ answer (book_after earlier)
+
+-- So it is with each text about a closed period, of the office and of each centre, as a list and as
+-- a table: its statement and its adjustments, its bill, its details, and what it would have cost by
+-- another tariff; also after choices, the second rule of identity and tariffs that come late.
+pub record ClosedTextsStay : Type 0 where
+  pub reports :
+      (naming : Naming) (report : PeriodReport) (number : ℕ) (centre : Option (List ℕ))
+      → IsFinal naming number (report_answer naming (OfPeriod report number centre))
+  pub bills :
+      (naming : Naming) (form : StatementForm) (number : ℕ) (centre : Option (List ℕ))
+      → IsFinal naming number (report_answer naming (Bill form number centre))
+  pub details :
+      (naming : Naming) (wanted : DetailReport)
+      → IsFinal naming wanted.period (detail_answer wanted naming)
+  pub what_ifs :
+      (naming : Naming) (asked : WhatIf) (tariff : List ℕ)
+      → IsFinal naming asked.period (λ book. (what_if_report asked tariff book).answer)
