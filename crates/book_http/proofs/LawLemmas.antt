@@ -111,6 +111,19 @@ import_counted naming dump (Ok (Ruling ruled)) was before events is never = absu
 import_counted naming dump (Ok (Text text)) was before events is never = absurd never
 import_counted naming dump (Err fault) was before events is never = absurd never
 
+-- what is answered to a head is the answer to any other at the beginning of the same bytes
+pub asked_alike : (naming : Naming) (bytes : List ℕ) (head other : RequestHead)
+    (behind rest : List ℕ) (reply : Reply) (was : Bool) (before : Book) (events : List Event)
+    (is : Bool) → HasHead bytes head behind → HasHead bytes other rest
+    → AnswersAsked naming (asked other) rest reply was before events is
+    → AnswersAsked naming (asked head) behind reply was before events is
+asked_alike naming bytes head other behind rest reply was before events is stands there made =
+    let same = head_unique bytes other head rest behind there stands in
+    subst (λ (h : RequestHead). AnswersAsked naming (asked h) behind reply was before events is)
+    same.0
+    (subst (λ (b : List ℕ). AnswersAsked naming (asked other) b reply was before events is) same.1
+    made)
+
 -- a request, and then the same once more
 module _ (naming : Naming) (once twice : Reply) (before : Book) (first second : List Event)
     (between is : Bool) where
@@ -162,13 +175,9 @@ module _ (naming : Naming) (once twice : Reply) (before : Book) (first second : 
   head_twice bytes head behind stands (a_head other rest there (no_memory refused)) unhindered two =
       absurd (unhindered.done refused.replied)
   head_twice bytes head behind stands (a_head other rest there (done made)) unhindered two =
-      let same = head_unique bytes other head rest behind there stands in
-      let one = subst
-      (λ (h : RequestHead). AnswersAsked naming (asked h) behind once false before first between)
-      same.0
-      (subst (λ (b : List ℕ). AnswersAsked naming (asked other) b once false before first between)
-      same.1 made) in
-      asked_twice (asked head) behind one unhindered two
+      asked_twice (asked head) behind
+      (asked_alike naming bytes head other behind rest once false before first between stands there
+      made) unhindered two
 
 -- the law of it
 pub request_twice_is_once : RequestTwiceIsOnce

@@ -22,8 +22,8 @@ use Rattle.book_http.specs.Answer.{done, no_memory, no_head, a_head}
 use Rattle.book_http.specs.Head.{HasHead, HasNoHead}
 use Rattle.book_http.specs.Laws.{IsUnhindered, IsWhole, RequestsAreMended}
 use Rattle.book_http.specs.Replies.{Reply}
-use Rattle.book_http.proofs.HeadLemmas.{head_unique}
-use Rattle.book_http.proofs.LawLemmas.{details_none, import_counted, report_none, what_if_body_none}
+use Rattle.book_http.proofs.LawLemmas.{asked_alike, details_none, import_counted, report_none}
+use Rattle.book_http.proofs.LawLemmas.{what_if_body_none}
 
 -- an import that nothing hindered leaves the books of a whole one
 import_left : (naming : Naming) (stop : Stop) (records : List (List ℕ)) (before : Book)
@@ -113,18 +113,6 @@ module _ (once twice alone : Reply) (before : Book) (first second all : List Eve
       import_mended (ltb (length behind) size) naming layout (take size behind) one two whole single
       unhindered
 
--- what is answered to a head is the answer to any other at the beginning of the same bytes
-asked_same : (naming : Naming) (bytes : List ℕ) (head other : RequestHead) (behind rest : List ℕ)
-    (reply : Reply) (before : Book) (events : List Event) (is : Bool) → HasHead bytes head behind
-    → HasHead bytes other rest → AnswersAsked naming (asked other) rest reply false before events is
-    → AnswersAsked naming (asked head) behind reply false before events is
-asked_same naming bytes head other behind rest reply before events is stands there made =
-    let same = head_unique bytes other head rest behind there stands in
-    subst (λ (h : RequestHead). AnswersAsked naming (asked h) behind reply false before events is)
-    same.0
-    (subst (λ (b : List ℕ). AnswersAsked naming (asked other) b reply false before events is) same.1
-    made)
-
 -- a request without a head does nothing
 headless : (naming : Naming) (bytes : List ℕ) (reply : Reply) (before : Book) (events : List Event)
     (is : Bool) → HasNoHead bytes → Answers naming bytes reply false before events is → events ≡ []
@@ -144,7 +132,8 @@ with_head naming bytes head behind reply before events is stands
     inl refused.none.none
 with_head naming bytes head behind reply before events is stands
     (a_head other rest there (done made)) =
-    inr (asked_same naming bytes head other behind rest reply before events is stands there made)
+    inr
+    (asked_alike naming bytes head other behind rest reply false before events is stands there made)
 
 -- and where nothing hindered it, that
 unhindered_head : (naming : Naming) (bytes : List ℕ) (head : RequestHead) (behind : List ℕ)
@@ -159,7 +148,7 @@ unhindered_head naming bytes head behind reply before events is stands
     absurd (unhindered.done refused.replied)
 unhindered_head naming bytes head behind reply before events is stands
     (a_head other rest there (done made)) unhindered =
-    asked_same naming bytes head other behind rest reply before events is stands there made
+    asked_alike naming bytes head other behind rest reply false before events is stands there made
 
 -- the law of it
 pub requests_are_mended : RequestsAreMended

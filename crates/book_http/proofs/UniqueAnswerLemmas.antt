@@ -2,7 +2,6 @@
 use Rattle.std.proofs.Common.{◌≡◌, ◌≢◌, ◌∙◌, ℕ, Bool, true, false, List, [], ◌∷◌, length, take, ltb}
 use Rattle.std.proofs.Common.{Result, Ok, Err, None, not, refl, sym, ap, subst}
 use Rattle.std.specs.Str.{is_utf8}
-use Rattle.httparse.specs.Grammar.{RequestHead}
 use Rattle.smf_frames.specs.declared.dump.Layout.{Layout}
 use Rattle.book_model.specs.Words.{front, Book, Event, Outcome, Naming}
 use Rattle.book_model.specs.declared.fault.LedgerFault.{LedgerFault}
@@ -35,8 +34,7 @@ use Rattle.book_http.specs.Answer.{no_memory, no_head, a_head}
 use Rattle.book_http.specs.Asked.{asked}
 use Rattle.book_http.specs.Laws.{IsSame, AnswersAreOne}
 use Rattle.book_http.specs.Replies.{Reply, receipt_reply, import_status}
-use Rattle.book_http.proofs.HeadLemmas.{head_unique}
-use Rattle.book_http.proofs.LawLemmas.{text_none, import_counted}
+use Rattle.book_http.proofs.LawLemmas.{asked_alike, import_counted, text_none}
 
 -- a text that is not unavailable is the definitions' one, or their refusal of it
 reply_tells : (kind : BodyKind) (outcome : Book → Outcome Response) (told : Result Response LedgerFault)
@@ -200,14 +198,10 @@ answers_are_one naming before bytes one other was first second is_one is_other
     absurd (never head behind stands)
 answers_are_one naming before bytes one other was first second is_one is_other
     (a_head head behind stands a) served (a_head head_too rest stands_too b) served_too =
-    let same = head_unique bytes head_too head rest behind stands_too stands in
     let made = was_done (asked head) naming behind one was before first is_one a served in
     let too = was_done (asked head_too) naming rest other was before second is_other b served_too in
-    asked_same one other was before first second is_one is_other (asked head) naming behind made served
-    (subst
-    (λ (h : RequestHead). AnswersAsked naming (asked h) behind other was before second is_other)
-    same.0
-    (subst
-    (λ (l : List ℕ). AnswersAsked naming (asked head_too) l other was before second is_other)
-    same.1 too))
+    asked_same one other was before first second is_one is_other (asked head) naming behind made
+    served
+    (asked_alike naming bytes head head_too behind rest other was before second is_other stands
+    stands_too too)
     served_too
