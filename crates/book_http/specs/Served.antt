@@ -104,8 +104,8 @@ pub record SendsReplyAsRead (Answering : Reply → Transition) (held holds : Opt
   pub sent : IsSentAsRead reply held holds served
   pub stands : is_cut served ≡ false → is ≡ was
 
--- Something was answered, by more bytes than are gathered before they are sent: a shorter text is never
--- cut off.
+-- Something was answered, by more bytes than are gathered before they are sent: a shorter text is
+-- never cut off.
 abbrev pub AnswersLong : (Reply → Transition) → Reply → Transition
 AnswersLong Answering reply = λ was before events is.
     Answering reply was before events is × (most_gathered < length reply.body)

@@ -16,7 +16,7 @@ use Rattle.tariff_rules.specs.declared.priced.Priced.{Priced}
 use Rattle.book_model.specs.declared.bill.HeldBack.{HeldBack}
 use Rattle.book_model.specs.declared.fault.LedgerFault.TheVariants.{NoSuchPeriod, NoSuchRecord}
 use Rattle.book_model.specs.declared.line.Line.{Line}
-use Rattle.book_model.specs.Words.{AreHeld, Book, IsSound, Naming}
+use Rattle.book_model.specs.Words.{Book, IsSound, Naming}
 use Rattle.book_model.specs.Words.{Period, Records, Rulings, Terms, bill_of, billed_line, billed_lines}
 use Rattle.book_model.specs.Words.{billed_tariff, book_after, charged_before, details_asked}
 use Rattle.book_model.specs.Words.{disputes_in, has, held_back_in, held_back_of, in_force, is_dated_after}
@@ -31,11 +31,12 @@ use Rattle.book_model.proofs.MadeByCallsLemmas.{sound_after}
 use Rattle.book_model.proofs.RecordSets.{is, is_first}
 use Rattle.book_model.proofs.SamePriceLemmas.{same_lines}
 use Rattle.report_texts.specs.Centres.{lines_of_centre}
+use Rattle.table_model.proofs.ListLemmas.{held_in}
 use Rattle.table_model.proofs.TrailLemmas.{named_itself}
 use Rattle.book_laws.specs.BillLaws.{ClosedBillsStay}
 use Rattle.book_laws.specs.PeriodLines.{AreReadOnce, both_lines}
 use Rattle.book_laws.proofs.BillLemmas.{of_period}
-use Rattle.book_laws.proofs.ReadLemmas.{all_held, lines_once}
+use Rattle.book_laws.proofs.ReadLemmas.{lines_once}
 use Rattle.book_laws.proofs.StayLemmas.{answered_before, keeps, keeps_period}
 use Rattle.book_laws.proofs.TariffStays.{keeps_tariffs, tariffs_stay}
 use Rattle.book_laws.proofs.TurnStays.{charge_stays}
@@ -153,12 +154,8 @@ closed_bills_stay naming later earlier (suc k) centre answered closed =
     let past = closed.is_past in
     let within : k < length old.rulings.closes = omega arith in
     let as_many = was_sound.closed in
-    let was_held : AreHeld old.held period =
-    of_period (AreHeld old.held) naming old was_sound (all_held naming old was_sound) (suc k) period
-    kept.was in
-    let is_held : AreHeld new.held period =
-    of_period (AreHeld new.held) naming new is_sound (all_held naming new is_sound) (suc k) period
-    kept.is in
+    let was_held = held_in naming old was_sound (suc k) period kept.was in
+    let is_held = held_in naming new is_sound (suc k) period kept.is in
     let read = of_period (λ period. AreReadOnce naming old.rulings period) naming old was_sound
     (lines_once naming old was_sound) (suc k) period kept.was in
     let alike = λ (bytes : List ℕ) (early : is_dated_after (last_close old.rulings) bytes ≡ false).

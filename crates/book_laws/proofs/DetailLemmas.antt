@@ -26,7 +26,8 @@ use Rattle.report_texts.specs.Centres.{rows_of_centre}
 use Rattle.table_model.specs.TablesOf.{row_key}
 use Rattle.table_model.proofs.SetReading.{permuted-alike}
 use Rattle.book_laws.specs.DetailLaws.{AddUp, AreSumsOf, CentreDetailsAddUp, DetailsAddUp, IsSumOf}
-use Rattle.book_laws.proofs.ReadLemmas.{all_held, named}
+use Rattle.table_model.proofs.HeldPeriods.{all_held}
+use Rattle.book_laws.proofs.ReadLemmas.{named}
 
 module _ (naming : Naming) (rulings : Rulings) where
   -- details have the prices of their records

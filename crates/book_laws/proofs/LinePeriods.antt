@@ -16,20 +16,21 @@ use Rattle.book_model.specs.declared.bill.BilledLine.{BilledLine}
 use Rattle.book_model.specs.declared.line.Line.{Line}
 use Rattle.book_model.specs.declared.trail.Deed.TheVariants.{Added, Charged, Reversed}
 use Rattle.book_model.specs.declared.trail.Turn.{Turn}
-use Rattle.book_model.specs.Words.{AreHeld, Book, Naming, Period, Records, all_periods, billed_line}
+use Rattle.book_model.specs.Words.{Book, Naming, Period, Records, all_periods, billed_line}
 use Rattle.book_model.specs.Words.{charged_before, has, is_dated_after, life_from, life_of, lines_of}
 use Rattle.book_model.specs.Words.{open_period, period_by, period_of_line, same_bytes, turn_if, turns_in}
 use Rattle.table_model.specs.BookIn.{close_after}
 use Rattle.table_model.specs.Readable.{IsReadable}
 use Rattle.table_model.proofs.CountedReading.{in_added, in_counted, in_taken, its_period, period_after}
 use Rattle.table_model.proofs.CountedReading.{sets, sets_past}
+use Rattle.table_model.proofs.ListLemmas.{held_in}
 use Rattle.table_model.proofs.PeriodPlaces.{at_place}
 use Rattle.book_model.proofs.RecordSets.{second_of}
 use Rattle.book_laws.specs.BillLaws.{BilledLinesHavePeriods}
 use Rattle.book_laws.specs.PeriodLines.{AreReadOnce}
 use Rattle.book_laws.proofs.BillLemmas.{of_period}
 use Rattle.book_laws.proofs.BillStays.{each_of_period, line_with, period_told}
-use Rattle.book_laws.proofs.ReadLemmas.{all_held, lines_once}
+use Rattle.book_laws.proofs.ReadLemmas.{lines_once}
 use Rattle.book_laws.proofs.TurnStays.{is_before}
 
 -- the last that passes is there where one passes
@@ -158,8 +159,7 @@ billed_lines_have_periods naming book number period centre whole is =
     let at = place.1 in
     let own : suc place.0 ≡ number = omega arith in
     let P : Line → Type 0 = λ line. IsSome (period_of_line naming book number line) in
-    let held : AreHeld book.held period =
-    of_period (AreHeld book.held) naming book sound (all_held naming book sound) number period is in
+    let held = held_in naming book sound number period is in
     let read = of_period (λ period. AreReadOnce naming book.rulings period) naming book sound
     (lines_once naming book sound) number period is in
     let lines : All P (lines_of naming book.rulings period) =

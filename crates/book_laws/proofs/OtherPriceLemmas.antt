@@ -14,8 +14,8 @@ use Rattle.tariff_rules.specs.declared.priced.Priced.{Priced}
 use Rattle.book_model.specs.declared.fault.LedgerFault.{LedgerFault}
 use Rattle.book_model.specs.declared.fault.LedgerFault.TheVariants.{Full, NoSuchPeriod}
 use Rattle.book_model.specs.declared.row.ChargeRow.{ChargeRow}
-use Rattle.book_model.specs.Words.{AcceptedTerms, AreAmong, AreHeld, Book, IsDay, Naming, Period}
-use Rattle.book_model.specs.Words.{Records, Rulings, Terms, all_periods, charges_outcome}
+use Rattle.book_model.specs.Words.{AcceptedTerms, AreAmong, Book, IsDay, Naming, Period, Records}
+use Rattle.book_model.specs.Words.{Rulings, Terms, charges_outcome}
 use Rattle.book_model.specs.Words.{costs_under, day_of, flat_book, has, has_begun, in_force}
 use Rattle.book_model.specs.Words.{members, most_cost, no_event, period_of, price_by, price_in}
 use Rattle.book_model.specs.Words.{price_under, prices, rows_for, rows_if_room, rows_of, same_bytes}
@@ -24,8 +24,8 @@ use Rattle.book_model.specs.Rulings.{latest}
 use Rattle.book_model.proofs.ListLemmas.{filter-map}
 use Rattle.book_model.proofs.SetChanges.{pick-agree}
 use Rattle.report_texts.specs.Centres.{rows_of_centre}
-use Rattle.table_model.proofs.HeldPeriods.{all_held, one_of}
-use Rattle.table_model.proofs.PeriodPlaces.{at_place}
+use Rattle.table_model.proofs.HeldPeriods.{one_of}
+use Rattle.table_model.proofs.ListLemmas.{held_in}
 use Rattle.table_model.proofs.TableParts.{what_is}
 use Rattle.table_model.specs.Readable.{IsReadable, IsTexted}
 use Rattle.table_model.proofs.PriceSums.{some_within}
@@ -139,10 +139,7 @@ module _ (naming : Naming) (book : Book) (number : ℕ) (period : Period)
     (whole : IsReadable naming book) (there : period_of book number ≡ Some period) where
   -- what the period counts is held,
   pub counted_held : AreAmong period.counted book.held
-  counted_held =
-      let place = at_place naming book whole.sound number period there in
-      (one_of (AreHeld book.held) (all_periods book) place.0 period
-      (all_held naming book whole.sound) place.2).counted
+  counted_held = (held_in naming book whole.sound number period there).counted
 
   -- and so it has a price
   pub counted_priced : (bytes : List ℕ) → has period.counted bytes ≡ true

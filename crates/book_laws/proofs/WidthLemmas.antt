@@ -4,19 +4,14 @@ use Rattle.std.proofs.Common.{◌≡◌, ◌∙◌, ℕ, ◌+◌, ◌-◌, ◌/�
 use Rattle.std.proofs.Common.{length, map, refl, sym, subst, Option, ℤ}
 use Rattle.std.proofs.Common.{Some, None, Ok, Result, arith, length-append}
 use Rattle.std.specs.Prelude.{All, codes, replicate, sum_by}
-use Rattle.std.specs.FinMap as finite
 use Rattle.std.specs.Fmt.{decimal}
-use Rattle.std.specs.Cmp.{IsTotalOrder}
 use Rattle.std.specs.Option.{ok_or, option_map, option_map_or}
-use Rattle.std.specs.declared.cmp.Ordering.{Ordering}
 use Rattle.std.proofs.lemmas.Bool.{and_parts}
 use Rattle.std.proofs.lemmas.Bool.Decides.{nat_tests}
-use Rattle.std.proofs.lemmas.Cmp.{eq_by_cmp_equiv}
 use Rattle.std.proofs.lemmas.Fmt.{length-decimal-le}
 use Rattle.std.proofs.lemmas.List.{length-replicate}
-use Rattle.std.proofs.lemmas.List.Elements.{All-map, All-contains}
+use Rattle.std.proofs.lemmas.List.Elements.{All-map}
 use Rattle.std.proofs.lemmas.List.Sums.{sum_by-le}
-use Rattle.std.proofs.lemmas.Map.Views.{All-from_any, Contains-from_any, tells_apart}
 use Rattle.smf_text.specs.Day.{day_text_of}
 use Rattle.smf_text.specs.Names.{IsName}
 use Rattle.tariff_rules.specs.declared.priced.Priced.{Priced}
@@ -25,14 +20,13 @@ use Rattle.book_model.specs.declared.fault.LedgerFault.TheVariants.{NoSuchPeriod
 use Rattle.book_model.specs.declared.row.ChargeRow.{ChargeRow}
 use Rattle.book_model.specs.declared.row.RowKey.{RowKey}
 use Rattle.book_model.specs.Words.{Book, Naming, IsPriced, Period, Records, charged_at, key_of}
-use Rattle.book_model.specs.Words.{AreAmong, AreHeld, keys_of, members}
-use Rattle.book_model.specs.Words.{period_of, price_in, prices, row_at, rows_for, rows_of, set_of}
+use Rattle.book_model.specs.Words.{AreAmong, keys_of, members, period_of, price_in, prices}
+use Rattle.book_model.specs.Words.{row_at, rows_for, rows_of}
 use Rattle.book_model.proofs.RowLemmas.{by_key_total, by_key_exact}
-use Rattle.book_model.proofs.SetLemmas.{any_tied-members}
 use Rattle.book_model.proofs.SumsAlike.{length-sum_by, sum_by-filter_map}
 use Rattle.book_laws.proofs.RowSums.{sum_by-rows}
-use Rattle.table_model.proofs.HeldPeriods.{all_held, one_of}
-use Rattle.table_model.proofs.PeriodPlaces.{at_place}
+use Rattle.book_core.proofs.ListLimits.{All-members}
+use Rattle.table_model.proofs.ListLemmas.{held_in}
 use Rattle.report_texts.specs.Columns.{amount_text, digits_in, left_aligned, newline, right_aligned}
 use Rattle.report_texts.specs.Columns.{seconds_text}
 use Rattle.report_texts.specs.Statements.{heading, key_columns, number_columns, row_line}
@@ -141,14 +135,6 @@ length-day day = refl
 
 length-name : (text : List ℕ) → IsName text → length text ≤ 16
 length-name text is = grind (arith, nat_tests, and_parts)
-
--- what holds of each element of a list holds of each member of its set
-All-members : {K : Type 0} {R : K → K → Ordering} → IsTotalOrder R → finite.IsAntisymmetric R
-    → (P : K → Type 0) (ks : List K) → All P ks → All P (members (set_of R ks))
-All-members {R} o exact P ks all =
-    All-from_any (eq_by_cmp_equiv o) P (members (set_of R ks)) (λ q among.
-    let here = Contains-from_any (tells_apart exact) q ks (sym (any_tied-members o ks q) ∙ among) in
-    All-contains P ks q all here)
 
 -- prices with sums that fit the columns
 abbrev pub FitTogether : List Priced → Type 0
@@ -287,11 +273,8 @@ module _ (naming : Naming) (book : Book) (whole : IsReadable naming book) where
       → AreAligned rows
   period_even number None there rows is = cc is
   period_even number (Some period) there rows is =
-      let place = at_place naming book whole.sound number period there in
-      let held = one_of (AreHeld book.held) _ place.0 period (all_held naming book whole.sound)
-      place.2 in
       subst AreAligned (same_rows (rows_for book.rulings period.counted) rows is)
-      (some_even period.counted held.counted)
+      (some_even period.counted (held_in naming book whole.sound number period there).counted)
 
 -- the law
 pub statements_are_aligned : StatementsAreAligned
