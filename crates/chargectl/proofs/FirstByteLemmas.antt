@@ -1,7 +1,6 @@
 -- Bytes that are read ahead of a dump, and are given with the rest.
-use Rattle.std.proofs.Common.{◌≡◌, ◌∙◌, ◌+◌, ◌-◌, ◌≤◌, ℕ, List, [], ◌++◌, true, true≢false, Option, Some, None}
-use Rattle.std.proofs.Common.{length, take, take_all, append-nil, ap, le_refl, subst, sym}
-use Rattle.std.proofs.lemmas.Slice.{take-put_mid_below}
+use Rattle.std.proofs.Common.{◌≡◌, ◌∙◌, ◌+◌, ◌-◌, ◌≤◌, ℕ, List, ◌++◌, true, true≢false, Option, Some, None}
+use Rattle.std.proofs.Common.{length, take, take_all, append-nil, ap, subst, sym}
 use Rattle.std.specs.Io.KnownBytes.{Consumes}
 use Rattle.std.proofs.KnownBytes.{Consumes-trans}
 use lib.Seq.{take-append_seam}
@@ -19,18 +18,6 @@ pub more_taken : (had has left : Option (List ℕ)) (room given : List ℕ) (cou
 more_taken had has left room given count came within few before more =
     subst (Consumes had left) (sym (grown_front count (length room - count) came room given within few))
     (Consumes-trans had has left (take count room) (take came given) before more)
-
--- neither did one that gave none
-pub none_taken : (had has left : Option (List ℕ)) (room given : List ℕ) (count came : ℕ)
-    → count ≤ length room → came ≡ 0 → Consumes had has (take count room)
-    → Consumes has left (take came given)
-    → Consumes had left (take count (put_mid count (length room - count) room given))
-none_taken had has left room given count came within none before more =
-    let nothing : Consumes has left [] = subst (λ n. Consumes has left (take n given)) none more in
-    subst (Consumes had left)
-    (sym (take-put_mid_below count (length room - count) room given count (le_refl count) within))
-    (subst (Consumes had left) (append-nil (take count room))
-    (Consumes-trans had has left (take count room) [] before nothing))
 
 -- the first bytes that were read are those of the dump
 pub are_first : (end : FirstEnd) (had left : Option (List ℕ)) (first : List ℕ) → is_whole end ≡ true

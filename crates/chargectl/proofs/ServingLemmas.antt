@@ -1,9 +1,8 @@
 -- How connections are served.
 use Rattle.std.proofs.Common.{◌≡◌, Bool, true, false, List, [], ◌∷◌, ◌++◌, ℕ, ◌+◌, refl, sym, subst}
-use Rattle.std.proofs.Common.{Option, Some, None, Result, Ok, Err, true≢false, length}
+use Rattle.std.proofs.Common.{Option, Some, None, Result, Ok, Err, length}
 use Rattle.std.proofs.Common.{arith, inl, inr, unwrap_or}
-use Rattle.std.specs.Prelude.{IfErr, IfOk, IsErr}
-use Rattle.std.specs.declared.io.Error.{Error}
+use Rattle.std.specs.Prelude.{IfErr}
 use Rattle.streams.specs.InputOutput.{WriterSeen}
 use Rattle.book_model.specs.Words.{Event, IsMadeByCalls, Naming, book_after}
 use Rattle.book_core.specs.Follow.{MakesAnswered}
@@ -17,7 +16,6 @@ use Rattle.named_books.specs.declared.repository.RepositoryFault.TheVariants.{Un
 use Rattle.named_books.specs.Shelves.{Shelf, IsDoneTo, IsOpened, IsUntouched, OpenedAnew}
 use Rattle.named_books.proofs.ShelfLemmas.{done_after, done_as, done_then, opened_refused}
 use Rattle.named_books.proofs.ShelfLemmas.{opened_untouched}
-use Rattle.chargectl.specs.declared.client_requests.Attended.{Attended}
 use Rattle.chargectl.specs.declared.command_fault.CommandFault.{CommandFault}
 use Rattle.chargectl.specs.declared.ended.Ended.{Ended}
 use Rattle.chargectl.specs.ClientRequests.{LeavesLog}
@@ -122,12 +120,6 @@ turn_after shelf book one two three (what ∷ before) none (between, turn, serve
     (between, turn_after shelf book one two between before none turn, served)
 
 -- ---- one after the other
-
--- a connection that did not come is none
-pub none_came : (So : Attended → Type 0) (result : Result Attended Error) → IsErr result
-    → IfOk result So
-none_came So (Ok what) bad = absurd (true≢false (sym bad))
-none_came So (Err error) bad = tt
 
 -- one more connection was served
 pub serving_more : {S : Type 0} (shelf : S → Shelf) (book : List ℕ) (old between new : S)
