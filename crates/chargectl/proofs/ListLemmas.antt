@@ -26,13 +26,6 @@ use Rattle.chargectl.specs.Choices.{ChoosesBy, ChoosesNothing, ComesOfList, IsLi
 use Rattle.chargectl.specs.Faults.{IsFaultIn, names_fault}
 use Rattle.chargectl.specs.Reading.{IsTariffRead, lasting}
 
--- the fault that `?` hands on
-pub fault_is : {T : Type 0} (result : Result T CommandFault) (found : CommandFault)
-    (IsOf : CommandFault → Type 0) → IsErrAnd result (λ why. why ≡ found) → IsOf found
-    → IfErr result IsOf
-fault_is (Ok value) found IsOf is holds = tt
-fault_is (Err why) found IsOf is holds = subst IsOf (sym is) holds
-
 -- one more byte of a reader came
 pub byte_came : (had old new : Option (List ℕ)) (text : List ℕ) (item : Option (Result ℕ Error))
     (byte : ℕ) → Consumes had old text → YieldsKnownByte old item new → item ≡ Some (Ok byte)

@@ -128,9 +128,8 @@ line_refused text old byte line why feed is had bad =
     (no_name old.names.items line [] why bad)
 
 -- the fault that `?` hands on
-pub fault_is : {T : Type 0} (result : Result T NamesFault) (found : NamesFault)
-    (IsOf : NamesFault → Type 0) → IsErrAnd result (λ why. why ≡ found) → IsOf found
-    → IfErr result IsOf
+pub fault_is : {T E : Type 0} (result : Result T E) (found : E) (IsOf : E → Type 0)
+    → IsErrAnd result (λ why. why ≡ found) → IsOf found → IfErr result IsOf
 fault_is (Ok value) found IsOf is holds = tt
 fault_is (Err why) found IsOf is holds = subst IsOf (sym is) holds
 

@@ -1,9 +1,10 @@
 use Rattle.std.proofs.Common.{◌++◌, ◌∷◌, [], ◌∙◌, Some, ap}
 use Rattle.std.proofs.KnownBytes.{Consumes-nil}
 use Rattle.std.specs.Io.Iter.{bytes_remaining}
+use Rattle.program_output.proofs.NameLemmas.{fault_is}
 use Rattle.chargectl.specs.Choices.{IsListFault}
 use Rattle.chargectl.specs.Faults.{names_fault}
-use Rattle.chargectl.proofs.ListLemmas.{byte_came, fault_is, no_list}
+use Rattle.chargectl.proofs.ListLemmas.{byte_came, no_list}
 use Rattle.chargectl.proofs.choices.read_names.Goals as goal
 
 pub loop-byte-init : goal.loop-byte-init
