@@ -1,5 +1,5 @@
 use Rattle.chargectl.proofs.ListLemmas.{tariff_is}
-use Rattle.chargectl.proofs.program.read_tariff.Goals as goal
+use Rattle.chargectl.proofs.trials.read_tariff.Goals as goal
 
 pub returns : goal.returns
 returns c =

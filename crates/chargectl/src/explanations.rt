@@ -1,0 +1,72 @@
+//! What numbers and words mean, and what to do.
+
+ghost use Rattle.std.specs.Prelude.{◌≡◌, IfOk, string_bytes};
+ghost use Rattle.chargectl.specs.Faults.{IsPrinted};
+ghost use Rattle.chargectl.specs.Reading as spec;
+ghost use Rattle.chargectl.specs.Reading.{TellsOf};
+
+use crate::command_fault::CommandFault;
+use crate::printed_text::print_text;
+use book_core::LedgerFault;
+use command_line::NumberKind;
+use program_output::{Explanation, FaultKind, WordKind, explained};
+use std::alloc::{AllocError, Global};
+use std::io::Write;
+
+/// Says what a number or a word means.
+pub(crate) fn explain<O: Write + Drop>(
+    alloc: Global,
+    kind: NumberKind,
+    number: u16,
+    output: &mut O,
+) -> Result<(), CommandFault>
+    ensures { TellsOf (spec.kind_of kind) number (O.contents output.old) (O.contents output.new)
+        result }
+{
+    let Some(Explanation { meaning, advice }) = explained(numbered(kind), number) else {
+        return Err(CommandFault::Number);
+    };
+    tell_lines(alloc, meaning, advice, output)
+}
+
+/// Writes what a number means and what to do.
+fn tell_lines<O: Write + Drop>(
+    alloc: Global,
+    meaning: &str,
+    advice: &str,
+    output: &mut O,
+) -> Result<(), CommandFault>
+    ensures { IsPrinted (spec.explanation_text meaning.now advice.now)
+        (O.contents output.old) (O.contents output.new) result }
+{
+    match explanation_text(alloc, meaning, advice) {
+        Ok(text) => print_text(text.as_str(), output),
+        Err(_) => Err(CommandFault::Ledger(LedgerFault::Memory)),
+    }
+}
+
+fn explanation_text(alloc: Global, meaning: &str, advice: &str) -> Result<String, AllocError>
+    ensures { IfOk result (λ text. string_bytes text
+        ≡ spec.explanation_text meaning.now advice.now) }
+{
+    format!(in alloc; "{meaning}\n{advice}\n")
+}
+
+fn numbered(kind: NumberKind) -> FaultKind
+    ensures { result ≡ spec.kind_of kind }
+{
+    match kind {
+        NumberKind::Frame => FaultKind::Frame,
+        NumberKind::Ledger => FaultKind::Ledger,
+        NumberKind::Tariff => FaultKind::Tariff,
+        NumberKind::Damaged => FaultKind::Damage,
+        NumberKind::Io => FaultKind::Word(WordKind::Io),
+        NumberKind::Busy => FaultKind::Word(WordKind::Busy),
+        NumberKind::Exists => FaultKind::Word(WordKind::Exists),
+        NumberKind::Word => FaultKind::Word(WordKind::Word),
+        NumberKind::Unsound => FaultKind::Word(WordKind::Unsound),
+        NumberKind::Log => FaultKind::Word(WordKind::Log),
+        NumberKind::Layout => FaultKind::Word(WordKind::Layout),
+        NumberKind::Far => FaultKind::Word(WordKind::Far),
+    }
+}
