@@ -4,9 +4,11 @@
 
 mod command_line;
 mod fault;
+mod given_words;
 mod help_texts;
 mod known_commands;
 mod matched_request;
+mod report_words;
 mod request;
 
 pub use command_line::requested_by;

@@ -1,24 +1,23 @@
 //! The command that `clap` found in the words.
 
-ghost use Rattle.std.specs.Prelude.{◌≡◌, [], ◌∷◌, ◌++◌, None, IfSome, IsSome, IsSomeAnd, codes, pos};
+ghost use Rattle.std.specs.Prelude.{◌≡◌, [], ◌∷◌, ◌++◌, IfSome, IsSome, IsSomeAnd, codes};
 ghost use Rattle.clap.specs.Simple.{subcommand_rows_of};
-ghost use Rattle.clap.specs.Walk.{first_of};
-ghost use Rattle.command_line.specs.Given.{HasNumber, HasRate, HasWord, HasWords, HasWordsOf};
-ghost use Rattle.command_line.specs.Given.{NoneIs, bookless, changes, services};
+ghost use Rattle.command_line.specs.Given.{HasWord, HasWords, HasWordsOf, NoneIs, bookless, changes};
+ghost use Rattle.command_line.specs.Given.{services};
 ghost use Rattle.command_line.specs.Known as known;
-ghost use Rattle.command_line.specs.Requests.{IsAtOnce, IsCsv, IsDump, IsFlag, IsKind};
-ghost use Rattle.command_line.specs.Requests.{IsLayout, IsLeftOut, IsNumber, IsOfBooks, IsOfCommand};
-ghost use Rattle.command_line.specs.Requests.{IsOfPeriod, IsRequest, IsRuling, IsText, NamesPeriod};
-ghost use Rattle.command_line.specs.Requests.{is_dispute_table, is_table, rows_in};
+ghost use Rattle.command_line.specs.Requests.{IsAtOnce, IsLeftOut, IsOfBooks, IsOfCommand, IsRequest};
+ghost use Rattle.command_line.specs.Requests.{IsRuling, IsText, rows_in};
 ghost use Rattle.command_line.specs.Requests as spec;
 
-use crate::request::{
-    BookRequest, DumpFile, ListWords, NumberKind, PeriodWords, ReportWords, Request, Ruling,
-    Unclear,
+use crate::given_words::{
+    dump_in, flag_in, kind_in, layout_in, number_in, rate_in, requests_in, text_in, wait_in,
 };
-use book_reports::{DisputeForm, PeriodReport, StatementForm};
+use crate::report_words::{
+    adjustments_in, bill_in, details_in, disputes_in, page_in, record_in, statement_in,
+    tariff_text_in,
+};
+use crate::request::{BookRequest, ListWords, ReportWords, Request, Ruling, Unclear};
 use clap::ArgMatches;
-use smf_frames::Layout;
 
 /// The command with its words. None would be a word without its value, which the command line does
 /// not let pass.
@@ -148,53 +147,6 @@ fn at_once_in<'a>(found: &ArgMatches<'a>, asked: Option<BookRequest<'a>>) -> Opt
     })
 }
 
-fn wait_in(found: &ArgMatches<'_>) -> Option<u16>
-    ensures number { IfSome result (IsNumber (rows_in found.now) (codes "wait")) }
-    ensures some { HasWord (rows_in found.now) known.wait → IsSome result }
-{
-    found.get_one("wait")
-}
-
-fn text_in<'a>(found: &ArgMatches<'a>, name: &str) -> Option<&'a str>
-    ensures text { IfSome result (IsText (rows_in found.now) name.now) }
-    ensures some { IsSome (first_of name.now (rows_in found.now)) → IsSome result }
-    ensures left_out { result ≡ None → IsLeftOut (rows_in found.now) name.now }
-{
-    found.get_str(name)
-}
-
-fn number_in(found: &ArgMatches<'_>, name: &str) -> Option<u16>
-    ensures number { IfSome result (IsNumber (rows_in found.now) name.now) }
-    ensures some { HasNumber (rows_in found.now) name.now (pos 65535) → IsSome result }
-{
-    found.get_one(name)
-}
-
-fn rate_in(found: &ArgMatches<'_>, name: &str) -> Option<u64>
-    ensures rate { IfSome result (IsNumber (rows_in found.now) name.now) }
-    ensures some { HasRate (rows_in found.now) name.now → IsSome result }
-{
-    found.get_one(name)
-}
-
-fn flag_in(found: &ArgMatches<'_>, name: &str) -> Option<bool>
-    ensures flag { IfSome result (IsFlag (rows_in found.now) name.now) }
-    ensures some { HasWord (rows_in found.now) (known.flag name.now) → IsSome result }
-{
-    found.get_one(name)
-}
-
-fn layout_in(found: &ArgMatches<'_>) -> Option<Layout>
-    ensures layout { IfSome result (IsLayout (rows_in found.now)) }
-    ensures some { HasWord (rows_in found.now) known.layouts → IsSome result }
-{
-    match text_in(found, "layout")? {
-        "rdw" => Some(Layout::Rdw),
-        "bdw" => Some(Layout::Bdw),
-        _ => None,
-    }
-}
-
 /// No rate is above 0.
 fn are_none(cpu: u64, excp: u64, price: u64) -> bool
     ensures { result ≡ spec.are_none cpu excp price }
@@ -228,19 +180,6 @@ fn trial_in<'a>(found: &ArgMatches<'a>) -> Option<Request<'a>>
             }
         }
     }
-}
-
-fn dump_in<'a>(found: &ArgMatches<'a>) -> Option<DumpFile<'a>>
-    ensures dump { IfSome result (IsDump (rows_in found.now)) }
-    ensures some { HasWord (rows_in found.now) known.file
-        → HasWord (rows_in found.now) known.layouts → HasWord (rows_in found.now) known.quiet
-        → IsSome result }
-{
-    Some(DumpFile {
-        file: text_in(found, "file")?,
-        layout: layout_in(found)?,
-        quiet: flag_in(found, "quiet")?,
-    })
 }
 
 fn check_in<'a>(found: &ArgMatches<'a>) -> Option<Request<'a>>
@@ -330,142 +269,6 @@ fn listed_in<'a>(found: &ArgMatches<'a>, file: &'a str) -> Option<Request<'a>>
     }
 }
 
-/// The period that is named, of the centre that is named or else of the whole office.
-fn period_in<'a>(found: &ArgMatches<'a>) -> Option<PeriodWords<'a>>
-    ensures period { IfSome result (NamesPeriod (rows_in found.now)) }
-    ensures some { HasWord (rows_in found.now) known.period → IsSome result }
-{
-    let number = number_in(found, "period")?;
-    let centre = text_in(found, "centre");
-    Some(PeriodWords { number, centre })
-}
-
-/// What a period has.
-fn of_period<'a>(report: PeriodReport, period: PeriodWords<'a>) -> BookRequest<'a>
-    ensures { (name : _) (rows : _) → IsOfPeriod name rows report → NamesPeriod rows period.entry
-        → IsOfBooks name rows result }
-{
-    BookRequest::Report(ReportWords::OfPeriod { report, period })
-}
-
-fn adjustments_in<'a>(found: &ArgMatches<'a>) -> Option<BookRequest<'a>>
-    ensures asked { IfSome result (IsOfBooks (codes "adjustments") (rows_in found.now)) }
-    ensures some { HasWord (rows_in found.now) known.period
-        → HasWord (rows_in found.now) known.csv → IsSome result }
-{
-    let period = period_in(found)?;
-    if flag_in(found, "csv")? {
-        Some(of_period(PeriodReport::AdjustmentTable, period))
-    } else {
-        Some(of_period(PeriodReport::AdjustmentList, period))
-    }
-}
-
-/// What a period charged, or what it would charge by the tariff that is named.
-fn statement_in<'a>(found: &ArgMatches<'a>) -> Option<BookRequest<'a>>
-    ensures asked { IfSome result (IsOfBooks (codes "statement") (rows_in found.now)) }
-    ensures some { HasWord (rows_in found.now) known.period
-        → HasWord (rows_in found.now) known.csv → IsSome result }
-{
-    let period = period_in(found)?;
-    let csv = flag_in(found, "csv")?;
-    match text_in(found, "tariff") {
-        Some(file) => {
-            let form = statement_form(csv);
-            Some(BookRequest::WhatIf { form, period, file })
-        }
-        None => Some(charged(csv, period)),
-    }
-}
-
-fn statement_form(csv: bool) -> StatementForm
-    ensures { is_table result ≡ csv }
-{
-    if csv {
-        StatementForm::Table
-    } else {
-        StatementForm::Text
-    }
-}
-
-fn charged<'a>(csv: bool, period: PeriodWords<'a>) -> BookRequest<'a>
-    ensures { (rows : _) → NamesPeriod rows period.entry → IsCsv rows csv
-        → IsLeftOut rows (codes "tariff") → IsOfBooks (codes "statement") rows result }
-{
-    if csv {
-        of_period(PeriodReport::StatementTable, period)
-    } else {
-        of_period(PeriodReport::Statement, period)
-    }
-}
-
-/// The records that a period counts.
-fn details_in<'a>(found: &ArgMatches<'a>) -> Option<BookRequest<'a>>
-    ensures asked { IfSome result (IsOfBooks (codes "details") (rows_in found.now)) }
-    ensures some { HasWord (rows_in found.now) known.period
-        → HasWord (rows_in found.now) known.csv → IsSome result }
-{
-    let period = period_in(found)?;
-    let csv = flag_in(found, "csv")?;
-    let form = statement_form(csv);
-    Some(BookRequest::List(ListWords::Details { form, period }))
-}
-
-/// The bill of the centre that is named, or what each centre owes.
-fn bill_in<'a>(found: &ArgMatches<'a>) -> Option<BookRequest<'a>>
-    ensures asked { IfSome result (IsOfBooks (codes "bill") (rows_in found.now)) }
-    ensures some { HasWord (rows_in found.now) known.period
-        → HasWord (rows_in found.now) known.csv → IsSome result }
-{
-    let period = period_in(found)?;
-    let csv = flag_in(found, "csv")?;
-    let form = statement_form(csv);
-    Some(BookRequest::Report(ReportWords::Bill { form, period }))
-}
-
-fn page_in<'a>(found: &ArgMatches<'_>) -> Option<BookRequest<'a>>
-    ensures asked { IfSome result (IsOfBooks (codes "page") (rows_in found.now)) }
-    ensures some { HasWord (rows_in found.now) known.period → IsSome result }
-{
-    let period = number_in(found, "period")?;
-    Some(BookRequest::Report(ReportWords::Page { period }))
-}
-
-fn disputes_in<'a>(found: &ArgMatches<'_>) -> Option<BookRequest<'a>>
-    ensures asked { IfSome result (IsOfBooks (codes "disputes") (rows_in found.now)) }
-    ensures some { HasWord (rows_in found.now) known.csv → IsSome result }
-{
-    let csv = flag_in(found, "csv")?;
-    let form = dispute_form(csv);
-    Some(BookRequest::List(ListWords::Disputes { form }))
-}
-
-fn dispute_form(csv: bool) -> DisputeForm
-    ensures { is_dispute_table result ≡ csv }
-{
-    if csv {
-        DisputeForm::Table
-    } else {
-        DisputeForm::List
-    }
-}
-
-fn record_in<'a>(found: &ArgMatches<'a>) -> Option<BookRequest<'a>>
-    ensures asked { IfSome result (IsOfBooks (codes "record") (rows_in found.now)) }
-    ensures some { HasWord (rows_in found.now) known.record_name → IsSome result }
-{
-    let name = text_in(found, "sha256")?;
-    Some(BookRequest::Report(ReportWords::Record { name }))
-}
-
-fn tariff_text_in<'a>(found: &ArgMatches<'a>) -> Option<BookRequest<'a>>
-    ensures asked { IfSome result (IsOfBooks (codes "tariff-text") (rows_in found.now)) }
-    ensures some { HasWord (rows_in found.now) known.date → IsSome result }
-{
-    let date = text_in(found, "date")?;
-    Some(BookRequest::Report(ReportWords::TariffText { date }))
-}
-
 fn audit_in<'a>(found: &ArgMatches<'_>) -> Option<BookRequest<'a>>
     ensures asked { IfSome result (IsOfBooks (codes "audit") (rows_in found.now)) }
     ensures some { HasWord (rows_in found.now) known.quiet → IsSome result }
@@ -482,13 +285,6 @@ fn back_up_in<'a>(found: &ArgMatches<'a>) -> Option<BookRequest<'a>>
     let copy = text_in(found, "file")?;
     let quiet = flag_in(found, "quiet")?;
     Some(BookRequest::BackUp { copy, quiet })
-}
-
-fn requests_in(found: &ArgMatches<'_>) -> Option<u32>
-    ensures number { IfSome result (IsNumber (rows_in found.now) (codes "requests")) }
-    ensures some { HasWord (rows_in found.now) known.requests → IsSome result }
-{
-    found.get_one("requests")
 }
 
 fn serve_in<'a>(found: &ArgMatches<'_>) -> Option<BookRequest<'a>>
@@ -509,25 +305,4 @@ fn explain_in<'a>(found: &ArgMatches<'_>) -> Option<Request<'a>>
     let kind = kind_in(found)?;
     let number = number_in(found, "number")?;
     Some(Request::Explain { kind, number })
-}
-
-fn kind_in(found: &ArgMatches<'_>) -> Option<NumberKind>
-    ensures kind { IfSome result (IsKind (rows_in found.now)) }
-    ensures some { HasWord (rows_in found.now) known.number_kind → IsSome result }
-{
-    match text_in(found, "kind")? {
-        "frame" => Some(NumberKind::Frame),
-        "ledger" => Some(NumberKind::Ledger),
-        "tariff" => Some(NumberKind::Tariff),
-        "damaged" => Some(NumberKind::Damaged),
-        "io" => Some(NumberKind::Io),
-        "busy" => Some(NumberKind::Busy),
-        "exists" => Some(NumberKind::Exists),
-        "word" => Some(NumberKind::Word),
-        "unsound" => Some(NumberKind::Unsound),
-        "log" => Some(NumberKind::Log),
-        "layout" => Some(NumberKind::Layout),
-        "far" => Some(NumberKind::Far),
-        _ => None,
-    }
 }

@@ -2,7 +2,7 @@ use Rattle.clap.specs.Matches.{found_of, one_text}
 use Rattle.clap.proofs.WalkLemmas.{one_text-rows}
 use Rattle.command_line.specs.Requests.{rows_in}
 use Rattle.command_line.proofs.ReaderLemmas.{has_flag, read_flag}
-use Rattle.command_line.proofs.matched_request.flag_in.Goals as goal
+use Rattle.command_line.proofs.given_words.flag_in.Goals as goal
 
 pub returns : goal.returns
 returns c =

@@ -3,7 +3,7 @@ use Rattle.clap.specs.Matches.{found_of}
 use Rattle.clap.proofs.WalkLemmas.{first_value-rows}
 use Rattle.command_line.specs.Requests.{rows_in}
 use Rattle.command_line.proofs.ReaderLemmas.{has_text, none_read, read_text}
-use Rattle.command_line.proofs.matched_request.text_in.Goals as goal
+use Rattle.command_line.proofs.given_words.text_in.Goals as goal
 
 pub returns : goal.returns
 returns c =

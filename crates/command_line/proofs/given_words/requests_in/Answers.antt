@@ -1,10 +1,10 @@
 use Rattle.std.proofs.Common.{arith, codes}
 use Rattle.clap.specs.Matches.{found_of}
 use Rattle.command_line.proofs.ReaderLemmas.{number_found}
-use Rattle.command_line.proofs.matched_request.wait_in.Goals as goal
+use Rattle.command_line.proofs.given_words.requests_in.Goals as goal
 
 pub returns : goal.returns
 returns c =
-    let read = number_found 16 3600 (found_of c.args.found.now) (codes "wait") c.get_one.result
+    let read = number_found 32 1000000 (found_of c.args.found.now) (codes "requests") c.get_one.result
     c.get_one.ensures.none c.get_one.ensures.value (omega arith) in
     record { number = read.0; some = read.1 }

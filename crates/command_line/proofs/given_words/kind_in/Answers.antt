@@ -2,7 +2,7 @@ use Rattle.std.proofs.Common.{[], ◌∷◌, codes}
 use Rattle.clap.specs.Walk.{first_of}
 use Rattle.command_line.specs.Requests.{rows_in}
 use Rattle.command_line.proofs.ReaderLemmas.{not_given}
-use Rattle.command_line.proofs.matched_request.kind_in.Goals as goal
+use Rattle.command_line.proofs.given_words.kind_in.Goals as goal
 
 pub returns-in_default-clause-some : goal.returns-in_default-clause-some
 returns-in_default-clause-some c =
