@@ -190,6 +190,7 @@ pub record AnswersOrNot (naming : Naming) (what : Served) (was : Bool) (before :
       events
   pub told : IsToldOf came what
 
+-- what one connection does to a book, by what became of it
 abbrev pub ServesAny : Naming → Served → Transition
 ServesAny naming served.Closed = NoEvent
 ServesAny naming served.ReadFault = NoEvent

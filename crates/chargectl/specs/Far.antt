@@ -22,6 +22,7 @@ use Rattle.chargectl.specs.declared.notice.Notice.TheVariants as notice
 abbrev pub far_days : ℤ
 far_days = pos 366
 
+-- so a day is far after another
 abbrev pub is_far_after : ℤ → ℤ → Bool
 is_far_after day other = int_lt (other +ℤ far_days) day
 

@@ -41,6 +41,7 @@ abbrev pub left_of : {R : Type 0} → (R → Option (List ℕ)) → Option R →
 left_of remaining None = Some []
 left_of remaining (Some reader) = remaining reader
 
+-- so has a reader after its first bytes
 abbrev pub rest_remaining : {R : Type 0} → (R → Option (List ℕ)) → Rest R → Option (List ℕ)
 rest_remaining remaining rest = left_of remaining rest.inner
 

@@ -140,6 +140,7 @@ TellsNumber None held holds ended = (holds ≡ held) × (ended ≡ Err fault.Num
 TellsNumber (Some told) held holds ended =
     IsPrinted (explanation_text told.meaning.now told.advice.now) held holds ended
 
+-- what is told of a number of this kind, or of a word, by what it means
 pub record TellsOf (kind : FaultKind) (number : ℕ) (held holds : Option (List ℕ))
     (ended : Result (Unit {0}) CommandFault) : Type 0 where
   pub told : Option Explanation

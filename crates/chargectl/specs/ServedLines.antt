@@ -28,5 +28,6 @@ GainsBy false true held holds text = GainsFront text held holds
 GainsBy true true held holds text = Keeps held holds
 GainsBy true false held holds text = ⊥
 
+-- the same, by what is seen of the output before and after
 abbrev pub Gains : WriterSeen → WriterSeen → List ℕ → Type 0
 Gains held holds text = GainsBy held.has_failed holds.has_failed held.holds holds.holds text

@@ -72,6 +72,7 @@ ServesInTurn {S} shelf book old new (what ∷ before) =
     (between : S) × ServesInTurn shelf book old between before
     × ServesOne book what (shelf between) (shelf new)
 
+-- an answer was sent whole
 abbrev pub is_answered : Served → Bool
 is_answered (served.Answered status) = true
 is_answered what = false

@@ -31,6 +31,7 @@ HasValue rows name (known.at_most most) = HasNumber rows name most
 HasValue rows name (known.up_to most) = HasNumber rows name most
 HasValue rows name known.rate = HasRate rows name
 
+-- so does a word or an option, unless it may be left out without a default
 abbrev pub HasWord : List Row → WordSeen → Type 0
 HasWord rows (known.flag name) = (flag : Bool) × IsFlag rows name flag
 HasWord rows (known.place name value) = HasValue rows name value
@@ -40,6 +41,7 @@ HasWord rows (known.named_or name value text) = HasValue rows name value
 HasWord rows (known.named_if_given name value) = ⊤
 HasWord rows (known.place_if_given name value) = ⊤
 
+-- and each of these
 abbrev pub HasWords : List Row → List WordSeen → Type 0
 HasWords rows [] = ⊤
 HasWords rows (word ∷ more) = HasWord rows word × HasWords rows more

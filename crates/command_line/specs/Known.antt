@@ -41,6 +41,7 @@ pub data WordSeen : Type 0 where
   named_or : Text → ValueSeen → Text → WordSeen
   named_if_given : Text → ValueSeen → WordSeen
 
+-- so the code's table is read
 abbrev pub value_seen : ValueKind → ValueSeen
 value_seen kind.Text = any
 value_seen (kind.OneOf texts) = among (map (λ text. text.now) texts.now)

@@ -123,6 +123,7 @@ abbrev pub is_table : StatementForm → Bool
 is_table form.Text = false
 is_table form.Table = true
 
+-- this is the form that is asked for
 abbrev pub IsForm : List Row → StatementForm → Type 0
 IsForm rows value = IsCsv rows (is_table value)
 

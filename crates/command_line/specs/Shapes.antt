@@ -61,6 +61,7 @@ above program = with_leaf_noted (marked_built (record (new_shape program) {
   is_leaf = false;
 }))
 
+-- and of a command below it
 abbrev pub leaf : Text → ℕ → KnownCommand → Shape
 leaf program highest known = built_leaf (inherited (above program) (shape_for highest known))
 
@@ -93,6 +94,7 @@ pub record AreFor (highest : ℕ) (words : List Argument) (args : List Arg) : Ty
   pub rules : map rule_of args ≡ map (rule_for highest) words
   pub own : All IsOwn args
 
+-- nor do those of a command
 abbrev pub HasNoGlobals : Command → Type 0
 HasNoGlobals command = (out-Command command).has_globals ≡ false
 

@@ -4,6 +4,7 @@ use Rattle.program_output.specs.declared.causes.Cause.{Cause}
 use Rattle.program_output.specs.declared.causes.Cause.TheVariants.{Missing, Denied, Folder, Linked}
 use Rattle.program_output.specs.declared.causes.Cause.TheVariants.{Taken, Failed}
 
+-- each cause has its words
 abbrev pub cause_text : Cause → List ℕ
 cause_text Missing = codes "not there"
 cause_text Denied = codes "no permission"

@@ -39,6 +39,7 @@ ExplainsWord texts number (Some told) =
     (number ≡ 0) × (texts ≡ (told.meaning.now, told.advice.now))
 ExplainsWord texts number None = number ≢ 0
 
+-- what is told of a number of each kind, and of each word
 abbrev pub Explains : FaultKind → ℕ → Option Explanation → Type 0
 Explains Frame = ExplainsBy frame_number frame_texts
 Explains Ledger = ExplainsBy ledger_number ledger_texts

@@ -9,6 +9,7 @@ use Rattle.program_output.specs.declared.names.NameList.{NameList}
 use Rattle.program_output.specs.declared.names.NamesFault.{NamesFault}
 use Rattle.program_output.specs.declared.names.NamesFault.TheVariants as fault
 
+-- the names, or why there are none
 abbrev pub Names : Type 0
 Names = Result (List (List ℕ)) NamesFault
 

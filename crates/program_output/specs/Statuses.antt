@@ -12,6 +12,7 @@ use Rattle.program_output.specs.declared.status.Status.{Status}
 use Rattle.program_output.specs.declared.status.Status.TheVariants.{Done, Io, Usage}
 use Rattle.program_output.specs.declared.status.Status.TheVariants.{Refused, Store, Memory}
 
+-- the number of each, as the system is told it
 abbrev pub code_of : Status → ℕ
 code_of Done = 0
 code_of Io = 1
