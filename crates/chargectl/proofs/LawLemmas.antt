@@ -20,7 +20,7 @@ use Rattle.office.specs.declared.request.Answer.{Answer}
 use Rattle.office.specs.declared.request.Asked.{Asked}
 use Rattle.office.specs.Outcomes.{is_hindered}
 use Rattle.office.specs.Requests.{Asks, response_by}
-use Rattle.named_books.specs.Shelves.{ComesBy, Shelf, HoldsMore, IsDoneTo, IsOpened, IsTried, IsUntouched}
+use Rattle.named_books.specs.Shelves.{ComesBy, Shelf, IsDoneTo, IsOpened, IsTried, IsUntouched}
 use Rattle.office.proofs.ChoiceLemmas.{choices_done}
 use Rattle.office.proofs.LawLemmas.{asks_done}
 use Rattle.command_line.specs.declared.request.BookRequest.{BookRequest}
@@ -64,6 +64,13 @@ one_or_apart : (one other : List ℕ) → (one ≡ other) ⊎ (one ≢ other)
 one_or_apart one other =
     let decides = bytes_decides one other in
     by_test (same_bytes one other) decides.0 decides.1
+
+-- what is so of one name and of any other is so
+in_any_case : {P : Type 0} (one other : List ℕ) → (one ≡ other → P) → (one ≢ other → P) → P
+in_any_case one other here elsewhere = elim (one_or_apart one other) [
+  | inl same ↦ here same
+  | inr apart ↦ elsewhere apart
+]
 
 -- The books of a name, which held a history that calls made, hold it with these events, of which this
 -- is so.
@@ -139,22 +146,9 @@ module _ (naming : Naming) (history : List Event) (name : List ℕ) (old new : S
   -- nothing was done to any books
   none_on : (book : List ℕ) → IsUntouched book old new
       → Step naming history name old new (λ made. made ≡ [])
-  none_on book done = elim (one_or_apart book name) [
-    | inl same ↦
-        none_by ((subst (λ book. IsUntouched book old new) same done).here history held)
-    | inr apart ↦ none_by (done.elsewhere name (λ same. apart (sym same)) history held)
-  ]
-    where
-      none_by : HoldsMore NoEvent history (new.holds name)
-          → Step naming history name old new (λ made. made ≡ [])
-      none_by more = record {
-        made = [];
-        so = refl;
-        answered = answered;
-        held = subst (λ (events : List Event). new.holds name (events ++ history)) more.made.none
-            more.now;
-        named = done.naming;
-      }
+  none_on book done =
+      step_as (λ made so. in_any_case book name (λ same. (so.0 same).made_so.none) so.1)
+      (work_on book NoEvent (none_answered naming) done)
 
   -- the office was asked once
   asked_on : (book : List ℕ) (asked : Asked) (told : Result Answer LedgerFault)
@@ -183,33 +177,14 @@ module _ (naming : Naming) (history : List Event) (name : List ℕ) (old new : S
       → IsDoneTo book (WritesAnswer answer naming held_bytes holds told) old new
       → Step naming history name old new (λ made. (book ≡ name
       → WritesOrRefuses (answer naming (book_of history)) held_bytes holds told) × (made ≡ []))
-  listed_on answer book held_bytes holds told done = elim (one_or_apart book name) [
-    | inl same ↦
-        let more = (subst (λ book. IsDoneTo book (WritesAnswer answer naming held_bytes holds told) old new)
-        same done).here history held in
-        record {
-          made = more.events;
-          so = (
-            λ _. subst (λ book. WritesOrRefuses (answer naming book) held_bytes holds told)
-                (books_follow_history history) more.made.written,
-            more.made.none,
-          );
-          answered = listing_answered answer naming held_bytes holds told history false more.events
-              more.is more.made answered;
-          held = more.now;
-          named = done.naming;
-        }
-    | inr apart ↦
-        let more = done.elsewhere name (λ same. apart (sym same)) history held in
-        record {
-          made = [];
-          so = (λ same. absurd (apart same), refl);
-          answered = answered;
-          held = subst (λ (events : List Event). new.holds name (events ++ history)) more.made.none
-              more.now;
-          named = done.naming;
-        }
-  ]
+  listed_on answer book held_bytes holds told done =
+      step_as (λ made so. (
+        λ same. subst (λ book. WritesOrRefuses (answer naming book) held_bytes holds told)
+            (books_follow_history history) (so.0 same).made_so.written,
+        in_any_case book name (λ same. (so.0 same).made_so.none) so.1,
+      ))
+      (work_on book (WritesAnswer answer naming held_bytes holds told)
+      (listing_answered answer naming held_bytes holds told) done)
 
   -- records were chosen, one after the other
   chosen_on : (book : List ℕ) (names : List (List ℕ)) (told : Result Chosen AllocError)
