@@ -20,7 +20,8 @@ use Rattle.named_books.specs.declared.repository.RepositoryFault.TheVariants.{Un
 use Rattle.office.specs.declared.request.Answer.{Answer}
 use Rattle.office.specs.declared.request.Asked.{Asked}
 use Rattle.office.specs.declared.request.Asked.TheVariants.{Tariff, Close, Choose, Adopt}
-use Rattle.office.specs.Requests.{IsAskableRuling, IsAskableUnread, no_dump, response_by}
+use Rattle.office.specs.Requests.{Asks, Gives, IsAskableRuling, IsAskableUnread, no_dump}
+use Rattle.office.specs.Requests.{response_by}
 use Rattle.named_books.specs.Shelves.{IsDoneTo, IsOpened, Shelf}
 use Rattle.named_books.proofs.ShelfLemmas.{done_as}
 use Rattle.chargectl.specs.declared.dated_rulings.DatedAnswer.{DatedAnswer}
@@ -136,46 +137,31 @@ abbrev no_input : Input
 no_input = record { old = no_reader; new = no_reader }
 
 -- nothing was asked for, since the newest day could not be read
+not_asked_for : (naming : Naming) (asked : Asked) (fault : LedgerFault) (was : Bool) (before : Book)
+    (events : List Event) (is : Bool) → Gives asked no_dump (Err fault) no_input
+    → Asks naming asked no_dump (Err fault) was before events is
+    → AsksDated naming asked (Err fault) None was before events is
+not_asked_for naming asked fault was before events is given made = record {
+  once = record { dump = no_dump; input = no_input; given = given; made = made };
+  notice = refl;
+}
+
 failed_of : (naming : Naming) (asked : Asked) (fault : LedgerFault) → IsAskableRuling asked
     → (was : Bool) (before : Book) (events : List Event) (is : Bool)
     → Calls (λ (far : Bool). far) (far_outcome asked) (Err fault) was before events is
     → AsksDated naming asked (Err fault) None was before events is
-failed_of naming (Tariff text) fault may was before events is called = record {
-  once = record {
-    dump = no_dump;
-    input = no_input;
-    given = record { is = refl; same = refl };
-    made = unread _ (Tariff text) fault was before events is called;
-  };
-  notice = refl;
-}
-failed_of naming (Close period through) fault may was before events is called = record {
-  once = record {
-    dump = no_dump;
-    input = no_input;
-    given = record { is = refl; same = refl };
-    made = unread _ (Close period through) fault was before events is called;
-  };
-  notice = refl;
-}
-failed_of naming (Choose name) fault may was before events is called = record {
-  once = record {
-    dump = no_dump;
-    input = no_input;
-    given = record { is = refl; same = refl };
-    made = unread _ (Choose name) fault was before events is called;
-  };
-  notice = refl;
-}
-failed_of naming (Adopt rule) fault may was before events is called = record {
-  once = record {
-    dump = no_dump;
-    input = no_input;
-    given = record { is = refl; same = refl };
-    made = unread _ (Adopt rule) fault was before events is called;
-  };
-  notice = refl;
-}
+failed_of naming (Tariff text) fault may was before events is called =
+    not_asked_for naming (Tariff text) fault was before events is (record { is = refl; same = refl })
+    (unread _ (Tariff text) fault was before events is called)
+failed_of naming (Close period through) fault may was before events is called =
+    not_asked_for naming (Close period through) fault was before events is (record { is = refl; same = refl })
+    (unread _ (Close period through) fault was before events is called)
+failed_of naming (Choose name) fault may was before events is called =
+    not_asked_for naming (Choose name) fault was before events is (record { is = refl; same = refl })
+    (unread _ (Choose name) fault was before events is called)
+failed_of naming (Adopt rule) fault may was before events is called =
+    not_asked_for naming (Adopt rule) fault was before events is (record { is = refl; same = refl })
+    (unread _ (Adopt rule) fault was before events is called)
 failed_of naming asked fault may was before events is called = absurd may
 
 pub failed_dated : (old new : Seen) (asked : Asked) (fault : LedgerFault) → IsAskableRuling asked
