@@ -15,7 +15,7 @@ use crate::frame::push_table_end;
 use crate::markup::{joined, push_all, push_row, record_link};
 use book_model::{Dispute, Variant};
 use html_text::{escaped, shown};
-use report_texts::push_dispute;
+use report_texts::push_identity_line;
 use smf_text::day_text;
 use std::alloc::{AllocError, Global};
 
@@ -85,17 +85,13 @@ fn push_members(alloc: Global, out: &mut String, members: &[Variant]) -> Result<
     Ok(())
 }
 
-/// The line of an identity, as the list of disputes has it: that of a dispute without records.
+/// The line of an identity, as the list of disputes has it.
 fn identity_line(alloc: Global, identity: &[u8]) -> Result<String, AllocError>
     requires { (length identity.now ≡ identity_length) ⊎ (length identity.now ≡ identity2_length) }
     ensures { IfOk result (λ text. string_bytes text ≡ lists.identity_line identity.now) }
 {
-    let alone = Dispute {
-        identity: Vec::from_slice(alloc, identity)?,
-        members: Vec::new(alloc),
-    };
     let mut text = String::new(alloc);
-    push_dispute(alloc, &mut text, &alone)?;
+    push_identity_line(alloc, &mut text, identity)?;
     Ok(text)
 }
 

@@ -68,9 +68,13 @@ fn push_step(out: &mut String, identity: &[u8]) -> Result<(), AllocError>
     push_number(out, u64::from(BigEndian::read_u16(&identity[22..])))
 }
 
-/// Appends the line of an identity.
+/// Appends the line of the identity that the records of a dispute share.
 #[tactic(auto, unfolding(crate::specs::DisputeLists::identity_line, crate::specs::DisputeLists::reader_text, crate::specs::DisputeLists::start_text))]
-fn push_identity(alloc: Global, out: &mut String, identity: &[u8]) -> Result<(), AllocError>
+pub fn push_identity_line(
+    alloc: Global,
+    out: &mut String,
+    identity: &[u8],
+) -> Result<(), AllocError>
     requires { (length identity.now ≡ identity_length) ⊎ (length identity.now ≡ identity2_length) }
     ensures { OnOk result (string_bytes out.new
         ≡ string_bytes out.old ++ spec.identity_line identity.now) }
@@ -169,7 +173,7 @@ pub fn push_dispute(alloc: Global, out: &mut String, dispute: &Dispute) -> Resul
     ensures { OnOk result (string_bytes out.new
         ≡ string_bytes out.old ++ spec.dispute_lines (dispute_shown dispute.now)) }
 {
-    push_identity(alloc, out, &dispute.identity)?;
+    push_identity_line(alloc, out, &dispute.identity)?;
     push_members(alloc, out, &dispute.members)
 }
 

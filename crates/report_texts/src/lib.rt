@@ -44,7 +44,7 @@ pub use charges::Charges;
 pub use columns::{push_number, seconds_text};
 pub use detail_lists::{detail_head, detail_total, push_detail_line};
 pub use detail_tables::{detail_row, detail_table_head};
-pub use dispute_lists::{dispute_list_head, dispute_list_text, push_dispute};
+pub use dispute_lists::{dispute_list_head, dispute_list_text, push_dispute, push_identity_line};
 pub use dispute_tables::{dispute_rows, dispute_table, dispute_table_head};
 pub use dry_runs::{TriedRuling, dry_run_text};
 pub use figures::{Figures, figures_of, record_count, record_count_from};
