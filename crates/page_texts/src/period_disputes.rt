@@ -2,7 +2,6 @@
 
 ghost use Rattle.std.specs.Prelude.{◌≡◌, ◌⊎◌, ◌++◌, All, IfOk, OnOk, flat_map, length, map, string_bytes};
 ghost use Rattle.std.specs.List.{list_any};
-ghost use Rattle.std.specs.Option.{ForSome};
 ghost use Rattle.book_model.specs.Words.{AreDisputes, IsDay, IsDispute, dispute_shown};
 ghost use Rattle.book_model.specs.Words.{identity2_length, identity_length};
 ghost use Rattle.report_texts.specs.DisputeLists as lists;
@@ -10,9 +9,9 @@ ghost use Rattle.page_texts.specs.Closes.{is_between};
 ghost use Rattle.page_texts.specs.PeriodTables as spec;
 
 use crate::amounts::money;
-use crate::closes::{close_of, is_between};
+use crate::closes::is_between;
 use crate::frame::push_table_end;
-use crate::markup::{joined, push_all, push_row, record_link};
+use crate::markup::{push_all, push_row, record_link};
 use book_model::{Dispute, Variant};
 use html_text::{escaped, shown};
 use report_texts::push_identity_line;
