@@ -10,7 +10,7 @@ use Rattle.book_model.specs.Words.{Book, Naming, Period, bill_of, billed_lines, 
 use Rattle.book_model.specs.Words.{details_of, lines_of, period_of}
 use Rattle.book_reports.specs.declared.bill_tariffs.KeptTariffs.{KeptTariffs}
 use Rattle.book_reports.specs.declared.bill_work.PeriodWork.{PeriodWork}
-use Rattle.book_reports.specs.BillLines.{lines_outcome}
+use Rattle.book_reports.specs.BillLines.{billed_outcome}
 use Rattle.book_reports.specs.Bills.{PeriodBillSeen, bill_with, period_bill_outcome}
 use Rattle.book_reports.specs.BillTariffs.{tariffs_outcome, tariffs_shown}
 use Rattle.book_reports.specs.BillWork.{work_outcome, work_seen, work_shown}
@@ -44,7 +44,7 @@ module _ (naming : Naming) (number : ℕ) (centre : Option (List ℕ)) (book : B
         (refused_back (work_seen (closed_through book number)) _ fault is))
 
     -- and where its lines are
-    pub bill_unlined : (lines_outcome naming number centre book).answer ≡ Err fault
+    pub bill_unlined : (billed_outcome naming number centre book).answer ≡ Err fault
         → (period_bill_outcome naming number centre book).answer ≡ Err fault
     bill_unlined is =
         refused_shown (bill_with (closed_through book number)) _ fault
@@ -70,7 +70,7 @@ bill_made work lines held kept = record {
 pub bill_known : (naming : Naming) (number : ℕ) (centre : Option (List ℕ)) (work : PeriodWork)
     (lines : List BilledLine) (held : Option HeldBack) (kept : KeptTariffs) (book : Book)
     → (work_outcome naming number centre book).answer ≡ Ok (work_shown work)
-    → (lines_outcome naming number centre book).answer ≡ Ok lines
+    → (billed_outcome naming number centre book).answer ≡ Ok lines
     → (held_back_outcome naming number centre book).answer ≡ Ok held
     → (tariffs_outcome number book).answer ≡ Ok (tariffs_shown kept)
     → (period_bill_outcome naming number centre book).answer ≡ Ok (bill_made work lines held kept)

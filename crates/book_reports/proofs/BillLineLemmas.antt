@@ -20,7 +20,7 @@ use Rattle.book_model.specs.Words.{trail_outcome, trail_shown}
 use Rattle.book_core.specs.Calls.{IsCall}
 use Rattle.book_core.specs.Ledgers.{Seen}
 use Rattle.report_texts.specs.Centres.{lines_of_centre}
-use Rattle.book_reports.specs.BillLines.{is_unheld, line_period_outcome, lines_outcome}
+use Rattle.book_reports.specs.BillLines.{billed_outcome, is_unheld, line_period_outcome}
 use Rattle.book_reports.specs.BookTexts.{shown_by}
 use Rattle.book_reports.proofs.ReadingLemmas.{fault_alike, fault_tells, read_as}
 use Rattle.book_reports.proofs.WritingLemmas.{same_value}
@@ -168,7 +168,7 @@ module _ {naming : Naming} {period : ℕ} {centre : List ℕ} {kept : List Line}
 
     -- these are all
     pub lines_known : length kept ≤ count
-        → (lines_outcome naming period (Some centre) book).answer ≡ Ok billed
+        → (billed_outcome naming period (Some centre) book).answer ≡ Ok billed
     lines_known past =
         shown_twice (map (billed_line naming book period)) (lines_of_centre centre)
         (adjustments_outcome naming period book).answer

@@ -14,8 +14,8 @@ abbrev pub AreBilled : List BilledLine → Type 0
 AreBilled lines = AreLines (plain_lines lines)
 
 -- the lines of a period, for the centre that is named or for the whole office
-abbrev pub lines_outcome : Naming → ℕ → Option (List ℕ) → Book → Outcome (List BilledLine)
-lines_outcome naming period centre book =
+abbrev pub billed_outcome : Naming → ℕ → Option (List ℕ) → Book → Outcome (List BilledLine)
+billed_outcome naming period centre book =
     no_event (shown_by (billed_lines naming book period centre)
     (adjustments_outcome naming period book).answer)
 

@@ -30,19 +30,19 @@ period_bill_outcome naming period centre book =
     (bill_outcome naming period centre book).answer)
 
 -- its text, of the whole office or of one centre
-abbrev pub text_in : ℕ → Option (List ℕ) → PeriodBillSeen → List ℕ
-text_in period None found = office_bill_text period found.through found.bill
-text_in period (Some centre) found = bill_text centre period found.through found.bill
+abbrev pub bill_text_in : ℕ → Option (List ℕ) → PeriodBillSeen → List ℕ
+bill_text_in period None found = office_bill_text period found.through found.bill
+bill_text_in period (Some centre) found = bill_text centre period found.through found.bill
 
 -- its table
-abbrev pub table_in : ℕ → Option (List ℕ) → BillSeen → List ℕ
-table_in period None bill = office_bill_table period bill
-table_in period (Some centre) bill = bill_table period bill
+abbrev pub bill_table_in : ℕ → Option (List ℕ) → BillSeen → List ℕ
+bill_table_in period None bill = office_bill_table period bill
+bill_table_in period (Some centre) bill = bill_table period bill
 
 -- the one or the other
 abbrev pub bill_in : StatementForm → ℕ → Option (List ℕ) → PeriodBillSeen → List ℕ
-bill_in Text period centre found = text_in period centre found
-bill_in Table period centre found = table_in period centre found.bill
+bill_in Text period centre found = bill_text_in period centre found
+bill_in Table period centre found = bill_table_in period centre found.bill
 
 -- and what a book answers then
 abbrev pub bill_answer :

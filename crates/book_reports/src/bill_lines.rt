@@ -104,7 +104,7 @@ fn office_lines<L: Ledger>(
     period: u16,
 ) -> Result<Vec<BilledLine>, LedgerFault>
     ensures lines { IsCall (λ lines. lines.items) (L.seen ledger.old) (L.seen ledger.new) result
-        (spec.lines_outcome (L.seen ledger.old).naming period None) }
+        (spec.billed_outcome (L.seen ledger.old).naming period None) }
     ensures shown { IfOk result (λ lines. AreBilled lines.items) }
 {
     let lines = ledger.adjustments(period)?;
@@ -120,7 +120,7 @@ fn centre_lines<L: Ledger>(
     centre: Name,
 ) -> Result<Vec<BilledLine>, LedgerFault>
     ensures lines { IsCall (λ lines. lines.items) (L.seen ledger.old) (L.seen ledger.new) result
-        (spec.lines_outcome (L.seen ledger.old).naming period (Some centre)) }
+        (spec.billed_outcome (L.seen ledger.old).naming period (Some centre)) }
     ensures shown { IfOk result (λ lines. AreBilled lines.items) }
 {
     let mut lines = ledger.adjustments(period)?;
@@ -144,7 +144,7 @@ pub(crate) fn billed_lines<L: Ledger>(
     centre: &Option<Name>,
 ) -> Result<Vec<BilledLine>, LedgerFault>
     ensures lines { IsCall (λ lines. lines.items) (L.seen ledger.old) (L.seen ledger.new) result
-        (spec.lines_outcome (L.seen ledger.old).naming period centre.now) }
+        (spec.billed_outcome (L.seen ledger.old).naming period centre.now) }
     ensures shown { IfOk result (λ lines. AreBilled lines.items) }
 {
     match *centre {

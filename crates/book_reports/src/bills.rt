@@ -67,7 +67,7 @@ fn text_shown(
     requires through { ForSome through IsDay }
     requires bill { IsBill (bill_shown bill.now) }
     ensures { IfOk result (λ text. text.items
-        ≡ spec.text_in period centre.now (spec.bill_with through (bill_shown bill.now))) }
+        ≡ spec.bill_text_in period centre.now (spec.bill_with through (bill_shown bill.now))) }
 {
     match *centre {
         None => Ok(office_bill_text(alloc, period, through, bill)?.into_bytes()),
@@ -84,7 +84,7 @@ fn table_shown(
 ) -> Result<Vec<u8>, AllocError>
     requires { IsBill (bill_shown bill.now) }
     ensures { IfOk result (λ table. table.items
-        ≡ spec.table_in period centre.now (bill_shown bill.now)) }
+        ≡ spec.bill_table_in period centre.now (bill_shown bill.now)) }
 {
     match *centre {
         None => office_bill_table(alloc, period, bill),

@@ -27,8 +27,8 @@ unfoldable pub step_fields : List ℕ → List (List ℕ)
 step_fields identity = decimal (number identity 20 2) ∷ decimal (number identity 22 2) ∷ []
 
 -- which work a record measures: the number and the identity of its dispute, and its own initiation
-unfoldable pub work_fields : ℕ → List ℕ → List ℕ → List (List ℕ)
-work_fields dispute identity initiation =
+unfoldable pub disputed_fields : ℕ → List ℕ → List ℕ → List (List ℕ)
+disputed_fields dispute identity initiation =
     decimal dispute ∷ identity_fields identity ++ moment_of initiation ∷ step_fields identity
 
 -- which record it is, and its day, what it measures and what it costs
@@ -45,7 +45,7 @@ run_fields member =
 -- the fields of a record of a dispute
 unfoldable pub member_fields : ℕ → List ℕ → Variant → List (List ℕ)
 member_fields dispute identity member =
-    work_fields dispute identity member.initiation ++ price_fields member ++ run_fields member
+    disputed_fields dispute identity member.initiation ++ price_fields member ++ run_fields member
 
 -- its line
 abbrev pub member_row : ℕ → List ℕ → Variant → List ℕ

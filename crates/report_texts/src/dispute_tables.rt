@@ -77,7 +77,7 @@ fn add_step(alloc: Global, row: &mut StringRecord, identity: &[u8]) -> Result<()
 }
 
 /// Adds which work a record measures.
-#[tactic(auto, unfolding(crate::specs::DisputeTables::work_fields))]
+#[tactic(auto, unfolding(crate::specs::DisputeTables::disputed_fields))]
 fn add_work(
     alloc: Global,
     row: &mut StringRecord,
@@ -87,7 +87,7 @@ fn add_work(
 ) -> Result<(), AllocError>
     requires { identity_length ≤ length identity.now }
     ensures { OnOk result (fields_of row.new
-        ≡ fields_of row.old ++ spec.work_fields dispute identity.now initiation.now) }
+        ≡ fields_of row.old ++ spec.disputed_fields dispute identity.now initiation.now) }
 {
     add_number(alloc, row, dispute)?;
     add_job(alloc, row, identity)?;
