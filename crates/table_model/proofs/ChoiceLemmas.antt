@@ -39,8 +39,8 @@ use Rattle.table_model.proofs.ChoiceReading.{choices_count, choices_numbered}
 use Rattle.table_model.proofs.RecordReading.{all_entries}
 use Rattle.table_model.proofs.Rivals.{having}
 use Rattle.table_model.proofs.SetReading.{among-filter}
-use Rattle.table_model.proofs.Texts.{same_is, same_text}
-use Rattle.book_core.proofs.NamedLemmas.{is_some-named, its_name}
+use Rattle.table_model.proofs.Texts.{same_is}
+use Rattle.book_core.proofs.NamedLemmas.{is_some-named, its_name, same_texts}
 
 -- the answer is one if the record with a rival is chosen when it is charged
 same_tests : (lone chosen charged full : Bool) → (lone ≡ false → charged ≡ chosen)
@@ -175,7 +175,7 @@ module _ (naming : Naming) (book : Book) (whole : IsReadable naming book) where
         (members_rise nat_list_cmp_total book.held)) in
         let less = sorted_head by_bytes a (b ∷ rest) rising in
         let own = λ (q : List ℕ) (of_q : both q ≡ true).
-        same_text (identity_by book.rulings q) id
+        same_texts (identity_by book.rulings q) id
         (second_of (has charged q) (having book.rulings book.held id q) of_q) in
         absurd (one_charged a b
         (first_of (has charged a) (having book.rulings book.held id a) of_a)

@@ -17,11 +17,9 @@ use Rattle.book_model.specs.Words.{Rulings, identity_by, set_of, members, has}
 use Rattle.book_model.proofs.RecordSets.{is, first_of}
 use Rattle.book_model.proofs.SetLemmas.{any-members, members_rise}
 use Rattle.book_model.proofs.SetLemmas.{same_ties}
-use Rattle.book_core.proofs.NamedLemmas.{by_name_total, by_name_exact}
+use Rattle.book_core.proofs.NamedLemmas.{by_name_total, by_name_exact, same_texts, second_equal}
 use Rattle.table_model.proofs.ListOrder.{all_joined, all_so, all_texts, rise_together}
-use Rattle.table_model.proofs.ListOrder.{both_equal}
 use Rattle.table_model.proofs.SetReading.{among-filter}
-use Rattle.table_model.proofs.Texts.{same_text}
 
 module _ (naming : Naming) (rulings : Rulings) (held : Records) where
   -- the identity of a record
@@ -41,7 +39,7 @@ module _ (naming : Naming) (rulings : Rulings) (held : Records) where
   pub by_work_exact : fin.IsAntisymmetric by_work
   by_work_exact one other tied =
       by_name_exact naming one other
-      (both_equal (by_bytes (identity one) (identity other)) (by_name naming one other) tied)
+      (second_equal (by_bytes (identity one) (identity other)) (by_name naming one other) tied)
 
   -- so records tie in it only if they are equal
   pub work_ties : (one other : List ℕ) → eq_by_cmp by_work one other ≡ is one other
@@ -63,7 +61,7 @@ module _ (naming : Naming) (rulings : Rulings) (held : Records) where
   pub block_own : (id : List ℕ) → AllByRecursion (λ bytes. identity bytes ≡ id) (block id)
   block_own id =
       all_texts (λ bytes. identity bytes ≡ id) (block id) (λ q among.
-      same_text (identity q) id
+      same_texts (identity q) id
       (first_of (same_bytes (identity q) id) (has held q) (sym (in_block id q) ∙ among)))
 
   -- the records of several identities

@@ -5,10 +5,10 @@ use Rattle.std.specs.Prelude.{if◌then◌else◌}
 use Rattle.std.specs.List.{AllByRecursion}
 use Rattle.std.proofs.lemmas.Cmp.{nat_list_eq_equiv}
 use Rattle.book_model.specs.Words.{Disputed, same_bytes}
+use Rattle.book_core.proofs.NamedLemmas.{same_texts}
 use Rattle.table_model.specs.DisputesRead.{NamedRow, variant_read, dispute_of_one, join_first}
 use Rattle.table_model.specs.DisputesRead.{grouped}
 use Rattle.table_model.specs.DisputesRead.{join_last}
-use Rattle.table_model.proofs.Texts.{same_text}
 
 -- two rows alone, whichever is joined to the other
 two_rows : (first last : NamedRow)
@@ -23,7 +23,7 @@ two_rows first last =
     then record (dispute_of_one first) { members = variant_read first ∷ variant_read last ∷ [] } ∷ []
     else dispute_of_one first ∷ dispute_of_one last ∷ [])) [
       | true ↦ λ same i. record (dispute_of_one last) {
-        identity = sym (same_text first.1.identity last.1.identity same) i;
+        identity = sym (same_texts first.1.identity last.1.identity same) i;
         members = variant_read first ∷ variant_read last ∷ [];
       } ∷ []
       | false ↦ λ differ. refl

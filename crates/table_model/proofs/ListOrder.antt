@@ -50,12 +50,6 @@ rise_together {X} R (x ∷ xs) ys one other below = (
   rise_together R xs ys one.1 other below.1,
 )
 
--- of two answers in turn that give Equal, the second is Equal
-pub both_equal : (r s : Ordering) → ordering_then r s ≡ Equal → s ≡ Equal
-both_equal Less s tied = cc
-both_equal Equal s tied = tied
-both_equal Greater s tied = cc
-
 -- of three in turn that give Less, the first two do, if the third does not decide
 pub first_two : (r s t : Ordering) → ordering_then r (ordering_then s t) ≡ Less
     → (s ≡ Equal → t ≡ Less → ⊥) → ordering_then r s ≡ Less

@@ -23,7 +23,7 @@ use Rattle.book_model.proofs.ListLemmas.{list_any-map}
 use Rattle.book_model.proofs.PermutedSets.{apart_from_distinct, given_permuted}
 use Rattle.book_model.proofs.RecordSets.{first_of, not_true, second_of}
 use Rattle.book_model.proofs.SetLemmas.{members_rise}
-use Rattle.book_core.proofs.NamedLemmas.{by_name_total}
+use Rattle.book_core.proofs.NamedLemmas.{by_name_total, same_texts}
 use Rattle.table_model.specs.Tables.{RecordTable}
 use Rattle.table_model.specs.TablesOf.{status_of, tables_of}
 use Rattle.table_model.specs.Views.{rows_with}
@@ -41,7 +41,6 @@ use Rattle.table_model.proofs.Rivals.{having}
 use Rattle.table_model.proofs.RowsWhere.{AreMembers, rows_where}
 use Rattle.table_model.proofs.RowOrder.{rows_in_order}
 use Rattle.table_model.proofs.SetReading.{one_passes}
-use Rattle.table_model.proofs.Texts.{same_text}
 use Rattle.table_model.proofs.UnderNumbers.{is_less, one_holds, other_holds}
 
 -- ---- what is found first of texts in order
@@ -53,7 +52,7 @@ at_text P [] k all among = absurd (true≢false (sym among))
 at_text P (first ∷ ks) k all among =
     elim (same_bytes k first) as (λ b. same_bytes k first ≡ b
     → (b || list_any (same_bytes k) ks) ≡ true → P k) [
-      | true ↦ λ same there. subst P (sym (same_text k first same)) all.0
+      | true ↦ λ same there. subst P (sym (same_texts k first same)) all.0
       | false ↦ λ differ there. at_text P ks k all.1 there
     ] refl among
 
@@ -86,7 +85,7 @@ find_least p (first ∷ ks) k rises among passes least =
     is_first below own =
         elim (same_bytes k first) as (λ b. same_bytes k first ≡ b
         → (b || list_any (same_bytes k) ks) ≡ true → first ≡ k) [
-          | true ↦ λ same there. sym (same_text k first same)
+          | true ↦ λ same there. sym (same_texts k first same)
           | false ↦ λ differ there. absurd (not_from k first
               (at_text (λ other. by_bytes first other ≡ Less) ks k below there)
               (least first (first_among first ks) own))
@@ -97,7 +96,7 @@ find_least p (first ∷ ks) k rises among passes least =
         elim (same_bytes k first) as (λ b. same_bytes k first ≡ b
         → (b || list_any (same_bytes k) ks) ≡ true → list_any (same_bytes k) ks ≡ true) [
           | true ↦ λ same there.
-              absurd (true≢false (sym passes ∙ ap p (same_text k first same) ∙ fails))
+              absurd (true≢false (sym passes ∙ ap p (same_texts k first same) ∙ fails))
           | false ↦ λ differ there. there
         ] refl among
 
@@ -130,7 +129,7 @@ module _ (id : List ℕ) where
       → AllByRecursion (λ other. by_identity row other ≡ Less)
       (cond b (other ∷ filter has_id rows) (filter has_id rows))) [
         | true ↦ λ same. (
-          (λ i. ordering_then (by_bytes (own i) (same_text other.1.identity id same i))
+          (λ i. ordering_then (by_bytes (own i) (same_texts other.1.identity id same i))
               (by_bytes row.0 other.0))
               ∙ ap (λ o. ordering_then o (by_bytes row.0 other.0))
               (tied_itself nat_list_cmp_total id)
@@ -150,7 +149,7 @@ module _ (id : List ℕ) where
       elim (has_id row) as (λ b. has_id row ≡ b → IsStrictlySortedBy by_identity
       (cond b (row ∷ filter has_id rows) (filter has_id rows))) [
         | true ↦ λ same.
-            (below_with row rows (one_holds _ _ sorted) (same_text row.1.identity id same), rest)
+            (below_with row rows (one_holds _ _ sorted) (same_texts row.1.identity id same), rest)
         | false ↦ λ differ. rest
       ] refl
 
@@ -205,7 +204,7 @@ module _ (naming : Naming) (book : Book) (whole : IsReadable naming book) where
       (list_any (same_bytes id) (map its (members book.held))) parts in
       let one = one_passes (λ q. same_bytes id (its q)) book.held
       (sym (list_any-map (same_bytes id) its (members book.held)) ∙ any) in
-      let same : id ≡ its one.0 = same_text id (its one.0) one.2 in
+      let same : id ≡ its one.0 = same_texts id (its one.0) one.2 in
       let held = held_row naming book whole.sound one.0 one.1 in
       let row : NamedRow = entry_at naming book whole.sound one.0 held.0 in
       let still : unsettled naming book.rulings book.held one.0 ≡ true =
