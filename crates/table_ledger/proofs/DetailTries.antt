@@ -23,7 +23,7 @@ use Rattle.book_model.specs.Words.{next_detail_outcome}
 use Rattle.book_model.specs.declared.detail.Detail.{Detail}
 use Rattle.book_model.specs.declared.fault.LedgerFault.TheVariants.{NoSuchPeriod}
 use Rattle.book_core.specs.OfficeRulings.{ruled_in}
-use Rattle.table_model.specs.CountedRead.{is_day_between}
+use Rattle.book_model.specs.Words.{is_between}
 use Rattle.table_model.specs.DetailsRead.{FindsLeast, IsDetail, detail_shown}
 use Rattle.table_model.specs.ListsRead.{is_period, of_period}
 use Rattle.table_model.specs.Tables.{Tables}
@@ -58,7 +58,7 @@ pub record IsSought (sought : Sought) (detail : Detail) : Type 0 where
 pub is_sought_by : (sought : Sought) (detail : Detail) → seeks sought detail ≡ true
     → IsSought sought detail
 is_sought_by sought detail is =
-    let days = and_parts (is_day_between sought.close sought.through detail.priced.day)
+    let days = and_parts (is_between sought.close sought.through detail.priced.day)
     (is_asked sought.centre detail && comes_after sought.last detail) is in
     let day = and_parts
     (option_map_or (λ close. int_lt close detail.priced.day) sought.close true)

@@ -24,7 +24,7 @@ use Rattle.book_core.specs.Effects.{is_after}
 use Rattle.book_model.specs.Words.{by_bytes, comes_after, is_asked}
 use Rattle.book_model.specs.declared.detail.Detail.{Detail}
 use Rattle.book_model.proofs.RecordSets.{is, is_itself}
-use Rattle.table_model.specs.CountedRead.{is_day_between}
+use Rattle.book_model.specs.Words.{is_between}
 use Rattle.table_model.specs.DetailsRead.{FindsLeast, IsDetail, detail_shown}
 use Rattle.table_model.specs.PostedLaws.{PostsTouched, is_touched}
 use Rattle.table_model.specs.RowChanges.{post_by}
@@ -186,11 +186,11 @@ module _ (last : Option ℤ) (day : ℤ) (passed : Option Detail) where
     pub names : List (List ℕ)
     pub holds : Holds trees (post_each day names tables)
     pub done : (detail : Detail) → IsDetail tables detail
-        → is_day_between last (Some day) detail.priced.day ≡ true
+        → is_between last (Some day) detail.priced.day ≡ true
         → comes_after passed detail ≡ false → list_any (is detail.name) names ≡ true
 
   -- a detail of the period is sought where it comes after the last one
-  sought_where : (detail : Detail) → is_day_between last (Some day) detail.priced.day ≡ true
+  sought_where : (detail : Detail) → is_between last (Some day) detail.priced.day ≡ true
       → seeks (days_after last day passed) detail ≡ comes_after passed detail
   sought_where detail between =
       ap (λ b. b && (is_asked None detail && comes_after passed detail)) between
@@ -206,11 +206,6 @@ module _ (last : Option ℤ) (day : ℤ) (passed : Option Detail) where
       refl))
       so_far.holds
     where
-      after_is : (close : Option ℤ) (its : ℤ)
-          → is_after close its ≡ option_map_or (λ one. int_lt one its) close true
-      after_is None its = refl
-      after_is (Some one) its = refl
-
       -- none that is dated by the day is left
       none_left : (name : List ℕ) (row : RecordRow) → get tables.records name ≡ Some row
           → list_any (is name) so_far.names ≡ false → is_after last row.priced.day ≡ true
@@ -219,8 +214,8 @@ module _ (last : Option ℤ) (day : ℤ) (passed : Option Detail) where
           let detail : Detail = detail_shown (name, row) in
           let there : IsDetail tables detail =
           record { row = row; held = found; counted = counted; shown = refl } in
-          let between : is_day_between last (Some day) row.priced.day ≡ true =
-          (λ i. (sym (after_is last row.priced.day) ∙ late) i && not (early i)) in
+          let between : is_between last (Some day) row.priced.day ≡ true =
+          (λ i. late i && not (early i)) in
           true≢false (sym (so_far.done detail there between
           (sym (sought_where detail between)
           ∙ finds (post_each day so_far.names tables) so_far.holds detail
@@ -280,7 +275,7 @@ module _ (last : Option ℤ) (day : ℤ) (passed now : Option Detail) (names : L
         with_it detail there wanted behind true after =
             elim (after_or_named detail found (finds.least detail there
             (sought_where last day now detail
-            (and_parts (is_day_between last (Some day) detail.priced.day)
+            (and_parts (is_between last (Some day) detail.priced.day)
             (comes_after passed detail) wanted).0 ∙ after))) [
               | inl later ↦ absurd (true≢false (sym later ∙ behind))
               | inr same ↦
@@ -302,7 +297,7 @@ module _ (last : Option ℤ) (day : ℤ) (passed now : Option Detail) (names : L
 
     -- one that does not come after the last of them is one of them, or of those before
     one_among : (detail : Detail) → IsDetail tables detail
-        → is_day_between last (Some day) detail.priced.day ≡ true
+        → is_between last (Some day) detail.priced.day ≡ true
         → comes_after now detail ≡ false → (after : Bool) → comes_after passed detail ≡ after
         → (list_any (is detail.name) before || list_any (is detail.name) names) ≡ true
     one_among detail there between behind false early =

@@ -11,11 +11,11 @@ use Rattle.sqlite_value.specs.Order.{Row}
 use Rattle.tariff_rules.specs.declared.priced.Priced.{Priced}
 use Rattle.book_model.specs.declared.fault.LedgerFault.TheVariants.{Full}
 use Rattle.book_model.specs.declared.row.ChargeRow.{ChargeRow}
-use Rattle.book_model.specs.Words.{FitSums, IsPriced, Rulings, Terms, by_bytes, most_cost}
-use Rattle.book_model.specs.Words.{most_held, rows_if_room}
+use Rattle.book_model.specs.Words.{FitSums, IsPriced, Rulings, Terms, by_bytes, is_between}
+use Rattle.book_model.specs.Words.{most_cost, most_held, rows_if_room}
 use Rattle.book_core.specs.KeyedRows.{keyed_rows}
 use Rattle.table_model.specs.Tables.{Tables}
-use Rattle.table_model.specs.CountedRead.{charged_before_lines, is_day_between, is_row_counted}
+use Rattle.table_model.specs.CountedRead.{charged_before_lines, is_row_counted}
 use Rattle.table_model.specs.CountedRead.{row_costs}
 use Rattle.table_model.specs.DisputesRead.{NamedRow}
 use Rattle.table_model.specs.ListsRead.{is_period}
@@ -31,7 +31,7 @@ use Rattle.table_ledger.specs.declared.other_prices.RowSums.{RowSums}
 -- a test of a record's mark: its day is between the two closes, and it was charged before the lines
 abbrev pub passes_mark : CountTest → RecordMark → Bool
 passes_mark test mark =
-    is_day_between test.last test.through mark.day
+    is_between test.last test.through mark.day
     && charged_before_lines (get by_bytes test.lines mark.name) mark.charged
 
 -- of its row

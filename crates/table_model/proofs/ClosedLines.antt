@@ -16,7 +16,6 @@ use Rattle.table_model.specs.PeriodRows.{by_period, numbered}
 use Rattle.table_model.specs.TablesOf.{line_entries, signed_names}
 use Rattle.table_model.proofs.CloseDays.{is_current, posted_by, ended_by, opened_by, periods_closed}
 use Rattle.table_model.proofs.CloseDays.{not_after_both}
-use Rattle.table_model.proofs.CostLemmas.{dated-after}
 use Rattle.table_model.proofs.LineChanges.{has_added}
 use Rattle.table_model.proofs.NumberedLemmas.{numbered-nothing}
 use Rattle.table_model.proofs.PostedSets.{posted_is}
@@ -36,7 +35,7 @@ module _ (naming : Naming) (book : Book) (sound : IsSound naming book) (day : �
   pub is_late : (q : List ℕ) → is_current book q ≡ false → int_lt day (day_of q) ≡ false
   is_late q late =
       let last = last_close book.rulings in
-      not_after_both last day (day_of q) forward (sym (dated-after last q) ∙ late)
+      not_after_both last day (day_of q) forward late
 
   -- which records are posted
   now_posted : (q : List ℕ) → has (posted_by day book) q

@@ -17,7 +17,6 @@ use Rattle.table_model.specs.RowChanges.{move_on}
 use Rattle.table_model.specs.TablesOf.{day_entries}
 use Rattle.table_model.proofs.CloseDays.{is_current, posted_by, ended_by, opened_by, periods_closed}
 use Rattle.table_model.proofs.CloseDays.{after_both}
-use Rattle.table_model.proofs.CostLemmas.{dated-after}
 use Rattle.table_model.proofs.DayChanges.{days_at}
 use Rattle.table_model.proofs.MoveLemmas.{rows-moved}
 use Rattle.table_model.proofs.OpenChanges.{number_is}
@@ -40,7 +39,7 @@ module _ (naming : Naming) (book : Book) (sound : IsSound naming book) (day : �
   later_current : (bytes : List ℕ) → int_lt day (day_of bytes) ≡ true → is_current book bytes ≡ true
   later_current bytes after =
       let last = last_close book.rulings in
-      dated-after last bytes ∙ after_both last day (day_of bytes) forward after
+      after_both last day (day_of bytes) forward after
 
   -- the rows of the open period that are dated after the day are in the next
   rows_later : (k : RowKey) → int_lt day k.day ≡ true

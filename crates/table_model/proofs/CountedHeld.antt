@@ -21,7 +21,7 @@ use Rattle.table_model.specs.CountedLaws.{NamesFollow}
 use Rattle.table_model.specs.RowChanges.{uncount_where, uncounted_by}
 use Rattle.table_model.specs.Tables.{CountedTable, RecordTable}
 use Rattle.table_model.specs.TablesOf.{counted_by, counted_names, tables_of}
-use Rattle.table_model.proofs.CostLemmas.{dated-after, day-price}
+use Rattle.table_model.proofs.CostLemmas.{day-price}
 use Rattle.table_model.proofs.CountedNames.{counted_among, names}
 use Rattle.table_model.proofs.HeldNames.{own_value}
 use Rattle.table_model.proofs.LineChanges.{given}
@@ -113,8 +113,7 @@ names_follow = record {
       (λ bytes priced there price late.
       current_counted naming book (charged_of book) sound
       (λ q on. in_those (is_undisputed book.rulings book.held) book.held q on) bytes there
-      (dated-after (last_close book.rulings) bytes
-      ∙ ap (is_after (last_close book.rulings)) (sym (day-price book.rulings bytes priced price))
+      (ap (is_after (last_close book.rulings)) (sym (day-price book.rulings bytes priced price))
       ∙ late))
       name row is_there late;
 }

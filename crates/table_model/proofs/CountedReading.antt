@@ -94,12 +94,6 @@ pub last_after : (days : List ℤ) → last_or None days ≡ close_after (length
 last_after [] = refl
 last_after (day ∷ days) = last_or-is day days
 
--- a day is after a close as a record of that day
-pub after_test : (last : Option ℤ) (bytes : List ℕ)
-    → option_map_or (λ close. int_lt close (day_of bytes)) last true ≡ is_dated_after last bytes
-after_test None bytes = refl
-after_test (Some day) bytes = refl
-
 -- the day through which a period was closed is that of the close after as many
 pub through_is : (k : ℕ) (rulings : Rulings) → through_of k rulings ≡ close_after k rulings.closes
 through_is zero rulings = refl
@@ -268,7 +262,6 @@ module _ (naming : Naming) (book : Book) (whole : IsReadable naming book) where
         (λ i. (option_map_or (λ close. int_lt close (day_of bytes)) (last i) true
         && option_map_or (λ close. not (int_lt close (day_of bytes)))
         (through_is (suc k) book.rulings i) true) && charged)
-        ∙ ap (λ b. (b && through) && charged) (after_test (close_after k days) bytes)
         ∙ and_assoc after through charged
         ∙ ap (λ b. after && b) (by_close k (close_after (suc k) days) within refl)
         ∙ sym (in_counted (close_after k days) (sets k) (sets (suc k)) bytes)

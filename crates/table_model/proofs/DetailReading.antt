@@ -40,7 +40,7 @@ use Rattle.table_model.specs.ListLaws.{DetailsFollow}
 use Rattle.table_model.specs.Readable.{IsReadable}
 use Rattle.table_model.proofs.CostLemmas.{day-price}
 use Rattle.table_model.proofs.CountedHeld.{names_follow}
-use Rattle.table_model.proofs.CountedReading.{after_test, in_counted, its_period, period_after}
+use Rattle.table_model.proofs.CountedReading.{in_counted, its_period, period_after}
 use Rattle.table_model.proofs.CountedReading.{sets, sets_past}
 use Rattle.table_model.proofs.LineReading.{held_row}
 use Rattle.table_model.proofs.ListLemmas.{answered}
@@ -67,9 +67,6 @@ pub dated_alike : (naming : Naming) (rulings : Rulings) (number : ℕ) (bytes : 
 dated_alike naming rulings number bytes detail is =
     ap (is_day_of number rulings)
     (its_day naming rulings bytes (price_in rulings bytes) detail refl is)
-    ∙ ap (λ b. b
-    && option_map_or (λ day. is_dated_through day bytes) (through_of number rulings) true)
-    (after_test (through_of (number - 1) rulings) bytes)
 
 -- what is not dated after a close is dated through it
 pub through_close : (close : Option ℤ) (bytes : List ℕ) → is_dated_after close bytes ≡ false

@@ -12,8 +12,7 @@ use Rattle.std.proofs.lemmas.List.Sums.{sum_by-cons}
 use Rattle.tariff_rules.specs.declared.priced.Priced.{Priced}
 use Rattle.book_model.specs.Words.{Book, IsSound, Naming, Terms, is_later, last_close, members}
 use Rattle.book_model.specs.Words.{price_in}
-use Rattle.book_model.proofs.LatestLemmas.{is_later-by}
-use Rattle.book_model.proofs.RecordSets.{second_of}
+use Rattle.book_model.proofs.LatestLemmas.{later-after}
 use Rattle.book_core.specs.Effects.{is_after}
 use Rattle.table_model.specs.Tables.{RecordRow, RecordTable}
 use Rattle.table_model.specs.TablesOf.{status_of, tables_of}
@@ -25,8 +24,7 @@ use Rattle.table_model.proofs.RowsWhere.{AreMembers, first_entry, members_held, 
 
 -- a day that is not before one after the last close is after that close
 day_after : (last : Option ℤ) (first day : ℤ)
-    → option_map_or (λ close. int_lt close first) last true ≡ true
-    → int_lt day first ≡ false → is_after last day ≡ true
+    → is_after last first ≡ true → int_lt day first ≡ false → is_after last day ≡ true
 day_after None first day after late = refl
 day_after (Some close) first day after late = grind (arith, ints, after, late)
 
@@ -39,10 +37,7 @@ pub late_counted : (naming : Naming) (book : Book) (terms : Terms) → IsSound n
 late_counted naming book terms sound later name row there late =
     let last : Option ℤ = last_close book.rulings in
     let first : ℤ = terms.effective in
-    let after : option_map_or (λ close. int_lt close first) last true ≡ true =
-    second_of (list_all (λ tariff. int_lt tariff.terms.effective first) book.rulings.tariffs)
-    (option_map_or (λ close. int_lt close first) last true)
-    (sym (is_later-by first book.rulings) ∙ later) in
+    let after = later-after first book.rulings later in
     names_follow.current naming book name row sound there
     (day_after last first row.priced.day after late)
 

@@ -22,7 +22,6 @@ use Rattle.table_model.specs.PeriodLists.{AreFramed}
 use Rattle.table_model.specs.TableChanges.{reprice, reprice_step, walk}
 use Rattle.table_model.specs.Tables.{RecordRow, RecordTable, Tables}
 use Rattle.table_model.specs.TablesOf.{RecordStatus, status_of, tables_at, tables_of}
-use Rattle.table_model.proofs.CostLemmas.{dated-after}
 use Rattle.table_model.proofs.LateRows.{late_counted}
 use Rattle.table_model.proofs.Restated.{IsStatus, StatusAt, restated, row-found, row_for, status_at}
 use Rattle.table_model.proofs.Restated.{tables-alike}
@@ -153,7 +152,7 @@ module _ (naming : Naming) (book : Book) (sound : IsSound naming book)
                 let late_after : is_dated_after last one ≡ true =
                 late_is_after naming book sound framed text terms done one late in
                 let after : is_after last cost.day ≡ true =
-                ap (is_after last) day ∙ sym (dated-after last one) ∙ late_after in
+                ap (is_after last) day ∙ late_after in
                 let unposted : has book.posted one ≡ false =
                 false_from_ne_true (has book.posted one)
                 (λ on. true≢false (sym late_after ∙ sound.dated one on)) in

@@ -27,7 +27,6 @@ use Rattle.table_model.proofs.RestatedRows.{set_counted, set_line, restate}
 use Rattle.table_model.specs.Tables.{LineTable, RecordRow, RecordTable}
 use Rattle.table_model.specs.TablesOf.{RecordStatus, tables_at, row_by, entry_by, entries_by}
 use Rattle.table_model.specs.TablesOf.{counted_by, days_by, line_entries, periods_by, signed_names}
-use Rattle.table_model.proofs.CostLemmas.{dated-after}
 use Rattle.table_model.proofs.CountedNames.{names, names_restated}
 use Rattle.table_model.proofs.DayChanges.{days_at}
 use Rattle.table_model.proofs.HeldNames.{alone, except-alike, twice_found, value-with}
@@ -194,7 +193,7 @@ module _ (naming : Naming) (book : Book) (sound : IsSound naming book) where
 
       -- it is after the last close by its price if it is by its header
       after : current one ≡ is_after last cost.day
-      after = dated-after last one ∙ ap (is_after last) (sym (status.dated one cost costs))
+      after = ap (is_after last) (sym (status.dated one cost costs))
 
       -- so its charge row counts it
       counts : has (those current standing.charged) one ≡ is_counted last own

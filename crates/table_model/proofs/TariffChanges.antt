@@ -33,7 +33,7 @@ use Rattle.table_model.specs.Tables.{RecordRow, Tables}
 use Rattle.table_model.specs.TablesOf.{RecordStatus, tariff_entries}
 use Rattle.table_model.specs.TablesOf.{tables_of, tables_at}
 use Rattle.book_core.specs.Effects.{is_after}
-use Rattle.table_model.proofs.CostLemmas.{day-price, dated-after}
+use Rattle.table_model.proofs.CostLemmas.{day-price}
 use Rattle.table_model.proofs.Restated.{IsStatus, row_for, status_at}
 use Rattle.table_model.proofs.StatusSteps.{reprice-is, status-is}
 use Rattle.table_model.proofs.TariffPrices.{day_free_of, new_price}
@@ -143,10 +143,9 @@ module _ (naming : Naming) (book : Book) (sound : IsSound naming book)
             inl (stepped ∙ ap (λ costs. reprice period name row costs made) own
             ∙ reprice-is period (last_close book.rulings) name row made found costs
             (unposted one after)
-            (ap (is_after (last_close book.rulings)) day ∙ sym (dated-after (last_close book.rulings) one)
-            ∙ after)
+            (ap (is_after (last_close book.rulings)) day ∙ after)
             (ap (is_after (last_close book.rulings)) (day-price ruled one costs its_now)
-            ∙ sym (dated-after (last_close book.rulings) one) ∙ after))
+            ∙ after))
       ] refl (rw found (λ i. if int_lt (day i) terms.effective then made
       else reprice period name row (price_by terms (sym ((framed one there).is) i)) made))
     where

@@ -12,7 +12,7 @@ use Rattle.book_model.proofs.RecordSets.{in_those}
 use Rattle.table_model.specs.PostedLaws.{PostsFew, is_touched}
 use Rattle.table_model.specs.Tables.{RecordRow, Tables}
 use Rattle.table_model.specs.TablesOf.{record_row, status_of, tables_of}
-use Rattle.table_model.proofs.CostLemmas.{dated-after, day-price}
+use Rattle.table_model.proofs.CostLemmas.{day-price}
 use Rattle.table_model.proofs.CountedHeld.{current_counted}
 use Rattle.table_model.proofs.RecordReading.{every_row}
 use Rattle.table_model.proofs.Restated.{line-found}
@@ -48,8 +48,7 @@ module _ (naming : Naming) (book : Book) (sound : IsSound naming book) (bytes : 
 
   -- it is dated after the last close by its header if it is by its price
   dated : is_dated_after last bytes ≡ is_after last priced.day
-  dated = dated-after last bytes
-      ∙ ap (is_after last) (sym (day-price book.rulings bytes priced price))
+  dated = ap (is_after last) (sym (day-price book.rulings bytes priced price))
 
   -- where it is, it was not posted
   unposted : is_after last priced.day ≡ true → has book.posted bytes ≡ false

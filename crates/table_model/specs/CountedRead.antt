@@ -1,15 +1,15 @@
 -- Which records a period counts, and what it would have cost by another tariff, as they are read
 -- from the tables. What a closed period counted is not stored; it is told from what is charged now
 -- and from the lines of the later periods.
-use Rattle.std.specs.Prelude.{ℕ, zero, suc, ◌-◌, Bool, true, not, ◌&&◌, if◌then◌else◌, List}
-use Rattle.std.specs.Prelude.{map, filter, Option, None, Result, Err, ℤ, int_lt}
+use Rattle.std.specs.Prelude.{ℕ, zero, suc, ◌-◌, Bool, not, ◌&&◌, if◌then◌else◌, List}
+use Rattle.std.specs.Prelude.{map, filter, Option, None, Result, Err}
 use Rattle.std.specs.FinMap.{entries, get}
 use Rattle.std.specs.Option.{option_map_or, option_or}
 use Rattle.book_model.specs.declared.fault.LedgerFault.{LedgerFault}
 use Rattle.book_model.specs.declared.fault.LedgerFault.TheVariants.{NoSuchPeriod}
 use Rattle.book_model.specs.declared.row.ChargeRow.{ChargeRow}
-use Rattle.book_model.specs.RulingAnswers.{through_of}
 use Rattle.book_model.specs.Words.{Rulings, Terms, open_by, price_by, rows_if_room}
+pub use Rattle.book_model.specs.Details.{is_day_of}
 use Rattle.tariff_rules.specs.declared.priced.Priced.{Priced}
 use Rattle.table_model.specs.Tables.{LineTable, RecordRow, Tables}
 use Rattle.table_model.specs.BookIn.{row_record}
@@ -32,17 +32,6 @@ abbrev pub was_charged : ℕ → Rulings → LineTable → List ℕ × RecordRow
 was_charged number rulings lines entry =
     charged_before_lines (first_line lines entry.0 (suc number) (open_by rulings - number))
     entry.1.charged
-
--- the day is after one close, if there was one, and not after another, if there was one
-abbrev pub is_day_between : Option ℤ → Option ℤ → ℤ → Bool
-is_day_between last through day =
-    option_map_or (λ close. int_lt close day) last true
-    && option_map_or (λ close. not (int_lt close day)) through true
-
--- the day is one of the period: after the close before it, and not after its own
-abbrev pub is_day_of : ℕ → Rulings → ℤ → Bool
-is_day_of number rulings =
-    is_day_between (through_of (number - 1) rulings) (through_of number rulings)
 
 -- a period counts the record of a row: it is dated in the period, and was charged at its end
 abbrev pub is_row_counted : ℕ → Rulings → LineTable → List ℕ × RecordRow → Bool
