@@ -1,32 +1,19 @@
 -- Answers that make no event.
-use Rattle.std.proofs.Common.{◌≡◌, ◌≢◌, ◌∙◌, inl, Bool, true, false, Ok, Err, Result, [], None, refl}
+use Rattle.std.proofs.Common.{◌≡◌, ◌≢◌, ◌∙◌, inl, Ok, Err, Result, [], None, refl}
 use Rattle.std.proofs.Common.{sym, ap, subst}
-use Rattle.std.specs.Prelude.{if◌then◌else◌}
 use Rattle.book_model.specs.declared.answer.Ruled.{Ruled}
 use Rattle.book_model.specs.declared.answer.Ruled.TheVariants.{Done, Already}
 use Rattle.book_model.specs.declared.fault.LedgerFault.{LedgerFault}
 use Rattle.book_model.specs.declared.fault.LedgerFault.TheVariants.{Memory, Store, Reopen}
 use Rattle.book_model.specs.Words.{Book, Naming, Outcome}
-use Rattle.book_core.specs.Calls.{Makes, is_reopen, is_store, listed}
+use Rattle.book_core.specs.Calls.{LeavesOpen, Makes, listed}
 use Rattle.table_model.specs.Tables.{Tables}
 use Rattle.table_model.specs.TablesOf.{tables_of}
 use Rattle.tree_tables.specs.States.{State}
-use Rattle.table_ledger.specs.Attempts.{LeavesOpen}
 use Rattle.table_ledger.specs.Commits.{Saw}
 use Rattle.table_ledger.specs.Stages.{AttemptsOne, IsAt}
 use Rattle.table_ledger.specs.declared.summary.Summary.{Summary}
 use Rattle.table_ledger.proofs.TryLemmas.{try_answered}
-
--- an answer that leaves the books open
-pub opens : {V : Type 0} {answer : Result V LedgerFault} → is_store answer ≡ false
-    → is_reopen answer ≡ false → LeavesOpen answer
-opens stored served = record { stored = stored; served = served }
-
--- one of two such answers, by a test
-pub opens_if : {V : Type 0} {one other : Result V LedgerFault} (test : Bool) → LeavesOpen one
-    → LeavesOpen other → LeavesOpen (if test then one else other)
-opens_if true first second = first
-opens_if false first second = second
 
 -- a refusal is answered, and makes no event
 pub makes_refused : {V A : Type 0} (view : V → A) (outcome : Outcome A) (fault : LedgerFault)

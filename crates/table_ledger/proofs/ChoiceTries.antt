@@ -33,14 +33,14 @@ use Rattle.tree_tables.specs.States.{State}
 use Rattle.tree_tables.specs.Steps.{Does, Looks}
 use Rattle.tree_tables.specs.Stored.{stored_entry}
 use Rattle.tree_tables.specs.declared.stored_record.StoredRecord.{StoredRecord}
-use Rattle.table_ledger.specs.Attempts.{LeavesOpen}
+use Rattle.book_core.specs.Calls.{LeavesOpen}
 use Rattle.table_ledger.specs.Commits.{Saw}
 use Rattle.table_ledger.specs.Premises.{IsNext}
 use Rattle.table_ledger.specs.ChoiceReads.{FindsChoiceEffects}
 use Rattle.table_ledger.specs.Stages.{IsAt, LeavesOne, MakesOf, StagesBy}
 use Rattle.table_ledger.specs.declared.summary.Summary.{Summary}
 use Rattle.table_ledger.proofs.AcceptTries.{none_found, saw_as}
-use Rattle.table_ledger.proofs.Answering.{opens, opens_if}
+use Rattle.book_core.proofs.OpenAnswers.{opens, opens_if}
 use Rattle.table_ledger.proofs.Remembered.{Says}
 use Rattle.table_ledger.proofs.StageLemmas.{IsEvent, stage_steps}
 use Rattle.table_ledger.proofs.TryLemmas.{saw_found, saw_so, saw_then}

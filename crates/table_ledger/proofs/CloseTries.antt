@@ -1,13 +1,13 @@
 -- A close that is tried: what it answers, and what it writes.
 use Rattle.std.proofs.Common.{◌≡◌, ◌∙◌, ℕ, suc, ◌+◌, ◌≤◌, List, [], ◌∷◌, length, refl, sym, ap}
-use Rattle.std.proofs.Common.{false, not, Ok, Option, None, Some, arith, cond, is_some, map, subst}
-use Rattle.std.specs.Prelude.{ℤ, ◌==◌}
+use Rattle.std.proofs.Common.{false, Ok, Option, None, Some, arith, cond, is_some, map, subst}
+use Rattle.std.specs.Prelude.{ℤ}
 use Rattle.std.specs.FinMap.{find, get-from_entries}
 use Rattle.std.specs.declared.cmp.Ordering.{Ordering}
 use Rattle.std.proofs.lemmas.List.{length-append, length-map}
 use Rattle.book_model.specs.Words.{IsDay, Book, all_periods, open_number, open_period, PeriodClosed}
-use Rattle.book_model.specs.Words.{last_period, close_outcome, if_done, Naming, by_key, open_by}
-use Rattle.book_model.specs.Words.{close_answer, is_closed, is_early, IsSound, last_close, Rulings}
+use Rattle.book_model.specs.Words.{close_outcome, if_done, Naming, by_key}
+use Rattle.book_model.specs.Words.{close_answer, IsSound, last_close, Rulings}
 use Rattle.book_model.specs.Words.{with_close}
 use Rattle.book_model.specs.declared.answer.Ruled.{Ruled}
 use Rattle.book_model.specs.declared.answer.Ruled.TheVariants.{Done}
@@ -24,24 +24,11 @@ use Rattle.table_model.proofs.NumberedLemmas.{by_period_total, find-under, is_nu
 use Rattle.table_model.proofs.TouchedRecords.{posts_few}
 use Rattle.sqlite_trees.specs.View.{View}
 use Rattle.tree_tables.specs.Days.{NoneNext}
-use Rattle.table_ledger.specs.Attempts.{LeavesOpen}
 use Rattle.table_ledger.specs.Posting.{CanClose}
 use Rattle.table_ledger.specs.Stages.{IsAt}
 use Rattle.table_ledger.specs.declared.summary.Summary.{Summary}
-use Rattle.table_ledger.proofs.Answering.{opens, opens_if}
 use Rattle.table_ledger.proofs.Remembered.{Says}
 use Rattle.table_ledger.proofs.StageLemmas.{IsEvent}
-
--- ---- the answer
-
--- it leaves the books open
-pub close_plain : (rulings : Rulings) (number : ℕ) (day : ℤ)
-    → LeavesOpen (close_answer rulings number day)
-close_plain rulings number day =
-    opens_if (is_closed number day rulings) (opens refl refl)
-    (opens_if (not (number == open_by rulings)) (opens refl refl)
-    (opens_if (is_early day rulings) (opens refl refl)
-    (opens_if (number == last_period) (opens refl refl) (opens refl refl))))
 
 -- ---- what is written
 

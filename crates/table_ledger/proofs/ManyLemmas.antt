@@ -18,7 +18,7 @@ use Rattle.book_core.proofs.TransitionLemmas.{after_all-append}
 use Rattle.table_model.specs.Tables.{Tables}
 use Rattle.tree_tables.specs.States.{State, HasCleanDisk, Survives}
 use Rattle.tree_tables.proofs.Looking.{only_both}
-use Rattle.table_ledger.specs.Attempts.{LeavesOpen}
+use Rattle.book_core.specs.Calls.{LeavesOpen}
 use Rattle.table_ledger.specs.Stages.{AnswersFirst, IsAtAs, IsStaged, LeavesFirst, LeavesOne}
 use Rattle.table_ledger.specs.Stages.{MakesOf, RefusesNext, StagesAs, StagesFirst, StagesMany}
 use Rattle.table_ledger.specs.declared.summary.Summary.{Summary}

@@ -16,7 +16,7 @@ use Rattle.tree_tables.specs.Holds.{Holds}
 use Rattle.tree_tables.specs.States.{State, HasCleanDisk, Survives}
 use Rattle.tree_tables.specs.Steps.{Does, KeepsLastCommit}
 use Rattle.tree_tables.proofs.Looking.{does_err, kept_last, only_both}
-use Rattle.table_ledger.specs.Attempts.{LeavesOpen}
+use Rattle.book_core.specs.Calls.{LeavesOpen}
 use Rattle.table_ledger.specs.Commits.{Saw}
 use Rattle.table_ledger.specs.Ready.{IsStoredAs, Remembers}
 use Rattle.table_ledger.specs.Stages.{IsAtAs, LeavesOne, MakesOf, StagesAs, StagesBy}

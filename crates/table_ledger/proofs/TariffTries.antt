@@ -24,11 +24,9 @@ use Rattle.table_model.specs.TablesOf.{tables_of}
 use Rattle.table_model.proofs.LateRows.{amount_is_read, late_counted}
 use Rattle.table_model.proofs.RulingLemmas.{terms_follow}
 use Rattle.table_model.specs.Readable.{IsReadable}
-use Rattle.table_ledger.specs.Attempts.{LeavesOpen}
 use Rattle.table_ledger.specs.Repricing.{CanBeSummed, CostUnder, CountsRecords, TakesTariff}
 use Rattle.table_ledger.specs.Stages.{IsAt}
 use Rattle.table_ledger.specs.declared.summary.Summary.{Summary}
-use Rattle.table_ledger.proofs.Answering.{opens, opens_if}
 use Rattle.table_ledger.proofs.Remembered.{Says}
 use Rattle.table_ledger.proofs.Repriced.{no_room, room}
 use Rattle.table_ledger.proofs.StageLemmas.{IsEvent}
@@ -48,12 +46,6 @@ module _ (summary : Summary) (text : List ℕ) (terms : Terms) where
 
   abbrev later : Bool
   later = is_later terms.effective ruled
-
-  -- an answer without a look at the records leaves the books open
-  pub tariff_plain : LeavesOpen (terms_ruled ruled false text terms)
-  tariff_plain =
-      opens_if told (opens refl refl) (opens_if there (opens refl refl)
-      (opens_if (not later) (opens refl refl) (opens refl refl)))
 
   module _ (said : terms_in text ≡ Ok terms) (naming : Naming) (view : View) (book : Book)
       (ready : IsAt naming summary view book) where

@@ -15,7 +15,7 @@ use Rattle.tree_rows.proofs.Calls.{kept_after_look, unchanged_both}
 use Rattle.tree_tables.proofs.Looking.{kept_last}
 use Rattle.table_ledger.specs.Commits.{Saw}
 use Rattle.table_ledger.specs.Ready.{IsReadyAt, IsStoredIn, Remembers}
-use Rattle.table_ledger.specs.Attempts.{LeavesOpen}
+use Rattle.book_core.specs.Calls.{LeavesOpen}
 use Rattle.table_ledger.specs.Stages.{AttemptsBy, AttemptsOne, IsAt, MayKeepBy}
 use Rattle.table_ledger.specs.declared.summary.Summary.{Summary}
 use Rattle.table_ledger.proofs.UnchangedStores.{holds_on, rest_on}

@@ -6,18 +6,12 @@ use Rattle.book_model.specs.declared.fault.LedgerFault.{LedgerFault}
 use Rattle.book_model.specs.declared.fault.LedgerFault.TheVariants.{Full, Memory, NoSuchPeriod}
 use Rattle.book_model.specs.declared.fault.LedgerFault.TheVariants.{NoSuchRecord, Store}
 use Rattle.book_model.specs.Words.{Book, Naming}
-use Rattle.book_core.specs.Calls.{is_store, is_reopen}
 use Rattle.sqlite_trees.specs.declared.store.Store.{Ghosts}
 use Rattle.tree_tables.specs.States.{State, HasCleanDisk, Survives, state}
 use Rattle.tree_tables.specs.Steps.{IsCaused, KeepsLastCommit}
 use Rattle.table_ledger.specs.Commits.{IsAtRest}
 use Rattle.table_ledger.specs.Ready.{IsReadyAt, Remembers}
 use Rattle.table_ledger.specs.declared.summary.Summary.{Summary}
-
--- an answer that leaves the books open
-pub record LeavesOpen {V : Type 0} (answer : Result V LedgerFault) : Type 0 where
-  pub stored : is_store answer ≡ false
-  pub served : is_reopen answer ≡ false
 
 -- the store refused: its last commit stays, and the ledger remembers the same book
 pub record IsRefused (summary : Summary) (old new : View) (book : Book) : Type 0 where

@@ -8,7 +8,7 @@ use Rattle.book_model.specs.declared.answer.Accepted.{Accepted}
 use Rattle.book_model.specs.declared.fault.LedgerFault.{LedgerFault}
 use Rattle.tariff_rules.specs.declared.priced.Priced.{Priced}
 use Rattle.book_model.specs.Words.{Book, Event, after_all, accept_outcome, Outcome, Naming, Rulings}
-use Rattle.book_core.specs.Calls.{Calls, Makes, is_store, is_reopen, listed}
+use Rattle.book_core.specs.Calls.{Calls, LeavesOpen, Makes, is_store, is_reopen, listed}
 use Rattle.book_core.specs.OfficeRulings.{ruled_in}
 use Rattle.book_core.specs.Submissions.{Accepts, Takes, first_of}
 use Rattle.table_model.specs.Changed.{kept_at}
@@ -18,7 +18,7 @@ use Rattle.tree_tables.specs.States.{State, HasCleanDisk, Survives}
 use Rattle.tree_tables.specs.Steps.{KeepsLastCommit}
 use Rattle.table_ledger.specs.Ready.{IsReadyAt, IsStoredAs, IsStoredIn, Remembers}
 use Rattle.table_ledger.specs.LedgerState.{LedgerState}
-use Rattle.table_ledger.specs.Attempts.{IsRefused, LeavesOpen}
+use Rattle.table_ledger.specs.Attempts.{IsRefused}
 use Rattle.table_ledger.specs.declared.summary.Summary.{Summary}
 
 -- ---- inside a transaction

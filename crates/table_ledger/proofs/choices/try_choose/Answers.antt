@@ -3,7 +3,8 @@ use Rattle.std.specs.Prelude.{nat_le, ◌==◌}
 use Rattle.book_model.specs.Words.{if_done, most_choices, record_named}
 use Rattle.book_core.proofs.RulingLemmas.{meant_by}
 use Rattle.table_ledger.proofs.AcceptTries.{saw_as}
-use Rattle.table_ledger.proofs.Answering.{opens, ruled_other}
+use Rattle.book_core.proofs.OpenAnswers.{opens}
+use Rattle.table_ledger.proofs.Answering.{ruled_other}
 use Rattle.table_ledger.proofs.ChoiceTries.{choice_plain, choose_none, choose_staged, choose_told}
 use Rattle.table_ledger.proofs.ChoiceTries.{saw_shared}
 use Rattle.table_ledger.proofs.CommitLemmas.{committed, uncommitted}

@@ -1,8 +1,9 @@
 use Rattle.std.proofs.Common.{◌∙◌, Some, refl, sym, ap}
 use Rattle.book_model.specs.Words.{PeriodClosed, close_answer, if_done, with_close}
 use Rattle.book_core.specs.OfficeRulings.{ruled_in}
+use Rattle.book_core.proofs.OpenAnswers.{close_open}
 use Rattle.table_ledger.proofs.Answering.{ruled_other}
-use Rattle.table_ledger.proofs.CloseTries.{close_is_event, close_plain}
+use Rattle.table_ledger.proofs.CloseTries.{close_is_event}
 use Rattle.table_ledger.proofs.CommitLemmas.{committed, uncommitted}
 use Rattle.table_ledger.proofs.Remembered.{remembers_same}
 use Rattle.table_ledger.proofs.StageLemmas.{stage_steps}
@@ -16,7 +17,7 @@ returns-then-not-is_done g c = record {
       λ naming.
       let close = c.args.close.now in
       ruled_other _ (rw (day_kept close.through c.requires.day) at c.close_answer-answer.ensures)
-      (close_plain (ruled_in c.args.summary.now.rulings) close.period close.through)
+      (close_open (ruled_in c.args.summary.now.rulings) close.period close.through)
       (c.is_done.ensures.other c.if-not-is_done.true) saw_none
       (λ book at known.
       ap (λ rulings. close_answer rulings close.period close.through) (sym at.remembers.rulings))

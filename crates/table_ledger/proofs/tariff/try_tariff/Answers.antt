@@ -1,9 +1,11 @@
-use Rattle.std.proofs.Common.{◌≢◌, ◌∙◌, Ok, ap}
+use Rattle.std.proofs.Common.{◌≢◌, ◌∙◌, Ok, ap, false}
 use Rattle.book_model.specs.Words.{if_done, terms_in}
 use Rattle.book_model.specs.declared.answer.Ruled.TheVariants.{Done}
+use Rattle.book_core.proofs.OpenAnswers.{terms_open}
 use Rattle.book_core.proofs.RulingLemmas.{said_by}
+use Rattle.book_core.specs.OfficeRulings.{ruled_in}
 use Rattle.table_ledger.proofs.Answering.{ruled_other}
-use Rattle.table_ledger.proofs.TariffTries.{tariff_other, tariff_plain}
+use Rattle.table_ledger.proofs.TariffTries.{tariff_other}
 use Rattle.table_ledger.proofs.TryLemmas.{saw_none}
 use Rattle.table_ledger.proofs.tariff.try_tariff.Goals as goal
 
@@ -18,7 +20,7 @@ returns-then-not-is_done g c = record {
       let is = c.tariff_answer-answer.ensures in
       let other : c.tariff_answer-answer.result ≢ Ok Done =
       c.is_done.ensures.other c.if-not-is_done.true in
-      ruled_other _ is (tariff_plain summary text terms) other saw_none
+      ruled_other _ is (terms_open (ruled_in summary.rulings) false text terms) other saw_none
       (λ book at known.
       tariff_other summary text terms said naming _ book at (λ done. other (is ∙ done)))
       (λ book already. ap (if_done (said_by text (terms_in text))) already);

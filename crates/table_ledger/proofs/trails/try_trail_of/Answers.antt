@@ -9,7 +9,8 @@ use Rattle.tree_tables.specs.Stored.{stored_entry}
 use Rattle.tree_tables.specs.UsageData.{IsUsageData}
 use Rattle.table_ledger.specs.TrailReads.{IsKin}
 use Rattle.table_ledger.proofs.AcceptTries.{saw_as}
-use Rattle.table_ledger.proofs.Answering.{makes_answer, makes_refused, opens}
+use Rattle.book_core.proofs.OpenAnswers.{opens}
+use Rattle.table_ledger.proofs.Answering.{makes_answer, makes_refused}
 use Rattle.table_ledger.proofs.BookLists.{own_records}
 use Rattle.table_ledger.proofs.DisputeTries.{own_memory}
 use Rattle.table_ledger.proofs.LineReadings.{found_there}
