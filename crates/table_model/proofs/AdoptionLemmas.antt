@@ -6,7 +6,7 @@ use Rattle.table_model.specs.Tables.{never_adopted}
 use Rattle.table_model.specs.AnswerLaws.{AdoptionsFollow}
 use Rattle.table_model.specs.BookIn.{row_record}
 use Rattle.table_model.proofs.FitsLemmas.{numbers_fit}
-use Rattle.table_model.proofs.IdentityLengths.{identity2-long}
+use Rattle.smf_type30.proofs.IdentityLength.{identity2-long}
 use Rattle.table_model.proofs.RulingsReading.{adopted_back}
 
 -- the rule in force, by the period of its adoption
