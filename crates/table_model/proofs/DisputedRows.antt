@@ -12,7 +12,7 @@ use Rattle.std.specs.declared.cmp.Ordering.TheVariants.{Less, Equal}
 use Rattle.std.proofs.lemmas.Cmp.{nat_list_cmp_total, nat_list_eq_equiv}
 use Rattle.std.proofs.lemmas.List.Sorted.{IsPermutation-sym, IsPermutation-trans}
 use Rattle.std.proofs.lemmas.Map.Lookups.{exact_bytes}
-use Rattle.book_model.specs.Words.{job_id_of, program_of, completion_of, initiation_of}
+use Rattle.book_model.specs.Words.{variant_with}
 use Rattle.book_model.specs.Words.{Book, charged_of}
 use Rattle.book_model.specs.Words.{variant_of, Naming, name_of, by_bytes, identity_by}
 use Rattle.book_model.specs.Words.{set_of, members, has, IsSound, Records, is_undisputed}
@@ -191,14 +191,7 @@ module _ (naming : Naming) (book : Book) (sound : IsSound naming book) where
       let first = first_entry naming book sound (status_of book) sound.priced k ks held in
       let same = sym (framed k (first_held book.held k ks held)).is in
       let rest = all_shown framed ks (others_held book.held k ks held) in
-      let variant : List ℕ → Priced → Variant = λ bytes priced. record {
-        name = name_of naming k;
-        priced = priced;
-        job_id = job_id_of bytes;
-        program = program_of bytes;
-        completion = completion_of bytes;
-        initiation = initiation_of bytes;
-      } in
+      let variant : List ℕ → Priced → Variant = variant_with (name_of naming k) in
       ap (map variant_read) first.2
       ∙ (λ i. variant (same i) first.0 ∷ rest i)
       ∙ ap (λ price. cons_option (option_map (variant k) price)

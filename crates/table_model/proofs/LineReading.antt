@@ -8,7 +8,7 @@ use Rattle.std.specs.Ordering.{eq_by_cmp, int_cmp}
 use Rattle.std.proofs.lemmas.Cmp.{nat_list_cmp_total}
 use Rattle.std.proofs.lemmas.List.Elements.{filter_map-append}
 use Rattle.std.proofs.lemmas.Map.Lookups.{exact_bytes}
-use Rattle.book_model.specs.Words.{record_with, job_of, Book, all_periods, charged_of, lines_for}
+use Rattle.book_model.specs.Words.{record_with, line_with, Book, all_periods, charged_of, lines_for}
 use Rattle.book_model.specs.Words.{by_line, plus_first, Period, Records, Naming, name_of, by_bytes}
 use Rattle.book_model.specs.Words.{price_in, set_of, members, has, IsSound, AreHeld, AreAmong}
 use Rattle.book_model.specs.Words.{identity_by}
@@ -32,12 +32,9 @@ use Rattle.table_model.proofs.TableParts.{what_is}
 
 -- a line as it is read, by the row of its record
 abbrev line_from : List ℕ × Bool → Option RecordRow → Option Line
-line_from entry found = option_map {T = RecordRow} {U = Line} (λ row. record {
-  plus = entry.1;
-  name = entry.0;
-  job = job_of (record_with row.data_bytes);
-  priced = row.priced;
-}) found
+line_from entry found =
+    option_map {T = RecordRow} {U = Line}
+    (λ row. line_with entry.1 entry.0 (record_with row.data_bytes) row.priced) found
 
 -- the same, from the records
 abbrev read_from : RecordTable → List ℕ × Bool → Option Line
@@ -84,20 +81,11 @@ module _ (naming : Naming) (book : Book) (sound : IsSound naming book)
   -- the line of a record that is held is read back
   one_line : (plus : Bool) (bytes : List ℕ) → has book.held bytes ≡ true
       → read_from records (name_of naming bytes, plus)
-      ≡ option_map {T = Priced} {U = Line} (λ priced. record {
-        plus = plus;
-        name = name_of naming bytes;
-        job = job_of bytes;
-        priced = priced;
-      }) (price_in book.rulings bytes)
+      ≡ option_map {T = Priced} {U = Line} (line_with plus (name_of naming bytes) bytes)
+      (price_in book.rulings bytes)
   one_line plus bytes there =
       let row = held_row naming book sound bytes there in
-      let line : List ℕ → Priced → Line = λ its priced. record {
-        plus = plus;
-        name = name_of naming bytes;
-        job = job_of its;
-        priced = priced;
-      } in
+      let line : List ℕ → Priced → Line = line_with plus (name_of naming bytes) in
       ap (line_from (name_of naming bytes, plus)) row.2
       ∙ ap (λ its. Some (line its row.0)) (sym (framed bytes there).is)
       ∙ ap (option_map {T = Priced} {U = Line} (line bytes)) (sym row.1)

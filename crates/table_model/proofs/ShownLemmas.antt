@@ -13,7 +13,7 @@ use Rattle.std.proofs.lemmas.List.Folds.{fold-map}
 use Rattle.std.proofs.lemmas.List.Sums.{sum_by-cons, sum_by-append}
 use Rattle.book_model.specs.Words.{IsDay, Book, most_cost, AreLines, lines_for, lines_of, Records}
 use Rattle.book_model.specs.Words.{Naming, name_of, FitSums, AreRows, AreAmong, price_in}
-use Rattle.book_model.specs.Words.{set_of, members, job_of}
+use Rattle.book_model.specs.Words.{set_of, members, line_with}
 use Rattle.tariff_rules.specs.declared.priced.Priced.{Priced}
 use Rattle.book_model.specs.declared.line.Line.{Line}
 use Rattle.book_model.proofs.FilterMapLemmas.{map-filter_map}
@@ -115,8 +115,7 @@ module _ (naming : Naming) (book : Book) (whole : IsReadable naming book) where
       ∙ (λ i. filter_map (λ bytes. back bytes (price_in book.rulings bytes) i) (members some))
     where
       line : List ℕ → Priced → Line
-      line bytes priced =
-          record { plus = plus; name = name_of naming bytes; job = job_of bytes; priced = priced }
+      line bytes = line_with plus (name_of naming bytes) bytes
 
       back : (bytes : List ℕ) (price : Option Priced)
           → option_map (λ (line : Line). line.priced) (option_map {U = Line} (line bytes) price)

@@ -5,8 +5,8 @@ use Rattle.std.specs.FinMap.{entries, get}
 use Rattle.std.specs.List.{list_any}
 use Rattle.std.specs.Ordering.{ordering_then}
 use Rattle.std.specs.declared.cmp.Ordering.{Ordering}
-use Rattle.book_model.specs.Words.{record_with, job_id_of, program_of, completion_of, Disputed}
-use Rattle.book_model.specs.Words.{by_bytes, initiation_of, is_from, same_bytes, set_of, members}
+use Rattle.book_model.specs.Words.{record_with, Disputed, variant_with}
+use Rattle.book_model.specs.Words.{by_bytes, is_from, same_bytes, set_of, members}
 use Rattle.book_model.specs.declared.dispute.Variant.{Variant}
 use Rattle.table_model.specs.Tables.{RecordRow, RecordTable, Tables}
 use Rattle.table_model.specs.Views.{rows_with}
@@ -22,14 +22,7 @@ by_identity one other =
 
 -- a row as the list of disputes shows it
 abbrev pub variant_read : NamedRow → Variant
-variant_read row = record {
-  name = row.0;
-  priced = row.1.priced;
-  job_id = job_id_of (record_with row.1.data_bytes);
-  program = program_of (record_with row.1.data_bytes);
-  completion = completion_of (record_with row.1.data_bytes);
-  initiation = initiation_of (record_with row.1.data_bytes);
-}
+variant_read row = variant_with row.0 (record_with row.1.data_bytes) row.1.priced
 
 -- a dispute of one row
 abbrev pub dispute_of_one : NamedRow → Disputed

@@ -3,7 +3,7 @@ use Rattle.std.specs.Prelude.{◌≡◌, ℕ, true, false, Bool, List, map, All,
 use Rattle.std.specs.FinMap.{get}
 use Rattle.std.specs.List.{filter_map}
 use Rattle.std.specs.Option.{option_map}
-use Rattle.book_model.specs.Words.{record_with, IsFramed, job_of, Book, by_line, Period, Records}
+use Rattle.book_model.specs.Words.{record_with, IsFramed, Book, by_line, line_with, Period, Records}
 use Rattle.book_model.specs.Words.{set_of, members, has, IsUsageRecord}
 use Rattle.book_model.specs.declared.line.Line.{Line}
 use Rattle.book_model.specs.declared.row.ChargeRow.{ChargeRow}
@@ -16,12 +16,9 @@ rows_read number days = map (λ row. row.1) (rows_under number days)
 
 -- a line, with what the row of its record says
 abbrev pub line_read : RecordTable → (ℕ × List ℕ) × Bool → Option Line
-line_read records row = option_map (λ found. record {
-  plus = row.1;
-  name = row.0.1;
-  job = job_of (record_with found.data_bytes);
-  priced = found.priced;
-}) (get records row.0.1)
+line_read records row =
+    option_map (λ found. line_with row.1 row.0.1 (record_with found.data_bytes) found.priced)
+    (get records row.0.1)
 
 -- the adjustment lines of a period, by day, then name
 abbrev pub lines_read : ℕ → Tables → List Line
