@@ -21,7 +21,8 @@ use Rattle.tree_rows.proofs.IndexOrders.{second_equal}
 use Rattle.tree_rows.proofs.Maps.{not_none}
 use Rattle.tree_rows.proofs.Remaining.{is_less}
 use Rattle.tree_rows.proofs.Taking.{some_is}
-use Rattle.tree_tables.specs.Answers.{FindsRecord, by_identity, is_uncharged}
+use Rattle.table_model.specs.DisputesRead.{by_identity}
+use Rattle.tree_tables.specs.Answers.{FindsRecord, is_uncharged}
 use Rattle.tree_tables.specs.Details.{FindsDetail, is_reached}
 use Rattle.tree_tables.specs.Fits.{EachFits, IsNamed}
 use Rattle.tree_tables.specs.LateRecords.{FindsCounted, FindsLate, FindsUnchargedLeft}

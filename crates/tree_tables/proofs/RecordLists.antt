@@ -28,7 +28,8 @@ use Rattle.tree_tables.proofs.FoundNames.{Entry, at_name, entries_named, keys_na
 use Rattle.tree_tables.proofs.FoundNames.{named_fit, named_found, names_of, names_read, some_had}
 use Rattle.tree_tables.proofs.Layouts.{mark_layout}
 use Rattle.tree_tables.proofs.RecordIndexes.{mark_named}
-use Rattle.tree_tables.specs.Answers.{FindsNamed, ListsUncharged, by_identity}
+use Rattle.table_model.specs.DisputesRead.{by_identity}
+use Rattle.tree_tables.specs.Answers.{FindsNamed, ListsUncharged}
 use Rattle.tree_tables.specs.Answers.{is_uncharged}
 use Rattle.tree_tables.specs.Columns.{flag, identity_columns, mark_columns}
 use Rattle.tree_tables.specs.Fits.{AllNamed, EndsInName, RecordsFit}

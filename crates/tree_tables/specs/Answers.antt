@@ -6,11 +6,10 @@ use Rattle.std.specs.Global.{Global}
 use Rattle.std.specs.List.{AllZip, last_or, list_any}
 use Rattle.std.specs.List.Sorted.{IsPermutation, IsStrictlySortedBy}
 use Rattle.std.specs.Option.{option_map}
-use Rattle.std.specs.Ordering.{ordering_then}
-use Rattle.std.specs.declared.cmp.Ordering.{Ordering}
-use Rattle.book_model.specs.Words.{by_bytes, is_from, same_bytes}
+use Rattle.book_model.specs.Words.{is_from, same_bytes}
 use Rattle.book_model.specs.declared.row.ChargeRow.{ChargeRow}
 use Rattle.book_model.specs.declared.row.RowKey.{RowKey}
+use Rattle.table_model.specs.DisputesRead.{by_identity}
 use Rattle.table_model.specs.PeriodRows.{rows_under}
 use Rattle.table_model.specs.PeriodLists.{rows_read}
 use Rattle.table_model.specs.Tables.{ChoiceRow, ChoiceTable, RecordRow, RecordTable, Tables}
@@ -63,11 +62,6 @@ ListsSharing identity tables list = map stored_entry list ≡ rows_with identity
 abbrev pub FindsNext : Option (List ℕ) → Tables → Option StoredRecord → Type 0
 FindsNext last tables found =
     option_map stored_entry found ≡ slice_get (above last tables.records) 0
-
--- by identity, then name
-abbrev pub by_identity : List ℕ × RecordRow → List ℕ × RecordRow → Ordering
-by_identity one other =
-    ordering_then (by_bytes one.1.identity other.1.identity) (by_bytes one.0 other.0)
 
 -- a record that is not charged
 abbrev pub is_uncharged : List ℕ × RecordRow → Bool

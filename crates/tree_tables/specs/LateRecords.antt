@@ -9,8 +9,9 @@ use Rattle.sqlite_value.specs.Order.{Row, column}
 use Rattle.sqlite_value.specs.declared.value.Value.TheVariants.{Blob, Int}
 use Rattle.book_model.specs.Words.{by_detail, same_bytes}
 use Rattle.table_model.specs.DetailsRead.{detail_shown}
+use Rattle.table_model.specs.DisputesRead.{by_identity}
 use Rattle.table_model.specs.Tables.{RecordRow, Tables}
-use Rattle.tree_tables.specs.Answers.{by_identity, is_uncharged}
+use Rattle.tree_tables.specs.Answers.{is_uncharged}
 use Rattle.tree_tables.specs.Columns.{flag}
 use Rattle.tree_tables.specs.Details.{DetailsFit, is_reached}
 use Rattle.tree_tables.specs.Fits.{EachFits}
