@@ -24,8 +24,11 @@ pub enum PeriodReport {
 pub enum Report {
     /// What a period has: of one centre, or where none is named of the whole office.
     OfPeriod {
+        /// Which of them.
         report: PeriodReport,
+        /// The number of the period.
         period: u16,
+        /// The centre, `None` for the whole office.
         centre: Option<Name>,
     },
     /// The disputes.
@@ -42,8 +45,11 @@ pub enum Report {
     Record([u8; 32]),
     /// The bill of a period: of one centre, or where none is named what each centre owes.
     Bill {
+        /// As a text or as a table.
         form: StatementForm,
+        /// The number of the period.
         period: u16,
+        /// The centre, `None` for the whole office.
         centre: Option<Name>,
     },
     /// The page of the office, for a browser: what each period comes to, the open one first.

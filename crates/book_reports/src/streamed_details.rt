@@ -38,8 +38,10 @@ pub struct DetailReport {
 #[derive(Clone, Copy)]
 pub(crate) struct Sums {
     count: u64,
+    /// CPU time, in hundredths of a second.
     cpu: u64,
     blocks: u64,
+    /// What they cost, in ten-thousandths of the money unit.
     pub(crate) amount: u64,
 }
 
