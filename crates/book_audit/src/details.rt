@@ -50,25 +50,25 @@ fn place_of(shown: &Detail) -> DetailKey
 pub(crate) fn check_has_detail<S: Store>(
     trees: &mut Trees<S>,
     bytes: &mut Vec<u8>,
-    record: &StoredRecord,
+    stored: &StoredRecord,
 ) -> Result<(), Stop>
     ensures shown { Tells result trees.old trees.new (λ all _.
-        HasKey (detail_key (spot_of (detail_shown (stored_entry record.now)))) (all 10)) }
+        HasKey (detail_key (spot_of (detail_shown (stored_entry stored.now)))) (all 10)) }
     ensures own { IsFair result trees.old trees.new (λ all.
-        IsCountedIn all (stored_entry record.now)) }
+        IsCountedIn all (stored_entry stored.now)) }
     ensures same { OnOk result (OnlyLooks S.Store trees.old.store trees.new.store) }
     ensures quiet { CommitsNothing S.Store trees.old.store trees.new.store }
 {
-    put_data(bytes, &record.data_bytes).map_err(|error| met(Tree::Records, error))?;
+    put_data(bytes, &stored.data_bytes).map_err(|error| met(Tree::Records, error))?;
     let usage = usage_in(bytes).map_err(|error| met(Tree::Records, error))?;
-    let shown = detail_with(&record.name, &usage, record.priced);
+    let shown = detail_with(&stored.name, &usage, stored.priced);
     let found = trees
         .has_detail(&place_of(&shown))
         .map_err(|error| met(Tree::Details, error))?;
     if found {
         Ok(())
     } else {
-        Err(unsound(Place::Record(record.name), Wrong::NoDetail))
+        Err(unsound(Place::Record(stored.name), Wrong::NoDetail))
     }
 }
 
@@ -88,31 +88,31 @@ fn shows_usage(shown: &Detail, usage: &Type30<'_>) -> bool
 }
 
 /// Whether a row shows a record, which has its name.
-fn shows(shown: &Detail, record: &StoredRecord, usage: &Type30<'_>) -> bool
+fn shows(shown: &Detail, stored: &StoredRecord, usage: &Type30<'_>) -> bool
     ensures same { IsTrue result
-        → shown.now ≡ model.detail_with shown.now.name usage.now record.now.priced }
+        → shown.now ≡ model.detail_with shown.now.name usage.now stored.now.priced }
     ensures other { result ≡ false
-        → shown.now ≢ model.detail_with shown.now.name usage.now record.now.priced }
+        → shown.now ≢ model.detail_with shown.now.name usage.now stored.now.priced }
 {
-    shown.priced == record.priced && shows_usage(shown, usage)
+    shown.priced == stored.priced && shows_usage(shown, usage)
 }
 
 /// Whether the row of its period counts a record.
 fn is_counted<S: Store>(
     trees: &mut Trees<S>,
     rulings: &Rulings,
-    record: &StoredRecord,
+    stored: &StoredRecord,
 ) -> Result<bool, Stop>
     ensures counted { Tells result trees.old trees.new (λ all counted.
-        counted ≡ true → IsCounted (all 5) rulings.now.closes.items (stored_entry record.now)) }
+        counted ≡ true → IsCounted (all 5) rulings.now.closes.items (stored_entry stored.now)) }
     ensures own { IfErr result (IsOwnStop S.Store trees.old.store trees.new.store) }
     ensures other { Tells result trees.old trees.new (λ all counted.
-        counted ≡ false → AreOwnOf all rulings.now (stored_entry record.now)
-        → ¬ IsCountedIn all (stored_entry record.now)) }
+        counted ≡ false → AreOwnOf all rulings.now (stored_entry stored.now)
+        → ¬ IsCountedIn all (stored_entry stored.now)) }
     ensures same { OnOk result (OnlyLooks S.Store trees.old.store trees.new.store) }
     ensures quiet { CommitsNothing S.Store trees.old.store trees.new.store }
 {
-    match past_in(trees, rulings, record)? {
+    match past_in(trees, rulings, stored)? {
         Some(counted) => Ok(counted),
         None => Ok(false),
     }

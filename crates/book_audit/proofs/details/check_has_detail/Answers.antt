@@ -24,7 +24,7 @@ pub returns-in_err-map_err-clause-own : goal.returns-in_err-map_err-clause-own
 returns-in_err-map_err-clause-own g c =
     let start = c.args.trees.now.store in
     let trees : Trees = (g.S.Store.view start).trees in
-    let entry : List ℕ × RecordRow = stored_entry c.args.record.now in
+    let entry : List ℕ × RecordRow = stored_entry c.args.stored.now in
     let stop = c.in_err-map_err.field-0.0 in
     let refused : is_ok c.put_data.result ≡ false =
     sym c.map_err.ensures.variant ∙ ap is_ok c.in_err-map_err.was in
@@ -40,11 +40,11 @@ pub returns-in_err-usage-clause-own : goal.returns-in_err-usage-clause-own
 returns-in_err-usage-clause-own g c =
     let start = c.args.trees.now.store in
     let trees : Trees = (g.S.Store.view start).trees in
-    let entry : List ℕ × RecordRow = stored_entry c.args.record.now in
+    let entry : List ℕ × RecordRow = stored_entry c.args.stored.now in
     let refused : is_ok c.usage_in.result ≡ false =
     sym c.map_err-2.ensures.variant ∙ ap is_ok c.in_err-usage.was in
     never_with g.S.Store start _ _ (λ known clean own.
-    let bytes : c.deref-2.result.now ≡ record_with c.args.record.now.data_bytes.items = search rules in
+    let bytes : c.deref-2.result.now ≡ record_with c.args.stored.now.data_bytes.items = search rules in
     let usage : IsUsage c.deref-2.result.now =
     subst IsUsage (sym bytes) (counted_usage trees entry (known clean)).usage in
     let there = c.usage_in.ensures.usage.1 usage in
@@ -56,7 +56,7 @@ returns-else-found-clause-own g c premise finding is clean =
     let start = c.args.trees.now.store in
     let new = c.has_detail.new.self.store in
     let trees : Trees = (g.S.Store.view start).trees in
-    let entry : List ℕ × RecordRow = stored_entry c.args.record.now in
+    let entry : List ℕ × RecordRow = stored_entry c.args.stored.now in
     let row : Row = c.has_detail.new.self.found in
     let looks : OnlyLooks g.S.Store start new = search rules in
     let shown : c.detail_with-shown.result ≡ detail_shown entry = search rules in

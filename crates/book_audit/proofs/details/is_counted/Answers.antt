@@ -12,7 +12,7 @@ returns-in-Some-clause-other g c clean none are is =
     let new = c.past_in.new.trees.store in
     let trees : Trees = (g.S.Store.view c.args.trees.now.store).trees in
     let rulings = c.args.rulings.now in
-    let entry = stored_entry c.args.record.now in
+    let entry = stored_entry c.args.stored.now in
     let counted = c.in-Some.counted in
     let told : IsClean (g.S.Store.view new) → HasPast (trees 5) rulings.closes.items entry counted =
     search rules in
