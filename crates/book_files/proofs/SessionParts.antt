@@ -7,7 +7,7 @@ use Rattle.named_books.specs.declared.repository.RepositoryFault.{RepositoryFaul
 use Rattle.named_books.specs.declared.repository.RepositoryFault.TheVariants.{Unseen}
 use Rattle.named_books.specs.Shelves.{ComesBy}
 use Rattle.named_books.proofs.ShelfLemmas.{same_where}
-use Rattle.book_files.specs.Releases.{released_answer}
+use Rattle.book_files.specs.Releases.{seen_answer}
 use Rattle.sqlite_disk.specs.declared.Disk.{Ghosts}
 use Rattle.sqlite_disk.specs.declared.files.Files.{Files}
 use Rattle.sqlite_pool.specs.StoredLaws.{carried}
@@ -217,7 +217,7 @@ seen_comes Came Same (Err fault) false same = inr same
 
 -- and by what is told of it
 pub comes_on : {A D : Type 0} (Came : A → Type 0) (Same : Type 0) (answer : Result A RepositoryFault)
-    (ended : Ended D) (told : Result A RepositoryFault) → told ≡ released_answer answer ended
+    (ended : Ended D) (told : Result A RepositoryFault) → told ≡ seen_answer Unseen answer ended
     → MatchResult answer Came (λ fault. Same) → ComesBy Came Same told
 comes_on Came Same answer (ended.Closed closed) told is came =
     subst (ComesBy Came Same) (sym is) (seen_comes Came Same answer closed.is_kept came)

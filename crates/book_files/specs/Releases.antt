@@ -1,18 +1,27 @@
 -- What is told of a session, once its files are dropped.
-use Rattle.std.specs.Prelude.{◌≡◌, ◌≢◌, if◌then◌else◌, Result, Err, ⊤}
+use Rattle.std.specs.Prelude.{◌≡◌, ◌≢◌, if◌then◌else◌, Bool, Result, Ok, Err, ⊤}
+use Rattle.book_model.specs.declared.fault.LedgerFault.TheVariants as ledger
 use Rattle.book_trees.specs.declared.closing.LogLeft.{LogLeft}
 use Rattle.book_trees.specs.declared.closing.LogLeft.TheVariants.{Short, Unmoved}
+use Rattle.book_files.specs.declared.copies.CopyFault.{CopyFault}
+use Rattle.book_files.specs.declared.copies.CopyFault.TheVariants as copies
 use Rattle.book_files.specs.declared.session.Ended.{Ended}
 use Rattle.book_files.specs.declared.session.Ended.TheVariants.{Closed, Refused}
 use Rattle.named_books.specs.declared.repository.RepositoryFault.{RepositoryFault}
-use Rattle.named_books.specs.declared.repository.RepositoryFault.TheVariants.{Unseen}
+use Rattle.named_books.specs.declared.repository.RepositoryFault.TheVariants.{Ledger}
 
 -- The answer of a session is told as it is; or, where no memory was left to see that the closed files
--- hold books, that.
-abbrev pub released_answer : {A D : Type 0} → Result A RepositoryFault → Ended D
+-- hold books, this fault.
+abbrev pub seen_answer : {A D : Type 0} → RepositoryFault → Result A RepositoryFault → Ended D
     → Result A RepositoryFault
-released_answer answer (Closed closed) = if closed.is_kept then answer else Err Unseen
-released_answer answer (Refused files) = answer
+seen_answer unseen answer (Closed closed) = if closed.is_kept then answer else Err unseen
+seen_answer unseen answer (Refused files) = answer
+
+-- a copy is whole where its files were closed, and hold it without a log
+abbrev pub whole_copy : {A : Type 0} → Result A RepositoryFault → Bool → Result A CopyFault
+whole_copy (Ok done) has_log =
+    if has_log then Err (copies.Refused (Ledger ledger.Store)) else Ok done
+whole_copy (Err fault) has_log = Err (copies.Refused fault)
 
 -- a log whose pages were to be moved into the file is too short to hold any
 abbrev pub IsMoved : LogLeft → Type 0

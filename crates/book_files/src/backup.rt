@@ -1,6 +1,9 @@
 //! A copy of books under another name: it is begun under a second name, and gets its own once it is
 //! whole and sound.
 
+ghost use Rattle.std.specs.Prelude.{◌≡◌};
+ghost use Rattle.book_files.specs.Releases.{whole_copy};
+
 use crate::copies::{Copied, CopyFault, copy_at};
 use crate::log::{Log, sync_folder};
 use crate::new_books::beside;
@@ -120,7 +123,9 @@ impl Files<'_> {
 }
 
 /// A copy is whole where its files were closed, and it needs no log.
-fn whole(closed: Result<(), RepositoryFault>, has_log: bool) -> Result<(), CopyFault> {
+fn whole(closed: Result<(), RepositoryFault>, has_log: bool) -> Result<(), CopyFault>
+    ensures { result ≡ whole_copy closed has_log }
+{
     match closed {
         Ok(()) if has_log => Err(CopyFault::Refused(RepositoryFault::Ledger(LedgerFault::Store))),
         Ok(()) => Ok(()),

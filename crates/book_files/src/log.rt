@@ -1,6 +1,6 @@
 //! The log that lies beside a file of books while a command runs, and what a command leaves of it.
 
-ghost use Rattle.std.specs.Prelude.{◌≡◌, false};
+ghost use Rattle.std.specs.Prelude.{◌≡◌, false, true, OnOk};
 ghost use Rattle.book_files.specs.Releases.{IsMoved};
 
 use crate::repository::{failed, refused};
@@ -21,7 +21,7 @@ pub(crate) struct Log<'a> {
     path: String,
     was_there: bool,
     /// What was there held nothing of the books, and was given another name.
-    is_kept: bool,
+    pub(crate) is_kept: bool,
 }
 
 impl<'a> Log<'a> {
@@ -71,7 +71,9 @@ impl<'a> Log<'a> {
 
     /// Renames the log, to a name that nothing has. The opening that follows syncs the folder too,
     /// and fails where it can't.
-    fn keep(&mut self) -> io::Result<()> {
+    fn keep(&mut self) -> io::Result<()>
+        ensures { OnOk result (self.new.is_kept ≡ true) }
+    {
         let kept = format!(in self.rt.alloc(); "{}-kept", self.path.as_str())?;
         if is_there(self.rt, kept.as_str())? {
             return Err(ErrorKind::AlreadyExists.into());
@@ -84,7 +86,9 @@ impl<'a> Log<'a> {
     }
 
     /// Whether a log that held nothing of the books was given another name.
-    pub(crate) fn is_kept(&self) -> bool {
+    pub(crate) fn is_kept(&self) -> bool
+        ensures { result ≡ self.now.is_kept }
+    {
         self.is_kept
     }
 
@@ -107,7 +111,8 @@ impl<'a> Log<'a> {
     /// whether it holds a part of the books, or one that held nothing was kept. A log that was not to
     /// be moved is left as it was.
     pub(crate) fn release<D: Disk + Drop>(&self, closed: Closed<D>) -> bool
-        ensures { result ≡ false → IsMoved closed.log }
+        ensures moved { result ≡ false → IsMoved closed.log }
+        ensures kept { result ≡ false → self.now.is_kept ≡ false }
     {
         match closed.log {
             LogLeft::Unmoved => self.leave(Some(closed.files)),
@@ -131,7 +136,9 @@ impl<'a> Log<'a> {
     /// Drops the files of an opening that must leave them as they were, and says the same: a log that
     /// the opening made is removed. Where there are no files another program may have them, and
     /// nothing is touched.
-    pub(crate) fn leave<D: Disk + Drop>(&self, files: Option<Files<D>>) -> bool {
+    pub(crate) fn leave<D: Disk + Drop>(&self, files: Option<Files<D>>) -> bool
+        ensures { result ≡ false → self.now.is_kept ≡ false }
+    {
         let Some(mut files) = files else {
             return self.is_kept;
         };

@@ -1,6 +1,9 @@
 //! New books are made under a second name, and get their own once they are whole: a stop at any
 //! moment leaves whole books under that name, or nothing.
 
+ghost use Rattle.std.specs.Prelude.{◌≡◌};
+ghost use Rattle.book_files.specs.Releases.{seen_answer};
+
 use crate::log::{Log, is_there, sync_folder};
 use crate::names::is_log_name;
 use crate::repository::{Files, failed};
@@ -133,7 +136,9 @@ impl Files<'_> {
 fn in_hand<D: Disk + Drop>(
     made: Result<(), RepositoryFault>,
     ended: Ended<D>,
-) -> (Result<(), RepositoryFault>, Option<Pair<D>>) {
+) -> (Result<(), RepositoryFault>, Option<Pair<D>>)
+    ensures { result.0 ≡ seen_answer (RepositoryFault.Ledger LedgerFault.Memory) made ended }
+{
     match ended {
         Ended::Refused(files) => (made, files),
         Ended::Closed(closed) if closed.is_kept => (made, Some(closed.files)),

@@ -3,7 +3,7 @@
 ghost use Rattle.std.specs.Prelude.{◌≡◌, false, Err, OnErr, OnOk};
 ghost use Rattle.std.specs.IoError.{error_kind};
 ghost use Rattle.book_files.specs.Faults.{file_fault, look_answer, open_fault};
-ghost use Rattle.book_files.specs.Releases.{HasMovedLog, released_answer};
+ghost use Rattle.book_files.specs.Releases.{HasMovedLog, seen_answer};
 ghost use Rattle.named_books.specs.Shelves.{ComesBy};
 
 use crate::log::{Log, begins_as_books};
@@ -204,14 +204,15 @@ impl AuditedRepository for Files<'_> {
 
 /// What came of a session, whose files are dropped. Where no memory was left to see that they hold
 /// books, that is said in place of an answer. Nothing is said of a log only where none is left that
-/// holds pages which were to be moved.
+/// holds pages which were to be moved, and none was put aside.
 pub(crate) fn released<T: Drop, D: Disk + Drop>(
     log: &Log<'_>,
     answer: Result<T, RepositoryFault>,
     ended: Ended<D>,
 ) -> Opened<T>
-    ensures told { result.answer ≡ released_answer answer ended }
+    ensures told { result.answer ≡ seen_answer RepositoryFault.Unseen answer ended }
     ensures log { result.has_log ≡ false → HasMovedLog ended }
+    ensures kept { result.has_log ≡ false → log.now.is_kept ≡ false }
 {
     match ended {
         Ended::Closed(closed) => {
@@ -240,9 +241,11 @@ fn released_upgraded<D: Disk + Drop>(
     upgraded: Result<Upgraded, RepositoryFault>,
     ended: Ended<D>,
 ) -> Opened<Upgraded>
-    ensures told { OnOk upgraded (result.answer ≡ released_answer upgraded ended) }
+    ensures told { OnOk upgraded
+        (result.answer ≡ seen_answer RepositoryFault.Unseen upgraded ended) }
     ensures refused { OnErr upgraded (result.answer ≡ upgraded) }
     ensures log { result.has_log ≡ false → HasMovedLog ended }
+    ensures kept { result.has_log ≡ false → log.now.is_kept ≡ false }
 {
     let Opened { answer, has_log } = released(log, upgraded, ended);
     match upgraded {
@@ -256,7 +259,8 @@ fn released_upgraded<D: Disk + Drop>(
 
 /// What came of books that were not opened, whose log was looked at.
 pub(crate) fn unopened<T: Drop>(log: &Log<'_>, fault: RepositoryFault) -> Opened<T>
-    ensures { result.answer ≡ Err fault }
+    ensures answer { result.answer ≡ Err fault }
+    ensures kept { result.has_log ≡ log.now.is_kept }
 {
     Opened {
         answer: Err(fault),
@@ -266,7 +270,8 @@ pub(crate) fn unopened<T: Drop>(log: &Log<'_>, fault: RepositoryFault) -> Opened
 
 /// What came of files that were not opened.
 pub(crate) fn without_log<T: Drop>(answer: Result<T, RepositoryFault>) -> Opened<T>
-    ensures { result.answer ≡ answer }
+    ensures answer { result.answer ≡ answer }
+    ensures log { result.has_log ≡ false }
 {
     Opened {
         answer,
