@@ -16,6 +16,7 @@ use Rattle.sqlite_trees.specs.Objects.{IsListed, catalog_tree, with_version}
 use Rattle.sqlite_trees.specs.Tree.{Trees}
 use Rattle.sqlite_trees.specs.View.{IsOrdered, IsShaped, View}
 use Rattle.sqlite_trees.specs.declared.store.Shape.{Shape}
+use Rattle.sqlite_wal.specs.Reads.{AreClean}
 use Rattle.sqlite_wal.specs.Recovery.{Image}
 use Rattle.book_model.specs.Words.{Book, Event, Naming, book_after}
 use Rattle.named_books.specs.declared.repository.RepositoryFault.{RepositoryFault}
@@ -31,18 +32,22 @@ use Rattle.table_ledger.specs.Ready.{IsStoredIn}
 use Rattle.book_trees.proofs.FirstTrees.{more_listed}
 use Rattle.book_trees.specs.FirstForm.{AddsDetails, HasFirstTrees, HoldsFirstForm, IsFirstRefusedFor}
 use Rattle.book_trees.specs.FirstForm.{IsUnopenedFirst, ListMore}
-use Rattle.book_trees.specs.Forms.{IsSaid}
+use Rattle.book_trees.specs.Forms.{HoldNoNewer, IsSaid}
 use Rattle.book_trees.specs.LedgerFiles.{HoldsBooks, HoldsFirstBooks, trees_held}
 use Rattle.book_trees.specs.Refusals.{IsAsFound, MayLeave}
 use Rattle.book_trees.specs.Schema.{first_schema}
+use Rattle.book_trees.specs.StoreView.{ListsBooks}
+use Rattle.book_trees.specs.declared.closing.Closed.{Closed}
 use Rattle.book_trees.specs.declared.first_form.FirstFault.{FirstFault}
 use Rattle.book_trees.specs.declared.first_form.FirstFault.TheVariants as fault
 use Rattle.book_files.specs.Faults.{first_answer}
 use Rattle.book_files.specs.Sessions.{MayFollow}
 use Rattle.book_files.specs.Upgrades.{BringsOver, HoldsFirstHistory, HoldsUpgraded}
+use Rattle.book_files.specs.Upgrades.{HoldsWhatIsTold}
 use Rattle.book_files.specs.Upgrades.{IsBroughtOver, LeavesUpgraded, MayBringOver}
 use Rattle.book_files.specs.Upgrades.{RestsBroughtOver, TellsThisForm, upgrade_answer}
 use Rattle.book_files.specs.declared.session.Ended.TheVariants.{Refused}
+use Rattle.book_files.specs.declared.session.Ended.TheVariants as ended
 use Rattle.book_files.proofs.NewParts.{said_tables}
 use Rattle.book_files.proofs.SessionParts.{found_clean, opened_rests, refused_tables}
 
@@ -252,3 +257,25 @@ pub first_tells : (why : FirstFault) → IfOk (first_answer why) TellsThisForm
 first_tells fault.Already = tt
 first_tells fault.Pages = tt
 first_tells (fault.Open why) = tt
+
+-- What is told of files that were opened, and of those that were not, stands in them.
+module _ {D : Type 0} (g : Ghosts D) (found : Image) where
+  pub opened_tells : (closed : Closed D) (result : Result (Unit {0}) RepositoryFault)
+      → (AreClean g closed.files.log closed.files.db
+      → ∥ HoldsFirstBooks found ∥₁ × HoldNoNewer first_schema found)
+      → IfOk (upgrade_answer result) (λ upgraded. (image : Image)
+      → MayFollow g (ended.Closed closed) image → HoldsWhatIsTold found upgraded)
+  opened_tells closed (Ok done) held =
+      λ image may. held (found_clean g closed.files image may.1)
+  opened_tells closed (Err why) held = tt
+
+  pub refused_tells : (why : FirstFault) (files : Option (Files D))
+      → (why ≡ fault.Already
+      → IfSome files (λ files. AreClean g files.log files.db → ListsBooks found))
+      → IfOk (first_answer why) (λ upgraded. (image : Image)
+      → MayFollow g (Refused files) image → HoldsWhatIsTold found upgraded)
+  refused_tells fault.Already None lists = λ image never. absurd never
+  refused_tells fault.Already (Some files) lists =
+      λ image may. ∣ lists refl (found_clean g files image may) ∣₁
+  refused_tells fault.Pages files lists = tt
+  refused_tells (fault.Open why) files lists = tt

@@ -10,10 +10,11 @@ use Rattle.book_model.specs.Words.{Book, Naming, new_book}
 use Rattle.book_model.specs.declared.fault.LedgerFault.TheVariants as ledger
 use Rattle.book_trees.specs.Closing.{HaveFailed}
 use Rattle.book_trees.specs.FirstForm.{HoldsFirstForm}
-use Rattle.book_trees.specs.Forms.{HoldsThisForm}
+use Rattle.book_trees.specs.Forms.{HoldNoNewer, HoldsThisForm}
 use Rattle.book_trees.specs.LedgerFiles.{HoldsBooks, HoldsEmptyBooks, HoldsFirstBooks, HoldsNothing}
 use Rattle.book_trees.specs.LedgerFiles.{trees_held}
 use Rattle.book_trees.specs.Refusals.{faults_in, AreFull, StopCreating}
+use Rattle.book_trees.specs.Schema.{books_schema}
 use Rattle.tree_tables.specs.Holds.{has_book}
 use Rattle.book_restarts.specs.FileBooks.{HoldsBook, RestsAt, file_names}
 use Rattle.book_files.specs.NewBooks.{IsEmpty}
@@ -49,7 +50,11 @@ ShowsOurs naming view = ShowsOurBooks naming view ⊎ IsEmpty view
 abbrev pub HaveBookRow : Image → Type 0
 HaveBookRow found = (held : HoldsBooks found) → has_book (trees_held held) ≡ true
 
--- so it is, and they hold no new books
+-- so it is, and they do not say that they are of a newer form
+abbrev pub MayBeVisited : Image → Type 0
+MayBeVisited found = HaveBookRow found × HoldNoNewer books_schema found
+
+-- the row is there, and the files hold no new books
 abbrev pub HaveUsedBook : Image → Type 0
 HaveUsedBook found = HaveBookRow found × (¬ HoldsBook file_names new_book found)
 

@@ -36,6 +36,11 @@ abbrev pub TriesToMoveLog : {D : Type 0} → Ended D → Type 0
 TriesToMoveLog (Closed closed) = closed.log ≢ Unmoved
 TriesToMoveLog (Refused files) = ⊤
 
+-- They were not to be moved: what the log holds is left there.
+abbrev pub KeepsLog : {D : Type 0} → Ended D → Type 0
+KeepsLog (Closed closed) = closed.log ≡ Unmoved
+KeepsLog (Refused files) = ⊤
+
 -- What may be found of the file of books that were closed, where their log was short, and no log is
 -- there any more.
 abbrev pub IsFileAlone : {D : Type 0} (g : Ghosts D) → Ended D → Image → Type 0

@@ -29,6 +29,10 @@ CloseLeaves g closed So =
 abbrev pub CloseTriesToMoveLog : {D : Type 0} → Closed D → Type 0
 CloseTriesToMoveLog closed = closed.log ≢ Unmoved
 
+-- they were not to be moved
+abbrev pub CloseKeepsLog : {D : Type 0} → Closed D → Type 0
+CloseKeepsLog closed = closed.log ≡ Unmoved
+
 -- a stop leaves what such work made of the book at which a store stood
 abbrev pub StopGoesOn : Transition → View → State → Type 0
 StopGoesOn Made found left =

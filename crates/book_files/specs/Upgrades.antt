@@ -9,8 +9,10 @@ use Rattle.sqlite_wal.specs.Recovery.{Image}
 use Rattle.book_model.specs.Words.{Book, Event, Naming, book_after, IsMadeByCalls}
 use Rattle.tree_tables.specs.Forms.{this_form}
 use Rattle.book_trees.specs.FirstForm.{ListMore}
+use Rattle.book_trees.specs.Forms.{HoldNoNewer}
 use Rattle.book_trees.specs.LedgerFiles.{HoldsFirstBooks, trees_held}
 use Rattle.book_trees.specs.Schema.{first_schema}
+use Rattle.book_trees.specs.StoreView.{ListsBooks}
 use Rattle.book_restarts.specs.FileBooks.{HoldsBook, HoldsHistory, RestsAt, file_names}
 use Rattle.book_files.specs.Sessions.{MayFollow}
 use Rattle.book_files.specs.declared.session.Ended.{Ended}
@@ -71,6 +73,12 @@ upgrade_answer (Err fault) = Err fault
 abbrev pub TellsThisForm : Upgraded → Type 0
 TellsThisForm (To form) = form ≡ this_form
 TellsThisForm Already = ⊤
+
+-- What is told stands in the files: they listed the tables of this form; or they held books of the
+-- first one, and did not say that they are of a newer form.
+abbrev pub HoldsWhatIsTold : Image → Upgraded → Type 0
+HoldsWhatIsTold found Already = ∥ ListsBooks found ∥₁
+HoldsWhatIsTold found (To form) = ∥ HoldsFirstBooks found ∥₁ × HoldNoNewer first_schema found
 
 -- What may be found of files that held the books of a history in the first form, by what was
 -- answered: the same books in this form; or, where they were not brought over, the old books or the

@@ -14,8 +14,9 @@ ghost use Rattle.book_trees.specs.Closing.{HaveFailed, IsShort};
 ghost use Rattle.book_files.specs.Audits.{FindsWrongBy};
 ghost use Rattle.book_files.specs.Causes.{HasFaultCause, IsResumed, IsUnvisitedFor};
 ghost use Rattle.book_files.specs.Faults.{store_fault};
-ghost use Rattle.book_files.specs.Stores.{CloseGoesOn, CloseKeepsBook, CloseKeepsTrees};
-ghost use Rattle.book_files.specs.Stores.{CloseLeaves, CloseLeavesNew, CloseTriesToMoveLog};
+ghost use Rattle.book_files.specs.Stores.{CloseGoesOn, CloseKeepsBook, CloseKeepsLog};
+ghost use Rattle.book_files.specs.Stores.{CloseKeepsTrees, CloseLeaves, CloseLeavesNew};
+ghost use Rattle.book_files.specs.Stores.{CloseTriesToMoveLog};
 ghost use Rattle.book_files.specs.Stores.{StopGoesOn, StopKeepsBook, StopKeepsTrees, StopLeaves};
 ghost use Rattle.book_files.specs.Stores.{StopLeavesNew};
 ghost use Rattle.book_files.specs.Unused.{SaysUnused, are_unused, unused_by};
@@ -336,6 +337,7 @@ pub(crate) fn audit_and_close<D: Disk, W: Watch>(
 ) -> (Result<Audited, RepositoryFault>, Closed<D>)
     requires { HasShapes (view store) }
     ensures same { CloseKeepsTrees D.Disk (view store) result.1 }
+    ensures log { CloseKeepsLog result.1 }
     ensures book { IfOk result.0 (λ audited. (counts : Counts) → audited ≡ Audited.Sound counts
         → AreClean D.Disk result.1.files.log result.1.files.db
         → AreOfBook file_names (view store).trees counts) }

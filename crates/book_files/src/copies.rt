@@ -4,7 +4,7 @@ ghost use Rattle.std.specs.Prelude.{◌≡◌, IfErr, IfOk, IfSome, IsOk, IsSome
 ghost use Rattle.sqlite_wal.specs.Files.{image_at};
 ghost use Rattle.sqlite_wal.specs.Recovery.{Image};
 ghost use Rattle.book_core.specs.Transition.{NoEvent};
-ghost use Rattle.book_files.specs.Causes.{HaveBookRow, WhyNotCopied};
+ghost use Rattle.book_files.specs.Causes.{MayBeVisited, WhyNotCopied};
 ghost use Rattle.book_files.specs.Faults.{not_copied, tried_answer};
 ghost use Rattle.book_files.specs.Sessions.{AreHonest, FileAloneGoesOn, FilesGoOn, MayFollow};
 ghost use Rattle.book_files.specs.Sessions.{TriesToMoveLog, WereOnlyRead};
@@ -61,10 +61,11 @@ pub fn visit_copy_at<S: Start, T: Start, V: Visit>(
         (V.Visit.work file_names visit.old visit.new answer) (image_at S.Start) result.copy) }
     ensures moves { TriesToMoveLog result.copy }
 
-    // There is no copy of files in which the row of their book is not there.
+    // There is no copy of files in which the row of their book is not there, or that say that they
+    // are of a newer form.
     ensures there { IfOk result.answer (λ answer.
         AreHonest ⟦<FileFrom<S> as Disk>⟧ result.original → (image : Image)
-        → MayFollow ⟦<FileFrom<T> as Disk>⟧ result.copy image → HaveBookRow (image_at S.Start)) }
+        → MayFollow ⟦<FileFrom<T> as Disk>⟧ result.copy image → MayBeVisited (image_at S.Start)) }
 
     // The books that are copied were only read.
     ensures original { IfSome result.original
@@ -123,7 +124,7 @@ pub fn copy_at<S: Start, T: Start>(
     ensures moves { TriesToMoveLog result.copy }
     ensures there { IfOk result.answer (λ copied.
         AreHonest ⟦<FileFrom<S> as Disk>⟧ result.original → (image : Image)
-        → MayFollow ⟦<FileFrom<T> as Disk>⟧ result.copy image → HaveBookRow (image_at S.Start)) }
+        → MayFollow ⟦<FileFrom<T> as Disk>⟧ result.copy image → MayBeVisited (image_at S.Start)) }
     ensures original { IfSome result.original
         (WereOnlyRead ⟦<FileFrom<S> as Disk>⟧ (image_at S.Start)) }
     ensures in_hand { IsOk result.answer → IsSome result.original }

@@ -8,13 +8,15 @@ ghost use Rattle.book_model.specs.Words.{Event};
 ghost use Rattle.book_core.specs.Transition.{NoEvent};
 ghost use Rattle.book_audit.specs.declared.audited.Counts.{Counts};
 ghost use Rattle.book_files.specs.Audits.{HoldCounted, HoldSameTrees, WhyUnsound};
-ghost use Rattle.book_files.specs.Causes.{HaveBookRow, WhyNotAudited, WhyNotContinued, WhyNotMade};
+ghost use Rattle.book_files.specs.Causes.{MayBeVisited, WhyNotAudited, WhyNotContinued};
+ghost use Rattle.book_files.specs.Causes.{WhyNotMade};
 ghost use Rattle.book_files.specs.Causes.{IsToldOfThis, WhyNotUpgraded, WhyNotVisited};
 ghost use Rattle.book_files.specs.Faults.{first_answer, resume_fault};
 ghost use Rattle.book_files.specs.NewBooks.{MayBeMade, NewBooksMade};
 ghost use Rattle.book_files.specs.Sessions.{AreAsFound, FileAloneGoesOn, FilesGoOn, MayFollow};
-ghost use Rattle.book_files.specs.Sessions.{TriesToMoveLog};
-ghost use Rattle.book_files.specs.Upgrades.{FilesBroughtOver, TellsThisForm, upgrade_answer};
+ghost use Rattle.book_files.specs.Sessions.{KeepsLog, TriesToMoveLog};
+ghost use Rattle.book_files.specs.Upgrades.{FilesBroughtOver, HoldsWhatIsTold, TellsThisForm};
+ghost use Rattle.book_files.specs.Upgrades.{upgrade_answer};
 ghost use Rattle.book_restarts.specs.FileBooks.{HoldsHistory, done_by, file_names};
 ghost use Rattle.book_trees.specs.FirstForm.{HoldsFirstForm};
 ghost use Rattle.book_trees.specs.LedgerFiles.{HoldsBooks, HoldsEmptyBooks, HoldsNothing};
@@ -77,11 +79,11 @@ pub fn visit_at<S: LeftByLedger, V: Visit>(
         (λ _. visit.new ≡ visit.old) }
 
     // There are books exactly where their row is there: that there are none is answered only of
-    // files that hold none of this form, or not their row, and without it none are visited. A fault
-    // of the store is told of what a ledger left only where a call on the files failed, or met a
-    // limit.
+    // files that hold none of this form, or not their row, and without it none are visited, nor are
+    // any that say that they are of a newer form. A fault of the store is told of what a ledger left
+    // only where a call on the files failed, or met a limit.
     ensures there { IfOk result.0 (λ answer. (image : Image)
-        → MayFollow ⟦<FileFrom<S> as Disk>⟧ result.1 image → HaveBookRow (image_at S.Start)) }
+        → MayFollow ⟦<FileFrom<S> as Disk>⟧ result.1 image → MayBeVisited (image_at S.Start)) }
     ensures cause { IfErr result.0
         (WhyNotVisited ⟦<FileFrom<S> as Disk>⟧ (image_at S.Start) result.1) }
 {
@@ -183,6 +185,7 @@ pub fn audit_at<S: Start, W: Watch>(
     // The trees of books stay as they were, also where no book can be read back from them.
     ensures same { (image : Image) → MayFollow ⟦<FileFrom<S> as Disk>⟧ result.1 image
         → HoldSameTrees (image_at S.Start) image }
+    ensures log { KeepsLog result.1 }
 
     // Files that are called sound hold a book, whoever wrote them, and the counts are its own. Any
     // other answer too is given of no files but those that list the tables of books.
@@ -252,6 +255,9 @@ pub fn upgrade_at<S: Start>(
     ensures this { HoldsBooks (image_at S.Start)
         → IsToldOfThis ⟦<FileFrom<S> as Disk>⟧ result.0 result.1 }
     ensures told { IfOk result.0 TellsThisForm }
+    ensures listed { IfOk result.0 (λ upgraded. (image : Image)
+        → MayFollow ⟦<FileFrom<S> as Disk>⟧ result.1 image
+        → HoldsWhatIsTold (image_at S.Start) upgraded) }
 
     // Files that hold books of the first form, and their row, are refused only because of memory
     // and the disk.

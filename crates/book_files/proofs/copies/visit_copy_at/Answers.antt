@@ -3,12 +3,15 @@ use Rattle.sqlite_disk.specs.contracts.modelled.ModelledDisk.TheImpl as modelled
 use Rattle.sqlite_std_file.specs.contracts.host.Host.{the_row}
 use Rattle.sqlite_std_file.specs.contracts.host.HostCalls.TheImpl as host
 use Rattle.sqlite_store.specs.FileStore.{view}
+use Rattle.sqlite_trees.proofs.Doubt.{clean_of}
 use Rattle.sqlite_wal.specs.Files.{image_at}
 use Rattle.sqlite_wal.specs.Recovery.{Image}
 use Rattle.book_core.specs.Transition.{Transition}
 use Rattle.book_restarts.specs.FileBooks.{done_by, file_names}
+use Rattle.book_trees.specs.Forms.{HoldNoNewer}
 use Rattle.book_trees.specs.LedgerFiles.{HoldsBooks, trees_held}
-use Rattle.book_files.specs.Causes.{HaveBookRow, WhyNotCopied}
+use Rattle.book_trees.specs.Schema.{books_schema}
+use Rattle.book_files.specs.Causes.{MayBeVisited, WhyNotCopied}
 use Rattle.book_files.specs.Sessions.{AreHonest, FilesGoOn, MayFollow}
 use Rattle.book_files.specs.declared.copies.CopyFault.TheVariants as copies
 use Rattle.book_files.specs.declared.session.Ended.TheVariants.{Closed, Refused}
@@ -60,14 +63,17 @@ returns-in-Ok-copy_to-clause-there g c =
     let first = image_at g.S.Start in
     let store = c.in-Ok-copy_to.store in
     mapped_ok (λ answer. AreHonest one (Some c.copy_to.new.from) → (image : Image)
-    → MayFollow two (Closed visited.result.1) image → HaveBookRow first)
+    → MayFollow two (Closed visited.result.1) image → MayBeVisited first)
     copies.Refused visited.result.0 c.map_err.result c.map_err.ensures.cases
     (ok_so visited.result.0 visited.ensures.there (λ answer there honest image may.
-    let clean = found_clean two visited.result.1.files image may.1 in
-    told_by_row file_names first store c.in-Ok-copy_to.ensures.ready
+    let honest_too = found_clean two visited.result.1.files image may.1 in
+    let clean = visited.ensures.clean honest_too in
+    (told_by_row file_names first store c.in-Ok-copy_to.ensures.ready
     (λ sound. subst (λ (i : Image). (held : HoldsBooks i) → (view store).trees ≡ trees_held held)
     c.in-Ok.ensures.held (c.in-Ok-copy_to.ensures.found sound honest))
-    (visited.ensures.clean clean) true (there clean)))
+    clean true (there honest_too),
+    subst (HoldNoNewer books_schema) c.in-Ok.ensures.held
+    (c.in-Ok-copy_to.ensures.form (clean_of _ clean) honest))))
 
 pub returns-in-Ok-copy_to-clause-original : goal.returns-in-Ok-copy_to-clause-original
 returns-in-Ok-copy_to-clause-original g c =

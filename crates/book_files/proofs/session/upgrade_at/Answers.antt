@@ -7,6 +7,7 @@ use Rattle.sqlite_std_file.specs.contracts.host.HostCalls.TheImpl as host
 use Rattle.sqlite_store.specs.FileStore.{view}
 use Rattle.sqlite_trees.proofs.Doubt.{clean_of}
 use Rattle.sqlite_wal.specs.Files.{image_at}
+use Rattle.sqlite_wal.specs.Recovery.{Image}
 use Rattle.book_model.specs.Words.{book_after}
 use Rattle.book_restarts.proofs.SessionLemmas.{still_held}
 use Rattle.book_restarts.specs.FileBooks.{file_names}
@@ -14,12 +15,13 @@ use Rattle.book_trees.specs.FirstForm.{HoldsFirstForm}
 use Rattle.book_trees.specs.Refusals.{AreFull}
 use Rattle.tree_tables.specs.Holds.{has_book}
 use Rattle.book_files.specs.Causes.{HasFaultCause, HaveNoFirstRow, IsToldOfThis, WhyNotUpgraded}
-use Rattle.book_files.specs.Upgrades.{BringsOver, TellsThisForm}
+use Rattle.book_files.specs.Sessions.{MayFollow}
+use Rattle.book_files.specs.Upgrades.{BringsOver, HoldsWhatIsTold, TellsThisForm}
 use Rattle.book_files.specs.declared.session.Ended.TheVariants.{Closed, Refused}
 use Rattle.book_files.proofs.Causes.{cause_so, err_so, first_cause, opened_not_this, refused_this}
 use Rattle.book_files.proofs.SessionParts.{found_clean, refused_goes_on}
-use Rattle.book_files.proofs.UpgradeParts.{brings_over, first_tells, refused_brings, tells_form}
-use Rattle.book_files.proofs.UpgradeParts.{told_why}
+use Rattle.book_files.proofs.UpgradeParts.{brings_over, first_tells, opened_tells}
+use Rattle.book_files.proofs.UpgradeParts.{refused_brings, refused_tells, tells_form, told_why}
 use Rattle.book_files.proofs.session.upgrade_at.Goals as goal
 
 pub returns-in-Ok-clause-history : goal.returns-in-Ok-clause-history
@@ -110,3 +112,26 @@ pub returns-in-Err-clause-told : goal.returns-in-Err-clause-told
 returns-in-Err-clause-told g c =
     subst (λ result. IfOk result TellsThisForm) (sym c.not_upgraded.ensures)
     (first_tells c.in-Err.fault)
+
+pub returns-in-Ok-clause-listed : goal.returns-in-Ok-clause-listed
+returns-in-Ok-clause-listed g c =
+    let upgraded = c.upgrade_and_close-upgraded in
+    let disk = modelled.ghosts the_row g.row.S host.ghosts host.dict g.S.Start g.S.Start-dict
+    g.S.Destruct-dict in
+    let first = image_at g.S.Start in
+    subst (λ result. IfOk result (λ told. (image : Image)
+    → MayFollow disk (Closed upgraded.result.1) image → HoldsWhatIsTold first told))
+    (sym c.told_upgraded.ensures)
+    (opened_tells disk first upgraded.result.1 upgraded.result.0 (λ honest.
+    let clean = clean_of _ (upgraded.ensures.clean honest) in
+    (c.in-Ok.ensures.held clean, c.in-Ok.ensures.form clean)))
+
+pub returns-in-Err-clause-listed : goal.returns-in-Err-clause-listed
+returns-in-Err-clause-listed g c =
+    let disk = modelled.ghosts the_row g.row.S host.ghosts host.dict g.S.Start g.S.Start-dict
+    g.S.Destruct-dict in
+    let first = image_at g.S.Start in
+    subst (λ result. IfOk result (λ told. (image : Image)
+    → MayFollow disk (Refused c.in-Err.files) image → HoldsWhatIsTold first told))
+    (sym c.not_upgraded.ensures)
+    (refused_tells disk first c.in-Err.fault c.in-Err.files c.in-Err.ensures.listed)

@@ -2,6 +2,7 @@ use Rattle.std.proofs.Common.{inl, refl, true}
 use Rattle.sqlite_disk.specs.contracts.modelled.ModelledDisk.TheImpl as modelled
 use Rattle.sqlite_std_file.specs.contracts.host.Host.{the_row}
 use Rattle.sqlite_std_file.specs.contracts.host.HostCalls.TheImpl as host
+use Rattle.sqlite_trees.proofs.Doubt.{clean_of}
 use Rattle.sqlite_wal.specs.Files.{image_at}
 use Rattle.book_restarts.specs.FileBooks.{done_by, file_names}
 use Rattle.book_files.specs.Sessions.{FilesGoOn}
@@ -35,8 +36,9 @@ returns-in-Ok g c =
       came = visited.ensures.came;
       there = ok_so visited.result.0 visited.ensures.there (λ answer there image may.
           let honest = found_clean disk visited.result.1.files image may.1 in
-          told_by_row file_names first store opened.ready opened.found (visited.ensures.clean honest)
-          true (there honest));
+          let clean = visited.ensures.clean honest in
+          (told_by_row file_names first store opened.ready opened.found clean true (there honest),
+          opened.form (clean_of _ clean)));
       cause = err_so visited.result.0 visited.ensures.cause (λ fault cause clean.
           visited_cause file_names first store opened.ready opened.found
           (visited.ensures.clean clean) _ fault (cause clean));
