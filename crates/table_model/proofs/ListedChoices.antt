@@ -1,6 +1,7 @@
 -- The choices of the list of rulings are those of the table.
 use Rattle.std.proofs.Common.{◌≡◌, ◌∙◌, ◌+◌, ℕ, suc, List, [], ◌∷◌, ◌++◌, map, refl, sym}
 use Rattle.std.proofs.Common.{ap, arith, Option, Some, None}
+use Rattle.std.proofs.lemmas.Option.{slice_get-map}
 use Rattle.std.specs.Prelude.{slice_get}
 use Rattle.std.specs.Cmp.{nat_cmp_total}
 use Rattle.std.specs.FinMap.{get, get-from_entries}
@@ -11,7 +12,6 @@ use Rattle.table_model.specs.Tables.{ChoiceRow}
 use Rattle.table_model.specs.TablesOf.{choice_entries, choice_row, tables_of, under_numbers}
 use Rattle.table_model.proofs.UnderNumbers.{entries-numbers, find-numbers}
 use Rattle.table_model.specs.ListsRead.{choice_read_at, choice_shown, rulings_read}
-use Rattle.table_model.proofs.PeriodPlaces.{slice_get-results}
 
 -- the table has each choice under its number,
 pub choice_row_at : (naming : Naming) (book : Book) (place : ℕ)
@@ -21,7 +21,7 @@ choice_row_at naming book place =
     let rows : List ChoiceRow = map (choice_row naming) book.rulings.choices in
     get-from_entries nat_cmp_total (under_numbers 1 rows) (place + 1)
     ∙ find-numbers 1 (place + 1) place rows (omega arith)
-    ∙ slice_get-results (choice_row naming) book.rulings.choices place
+    ∙ slice_get-map (choice_row naming) book.rulings.choices place
 
 -- and it is shown so
 pub choice_listed : (naming : Naming) (book : Book) (place : ℕ)
