@@ -67,13 +67,14 @@ returns-in-Ok-copy_to-clause-there g c =
     copies.Refused visited.result.0 c.map_err.result c.map_err.ensures.cases
     (ok_so visited.result.0 visited.ensures.there (λ answer there honest image may.
     let honest_too = found_clean two visited.result.1.files image may.1 in
-    let clean = visited.ensures.clean honest_too in
-    (told_by_row file_names first store c.in-Ok-copy_to.ensures.ready
-    (λ sound. subst (λ (i : Image). (held : HoldsBooks i) → (view store).trees ≡ trees_held held)
-    c.in-Ok.ensures.held (c.in-Ok-copy_to.ensures.found sound honest))
-    clean true (there honest_too),
-    subst (HoldNoNewer books_schema) c.in-Ok.ensures.held
-    (c.in-Ok-copy_to.ensures.form (clean_of _ clean) honest))))
+    let clean = visited.ensures.clean honest_too in (
+      told_by_row file_names first store c.in-Ok-copy_to.ensures.ready
+          (λ sound. subst (λ (i : Image). (held : HoldsBooks i) → (view store).trees ≡ trees_held held)
+          c.in-Ok.ensures.held (c.in-Ok-copy_to.ensures.found sound honest))
+          clean true (there honest_too),
+      subst (HoldNoNewer books_schema) c.in-Ok.ensures.held
+          (c.in-Ok-copy_to.ensures.form (clean_of _ clean) honest),
+    )))
 
 pub returns-in-Ok-copy_to-clause-original : goal.returns-in-Ok-copy_to-clause-original
 returns-in-Ok-copy_to-clause-original g c =

@@ -36,9 +36,10 @@ returns-in-Ok g c =
       came = visited.ensures.came;
       there = ok_so visited.result.0 visited.ensures.there (λ answer there image may.
           let honest = found_clean disk visited.result.1.files image may.1 in
-          let clean = visited.ensures.clean honest in
-          (told_by_row file_names first store opened.ready opened.found clean true (there honest),
-          opened.form (clean_of _ clean)));
+          let clean = visited.ensures.clean honest in (
+            told_by_row file_names first store opened.ready opened.found clean true (there honest),
+            opened.form (clean_of _ clean),
+          ));
       cause = err_so visited.result.0 visited.ensures.cause (λ fault cause clean.
           visited_cause file_names first store opened.ready opened.found
           (visited.ensures.clean clean) _ fault (cause clean));
