@@ -1,15 +1,17 @@
 -- Books to which nothing was submitted are those of no history.
 use Rattle.std.proofs.Common.{◌≡◌, ◌∙◌, ℕ, ℤ, suc, true, List, [], ◌∷◌, ◌++◌, ◌||◌}
-use Rattle.std.proofs.Common.{Some, Result, Ok, Err, length, ap, arith, refl}
+use Rattle.std.proofs.Common.{Option, Some, Result, Ok, Err, length, ap, arith, refl}
 use Rattle.std.proofs.Common.{subst, sym, true≢false, unwrap_or, length-append}
 use Rattle.std.specs.Prelude.{◌&&◌, ◌==◌, IfOk}
 use Rattle.std.specs.FinMap as fin
-use Rattle.std.specs.FinMap.{empty, entries}
+use Rattle.std.specs.FinMap.{entries, len-empty, len-entries}
 use Rattle.std.specs.List.{list_any}
+use Rattle.std.specs.Ordering.{int_cmp, nat_cmp}
 use Rattle.std.proofs.Math.Logic.{∥∥₁_elim}
-use Rattle.std.proofs.lemmas.Bool.Decides.{nat_tests}
+use Rattle.std.proofs.lemmas.Bool.{eq-eqb, eqb-true}
 use Rattle.std.proofs.lemmas.List.Elements.{All-pop}
 use Rattle.sqlite_wal.specs.Recovery.{Image}
+use Rattle.book_model.proofs.FilterLemmas.{no_length}
 use Rattle.book_model.proofs.RecordSets.{first_of, has_with, is, is_itself, second_of}
 use Rattle.book_model.specs.Words.{AcceptedTerms, Book, Choice, Event, Naming, Records}
 use Rattle.book_model.specs.Words.{PeriodClosed, RecordChosen, RecordKept, RulingGiven}
@@ -45,28 +47,19 @@ record AreNone (tariffs closes held adopted : ℕ) : Type 0 where
   held_none : held ≡ 0
   never : adopted ≡ 0
 
--- a number that passes the test is 0
-passes_zero : (number : ℕ) → (number == 0) ≡ true → number ≡ 0
-passes_zero number passed = grind (arith, nat_tests, passed)
-
 are_none : (tariffs closes held adopted : ℕ) → unused_by tariffs closes held adopted ≡ true
     → AreNone tariffs closes held adopted
 are_none tariffs closes held adopted passed =
     let three = first_of ((tariffs == 0) && (closes == 0) && (held == 0)) (adopted == 0) passed in
     let two = first_of ((tariffs == 0) && (closes == 0)) (held == 0) three in
     record {
-      tariffs_none = passes_zero tariffs (first_of (tariffs == 0) (closes == 0) two);
-      closes_none = passes_zero closes (second_of (tariffs == 0) (closes == 0) two);
+      tariffs_none = eqb-true tariffs 0 (first_of (tariffs == 0) (closes == 0) two);
+      closes_none = eqb-true closes 0 (second_of (tariffs == 0) (closes == 0) two);
       held_none =
-          passes_zero held (second_of ((tariffs == 0) && (closes == 0)) (held == 0) three);
-      never = passes_zero adopted
+          eqb-true held 0 (second_of ((tariffs == 0) && (closes == 0)) (held == 0) three);
+      never = eqb-true adopted 0
           (second_of ((tariffs == 0) && (closes == 0) && (held == 0)) (adopted == 0) passed);
     }
-
--- a list of no length has nothing
-no_length : {A : Type 0} (xs : List A) → length xs ≡ 0 → xs ≡ []
-no_length [] none = refl
-no_length (x ∷ xs) none = absurd (omega (arith, none))
 
 -- where no record is held, this one is not
 not_held : (held : Records) (bytes : List ℕ) → length (members held) ≡ 0 → has held bytes ≡ true → ⊥
@@ -140,10 +133,13 @@ none_resumed names (event ∷ older) first (Ok made) held unused =
     absurd never
 
 -- and to new books nothing was submitted
-none_submitted : are_unused new_tables ≡ true
-unfolding entries empty
-none_submitted = refl
+none_by : (tariffs closes : ℕ) → tariffs ≡ 0 → closes ≡ 0 → unused_by tariffs closes 0 0 ≡ true
+none_by tariffs closes no_tariff no_close = λ i. eq-eqb tariffs 0 no_tariff i
+    && eq-eqb closes 0 no_close i && eq-eqb 0 0 refl i && eq-eqb 0 0 refl i
 
 pub new_unused : (naming : Naming) → are_unused (tables_of naming new_book) ≡ true
 new_unused naming =
-    subst (λ (tables : Tables). are_unused tables ≡ true) (new_follow naming) none_submitted
+    subst (λ (tables : Tables). are_unused tables ≡ true) (new_follow naming)
+    (none_by (length (entries new_tables.tariffs)) (length (entries new_tables.closes))
+    (sym (len-entries new_tables.tariffs) ∙ len-empty int_cmp (Option (List ℕ)))
+    (sym (len-entries new_tables.closes) ∙ len-empty nat_cmp ℤ))
