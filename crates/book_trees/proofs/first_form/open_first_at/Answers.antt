@@ -3,9 +3,9 @@ use Rattle.sqlite_store.specs.FileStore.{view}
 use Rattle.sqlite_wal.specs.Recovery.{Image}
 use Rattle.book_trees.proofs.FreshFiles.{as_found, fresh_cause, fresh_faults, fresh_image}
 use Rattle.book_trees.proofs.FreshFiles.{fresh_images}
-use Rattle.book_trees.specs.FirstForm.{HasFirstCause}
 use Rattle.book_trees.specs.Forms.{HoldNoNewer}
 use Rattle.book_trees.specs.LedgerFiles.{HoldsBooks, HoldsFirstBooks, trees_held}
+use Rattle.book_trees.specs.Refusals.{HasCause}
 use Rattle.book_trees.specs.Schema.{first_schema}
 use Rattle.book_trees.proofs.first_form.open_first_at.Goals as goal
 
@@ -38,6 +38,6 @@ returns-in-Err-open_first_files-clause-kept g c left may =
 pub returns-in-Err-open_first_files-clause-this : goal.returns-in-Err-open_first_files-clause-this
 returns-in-Err-open_first_files-clause-this g c other clean =
     let fresh = c.in-Ok.ensures.fresh in
-    fresh_cause HasFirstCause HoldsBooks (fresh_image g.S.Start.log g.S.Start.db fresh.0 fresh.1)
+    fresh_cause HasCause HoldsBooks (fresh_image g.S.Start.log g.S.Start.db fresh.0 fresh.1)
     (fresh_faults g.S.Start.log g.S.Start.db fresh.0 fresh.1)
     (c.in-Err-open_first_files.ensures.this other clean)

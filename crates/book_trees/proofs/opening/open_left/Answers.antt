@@ -1,8 +1,8 @@
 use Rattle.std.proofs.Common.{◌≡◌, true, sym, ap, ◌∙◌, subst}
 use Rattle.sqlite_store.specs.FileStore.{state}
 use Rattle.sqlite_store.specs.Unopened.{state_of, image, IsFullFile}
-use Rattle.book_trees.proofs.Opened.{committed_listed, has_file, held_listed, is_open}
-use Rattle.book_trees.proofs.Opened.{lists_here, opens_twice, shows_held, shows_tables}
+use Rattle.book_trees.proofs.Opened.{committed_listed, found_old, has_file, held_listed, is_open}
+use Rattle.book_trees.proofs.Opened.{opens_twice, rows_are, shows_held, shows_tables}
 use Rattle.book_trees.proofs.Refused.{cause_of, cause_since, unlisted_refused}
 use Rattle.book_trees.specs.LedgerFiles.{page_size, HoldsBooks}
 use Rattle.book_trees.specs.Listing.{lists_books}
@@ -68,7 +68,11 @@ returns-in-Ok-open_trusted-clause-read g c clean =
     ap lists_books (sym c.as_slice.ensures.value) ∙ sym c.lists_books.ensures
     ∙ c.if-not-lists_books.false in
     record {
-      lists = lists_here old mid rows listed c.requires.size books;
+      lists = record {
+        pages = listed.pages;
+        found = found_old old mid rows listed c.requires.size;
+        listed = ap lists_books (sym (rows_are old mid rows listed c.requires.size)) ∙ books;
+      };
       trees = shows_tables store opened.ready
           (opened.schema ∙ c.read_catalog.ensures.schema ∙ c.requires.schema)
           ((opened.kept clean).size ∙ size) clean listed.pages same;
