@@ -12,7 +12,7 @@ use Rattle.book_core.specs.Room.{if_room}
 use Rattle.table_model.specs.TableChanges.{amount_under}
 use Rattle.table_model.specs.Tables.{RecordRow, Tables}
 use Rattle.table_model.proofs.PriceSums.{part_within}
-use Rattle.table_model.proofs.Texts.{same_text}
+use Rattle.book_core.proofs.NamedLemmas.{same_texts}
 use Rattle.tree_rows.proofs.Taking.{some_is}
 use Rattle.tree_tables.proofs.LateSums.{sum_one_less, total_by_parts, values_sum}
 use Rattle.tree_tables.proofs.RowsRead.{all_entries}
@@ -102,7 +102,7 @@ module _ (terms : Terms) (total : ℕ) (tables : Tables) (can : CanBeSummed term
           told = λ other its found gone.
               elim (same_bytes other name) as (λ b. same_bytes other name ≡ b → CanCost terms its) [
                 | true ↦ λ same. subst (CanCost terms) (some_is row its (sym finds.there
-                    ∙ ap (get tables.records) (sym (same_text other name same)) ∙ found)) can_cost
+                    ∙ ap (get tables.records) (sym (same_texts other name same)) ∙ found)) can_cost
                 | false ↦ λ apart. sums.told other its found
                     (finds.others (other, its) found apart ∙ gone)
               ] refl;

@@ -15,7 +15,7 @@ use Rattle.table_model.specs.TableChanges.{reprice, reprice_step, walk}
 use Rattle.table_model.specs.Tables.{RecordRow, Tables}
 use Rattle.table_model.proofs.PartlyPriced.{HasPrice, IsPartlyPriced, first_counted, partly_all}
 use Rattle.table_model.proofs.PartlyPriced.{partly_none, step_partly, step_stands}
-use Rattle.table_model.proofs.Texts.{same_text}
+use Rattle.book_core.proofs.NamedLemmas.{same_texts}
 use Rattle.tree_rows.proofs.Taking.{some_is}
 use Rattle.tree_tables.specs.Holds.{Holds}
 use Rattle.tree_tables.specs.LateRecords.{FindsLate, is_left}
@@ -48,7 +48,7 @@ module _ (terms : Terms) (last : Option LateRecord) (late : LateRecord) (now : T
         elim (same_bytes name late.stored.name) as (λ b. same_bytes name late.stored.name ≡ b
         → HasPrice terms row ⊎ (is_left terms.effective (Some late) made (name, row) ≡ true)) [
           | true ↦ λ same. inl (own row
-              (ap (get made.records) (sym (same_text name late.stored.name same)) ∙ found) from)
+              (ap (get made.records) (sym (same_texts name late.stored.name same)) ∙ found) from)
           | false ↦ λ apart.
               let before = sym (others name apart) ∙ found in
               elim (so name row before from) [
