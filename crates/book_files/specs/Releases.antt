@@ -14,8 +14,8 @@ use Rattle.named_books.specs.declared.repository.RepositoryFault.TheVariants.{Le
 -- hold books, this fault.
 abbrev pub seen_answer : {A D : Type 0} → RepositoryFault → Result A RepositoryFault → Ended D
     → Result A RepositoryFault
-seen_answer unseen answer (Closed closed) = if closed.is_kept then answer else Err unseen
-seen_answer unseen answer (Refused files) = answer
+seen_answer fault answer (Closed closed) = if closed.is_kept then answer else Err fault
+seen_answer fault answer (Refused files) = answer
 
 -- a copy is whole where its files were closed, and hold it without a log
 abbrev pub whole_copy : {A : Type 0} → Result A RepositoryFault → Bool → Result A CopyFault
