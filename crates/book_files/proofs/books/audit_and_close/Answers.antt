@@ -18,6 +18,7 @@ returns g c =
           close_leaves g.D.Disk store closed.result
           (λ (trees : Trees). trees ≡ (view c.args.store).trees) closed.ensures.honest
           closed.ensures.left (audited.ensures.same rests);
+      log = closed.ensures.log;
       book = ok_so audited.result.0 audited.ensures.book (λ told book counts is honest.
           book counts is (no_doubt _ (closed.ensures.honest honest)));
       own = ok_so audited.result.0 audited.ensures.own (λ told own honest ours finding is.
