@@ -45,11 +45,16 @@ fn tell_lines<O: Write + Drop>(
     }
 }
 
+/// What a number means and what to do, a line each.
 fn explanation_text(alloc: Global, meaning: &str, advice: &str) -> Result<String, AllocError>
     ensures { IfOk result (λ text. string_bytes text
         ≡ spec.explanation_text meaning.now advice.now) }
 {
-    format!(in alloc; "{meaning}\n{advice}\n")
+    let mut text = String::from_str(alloc, meaning)?;
+    text.push('\n')?;
+    text.push_str(advice)?;
+    text.push('\n')?;
+    Ok(text)
 }
 
 fn numbered(kind: NumberKind) -> FaultKind
