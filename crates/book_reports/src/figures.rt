@@ -1,7 +1,7 @@
 //! Figures of a period, which a ledger answers by calls that change nothing: what a dry run of a ruling
 //! shows of the books before the ruling and after it.
 
-ghost use Rattle.std.specs.Prelude.{◌≡◌, ◌≤◌, IfOk, length};
+ghost use Rattle.std.specs.Prelude.{◌≡◌, ◌≤◌, IfOk};
 ghost use Rattle.book_model.specs.Words.{AreLines, AreRows, last_period};
 ghost use Rattle.book_core.specs.Calls.{IsCall};
 ghost use Rattle.report_texts.specs.DryRuns.{NamesDay};
