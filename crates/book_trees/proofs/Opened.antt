@@ -29,7 +29,7 @@ use Rattle.book_trees.specs.LedgerFiles.{page_size, AreLeft, HoldsBooks, HoldsFi
 use Rattle.book_trees.specs.LedgerFiles.{HoldsTables, trees_held}
 use Rattle.book_trees.specs.Listing.{lists_books, lists_first_books}
 use Rattle.book_trees.specs.Schema.{books_schema, first_schema}
-use Rattle.book_trees.specs.StoreView.{IsOpen, ListsBooks}
+use Rattle.book_trees.specs.StoreView.{IsOpen, ListsBooks, ShowsBooks}
 
 -- an empty list of rows does not list books
 none_listed : lists_books [] ≡ true → ⊥
@@ -245,4 +245,23 @@ holds_shown old mid rows listed sized store ready schema first second clean foun
       pages = listed.pages;
       found = found_old old mid rows listed sized;
       file = file;
+    }
+
+-- one that was opened on files that list books shows what these list
+pub shows_listed : {D : Type 0} {g : Ghosts D} (old mid : Unopened D g) (rows : List Row)
+    → IsCatalogOf old mid rows → (state_of old).page_size ≡ page_size → lists_books rows ≡ true
+    → (store : FileStore D g) → IsReady store → schema_of store ≡ books_schema
+    → Opens old (state_of mid) → Opens mid (state store) → IsTrue (state store).is_clean
+    → Recovers (state_of mid).page_size (image mid) (state store).committed
+    → ShowsBooks (image old) store
+shows_listed old mid rows listed sized books store ready schema first second clean found =
+    let size : (state_of mid).page_size ≡ page_size = first.size ∙ sized in
+    let same = committed_listed old mid rows listed sized (state store).committed size found in
+    record {
+      lists = record {
+        pages = listed.pages;
+        found = found_old old mid rows listed sized;
+        listed = ap lists_books (sym (rows_are old mid rows listed sized)) ∙ books;
+      };
+      trees = shows_tables store ready schema (second.size ∙ size) clean listed.pages same;
     }

@@ -1,10 +1,10 @@
 use Rattle.std.proofs.Common.{◌≡◌, true, sym, ap, ◌∙◌, subst}
 use Rattle.sqlite_store.specs.FileStore.{state}
 use Rattle.sqlite_store.specs.Unopened.{state_of, image, IsFullFile}
-use Rattle.book_trees.proofs.Opened.{committed_listed, found_old, has_file, held_listed, is_open}
-use Rattle.book_trees.proofs.Opened.{opens_twice, rows_are, shows_held, shows_tables}
+use Rattle.book_trees.proofs.Opened.{has_file, held_listed, is_open, opens_twice, shows_held}
+use Rattle.book_trees.proofs.Opened.{shows_listed}
 use Rattle.book_trees.proofs.Refused.{cause_of, cause_since, unlisted_refused}
-use Rattle.book_trees.specs.LedgerFiles.{page_size, HoldsBooks}
+use Rattle.book_trees.specs.LedgerFiles.{HoldsBooks}
 use Rattle.book_trees.specs.Listing.{lists_books}
 use Rattle.book_trees.specs.Refusals.{HasCause}
 use Rattle.book_trees.specs.declared.faults.OpenFault.{OpenFault}
@@ -55,28 +55,11 @@ pub returns-in-Ok-open_trusted-clause-read : goal.returns-in-Ok-open_trusted-cla
 returns-in-Ok-open_trusted-clause-read g c clean =
     let opened = c.in-Ok-open_trusted.ensures in
     let then = opened.honest clean in
-    let store = c.in-Ok-open_trusted.store in
-    let old = c.args.files in
-    let mid = c.read_catalog.new.self in
-    let rows = c.in-Ok.listed.items in
-    let listed = c.in-Ok.ensures.ok then in
-    let size : (state_of mid).page_size ≡ page_size =
-    (c.read_catalog.ensures.kept then).size ∙ c.requires.size in
-    let same = committed_listed old mid rows listed c.requires.size (state store).committed size
-    (opened.found clean) in
-    let books : lists_books rows ≡ true =
-    ap lists_books (sym c.as_slice.ensures.value) ∙ sym c.lists_books.ensures
-    ∙ c.if-not-lists_books.false in
-    record {
-      lists = record {
-        pages = listed.pages;
-        found = found_old old mid rows listed c.requires.size;
-        listed = ap lists_books (sym (rows_are old mid rows listed c.requires.size)) ∙ books;
-      };
-      trees = shows_tables store opened.ready
-          (opened.schema ∙ c.read_catalog.ensures.schema ∙ c.requires.schema)
-          ((opened.kept clean).size ∙ size) clean listed.pages same;
-    }
+    shows_listed c.args.files c.read_catalog.new.self c.in-Ok.listed.items (c.in-Ok.ensures.ok then)
+    c.requires.size (ap lists_books (sym c.as_slice.ensures.value) ∙ sym c.lists_books.ensures
+    ∙ c.if-not-lists_books.false) c.in-Ok-open_trusted.store opened.ready
+    (opened.schema ∙ c.read_catalog.ensures.schema ∙ c.requires.schema)
+    (c.read_catalog.ensures.kept then) (opened.kept clean) clean (opened.found clean)
 
 pub returns-in-Ok-open_trusted-clause-opened : goal.returns-in-Ok-open_trusted-clause-opened
 returns-in-Ok-open_trusted-clause-opened g c =
