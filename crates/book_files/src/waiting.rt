@@ -126,28 +126,28 @@ impl<'a> Files<'a> {
         waiting.end(self.visit(what, book, visit))
     }
 
-    /// Brings books to this form, and waits for them.
-    pub(crate) fn wait_to_upgrade(&self, book: &str) -> Opened<Upgraded> {
+    /// Asks for books, and again while they are in use, as long as there is time.
+    fn wait<T: Drop, F: FnMut() -> Opened<T>>(&self, mut ask: F) -> Opened<T>
+        requires { F.IsAlwaysCallable ask }
+    {
         let mut waiting = self.waiting();
         for _ in 0..self.pauses() {
-            match waiting.settle(self.upgrade_books(book)) {
+            match waiting.settle(ask()) {
                 None => {}
                 Some(opened) => return opened,
             }
         }
-        waiting.end(self.upgrade_books(book))
+        waiting.end(ask())
+    }
+
+    /// Brings books to this form, and waits for them.
+    pub(crate) fn wait_to_upgrade(&self, book: &str) -> Opened<Upgraded> {
+        self.wait(|| self.upgrade_books(book))
     }
 
     /// Audits books, and waits for them.
     pub(crate) fn wait_to_audit<W: Watch>(&self, book: &str, watch: &mut W) -> Opened<Audited> {
-        let mut waiting = self.waiting();
-        for _ in 0..self.pauses() {
-            match waiting.settle(self.audit_books(book, watch)) {
-                None => {}
-                Some(opened) => return opened,
-            }
-        }
-        waiting.end(self.audit_books(book, watch))
+        self.wait(|| self.audit_books(book, watch))
     }
 
     /// Copies books, and waits for them.
@@ -157,13 +157,6 @@ impl<'a> Files<'a> {
         copy: &str,
         watch: &mut W,
     ) -> Opened<Audited> {
-        let mut waiting = self.waiting();
-        for _ in 0..self.pauses() {
-            match waiting.settle(self.copy_books(book, copy, watch)) {
-                None => {}
-                Some(opened) => return opened,
-            }
-        }
-        waiting.end(self.copy_books(book, copy, watch))
+        self.wait(|| self.copy_books(book, copy, watch))
     }
 }
