@@ -26,9 +26,8 @@ pub audit_unsound : (audited : Audited) (finding : Finding) (text : List ℕ)
 audit_unsound audited finding text held holds written is said printed =
     subst (λ audited. EndsAudit (Ok audited) held holds (Err fault.Unsound)) (sym is)
     (inl (record {
-      text = text;
-      is = subst (λ audited. IsAuditText audited text) is said;
       written = written;
-      printed = printed;
+      printed = subst (λ text. IsPrinted text held holds written)
+          (subst (λ audited. IsAuditText audited text) is said) printed;
       ends = refl;
     }))

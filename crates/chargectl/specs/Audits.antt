@@ -5,7 +5,8 @@ use Rattle.book_audit.specs.declared.audited.Audited.{Audited}
 use Rattle.book_audit.specs.declared.audited.Audited.TheVariants.{Sound, Unsound}
 use Rattle.book_audit.specs.declared.finding.Finding.{Finding}
 use Rattle.book_audit.specs.Copies.{IsAudited, IsCopied}
-use Rattle.book_audit.specs.Texts.{IsAuditText, sound_text}
+use Rattle.book_audit.specs.Findings.{unsound_text}
+use Rattle.book_audit.specs.Texts.{sound_text}
 use Rattle.named_books.specs.declared.repository.RepositoryFault.{RepositoryFault}
 use Rattle.named_books.specs.Shelves.{Shelf, IsUntouched}
 use Rattle.chargectl.specs.declared.command_fault.CommandFault.{CommandFault}
@@ -18,10 +19,8 @@ use Rattle.chargectl.specs.Faults.{shelf_fault}
 -- written, or the output fails, and has a prefix of it.
 pub record EndsUnsound (finding : Finding) (held holds : Option (List ℕ))
     (came : Result (Unit {0}) CommandFault) : Type 0 where
-  pub text : List ℕ
-  pub is : IsAuditText (Unsound finding) text
   pub written : Result (Unit {0}) CommandFault
-  pub printed : IsPrinted text held holds written
+  pub printed : IsPrinted (unsound_text finding) held holds written
   pub ends : came ≡ Err fault.Unsound
 
 -- Of sound books the lines are written, or a prefix of them where the output fails, or nothing where there
