@@ -22,7 +22,7 @@ use Rattle.office.specs.declared.request.Asked.{Asked}
 use Rattle.office.specs.declared.request.Asked.TheVariants.{Tariff, Close, Choose, Adopt}
 use Rattle.office.specs.Requests.{Asks, Gives, IsAskableRuling, IsAskableUnread, no_dump}
 use Rattle.office.specs.Requests.{response_by}
-use Rattle.named_books.specs.Shelves.{IsDoneTo, IsOpened, Shelf}
+use Rattle.named_books.specs.Shelves.{IsDoneTo, IsOpened, IsThere, Shelf}
 use Rattle.named_books.proofs.ShelfLemmas.{done_as}
 use Rattle.chargectl.specs.declared.dated_rulings.DatedAnswer.{DatedAnswer}
 use Rattle.chargectl.specs.Commands.{AsksDated, AsksDatedBy, AsksOnceBy, answer_told}
@@ -178,6 +178,12 @@ once_done : (asked : Asked) (book : List ℕ) (old new : Shelf) (dated : DatedAn
 once_done asked book old new dated done =
     done_as book (AsksDatedBy old.naming asked dated) (AsksOnceBy old.naming asked dated.answer) old new
     (λ before events is made. made.once) done
+
+-- whatever is told of it, there are such books, or the name is still free
+pub there_told : (book : List ℕ) (old new : Shelf) (told : Result DatedAnswer RepositoryFault)
+    → IsThere book old new told → IsThere book old new (answer_told told)
+there_told book old new (Ok dated) there = there
+there_told book old new (Err fault) there = there
 
 -- books that were opened for a ruling of a day were opened to ask for it
 pub once_opened : (asked : Asked) (book : List ℕ) (old new : Shelf)

@@ -12,7 +12,7 @@ use Rattle.book_core.proofs.FollowLemmas.{none_answered}
 use Rattle.office.specs.declared.choosing.Chosen.{Chosen}
 use Rattle.named_books.specs.declared.repository.RepositoryFault.{RepositoryFault}
 use Rattle.office.specs.Choices.{ChoosesEach, answer_lines}
-use Rattle.named_books.specs.Shelves.{Shelf, IsOpened, IsUntouched}
+use Rattle.named_books.specs.Shelves.{Shelf, IsOpened, IsThere, IsUntouched}
 use Rattle.office.proofs.ChoiceLemmas.{choices_answered}
 use Rattle.program_output.specs.declared.names.NamesFault.{NamesFault}
 use Rattle.program_output.specs.Names.{names_in}
@@ -67,6 +67,7 @@ pub record IsListAnswered (names : List (List ℕ)) (book : List ℕ) (old new :
     (answered : ListAnswered) : Type 0 where
   pub told : Result (Result Chosen AllocError) RepositoryFault
   pub done : IsOpened (ChoosesBy old.naming names) book old new told
+  pub there : IsThere book old new told
   pub says : answered.chosen ≡ chosen_of told
   pub log : new.has_log book answered.has_log
 

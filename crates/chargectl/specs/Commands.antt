@@ -21,7 +21,7 @@ use Rattle.office.specs.declared.request.Answer.{Answer}
 use Rattle.office.specs.declared.request.Answer.TheVariants as answers
 use Rattle.office.specs.Requests.{Dump, Response, Asks, Gives, response_of, response_by}
 use Rattle.office.specs.Answers.{answer_text}
-use Rattle.named_books.specs.Shelves.{Shelf, IsOpened, IsUntouched}
+use Rattle.named_books.specs.Shelves.{Shelf, IsOpened, IsThere, IsUntouched}
 use Rattle.office.proofs.LawLemmas.{asks_answered}
 use Rattle.command_line.specs.declared.request.BookRequest.{BookRequest}
 use Rattle.command_line.specs.declared.request.BookRequest.TheVariants as book
@@ -139,11 +139,12 @@ answer_of (Ok (Ok answer)) = Ok answer
 answer_of (Ok (Err refusal)) = Err (fault.Ledger refusal)
 answer_of (Err shelf) = Err (shelf_fault shelf)
 
--- The books of a name were opened, and the office was asked this once.
+-- The books of a name were opened, if there are any, and the office was asked this once.
 pub record IsAnswered (asked : Asked) (book : List ℕ) (old new : Shelf) (answered : Answered) : Type 0
   where
     pub told : Result (Result Answer LedgerFault) RepositoryFault
     pub done : IsOpened (AsksOnceBy old.naming asked) book old new told
+    pub there : IsThere book old new told
     pub says : answered.answer ≡ answer_of told
     pub log : new.has_log book answered.has_log
     pub change : answered.is_change ≡ may_change asked

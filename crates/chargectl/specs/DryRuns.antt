@@ -24,7 +24,7 @@ use Rattle.office.specs.Outcomes.{asked_outcome, is_hindered}
 use Rattle.office.specs.Requests as office
 use Rattle.office.specs.Requests.{IsAskableRuling, Response, Text, response_by, response_of}
 use Rattle.office.specs.Runs.{AsksWithoutReader, dump_here}
-use Rattle.named_books.specs.Shelves.{Shelf, IsTried, IsUntouched}
+use Rattle.named_books.specs.Shelves.{Shelf, IsThere, IsTried, IsUntouched}
 use Rattle.office.proofs.LawLemmas.{asks_answered}
 use Rattle.command_line.specs.declared.request.BookRequest.{BookRequest}
 use Rattle.command_line.specs.declared.request.BookRequest.TheVariants as to_books
@@ -141,6 +141,7 @@ pub record IsTriedOnce (asked : Asked) (book : List ℕ) (old new : Shelf) (answ
   where
     pub told : Result DatedAnswer RepositoryFault
     pub tried : IsTried (TriesOnceBy old.naming asked) book old new told
+    pub there : IsThere book old new told
     pub says : answered.answer ≡ answer_of (answer_told told)
     pub notice : answered.notice ≡ notice_of told
     pub log : new.has_log book answered.has_log

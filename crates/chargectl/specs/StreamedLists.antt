@@ -18,7 +18,7 @@ use Rattle.command_line.specs.declared.request.ListWords.{ListWords}
 use Rattle.command_line.specs.declared.request.ListWords.TheVariants as worded
 use Rattle.command_line.specs.declared.request.PeriodWords.{PeriodWords}
 use Rattle.named_books.specs.declared.repository.RepositoryFault.{RepositoryFault}
-use Rattle.named_books.specs.Shelves.{Shelf, ComesBy, IsOpened, IsUntouched}
+use Rattle.named_books.specs.Shelves.{Shelf, ComesBy, IsOpened, IsThere, IsUntouched}
 use Rattle.chargectl.specs.declared.command_fault.CommandFault.{CommandFault}
 use Rattle.chargectl.specs.declared.command_fault.CommandFault.TheVariants as fault
 use Rattle.chargectl.specs.declared.ended.Ended.{Ended}
@@ -76,6 +76,7 @@ pub record Lists (list : StreamedList) (book : List ℕ) (old new : Shelf)
   pub told : Result (Result (Unit {0}) ReportFault) RepositoryFault
   pub flushed : Result (Unit {0}) CommandFault
   pub done : IsOpened (WritesAnswer (list_answer list) old.naming held holds) book old new told
+  pub there : IsThere book old new told
   pub some : ComesBy (WritesSomeOf list held holds) (holds ≡ held) told
   pub ends : ended.came ≡ first_fault (list_end told) flushed
   pub output : OnOk (list_end told) (IfErr flushed IsFileFault)

@@ -4,7 +4,7 @@ use Rattle.std.specs.Fmt.{decimal}
 use Rattle.named_books.specs.declared.repository.RepositoryFault.{RepositoryFault}
 use Rattle.named_books.specs.declared.repository.Upgraded.{Upgraded}
 use Rattle.named_books.specs.declared.repository.Upgraded.TheVariants.{To, Already}
-use Rattle.named_books.specs.Shelves.{Shelf, IsUntouched}
+use Rattle.named_books.specs.Shelves.{Shelf, IsThere, IsUntouched}
 use Rattle.chargectl.specs.declared.command_fault.CommandFault.{CommandFault}
 use Rattle.chargectl.specs.declared.ended.Ended.{Ended}
 use Rattle.chargectl.specs.Commands.{IsRefusedBy}
@@ -28,6 +28,7 @@ pub record Upgrades (book : List ℕ) (old new : Shelf) (held holds : Option (Li
     : Type 0 where
   pub upgraded : Result Upgraded RepositoryFault
   pub done : IsUntouched book old new
+  pub there : IsThere book old new upgraded
   pub refused : IfErr upgraded (old.refuses book)
   pub ends : EndsUpgrade upgraded held holds ended.came
   pub log : new.has_log book ended.has_log

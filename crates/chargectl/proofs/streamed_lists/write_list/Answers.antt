@@ -34,6 +34,7 @@ returns g c =
       told = told;
       flushed = c.flushed.result;
       done = opened_kept list book old new held has holds kept told still c.open-answer.ensures.opened;
+      there = c.open-answer.ensures.there;
       some = came_kept list book old new held has holds kept _ told
           (λ same. ap (λ listing. contents (writer_of listing.sink)) same) still
           c.open-answer.ensures.came;
