@@ -31,14 +31,14 @@ use Rattle.chargectl.specs.Commands.{IsTariffFault, IsTextFault, IsWordFault, re
 use Rattle.chargectl.specs.Commands.{what_if_of}
 
 -- a request with its answer
-pub asked_once : (asked : Asked) (answer : Result Answer LedgerFault) (books : Books) (input : Input)
-    → IsAsked asked answer books input
-    → IsTransition books.old books.new (AsksOnceBy books.old.naming asked answer)
-asked_once asked answer books input it =
+pub asked_once : (asked : Asked) (had : Option (List ℕ)) (answer : Result Answer LedgerFault)
+    (books : Books) (input : Input) → input.old.left ≡ had → IsAsked asked answer books input
+    → IsTransition books.old books.new (AsksOnceBy books.old.naming asked had answer)
+asked_once asked had answer books input begun it =
     work_as books.old books.new (Asks books.old.naming asked it.dump (response_by answer))
-    (AsksOnceBy books.old.naming asked answer)
+    (AsksOnceBy books.old.naming asked had answer)
     (λ was before events is made.
-    record { dump = it.dump; input = input; given = it.given; made = made }) it.work
+    record { dump = it.dump; input = input; begun = begun; given = it.given; made = made }) it.work
 
 -- nothing was asked, and this is why
 pub not_asked : (request : BookRequest) (book : List ℕ) (shelf : Shelf)

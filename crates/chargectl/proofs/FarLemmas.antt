@@ -1,6 +1,6 @@
 -- Rulings of a day: the newest day is read, and then the ruling is asked for.
 use Rattle.std.proofs.Common.{◌≡◌, ◌∙◌, Bool, false, List, [], ◌++◌, append-nil, refl, sym, ap, subst}
-use Rattle.std.proofs.Common.{Option, None, Result, Ok, Err, ◌⊎◌, inl, inr, ℕ, ℤ}
+use Rattle.std.proofs.Common.{Option, None, Some, Result, Ok, Err, ◌⊎◌, inl, inr, ℕ, ℤ}
 use Rattle.std.specs.Result.{IsErrAnd}
 use Rattle.std.proofs.lemmas.Result.{err_from_is_err_and}
 use Rattle.streams.specs.InputOutput.{Input, ReaderSeen}
@@ -74,7 +74,7 @@ far_read asked day period result is one next =
 -- the newest day was read, which is no event, and then the ruling was asked for
 dated_of : (naming : Naming) (asked : Asked) (far : Bool) (told : Result Answer LedgerFault)
     (was : Bool) (before : Book) (events : List Event) (is : Bool)
-    → Then (Calls (λ (far : Bool). far) (far_outcome asked) (Ok far)) (AsksOnceBy naming asked told) was
+    → Then (Calls (λ (far : Bool). far) (far_outcome asked) (Ok far)) (AsksOnceBy naming asked (Some []) told) was
     before events is
     → AsksDated naming asked (response_by told) (notice_by far (response_by told)) was before events is
 dated_of naming asked far told was before events is both =
@@ -83,28 +83,28 @@ dated_of naming asked far told was before events is both =
     let same : is_far_asked asked before ≡ far = same_value both.first.makes.0 in
     let all : events ≡ both.late = both.all ∙ ap (λ early. both.late ++ early) early
     ∙ append-nil both.late in
-    let next : AsksOnceBy naming asked told was before both.late is =
-    subst (λ between. AsksOnceBy naming asked told between before both.late is) open_still
-    (subst (λ early. AsksOnceBy naming asked told both.between (after_all early before) both.late is)
+    let next : AsksOnceBy naming asked (Some []) told was before both.late is =
+    subst (λ between. AsksOnceBy naming asked (Some []) told between before both.late is) open_still
+    (subst (λ early. AsksOnceBy naming asked (Some []) told both.between (after_all early before) both.late is)
     early both.next) in
     record {
-      once = subst (λ events. AsksOnceBy naming asked told was before events is) (sym all) next;
+      once = subst (λ events. AsksOnceBy naming asked (Some []) told was before events is) (sym all) next;
       notice = ap (λ far. notice_by far (response_by told)) (sym same);
     }
 
 pub asked_dated : (old mid new : Seen) (asked : Asked) (far : Bool) (told : Result Answer LedgerFault)
     → IsCall (λ (far : Bool). far) old mid (Ok far) (far_outcome asked)
-    → IsTransition mid new (AsksOnceBy mid.naming asked told)
+    → IsTransition mid new (AsksOnceBy mid.naming asked (Some []) told)
     → IsTransition old new
     (AsksDated old.naming asked (response_by told) (notice_by far (response_by told)))
 asked_dated old mid new asked far told one next =
     work_as old new
-    (Then (Calls (λ (far : Bool). far) (far_outcome asked) (Ok far)) (AsksOnceBy old.naming asked told))
+    (Then (Calls (λ (far : Bool). far) (far_outcome asked) (Ok far)) (AsksOnceBy old.naming asked (Some []) told))
     (AsksDated old.naming asked (response_by told) (notice_by far (response_by told)))
     (dated_of old.naming asked far told)
     (work_then old mid new (Calls (λ (far : Bool). far) (far_outcome asked) (Ok far))
-    (AsksOnceBy old.naming asked told) one.work
-    (subst (λ naming. IsTransition mid new (AsksOnceBy naming asked told)) one.work.naming next))
+    (AsksOnceBy old.naming asked (Some []) told) one.work
+    (subst (λ naming. IsTransition mid new (AsksOnceBy naming asked (Some []) told)) one.work.naming next))
 
 -- where the newest day could not be read, no call of the ledger can be answered
 unread : {A : Type 0} (outcome : Book → Outcome A) (asked : Asked) (fault : LedgerFault) (was : Bool)
@@ -131,7 +131,7 @@ unread outcome asked fault was before events is called = cc called.makes.0
 
 -- a reader that nobody asks
 abbrev no_reader : ReaderSeen
-no_reader = record { left = None; reads = 0; has_failed = false; has_ended = false }
+no_reader = record { left = Some []; reads = 0; has_failed = false; has_ended = false }
 
 abbrev no_input : Input
 no_input = record { old = no_reader; new = no_reader }
@@ -142,7 +142,7 @@ not_asked_for : (naming : Naming) (asked : Asked) (fault : LedgerFault) (was : B
     → Asks naming asked no_dump (Err fault) was before events is
     → AsksDated naming asked (Err fault) None was before events is
 not_asked_for naming asked fault was before events is given made = record {
-  once = record { dump = no_dump; input = no_input; given = given; made = made };
+  once = record { dump = no_dump; input = no_input; begun = refl; given = given; made = made };
   notice = refl;
 }
 
@@ -174,9 +174,9 @@ failed_dated old new asked fault may call =
 -- what was done to books to ask for a ruling of a day is that it was asked for
 once_done : (asked : Asked) (book : List ℕ) (old new : Shelf) (dated : DatedAnswer)
     → IsDoneTo book (AsksDatedBy old.naming asked dated) old new
-    → IsDoneTo book (AsksOnceBy old.naming asked dated.answer) old new
+    → IsDoneTo book (AsksOnceBy old.naming asked (Some []) dated.answer) old new
 once_done asked book old new dated done =
-    done_as book (AsksDatedBy old.naming asked dated) (AsksOnceBy old.naming asked dated.answer) old new
+    done_as book (AsksDatedBy old.naming asked dated) (AsksOnceBy old.naming asked (Some []) dated.answer) old new
     (λ before events is made. made.once) done
 
 -- whatever is told of it, there are such books, or the name is still free
@@ -189,7 +189,7 @@ there_told book old new (Err fault) there = there
 pub once_opened : (asked : Asked) (book : List ℕ) (old new : Shelf)
     (told : Result DatedAnswer RepositoryFault)
     → IsOpened (AsksDatedBy old.naming asked) book old new told
-    → IsOpened (AsksOnceBy old.naming asked) book old new (answer_told told)
+    → IsOpened (AsksOnceBy old.naming asked (Some [])) book old new (answer_told told)
 once_opened asked book old new (Ok dated) done = once_done asked book old new dated done
 once_opened asked book old new (Err Unseen) (refused, inl seen) =
     (refused, inl (seen.0.answer, once_done asked book old new seen.0 seen.1))

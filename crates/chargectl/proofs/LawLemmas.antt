@@ -151,14 +151,15 @@ module _ (naming : Naming) (history : List Event) (name : List ℕ) (old new : S
       (work_on book NoEvent (none_answered naming) done)
 
   -- the office was asked once
-  asked_on : (book : List ℕ) (asked : Asked) (told : Result Answer LedgerFault)
-      → IsDoneTo book (AsksOnceBy naming asked told) old new
+  asked_on : (book : List ℕ) (asked : Asked) (had : Option (List ℕ)) (told : Result Answer LedgerFault)
+      → IsDoneTo book (AsksOnceBy naming asked had told) old new
       → Step naming history name old new (Where book name (Follows naming history asked told))
-  asked_on book asked told done =
+  asked_on book asked had told done =
       step_as (λ made so. (λ same. follows_of made (so.0 same), so.1))
-      (work_on book (AsksOnceBy naming asked told) (once_answered naming asked (response_by told)) done)
+      (work_on book (AsksOnceBy naming asked had told)
+      (once_answered naming asked had (response_by told)) done)
     where
-      follows_of : (made : List Event) → Makes (AsksOnceBy naming asked told) history made
+      follows_of : (made : List Event) → Makes (AsksOnceBy naming asked had told) history made
           → Follows naming history asked told made
       follows_of made it =
           let once = it.made_so in
@@ -259,9 +260,9 @@ module _ (history : List Event) (name : List ℕ) (old new : Shelf)
         so.1,
       ))
       (opened_on old.naming history name old new answered held book (Refuses book) (follow book)
-      (AsksOnceBy old.naming comes.asked) (Follows old.naming history comes.asked)
-      (asked_on old.naming history name old new answered held book comes.asked) comes.came.told
-      comes.came.done)
+      (AsksOnceBy old.naming comes.asked comes.had) (Follows old.naming history comes.asked)
+      (asked_on old.naming history name old new answered held book comes.asked comes.had)
+      comes.came.told comes.came.done)
   comes_on book request (Err why) comes =
       step_as (λ made is. (λ _. (nothing book request why comes.0, is), λ _. is))
       (none_on old.naming history name old new answered held book comes.1)

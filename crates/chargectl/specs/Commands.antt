@@ -1,5 +1,6 @@
 -- What each command on books asks of the office, what is written, and how it ends.
-use Rattle.std.specs.Prelude.{◌≡◌, ◌⊎◌, ⊤, Bool, true, false, ℕ, List, Option, Some, None, Result, Ok, Err}
+use Rattle.std.specs.Prelude.{◌≡◌, ◌⊎◌, ⊤, Bool, true, false, ℕ, List, [], Option, Some, None, Result}
+use Rattle.std.specs.Prelude.{Ok, Err}
 use Rattle.std.specs.Borrow.{Bor}
 use Rattle.std.specs.Option.{option_map}
 use Rattle.smf_text.specs.Day.{day_of_text_of}
@@ -85,30 +86,32 @@ may_change (asks.Report report) = false
 may_change (asks.WhatIf report text) = false
 may_change asked = true
 
--- The office was asked this once, with the dump that a reader gave, and answered this.
-pub record AsksOnce (naming : Naming) (asked : Asked) (told : Result Response LedgerFault) (was : Bool)
-    (before : Book) (events : List Event) (is : Bool) : Type 0 where
+-- The office was asked this once, with the dump that a reader of these bytes gave, and answered this.
+pub record AsksOnce (naming : Naming) (asked : Asked) (had : Option (List ℕ))
+    (told : Result Response LedgerFault) (was : Bool) (before : Book) (events : List Event) (is : Bool)
+    : Type 0 where
   pub dump : Dump
   pub input : Input
+  pub begun : input.old.left ≡ had
   pub given : Gives asked dump told input
   pub made : Asks naming asked dump told was before events is
 
 -- one request makes events that the books answered
-pub once_answered : (naming : Naming) (asked : Asked) (told : Result Response LedgerFault)
-    → MakesAnswered naming (AsksOnce naming asked told)
-once_answered naming asked told history was events is once =
+pub once_answered : (naming : Naming) (asked : Asked) (had : Option (List ℕ))
+    (told : Result Response LedgerFault) → MakesAnswered naming (AsksOnce naming asked had told)
+once_answered naming asked had told history was events is once =
     asks_answered naming asked once.dump told history was events is once.made
 
 -- what a visit to the books did that asked this once, by its answer
-abbrev pub AsksOnceBy : Naming → Asked → Result Answer LedgerFault → Transition
-AsksOnceBy naming asked told = AsksOnce naming asked (response_by told)
+abbrev pub AsksOnceBy : Naming → Asked → Option (List ℕ) → Result Answer LedgerFault → Transition
+AsksOnceBy naming asked had told = AsksOnce naming asked had (response_by told)
 
--- The office was asked for a ruling once, and answered this; and this was noticed of its day, by the book
--- before it.
+-- The office was asked for a ruling once, which has no dump, and answered this; and this was noticed of
+-- its day, by the book before it.
 pub record AsksDated (naming : Naming) (asked : Asked) (told : Result Response LedgerFault)
     (noticed : Option Notice) (was : Bool) (before : Book) (events : List Event) (is : Bool) : Type 0
   where
-    pub once : AsksOnce naming asked told was before events is
+    pub once : AsksOnce naming asked (Some []) told was before events is
     pub notice : noticed ≡ far_notice asked before told
 
 -- what a visit to the books did that asked for it, by what came of it
@@ -120,7 +123,7 @@ AsksDatedBy naming asked dated =
 pub dated_answered : (naming : Naming) (asked : Asked) (dated : DatedAnswer)
     → MakesAnswered naming (AsksDatedBy naming asked dated)
 dated_answered naming asked dated history was events is made =
-    once_answered naming asked (response_by dated.answer) history was events is made.once
+    once_answered naming asked (Some []) (response_by dated.answer) history was events is made.once
 
 -- the answer to a ruling of a day
 abbrev pub answer_told : Result DatedAnswer RepositoryFault
@@ -140,14 +143,14 @@ answer_of (Ok (Err refusal)) = Err (fault.Ledger refusal)
 answer_of (Err shelf) = Err (shelf_fault shelf)
 
 -- The books of a name were opened, if there are any, and the office was asked this once.
-pub record IsAnswered (asked : Asked) (book : List ℕ) (old new : Shelf) (answered : Answered) : Type 0
-  where
-    pub told : Result (Result Answer LedgerFault) RepositoryFault
-    pub done : IsOpened (AsksOnceBy old.naming asked) book old new told
-    pub there : IsThere book old new told
-    pub says : answered.answer ≡ answer_of told
-    pub log : new.has_log book answered.has_log
-    pub change : answered.is_change ≡ may_change asked
+pub record IsAnswered (asked : Asked) (had : Option (List ℕ)) (book : List ℕ) (old new : Shelf)
+    (answered : Answered) : Type 0 where
+  pub told : Result (Result Answer LedgerFault) RepositoryFault
+  pub done : IsOpened (AsksOnceBy old.naming asked had) book old new told
+  pub there : IsThere book old new told
+  pub says : answered.answer ≡ answer_of told
+  pub log : new.has_log book answered.has_log
+  pub change : answered.is_change ≡ may_change asked
 
 -- The place of the books refused them for such a reason: it failed, others have them, there is
 -- nothing of that name or something already, or what is there are no books that can be read.
@@ -220,7 +223,8 @@ pub record Asking (request : BookRequest) (book : List ℕ) (old new : Shelf) (a
     : Type 0 where
   pub asked : Asked
   pub words : IsAskedBy request asked
-  pub came : IsAnswered asked book old new answered
+  pub had : Option (List ℕ)
+  pub came : IsAnswered asked had book old new answered
   pub notice : IsNoticedBy request asked book old new answered
 
 -- What came of a command: the office was asked just what its words ask, once; or nothing was asked.

@@ -11,6 +11,7 @@ ghost use Rattle.chargectl.specs.Commands as spec;
 ghost use Rattle.chargectl.specs.Commands.{AsksOnce, once_answered, ComesOf, IsAnswered, IsPrinted};
 ghost use Rattle.chargectl.specs.Commands.{IsTextFault, IsTold, Tells, TellsAnswered, answer_of};
 ghost use Rattle.chargectl.specs.Commands.{ends_by};
+ghost use Rattle.chargectl.specs.FirstBytes.{left_of};
 
 use crate::asked_rulings::asked_ruling;
 use crate::command_fault::{CommandFault, ended};
@@ -42,12 +43,14 @@ impl<R: Read + Drop> Visit for OfficeRequest<R> {
     /// What the books answered.
     type Answer = Result<Answer, LedgerFault>;
 
-    ghost work = { λ naming request _ told. AsksOnce naming request.asked (response_by told) };
+    ghost work = { λ naming request _ told. AsksOnce naming request.asked
+        (left_of R.remaining request.input) (response_by told) };
 
     ghost comes = { λ _ _ _. Unit {0} };
 
     ghost answered = { λ naming request _ told.
-        once_answered naming request.asked (response_by told) };
+        once_answered naming request.asked (left_of R.remaining request.input)
+        (response_by told) };
 
     fn visit<L: Ledger>(&mut self, books: &mut L) -> Result<Answer, LedgerFault> {
         match self.input.take() {
@@ -66,7 +69,7 @@ pub(crate) fn ask_with<L: Ledger, R: Read + Drop>(
 ) -> Result<Answer, LedgerFault>
     requires { IsAskableUnread asked.now }
     ensures { IsTransition (L.seen books.old) (L.seen books.new)
-        (spec.AsksOnceBy (L.seen books.old).naming asked.now result) }
+        (spec.AsksOnceBy (L.seen books.old).naming asked.now (R.remaining input) result) }
 {
     let mut source = Source::new(input);
     ask(alloc, books, asked, &mut source)
@@ -105,8 +108,8 @@ pub(crate) fn ask_books<S: Repository, R: Read + Drop>(
     input: R,
 ) -> Answered
     requires { IsAskableUnread asked }
-    ensures answered { IsAnswered asked book.now (S.shelf repository.old) (S.shelf repository.new)
-        result }
+    ensures answered { IsAnswered asked (R.remaining input) book.now
+        (S.shelf repository.old) (S.shelf repository.new) result }
     ensures notice { result.notice ≡ None }
 {
     let is_change = may_change(&asked);

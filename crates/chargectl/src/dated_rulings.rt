@@ -1,7 +1,7 @@
 //! Rulings of a day, as one change of the books: what these answered, and whether the day is far after
 //! what they held.
 
-ghost use Rattle.std.specs.Prelude.{◌≡◌};
+ghost use Rattle.std.specs.Prelude.{◌≡◌, [], Some};
 ghost use Rattle.book_core.specs.Transition.{IsTransition};
 ghost use Rattle.office.specs.Requests.{IsAskableRuling};
 ghost use Rattle.office.proofs.AskLemmas.{ruling_once};
@@ -91,8 +91,8 @@ pub(crate) fn rule_on_day<S: Repository>(
     asked: Asked,
 ) -> Answered
     requires { IsAskableRuling asked }
-    ensures answered { IsAnswered asked book.now (S.shelf repository.old) (S.shelf repository.new)
-        result }
+    ensures answered { IsAnswered asked (Some []) book.now
+        (S.shelf repository.old) (S.shelf repository.new) result }
     ensures dated { IsDated asked book.now (S.shelf repository.old) (S.shelf repository.new)
         result }
 {
