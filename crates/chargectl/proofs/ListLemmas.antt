@@ -1,13 +1,17 @@
--- Lists of names that a reader gives, choices by them, and the tariff of a text.
-use Rattle.std.proofs.Common.{◌≡◌, List, [], ◌∷◌, ◌++◌, ℕ, Option, Some, Result, Ok, Err}
-use Rattle.std.proofs.Common.{inl, inr, refl, subst, sym, true≢false}
+-- Lists of names that a reader gives, choices by them, the text of a tariff, and the tariff of a text.
+use Rattle.std.proofs.Common.{◌≡◌, ◌∙◌, ◌+◌, ◌≤◌, List, [], ◌∷◌, ◌++◌, ℕ, Option, Some, None, Result}
+use Rattle.std.proofs.Common.{Ok, Err, ap, arith, inl, inr, length, length-take, refl, subst, sym}
+use Rattle.std.proofs.Common.{take, take_all, true≢false}
+use Rattle.std.specs.Global.{Global}
+use Rattle.std.specs.Option.{option_map}
 use Rattle.std.proofs.KnownBytes.{Consumes-trans}
 use Rattle.std.specs.Io.Iter.{YieldsKnownByte}
 use Rattle.std.specs.Io.KnownBytes.{Consumes}
-use Rattle.std.specs.Prelude.{IfErr, IfOk, IsErr, IsErrAnd, OnErr}
+use Rattle.std.specs.Prelude.{IfErr, IfOk, IfSome, IsErr, IsErrAnd, OnErr, String, string_bytes}
 use Rattle.std.specs.declared.alloc.AllocError.{AllocError}
 use Rattle.std.specs.declared.io.Error.{Error}
 use Rattle.std.specs.declared.io.ErrorKind.TheVariants.{OutOfMemory}
+use Rattle.tariff_rules.specs.Limits.{most_text}
 use Rattle.tariff_rules.specs.TariffFile.{terms_in}
 use Rattle.book_model.specs.Words.{Terms}
 use Rattle.book_core.specs.Ledgers.{Seen}
@@ -23,7 +27,7 @@ use Rattle.program_output.specs.Names.{IsNamesFault, names_in}
 use Rattle.chargectl.specs.declared.choices.ListAnswered.{ListAnswered}
 use Rattle.chargectl.specs.declared.command_fault.CommandFault.{CommandFault}
 use Rattle.chargectl.specs.Choices.{ChoosesBy, ChoosesNothing, ComesOfList, IsListFault}
-use Rattle.chargectl.specs.Faults.{IsFaultIn, names_fault}
+use Rattle.chargectl.specs.Faults.{IsFaultIn, IsNoText, IsTextOf, names_fault}
 use Rattle.chargectl.specs.Reading.{IsTariffRead, lasting}
 
 -- one more byte of a reader came
@@ -61,6 +65,29 @@ pub not_listed : (book : List ℕ) (shelf : Shelf) (result : Result ListAnswered
 not_listed book shelf (Ok answered) found bad is why = absurd (true≢false (sym bad))
 not_listed book shelf (Err fault) found bad is why =
     (subst (ChoosesNothing (shelf.refuses book)) (sym is) why, untouched book shelf)
+
+-- what a reader gave was its text, or is no text of a tariff
+pub text_read : (had first : Option (List ℕ)) (start bytes : List ℕ)
+    (result : Result (String Global) CommandFault) → start ≡ []
+    → first ≡ option_map (take (most_text + 1)) had → IfSome first (λ given. bytes ≡ start ++ given)
+    → IfOk result (λ text. (string_bytes text ≡ bytes) × (length bytes ≤ most_text))
+    → IfErr result (IsNoText bytes) → IsTextOf had result
+text_read had first start bytes result empty cut came is none =
+    go had result
+    (subst (λ first. IfSome first (λ given. bytes ≡ given)) cut
+    (subst (λ start. IfSome first (λ given. bytes ≡ start ++ given)) empty came)) is none
+  where
+    go : (had : Option (List ℕ)) (result : Result (String Global) CommandFault)
+        → IfSome (option_map (take (most_text + 1)) had) (λ given. bytes ≡ given)
+        → IfOk result (λ text. (string_bytes text ≡ bytes) × (length bytes ≤ most_text))
+        → IfErr result (IsNoText bytes) → IsTextOf had result
+    go None (Ok text) given is none = tt
+    go (Some all) (Ok text) given is none =
+        let short : length all ≤ most_text + 1 =
+        omega (arith, length-take (most_text + 1) all, ap length given, is.1) in
+        is.0 ∙ given ∙ take_all (most_text + 1) all short
+    go None (Err why) given is none = inr (bytes, none, tt)
+    go (Some all) (Err why) given is none = inr (bytes, none, given)
 
 -- the tariff of a text, or why it is none
 pub tariff_is : (text : List ℕ) (result : Result Terms CommandFault)

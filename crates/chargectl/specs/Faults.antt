@@ -1,10 +1,13 @@
 -- Why a command did not do what it was asked, what it noticed beside that, and the exit status and the
 -- lines on standard error that say so.
-use Rattle.std.specs.Prelude.{◌≡◌, ◌⊎◌, if◌then◌else◌, false, ℕ, List, [], ◌∷◌, ◌++◌, codes}
-use Rattle.std.specs.Prelude.{Option, Some, None, Result, Ok, Err, take}
+use Rattle.std.specs.Prelude.{◌≡◌, ◌⊎◌, ◌+◌, ◌<◌, if◌then◌else◌, false, ℕ, List, [], ◌∷◌, ◌++◌, codes}
+use Rattle.std.specs.Prelude.{length, take, Option, Some, None, IfSome, Result, Ok, Err, String}
+use Rattle.std.specs.Prelude.{string_bytes, IsUtf8}
+use Rattle.std.specs.Global.{Global}
 use Rattle.std.specs.Io.KnownBytes.{Appends}
 use Rattle.std.specs.declared.io.ErrorKind.{ErrorKind}
 use Rattle.std.specs.declared.io.ErrorKind.TheVariants.{OutOfMemory}
+use Rattle.tariff_rules.specs.Limits.{most_text}
 use Rattle.tariff_rules.specs.declared.fault.TariffFault.TheVariants.{Syntax, TooMany}
 use Rattle.book_model.specs.declared.fault.LedgerFault.TheVariants as ledger
 use Rattle.book_import.specs.declared.receipt.Stop.{Stop}
@@ -154,10 +157,22 @@ IsPrinted text held holds (Ok done) = Appends held holds text
 IsPrinted text held holds (Err why) =
     IsOutputFault why × (count : ℕ) × Appends held holds (take count text)
 
--- the file of a tariff failed, or has too many bytes, or is no text
+-- why bytes are no text of a tariff: they are too many, or no text at all
+abbrev pub IsNoText : List ℕ → CommandFault → Type 0
+IsNoText bytes why =
+    ((why ≡ fault.Ledger (ledger.TariffRefused TooMany)) × (most_text < length bytes))
+    ⊎ ((why ≡ fault.Ledger (ledger.TariffRefused Syntax)) × ¬ (IsUtf8 bytes))
+
+-- The text of a tariff that a reader gave: all its bytes, where they are known; or it failed, or what it
+-- gave, which is all unless they are too many, is no such text.
+abbrev pub IsTextOf : Option (List ℕ) → Result (String Global) CommandFault → Type 0
+IsTextOf had (Ok text) = IfSome had (λ all. string_bytes text ≡ all)
+IsTextOf had (Err why) = IsFileFault why ⊎ ((bytes : List ℕ) × IsNoText bytes why
+    × IfSome had (λ all. bytes ≡ take (most_text + 1) all))
+
+-- so it is with a file; no contract says what it holds
 abbrev pub IsTextFault : CommandFault → Type 0
-IsTextFault why = IsFileFault why ⊎ ((why ≡ fault.Ledger (ledger.TariffRefused TooMany))
-    ⊎ (why ≡ fault.Ledger (ledger.TariffRefused Syntax)))
+IsTextFault why = IsTextOf None (Err why)
 
 -- a list of names has too many, or a line that is none; or there was no memory for them
 abbrev pub names_fault : NamesFault → CommandFault

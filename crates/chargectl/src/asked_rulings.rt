@@ -3,8 +3,8 @@
 
 ghost use Rattle.chargectl.specs.DryRuns.{IsAskedFor};
 
-use crate::book_commands::tariff_text;
 use crate::command_fault::CommandFault;
+use crate::tariff_texts::tariff_text;
 use command_line::{BookRequest, Ruling};
 use named_books::Repository;
 use office::Asked;

@@ -2,14 +2,14 @@
 //! what the books say, or the stop of an import, and then the output. The books are closed before
 //! their answer is written. `report_commands` has the reports.
 
-ghost use Rattle.std.specs.Prelude.{◌≡◌, IfErr, None};
+ghost use Rattle.std.specs.Prelude.{◌≡◌, None};
 ghost use Rattle.book_core.specs.Transition.{IsTransition};
 ghost use Rattle.office.specs.Answers.{answer_text};
 ghost use Rattle.office.specs.Requests.{IsAskableUnread, response_by, response_of};
 ghost use Rattle.office.proofs.AskLemmas.{askable_once};
 ghost use Rattle.chargectl.specs.Commands as spec;
 ghost use Rattle.chargectl.specs.Commands.{AsksOnce, once_answered, ComesOf, IsAnswered, IsPrinted};
-ghost use Rattle.chargectl.specs.Commands.{IsTextFault, IsTold, Tells, TellsAnswered, answer_of};
+ghost use Rattle.chargectl.specs.Commands.{IsTold, Tells, TellsAnswered, answer_of};
 ghost use Rattle.chargectl.specs.Commands.{ends_by};
 ghost use Rattle.chargectl.specs.FirstBytes.{left_of};
 
@@ -25,9 +25,8 @@ use command_line::{BookRequest, DumpFile, Ruling};
 use named_books::{Opened, Repository, RepositoryFault, Visit};
 use office::{Answer, Asked, ask, write_answer};
 use std::alloc::Global;
+use std::io;
 use std::io::{IsTerminal, Read, Write};
-use std::{fs, io};
-use tariff_rules::{MAX_TEXT, TariffFault};
 
 /// A request to the office, with the reader of its dump.
 #[derive(Drop)]
@@ -230,23 +229,6 @@ pub(crate) fn rule<S: Repository>(
         Ok(rule_on_day(rt.alloc(), repository, book, asked))
     } else {
         Ok(ask_books(rt, repository, book, asked, io::empty()))
-    }
-}
-
-/// The text of a tariff file.
-pub(crate) fn tariff_text(rt: &HostRuntime, file: &str) -> Result<String, CommandFault>
-    ensures { IfErr result IsTextFault }
-{
-    let mut bytes = Vec::new(rt.alloc());
-    fs::open(rt, file)?
-        .take(MAX_TEXT as u64 + 1)
-        .read_to_end(&mut bytes)?;
-    if bytes.len() > MAX_TEXT {
-        return Err(CommandFault::Ledger(LedgerFault::TariffRefused(TariffFault::TooMany)));
-    }
-    match String::from_utf8(bytes) {
-        Ok(text) => Ok(text),
-        Err(_) => Err(CommandFault::Ledger(LedgerFault::TariffRefused(TariffFault::Syntax))),
     }
 }
 

@@ -28,6 +28,7 @@ mod report_commands;
 mod serve;
 mod served_lines;
 mod streamed_lists;
+mod tariff_texts;
 mod trials;
 mod upgrades;
 

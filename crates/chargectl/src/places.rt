@@ -1,11 +1,11 @@
 //! Where a fault is, and why, as far as a second look shows it. The look comes after the command has
 //! ended, and may meet another state than the command met: it is advice, and no status rests on it.
 
-use crate::book_commands::tariff_text;
 use crate::causes::{
     cause_of_books, cause_of_new, cause_of_port, cause_of_read, in_place_of_log, is_file, is_there,
 };
 use crate::command_fault::CommandFault;
+use crate::tariff_texts::tariff_text;
 use book_core::LedgerFault;
 use book_import::Stop;
 use book_reports::ReportFault;

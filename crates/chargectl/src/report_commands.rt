@@ -8,9 +8,10 @@ ghost use Rattle.program_output.specs.Names.{name_in};
 ghost use Rattle.chargectl.specs.Commands as spec;
 ghost use Rattle.chargectl.specs.Commands.{ComesOf};
 
-use crate::book_commands::{ask_books, tariff_text};
+use crate::book_commands::ask_books;
 use crate::command_fault::CommandFault;
 use crate::ended::Answered;
+use crate::tariff_texts::tariff_text;
 use command_line::{BookRequest, PeriodWords, ReportWords};
 use named_books::Repository;
 use office::{Asked, Report, StatementForm, WhatIf, centre_named};

@@ -5,10 +5,10 @@ ghost use Rattle.tariff_rules.specs.TariffFile.{terms_in};
 ghost use Rattle.chargectl.specs.Faults.{IsFaultIn};
 ghost use Rattle.chargectl.specs.Reading.{IsTariffRead, TriesBy, TriesUnder, lasting, trial_end};
 
-use crate::book_commands::tariff_text;
 use crate::command_fault::CommandFault;
 use crate::ended::Ended;
 use crate::first_bytes::{LookedAt, look_at};
+use crate::tariff_texts::tariff_text;
 use book_core::{LedgerFault, Sink, Source};
 use book_import::{MAX_READS, Receipt};
 use book_reports::ReportFault;
