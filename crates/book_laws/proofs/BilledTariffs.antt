@@ -38,7 +38,7 @@ record IsLastOf {X : Type 0} (p : X → Bool) (xs : List X) (x : X) : Type 0 whe
 
 module _ {X : Type 0} (p : X → Bool) where
   -- what is found from behind, with one more in front
-  found_more : (x : X) (xs : List X)
+  pub found_more : (x : X) (xs : List X)
       → find p (reverse (x ∷ xs)) ≡ option_or (find p (reverse xs)) (cond (p x) (Some x) None)
   found_more x xs =
       ap (find p) (reverse-append (x ∷ []) xs) ∙ find-append p (reverse xs) (x ∷ [])

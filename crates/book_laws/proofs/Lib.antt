@@ -31,6 +31,7 @@ pub mod TariffStays
 pub mod TurnStays
 pub mod BillStays
 pub mod BilledTariffs
+pub mod RulingTariffs
 pub mod LinePeriods
 pub mod TariffTexts
 pub mod PageLemmas

@@ -27,7 +27,7 @@ use Rattle.table_model.proofs.CloseOrder.{earlier as is_earlier, first_earlier}
 use Rattle.book_laws.proofs.CountedLemmas.{closes_rise}
 
 -- of rising days one that stands before another is earlier
-rise_at : (days : List ℤ) (j k : ℕ) (one other : ℤ) → IsStrictlySortedBy int_cmp days → j < k
+pub rise_at : (days : List ℤ) (j k : ℕ) (one other : ℤ) → IsStrictlySortedBy int_cmp days → j < k
     → slice_get days j ≡ Some one → slice_get days k ≡ Some other → one <ℤ other
 rise_at days j k one other rising before first second =
     let less = Less-from_sorted int_cmp days j k (pos 0) rising before

@@ -1,20 +1,23 @@
 -- The laws of bills: a bill splits what the statement and the adjustments show, the bills of all
--- centres add up to the office's, a bill has the tariffs of its prices and the periods of its lines,
--- the two amounts that are held back bound what records cost that are taken one of each dispute, and
--- the bill of a closed period stays.
+-- centres add up to the office's, a bill has the tariffs of its prices, each of them in force in the
+-- period, and the periods of its lines, the two amounts that are held back bound what records cost
+-- that are taken one of each dispute, and the bill of a closed period stays.
 use Rattle.std.specs.Prelude.{◌≡◌, ℕ, ◌+◌, ◌≤◌, ℤ, pos, ◌+ℤ◌, ◌-ℤ◌, List, [], ◌∷◌, ◌++◌, map}
 use Rattle.std.specs.Prelude.{sum_by, All, Contains, IsSome, Option, Some, None, true}
+use Rattle.book_model.specs.declared.bill.BilledTariff.{BilledTariff}
 use Rattle.book_model.specs.declared.bill.HeldBack.{HeldBack}
 use Rattle.book_model.specs.declared.dispute.Variant.{Variant}
 use Rattle.book_model.specs.declared.line.Line.{Line}
 use Rattle.book_model.specs.declared.row.ChargeRow.{ChargeRow}
 use Rattle.book_model.specs.Words.{BillSeen, Book, Disputed, Event, IsMadeByCalls, IsSound, Naming}
-use Rattle.book_model.specs.Words.{Period, Terms, amount_for, bill_of, bill_outcome, book_after}
+use Rattle.book_model.specs.Words.{Period, Rulings, Terms, amount_for, bill_of, bill_outcome}
+use Rattle.book_model.specs.Words.{book_after}
 use Rattle.book_model.specs.Words.{day_of, has, held_back_in, in_force, lines_of, period_of, rows_for}
 use Rattle.book_model.specs.Words.{tariff_by}
 use Rattle.report_texts.specs.Centres.{lines_of_centre, rows_of_centre}
 use Rattle.report_texts.specs.Charges.{all_charges, centres_of, charges_of_centre, plain_lines}
 use Rattle.report_texts.specs.declared.charges.Charges.{Charges}
+use Rattle.table_model.specs.CountedRead.{is_day_of}
 use Rattle.table_model.specs.Readable.{IsReadable}
 use Rattle.book_laws.specs.ClosedPeriods.{IsClosed}
 
@@ -98,6 +101,22 @@ BilledTariffsPrice =
     → in_force (day_of bytes) book.rulings.tariffs ≡ Some terms
     → Contains (bill_of naming book number centre period).tariffs
     (tariff_by terms.effective terms)
+
+-- a tariff is in force on a day of the period of that number, and these are its rates
+pub record IsInForceIn (number : ℕ) (rulings : Rulings) (billed : BilledTariff) : Type 0 where
+  pub day : ℤ
+  pub terms : Terms
+  pub its_day : is_day_of number rulings day ≡ true
+  pub rules : in_force day rulings.tariffs ≡ Some terms
+  pub rates : billed ≡ tariff_by terms.effective terms
+
+-- And it has no other: each tariff of a bill is in force on some day of the period.
+abbrev pub BilledTariffsRule : Type 0
+BilledTariffsRule =
+    (naming : Naming) (book : Book) (number : ℕ) (period : Period) (centre : Option (List ℕ))
+    → IsReadable naming book
+    → period_of book number ≡ Some period
+    → All (IsInForceIn number book.rulings) (bill_of naming book number centre period).tariffs
 
 -- And each line of a centre's bill has a period that it speaks of.
 abbrev pub BilledLinesHavePeriods : Type 0

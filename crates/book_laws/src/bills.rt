@@ -1,8 +1,9 @@
 //! Laws of bills, which hold of the definitions alone. Each is the contract of a function that does
 //! nothing.
 
-ghost use Rattle.book_laws.specs.BillLaws.{BilledLinesHavePeriods, BilledTariffsPrice, BillsAddUp};
-ghost use Rattle.book_laws.specs.BillLaws.{BillsSplitStatements, ClosedBillsStay, HeldBackBounds};
+ghost use Rattle.book_laws.specs.BillLaws.{BilledLinesHavePeriods, BilledTariffsPrice};
+ghost use Rattle.book_laws.specs.BillLaws.{BilledTariffsRule, BillsAddUp, BillsSplitStatements};
+ghost use Rattle.book_laws.specs.BillLaws.{ClosedBillsStay, HeldBackBounds};
 
 /// A bill splits the rows of the statement into steps and jobs, and has the lines of the
 /// adjustments.
@@ -18,6 +19,11 @@ pub fn bills_add_up()
 /// A bill has the tariff by which each record is priced that the period counts.
 pub fn billed_tariffs_price()
     ensures { BilledTariffsPrice }
+{}
+
+/// It has no tariff but those that are in force on some day of the period.
+pub fn billed_tariffs_rule()
+    ensures { BilledTariffsRule }
 {}
 
 /// Each line of a centre's bill says the period that it speaks of.

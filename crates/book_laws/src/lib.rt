@@ -13,8 +13,8 @@ mod runs;
 mod tariffs;
 
 pub use bills::{
-    billed_lines_have_periods, billed_tariffs_price, bills_add_up, bills_split_statements,
-    closed_bills_stay, held_back_bounds,
+    billed_lines_have_periods, billed_tariffs_price, billed_tariffs_rule, bills_add_up,
+    bills_split_statements, closed_bills_stay, held_back_bounds,
 };
 pub use calls::{
     one_answer, one_book, one_prefix, one_receipt, one_refusal, one_refused_report, one_run,
