@@ -7,7 +7,7 @@ use Rattle.std.specs.declared.cmp.Ordering.{Ordering}
 use Rattle.std.proofs.lemmas.List.{length-append, length-map}
 use Rattle.book_model.specs.Words.{IsDay, Book, all_periods, open_number, open_period, PeriodClosed}
 use Rattle.book_model.specs.Words.{close_outcome, if_done, Naming, by_key}
-use Rattle.book_model.specs.Words.{close_answer, IsSound, last_close, Rulings}
+use Rattle.book_model.specs.Words.{close_answer, IsSound, last_close}
 use Rattle.book_model.specs.Words.{with_close}
 use Rattle.book_model.specs.declared.answer.Ruled.{Ruled}
 use Rattle.book_model.specs.declared.answer.Ruled.TheVariants.{Done}

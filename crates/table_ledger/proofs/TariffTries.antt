@@ -1,6 +1,6 @@
 -- A tariff that is tried: what it answers, and what it writes.
 use Rattle.std.proofs.Common.{◌≡◌, ◌≢◌, ◌∙◌, ℕ, List, refl, sym, ap}
-use Rattle.std.proofs.Common.{Bool, true, false, not, Ok, Err, Option, Some, None}
+use Rattle.std.proofs.Common.{Bool, true, false, Ok, Err, Option, Some, None}
 use Rattle.std.specs.Prelude.{if◌then◌else◌, nat_lt, sum_by}
 use Rattle.std.specs.FinMap.{values}
 use Rattle.std.specs.List.{list_any}

@@ -1,5 +1,5 @@
 -- How a call that was tried on the store is answered.
-use Rattle.std.specs.Prelude.{◌≡◌, ◌⊎◌, Bool, true, false, IsTrue, Result, Ok, Err, IfErr}
+use Rattle.std.specs.Prelude.{◌≡◌, ◌⊎◌, Bool, true, IsTrue, Result, Ok, Err, IfErr}
 use Rattle.sqlite_trees.specs.View.{View, IsClean}
 use Rattle.sqlite_trees.specs.declared.error.StoreError.{StoreError}
 use Rattle.book_model.specs.declared.fault.LedgerFault.{LedgerFault}

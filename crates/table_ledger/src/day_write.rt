@@ -1,6 +1,6 @@
 //! How prices join the charge rows of a period, and how they leave them.
 
-ghost use Rattle.std.specs.Prelude.{◌≡◌, ◌<◌, ◌==◌, [], if◌then◌else◌, IfSome, IsTrue, None, Some};
+ghost use Rattle.std.specs.Prelude.{◌≡◌, ◌==◌, [], if◌then◌else◌, IfSome, IsTrue, None, Some};
 ghost use Rattle.std.specs.Option.{option_map_or};
 ghost use Rattle.book_core.specs.KeyedRows.{with_price};
 ghost use Rattle.book_core.specs.declared.effects.DayChange.TheVariants.{Add, Take};

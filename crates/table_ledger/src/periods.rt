@@ -1,6 +1,6 @@
 //! The days of the closes.
 
-ghost use Rattle.std.specs.Prelude.{◌≡◌, All, IfOk};
+ghost use Rattle.std.specs.Prelude.{All, IfOk};
 ghost use Rattle.book_model.specs.Words.{IsDay, periods_outcome, Naming};
 ghost use Rattle.tree_tables.specs.States.{state_of};
 ghost use Rattle.table_ledger.specs.Attempts.{TriesItsOwn};

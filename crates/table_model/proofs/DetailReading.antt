@@ -16,7 +16,6 @@ use Rattle.std.proofs.lemmas.Map.Lookups.{exact_bytes}
 use Rattle.std.proofs.lemmas.Option.{slice_get_past, slice_get_within}
 use Rattle.tariff_rules.specs.declared.priced.Priced.{Priced}
 use Rattle.book_model.specs.declared.detail.Detail.{Detail}
-use Rattle.book_model.specs.RulingAnswers.{through_of}
 use Rattle.book_model.specs.Words.{AreAmong, Book, Naming, Period, Records, Rulings, all_periods}
 use Rattle.book_model.specs.Words.{by_detail, comes_after, counted_of, day_of, detail_by, detail_of}
 use Rattle.book_model.specs.Words.{details_asked, details_for, details_of, has, is_asked, is_counted}

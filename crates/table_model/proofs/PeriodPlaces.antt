@@ -1,5 +1,5 @@
 -- The place of a period among all periods of a book.
-use Rattle.std.proofs.Common.{◌≡◌, ℕ, ◌+◌, ◌-◌, List, [], ◌∷◌, map, length, refl, sym}
+use Rattle.std.proofs.Common.{◌≡◌, ℕ, ◌+◌, ◌-◌, List, map, length, refl, sym}
 use Rattle.std.proofs.Common.{ap, ◌∙◌, true, false, true≢false, Bool, Option, Some, None, arith}
 use Rattle.std.proofs.Common.{◌≢◌}
 use Rattle.std.specs.Prelude.{slice_get, ◌==◌, if◌then◌else◌}

@@ -1,6 +1,6 @@
 -- Records that are found by the names that an index gives.
 use Rattle.std.proofs.Common.{◌≡◌, ◌∙◌, ℕ, ◌+◌, ◌-◌, ◌<◌, List, [], ◌∷◌, ◌++◌, Option, None, Some}
-use Rattle.std.proofs.Common.{Bool, map, take, get_or, length, refl, sym, ap, subst}
+use Rattle.std.proofs.Common.{Bool, map, take, get_or, length, refl, sym, ap}
 use Rattle.std.specs.Prelude.{filter}
 use Rattle.std.specs.Cmp.Lexicographic.{nat_list_cmp_total}
 use Rattle.std.specs.FinMap.{entries, get}

@@ -1,6 +1,6 @@
 -- Details that are read one after another: what the first row from a start on shows.
-use Rattle.std.proofs.Common.{◌≡◌, ◌∙◌, ◌++◌, ℕ, List, [], ◌∷◌, Bool, true, false, not, cond, pos}
-use Rattle.std.proofs.Common.{Option, Some, None, map, refl, sym, ap, ap₂, subst, true≢false}
+use Rattle.std.proofs.Common.{◌≡◌, ◌∙◌, ◌++◌, ℕ, List, [], ◌∷◌, Bool, true, false, not, pos}
+use Rattle.std.proofs.Common.{Some, None, map, refl, sym, ap, ap₂, subst, true≢false}
 use Rattle.std.proofs.Common.{arith}
 use Rattle.std.proofs.lemmas.Bool.Decides.{nat_tests}
 use Rattle.std.proofs.lemmas.Cmp.{int_cmp_total}

@@ -1,6 +1,6 @@
 //! Names of records, as the rows say that find them by their identities or by their marks.
 
-ghost use Rattle.std.specs.Prelude.{◌≡◌, IfOk, length, ◌-◌};
+ghost use Rattle.std.specs.Prelude.{◌≡◌, length, ◌-◌};
 ghost use Rattle.sqlite_value.specs.Order.{column};
 ghost use Rattle.sqlite_value.specs.declared.value.Value.TheVariants.{Blob};
 ghost use Rattle.tree_tables.specs.Fits.{EndsInName};

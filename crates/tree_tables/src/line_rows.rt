@@ -1,6 +1,6 @@
 //! Adjustment lines by period and name.
 
-ghost use Rattle.std.specs.Prelude.{◌≡◌, ◌∷◌, ◌++◌, [], IfErr, OnOk, pos};
+ghost use Rattle.std.specs.Prelude.{◌≡◌, ◌∷◌, [], IfErr, OnOk, pos};
 ghost use Rattle.sqlite_value.specs.declared.value.Value.TheVariants.{Blob, Int};
 ghost use Rattle.tree_tables.specs.Columns.{line_columns};
 ghost use Rattle.tree_tables.specs.Fits.{LineFits};
