@@ -1,12 +1,11 @@
 -- A choice that is tried: what it answers, and what it writes.
 use Rattle.std.proofs.Common.{◌≡◌, ◌∙◌, ℕ, ◌+◌, List, length, refl, sym, ap, subst, Bool, Ok, Err}
 use Rattle.std.proofs.Common.{Option, None, Some, Result, arith}
-use Rattle.std.specs.Global.{Global}
-use Rattle.std.specs.Prelude.{Vec, ℤ, nat_le, ◌==◌}
+use Rattle.std.specs.Prelude.{ℤ, nat_le, ◌==◌}
 use Rattle.std.specs.Cmp.{nat_cmp_total}
 use Rattle.std.specs.FinMap.{get, get-from_entries}
 use Rattle.std.specs.Option.{option_map, option_map_or}
-use Rattle.std.proofs.lemmas.List.{length-append, length-map}
+use Rattle.std.proofs.lemmas.List.{length-append}
 use Rattle.sqlite_trees.specs.View.{View}
 use Rattle.sqlite_trees.specs.declared.error.StoreError.{StoreError}
 use Rattle.book_core.specs.Effects.{choice_effects}
@@ -28,7 +27,7 @@ use Rattle.table_model.specs.Readable.{IsReadable}
 use Rattle.table_model.specs.RulingsRead.{chosen_by, choose_row}
 use Rattle.table_model.proofs.ChoiceLemmas.{choices_follow}
 use Rattle.table_model.proofs.ChoiceReading.{choices_count}
-use Rattle.tree_tables.specs.Answers.{FindsRecord, FindsSharing}
+use Rattle.tree_tables.specs.Answers.{CountsSharing, FindsRecord}
 use Rattle.tree_tables.specs.States.{State}
 use Rattle.tree_tables.specs.Steps.{Does, Looks}
 use Rattle.tree_tables.specs.Stored.{stored_entry}
@@ -58,18 +57,18 @@ found_row name stored (Some row) is =
       ap (λ (entry : List ℕ × RecordRow). entry.0) (sym both),
     )
 
--- a record was found, and the first two of its identity
-pub saw_shared : {first middle last : State} {found : Option StoredRecord}
-    {sharing : Vec StoredRecord Global} {identity : List ℕ} (name : List ℕ) (stored : StoredRecord)
+-- a record was found, and how many of its identity there are
+pub saw_shared : {first middle last : State} {found : Option StoredRecord} {many : ℕ}
+    {identity : List ℕ} (name : List ℕ) (stored : StoredRecord)
     → found ≡ Some stored → identity ≡ stored.identity.items
     → Looks (Ok found) first middle (FindsRecord name)
-    → Looks (Ok sharing) middle last (λ tables found. FindsSharing identity tables found.items)
+    → Looks (Ok many) middle last (CountsSharing identity)
     → Saw first last (λ tables. FindsRecord name tables (Some stored)
-    × FindsSharing stored.identity.items tables sharing.items)
-saw_shared {sharing = sharing} name stored is same looks shared =
+    × CountsSharing stored.identity.items tables many)
+saw_shared {many = many} name stored is same looks shared =
     saw_so (saw_then (saw_as name is looks) (saw_found shared)) (λ tables known. (
       known.0,
-      subst (λ identity. FindsSharing identity tables sharing.items) same known.1,
+      subst (λ identity. CountsSharing identity tables many) same known.1,
     ))
 
 -- the record that is meant by a choice that is Done
@@ -120,8 +119,7 @@ module _ (naming : Naming) (was : Summary) (name : List ℕ) (view : View) (book
 
   -- its row was found, and this many of its identity
   module _ (stored : StoredRecord) (known : FindsRecord name tables (Some stored)) {many : ℕ}
-      (sharing : List StoredRecord) (count : many ≡ length sharing)
-      (shared : FindsSharing stored.identity.items tables sharing) where
+      (shared : CountsSharing stored.identity.items tables many) where
     abbrev row : RecordRow
     row = (stored_entry stored).1
 
@@ -133,8 +131,7 @@ module _ (naming : Naming) (was : Summary) (name : List ℕ) (view : View) (book
     pub choose_told : choose_answer naming book name
         ≡ chosen_by (many == 1) stored.charged (nat_le most_choices was.choices)
     choose_told =
-        let as_many = sym (ap length shared) ∙ length-map sharing stored_entry ∙ sym count in
-        let lone = choices_follow.lone tables.records row ∙ ap (λ n. n == 1) as_many in
+        let lone = choices_follow.lone tables.records row ∙ ap (λ n. n == 1) (sym shared) in
         let made = choices_count naming book ∙ sym ready.remembers.choices in
         told (Some row) found.0
         ∙ (λ i. chosen_by (lone i) stored.charged (nat_le most_choices (made i)))
@@ -182,25 +179,24 @@ module _ (naming : Naming) (was : Summary) (name : List ℕ) (view : View) (book
 
 -- What a choice writes is staged, after the looks that its tests and its effects rest on.
 pub choose_staged : {first second third fourth last : State} {found : Option StoredRecord}
-    {sharing : Vec StoredRecord Global} {identity : List ℕ} {effects : ChoiceEffects}
-    {T : Type 0} {written : Result T StoreError} {many : ℕ} (naming : Naming) (was : Summary)
-    (name : List ℕ) (stored : StoredRecord) (period : ℕ) (through : Option ℤ)
+    {identity : List ℕ} {effects : ChoiceEffects} {T : Type 0} {written : Result T StoreError}
+    {many : ℕ} (naming : Naming) (was : Summary) (name : List ℕ) (stored : StoredRecord)
+    (period : ℕ) (through : Option ℤ)
     → found ≡ Some stored → identity ≡ stored.identity.items
     → Looks (Ok found) first second (FindsRecord name)
-    → Looks (Ok sharing) second third (λ tables found. FindsSharing identity tables found.items)
+    → Looks (Ok many) second third (CountsSharing identity)
     → Looks (Ok effects) third fourth (FindsChoiceEffects through (stored_entry stored))
     → Does written fourth last (IsNext (was.choices + 1))
     (put_choice (was.choices + 1) period name effects)
-    → many ≡ length sharing.items
     → chosen_by (many == 1) stored.charged (nat_le most_choices was.choices) ≡ Ok Done
     → period ≡ open_by (ruled_in was.rulings) → through ≡ last_close (ruled_in was.rulings)
     → StagesBy (λ tables. tables) (λ (done : T). Ok Done)
     (MakesOf (λ (ruled : Ruled). ruled) (choose_outcome naming name))
     (LeavesOne (choose_outcome naming name)) naming was
     (Says (ruled_in was.rulings) (was.choices + 1) was.held was.total) first last written
-choose_staged {sharing = sharing} {effects = effects} {written = written} naming was name stored period through is same
-    looks shared seen writes count tests period_is through_is =
+choose_staged {effects = effects} {written = written} naming was name stored period through is same
+    looks shared seen writes tests period_is through_is =
     stage_steps written
     (saw_then (saw_shared name stored is same looks shared) (saw_found seen)) writes
-    (λ book at known. choose_is_event naming was name _ book at stored known.0.0 sharing.items
-    count known.0.1 tests period through effects period_is through_is known.1)
+    (λ book at known. choose_is_event naming was name _ book at stored known.0.0 known.0.1 tests
+    period through effects period_is through_is known.1)

@@ -36,8 +36,8 @@ fn is_due<S: Store>(
     if chosen.is_last(&stored.identity, &stored.name) {
         return Ok(true);
     }
-    let sharing = tables.find_sharing(alloc, &stored.identity)?;
-    Ok(sharing.len() == 1)
+    let sharing = tables.count_sharing(alloc, &stored.identity)?;
+    Ok(sharing == 1)
 }
 
 /// Charges a record that is not charged, if it is to be.

@@ -123,8 +123,8 @@ pub(crate) fn try_choose<S: Store>(
     let Some(stored) = tables.find_record(alloc, &name)? else {
         return Ok(Err(LedgerFault::NoSuchRecord));
     };
-    let sharing = tables.find_sharing(alloc, &stored.identity)?;
-    let answer = choice_answer(&stored, sharing.len(), summary.choices);
+    let sharing = tables.count_sharing(alloc, &stored.identity)?;
+    let answer = choice_answer(&stored, sharing, summary.choices);
     if !is_done(&answer) {
         return Ok(answer);
     }

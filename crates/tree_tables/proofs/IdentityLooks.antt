@@ -1,7 +1,7 @@
 -- The next identity of a record that is not charged, as the tree of marks shows it, and all records
 -- of an identity, as the tree of identities lists them.
 use Rattle.std.proofs.Common.{◌≡◌, ◌∙◌, ℕ, List, [], ◌∷◌, Bool, true, false, true≢false, not}
-use Rattle.std.proofs.Common.{Some, None, map, pos, take, refl, sym, ap, subst, arith}
+use Rattle.std.proofs.Common.{Some, None, length, map, pos, take, refl, sym, ap, subst, arith}
 use Rattle.std.specs.Prelude.{Option, Vec, filter}
 use Rattle.std.specs.FinMap.{entries, get, get-entries}
 use Rattle.std.specs.Global.{Global}
@@ -235,16 +235,30 @@ module _ (tables : Tables) (identity : List ℕ) (part : Row) (part_is : part �
       ∙ ap (flat_map (at_name tables.records)) (sharing_names names ends)
       ∙ entries_named tables.records sharing sharing_had
 
-  -- and the first two of the names are those of the first two
+  -- the names of the first two are read
+  two_names : (names : List FoundName)
+      → EndIn (take 2 (run_of part (identity_rows tables.records))) names
+      → names_of names ≡ map (λ (e : Entry). e.0) (take 2 sharing)
+  two_names names ends =
+      names_read found_by (λ e. e.0) (λ e. refl) (take 2 sharing) names
+      (subst (λ some. EndIn some names) (ap (take 2) sharing_run ∙ take-map found_by 2 sharing) ends)
+
+  -- so they are as many,
+  pub sharing_counted : (names : List FoundName)
+      → EndIn (take 2 (run_of part (identity_rows tables.records))) names
+      → length names ≡ length (take 2 sharing)
+  sharing_counted names ends =
+      sym (length-map names (λ (one : FoundName). one.name)) ∙ ap length (two_names names ends)
+      ∙ length-map (take 2 sharing) (λ (e : Entry). e.0)
+
+  -- and the records of the names are the first two
   pub sharing_found : (names : List FoundName) (found : List StoredRecord)
       → EndIn (take 2 (run_of part (identity_rows tables.records))) names
       → FindsNamed names tables found → FindsSharing identity tables found
   sharing_found names found ends all =
       let two = take 2 sharing in
       named_found names tables found all
-      ∙ ap (flat_map (at_name tables.records)) (names_read found_by (λ e. e.0) (λ e. refl) two names
-      (subst (λ some. EndIn some names) (ap (take 2) sharing_run ∙ take-map found_by 2 sharing)
-      ends))
+      ∙ ap (flat_map (at_name tables.records)) (two_names names ends)
       ∙ entries_named tables.records two (recursion_from_All Had two (All-take Had 2 sharing
       (All-from_recursion Had sharing sharing_had)))
 

@@ -1,6 +1,6 @@
 -- What each look answers of the tables.
-use Rattle.std.specs.Prelude.{◌≡◌, ℕ, Bool, true, false, not, List, map, filter, take, Option, Some}
-use Rattle.std.specs.Prelude.{None, Vec, slice_get, unwrap_or}
+use Rattle.std.specs.Prelude.{◌≡◌, ℕ, Bool, true, false, not, List, length, map, filter, take}
+use Rattle.std.specs.Prelude.{Option, Some, None, Vec, slice_get, unwrap_or}
 use Rattle.std.specs.FinMap.{entries, get, keys}
 use Rattle.std.specs.Global.{Global}
 use Rattle.std.specs.List.{AllZip, last_or, list_any}
@@ -53,6 +53,10 @@ FindsNamed names tables found =
 abbrev pub FindsSharing : List ℕ → Tables → List StoredRecord → Type 0
 FindsSharing identity tables found =
     map stored_entry found ≡ take 2 (rows_with identity tables.records)
+
+-- how many they are
+abbrev pub CountsSharing : List ℕ → Tables → ℕ → Type 0
+CountsSharing identity tables count = count ≡ length (take 2 (rows_with identity tables.records))
 
 -- all records that have an identity, by name
 abbrev pub ListsSharing : List ℕ → Tables → List StoredRecord → Type 0

@@ -11,6 +11,7 @@ ghost use Rattle.tree_tables.specs.Stored.{new_entry, priced_entry};
 
 use crate::column_values::{make_row, with_column};
 use crate::columns::{RECORD_CHARGED, RECORD_IDENTITY, RECORD_NAME};
+use crate::found_names::FoundName;
 use crate::keys::{NOT_CHARGED, bytes_key, number_key};
 use crate::stored_record::{StoredRecord, read_record};
 use crate::tables::TreeTables;
@@ -138,7 +139,8 @@ fn marked_row(row: &mut Row, before: &Row, mark: bool) -> Result<(), StoreError>
 impl<S: Store> TreeTables<S> {
     ghost use Rattle.std.specs.Prelude.{false, true};
     ghost use Rattle.table_model.specs.Steps as step;
-    ghost use Rattle.tree_tables.specs.Answers.{FindsRecord, FindsSharing, ListsUncharged};
+    ghost use Rattle.tree_tables.specs.Answers.{CountsSharing, FindsRecord, FindsSharing};
+    ghost use Rattle.tree_tables.specs.Answers.{ListsUncharged};
     ghost use Rattle.tree_tables.specs.States.{state_of};
     ghost use Rattle.tree_tables.specs.Fits.{NamedFits, RecordsFit};
     ghost use Rattle.tree_tables.specs.Steps.{Always, Does, FailsByStore, Looks};
@@ -183,6 +185,24 @@ impl<S: Store> TreeTables<S> {
             MOST_SHARING,
         )?;
         self.read_named(alloc, &names)
+    }
+
+    /// How many records have an identity, counted to two: the rows that find them are read, and no
+    /// record is.
+    pub fn count_sharing(&mut self, alloc: Global, identity: &[u8]) -> Result<usize, StoreError>
+        ensures looks { Looks result (state_of self.old) (state_of self.new)
+            (CountsSharing identity.now) }
+    {
+        bytes_key(&mut self.key, identity)?;
+        let names: Vec<FoundName> = list_first(
+            &mut self.store,
+            IDENTITIES,
+            &self.key,
+            &mut self.row,
+            alloc,
+            MOST_SHARING,
+        )?;
+        Ok(names.len())
     }
 
     /// The records that are not charged, by identity, then name.

@@ -31,12 +31,11 @@ returns-then-not-is_done g c = record {
       let name = c.args.name in
       let stored = c.in-Some.stored in
       ruled_other _ c.choice_answer-answer.ensures.answer
-      (choice_plain (c.len.result == 1) stored.charged (nat_le most_choices summary.choices))
+      (choice_plain (c.in_ok-sharing.sharing == 1) stored.charged (nat_le most_choices summary.choices))
       (c.is_done.ensures.other c.if-not-is_done.true)
       (saw_shared name stored c.in-Some.is c.deref.ensures.value c.in_ok-stored.ensures.looks
       c.in_ok-sharing.ensures.looks)
-      (λ book at known. choose_told naming summary name _ book at stored known.0
-      c.in_ok-sharing.sharing.items (c.len.ensures ∙ c.in_ok-sharing.sharing.ok.0) known.1)
+      (λ book at known. choose_told naming summary name _ book at stored known.0 known.1)
       (λ book already. ap (if_done (meant_by (record_named naming book.held name))) already);
 }
 
@@ -51,8 +50,7 @@ returns-in_err-commit_written g c = record {
       (choose_staged naming c.args.summary.now c.args.name c.in-Some.stored c.open_number.result
       c.last_close.result c.in-Some.is c.deref.ensures.value c.in_ok-stored.ensures.looks
       c.in_ok-sharing.ensures.looks c.in_ok-effects.ensures.looks c.write_choice-written.ensures
-      (c.len.ensures ∙ c.in_ok-sharing.sharing.ok.0) tests c.open_number.ensures.number
-      c.last_close.ensures)
+      tests c.open_number.ensures.number c.last_close.ensures)
       c.in_err-commit_written.ensures (λ book same. same);
 }
 
@@ -67,8 +65,7 @@ returns g c = record {
       (choose_staged naming c.args.summary.now c.args.name c.in-Some.stored c.open_number.result
       c.last_close.result c.in-Some.is c.deref.ensures.value c.in_ok-stored.ensures.looks
       c.in_ok-sharing.ensures.looks c.in_ok-effects.ensures.looks c.write_choice-written.ensures
-      (c.len.ensures ∙ c.in_ok-sharing.sharing.ok.0) tests c.open_number.ensures.number
-      c.last_close.ensures)
+      tests c.open_number.ensures.number c.last_close.ensures)
       c.in_ok-commit_written.ensures
       (record { rulings = refl; choices = refl; held = refl; total = refl });
 }
