@@ -1,4 +1,5 @@
--- The law of all texts about a closed period.
+-- The law of the texts about a closed period that never change. Its page is none of them: it shows
+-- what is in dispute now.
 use Rattle.std.specs.Prelude.{◌≡◌, ℕ, List, ◌++◌, Option, Result}
 use Rattle.book_model.specs.declared.fault.LedgerFault.{LedgerFault}
 use Rattle.book_model.specs.Words.{Book, Event, IsMadeByCalls, Naming, book_after}
@@ -19,7 +20,7 @@ IsFinal naming number answer =
     → IsClosed number (book_after earlier)
     → answer (book_after (later ++ earlier)) ≡ answer (book_after earlier)
 
--- So it is with each text about a closed period, of the office and of each centre, as a list and as
+-- So it is with these texts about a closed period, of the office and of each centre, as a list and as
 -- a table: its statement and its adjustments, its bill, its details, and what it would have cost by
 -- another tariff; also after choices, the second rule of identity and tariffs that come late.
 pub record ClosedTextsStay : Type 0 where

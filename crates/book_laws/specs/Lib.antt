@@ -4,8 +4,8 @@
 -- statement of a period; and the laws. Then calls one after another and what they leave, the lists
 -- of all periods, how wide the lines of a statement are, the reports on single centres, details, what
 -- is kept of them and that they stay, bills, tariff files, pages, a period's rows by another
--- tariff, and all texts about a closed period. Single records: their lives, and how their prices
--- came about. Single answers: to calls, reports, imports, and lists of requests.
+-- tariff, and the texts about a closed period that stay. Single records: their lives, and how their
+-- prices came about. Single answers: to calls, reports, imports, and lists of requests.
 pub mod NetCounts
 pub mod PeriodAmounts
 pub mod PeriodLines

@@ -60,8 +60,9 @@ pub fn closed_stays()
     ensures { ClosedStays }
 {}
 
-/// So does each text about a closed period, of the office and of each centre: its statement, its
-/// adjustments, its bill, its details, and what it would have cost by another tariff.
+/// So do these texts about a closed period, of the office and of each centre: its statement, its
+/// adjustments, its bill, its details, and what it would have cost by another tariff. Its page does
+/// not, since it shows what is in dispute now.
 pub fn closed_texts_stay()
     ensures { ClosedTextsStay }
 {}
