@@ -104,14 +104,14 @@ pub record SendsReplyAsRead (Answering : Reply → Transition) (held holds : Opt
   pub sent : IsSentAsRead reply held holds served
   pub stands : is_cut served ≡ false → is ≡ was
 
--- Something was answered, by more bytes than are gathered before they are sent: a shorter text is
--- never cut off.
+-- Something was answered, by more bytes than are gathered before they are sent: no fault of the books
+-- cuts off a shorter text.
 abbrev pub AnswersLong : (Reply → Transition) → Reply → Transition
 AnswersLong Answering reply = λ was before events is.
     Answering reply was before events is × (most_gathered < length reply.body)
 
--- the ledger answered why there are no details, and that was sent
-pub record RefusesDetails (books : Books) (wanted : DetailReport) (output : Output) (served : Served)
+-- the details were gathered, or the ledger answered why there are none; and that was sent
+pub record SendsGathered (books : Books) (wanted : DetailReport) (output : Output) (served : Served)
     : Type 0 where
   pub reply : Reply
   pub answer : IsTransition books.old books.new (AnswersDetails books.old.naming wanted reply)
@@ -120,7 +120,7 @@ pub record RefusesDetails (books : Books) (wanted : DetailReport) (output : Outp
 -- details were served: refused or gathered so, or long ones sent while they were read
 abbrev pub ServesDetails : Books → DetailReport → Output → Served → Type 0
 ServesDetails books wanted output served =
-    RefusesDetails books wanted output served
+    SendsGathered books wanted output served
     ⊎ IsTransition books.old books.new
     (SendsReplyAsRead (AnswersLong (AnswersDetails books.old.naming wanted))
     output.old.holds output.new.holds served)
