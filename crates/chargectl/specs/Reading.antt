@@ -133,7 +133,8 @@ kind_of number.Far = kind.Word word.Far
 abbrev pub explanation_text : List ℕ → List ℕ → List ℕ
 explanation_text meaning advice = meaning ++ codes "\n" ++ advice ++ codes "\n"
 
--- what is told of a number: that is written, unless the output failed; or that nothing has it
+-- what is told of a number: that is written, or a prefix of it where the output fails; or that nothing
+-- has it
 abbrev pub TellsNumber : Option Explanation → Option (List ℕ) → Option (List ℕ)
     → Result (Unit {0}) CommandFault → Type 0
 TellsNumber None held holds ended = (holds ≡ held) × (ended ≡ Err fault.Number)

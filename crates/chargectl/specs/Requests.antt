@@ -148,7 +148,7 @@ Runs shelf waits old new (request.OfBooks name wait asked) had held holds ended 
 Runs shelf waits old new (request.Unclear why) had held holds ended =
     (new ≡ old) × (holds ≡ held) × (ended ≡ without_log (Err (fault.Unclear why)))
 
--- help was written, or why not, which is said as of any command
+-- help was written, or a prefix of it where the output failed, which is said as of any command
 pub record Helps (text : List ℕ) (held holds : Option (List ℕ)) (Says : List (List ℕ) → Type 0)
     (ended : Status) : Type 0 where
   pub written : Result (Unit {0}) CommandFault

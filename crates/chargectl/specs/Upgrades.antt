@@ -16,7 +16,7 @@ abbrev pub upgrade_text : Upgraded → List ℕ
 upgrade_text (To form) = codes "UPGRADED " ++ decimal form ++ codes "\n"
 upgrade_text Already = codes "ALREADY\n"
 
--- It was written, unless the output failed. Of books that were not opened nothing is.
+-- It was written; or the output failed, and has a prefix of it. Of books that were not opened nothing is.
 abbrev pub EndsUpgrade : Result Upgraded RepositoryFault → Option (List ℕ) → Option (List ℕ)
     → Result (Unit {0}) CommandFault → Type 0
 EndsUpgrade (Ok upgraded) held holds came = IsPrinted (upgrade_text upgraded) held holds came
