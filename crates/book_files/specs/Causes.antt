@@ -54,7 +54,7 @@ HaveBookRow found = (held : HoldsBooks found) → has_book (trees_held held) ≡
 abbrev pub MayBeVisited : Image → Type 0
 MayBeVisited found = HaveBookRow found × HoldNoNewer books_schema found
 
--- the row is there, and the files hold no new books
+-- whatever books the files hold, the row is there; and they hold no new books
 abbrev pub HaveUsedBook : Image → Type 0
 HaveUsedBook found = HaveBookRow found × (¬ HoldsBook file_names new_book found)
 

@@ -107,7 +107,7 @@ pub trait Repository {
             result.answer };
 
     /// Brings the books of a name to the form that this program keeps: they hold the same history.
-    /// That they are of this form already is told only where there is something under the name.
+    /// That they were brought over, or had it before, is told only of a name that has something.
     fn upgrade(&mut self, book: &str) -> Opened<Upgraded>
         ensures same { IsUntouched book.now (shelf self.old) (shelf self.new) }
         ensures there { IsThere book.now (shelf self.old) (shelf self.new) result.answer }
