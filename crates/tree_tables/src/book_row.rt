@@ -39,12 +39,12 @@ pub struct Sums {
     pub amount: u64,
 }
 
-/// The row of the book, as it was kept: the rule of identity, and the sums.
+/// The row of the book, as it was kept: the rule of identity, its adoption, and the sums.
 #[derive(Clone, Copy, Drop)]
 pub struct StoredBook {
-    /// The rule of identity in force.
+    /// The rule of identity in force: `FIRST_RULE` or `SECOND_RULE`.
     pub rule: u64,
-    /// The period in which the second rule was adopted, if it was.
+    /// The period in which the second rule was adopted, or `NEVER_ADOPTED`.
     pub adopted: u64,
     /// How many records are held.
     pub held: u64,
