@@ -35,6 +35,7 @@ day_shown day = if is_day day then day_text_of day else signed_decimal day
 abbrev pub digits_in : ℕ → ℕ → List ℕ
 digits_in width number = replicate (width - length (decimal number)) (byte "0") ++ decimal number
 
+-- a number in two digits, or more where it has more
 unfoldable pub in_two_digits : ℕ → List ℕ
 in_two_digits number = digits_in 2 number
 
@@ -107,7 +108,7 @@ wrong_text wrong.NoDetail = codes "there is no row of detail for it"
 wrong_text wrong.OtherDetail = codes "it is not that of its record"
 wrong_text wrong.NotCounted = codes "no period counts its record"
 
--- the line of it
+-- the line of a finding: its place, and what is wrong there
 unfoldable pub unsound_text : Finding → List ℕ
 unsound_text finding =
     codes "UNSOUND " ++ place_text finding.place ++ codes ": " ++ wrong_text finding.wrong
