@@ -16,13 +16,13 @@ use Rattle.book_model.specs.declared.bill.BilledTariff.{BilledTariff}
 use Rattle.book_model.specs.RulingAnswers.{through_of}
 use Rattle.book_model.specs.Words.{AcceptedTerms, RulingSeen, Rulings, TariffSeen, are_rising}
 use Rattle.book_model.specs.Words.{begins_by, billed_tariff, has_begun, in_force, in_force_from}
+use Rattle.book_model.specs.Words.{is_between}
 use Rattle.book_model.specs.Words.{tariff_by, tariffs_from, tariffs_in, tariffs_seen}
 use Rattle.book_model.specs.Words.{tariffs_through, terms_in}
 use Rattle.book_model.proofs.CountedDays.{close_at, through_at}
 use Rattle.book_model.proofs.LatestLemmas.{begun-last, precedes}
-use Rattle.book_model.proofs.ListLemmas.{list_all-not_any}
 use Rattle.book_model.proofs.RecordSets.{first_of, not_true, second_of}
-use Rattle.table_model.specs.CountedRead.{is_day_between, is_day_of}
+use Rattle.table_model.specs.CountedRead.{is_day_of}
 use Rattle.table_model.specs.Readable.{IsTexted}
 use Rattle.table_model.proofs.PeriodPlaces.{at_place}
 use Rattle.book_laws.specs.BillLaws.{BilledTariffsRule, IsInForceIn}
@@ -51,7 +51,7 @@ AreOrdered close last = (first end : ℤ) → close ≡ Some first → last ≡ 
 
 -- so the day after the first is between them
 next_between : (first : ℤ) (last : Option ℤ) → AreOrdered (Some first) last
-    → is_day_between (Some first) last (day_after first) ≡ true
+    → is_between (Some first) last (day_after first) ≡ true
 next_between first None ordered = λ i. next_after first i && true
 next_between first (Some end) ordered =
     λ i. next_after first i && not (until_next first end (ordered first end refl refl) i)
@@ -112,13 +112,23 @@ unbegun_behind None first behind none = refl
 unbegun_behind (Some day) first behind none =
     neither (has_begun (day_after day) first) (list_any (has_begun (day_after day)) behind) none
 
+-- each element passes a test where none fails it
+all_not_any : {X : Type 0} (p : X → Bool) (xs : List X)
+    → list_all p xs ≡ not (list_any (λ x. not (p x)) xs)
+all_not_any p [] = refl
+all_not_any p (x ∷ xs) =
+    elim (p x) as (λ b. (b && list_all p xs) ≡ not (not b || list_any (λ x. not (p x)) xs)) [
+      | true ↦ all_not_any p xs
+      | false ↦ refl
+    ]
+
 -- none of those behind a tariff has begun on its first day
 later_ones : (tariff : AcceptedTerms) (behind : List AcceptedTerms)
     → are_rising (tariff ∷ behind) ≡ true
     → list_any (has_begun tariff.terms.effective) behind ≡ false
 later_ones tariff behind rising =
     not_true (list_any (has_begun tariff.terms.effective) behind)
-    (sym (list_all-not_any (precedes tariff) behind)
+    (sym (all_not_any (precedes tariff) behind)
     ∙ first_of (list_all (precedes tariff) behind) (are_rising behind) rising)
 
 -- ---- what is billed
@@ -126,7 +136,7 @@ later_ones tariff behind rising =
 -- This holds of the rates of each tariff that is in force on a day between two closes.
 abbrev Holds : Option ℤ → Option ℤ → List AcceptedTerms → (BilledTariff → Type 0) → Type 0
 Holds close last all Q = (day : ℤ) (tariff : AcceptedTerms)
-    → is_day_between close last day ≡ true → in_force day all ≡ Some tariff.terms
+    → is_between close last day ≡ true → in_force day all ≡ Some tariff.terms
     → Q (tariff_by tariff.terms.effective tariff.terms)
 
 -- a tariff begins by a day, if there is one
@@ -280,14 +290,14 @@ all_billed close last tariffs Q ordered holds rising texts =
 -- the days of a period
 days_are : (number k : ℕ) (rulings : Rulings) (day : ℤ) → number ≡ suc k
     → is_day_of number rulings day
-    ≡ is_day_between (close_at rulings.closes k) (slice_get rulings.closes k) day
+    ≡ is_between (close_at rulings.closes k) (slice_get rulings.closes k) day
 days_are number k rulings day own =
     let place : number - 1 ≡ k = omega arith in
     let before : through_of (number - 1) rulings ≡ close_at rulings.closes k =
     ap (λ n. through_of n rulings) place ∙ through_at k rulings in
     let at : through_of number rulings ≡ slice_get rulings.closes k =
     ap (λ n. through_of n rulings) own ∙ through_at (suc k) rulings in
-    λ i. is_day_between (before i) (at i) day
+    λ i. is_between (before i) (at i) day
 
 -- the law
 pub billed_tariffs_rule : BilledTariffsRule
