@@ -1,4 +1,5 @@
-//! The trees of books, by their numbers in the file.
+//! The trees of books, by their numbers in the file. They stand here once more, apart from those of
+//! `tree_tables`: rows notice where two are confused there.
 
 /// The tree of the book's row.
 pub(crate) const BOOK: u32 = 0;
