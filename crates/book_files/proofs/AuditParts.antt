@@ -1,7 +1,8 @@
 -- What an audit says of files.
 use Rattle.std.proofs.Common.{◌≡◌, ◌∙◌, ℕ, List, ◌++◌, Option, None, Some, IsTrue, refl, subst, sym}
+use Rattle.std.proofs.Common.{true≢false}
 use Rattle.std.proofs.Math.Logic.{∥∥₁_elim, ∥∥₁_map, ∥∥₁_prop}
-use Rattle.std.specs.Prelude.{IfOk, IfSome, MatchOption}
+use Rattle.std.specs.Prelude.{IfOk, IfSome, IsOk, IsSome, MatchOption}
 use Rattle.sqlite_disk.specs.declared.Disk.{Ghosts}
 use Rattle.sqlite_disk.specs.declared.files.Files.{Files}
 use Rattle.sqlite_store.specs.FileStore.{state, view, IsReady}
@@ -98,6 +99,17 @@ looked_listed g Lists Pages None lists = λ image never. absurd never
 looked_listed g Lists Pages (Some files) lists =
     λ image may. ∣ lists refl (found_clean g files image may) ∣₁
 looked_listed g Lists (Open fault) files lists = tt
+
+-- and files that were not looked through have an answer only where they are in hand
+pub looked_in_hand : {D : Type 0} (g : Ghosts D) (found : Image) (AtLimit : Files D → Type 0)
+    (fault : LookFault) (files : Option (Files D))
+    → MatchOption files (IsUnopenedLook fault)
+    (IsLookRefusedFor g (HoldsThisForm found) AtLimit fault)
+    → IsOk (look_answer fault) → IsSome files
+looked_in_hand g found AtLimit Pages None cause answered = absurd cause
+looked_in_hand g found AtLimit Pages (Some files) cause answered = refl
+looked_in_hand g found AtLimit (Open fault) files cause answered =
+    absurd (true≢false (sym answered))
 
 -- why files are called unsound, where it is known that they hold such a book
 own_unsound : {D : Type 0} (g : Ghosts D) (found : Image) (ended : Ended D) (audited : Audited)

@@ -1,11 +1,11 @@
 -- Books of the first form that were brought over, or not: what is written of them, and what is found of
 -- their files.
 use Rattle.std.proofs.Common.{◌≡◌, ◌∙◌, ◌<◌, ℕ, List, [], IsTrue, Option, None, Some, Result, Ok, Err}
-use Rattle.std.proofs.Common.{false, inl, inr, refl, subst, sym, ap, arith}
+use Rattle.std.proofs.Common.{false, inl, inr, refl, subst, sym, ap, arith, true≢false}
 use Rattle.std.proofs.Math.Logic.{∥∥₁_elim, ∥∥₁_map, ∥∥₁_prop}
 use Rattle.std.proofs.lemmas.Bool.{cases_Bool}
 use Rattle.std.proofs.lemmas.Bool.Decides.{nat_tests}
-use Rattle.std.specs.Prelude.{◌==◌, IfErr, IfOk, IfSome, MatchOption}
+use Rattle.std.specs.Prelude.{◌==◌, IfErr, IfOk, IfSome, IsOk, IsSome, MatchOption}
 use Rattle.sqlite_disk.specs.declared.Disk.{Ghosts}
 use Rattle.sqlite_disk.specs.declared.files.Files.{Files}
 use Rattle.sqlite_store.specs.FileStore.{recovers, state, view, IsReady}
@@ -257,6 +257,17 @@ pub first_tells : (why : FirstFault) → IfOk (first_answer why) TellsThisForm
 first_tells fault.Already = tt
 first_tells fault.Pages = tt
 first_tells (fault.Open why) = tt
+
+-- and none at all where no files are in hand
+pub first_in_hand : {D : Type 0} (g : Ghosts D) (Held : Type 0) (AtLimit : Files D → Type 0)
+    (why : FirstFault) (files : Option (Files D))
+    → MatchOption files (IsUnopenedFirst why) (IsFirstRefusedFor g Held AtLimit why)
+    → IsOk (first_answer why) → IsSome files
+first_in_hand g Held AtLimit fault.Already None cause answered = absurd cause
+first_in_hand g Held AtLimit fault.Already (Some files) cause answered = refl
+first_in_hand g Held AtLimit fault.Pages files cause answered = absurd (true≢false (sym answered))
+first_in_hand g Held AtLimit (fault.Open why) files cause answered =
+    absurd (true≢false (sym answered))
 
 -- What is told of files that were opened, and of those that were not, stands in them.
 module _ {D : Type 0} (g : Ghosts D) (found : Image) where

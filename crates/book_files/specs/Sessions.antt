@@ -1,5 +1,5 @@
 -- What may be found of the files of books after a session.
-use Rattle.std.specs.Prelude.{◌≡◌, ◌≢◌, Option, None, Some, IfSome, IsTrue, [], ⊤}
+use Rattle.std.specs.Prelude.{◌≡◌, ◌≢◌, Option, None, Some, IfSome, IsSome, IsTrue, [], ⊤}
 use Rattle.sqlite_disk.specs.declared.Disk.{Ghosts}
 use Rattle.sqlite_disk.specs.declared.files.Files.{Files}
 use Rattle.sqlite_wal.specs.Reads.{AreClean}
@@ -30,6 +30,11 @@ abbrev pub AreAsFound : {D : Type 0} (g : Ghosts D) → Image → Ended D → Ty
 AreAsFound g found (Closed closed) = ⊤
 AreAsFound g found (Refused files) =
     IfSome files (λ files. (left : Image) → MayLeave g files left → IsAsFound found left)
+
+-- The files are in hand. Where none are, nothing can be said of them.
+abbrev pub AreInHand : {D : Type 0} → Ended D → Type 0
+AreInHand (Closed closed) = ⊤
+AreInHand (Refused files) = IsSome files
 
 -- The pages of the log of files that were opened were to be moved into the other file.
 abbrev pub TriesToMoveLog : {D : Type 0} → Ended D → Type 0

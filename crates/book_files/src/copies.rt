@@ -6,8 +6,8 @@ ghost use Rattle.sqlite_wal.specs.Recovery.{Image};
 ghost use Rattle.book_core.specs.Transition.{NoEvent};
 ghost use Rattle.book_files.specs.Causes.{MayBeVisited, WhyNotCopied};
 ghost use Rattle.book_files.specs.Faults.{not_copied, tried_answer};
-ghost use Rattle.book_files.specs.Sessions.{AreHonest, FileAloneGoesOn, FilesGoOn, MayFollow};
-ghost use Rattle.book_files.specs.Sessions.{TriesToMoveLog, WereOnlyRead};
+ghost use Rattle.book_files.specs.Sessions.{AreHonest, AreInHand, FileAloneGoesOn, FilesGoOn};
+ghost use Rattle.book_files.specs.Sessions.{MayFollow, TriesToMoveLog, WereOnlyRead};
 ghost use Rattle.book_restarts.specs.FileBooks.{file_names};
 
 use crate::books::visit_and_close;
@@ -71,6 +71,7 @@ pub fn visit_copy_at<S: Start, T: Start, V: Visit>(
     ensures original { IfSome result.original
         (WereOnlyRead ⟦<FileFrom<S> as Disk>⟧ (image_at S.Start)) }
     ensures in_hand { IsOk result.answer → IsSome result.original }
+    ensures copied { IsOk result.answer → AreInHand result.copy }
     ensures came { MatchResult result.answer (V.Visit.comes visit.old visit.new)
         (λ _. visit.new ≡ visit.old) }
 
@@ -128,6 +129,7 @@ pub fn copy_at<S: Start, T: Start>(
     ensures original { IfSome result.original
         (WereOnlyRead ⟦<FileFrom<S> as Disk>⟧ (image_at S.Start)) }
     ensures in_hand { IsOk result.answer → IsSome result.original }
+    ensures copied { IsOk result.answer → AreInHand result.copy }
     ensures cause { IfErr result.answer (WhyNotCopied ⟦<FileFrom<S> as Disk>⟧
         ⟦<FileFrom<T> as Disk>⟧ (image_at S.Start) result.original result.copy) }
 {

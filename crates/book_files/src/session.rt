@@ -1,7 +1,7 @@
 //! One session on the books in a file: it is opened, visited and closed; or looked through; or new
 //! books are made in it, or continued; or old ones are brought over.
 
-ghost use Rattle.std.specs.Prelude.{◌≡◌, [], IfErr, IfOk, List, MatchResult};
+ghost use Rattle.std.specs.Prelude.{◌≡◌, [], IfErr, IfOk, IsOk, List, MatchResult};
 ghost use Rattle.sqlite_wal.specs.Files.{image_at};
 ghost use Rattle.sqlite_wal.specs.Recovery.{Image};
 ghost use Rattle.book_model.specs.Words.{Event};
@@ -13,8 +13,8 @@ ghost use Rattle.book_files.specs.Causes.{WhyNotMade};
 ghost use Rattle.book_files.specs.Causes.{IsToldOfThis, WhyNotUpgraded, WhyNotVisited};
 ghost use Rattle.book_files.specs.Faults.{first_answer, resume_fault};
 ghost use Rattle.book_files.specs.NewBooks.{MayBeMade, NewBooksMade};
-ghost use Rattle.book_files.specs.Sessions.{AreAsFound, FileAloneGoesOn, FilesGoOn, MayFollow};
-ghost use Rattle.book_files.specs.Sessions.{KeepsLog, TriesToMoveLog};
+ghost use Rattle.book_files.specs.Sessions.{AreAsFound, AreInHand, FileAloneGoesOn, FilesGoOn};
+ghost use Rattle.book_files.specs.Sessions.{KeepsLog, MayFollow, TriesToMoveLog};
 ghost use Rattle.book_files.specs.Upgrades.{FilesBroughtOver, HoldsWhatIsTold, TellsThisForm};
 ghost use Rattle.book_files.specs.Upgrades.{upgrade_answer};
 ghost use Rattle.book_restarts.specs.FileBooks.{HoldsHistory, done_by, file_names};
@@ -78,6 +78,9 @@ pub fn visit_at<S: LeftByLedger, V: Visit>(
     ensures came { MatchResult result.0 (V.Visit.comes visit.old visit.new)
         (λ _. visit.new ≡ visit.old) }
 
+    // An answer is given only with the files in hand, of which the other clauses speak.
+    ensures in_hand { IsOk result.0 → AreInHand result.1 }
+
     // There are books exactly where their row is there: that there are none is answered only of
     // files that hold none of this form, or not their row, and without it none are visited, nor are
     // any that say that they are of a newer form. A fault of the store is told of what a ledger left
@@ -112,6 +115,7 @@ pub fn make_at<S: Start>(
     // In files that hold something no books are made, and nothing is written.
     ensures new { IfOk result.0 (λ made. (image : Image)
         → MayBeMade ⟦<FileFrom<S> as Disk>⟧ result.1 image → ∥ HoldsNothing (image_at S.Start) ∥₁) }
+    ensures in_hand { IsOk result.0 → AreInHand result.1 }
     ensures moves { TriesToMoveLog result.1 }
     ensures unopened { (¬ HoldsNothing (image_at S.Start))
         → AreAsFound ⟦<FileFrom<S> as Disk>⟧ (image_at S.Start) result.1 }
@@ -154,6 +158,7 @@ pub fn resume_at<S: LeftByLedger>(
         → IfOk result.0 (λ made. history ≡ []) }
     ensures made { HoldsEmptyBooks (image_at S.Start)
         → NewBooksMade ⟦<FileFrom<S> as Disk>⟧ result.0 result.1 }
+    ensures in_hand { IsOk result.0 → AreInHand result.1 }
     ensures moves { TriesToMoveLog result.1 }
 
     // That books are there is answered of files that hold none of ours, or books that are not new.
@@ -195,6 +200,7 @@ pub fn audit_at<S: Start, W: Watch>(
     ensures listed { IfOk result.0 (λ audited. (image : Image)
         → MayFollow ⟦<FileFrom<S> as Disk>⟧ result.1 image
         → ∥ ListsBooks (image_at S.Start) ∥₁) }
+    ensures in_hand { IsOk result.0 → AreInHand result.1 }
 
     // Files that hold a book which calls made are not called unsound, but where they were looked
     // through, and a call on them failed.
@@ -258,6 +264,7 @@ pub fn upgrade_at<S: Start>(
     ensures listed { IfOk result.0 (λ upgraded. (image : Image)
         → MayFollow ⟦<FileFrom<S> as Disk>⟧ result.1 image
         → HoldsWhatIsTold (image_at S.Start) upgraded) }
+    ensures in_hand { IsOk result.0 → AreInHand result.1 }
 
     // Files that hold books of the first form, and their row, are refused only because of memory
     // and the disk.

@@ -1,6 +1,6 @@
 use Rattle.std.proofs.Common.{inl, refl, subst, sym}
 use Rattle.std.proofs.Math.Logic.{∥∥₁_elim, ∥∥₁_map, ∥∥₁_prop}
-use Rattle.std.specs.Prelude.{IfOk}
+use Rattle.std.specs.Prelude.{IfOk, IsOk, IsSome}
 use Rattle.sqlite_disk.specs.contracts.modelled.ModelledDisk.TheImpl as modelled
 use Rattle.sqlite_std_file.specs.contracts.host.Host.{the_row}
 use Rattle.sqlite_std_file.specs.contracts.host.HostCalls.TheImpl as host
@@ -16,8 +16,8 @@ use Rattle.book_audit.specs.Own.{AreOwn}
 use Rattle.book_files.specs.Audits.{WhyUnsound}
 use Rattle.book_files.specs.Sessions.{MayFollow}
 use Rattle.book_files.specs.declared.session.Ended.TheVariants.{Refused}
-use Rattle.book_files.proofs.AuditParts.{audited_same, looked_listed, never_unsound, own_trees}
-use Rattle.book_files.proofs.AuditParts.{refused_same, same_goes_on}
+use Rattle.book_files.proofs.AuditParts.{audited_same, looked_in_hand, looked_listed, never_unsound}
+use Rattle.book_files.proofs.AuditParts.{own_trees, refused_same, same_goes_on}
 use Rattle.book_files.proofs.Causes.{ok_each, ok_so}
 use Rattle.book_files.proofs.SessionParts.{found_clean}
 use Rattle.book_files.proofs.session.audit_at.Goals as goal
@@ -101,3 +101,11 @@ returns-in-Err-clause-listed g c =
     (sym c.not_looked_through.ensures)
     (looked_listed disk (ListsBooks (image_at g.S.Start)) c.in-Err.fault c.in-Err.files
     c.in-Err.ensures.listed)
+
+pub returns-in-Err-clause-in_hand : goal.returns-in-Err-clause-in_hand
+returns-in-Err-clause-in_hand g c =
+    let disk = modelled.ghosts the_row g.row.S host.ghosts host.dict g.S.Start g.S.Start-dict
+    g.S.Destruct-dict in
+    subst (λ result. IsOk result → IsSome c.in-Err.files) (sym c.not_looked_through.ensures)
+    (looked_in_hand disk (image_at g.S.Start) (AreFull disk) c.in-Err.fault c.in-Err.files
+    c.in-Err.ensures.cause)

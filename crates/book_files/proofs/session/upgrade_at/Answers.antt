@@ -1,6 +1,6 @@
 use Rattle.std.proofs.Common.{◌≡◌, false, inl, refl, subst, sym}
 use Rattle.std.proofs.Math.Logic.{∥∥₁_elim, ∥∥₁_prop}
-use Rattle.std.specs.Prelude.{IfErr, IfOk, ⊤}
+use Rattle.std.specs.Prelude.{IfErr, IfOk, IsOk, IsSome, ⊤}
 use Rattle.sqlite_disk.specs.contracts.modelled.ModelledDisk.TheImpl as modelled
 use Rattle.sqlite_std_file.specs.contracts.host.Host.{the_row}
 use Rattle.sqlite_std_file.specs.contracts.host.HostCalls.TheImpl as host
@@ -20,7 +20,7 @@ use Rattle.book_files.specs.Upgrades.{BringsOver, HoldsWhatIsTold, TellsThisForm
 use Rattle.book_files.specs.declared.session.Ended.TheVariants.{Closed, Refused}
 use Rattle.book_files.proofs.Causes.{cause_so, err_so, first_cause, opened_not_this, refused_this}
 use Rattle.book_files.proofs.SessionParts.{found_clean, refused_goes_on}
-use Rattle.book_files.proofs.UpgradeParts.{brings_over, first_tells, opened_tells}
+use Rattle.book_files.proofs.UpgradeParts.{brings_over, first_in_hand, first_tells, opened_tells}
 use Rattle.book_files.proofs.UpgradeParts.{refused_brings, refused_tells, tells_form, told_why}
 use Rattle.book_files.proofs.session.upgrade_at.Goals as goal
 
@@ -135,3 +135,11 @@ returns-in-Err-clause-listed g c =
     → MayFollow disk (Refused c.in-Err.files) image → HoldsWhatIsTold first told))
     (sym c.not_upgraded.ensures)
     (refused_tells disk first c.in-Err.fault c.in-Err.files c.in-Err.ensures.listed)
+
+pub returns-in-Err-clause-in_hand : goal.returns-in-Err-clause-in_hand
+returns-in-Err-clause-in_hand g c =
+    let disk = modelled.ghosts the_row g.row.S host.ghosts host.dict g.S.Start g.S.Start-dict
+    g.S.Destruct-dict in
+    subst (λ result. IsOk result → IsSome c.in-Err.files) (sym c.not_upgraded.ensures)
+    (first_in_hand disk (HoldsFirstForm (image_at g.S.Start)) (AreFull disk) c.in-Err.fault
+    c.in-Err.files c.in-Err.ensures.cause)

@@ -34,6 +34,7 @@ returns-in-Ok g c =
       moves = visited.ensures.moves;
       unopened = tt;
       came = visited.ensures.came;
+      in_hand = λ answered. tt;
       there = ok_so visited.result.0 visited.ensures.there (λ answer there image may.
           let honest = found_clean disk visited.result.1.files image may.1 in
           let clean = visited.ensures.clean honest in (
