@@ -1,5 +1,5 @@
 -- What is held back in dispute, as a ledger answers it by calls that are no event.
-use Rattle.std.specs.Prelude.{ℕ, ◌+◌, Bool, List, Option, Ok}
+use Rattle.std.specs.Prelude.{ℕ, ◌+◌, ◌<◌, ◌^◌, Bool, List, Option, Ok}
 use Rattle.std.specs.List.{list_any}
 use Rattle.book_model.specs.declared.bill.HeldBack.{HeldBack}
 use Rattle.book_model.specs.declared.dispute.Variant.{Variant}
@@ -21,6 +21,12 @@ with_amounts held least greatest = record {
   least = held.least + least;
   greatest = held.greatest + greatest;
 }
+
+-- 64 bits hold that
+pub record FitsAmounts (held : HeldBack) (least_more greatest_more : ℕ) : Type 0 where
+  pub disputes : held.disputes + 1 < 2 ^ 64
+  pub least : held.least + least_more < 2 ^ 64
+  pub greatest : held.greatest + greatest_more < 2 ^ 64
 
 -- what is held back of the disputes of a book
 abbrev pub held_in_outcome : Naming → Option (List ℕ) → Book → Outcome HeldBack

@@ -1,6 +1,6 @@
 -- The details of a period, or of one centre in it, as a list or as a table, which are written while
 -- they are read.
-use Rattle.std.specs.Prelude.{ℕ, ◌+◌, List, [], length, sum_by, Option, Result, ℤ}
+use Rattle.std.specs.Prelude.{ℕ, ◌+◌, ◌<◌, ◌^◌, List, [], length, sum_by, Option, Result, ℤ}
 use Rattle.book_model.specs.declared.detail.Detail.{Detail}
 use Rattle.book_model.specs.declared.fault.LedgerFault.{LedgerFault}
 use Rattle.book_model.specs.Words.{Book, Naming, Outcome, details_outcome, no_event}
@@ -66,6 +66,13 @@ with_detail sums detail = record {
   blocks = sums.blocks + detail.priced.excp;
   amount = sums.amount + detail.priced.amount;
 }
+
+-- 64 bits hold that
+pub record FitsDetail (sums : Sums) (detail : Detail) : Type 0 where
+  pub count : sums.count + 1 < 2 ^ 64
+  pub cpu : sums.cpu + detail.priced.cpu < 2 ^ 64
+  pub blocks : sums.blocks + detail.priced.excp < 2 ^ 64
+  pub amount : sums.amount + detail.priced.amount < 2 ^ 64
 
 -- what a book answers to them: their text, or that it has no such period
 abbrev pub detail_answer : DetailReport → Naming → Book → Result (List ℕ) LedgerFault

@@ -2,7 +2,7 @@
 //! record, and the least and the greatest amount that choices come to. Disputes are read one at a
 //! time.
 
-ghost use Rattle.std.specs.Prelude.{◌≡◌, ◌<◌, ◌+◌, ◌^◌, ◌++◌, ◌∷◌, [], IfSome, None};
+ghost use Rattle.std.specs.Prelude.{◌≡◌, ◌++◌, ◌∷◌, [], IfSome, None};
 ghost use Rattle.book_model.specs.Words as words;
 ghost use Rattle.book_model.specs.Words.{dispute_shown, held_back_in};
 ghost use Rattle.book_core.specs.Calls.{IsCall};
@@ -80,8 +80,7 @@ fn greatest_for(centre: &Option<Name>, dispute: &Dispute) -> u64
 /// What is held back with one more dispute of these amounts, if 64 bits hold it.
 fn with_amounts(held: HeldBack, least: u64, greatest: u64) -> Option<HeldBack>
     ensures more { IfSome result (λ more. more ≡ spec.with_amounts held least greatest) }
-    ensures large { result ≡ None → held.disputes + 1 < 2 ^ 64 → held.least + least < 2 ^ 64
-        → ¬ (held.greatest + greatest < 2 ^ 64) }
+    ensures large { result ≡ None → ¬ spec.FitsAmounts held least greatest }
 {
     Some(HeldBack {
         disputes: held.disputes.checked_add(1)?,
@@ -92,8 +91,12 @@ fn with_amounts(held: HeldBack, least: u64, greatest: u64) -> Option<HeldBack>
 
 /// The same with one more dispute of any kind.
 fn with_dispute(held: HeldBack, centre: &Option<Name>, dispute: &Dispute) -> Option<HeldBack>
-    ensures { IfSome result (λ more. (disputes : AllDisputes) → held ≡ held_back_in centre.now disputes
+    ensures more { IfSome result (λ more. (disputes : AllDisputes)
+        → held ≡ held_back_in centre.now disputes
         → more ≡ held_back_in centre.now (disputes ++ dispute_shown dispute.now ∷ [])) }
+    ensures large { result ≡ None → ¬ spec.FitsAmounts held
+        (words.least_for centre.now (dispute_shown dispute.now))
+        (words.greatest_for centre.now (dispute_shown dispute.now)) }
 {
     if !is_any_paid_by(centre, dispute.members.as_slice()) {
         return Some(held);

@@ -1,7 +1,7 @@
 //! The details of a period, written as they are read: a list of millions of lines is never made
 //! whole. What is held of it is one detail, and the lines that wait to be written.
 
-ghost use Rattle.std.specs.Prelude.{◌≡◌, ◌++◌, ◌+◌, ◌<◌, ◌^◌, IfErr, IfOk, IfSome, None, OnOk};
+ghost use Rattle.std.specs.Prelude.{◌≡◌, ◌++◌, ◌<◌, IfErr, IfOk, IfSome, None, OnOk};
 ghost use Rattle.std.specs.Prelude.{false, length, true};
 ghost use Rattle.std.specs.Option.{ForSome};
 ghost use Rattle.streams.specs.Sinks.{has_failed, writer_of};
@@ -59,9 +59,7 @@ pub(crate) const MOST_DETAILS: u64 = 1 << 32;
 /// The sums with one more detail, if 64 bits hold them. Those of sound books do.
 pub(crate) fn with_detail(sums: Sums, detail: &Detail) -> Option<Sums>
     ensures more { IfSome result (λ more. more ≡ spec.with_detail sums detail.now) }
-    ensures large { result ≡ None → sums.count + 1 < 2 ^ 64
-        → sums.cpu + detail.now.priced.cpu < 2 ^ 64 → sums.blocks + detail.now.priced.excp < 2 ^ 64
-        → ¬ (sums.amount + detail.now.priced.amount < 2 ^ 64) }
+    ensures large { result ≡ None → ¬ spec.FitsDetail sums detail.now }
 {
     Some(Sums {
         count: sums.count.checked_add(1)?,

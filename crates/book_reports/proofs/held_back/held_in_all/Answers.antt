@@ -58,7 +58,7 @@ pub disputes-preserved : goal.disputes-preserved
 disputes-preserved g c =
     held_on c.args.centre.now _ _ _ c.disputes.next c.in_ok-next-2.next c.in-Some.dispute
     c.disputes.held c.in-Some-with_dispute.more c.in_ok-from.from.items c.in-Some.is c.in_ok-from.ensures
-    c.in-Some-with_dispute.ensures c.disputes.invariant
+    c.in-Some-with_dispute.ensures.more c.disputes.invariant
     (rw c.deref.ensures.value at c.in_ok-next-2.ensures.dispute)
 
 -- there are too many
