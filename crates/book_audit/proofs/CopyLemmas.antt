@@ -18,19 +18,19 @@ pub unknown_copied : (book copy : List ℕ) (naming : Naming) (answer : Result A
     → IsCopied book copy (unknown naming) (unknown naming) answer
 unknown_copied book copy naming (Ok (Sound counts)) = record {
   kept = unknown_untouched copy naming;
-  name = unknown_name copy naming (Ok (Sound counts));
+  name = unknown_name {A = Audited} copy naming (Ok (Sound counts));
   copied = λ free. absurd free;
   why = tt;
 }
 unknown_copied book copy naming (Ok (Unsound finding)) = record {
   kept = unknown_untouched copy naming;
-  name = unknown_name copy naming (Ok (Unsound finding));
+  name = unknown_name {A = Audited} copy naming (Ok (Unsound finding));
   copied = λ free. absurd free;
   why = tt;
 }
 unknown_copied book copy naming (Err fault) = record {
   kept = unknown_untouched copy naming;
-  name = unknown_name copy naming (Err fault);
+  name = unknown_name {A = Audited} copy naming (Err fault);
   copied = λ free. absurd free;
   why = inl tt;
 }

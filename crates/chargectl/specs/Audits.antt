@@ -8,7 +8,7 @@ use Rattle.book_audit.specs.Copies.{IsAudited, IsCopied}
 use Rattle.book_audit.specs.Findings.{unsound_text}
 use Rattle.book_audit.specs.Texts.{sound_text}
 use Rattle.named_books.specs.declared.repository.RepositoryFault.{RepositoryFault}
-use Rattle.named_books.specs.Shelves.{Shelf, IsUntouched}
+use Rattle.named_books.specs.Shelves.{Shelf, IsThere, IsUntouched}
 use Rattle.chargectl.specs.declared.command_fault.CommandFault.{CommandFault}
 use Rattle.chargectl.specs.declared.command_fault.CommandFault.TheVariants as fault
 use Rattle.chargectl.specs.declared.ended.Ended.{Ended}
@@ -33,11 +33,12 @@ EndsAudit (Ok (Unsound finding)) held holds came = EndsUnsound finding held hold
     ⊎ ((holds ≡ held) × (came ≡ Err (fault.Ledger ledger.Memory)))
 EndsAudit (Err fault) held holds came = (holds ≡ held) × (came ≡ Err (shelf_fault fault))
 
--- This was done where books were audited with this answer, and whether their log is left.
-pub record Audits (IsDone : Result Audited RepositoryFault → Type 0) (book : List ℕ) (new : Shelf)
+-- This was done where books were audited with this answer, if there are any, and whether their log is left.
+pub record Audits (IsDone : Result Audited RepositoryFault → Type 0) (book : List ℕ) (old new : Shelf)
     (held holds : Option (List ℕ)) (ended : Ended) : Type 0 where
   pub audited : Result Audited RepositoryFault
   pub done : IsDone audited
+  pub there : IsThere book old new audited
   pub ends : EndsAudit audited held holds ended.came
   pub log : new.has_log book ended.has_log
   pub change : ended.is_change ≡ false
@@ -46,7 +47,7 @@ pub record Audits (IsDone : Result Audited RepositoryFault → Type 0) (book : L
 -- or the place refused them before
 abbrev pub AuditsBy : (Result Audited RepositoryFault → Type 0) → List ℕ → Shelf → Shelf
     → Option (List ℕ) → Option (List ℕ) → Result Ended CommandFault → Type 0
-AuditsBy IsDone book old new held holds (Ok ended) = Audits IsDone book new held holds ended
+AuditsBy IsDone book old new held holds (Ok ended) = Audits IsDone book old new held holds ended
 AuditsBy IsDone book old new held holds (Err why) = IsRefusedBy book old new held holds why
 
 -- the books of a name were audited where they are, and stay as they are

@@ -91,7 +91,7 @@ impl WaitingRepository for OneBook {
     fn wait_up_to(&mut self, _seconds: u16) {}
 }
 
-#[tactic(auto, using(book_audit::proofs::CopyLemmas::unknown_audited, book_audit::proofs::CopyLemmas::unknown_copied))]
+#[tactic(auto, using(named_books::proofs::ShelfLemmas::unknown_there, book_audit::proofs::CopyLemmas::unknown_audited, book_audit::proofs::CopyLemmas::unknown_copied))]
 impl AuditedRepository for OneBook {
     fn audit<W: Watch>(&self, _book: &str, _watch: &mut W) -> Opened<Audited> {
         without_log(Err(RepositoryFault::Io))
