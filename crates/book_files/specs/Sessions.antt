@@ -36,6 +36,11 @@ abbrev pub AreInHand : {D : Type 0} → Ended D → Type 0
 AreInHand (Closed closed) = ⊤
 AreInHand (Refused files) = IsSome files
 
+-- those that are in hand
+abbrev pub files_in_hand : {D : Type 0} → Ended D → Option (Files D)
+files_in_hand (Closed closed) = Some closed.files
+files_in_hand (Refused files) = files
+
 -- The pages of the log of files that were opened were to be moved into the other file.
 abbrev pub TriesToMoveLog : {D : Type 0} → Ended D → Type 0
 TriesToMoveLog (Closed closed) = closed.log ≢ Unmoved

@@ -3,6 +3,7 @@
 
 ghost use Rattle.std.specs.Prelude.{◌≡◌};
 ghost use Rattle.book_files.specs.Releases.{seen_answer};
+ghost use Rattle.book_files.specs.Sessions.{files_in_hand};
 
 use crate::log::{Log, is_there, sync_folder};
 use crate::names::is_log_name;
@@ -131,13 +132,14 @@ impl Files<'_> {
     }
 }
 
-/// What came of new books, with their files. Where no memory was left to see that the files hold
-/// books, that is said.
+/// What came of new books, with their files, which stay locked until the books have their name.
+/// Where no memory was left to see that the files hold books, that is said.
 fn in_hand<D: Disk + Drop>(
     made: Result<(), RepositoryFault>,
     ended: Ended<D>,
 ) -> (Result<(), RepositoryFault>, Option<Pair<D>>)
-    ensures { result.0 ≡ seen_answer (RepositoryFault.Ledger LedgerFault.Memory) made ended }
+    ensures told { result.0 ≡ seen_answer (RepositoryFault.Ledger LedgerFault.Memory) made ended }
+    ensures files { result.1 ≡ files_in_hand ended }
 {
     match ended {
         Ended::Refused(files) => (made, files),
