@@ -29,6 +29,6 @@ HoldsCopy book copy old new (Err fault) = old.is_free copy → new.is_free copy
 pub record IsCopied (book copy : List ℕ) (old new : Shelf) (answer : Result Audited RepositoryFault)
     : Type 0 where
   pub kept : IsUntouched copy old new
-  pub name : TakesName copy old new answer
+  pub name : TakesName copy old answer
   pub copied : HoldsCopy book copy old new answer
   pub why : IfErr answer (λ fault. old.refuses book fault ⊎ old.refuses copy fault)

@@ -163,28 +163,22 @@ unknown_tried work book naming (Ok answer) =
 unknown_tried work book naming (Err fault) = (tt, unknown_untouched book naming)
 
 pub unknown_name : {A : Type 0} (book : List ℕ) (naming : Naming) (result : Result A RepositoryFault)
-    → TakesName book (unknown naming) (unknown naming) result
-unknown_name book naming (Ok answer) = record {
-  others = λ other apart free. free;
-  none = λ history held. held;
-}
-unknown_name book naming (Err fault) = record {
-  others = λ other apart free. free;
-  none = tt;
-}
+    → TakesName book (unknown naming) result
+unknown_name book naming (Ok answer) = λ history held. held
+unknown_name book naming (Err fault) = tt
 
 pub unknown_made : (book : List ℕ) (naming : Naming) (result : Result (Unit {0}) RepositoryFault)
     → IsMade book (unknown naming) (unknown naming) result
 unknown_made book naming (Ok made) = record {
   kept = unknown_untouched book naming;
-  name = unknown_name book naming (Ok made);
+  name = unknown_name {A = Unit {0}} book naming (Ok made);
   made = λ free. absurd free;
   refused = tt;
   why = tt;
 }
 unknown_made book naming (Err fault) = record {
   kept = unknown_untouched book naming;
-  name = unknown_name book naming (Err fault);
+  name = unknown_name {A = Unit {0}} book naming (Err fault);
   made = tt;
   refused = λ free. absurd free;
   why = tt;

@@ -102,11 +102,9 @@ abbrev pub ComesBy : {A : Type 0} → (A → Type 0) → Type 0 → Result A Rep
 ComesBy Came Same (Ok answer) = Came answer
 ComesBy {A} Came Same (Err fault) = WhereUnopened ((answer : A) × Came answer) Same fault
 
--- No other name was taken than this one, and where it was given, no books had it before.
-pub record TakesName {A : Type 0} (book : List ℕ) (old new : Shelf) (result : Result A RepositoryFault)
-    : Type 0 where
-  pub others : (other : List ℕ) → other ≢ book → old.is_free other → new.is_free other
-  pub none : OnOk result ((history : List Event) → old.holds book history → ⊥)
+-- Where this name was given, no books had it before.
+abbrev pub TakesName : {A : Type 0} → List ℕ → Shelf → Result A RepositoryFault → Type 0
+TakesName book old result = OnOk result ((history : List Event) → old.holds book history → ⊥)
 
 -- New books were made under a name that no books had: if it was free, they hold no history. Or the
 -- place refused it, and it is free still. Books that were there are as they were, and no other name
@@ -114,7 +112,7 @@ pub record TakesName {A : Type 0} (book : List ℕ) (old new : Shelf) (result : 
 pub record IsMade (book : List ℕ) (old new : Shelf) (result : Result (Unit {0}) RepositoryFault)
     : Type 0 where
   pub kept : IsUntouched book old new
-  pub name : TakesName book old new result
+  pub name : TakesName book old result
   pub made : OnOk result (old.is_free book → new.holds book [])
   pub refused : OnErr result (old.is_free book → new.is_free book)
   pub why : IfErr result (old.refuses book)
