@@ -6,6 +6,7 @@ use Rattle.book_model.specs.declared.fault.LedgerFault.TheVariants as ledger
 use Rattle.book_audit.specs.declared.audited.Audited.{Audited}
 use Rattle.book_audit.specs.declared.audited.Audited.TheVariants.{Sound, Unsound}
 use Rattle.book_audit.specs.declared.finding.Finding.{Finding}
+use Rattle.book_audit.specs.Findings.{unsound_text}
 use Rattle.book_audit.specs.Texts.{IsAuditText}
 use Rattle.chargectl.specs.declared.command_fault.CommandFault.{CommandFault}
 use Rattle.chargectl.specs.declared.command_fault.CommandFault.TheVariants as fault
@@ -24,10 +25,10 @@ pub audit_unsound : (audited : Audited) (finding : Finding) (text : List ℕ)
     → audited ≡ Unsound finding → IsAuditText audited text → IsPrinted text held holds written
     → EndsAudit (Ok audited) held holds (Err fault.Unsound)
 audit_unsound audited finding text held holds written is said printed =
+    let line : text ≡ unsound_text finding = subst (λ audited. IsAuditText audited text) is said in
     subst (λ audited. EndsAudit (Ok audited) held holds (Err fault.Unsound)) (sym is)
     (inl (record {
       written = written;
-      printed = subst (λ text. IsPrinted text held holds written)
-          (subst (λ audited. IsAuditText audited text) is said) printed;
+      printed = subst (λ text. IsPrinted text held holds written) line printed;
       ends = refl;
     }))

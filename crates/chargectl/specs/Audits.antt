@@ -15,8 +15,8 @@ use Rattle.chargectl.specs.declared.ended.Ended.{Ended}
 use Rattle.chargectl.specs.Commands.{IsPrinted, IsRefusedBy}
 use Rattle.chargectl.specs.Faults.{shelf_fault}
 
--- Books that are unsound end the command so, whatever becomes of the text that says it: the whole of it is
--- written, or the output fails, and has a prefix of it.
+-- Books that are unsound end the command so, whatever becomes of the line that says it: it is written, or
+-- the output fails, and has a prefix of it.
 pub record EndsUnsound (finding : Finding) (held holds : Option (List ℕ))
     (came : Result (Unit {0}) CommandFault) : Type 0 where
   pub written : Result (Unit {0}) CommandFault
