@@ -218,7 +218,7 @@ is_dated (ruling.Close period date) = true
 is_dated (ruling.Choose digest) = false
 is_dated ruling.Adopt = false
 
--- a command asked what its words ask
+-- A command asked what its words ask. No contract says what the file of a dump had.
 pub record Asking (request : BookRequest) (book : List ℕ) (old new : Shelf) (answered : Answered)
     : Type 0 where
   pub asked : Asked
