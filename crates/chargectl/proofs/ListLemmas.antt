@@ -7,7 +7,7 @@ use Rattle.std.specs.Option.{option_map}
 use Rattle.std.proofs.KnownBytes.{Consumes-trans}
 use Rattle.std.specs.Io.Iter.{YieldsKnownByte}
 use Rattle.std.specs.Io.KnownBytes.{Consumes}
-use Rattle.std.specs.Prelude.{IfErr, IfOk, IfSome, IsErr, IsErrAnd, OnErr, String, string_bytes}
+use Rattle.std.specs.Prelude.{IfErr, IfOk, IfSome, IsErr, IsErrAnd, OnErr, OnOk, String, string_bytes}
 use Rattle.std.specs.declared.alloc.AllocError.{AllocError}
 use Rattle.std.specs.declared.io.Error.{Error}
 use Rattle.std.specs.declared.io.ErrorKind.TheVariants.{OutOfMemory}
@@ -27,7 +27,7 @@ use Rattle.program_output.specs.Names.{IsNamesFault, names_in}
 use Rattle.chargectl.specs.declared.choices.ListAnswered.{ListAnswered}
 use Rattle.chargectl.specs.declared.command_fault.CommandFault.{CommandFault}
 use Rattle.chargectl.specs.Choices.{ChoosesBy, ChoosesNothing, ComesOfList, IsListFault}
-use Rattle.chargectl.specs.Faults.{IsFaultIn, IsNoText, IsTextOf, names_fault}
+use Rattle.chargectl.specs.Faults.{IsFaultIn, IsNoText, IsTextFault, IsTextOf, names_fault}
 use Rattle.chargectl.specs.Reading.{IsTariffRead, lasting}
 
 -- one more byte of a reader came
@@ -70,24 +70,30 @@ not_listed book shelf (Err fault) found bad is why =
 pub text_read : (had first : Option (List ℕ)) (start bytes : List ℕ)
     (result : Result (String Global) CommandFault) → start ≡ []
     → first ≡ option_map (take (most_text + 1)) had → IfSome first (λ given. bytes ≡ start ++ given)
-    → IfOk result (λ text. (string_bytes text ≡ bytes) × (length bytes ≤ most_text))
+    → IfOk result (λ text. string_bytes text ≡ bytes) → OnOk result (length bytes ≤ most_text)
     → IfErr result (IsNoText bytes) → IsTextOf had result
-text_read had first start bytes result empty cut came is none =
+text_read had first start bytes result empty cut came is short none =
     go had result
     (subst (λ first. IfSome first (λ given. bytes ≡ given)) cut
-    (subst (λ start. IfSome first (λ given. bytes ≡ start ++ given)) empty came)) is none
+    (subst (λ start. IfSome first (λ given. bytes ≡ start ++ given)) empty came)) is short none
   where
     go : (had : Option (List ℕ)) (result : Result (String Global) CommandFault)
         → IfSome (option_map (take (most_text + 1)) had) (λ given. bytes ≡ given)
-        → IfOk result (λ text. (string_bytes text ≡ bytes) × (length bytes ≤ most_text))
+        → IfOk result (λ text. string_bytes text ≡ bytes) → OnOk result (length bytes ≤ most_text)
         → IfErr result (IsNoText bytes) → IsTextOf had result
-    go None (Ok text) given is none = tt
-    go (Some all) (Ok text) given is none =
-        let short : length all ≤ most_text + 1 =
-        omega (arith, length-take (most_text + 1) all, ap length given, is.1) in
-        is.0 ∙ given ∙ take_all (most_text + 1) all short
-    go None (Err why) given is none = inr (bytes, none, tt)
-    go (Some all) (Err why) given is none = inr (bytes, none, given)
+    go None (Ok text) given is short none = tt
+    go (Some all) (Ok text) given is short none =
+        let few : length all ≤ most_text =
+        omega (arith, length-take (most_text + 1) all, ap length given, short) in
+        (is ∙ given ∙ take_all (most_text + 1) all (omega arith), few)
+    go None (Err why) given is short none = inr (bytes, none, tt)
+    go (Some all) (Err why) given is short none = inr (bytes, none, given)
+
+-- a file that gave no text gave no tariff
+pub no_tariff : (result : Result Terms CommandFault) (found : CommandFault) → IsErr result
+    → IsErrAnd result (λ why. why ≡ found) → IsTextFault found → IsTariffRead result
+no_tariff (Ok terms) found bad is why = absurd is
+no_tariff (Err fault) found bad is why = inl (subst (λ why. IsTextFault why) (sym is) why)
 
 -- the tariff of a text, or why it is none
 pub tariff_is : (text : List ℕ) (result : Result Terms CommandFault)

@@ -1,7 +1,7 @@
 -- Why a command did not do what it was asked, what it noticed beside that, and the exit status and the
 -- lines on standard error that say so.
-use Rattle.std.specs.Prelude.{◌≡◌, ◌⊎◌, ◌+◌, ◌<◌, if◌then◌else◌, false, ℕ, List, [], ◌∷◌, ◌++◌, codes}
-use Rattle.std.specs.Prelude.{length, take, Option, Some, None, IfSome, Result, Ok, Err, String}
+use Rattle.std.specs.Prelude.{◌≡◌, ◌⊎◌, ◌+◌, ◌<◌, ◌≤◌, if◌then◌else◌, false, ℕ, List, [], ◌∷◌, ◌++◌}
+use Rattle.std.specs.Prelude.{codes, length, take, Option, Some, None, IfSome, Result, Ok, Err, String}
 use Rattle.std.specs.Prelude.{string_bytes, IsUtf8}
 use Rattle.std.specs.Global.{Global}
 use Rattle.std.specs.Io.KnownBytes.{Appends}
@@ -163,15 +163,15 @@ IsNoText bytes why =
     ((why ≡ fault.Ledger (ledger.TariffRefused TooMany)) × (most_text < length bytes))
     ⊎ ((why ≡ fault.Ledger (ledger.TariffRefused Syntax)) × ¬ (IsUtf8 bytes))
 
--- The text of a tariff, from a reader that had these bytes, where that is known: all of them. Or why there
--- is none: the reader failed; or what it gave is no such text, and it gave all, or one byte more than such
--- a text may have.
+-- The text of a tariff that a reader gave: all its bytes, where they are known, and they are not too many.
+-- Or the reader failed, or its bytes, which need not be read on once they are too many, are no such text.
 abbrev pub IsTextOf : Option (List ℕ) → Result (String Global) CommandFault → Type 0
-IsTextOf had (Ok text) = IfSome had (λ all. string_bytes text ≡ all)
+IsTextOf had (Ok text) =
+    IfSome had (λ all. (string_bytes text ≡ all) × (length all ≤ most_text))
 IsTextOf had (Err why) = IsFileFault why ⊎ ((bytes : List ℕ) × IsNoText bytes why
     × IfSome had (λ all. bytes ≡ take (most_text + 1) all))
 
--- so it is with a file; no contract says what it holds
+-- so it is with a file, of which no contract says what it holds
 abbrev pub IsTextFault : CommandFault → Type 0
 IsTextFault why = IsTextOf None (Err why)
 

@@ -1,5 +1,10 @@
-use Rattle.chargectl.proofs.ListLemmas.{tariff_is}
+use Rattle.chargectl.proofs.ListLemmas.{no_tariff, tariff_is}
 use Rattle.chargectl.proofs.trials.read_tariff.Goals as goal
+
+pub returns-in_err-text : goal.returns-in_err-text
+returns-in_err-text c =
+    no_tariff c.from_residual.result c.in_err-text.field-0.0 c.from_residual.ensures.0
+    c.from_residual.ensures.1 c.in_err-text.ensures
 
 pub returns : goal.returns
 returns c =
