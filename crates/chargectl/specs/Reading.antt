@@ -10,11 +10,10 @@ use Rattle.tariff_rules.specs.Terms.{AreRates, rates_of, flat_terms, on_every_da
 use Rattle.streams.specs.InputOutput.{Input}
 use Rattle.book_model.specs.declared.fault.LedgerFault.TheVariants as ledger
 use Rattle.book_model.specs.Words.{Terms}
-use Rattle.book_import.specs.ReadLimits.{most_reads}
+use Rattle.book_import.specs.ReadLimits.{cut_by, most_reads}
 use Rattle.book_import.specs.declared.receipt.Receipt.{Receipt}
 use Rattle.book_import.specs.declared.receipt.Stop.{Stop}
 use Rattle.book_reports.specs.declared.fault.ReportFault.{ReportFault}
-use Rattle.office.specs.Requests.{cut_by}
 use Rattle.command_line.specs.declared.request.NumberKind.{NumberKind}
 use Rattle.command_line.specs.declared.request.NumberKind.TheVariants as number
 use Rattle.program_output.specs.declared.explanations.Explanation.{Explanation}

@@ -16,7 +16,7 @@ use Rattle.book_import.specs.declared.receipt.Receipt as receipt
 use Rattle.book_import.specs.declared.receipt.Stop.{Stop}
 use Rattle.book_import.specs.Imports.{Imports}
 use Rattle.book_import.specs.Reach.{IsReadFor}
-use Rattle.book_import.specs.ReadLimits.{cut_where, most_reads}
+use Rattle.book_import.specs.ReadLimits.{cut_by, most_reads}
 use Rattle.book_reports.specs.BookTexts.{shown_by, report_outcome}
 use Rattle.book_reports.specs.WhatIfTexts.{what_if_report}
 use Rattle.office.specs.declared.request.Asked.{Asked}
@@ -74,10 +74,6 @@ IsAskableRuling (Close period through) = IsDay through
 IsAskableRuling (Choose name) = Unit {0}
 IsAskableRuling (Adopt rule) = Unit {0}
 IsAskableRuling asked = ⊥
-
--- what cut the reading short, if anything did
-abbrev pub cut_by : ReaderSeen → Option Stop
-cut_by reader = cut_where reader.has_failed reader.has_ended
 
 -- the bytes of a dump were taken for this receipt, and no more than it needed
 abbrev pub IsReadBy : Dump → Result Response LedgerFault → Input → Type 0
