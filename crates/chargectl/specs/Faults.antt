@@ -163,8 +163,9 @@ IsNoText bytes why =
     ((why ≡ fault.Ledger (ledger.TariffRefused TooMany)) × (most_text < length bytes))
     ⊎ ((why ≡ fault.Ledger (ledger.TariffRefused Syntax)) × ¬ (IsUtf8 bytes))
 
--- The text of a tariff that a reader gave: all its bytes, where they are known, and they are not too many.
--- Or the reader failed, or its bytes, which need not be read on once they are too many, are no such text.
+-- The text of a tariff, from a reader that had these bytes, where that is known: all of them. Or why there
+-- is none: the reader failed; or what it gave is no such text, and it gave all, or one byte more than such
+-- a text may have.
 abbrev pub IsTextOf : Option (List ℕ) → Result (String Global) CommandFault → Type 0
 IsTextOf had (Ok text) =
     IfSome had (λ all. (string_bytes text ≡ all) × (length all ≤ most_text))
