@@ -142,7 +142,8 @@ answer_of (Ok (Ok answer)) = Ok answer
 answer_of (Ok (Err refusal)) = Err (fault.Ledger refusal)
 answer_of (Err shelf) = Err (shelf_fault shelf)
 
--- The books of a name were opened, if there are any, and the office was asked this once.
+-- The books of a name were opened, if there are any, and the office was asked this once, with a reader of
+-- these bytes.
 pub record IsAnswered (asked : Asked) (had : Option (List ℕ)) (book : List ℕ) (old new : Shelf)
     (answered : Answered) : Type 0 where
   pub told : Result (Result Answer LedgerFault) RepositoryFault
