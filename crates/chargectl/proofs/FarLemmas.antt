@@ -74,8 +74,8 @@ far_read asked day period result is one next =
 -- the newest day was read, which is no event, and then the ruling was asked for
 dated_of : (naming : Naming) (asked : Asked) (far : Bool) (told : Result Answer LedgerFault)
     (was : Bool) (before : Book) (events : List Event) (is : Bool)
-    → Then (Calls (λ (far : Bool). far) (far_outcome asked) (Ok far)) (AsksOnceBy naming asked (Some []) told) was
-    before events is
+    → Then (Calls (λ (far : Bool). far) (far_outcome asked) (Ok far))
+    (AsksOnceBy naming asked (Some []) told) was before events is
     → AsksDated naming asked (response_by told) (notice_by far (response_by told)) was before events is
 dated_of naming asked far told was before events is both =
     let early : both.early ≡ [] = both.first.makes.1 in
@@ -85,10 +85,11 @@ dated_of naming asked far told was before events is both =
     ∙ append-nil both.late in
     let next : AsksOnceBy naming asked (Some []) told was before both.late is =
     subst (λ between. AsksOnceBy naming asked (Some []) told between before both.late is) open_still
-    (subst (λ early. AsksOnceBy naming asked (Some []) told both.between (after_all early before) both.late is)
-    early both.next) in
+    (subst (λ early. AsksOnceBy naming asked (Some []) told both.between (after_all early before)
+    both.late is) early both.next) in
     record {
-      once = subst (λ events. AsksOnceBy naming asked (Some []) told was before events is) (sym all) next;
+      once = subst (λ events. AsksOnceBy naming asked (Some []) told was before events is) (sym all)
+          next;
       notice = ap (λ far. notice_by far (response_by told)) (sym same);
     }
 
@@ -99,12 +100,14 @@ pub asked_dated : (old mid new : Seen) (asked : Asked) (far : Bool) (told : Resu
     (AsksDated old.naming asked (response_by told) (notice_by far (response_by told)))
 asked_dated old mid new asked far told one next =
     work_as old new
-    (Then (Calls (λ (far : Bool). far) (far_outcome asked) (Ok far)) (AsksOnceBy old.naming asked (Some []) told))
+    (Then (Calls (λ (far : Bool). far) (far_outcome asked) (Ok far))
+    (AsksOnceBy old.naming asked (Some []) told))
     (AsksDated old.naming asked (response_by told) (notice_by far (response_by told)))
     (dated_of old.naming asked far told)
     (work_then old mid new (Calls (λ (far : Bool). far) (far_outcome asked) (Ok far))
     (AsksOnceBy old.naming asked (Some []) told) one.work
-    (subst (λ naming. IsTransition mid new (AsksOnceBy naming asked (Some []) told)) one.work.naming next))
+    (subst (λ naming. IsTransition mid new (AsksOnceBy naming asked (Some []) told)) one.work.naming
+    next))
 
 -- where the newest day could not be read, no call of the ledger can be answered
 unread : {A : Type 0} (outcome : Book → Outcome A) (asked : Asked) (fault : LedgerFault) (was : Bool)
@@ -176,8 +179,9 @@ once_done : (asked : Asked) (book : List ℕ) (old new : Shelf) (dated : DatedAn
     → IsDoneTo book (AsksDatedBy old.naming asked dated) old new
     → IsDoneTo book (AsksOnceBy old.naming asked (Some []) dated.answer) old new
 once_done asked book old new dated done =
-    done_as book (AsksDatedBy old.naming asked dated) (AsksOnceBy old.naming asked (Some []) dated.answer) old new
-    (λ before events is made. made.once) done
+    done_as book (AsksDatedBy old.naming asked dated)
+    (AsksOnceBy old.naming asked (Some []) dated.answer) old new (λ before events is made. made.once)
+    done
 
 -- whatever is told of it, there are such books, or the name is still free
 pub there_told : (book : List ℕ) (old new : Shelf) (told : Result DatedAnswer RepositoryFault)
