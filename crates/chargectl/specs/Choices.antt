@@ -62,7 +62,8 @@ chosen_of (Ok (Ok chosen)) = Ok chosen
 chosen_of (Ok (Err none)) = Err (fault.Ledger ledger.Memory)
 chosen_of (Err shelf) = Err (shelf_fault shelf)
 
--- The books of a name were opened, and the records of these names chosen, one after the other.
+-- The books of a name were opened, if there are any, and the records of these names chosen, one after the
+-- other.
 pub record IsListAnswered (names : List (List ℕ)) (book : List ℕ) (old new : Shelf)
     (answered : ListAnswered) : Type 0 where
   pub told : Result (Result Chosen AllocError) RepositoryFault
