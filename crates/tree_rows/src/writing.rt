@@ -1,7 +1,7 @@
 //! Rows are written under their keys.
 
 ghost use Rattle.std.specs.Prelude.{◌≡◌, OnErr, OnOk};
-ghost use Rattle.sqlite_trees.specs.Tree.{insert_entry};
+ghost use Rattle.sqlite_trees.specs.Tree.{insert_entry, remove_entry};
 ghost use Rattle.sqlite_trees.specs.View.{IsClean, KeepsSchema};
 ghost use Rattle.sqlite_value.specs.Keys.{plain};
 ghost use Rattle.tree_rows.specs.Calls.{CommitsNothing, IsSorted, LeavesCommitted};
@@ -24,6 +24,21 @@ pub fn add_row<S: Store>(store: &mut S, tree: u32, row: &Row) -> Result<(), Stor
     ensures quiet { CommitsNothing S.Store store.old store.new }
 {
     store.insert(tree, row)?;
+    Ok(())
+}
+
+/// Takes a row out; one that is not there leaves the others as they are. Nothing is committed; an
+/// error is the store's own.
+pub fn remove_row<S: Store>(store: &mut S, tree: u32, row: &Row) -> Result<(), StoreError>
+    requires { IsSorted S.Store store.old tree }
+    ensures done { OnOk result (IsClean (S.Store.view store.new)
+        → Rewrites (S.Store.view store.old) (S.Store.view store.new) tree
+        (remove_entry plain row.now ((S.Store.view store.old).trees tree))) }
+    ensures kept { OnErr result (LeavesCommitted S.Store store.old store.new) }
+    ensures schema { KeepsSchema (S.Store.view store.old) (S.Store.view store.new) }
+    ensures quiet { CommitsNothing S.Store store.old store.new }
+{
+    store.remove(tree, row)?;
     Ok(())
 }
 
