@@ -34,11 +34,12 @@ use Rattle.table_ledger.proofs.StepLemmas.{does_so}
 -- A look at the place of a price, and then a step that is the change where this was found. Each
 -- charge row is under its own place.
 pub day_stepped : {T : Type 0} {old middle new : State} {place : RowKey} {found : Option ChargeRow}
-    {step change : Tables → Tables} (period : ℕ) (priced : Priced) (result : Result T StoreError)
-    → place ≡ key_of priced
-    → Looks (Ok found) old middle (FindsDay period place) → Does result middle new Always step
+    {When : Tables → Type 0} {step change : Tables → Tables} (period : ℕ) (priced : Priced)
+    (result : Result T StoreError) → place ≡ key_of priced
+    → Looks (Ok found) old middle (FindsDay period place) → Does result middle new When step
     → ((tables : Tables) → AreUnderOwnKeys tables.days
-    → get tables.days (period, key_of priced) ≡ found → change tables ≡ step tables)
+    → get tables.days (period, key_of priced) ≡ found
+    → When tables × (change tables ≡ step tables))
     → Does result old new Always change
 day_stepped {old = old} {middle = middle} {found = found} period priced result at looks does so =
     let saw : Saw old middle (λ tables. AreUnderOwnKeys tables.days
@@ -55,7 +56,9 @@ day_stepped {old = old} {middle = middle} {found = found} period priced result a
           };
     } in
     does_seen result saw
-    (does_so result does (λ tables known. (tt, sym (so tables known.1.0 known.1.1))))
+    (does_so result does (λ tables known.
+    let steps = so tables known.1.0 known.1.1 in
+    (steps.0, sym steps.1)))
 
 module _ {K V : Type 0} {R : K → K → Ordering} (o : IsTotalOrder R) (exact : IsAntisymmetric R) where
   -- what was removed is gone
@@ -120,6 +123,11 @@ module _ (period : ℕ) (old new : Priced) (one_place : key_of old ≡ key_of ne
       → row_key (left last row) ≡ key_of old
   left_placed row true at = refl
   left_placed row false at = at
+
+  pub rest_placed : (found : Option ChargeRow) → get tables.days spot ≡ found
+      → row_key (rest found) ≡ key_of old
+  rest_placed None is = refl
+  rest_placed (Some row) is = left_placed row (row.count == 1) (placed spot row is)
 
   pub replaced : (found : Option ChargeRow) → get tables.days spot ≡ found
       → change_day_row period (Some (Add new)) (change_day_row period (Some (Take old)) tables)

@@ -6,6 +6,7 @@ use Rattle.std.specs.Prelude.{◌==◌, unwrap_or}
 use Rattle.std.specs.FinMap.{get, insert, remove}
 use Rattle.tariff_rules.specs.declared.priced.Priced.{Priced}
 use Rattle.book_model.specs.declared.row.ChargeRow.{ChargeRow}
+use Rattle.book_model.specs.declared.row.RowKey.{RowKey}
 use Rattle.book_model.specs.Words.{key_of, row_at}
 use Rattle.book_core.specs.declared.effects.DayChange.TheVariants.{Add, Take}
 use Rattle.book_core.specs.KeyedRows.{with_price}
@@ -13,7 +14,15 @@ use Rattle.table_model.specs.RowChanges.{less_price, take_at}
 use Rattle.table_model.specs.Steps.{change_day_row, drop_day_row, put_day_row}
 use Rattle.table_model.specs.Tables.{Tables}
 use Rattle.table_model.specs.TablesOf.{row_key}
+use Rattle.tree_tables.specs.Answers.{FindsDay}
 use Rattle.tree_tables.specs.Holds.{AreUnderOwnKeys}
+
+-- what was found at a place was found at that of a row which is under it
+pub found_at : (period : ℕ) (tables : Tables) (place : RowKey) (row : ChargeRow)
+    (found : Option ChargeRow) → get tables.days (period, place) ≡ found → row_key row ≡ place
+    → FindsDay period (row_key row) tables found
+found_at period tables place row found is own =
+    sym is ∙ ap (λ (at : RowKey). get tables.days (period, at)) (sym own)
 
 module _ (period : ℕ) (priced : Priced) (tables : Tables) (placed : AreUnderOwnKeys tables.days) where
   -- what is at the place of the price
@@ -25,7 +34,7 @@ module _ (period : ℕ) (priced : Priced) (tables : Tables) (placed : AreUnderOw
   here found = unwrap_or found (row_at [] (key_of priced))
 
   -- it is under its own place
-  here_placed : (found : Option ChargeRow) → there ≡ found
+  pub here_placed : (found : Option ChargeRow) → there ≡ found
       → row_key (here found) ≡ key_of priced
   here_placed None is = refl
   here_placed (Some row) is = placed (period, key_of priced) row is

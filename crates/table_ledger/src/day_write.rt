@@ -1,13 +1,14 @@
 //! How prices join the charge rows of a period, and how they leave them.
 
-ghost use Rattle.std.specs.Prelude.{◌≡◌, ◌==◌, [], if◌then◌else◌, IfSome, IsTrue, None, Some};
+ghost use Rattle.std.specs.Prelude.{◌≡◌, ◌==◌, [], if◌then◌else◌, IfSome, None, Some};
 ghost use Rattle.std.specs.Option.{option_map_or};
 ghost use Rattle.book_core.specs.KeyedRows.{with_price};
 ghost use Rattle.book_core.specs.declared.effects.DayChange.TheVariants.{Add, Take};
 ghost use Rattle.book_model.specs.Rows as rows;
 ghost use Rattle.table_model.specs.RowChanges as changed;
 ghost use Rattle.table_model.specs.Steps as step;
-ghost use Rattle.tree_tables.specs.Days.{RowFits};
+ghost use Rattle.table_model.specs.TablesOf.{row_key};
+ghost use Rattle.tree_tables.specs.Answers.{FindsDay};
 ghost use Rattle.tree_tables.specs.States.{state_of};
 ghost use Rattle.tree_tables.specs.Steps.{Always, Does};
 ghost use Rattle.table_ledger.specs.TotalsFit.{FitsPrice};
@@ -17,19 +18,6 @@ use sqlite_trees::error::StoreError;
 use sqlite_trees::store::Store;
 use tariff_rules::Priced;
 use tree_tables::{DayKey, DayRow, TreeTables};
-
-/// The first number that signed 64-bit integers do not hold.
-const SIGNED_END: u64 = 1 << 63;
-
-/// The numbers of the row can be stored.
-fn fits(row: &ChargeRow) -> bool
-    ensures { IsTrue result → RowFits row.now }
-{
-    row.count < SIGNED_END
-        && row.cpu < SIGNED_END
-        && row.blocks < SIGNED_END
-        && row.amount < SIGNED_END
-}
 
 /// The row of a price that is alone at its place.
 pub(crate) fn first_row(priced: &Priced) -> ChargeRow
@@ -86,35 +74,23 @@ fn rest_of(found: Option<ChargeRow>, priced: &Priced) -> ChargeRow
     }
 }
 
-/// Writes a row, if its numbers can be stored.
-fn put_row<S: Store>(
-    tables: &mut TreeTables<S>,
-    period: u16,
-    row: &ChargeRow,
-) -> Result<(), StoreError>
-    ensures does { Does result (state_of tables.old) (state_of tables.new) Always
-        (step.put_day_row period row.now) }
-{
-    if !fits(row) {
-        return Err(StoreError::Corrupt);
-    }
-    tables.put_day(&DayRow { period, row: *row })
-}
-
-/// Writes a row with one more price, if its numbers can be stored.
+/// Writes a row with one more price, if its numbers can be stored, at the place where this was
+/// found.
 fn put_with<S: Store>(
     tables: &mut TreeTables<S>,
     period: u16,
+    found: Option<ChargeRow>,
     row: &ChargeRow,
     priced: &Priced,
 ) -> Result<(), StoreError>
-    ensures does { Does result (state_of tables.old) (state_of tables.new) Always
+    ensures does { Does result (state_of tables.old) (state_of tables.new)
+        (λ tables. FindsDay period (row_key row.now) tables found)
         (step.put_day_row period (with_price row.now priced.now)) }
 {
     let Some(more) = row_with(row, priced) else {
         return Err(StoreError::Corrupt);
     };
-    put_row(tables, period, &more)
+    tables.put_day(found, &DayRow { period, row: more })
 }
 
 /// A price joins the row of its place; if there is none, it makes one.
@@ -128,8 +104,9 @@ pub(crate) fn add_price<S: Store>(
 {
     let place = key_of(priced);
     let found = tables.find_day(&DayKey { period, place })?;
+    let before = found;
     let row = found.unwrap_or(empty_row(key_of(priced)));
-    put_with(tables, period, &row, priced)
+    put_with(tables, period, before, &row, priced)
 }
 
 /// A price leaves the row of its place; its last price deletes it.
@@ -146,10 +123,10 @@ pub(crate) fn take_price<S: Store>(
         return Ok(());
     };
     if row.count == 1 {
-        let place = key_of(priced);
-        return tables.drop_day(&DayKey { period, place });
+        return tables.drop_day(&DayRow { period, row });
     }
-    put_row(tables, period, &less_price(&row, priced))
+    let less = less_price(&row, priced);
+    tables.put_day(Some(row), &DayRow { period, row: less })
 }
 
 /// A price leaves the row of its place, and another one joins it: the row is read and written once.
@@ -166,7 +143,8 @@ pub(crate) fn replace_price<S: Store>(
 {
     let place = key_of(old);
     let found = tables.find_day(&DayKey { period, place })?;
-    put_with(tables, period, &rest_of(found, old), new)
+    let before = found;
+    put_with(tables, period, before, &rest_of(found, old), new)
 }
 
 /// A price joins the charge rows of a period, or leaves them.

@@ -1,13 +1,15 @@
 -- Charge rows: how they are written, and what is read of them.
 use Rattle.std.proofs.Common.{◌≡◌, ◌∷◌, [], ℕ, pos, true, false, cond, List, Bool, map}
-use Rattle.std.proofs.Common.{Some, None, refl, sym, ap, subst, ◌∙◌}
+use Rattle.std.proofs.Common.{Option, Some, None, refl, sym, ap, ap₂, subst, ◌∙◌}
 use Rattle.std.specs.FinMap.{entries, get, get-insert, get-remove, insert, remove}
 use Rattle.std.specs.List.{AllZip}
 use Rattle.std.specs.Ordering.{eq_by_cmp}
 use Rattle.std.specs.declared.cmp.Ordering.{Ordering}
 use Rattle.std.proofs.lemmas.Map.Views.{tells_apart}
 use Rattle.sqlite_trees.proofs.ListLemmas.{all-filter}
+use Rattle.sqlite_trees.specs.Tree.{insert_entry, remove_entry}
 use Rattle.sqlite_trees.specs.View.{View}
+use Rattle.sqlite_value.specs.Keys.{plain}
 use Rattle.sqlite_value.specs.Order.{Row, column}
 use Rattle.sqlite_value.specs.declared.value.Value.TheVariants.{Int, Text}
 use Rattle.std.specs.Prelude.{◌==◌}
@@ -19,20 +21,21 @@ use Rattle.table_model.specs.Steps.{drop_day_row, put_day_row}
 use Rattle.table_model.specs.Tables.{DayTable, Tables}
 use Rattle.table_model.specs.TablesOf.{row_key}
 use Rattle.tree_rows.specs.Layouts.{Answers}
-use Rattle.tree_rows.specs.Rows.{Drops, Finds, Puts}
+use Rattle.tree_rows.specs.Rows.{ChangesRow, Finds, Rewrites}
 use Rattle.tree_rows.specs.Runs.{run_of}
-use Rattle.tree_rows.proofs.Keyed.{row_found, rows_dropped}
-use Rattle.tree_rows.proofs.Maps.{not_none}
+use Rattle.tree_rows.proofs.Keyed.{row_found}
+use Rattle.tree_rows.proofs.Maps.{inserted, not_none}
 use Rattle.tree_rows.proofs.Runs.{run_numbered}
-use Rattle.tree_rows.proofs.Taking.{some_is}
+use Rattle.tree_rows.proofs.Taking.{removed, some_is}
 use Rattle.tree_tables.specs.Answers.{FindsDay, ListsDays}
 use Rattle.tree_tables.specs.Columns.{day_columns, day_key_columns}
 use Rattle.tree_tables.specs.Days.{SaysDay}
 use Rattle.tree_tables.specs.Holds.{AreUnderOwnKeys}
-use Rattle.tree_tables.specs.Steps.{Always, Changes}
+use Rattle.tree_tables.specs.Steps.{Changes}
 use Rattle.tree_tables.specs.declared.day_rows.StoredDay.{StoredDay}
-use Rattle.tree_tables.proofs.Holding.{has_rows, have_but, holds_rows, table_put}
+use Rattle.tree_tables.proofs.Holding.{has_rows, have_but, holds_rows}
 use Rattle.tree_tables.proofs.Layouts.{day_layout}
+use Rattle.tree_tables.proofs.RecordIndexes.{row_changed}
 use Rattle.tree_tables.proofs.RowsRead.{all_entries, same_count, same_int, same_text, told_of_all}
 
 -- the order of charge rows
@@ -61,27 +64,58 @@ placed_drop days key placed other found there =
       | false ↦ λ is. placed other found is
     ] (sym (get-remove day_layout.total days key other) ∙ there)
 
--- a row that is put at its place is put into the table
-pub day_put : {old new : View} {key columns : Row} (period : ℕ) (row : ChargeRow)
-    → Puts old new 4 key columns → key ≡ day_key_columns (period, row_key row)
+-- a row joins the table where none was found at its place,
+pub day_added : {old new : View} {columns : Row} (period : ℕ) (row : ChargeRow)
+    (found : Option ChargeRow) → found ≡ None
+    → Rewrites old new 4 (insert_entry plain columns (old.trees 4))
     → columns ≡ day_columns ((period, row_key row), row)
-    → Changes old new Always (put_day_row period row)
-day_put period row puts key_is row_is =
-    table_put day_layout (λ (tables : Tables). tables.days) (period, row_key row) row
-    (put_day_row period row) puts key_is row_is (λ tables holds. holds.days)
-    (λ tables. refl) (λ tables. placed_put tables.days (period, row_key row) row refl)
+    → Changes old new (λ tables. FindsDay period (row_key row) tables found)
+    (put_day_row period row)
+day_added period row found none added row_is = record {
+  only = added.only;
+  made = λ tables holds finds.
+      holds_rows (placed_put tables.days (period, row_key row) row refl holds.placed)
+      (have_but 4 added.others
+      (added.rows_now ∙ ap₂ (insert_entry plain) row_is holds.days
+      ∙ inserted day_layout tables.days (period, row_key row) row (sym finds ∙ none))
+      (has_rows holds) refl);
+}
 
--- a row that is dropped by its place is gone from the table
-pub day_dropped : {old new : View} {key : Row} (period : ℕ) (place : RowKey)
-    → Drops old new 4 key → key ≡ day_key_columns (period, place)
-    → Changes old new Always (drop_day_row period place)
-day_dropped period place drops key_is = record {
-  only = drops.rewrites.only;
-  made = λ tables holds when.
-      holds_rows (placed_drop tables.days (period, place) holds.placed)
-      (have_but 4 drops.rewrites.others
-      (rows_dropped day_layout tables.days (period, place) drops holds.days key_is) (has_rows holds)
-      refl);
+-- and where one was found, that makes way for it
+pub day_changed : {old new : View} {before columns : Row} (period : ℕ) (row was : ChargeRow)
+    (found : Option ChargeRow) → found ≡ Some was → ChangesRow old new 4 before columns
+    → before ≡ day_columns ((period, row_key was), was)
+    → columns ≡ day_columns ((period, row_key row), row)
+    → Changes old new (λ tables. FindsDay period (row_key row) tables found)
+    (put_day_row period row)
+day_changed period row was found some changes before_is row_is = record {
+  only = changes.only;
+  made = λ tables holds finds.
+      let there : get tables.days (period, row_key row) ≡ Some was = sym finds ∙ some in
+      let own : row_key was ≡ row_key row = holds.placed (period, row_key row) was there in
+      holds_rows (placed_put tables.days (period, row_key row) row refl holds.placed)
+      (have_but 4 changes.others
+      (changes.rows_now
+      ∙ row_changed day_layout tables.days (period, row_key row) was row row_is
+      (before_is ∙ ap (λ (place : RowKey). day_columns ((period, place), was)) own)
+      holds.days there)
+      (has_rows holds) refl);
+}
+
+-- a row that was found at its place, and goes, is gone from the table
+pub day_gone : {old new : View} {before : Row} (period : ℕ) (was : ChargeRow)
+    → Rewrites old new 4 (remove_entry plain before (old.trees 4))
+    → before ≡ day_columns ((period, row_key was), was)
+    → Changes old new (λ tables. FindsDay period (row_key was) tables (Some was))
+    (drop_day_row period (row_key was))
+day_gone period was gone before_is = record {
+  only = gone.only;
+  made = λ tables holds finds.
+      holds_rows (placed_drop tables.days (period, row_key was) holds.placed)
+      (have_but 4 gone.others
+      (gone.rows_now ∙ ap₂ (remove_entry plain) before_is holds.days
+      ∙ removed day_layout tables.days (period, row_key was) was (sym finds))
+      (has_rows holds) refl);
 }
 
 -- what is read of the row of a charge row at its place is the charge row

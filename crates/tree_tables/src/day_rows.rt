@@ -1,6 +1,7 @@
 //! Charge rows by period and place.
 
-ghost use Rattle.std.specs.Prelude.{◌≡◌, ◌==◌, ◌∷◌, ◌+ℤ◌, [], ℕ, IfErr, IfOk, OnOk, map, pos};
+ghost use Rattle.std.specs.Prelude.{◌≡◌, ◌==◌, ◌∷◌, ◌+ℤ◌, [], ℕ, IfErr, IfOk, IsTrue, OnOk, map};
+ghost use Rattle.std.specs.Prelude.{pos};
 ghost use Rattle.sqlite_value.specs.Order.{column};
 ghost use Rattle.sqlite_value.specs.declared.value.Value.TheVariants.{Int};
 ghost use Rattle.table_model.specs.TablesOf.{row_key};
@@ -23,7 +24,10 @@ use sqlite_trees::store::Store;
 use sqlite_value::row::Row;
 use sqlite_value::value::ValueRef;
 use std::alloc::Global;
-use tree_rows::{ReadRow, change_row, drop_row, find_row, first_from, list_run, put_row};
+use tree_rows::{ReadRow, add_row, change_row, find_row, first_from, list_run, remove_row};
+
+/// The first number that signed 64-bit integers do not hold.
+const SIGNED_END: u64 = 1 << 63;
 
 /// A charge row of a period.
 #[derive(Clone, Copy)]
@@ -82,6 +86,26 @@ fn day_row(row: &mut Row, period: u32, charge: &ChargeRow) -> Result<(), StoreEr
             ValueRef::Int(charge.amount as i64),
         ],
     )
+}
+
+/// The sums of a charge row can be stored.
+fn can_be_stored(charge: &ChargeRow) -> bool
+    ensures { IsTrue result → RowFits charge.now }
+{
+    charge.count < SIGNED_END
+        && charge.cpu < SIGNED_END
+        && charge.blocks < SIGNED_END
+        && charge.amount < SIGNED_END
+}
+
+/// Makes the row of a charge row, if its sums can be stored.
+fn stored_row(row: &mut Row, period: u32, charge: &ChargeRow) -> Result<(), StoreError>
+    ensures { OnOk result (row.new ≡ day_columns ((period, row_key charge.now), charge.now)) }
+{
+    if !can_be_stored(charge) {
+        return Err(StoreError::Corrupt);
+    }
+    day_row(row, period, charge)
 }
 
 /// The first columns of charge rows of the period that are dated after the day.
@@ -157,7 +181,7 @@ fn charges(days: &[StoredDay], alloc: Global) -> Result<Vec<ChargeRow>, StoreErr
 }
 
 impl<S: Store> TreeTables<S> {
-    ghost use Rattle.std.specs.Prelude.{◌≡◌, IfOk, OnErr, false};
+    ghost use Rattle.std.specs.Prelude.{◌≡◌, IfOk, OnErr, Some, false};
     ghost use Rattle.sqlite_trees.specs.View.{IsClean};
     ghost use Rattle.tree_rows.specs.Calls.{CommitsNothing, LeavesCommitted};
     ghost use Rattle.table_model.specs.Steps as step;
@@ -165,7 +189,7 @@ impl<S: Store> TreeTables<S> {
     ghost use Rattle.tree_tables.specs.Days.{MovesSome, NoneLater, NoneNext};
     ghost use Rattle.tree_tables.specs.Fits.{DaysFit};
     ghost use Rattle.tree_tables.specs.States.{state_of};
-    ghost use Rattle.tree_tables.specs.Steps.{Always, Does, FailsByStore, Looks};
+    ghost use Rattle.tree_tables.specs.Steps.{Does, FailsByStore, Looks};
 
     /// A period's charge row at a place, if there is one.
     pub fn find_day(&mut self, spot: &DayKey) -> Result<Option<ChargeRow>, StoreError>
@@ -192,31 +216,31 @@ impl<S: Store> TreeTables<S> {
         charges(&days, alloc)
     }
 
-    /// A charge row is put at its place in the period, in the place of the one that was there.
-    pub fn put_day(&mut self, day: &DayRow) -> Result<(), StoreError>
-        requires fits { RowFits day.now.row }
-        ensures does { Does result (state_of self.old) (state_of self.new) Always
+    /// A charge row is put at its place in the period, if its sums can be stored. What was found
+    /// there makes way for it: the place is not looked for again.
+    pub fn put_day(&mut self, found: Option<ChargeRow>, day: &DayRow) -> Result<(), StoreError>
+        ensures does { Does result (state_of self.old) (state_of self.new)
+            (λ tables. FindsDay day.now.period (row_key day.now.row) tables found)
             (step.put_day_row day.now.period day.now.row) }
     {
         let period = u32::from(day.period);
-        place_key(&mut self.key, period, &place_in(&day.row))?;
-        day_row(&mut self.row, period, &day.row)?;
-        put_row(
-            &mut self.store,
-            DAYS,
-            &self.key,
-            &self.row,
-            &mut self.before,
-        )
+        stored_row(&mut self.row, period, &day.row)?;
+        let Some(before) = found else {
+            return add_row(&mut self.store, DAYS, &self.row);
+        };
+        stored_row(&mut self.before, period, &before)?;
+        change_row(&mut self.store, DAYS, &self.before, &self.row)
     }
 
-    /// A period's charge row at a place, if there is one, goes.
-    pub fn drop_day(&mut self, spot: &DayKey) -> Result<(), StoreError>
-        ensures does { Does result (state_of self.old) (state_of self.new) Always
-            (step.drop_day_row spot.now.period spot.now.place) }
+    /// A charge row that was found at its place in the period goes.
+    pub fn drop_day(&mut self, found: &DayRow) -> Result<(), StoreError>
+        ensures does { Does result (state_of self.old) (state_of self.new)
+            (λ tables. FindsDay found.now.period (row_key found.now.row) tables
+            (Some found.now.row))
+            (step.drop_day_row found.now.period (row_key found.now.row)) }
     {
-        place_key(&mut self.key, u32::from(spot.period), &spot.place)?;
-        drop_row(&mut self.store, DAYS, &self.key, &mut self.before)
+        stored_row(&mut self.before, u32::from(found.period), &found.row)?;
+        remove_row(&mut self.store, DAYS, &self.before)
     }
 
     /// The first row of a period that is dated after a day, if there is one, goes to the next

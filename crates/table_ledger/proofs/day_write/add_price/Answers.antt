@@ -3,7 +3,8 @@ use Rattle.std.specs.Prelude.{unwrap_or}
 use Rattle.book_model.specs.Words.{key_of, row_at}
 use Rattle.book_core.specs.KeyedRows.{with_price}
 use Rattle.table_model.specs.Steps.{put_day_row}
-use Rattle.table_ledger.proofs.DaySteps.{joins}
+use Rattle.table_model.specs.TablesOf.{row_key}
+use Rattle.table_ledger.proofs.DaySteps.{found_at, here_placed, joins}
 use Rattle.table_ledger.proofs.DayLooks.{day_stepped}
 use Rattle.table_ledger.proofs.day_write.add_price.Goals as goal
 
@@ -17,9 +18,13 @@ returns g c = record {
       let row : c.unwrap_or-row.result ≡ unwrap_or found (row_at [] (key_of priced)) =
       c.unwrap_or-row.ensures
       ∙ ap (unwrap_or found) (c.empty_row.ensures ∙ ap (row_at []) c.key_of.ensures) in
-      day_stepped period priced _ c.key_of-place.ensures c.in_ok-found.ensures.looks c.put_with.ensures.does
-      (λ tables placed is.
-      joins period priced tables placed
-      ∙ ap (λ row. put_day_row period (with_price row priced) tables)
-      (ap (λ found. unwrap_or found (row_at [] (key_of priced))) is ∙ sym row));
+      day_stepped period priced _ c.key_of-place.ensures c.in_ok-found.ensures.looks
+      c.put_with.ensures.does
+      (λ tables placed is. (
+        found_at period tables (key_of priced) c.unwrap_or-row.result found is
+            (ap row_key row ∙ here_placed period priced tables placed found is),
+        joins period priced tables placed
+            ∙ ap (λ row. put_day_row period (with_price row priced) tables)
+            (ap (λ found. unwrap_or found (row_at [] (key_of priced))) is ∙ sym row),
+      ));
 }
