@@ -54,6 +54,10 @@ HaveBookRow found = (held : HoldsBooks found) → has_book (trees_held held) ≡
 abbrev pub MayBeVisited : Image → Type 0
 MayBeVisited found = HaveBookRow found × HoldNoNewer books_schema found
 
+-- the next session may find books in the files only where those that were found might be visited
+abbrev pub FollowOnlyVisited : {D : Type 0} (g : Ghosts D) → Image → Ended D → Type 0
+FollowOnlyVisited g found ended = (image : Image) → MayFollow g ended image → MayBeVisited found
+
 -- whatever books the files hold, the row is there; and they hold no new books
 abbrev pub HaveUsedBook : Image → Type 0
 HaveUsedBook found = HaveBookRow found × (¬ HoldsBook file_names new_book found)

@@ -2,12 +2,11 @@
 
 ghost use Rattle.std.specs.Prelude.{◌≡◌, IfErr, IfOk, IfSome, IsOk, IsSome, MatchResult};
 ghost use Rattle.sqlite_wal.specs.Files.{image_at};
-ghost use Rattle.sqlite_wal.specs.Recovery.{Image};
 ghost use Rattle.book_core.specs.Transition.{NoEvent};
-ghost use Rattle.book_files.specs.Causes.{MayBeVisited, WhyNotCopied};
+ghost use Rattle.book_files.specs.Causes.{FollowOnlyVisited, WhyNotCopied};
 ghost use Rattle.book_files.specs.Faults.{not_copied, tried_answer};
 ghost use Rattle.book_files.specs.Sessions.{AreHonest, AreInHand, FileAloneGoesOn, FilesGoOn};
-ghost use Rattle.book_files.specs.Sessions.{MayFollow, TriesToMoveLog, WereOnlyRead};
+ghost use Rattle.book_files.specs.Sessions.{TriesToMoveLog, WereOnlyRead};
 ghost use Rattle.book_restarts.specs.FileBooks.{file_names};
 
 use crate::books::visit_and_close;
@@ -64,8 +63,8 @@ pub fn visit_copy_at<S: Start, T: Start, V: Visit>(
     // There is no copy of files in which the row of their book is not there, or that say that they
     // are of a newer form.
     ensures there { IfOk result.answer (λ answer.
-        AreHonest ⟦<FileFrom<S> as Disk>⟧ result.original → (image : Image)
-        → MayFollow ⟦<FileFrom<T> as Disk>⟧ result.copy image → MayBeVisited (image_at S.Start)) }
+        AreHonest ⟦<FileFrom<S> as Disk>⟧ result.original
+        → FollowOnlyVisited ⟦<FileFrom<T> as Disk>⟧ (image_at S.Start) result.copy) }
 
     // The books that are copied were only read.
     ensures original { IfSome result.original
@@ -124,8 +123,8 @@ pub fn copy_at<S: Start, T: Start>(
         → FileAloneGoesOn ⟦<FileFrom<T> as Disk>⟧ NoEvent (image_at S.Start) result.copy) }
     ensures moves { TriesToMoveLog result.copy }
     ensures there { IfOk result.answer (λ copied.
-        AreHonest ⟦<FileFrom<S> as Disk>⟧ result.original → (image : Image)
-        → MayFollow ⟦<FileFrom<T> as Disk>⟧ result.copy image → MayBeVisited (image_at S.Start)) }
+        AreHonest ⟦<FileFrom<S> as Disk>⟧ result.original
+        → FollowOnlyVisited ⟦<FileFrom<T> as Disk>⟧ (image_at S.Start) result.copy) }
     ensures original { IfSome result.original
         (WereOnlyRead ⟦<FileFrom<S> as Disk>⟧ (image_at S.Start)) }
     ensures in_hand { IsOk result.answer → IsSome result.original }

@@ -8,8 +8,8 @@ ghost use Rattle.book_model.specs.Words.{Event};
 ghost use Rattle.book_core.specs.Transition.{NoEvent};
 ghost use Rattle.book_audit.specs.declared.audited.Counts.{Counts};
 ghost use Rattle.book_files.specs.Audits.{HoldCounted, HoldSameTrees, WhyUnsound};
-ghost use Rattle.book_files.specs.Causes.{MayBeVisited, WhyNotAudited, WhyNotContinued};
-ghost use Rattle.book_files.specs.Causes.{WhyNotMade};
+ghost use Rattle.book_files.specs.Causes.{FollowOnlyVisited, WhyNotAudited};
+ghost use Rattle.book_files.specs.Causes.{WhyNotContinued, WhyNotMade};
 ghost use Rattle.book_files.specs.Causes.{IsToldOfThis, WhyNotUpgraded, WhyNotVisited};
 ghost use Rattle.book_files.specs.Faults.{first_answer, resume_fault};
 ghost use Rattle.book_files.specs.NewBooks.{MayBeMade, NewBooksMade};
@@ -85,8 +85,8 @@ pub fn visit_at<S: LeftByLedger, V: Visit>(
     // files that hold none of this form, or not their row, and without it none are visited, nor are
     // any that say that they are of a newer form. A fault of the store is told of what a ledger left
     // only where a call on the files failed, or met a limit.
-    ensures there { IfOk result.0 (λ answer. (image : Image)
-        → MayFollow ⟦<FileFrom<S> as Disk>⟧ result.1 image → MayBeVisited (image_at S.Start)) }
+    ensures there { IfOk result.0 (λ answer.
+        FollowOnlyVisited ⟦<FileFrom<S> as Disk>⟧ (image_at S.Start) result.1) }
     ensures cause { IfErr result.0
         (WhyNotVisited ⟦<FileFrom<S> as Disk>⟧ (image_at S.Start) result.1) }
 {

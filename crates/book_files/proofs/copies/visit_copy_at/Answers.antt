@@ -11,8 +11,8 @@ use Rattle.book_restarts.specs.FileBooks.{done_by, file_names}
 use Rattle.book_trees.specs.Forms.{HoldNoNewer}
 use Rattle.book_trees.specs.LedgerFiles.{HoldsBooks, trees_held}
 use Rattle.book_trees.specs.Schema.{books_schema}
-use Rattle.book_files.specs.Causes.{MayBeVisited, WhyNotCopied}
-use Rattle.book_files.specs.Sessions.{AreHonest, FilesGoOn, MayFollow}
+use Rattle.book_files.specs.Causes.{FollowOnlyVisited, WhyNotCopied}
+use Rattle.book_files.specs.Sessions.{AreHonest, FilesGoOn}
 use Rattle.book_files.specs.declared.copies.CopyFault.TheVariants as copies
 use Rattle.book_files.specs.declared.session.Ended.TheVariants.{Closed, Refused}
 use Rattle.book_files.proofs.Causes.{mapped_err, mapped_ok, ok_so, told_by_row, uncopied_cause}
@@ -62,8 +62,8 @@ returns-in-Ok-copy_to-clause-there g c =
     let visited = c.visit_and_close-opened in
     let first = image_at g.S.Start in
     let store = c.in-Ok-copy_to.store in
-    mapped_ok (λ answer. AreHonest one (Some c.copy_to.new.from) → (image : Image)
-    → MayFollow two (Closed visited.result.1) image → MayBeVisited first)
+    mapped_ok (λ answer. AreHonest one (Some c.copy_to.new.from)
+    → FollowOnlyVisited two first (Closed visited.result.1))
     copies.Refused visited.result.0 c.map_err.result c.map_err.ensures.cases
     (ok_so visited.result.0 visited.ensures.there (λ answer there honest image may.
     let honest_too = found_clean two visited.result.1.files image may.1 in
