@@ -1,10 +1,10 @@
 -- Why books are not opened or made, and what is left of the files then.
-use Rattle.std.specs.Prelude.{◌≡◌, ◌⊎◌, ◌+◌, ◌≤◌, ℕ, ⊤, Bool, false, Result, Ok, Err}
+use Rattle.std.specs.Prelude.{◌≡◌, ◌⊎◌, ◌+◌, ◌≤◌, ℕ, ⊤, Bool, false, IsTrue, Result, Ok, Err}
 use Rattle.sqlite_disk.specs.Disk.{MoreFaults}
 use Rattle.sqlite_disk.specs.declared.Disk.{Ghosts}
 use Rattle.sqlite_disk.specs.declared.files.Files.{Files}
 use Rattle.sqlite_pool.specs.Stored.{IsUnreadable, RecoversAs}
-use Rattle.sqlite_store.specs.Unopened.{files_of, IsFullFile, StopsCreating}
+use Rattle.sqlite_store.specs.Unopened.{files_of, state_of, IsFullFile, StopsCreating}
 use Rattle.sqlite_store.specs.declared.error.OpenError.{OpenError}
 use Rattle.sqlite_store.specs.declared.error.OpenError.TheVariants as store
 use Rattle.sqlite_store.specs.declared.store.open.Unopened.{Unopened}
@@ -85,6 +85,14 @@ module _ {D : Type 0} (g : Ghosts D) where
   IsRefusal Causes files Held AtLimit refusal =
       AreClean g refusal.1.log refusal.1.db
       → Causes (faults_in files) (faults_in refusal.1) (AtLimit refusal.1) Held refusal.0
+
+  -- So it is with files that are not open yet, whose state counts the calls that failed.
+  abbrev pub IsRefusalOf : {Fault : Type 0} → (ℕ → ℕ → Type 0 → Type 0 → Fault → Type 0)
+      → Unopened D g → Type 0 → Fault × Unopened D g → Type 0
+  IsRefusalOf Causes files Held refusal =
+      IsTrue (state_of refusal.1).is_clean
+      → Causes (state_of files).faults (state_of refusal.1).faults (IsFullFile refusal.1) Held
+      refusal.0
 
   -- refused files were there, and held this: why they were refused
   abbrev pub IsRefusedFor : Type 0 → (Files D → Type 0) → OpenFault → Files D → Type 0

@@ -3,8 +3,7 @@
 ghost use Rattle.std.specs.Prelude.{◌≡◌, ◌≢◌, ◌≤◌, IfErr, IfOk, IfSome, IsTrue, MatchOption};
 ghost use Rattle.std.specs.Prelude.{OnErr, OnOk};
 ghost use Rattle.sqlite_store.specs.FileStore.{state, view, schema_of, IsReady};
-ghost use Rattle.sqlite_store.specs.Unopened.{image, state_of, wanted_by, AreUsable};
-ghost use Rattle.sqlite_store.specs.Unopened.{IsFullFile, Opens};
+ghost use Rattle.sqlite_store.specs.Unopened.{image, state_of, wanted_by, AreUsable, Opens};
 ghost use Rattle.sqlite_trees.specs.View.{IsClean};
 ghost use Rattle.sqlite_wal.specs.Files.{image_at};
 ghost use Rattle.sqlite_wal.specs.Reads.{AreClean};
@@ -17,7 +16,7 @@ ghost use Rattle.tree_rows.specs.Calls.{CommitsNothing, LeavesCommitted};
 ghost use Rattle.book_trees.specs.LedgerFiles.{image_of, page_size, HoldsBooks, HoldsFirstBooks};
 ghost use Rattle.book_trees.specs.LedgerFiles.{trees_held};
 ghost use Rattle.book_trees.specs.Refusals.{faults_in, AreFull, AreKept, IsAsFound, IsRefusal};
-ghost use Rattle.book_trees.specs.Refusals.{MayLeave};
+ghost use Rattle.book_trees.specs.Refusals.{IsRefusalOf, MayLeave};
 ghost use Rattle.book_trees.specs.Schema.{first_schema};
 ghost use Rattle.book_trees.specs.StoreView.{ListsBooks};
 
@@ -74,15 +73,12 @@ fn open_first<D: Disk>(files: Unopened<D>) -> Result<FileStore<D>, (FirstFault, 
     ensures held { IfOk result (λ store. IsTrue (state store).is_clean
         → ∥ HoldsFirstBooks (image files) ∥₁) }
     ensures kept { IfOk result (λ store. IsTrue (state store).is_clean → Opens files (state store)) }
-    ensures cause { IfErr result (λ refusal. IsTrue (state_of refusal.1).is_clean
-        → HasFirstCause (state_of files).faults (state_of refusal.1).faults (IsFullFile refusal.1)
-        (HoldsFirstForm (image files)) refusal.0) }
+    ensures cause { IfErr result
+        (IsRefusalOf D.Disk HasFirstCause files (HoldsFirstForm (image files))) }
 
     // Books of this form are told to be so, or are not read only because of memory and the disk.
     ensures this { IfErr result (λ refusal. refusal.0 ≢ FirstFault.Already
-        → IsTrue (state_of refusal.1).is_clean
-        → HasFirstCause (state_of files).faults (state_of refusal.1).faults (IsFullFile refusal.1)
-        (HoldsBooks (image files)) refusal.0) }
+        → IsRefusalOf D.Disk HasFirstCause files (HoldsBooks (image files)) refusal) }
     ensures listed { IfErr result (λ refusal. refusal.0 ≡ FirstFault.Already
         → IsTrue (state_of refusal.1).is_clean → ListsBooks (image files)) }
     ensures unharmed { IfErr result (λ refusal. IsTrue (state_of refusal.1).is_clean
