@@ -110,7 +110,7 @@ pub struct DetailKey {
     pub place: RowKey,
     /// The time of the record, in hundredths of a second since midnight.
     pub time: u32,
-    /// The name of the record.
+    /// The name of the record, the SHA-256 digest of its data.
     pub name: [u8; 32],
 }
 
@@ -121,17 +121,17 @@ pub enum Place {
     File,
     /// A tree.
     Tree(Tree),
-    /// The tariff with a first day.
+    /// The tariff with this first day, in days since 1970-01-01.
     Tariff(i32),
-    /// The close of a period.
+    /// The close of the period of this number.
     Close(u16),
-    /// The choice of a number.
+    /// The choice of this number, from 1.
     Choice(u32),
-    /// The record of a name.
+    /// The record of this name, the SHA-256 digest of its data.
     Record([u8; 32]),
     /// A charge row.
     Day(DayKey),
-    /// A period's line for the record of a name.
+    /// The line of the period of this number for the record of this name.
     Line(u16, [u8; 32]),
     /// A row of details.
     Detail(DetailKey),

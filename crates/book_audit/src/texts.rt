@@ -229,7 +229,8 @@ fn push_counts(out: &mut String, counts: &Counts) -> Result<(), AllocError>
     push_count(out, "LINES", counts.lines)
 }
 
-/// The text of an audit.
+/// The text of an audit: of sound books what they count, a line for each number; of others one
+/// line, with the place and what is wrong there. It fails only for want of memory.
 pub fn audit_text(alloc: Global, audited: &Audited) -> Result<String, AllocError>
     ensures { IfOk result (λ text. IsAuditText audited.now (string_bytes text)) }
 {

@@ -30,6 +30,7 @@ pub enum CopyFault {
 /// What came of a copy, with the files that were copied.
 #[derive(Drop)]
 pub struct Copied<T: Drop, A: Disk, B: Disk> {
+    /// What the visit of the copy answered, or why it was not visited.
     pub answer: Result<T, CopyFault>,
     /// None are in hand where they were not opened.
     pub original: Option<Files<A>>,

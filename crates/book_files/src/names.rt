@@ -12,7 +12,8 @@ fn ends_as(path: &str, end: &str) -> bool
 }
 
 /// Whether a name is one that SQLite gives to the log, the journal or the shared memory of some
-/// file. A command on that file would take books of this name for its own log.
+/// file: whether it ends in `-wal`, `-journal` or `-shm`. A command on that file would take books
+/// of this name for its own log.
 pub fn is_log_name(path: &str) -> bool
     ensures { result ≡ is_log_name path.now }
 {

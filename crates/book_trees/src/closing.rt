@@ -62,7 +62,8 @@ pub struct Closed<D: Disk> {
     pub log: LogLeft,
 }
 
-/// Whether a log is too short to hold anything.
+/// Whether a log is too short to hold anything. It is not seen to be so where its length can't be
+/// read.
 pub fn is_short<D: Disk>(log: &mut D) -> bool
     ensures short { IsTrue result → IsCleanFile D.Disk log.new
         → length (D.Disk.seen log.new) < shortest_log }
@@ -196,11 +197,12 @@ fn log_left<D: Disk>(log: &mut D, moved: Result<(), StoreError>) -> LogLeft
     }
 }
 
-/// The length of a log's header and of a page's. An open passes over a log that is shorter.
+/// The length of a log's header and of a page's, in bytes. An open passes over a log that is
+/// shorter.
 const SHORTEST_LOG: u64 = 56;
 
-/// Whether a log of this length may be deleted: books with so short a log are held by their
-/// file alone, with the same tables.
+/// Whether a log of so many bytes may be deleted: books with so short a log are held by their file
+/// alone, with the same tables.
 pub fn needs_no_log(len: u64) -> bool
     ensures short { IsTrue result ↔ (len < shortest_log) }
     ensures alone { IsTrue result → (image : Image) → length image.log ≡ len → HoldsAlone image }

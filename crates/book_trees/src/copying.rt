@@ -83,7 +83,8 @@ fn copy_file<A: Disk, B: Disk>(alloc: Global, from: &mut A, to: &mut B) -> io::R
     to.sync()
 }
 
-/// Copies the log and the file of books over those of others.
+/// Copies the log and the file of books over those of others, whatever these held, and syncs both.
+/// Where this fails they may hold a part.
 pub fn copy_files<A: Disk, B: Disk>(
     alloc: Global,
     from: &mut Files<A>,

@@ -13,7 +13,7 @@ use sqlite_disk::Disk;
 use sqlite_wal::{Error, probe_frames};
 use std::alloc::Global;
 
-/// The length of what a close leaves of a log: its header, and what shuts it.
+/// The length of what a close leaves of a log, in bytes: its header, and what shuts it.
 const CLOSED_LOG: usize = 41;
 
 /// Whether recovery passes over a log of which it does not say what it would take.

@@ -63,7 +63,7 @@ pub enum RepositoryFault {
 /// What came of books that were to be brought to the form that this program keeps.
 #[derive(Clone, Copy, Debug, PartialEq, Eq)]
 pub enum Upgraded {
-    /// They are of this form now.
+    /// They are of the form of this number now.
     To(u32),
     /// They were so already.
     Already,
@@ -78,7 +78,8 @@ pub trait Repository {
     /// What is known of them.
     ghost shelf: { Self → Shelf };
 
-    /// Says whether there is something with that name.
+    /// Succeeds where there is something with that name. A fault comes where there is not, or where
+    /// it is not seen whether there is.
     fn expect(&self, book: &str) -> Result<(), RepositoryFault>
         ensures found { OnOk result ((shelf self.now).is_free book.now → ⊥) }
         ensures refused { IfErr result ((shelf self.now).refuses book.now) };
