@@ -9,6 +9,7 @@ use Rattle.book_core.specs.Transition.{NoEvent, Transition}
 use Rattle.book_trees.specs.Closing.{MayBeFound}
 use Rattle.book_trees.specs.Refusals.{IsAsFound, MayLeave}
 use Rattle.book_trees.specs.declared.closing.LogLeft.TheVariants.{Short, Unmoved}
+use Rattle.book_files.specs.declared.copies.Copied.{Copied}
 use Rattle.book_files.specs.declared.session.Ended.{Ended}
 use Rattle.book_files.specs.declared.session.Ended.TheVariants.{Closed, Refused}
 
@@ -68,6 +69,19 @@ FileAloneGoesOn g Made found ended =
 abbrev pub AreHonest : {D : Type 0} (g : Ghosts D) → Option (Files D) → Type 0
 AreHonest g (Some files) = AreClean g files.log files.db
 AreHonest g None = ⊥
+
+-- Where no disk lied, whatever may be found of a copy goes on from what was copied, with what was
+-- made in it;
+abbrev pub CopyGoesOn : {T A B : Type 0} (one : Ghosts A) (two : Ghosts B) → Transition → Image
+    → Copied T A B → Type 0
+CopyGoesOn one two Made found copied =
+    AreHonest one copied.original → FilesGoOn two Made found copied.copy
+
+-- and so does its file alone, where its log is left short.
+abbrev pub CopyAloneGoesOn : {T A B : Type 0} (one : Ghosts A) (two : Ghosts B) → Transition → Image
+    → Copied T A B → Type 0
+CopyAloneGoesOn one two Made found copied =
+    AreHonest one copied.original → FileAloneGoesOn two Made found copied.copy
 
 -- Files that were found so were read, and nothing else: a stop leaves what was found; and the history
 -- that they held they hold, also where their log is short and is deleted.

@@ -5,7 +5,7 @@ ghost use Rattle.sqlite_wal.specs.Files.{image_at};
 ghost use Rattle.book_core.specs.Transition.{NoEvent};
 ghost use Rattle.book_files.specs.Causes.{FollowOnlyVisited, WhyNotCopied};
 ghost use Rattle.book_files.specs.Faults.{not_copied, tried_answer};
-ghost use Rattle.book_files.specs.Sessions.{AreHonest, AreInHand, FileAloneGoesOn, FilesGoOn};
+ghost use Rattle.book_files.specs.Sessions.{AreHonest, AreInHand, CopyAloneGoesOn, CopyGoesOn};
 ghost use Rattle.book_files.specs.Sessions.{TriesToMoveLog, WereOnlyRead};
 ghost use Rattle.book_restarts.specs.FileBooks.{file_names};
 
@@ -51,14 +51,13 @@ pub fn visit_copy_at<S: Start, T: Start, V: Visit>(
     visit: &mut V,
 ) -> Copied<V::Answer, FileFrom<S>, FileFrom<T>>
     ensures history { IfOk result.answer (λ answer.
-        AreHonest ⟦<FileFrom<S> as Disk>⟧ result.original → FilesGoOn ⟦<FileFrom<T> as Disk>⟧
-        (V.Visit.work file_names visit.old visit.new answer) (image_at S.Start) result.copy) }
+        CopyGoesOn ⟦<FileFrom<S> as Disk>⟧ ⟦<FileFrom<T> as Disk>⟧
+        (V.Visit.work file_names visit.old visit.new answer) (image_at S.Start) result) }
 
     // Where the log of the copy is left short, its file alone, without any log, holds all of that.
     ensures alone { IfOk result.answer (λ answer.
-        AreHonest ⟦<FileFrom<S> as Disk>⟧ result.original
-        → FileAloneGoesOn ⟦<FileFrom<T> as Disk>⟧
-        (V.Visit.work file_names visit.old visit.new answer) (image_at S.Start) result.copy) }
+        CopyAloneGoesOn ⟦<FileFrom<S> as Disk>⟧ ⟦<FileFrom<T> as Disk>⟧
+        (V.Visit.work file_names visit.old visit.new answer) (image_at S.Start) result) }
     ensures moves { TriesToMoveLog result.copy }
 
     // There is no copy of files in which the row of their book is not there, or that say that they
@@ -117,11 +116,11 @@ pub fn copy_at<S: Start, T: Start>(
     seed: u64,
 ) -> Copied<(), FileFrom<S>, FileFrom<T>>
     ensures history { IfOk result.answer (λ copied.
-        AreHonest ⟦<FileFrom<S> as Disk>⟧ result.original
-        → FilesGoOn ⟦<FileFrom<T> as Disk>⟧ NoEvent (image_at S.Start) result.copy) }
+        CopyGoesOn ⟦<FileFrom<S> as Disk>⟧ ⟦<FileFrom<T> as Disk>⟧ NoEvent (image_at S.Start)
+        result) }
     ensures alone { IfOk result.answer (λ copied.
-        AreHonest ⟦<FileFrom<S> as Disk>⟧ result.original
-        → FileAloneGoesOn ⟦<FileFrom<T> as Disk>⟧ NoEvent (image_at S.Start) result.copy) }
+        CopyAloneGoesOn ⟦<FileFrom<S> as Disk>⟧ ⟦<FileFrom<T> as Disk>⟧ NoEvent
+        (image_at S.Start) result) }
     ensures moves { TriesToMoveLog result.copy }
     ensures there { IfOk result.answer (λ copied.
         AreHonest ⟦<FileFrom<S> as Disk>⟧ result.original
