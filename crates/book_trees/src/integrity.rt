@@ -2,8 +2,7 @@
 
 ghost use Rattle.std.specs.Prelude.{◌≡◌, ◌≤◌, IfErr, IfOk, IfSome, IsTrue, MatchOption};
 ghost use Rattle.sqlite_store.specs.FileStore.{state, view, schema_of, IsReady};
-ghost use Rattle.sqlite_store.specs.Unopened.{image, state_of, wanted_by, AreUsable};
-ghost use Rattle.sqlite_store.specs.Unopened.{IsFullFile, Opens};
+ghost use Rattle.sqlite_store.specs.Unopened.{image, state_of, wanted_by, AreUsable, Opens};
 ghost use Rattle.sqlite_wal.specs.Files.{image_at};
 ghost use Rattle.sqlite_wal.specs.Reads.{AreClean};
 ghost use Rattle.sqlite_wal.specs.Recovery.{Image};
@@ -12,7 +11,7 @@ ghost use Rattle.book_trees.specs.LedgerFiles.{image_of, page_size, HoldsBooks, 
 ghost use Rattle.book_trees.specs.Looks.{look_fault_for, HasLookCause, IsLookRefusedFor};
 ghost use Rattle.book_trees.specs.Looks.{IsToldLook, IsUnopenedLook};
 ghost use Rattle.book_trees.specs.Refusals.{faults_in, AreFull, AreKept, IsAsFound, IsRefusal};
-ghost use Rattle.book_trees.specs.Refusals.{MayLeave};
+ghost use Rattle.book_trees.specs.Refusals.{IsRefusalOf, MayLeave};
 ghost use Rattle.book_trees.specs.Schema.{books_schema};
 ghost use Rattle.book_trees.specs.StoreView.{IsOpen, ListsBooks};
 ghost use Rattle.tree_tables.specs.Holds.{HasShapes};
@@ -61,9 +60,8 @@ fn look_through_all<D: Disk>(files: Unopened<D>) -> Result<FileStore<D>, (LookFa
     ensures held { IfOk result (λ store. IsTrue (state store).is_clean
         → ∥ HoldsBooks (image files) ∥₁) }
     ensures kept { IfOk result (λ store. IsTrue (state store).is_clean → Opens files (state store)) }
-    ensures cause { IfErr result (λ refusal. IsTrue (state_of refusal.1).is_clean
-        → HasLookCause (state_of files).faults (state_of refusal.1).faults (IsFullFile refusal.1)
-        (HoldsBooks (image files)) refusal.0) }
+    ensures cause { IfErr result
+        (IsRefusalOf D.Disk HasLookCause files (HoldsBooks (image files))) }
     ensures listed { IfErr result (λ refusal. refusal.0 ≡ LookFault.Pages
         → IsTrue (state_of refusal.1).is_clean → ListsBooks (image files)) }
     ensures unharmed { IfErr result (λ refusal. IsTrue (state_of refusal.1).is_clean
