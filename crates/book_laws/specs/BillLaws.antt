@@ -11,13 +11,11 @@ use Rattle.book_model.specs.declared.line.Line.{Line}
 use Rattle.book_model.specs.declared.row.ChargeRow.{ChargeRow}
 use Rattle.book_model.specs.Words.{BillSeen, Book, Disputed, Event, IsMadeByCalls, IsSound, Naming}
 use Rattle.book_model.specs.Words.{Period, Rulings, Terms, amount_for, bill_of, bill_outcome}
-use Rattle.book_model.specs.Words.{book_after}
-use Rattle.book_model.specs.Words.{day_of, has, held_back_in, in_force, lines_of, period_of, rows_for}
-use Rattle.book_model.specs.Words.{tariff_by}
+use Rattle.book_model.specs.Words.{book_after, day_of, has, held_back_in, in_force, is_day_of}
+use Rattle.book_model.specs.Words.{lines_of, period_of, rows_for, tariff_by}
 use Rattle.report_texts.specs.Centres.{lines_of_centre, rows_of_centre}
 use Rattle.report_texts.specs.Charges.{all_charges, centres_of, charges_of_centre, plain_lines}
 use Rattle.report_texts.specs.declared.charges.Charges.{Charges}
-use Rattle.table_model.specs.CountedRead.{is_day_of}
 use Rattle.table_model.specs.Readable.{IsReadable}
 use Rattle.book_laws.specs.ClosedPeriods.{IsClosed}
 
