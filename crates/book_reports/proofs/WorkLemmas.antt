@@ -35,27 +35,31 @@ use Rattle.book_reports.proofs.RulingReading.{all_taken}
 
 -- ---- the rows of all
 
--- a sum over what steps cost and one over what jobs cost come to that over all details
-both_sums : (f : Priced → ℕ) (details : List Detail)
-    → sum_by f (prices_of (steps_of details)) + sum_by f (prices_of (jobs_of details))
+-- a sum over what some details cost and one over what the others do come to that over all
+both_sums : (kind : Detail → Bool) (f : Priced → ℕ) (details : List Detail)
+    → sum_by f (prices_of (filter kind details))
+    + sum_by f (prices_of (filter (λ one. not (kind one)) details))
     ≡ sum_by (λ (detail : Detail). f detail.priced) details
-both_sums f details =
+both_sums kind f details =
     let price : Detail → Priced = λ detail. detail.priced in
-    let steps = fold-map (λ n one. n + f one) price 0 (steps_of details) in
-    let jobs = fold-map (λ n one. n + f one) price 0 (jobs_of details) in
-    let both = sum_by-filter_both is_step (λ (detail : Detail). not (is_step detail)) (λ detail. refl)
+    let other : Detail → Bool = λ one. not (kind one) in
+    let ones = fold-map (λ n one. n + f one) price 0 (filter kind details) in
+    let others = fold-map (λ n one. n + f one) price 0 (filter other details) in
+    let both = sum_by-filter_both kind other (λ detail. refl)
     (λ (detail : Detail). f detail.priced) details in
-    omega (arith, steps, jobs, both)
+    omega (arith, ones, others, both)
 
--- there are as many steps and jobs as details
-both_counts : (details : List Detail)
-    → length (prices_of (steps_of details)) + length (prices_of (jobs_of details)) ≡ length details
-both_counts details =
-    let steps = length-map (steps_of details) (λ (detail : Detail). detail.priced) in
-    let jobs = length-map (jobs_of details) (λ (detail : Detail). detail.priced) in
-    let both = length-filter_both is_step (λ (detail : Detail). not (is_step detail))
-    (λ detail. refl) details in
-    omega (arith, steps, jobs, both)
+-- there are as many of both as details
+both_counts : (kind : Detail → Bool) (details : List Detail)
+    → length (prices_of (filter kind details))
+    + length (prices_of (filter (λ one. not (kind one)) details))
+    ≡ length details
+both_counts kind details =
+    let other : Detail → Bool = λ one. not (kind one) in
+    let ones = length-map (filter kind details) (λ (detail : Detail). detail.priced) in
+    let others = length-map (filter other details) (λ (detail : Detail). detail.priced) in
+    let both = length-filter_both kind other (λ detail. refl) details in
+    omega (arith, ones, others, both)
 
 module _ (work : WorkSums) (details : List Detail) (are : AreSumsOf work details) where
   -- what some of them cost is dated on days
@@ -65,37 +69,22 @@ module _ (work : WorkSums) (details : List Detail) (are : AreSumsOf work details
       (filter kind details)
       (All-filter kind (λ (detail : Detail). IsDay detail.priced.day) details are.days)
 
-  -- the rows of the steps can be shown, and those of the jobs
-  steps_shown : AreRows (work_rows (steps_of details))
-  steps_shown =
+  -- their rows can be shown
+  part_shown : (kind : Detail → Bool) → AreRows (work_rows (filter kind details))
+  part_shown kind =
       let count = ap (λ sums. sums.count) are.all in
       let cpu = ap (λ sums. sums.cpu) are.all in
       let blocks = ap (λ sums. sums.blocks) are.all in
       let amount = ap (λ sums. sums.amount) are.all in
-      rows_shown (prices_of (steps_of details))
+      rows_shown (prices_of (filter kind details))
       (record {
-        cpu = omega (arith, both_sums (λ one. one.cpu) details, cpu, are.fit.cpu);
-        blocks = omega (arith, both_sums (λ one. one.excp) details, blocks, are.fit.blocks);
-        amount = omega (arith, both_sums (λ one. one.amount) details, amount, are.fit.amount);
+        cpu = omega (arith, both_sums kind (λ one. one.cpu) details, cpu, are.fit.cpu);
+        blocks = omega (arith, both_sums kind (λ one. one.excp) details, blocks, are.fit.blocks);
+        amount = omega (arith, both_sums kind (λ one. one.amount) details, amount, are.fit.amount);
       })
-      (omega (arith, both_counts details, count, are.fit.count)) (dated is_step)
+      (omega (arith, both_counts kind details, count, are.fit.count)) (dated kind)
 
-  jobs_shown : AreRows (work_rows (jobs_of details))
-  jobs_shown =
-      let count = ap (λ sums. sums.count) are.all in
-      let cpu = ap (λ sums. sums.cpu) are.all in
-      let blocks = ap (λ sums. sums.blocks) are.all in
-      let amount = ap (λ sums. sums.amount) are.all in
-      rows_shown (prices_of (jobs_of details))
-      (record {
-        cpu = omega (arith, both_sums (λ one. one.cpu) details, cpu, are.fit.cpu);
-        blocks = omega (arith, both_sums (λ one. one.excp) details, blocks, are.fit.blocks);
-        amount = omega (arith, both_sums (λ one. one.amount) details, amount, are.fit.amount);
-      })
-      (omega (arith, both_counts details, count, are.fit.count))
-      (dated (λ one. not (is_step one)))
-
-  -- and what they cost together fits
+  -- and what steps and jobs cost together fits
   small_amount : sum_by (λ row. row.amount) (work_rows (steps_of details))
       + sum_by (λ row. row.amount) (work_rows (jobs_of details)) < 2 ^ 63
   small_amount =
@@ -104,7 +93,8 @@ module _ (work : WorkSums) (details : List Detail) (are : AreSumsOf work details
       (prices_of (steps_of details)) (λ key. refl) in
       let jobs = sum_by-rows_of_le (λ row. row.amount) (λ one. one.amount)
       (prices_of (jobs_of details)) (λ key. refl) in
-      omega (arith, both_sums (λ one. one.amount) details, amount, are.fit.amount, steps, jobs)
+      let both = both_sums is_step (λ one. one.amount) details in
+      omega (arith, both, amount, are.fit.amount, steps, jobs)
 
   -- so the sums are those of the rows
   pub work_made : (rows : WorkRows) → rows.steps.items ≡ values work.steps
@@ -121,8 +111,8 @@ module _ (work : WorkSums) (details : List Detail) (are : AreSumsOf work details
         jobs = of_jobs;
         shown = subst (λ steps. AreWork steps rows.jobs.items) (sym of_steps)
             (subst (λ jobs. AreWork (work_rows (steps_of details)) jobs) (sym of_jobs) (record {
-              step_rows = steps_shown;
-              job_rows = jobs_shown;
+              step_rows = part_shown is_step;
+              job_rows = part_shown (λ one. not (is_step one));
               amount = small_amount;
             }));
       }
