@@ -1,6 +1,5 @@
-use Rattle.std.proofs.Common.{◌≡◌, ◌∙◌, ◌-◌, ◌++◌, ℕ, List, ap, arith, get_or, map, sym}
+use Rattle.std.proofs.Common.{◌∙◌, ◌++◌, ℕ, List, ap, arith}
 use Rattle.std.specs.String.{string_bytes}
-use Rattle.std.proofs.lemmas.List.{get_or-map, length-map}
 use Rattle.page_texts.specs.Closes.{close_of}
 use Rattle.page_texts.specs.Figures.{FiguresSeen, figures_seen}
 use Rattle.page_texts.specs.OfficePage.{office_row}
@@ -10,23 +9,18 @@ use Rattle.page_texts.proofs.office.push_office_rows.Goals as goal
 -- one more row is appended after those of the later periods
 pub loop-left-preserved : goal.loop-left-preserved
 loop-left-preserved c =
-    let periods = c.args.periods.now in
     let left = c.loop-left.left in
     let figures = c.index-periods-left.result in
     let row : ℕ → FiguresSeen → List ℕ =
     λ period seen. office_row period (close_of period c.args.closes.now) seen in
     let some = c.loop-left-test.true in
     let most = c.loop-left.invariant.within in
-    let is : get_or (map figures_seen periods) (left - 1) (figures_seen figures)
-    ≡ figures_seen figures =
-    get_or-map figures_seen periods (left - 1) figures (figures_seen figures) (omega arith)
-    ∙ ap figures_seen (sym c.index-periods-left.is) in
     record {
       text = c.in_ok-push_office_row.ensures
           ∙ ap (λ through. string_bytes c.loop-left.out ++ office_row left through (figures_seen figures))
           c.close_of-through.ensures.close
           ∙ ap (λ out. out ++ row left (figures_seen figures)) c.loop-left.invariant.text
-          ∙ row_before row (map figures_seen periods) left (figures_seen figures)
-          (string_bytes c.args.out.now) (omega arith) (simp length-map most) (sym is);
+          ∙ row_before row c.args.periods.now left figures (string_bytes c.args.out.now) (omega arith)
+          most c.index-periods-left.is;
       within = omega arith;
     }
