@@ -1,17 +1,16 @@
 -- The tariffs of a closed period's days stay: those that come later begin after these days.
 use Rattle.std.proofs.Common.{◌≡◌, ℕ, zero, suc, ◌-◌, ◌<◌, List, [], ◌∷◌, ◌++◌, length, get_or, refl}
-use Rattle.std.proofs.Common.{sym, ap, ◌∙◌, subst, true, false, Bool, cond, not, ◌||◌, Some}
-use Rattle.std.proofs.Common.{None, append-nil, arith}
+use Rattle.std.proofs.Common.{sym, ap, ◌∙◌, subst, true, false, cond, not, Some, None, append-nil}
+use Rattle.std.proofs.Common.{arith}
 use Rattle.std.specs.Prelude.{ℤ, pos, ◌+ℤ◌, ◌<ℤ◌, int_lt, filter, slice_get, MatchOption}
 use Rattle.std.specs.Prelude.{if◌then◌else◌}
-use Rattle.std.specs.List.{last_or, list_any}
+use Rattle.std.specs.List.{last_or}
 use Rattle.std.specs.List.Sorted.{IsStrictlySortedBy}
 use Rattle.std.specs.Option.{option_map}
 use Rattle.std.specs.Ordering.{int_cmp}
 use Rattle.std.proofs.lemmas.Int.{ints}
 use Rattle.std.proofs.lemmas.List.{length-append}
 use Rattle.std.proofs.lemmas.List.Elements.{filter-append, filter_map-append}
-use Rattle.std.proofs.lemmas.List.Folds.{list_any-append}
 use Rattle.std.proofs.lemmas.Map.Keys.{Less-from_sorted}
 use Rattle.std.proofs.lemmas.Option.{get_or_from_slice_get, slice_get-get_or, slice_get_within}
 use Rattle.book_model.specs.Words.{AcceptedTerms, Book, Event, IsMadeByCalls, Naming, PeriodClosed}
@@ -24,6 +23,7 @@ use Rattle.book_model.proofs.CallLemmas.{calls_go_forward}
 use Rattle.book_model.proofs.CountedDays.{close_at, through_at}
 use Rattle.book_model.proofs.ListLemmas.{slice_get-front}
 use Rattle.table_model.proofs.CloseOrder.{earlier as is_earlier, first_earlier}
+use Rattle.book_reports.proofs.KeptTariffLemmas.{in_force_push}
 use Rattle.book_laws.proofs.CountedLemmas.{closes_rise}
 
 -- of rising days one that stands before another is earlier
@@ -64,24 +64,9 @@ next_under close last day before after = omega (arith, ints)
 -- a tariff that has not begun ends no other
 late_behind : (day : ℤ) (one : RulingSeen) → begins_by day one ≡ false → (tariffs : List RulingSeen)
     → in_force_from day (tariffs ++ one ∷ []) ≡ in_force_from day tariffs ++ one ∷ []
-late_behind day one late [] = refl
-late_behind day one late (first ∷ later) =
-    let rest = late_behind day one late later in
-    let begun : List RulingSeen → Bool = list_any (begins_by day) in
-    let same : begun (later ++ one ∷ []) ≡ begun later =
-    list_any-append (begins_by day) later (one ∷ [])
-    ∙ ap (λ b. begun later || (b || false)) late ∙ or_none (begun later) in
-    (λ i. if same i then rest i else first ∷ (later ++ one ∷ [])) ∙ by_later (begun later)
-  where
-    or_none : (b : Bool) → (b || (false || false)) ≡ b
-    or_none true = refl
-    or_none false = refl
-
-    by_later : (b : Bool)
-        → (if b then in_force_from day later ++ one ∷ [] else first ∷ (later ++ one ∷ []))
-        ≡ (if b then in_force_from day later else first ∷ later) ++ one ∷ []
-    by_later true = refl
-    by_later false = refl
+late_behind day one late tariffs =
+    in_force_push day tariffs one
+    ∙ ap (λ begun. (if begun then [] else in_force_from day tariffs) ++ one ∷ []) late
 
 -- the first day after a close
 abbrev pub day_after : ℤ → ℤ

@@ -8,6 +8,7 @@ use Rattle.std.specs.List.{cons_option, list_any}
 use Rattle.std.specs.Option.{option_map_or}
 use Rattle.std.specs.Result.{result_ok}
 use Rattle.std.proofs.lemmas.List.Elements.{All-push, filter-append, filter_map-append}
+use Rattle.std.proofs.lemmas.List.Folds.{list_any-append}
 use Rattle.book_model.specs.declared.bill.BilledTariff.{BilledTariff}
 use Rattle.book_model.specs.declared.fault.LedgerFault.{LedgerFault}
 use Rattle.book_model.specs.declared.fault.LedgerFault.TheVariants.{Memory}
@@ -32,23 +33,8 @@ use Rattle.book_reports.proofs.TariffLemmas.{AreTariffs, IsTariff, are_tariffs, 
 
 -- ---- one more tariff
 
--- some of a list with one more pass, where some of the list do, or that one does
-any_push : {X : Type 0} (test : X → Bool) (xs : List X) (x : X)
-    → list_any test (xs ++ x ∷ []) ≡ (list_any test xs || test x)
-any_push test [] x = by (test x)
-  where
-    by : (b : Bool) → (b || false) ≡ b
-    by true = refl
-    by false = refl
-any_push test (first ∷ xs) x = by (test first) (any_push test xs x)
-  where
-    by : (b : Bool) → list_any test (xs ++ x ∷ []) ≡ (list_any test xs || test x)
-        → (b || list_any test (xs ++ x ∷ [])) ≡ ((b || list_any test xs) || test x)
-    by true more = refl
-    by false more = more
-
 -- one that has begun by a day is the one in force on it; else those before it stay
-in_force_push : (day : ℤ) (tariffs : List RulingSeen) (last : RulingSeen)
+pub in_force_push : (day : ℤ) (tariffs : List RulingSeen) (last : RulingSeen)
     → in_force_from day (tariffs ++ last ∷ [])
     ≡ (if begins_by day last then [] else in_force_from day tariffs) ++ last ∷ []
 in_force_push day [] last = by (begins_by day last)
@@ -58,14 +44,14 @@ in_force_push day [] last = by (begins_by day last)
     by false = refl
 in_force_push day (tariff ∷ later) last =
     ap (λ any. if any then in_force_from day (later ++ last ∷ []) else tariff ∷ (later ++ last ∷ []))
-    (any_push (begins_by day) later last)
-    ∙ ap (λ more. if list_any (begins_by day) later || begins_by day last then more
+    (list_any-append (begins_by day) later (last ∷ []))
+    ∙ ap (λ more. if list_any (begins_by day) later || (begins_by day last || false) then more
     else tariff ∷ (later ++ last ∷ []))
     (in_force_push day later last)
     ∙ by (list_any (begins_by day) later) (begins_by day last)
   where
     by : (a b : Bool)
-        → (if a || b then (if b then [] else in_force_from day later) ++ last ∷ []
+        → (if a || (b || false) then (if b then [] else in_force_from day later) ++ last ∷ []
         else tariff ∷ (later ++ last ∷ []))
         ≡ (if b then [] else (if a then in_force_from day later else tariff ∷ later)) ++ last ∷ []
     by true true = refl
