@@ -1,6 +1,6 @@
 -- Each tariff of a bill is in force on some day of the period: on its own first day, if that comes
 -- after the close before the period, or else on the first day of the period.
-use Rattle.std.proofs.Common.{◌≡◌, ◌∙◌, ℕ, zero, suc, ◌-◌, Bool, true, false, true≢false, not, cond}
+use Rattle.std.proofs.Common.{◌≡◌, ◌∙◌, ℕ, zero, suc, ◌-◌, Bool, true, false, not, cond}
 use Rattle.std.proofs.Common.{◌||◌, List, [], ◌∷◌, map, reverse, Option, Some, None, unwrap_or}
 use Rattle.std.proofs.Common.{ap, arith, refl, subst, sym}
 use Rattle.std.specs.Prelude.{ℤ, pos, ◌+ℤ◌, ◌<ℤ◌, ◌&&◌, All, IfSome, filter, find, if◌then◌else◌}
@@ -10,6 +10,7 @@ use Rattle.std.specs.List.Sorted.{IsStrictlySortedBy}
 use Rattle.std.specs.Option.{option_map, option_map_or, option_or}
 use Rattle.std.specs.Ordering.{int_cmp}
 use Rattle.std.specs.Result.{result_ok}
+use Rattle.std.proofs.lemmas.Bool.{or_parts}
 use Rattle.std.proofs.lemmas.Int.{ints}
 use Rattle.std.proofs.lemmas.List.Elements.{All-cons, All-filter, All-head, All-nil, All-tail}
 use Rattle.std.proofs.lemmas.List.Elements.{filter_passes}
@@ -77,16 +78,12 @@ days_are number k rulings day own =
 
 -- ---- what passes a test
 
-neither : (a b : Bool) → (a || b) ≡ false → (a ≡ false) × (b ≡ false)
-neither true b none = absurd (true≢false none)
-neither false b none = (refl, none)
-
 module _ {X : Type 0} (p : X → Bool) where
   -- where none passes, none is found
   none_found : (xs : List X) → list_any p xs ≡ false → find p (reverse xs) ≡ None
   none_found [] none = refl
   none_found (x ∷ xs) none =
-      let both = neither (p x) (list_any p xs) none in
+      let both = or_parts (p x) (list_any p xs) none in
       found_more p x xs
       ∙ (λ i. option_or (none_found xs both.1 i) (cond (both.0 i) (Some x) None))
 
@@ -133,7 +130,7 @@ all_left day [] none = refl
 all_left day (tariff ∷ behind) none =
     ap (λ b. if b then in_force_from day (map seen_of behind) else map seen_of (tariff ∷ behind))
     (list_any-map (begins_by day) seen_of behind
-    ∙ (neither (has_begun day tariff) (list_any (has_begun day) behind) none).1)
+    ∙ (or_parts (has_begun day tariff) (list_any (has_begun day) behind) none).1)
 
 -- what begins later than a tariff has not begun on its first day
 none_yet : (tariff : AcceptedTerms) (behind : List AcceptedTerms)

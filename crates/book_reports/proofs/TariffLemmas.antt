@@ -1,12 +1,13 @@
 -- The text of the tariff that begins on a day, which is sought among the rulings of a ledger: the
 -- tariffs come first there.
-use Rattle.std.proofs.Common.{◌≡◌, ◌≢◌, ◌∙◌, ℕ, zero, suc, ◌+◌, Bool, true, false, List, [], ◌∷◌}
-use Rattle.std.proofs.Common.{◌++◌, take, drop, refl, sym, ap, subst, append-nil, ℤ}
+use Rattle.std.proofs.Common.{◌≡◌, ◌≢◌, ◌∙◌, ℕ, zero, suc, ◌+◌, Bool, List, [], ◌∷◌, ◌++◌}
+use Rattle.std.proofs.Common.{take, drop, refl, sym, ap, subst, append-nil, ℤ}
 use Rattle.std.proofs.Common.{Option, Some, None, Ok, Err, Vec, Global, take-append-drop}
 use Rattle.std.specs.Prelude.{filter_map, if◌then◌else◌, option_and_then, option_map, slice_get}
 use Rattle.std.specs.List.{cons_option}
 use Rattle.std.specs.Option.{ok_or}
 use Rattle.std.specs.Ordering.{int_eq}
+use Rattle.std.proofs.lemmas.Bool.{false_from_ne_true}
 use Rattle.std.proofs.lemmas.Bool.Decides.{Decides-int_eq}
 use Rattle.std.proofs.lemmas.List.Elements.{filter_map-append}
 use Rattle.std.proofs.lemmas.Option.{same_Some}
@@ -60,10 +61,6 @@ tariffs_before (tariff ∷ later) rest (suc count) found are is none =
 front_none : {X : Type 0} (xs ys : List X) → xs ++ ys ≡ [] → xs ≡ []
 front_none [] ys none = refl
 front_none (x ∷ xs) ys none = cc
-
-is_false : (b : Bool) → (b ≡ true → ⊥) → b ≡ false
-is_false true never = absurd (never refl)
-is_false false never = refl
 
 -- a ruling that is the tariff of no day is none
 pub no_tariff : (found : RulingSeen) → ((day : ℤ) → text_on day found ≡ None) → IsTariff found → ⊥
@@ -126,7 +123,8 @@ module _ (day : ℤ) where
   no_text : (begins : ℤ) (text : List ℕ) → begins ≢ day → texts (TariffSeen begins text ∷ []) ≡ []
   no_text begins text other =
       ap (λ same. text_if same text)
-      (is_false (int_eq day begins) (λ same. other (sym ((Decides-int_eq day begins).0 same))))
+      (false_from_ne_true (int_eq day begins)
+      (λ same. other (sym ((Decides-int_eq day begins).0 same))))
 
   module _ (naming : Naming) (rulings : Rulings) (count : ℕ) (read : List RulingSeen)
       (front : take count (rulings_listed naming rulings) ≡ read) (none : texts read ≡ [])

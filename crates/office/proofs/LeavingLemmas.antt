@@ -1,5 +1,6 @@
 -- What work on an open ledger leaves of it, if it is still open.
-use Rattle.std.proofs.Common.{◌≡◌, ◌∙◌, Bool, true, false, List, refl, sym, subst}
+use Rattle.std.proofs.Common.{◌≡◌, ◌∙◌, false, List, refl, sym, subst}
+use Rattle.std.proofs.lemmas.Bool.{false_from_ne_true}
 use Rattle.book_model.specs.Words.{Book, Event, after_all, Naming}
 use Rattle.book_core.specs.Ledgers.{Seen, MayHave, may_have, IsOpenAt}
 use Rattle.book_core.specs.Transition.{Transition, IsTransition}
@@ -37,13 +38,9 @@ work_leaves {start = start} {new = new} {Made = Made} opened work still =
 pub open_earlier : {old new : Seen} {Made : Transition} → IsTransition old new Made → IsStillOpen new
     → IsStillOpen old
 open_earlier {old = old} work still = record {
-  is_open = not_shut old.must_reopen (λ shut.
+  is_open = false_from_ne_true old.must_reopen (λ shut.
       let reopened = (work.alone shut).reopen in
       let is_open = still.is_open in
       cc);
   honest = work.honest still.honest;
 }
-  where
-    not_shut : (shut : Bool) → (shut ≡ true → ⊥) → shut ≡ false
-    not_shut true never = absurd (never refl)
-    not_shut false never = refl
