@@ -2,7 +2,7 @@
 use Rattle.std.proofs.Common.{◌≡◌, ℕ, suc, ◌+◌, List, [], ◌∷◌, ◌++◌, refl, sym, ap, ◌∙◌}
 use Rattle.std.proofs.Common.{subst, true, false, true≢false, Bool, cond, not, ◌&&◌, Option, arith}
 use Rattle.std.proofs.Common.{None, Some, Ok}
-use Rattle.std.specs.Prelude.{ℤ, pos, ◌-ℤ◌, codes, count_by}
+use Rattle.std.specs.Prelude.{ℤ, pos, ◌-ℤ◌, codes, count_by, sum_by}
 use Rattle.std.specs.Fmt.{decimal, signed_decimal}
 use Rattle.std.specs.Option.{ok_or, option_and_then, option_map}
 use Rattle.std.proofs.lemmas.List.{append-nil}
@@ -20,10 +20,11 @@ use Rattle.book_model.specs.declared.trail.Deed.TheVariants.{Added, Charged, Rev
 use Rattle.book_model.specs.declared.trail.Turn.{Turn}
 use Rattle.book_model.proofs.RecordSets.{has_those}
 use Rattle.book_model.proofs.SoundLemmas.{none_in}
+use Rattle.book_model.proofs.SumLemmas.{sum_by-plus}
 use Rattle.report_texts.specs.Columns.{newline}
 use Rattle.report_texts.specs.LifeLines.{net_line}
 use Rattle.book_reports.proofs.WritingLemmas.{same_value}
-use Rattle.book_laws.specs.NetCounts.{net_count, one_if, times_added, times_counted, times_reversed}
+use Rattle.book_laws.specs.NetCounts.{net_count, one_if}
 use Rattle.book_laws.proofs.NetLemmas.{charged_once, has_without}
 use Rattle.book_laws.proofs.PeriodLemmas.{posted_dated}
 use Rattle.book_laws.specs.LifeLaws.{LivesNet, LivesTakeTurns, TakeTurns, TrailsNet}
@@ -167,36 +168,30 @@ module _ (bytes : List ℕ) where
       let third = count_turn reverses taken k Reversed true refl ∙ and_true taken in
       omega arith
 
-  -- the charges of all periods
-  all_charges : (k : ℕ) (periods : List Period) → count_by charges (life_from k periods bytes)
-      ≡ times_counted periods bytes + times_added periods bytes
-  all_charges k [] = refl
-  all_charges k (period ∷ later) =
-      let f : Turn → ℕ = λ turn. cond (charges turn) 1 0 in
+  -- turns of a life that pass a test are those of each period
+  count_life : (p : Turn → Bool) (in_one : Period → ℕ)
+      → ((k : ℕ) (period : Period) → count_by p (turns_in k period bytes) ≡ in_one period)
+      → (k : ℕ) (periods : List Period)
+      → count_by p (life_from k periods bytes) ≡ sum_by in_one periods
+  count_life p in_one own k [] = refl
+  count_life p in_one own k (period ∷ later) =
+      let f : Turn → ℕ = λ turn. cond (p turn) 1 0 in
       let both = sum_by-append f (turns_in k period bytes) (life_from (suc k) later bytes) in
-      let own = charged_by k period in
-      let rest = all_charges (suc k) later in
-      let counted = sum_by-cons (λ (period : Period). one_if (has period.counted bytes)) period later in
-      let added = sum_by-cons (λ (period : Period). one_if (has period.added bytes)) period later in
-      omega arith
-
-  -- and the reversals
-  all_reversals : (k : ℕ) (periods : List Period)
-      → count_by reverses (life_from k periods bytes) ≡ times_reversed periods bytes
-  all_reversals k [] = refl
-  all_reversals k (period ∷ later) =
-      let f : Turn → ℕ = λ turn. cond (reverses turn) 1 0 in
-      let both = sum_by-append f (turns_in k period bytes) (life_from (suc k) later bytes) in
-      let own = reversed_by k period in
-      let rest = all_reversals (suc k) later in
-      let taken = sum_by-cons (λ (period : Period). one_if (has period.taken bytes)) period later in
+      let first = own k period in
+      let rest = count_life p in_one own (suc k) later in
+      let all = sum_by-cons in_one period later in
       omega arith
 
   -- so a life nets as its record is counted
   life_nets : (book : Book) → net_of (life_of book bytes) ≡ net_count (all_periods book) bytes
   life_nets book =
-      let given = all_charges 1 (all_periods book) in
-      let taken = all_reversals 1 (all_periods book) in
+      let counted : Period → ℕ = λ period. one_if (has period.counted bytes) in
+      let added : Period → ℕ = λ period. one_if (has period.added bytes) in
+      let given = count_life charges (λ period. counted period + added period) charged_by 1
+      (all_periods book)
+      ∙ sum_by-plus counted added (all_periods book) in
+      let taken = count_life reverses (λ period. one_if (has period.taken bytes)) reversed_by 1
+      (all_periods book) in
       λ i. pos (given i) -ℤ pos (taken i)
 
 -- the law
