@@ -37,9 +37,9 @@ use Rattle.book_reports.proofs.DetailReading.{HasRead, Reads, all_details, first
 use Rattle.book_reports.proofs.DetailReading.{next_shown, one_more_read, read_and, reads, refused_back}
 use Rattle.book_reports.proofs.DetailReading.{shown_back}
 use Rattle.book_reports.proofs.RulingReading.{all_taken, next_taken}
-use Rattle.book_reports.proofs.StreamedLemmas.{is_prefix, is_short, none_written, rest_until}
-use Rattle.book_reports.proofs.StreamedLemmas.{rest_written, some_before, then_written}
-use Rattle.book_reports.proofs.StreamedLemmas.{written_as, written_of_more}
+use Rattle.book_reports.proofs.StreamedLemmas.{is_prefix, is_short, none_written, part_written}
+use Rattle.book_reports.proofs.StreamedLemmas.{rest_until, rest_written, some_before, written_as}
+use Rattle.book_reports.proofs.StreamedLemmas.{written_of_more}
 
 -- ---- texts
 
@@ -172,18 +172,6 @@ module _ (report : DetailReport) (through : Option ℤ) where
       (some_before (so_far details) (details_end report (sums_of details))
       (some_before (details_head report through) (flat_map (details_part report) details)
       (head_in_some report.form report through)))
-
-  -- the lines so far were written but for what waits, and then of one more line too
-  line_written : (read : List Detail) (detail : Detail) (waits left : List ℕ)
-      (held had has : Option (List ℕ)) → WritesFirst (so_far read) waits held had
-      → WritesFirst (waits ++ details_part report detail) left had has
-      → WritesFirst (so_far (read ++ detail ∷ [])) left held has
-  line_written read detail waits left held had has lines line =
-      let part = details_part report detail in
-      written_as (so_far read ++ part) (so_far (read ++ detail ∷ [])) left held has
-      (so_far_with read detail)
-      (then_written (so_far read ++ part) (waits ++ part) left held had has
-      (written_of_more (so_far read) waits part held had lines) line)
 
 -- ---- what the calls did
 
@@ -361,7 +349,10 @@ module _ {report : DetailReport} {old mid : Seen} {next : Option Detail} {sums :
         more = it.read ++ detail ∷ []
 
         more_lines : WritesFirst (so_far report it.through more) left held has
-        more_lines = line_written report it.through it.read detail waits left held had has it.lines line
+        more_lines =
+            part_written (so_far report it.through it.read) (details_part report detail)
+            (so_far report it.through more) waits left held had has
+            (so_far_with report it.through it.read detail) it.lines line
 
         more_front : (book : Book) (all : Reads report old.naming book it.through it.count it.read next)
             → take (it.count + 1) all.details ≡ more

@@ -25,7 +25,7 @@ use Rattle.book_reports.specs.StreamedRulings.{WritesFirst}
 use Rattle.book_reports.specs.Writing.{WritesPrefix, is_write_or_memory}
 use Rattle.book_reports.proofs.DisputeReading.{HasReadOf, all_of, both_parts, none_read_of}
 use Rattle.book_reports.proofs.DisputeReading.{none_more_of, one_more_of}
-use Rattle.book_reports.proofs.StreamedLemmas.{is_prefix, none_written, rest_written, then_written}
+use Rattle.book_reports.proofs.StreamedLemmas.{is_prefix, none_written, part_written, rest_written}
 use Rattle.book_reports.proofs.StreamedLemmas.{written_as, written_of_more}
 use Rattle.book_reports.proofs.StreamingLemmas.{report_refused, report_written}
 
@@ -268,10 +268,9 @@ module _ {form : DisputeForm} {old mid : Seen} {total count : ℕ} {from waits :
           where
             lines_more_written : WritesFirst (so_far form total read_more) left held has
             lines_more_written =
-                written_as (so_far form total it.read ++ part) (so_far form total read_more) left held
-                has (so_far_with form total count it.read (dispute_shown next) it.many)
-                (then_written (so_far form total it.read ++ part) (waits ++ part) left held had has
-                (written_of_more (so_far form total it.read) waits part held had it.lines) wrote)
+                part_written (so_far form total it.read) part (so_far form total read_more) waits left
+                held had has (so_far_with form total count it.read (dispute_shown next) it.many)
+                it.lines wrote
 
             -- they were not written, or not whole
             pub text_cut : (fault : ReportFault) → is_write_or_memory fault ≡ true

@@ -27,7 +27,7 @@ use Rattle.book_reports.specs.Writing.{WritesPrefix, is_write_or_memory}
 use Rattle.book_reports.proofs.ReadingLemmas.{IsAlike, reopens_alike}
 use Rattle.book_reports.proofs.RulingReading.{HasRead, all_taken, first_read}
 use Rattle.book_reports.proofs.RulingReading.{next_taken, one_more_read, read_parts}
-use Rattle.book_reports.proofs.StreamedLemmas.{is_prefix, none_written, rest_written, then_written}
+use Rattle.book_reports.proofs.StreamedLemmas.{is_prefix, none_written, part_written, rest_written}
 use Rattle.book_reports.proofs.StreamedLemmas.{written_as, written_of_more}
 use Rattle.book_reports.proofs.StreamingLemmas.{report_refused, report_unread, report_written}
 
@@ -67,18 +67,6 @@ so_far_with read ruling =
     ∙ ap (λ lines. ruling_list_head ++ lines)
     (ap (λ line. flat_map ruling_line read ++ line) (sym (append-nil (ruling_line ruling)))
     ∙ sym (flat_map-append ruling_line read (ruling ∷ [])))
-
--- the lines so far were written but for what waits, and then of one more line too
-pub line_written : (read : List RulingSeen) (ruling : RulingSeen) (waits left : List ℕ)
-    (held had has : Option (List ℕ)) → WritesFirst (so_far read) waits held had
-    → WritesFirst (waits ++ ruling_line ruling) left had has
-    → WritesFirst (so_far (read ++ ruling ∷ [])) left held has
-line_written read ruling waits left held had has lines line =
-    let line_text = ruling_line ruling in
-    written_as (so_far read ++ line_text) (so_far (read ++ ruling ∷ [])) left held has
-    (so_far_with read ruling)
-    (then_written (so_far read ++ line_text) (waits ++ line_text) left held had has
-    (written_of_more (so_far read) waits line_text held had lines) line)
 
 -- ---- what the calls did
 
@@ -184,7 +172,9 @@ module _ {old mid : Seen} {count : ℕ} {next : Option ListedRuling} {waits : Li
         more = it.read ++ ruling_shown ruling ∷ []
 
         more_lines : WritesFirst (so_far more) left held has
-        more_lines = line_written it.read (ruling_shown ruling) waits left held had has it.lines line
+        more_lines =
+            part_written (so_far it.read) (ruling_line (ruling_shown ruling)) (so_far more) waits left
+            held had has (so_far_with it.read (ruling_shown ruling)) it.lines line
 
         more_cut : (all : List RulingSeen) → take count all ≡ it.read
             → slice_get all count ≡ option_map ruling_shown next

@@ -57,6 +57,15 @@ pub written_as : (text other left : List ℕ) (held holds : Option (List ℕ)) �
 written_as text other left held holds same written =
     subst (λ b. WritesFirst b left held holds) same written
 
+-- a text was written but for what waits, and then of one part more too
+pub part_written : (text part more waits left : List ℕ) (held had has : Option (List ℕ))
+    → text ++ part ≡ more → WritesFirst text waits held had
+    → WritesFirst (waits ++ part) left had has → WritesFirst more left held has
+part_written text part more waits left held had has is written next =
+    written_as (text ++ part) more left held has is
+    (then_written (text ++ part) (waits ++ part) left held had has
+    (written_of_more text waits part held had written) next)
+
 -- the rest of a text was written, or a prefix of the rest
 pub rest_written : {A : Type 0} (text rest : List ℕ) (held had has : Option (List ℕ))
     (result : Result A ReportFault) → WritesFirst text rest held had
