@@ -1,10 +1,9 @@
 -- Details of closed periods stay, and come one after another.
 use Rattle.std.proofs.Common.{◌≡◌, ℕ, List, [], ◌∷◌, ◌++◌, refl, sym, ap, ◌∙◌, subst, true, false}
-use Rattle.std.proofs.Common.{true≢false, Bool, cond, Option, Some, None, suc, length, append-nil, arith}
-use Rattle.std.specs.Prelude.{ℤ, ◌<ℤ◌, int_lt, filter, MatchOption}
+use Rattle.std.proofs.Common.{true≢false, Bool, cond, Option, Some, None, suc, length, append-nil}
+use Rattle.std.specs.Prelude.{ℤ, int_lt, filter}
 use Rattle.std.specs.List.Sorted.{IsStrictlySortedBy}
 use Rattle.std.specs.Option.{ok_or, option_map}
-use Rattle.std.proofs.lemmas.Int.{ints}
 use Rattle.std.proofs.lemmas.List.Elements.{filter-append}
 use Rattle.smf_type30.specs.Usage.{day_of}
 use Rattle.book_model.specs.declared.fault.LedgerFault.TheVariants.{NoSuchPeriod}
@@ -20,18 +19,12 @@ use Rattle.book_model.proofs.DetailOrder.{next_in}
 use Rattle.book_model.proofs.ListLemmas.{last_or-behind}
 use Rattle.book_model.proofs.MadeByCallsLemmas.{sound_after}
 use Rattle.book_model.proofs.SetChanges.{pick-agree}
+use Rattle.book_model.proofs.SoundLemmas.{later_still}
 use Rattle.book_laws.proofs.ClosedLemmas.{closed_stays, found_past, past_period}
 use Rattle.book_model.specs.Details.{by_detail, detail_by, detail_of, details_asked, details_for}
 use Rattle.book_model.specs.Details.{details_of, next_after}
 use Rattle.book_laws.specs.ClosedPeriods.{IsClosed}
 use Rattle.book_laws.specs.DetailStays.{DetailsStay, NextIsNext}
-
--- what is dated no later than one close is dated no later than a later one
-later_still : (last : Option ℤ) (day : ℤ) (bytes : List ℕ)
-    → MatchOption last (Unit {0}) (λ close. close <ℤ day) → is_dated_after last bytes ≡ false
-    → is_dated_after (Some day) bytes ≡ false
-later_still None day bytes later early = absurd (true≢false early)
-later_still (Some close) day bytes later early = grind (arith, ints)
 
 -- one more close is none of those before a day that it is not before
 place_stays : (closes : List ℤ) (close day : ℤ) → int_lt close day ≡ false
