@@ -46,7 +46,7 @@ use Rattle.table_ledger.specs.OtherPrices.{AreRowsOf, AreSumsOf, CostsFit, SumsU
 use Rattle.table_ledger.specs.OtherPrices.{passes}
 use Rattle.table_ledger.specs.TotalsFit.{FitsPrice}
 use Rattle.table_ledger.specs.declared.count_test.CountTest.{CountTest}
-use Rattle.table_ledger.specs.declared.other_prices.RowSums.{RowSums}
+use Rattle.table_ledger.specs.declared.row_sums.RowSums.{RowSums}
 
 -- a row that is written at a key that is found is where the key's row is put
 pub row_at_found : (key : RowKey) (row : ChargeRow) (rows : List (RowKey × ChargeRow))

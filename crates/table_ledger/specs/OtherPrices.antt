@@ -26,7 +26,7 @@ use Rattle.tree_tables.specs.UsageData.{IsUsageData}
 use Rattle.tree_tables.specs.declared.stored_record.RecordMark.{RecordMark}
 use Rattle.table_ledger.specs.RecordReads.{CanBeRead}
 use Rattle.table_ledger.specs.declared.count_test.CountTest.{CountTest}
-use Rattle.table_ledger.specs.declared.other_prices.RowSums.{RowSums}
+use Rattle.table_ledger.specs.declared.row_sums.RowSums.{RowSums}
 
 -- a test of a record's mark: its day is between the two closes, and it was charged before the lines
 abbrev pub passes_mark : CountTest → RecordMark → Bool

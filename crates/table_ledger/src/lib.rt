@@ -24,6 +24,7 @@ mod many;
 mod other_prices;
 mod periods;
 mod repricing;
+mod row_sums;
 mod summary;
 mod tariff;
 mod trails;

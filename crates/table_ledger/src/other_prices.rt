@@ -1,98 +1,26 @@
 //! The charge rows that a period would have by another tariff.
 
-ghost use Rattle.std.specs.Prelude.{◌≡◌, ◌++◌, ◌∷◌, [], IfErr, IfOk, OnOk};
-ghost use Rattle.book_core.specs.KeyedRows.{keyed_rows};
+ghost use Rattle.std.specs.Prelude.{IfErr, IfOk};
 ghost use Rattle.book_model.specs.Words.{AreRows, Naming, what_if_outcome};
 ghost use Rattle.tree_tables.specs.States.{state_of};
 ghost use Rattle.tree_tables.specs.Steps.{FailsByStore, Looks};
 ghost use Rattle.table_ledger.specs.Attempts.{IsWhatIfRefusal, TriesBut};
-ghost use Rattle.table_ledger.specs.OtherPrices.{CanBeWalked, Costs, CostsFit, FindsRowsUnder};
-ghost use Rattle.table_ledger.specs.OtherPrices.{JoinsSums, WantsMemory};
+ghost use Rattle.table_ledger.specs.OtherPrices.{CanBeWalked, FindsRowsUnder, JoinsSums};
+ghost use Rattle.table_ledger.specs.OtherPrices.{WantsMemory};
 ghost use Rattle.table_ledger.specs.RecordReads.{HasWideNames};
 ghost use Rattle.table_ledger.specs.Stages.{AttemptsOne};
 
 use crate::charges::can_show;
 use crate::count_test::CountTest;
-use crate::day_write::{first_row, join_price};
+use crate::row_sums::RowSums;
 use crate::summary::Summary;
-use book_core::{ChargeRow, LedgerFault, MAX_COST, RowKey, key_of};
+use book_core::{ChargeRow, LedgerFault};
 use sqlite_trees::error::StoreError;
 use sqlite_trees::store::Store;
 use sqlite_value::row::Row;
-use std::alloc::{AllocError, Global};
-use std::collections::BTreeMap;
-use tariff_rules::{Priced, Tariff, price};
+use std::alloc::Global;
+use tariff_rules::{Tariff, price};
 use tree_tables::{MOST_STEPS, TreeTables, data_of, put_data, read_mark, usage_in};
-
-/// The charge rows of some prices, which come one at a time, and what they are together.
-#[derive(Drop)]
-struct RowSums {
-    rows: BTreeMap<RowKey, ChargeRow>,
-    cost: u64,
-}
-
-/// A price joins the row of its key. That 64 bits do not hold the sums is a damaged file.
-fn add_price(rows: &mut BTreeMap<RowKey, ChargeRow>, priced: &Priced) -> Result<(), StoreError>
-    ensures joined { OnOk result ((costs : Costs) → rows.old.entries ≡ keyed_rows costs
-        → rows.new.entries ≡ keyed_rows (costs ++ priced.now ∷ [])) }
-    ensures taken { IfErr result (λ error. (costs : Costs) → rows.old.entries ≡ keyed_rows costs
-        → CostsFit (costs ++ priced.now ∷ []) → error ≡ StoreError.OutOfMemory) }
-{
-    let key = key_of(priced);
-    // Most prices have a row at their key already: it is looked for once, and changed in place.
-    if let Some(row) = rows.get_mut(&key) {
-        let Some(_) = join_price(row, priced) else {
-            return Err(StoreError::Corrupt);
-        };
-        return Ok(());
-    }
-    rows.insert(key, first_row(priced))?;
-    Ok(())
-}
-
-impl RowSums {
-    ghost use Rattle.std.specs.Prelude.{◌≡◌, ◌<◌, ◌++◌, ◌∷◌, [], IfErr, IfOk, length};
-    ghost use Rattle.book_model.specs.Words.{IsPriced, most_held};
-    ghost use Rattle.table_ledger.specs.OtherPrices.{AreRowsOf, AreSumsOf, Costs, SumsUp};
-
-    /// No price yet.
-    fn new(alloc: Global) -> RowSums
-        ensures { AreSumsOf result [] }
-    {
-        RowSums {
-            rows: BTreeMap::new(alloc),
-            cost: 0,
-        }
-    }
-
-    /// One more price, or the answer that with it they are more than the books hold.
-    fn add(&mut self, priced: &Priced) -> Result<bool, StoreError>
-        requires priced { IsPriced priced.now }
-        ensures sums { IfOk result (λ room. (costs : Costs) → AreSumsOf self.old costs
-            → SumsUp self.new (costs ++ priced.now ∷ []) room) }
-        ensures taken { IfErr result (λ error. (costs : Costs) → AreSumsOf self.old costs
-            → length costs < most_held → error ≡ StoreError.OutOfMemory) }
-    {
-        // It ends at the first excess: 64 bits need not hold what all of them cost.
-        let Some(cost) = self.cost.checked_add(priced.amount) else {
-            return Ok(false);
-        };
-        if cost > MAX_COST {
-            return Ok(false);
-        }
-        add_price(&mut self.rows, priced)?;
-        self.cost = cost;
-        Ok(true)
-    }
-
-    /// The rows, by day, then centre, then shift.
-    fn into_rows(self, alloc: Global) -> Result<Vec<ChargeRow>, AllocError>
-        ensures { IfOk result (λ rows. (costs : Costs) → AreSumsOf self costs
-            → AreRowsOf costs (Some rows)) }
-    {
-        self.rows.into_values().collect(alloc)
-    }
-}
 
 /// The record of a row joins the sums at its price by a tariff, if it is counted; or the answer is
 /// that with it they are more than the books hold. What is in `bytes` is lost.

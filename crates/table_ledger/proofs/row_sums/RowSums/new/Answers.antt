@@ -2,7 +2,7 @@ use Rattle.std.proofs.Common.{◌∙◌, sym, refl, arith}
 use Rattle.std.proofs.lemmas.List.Elements.{All-nil}
 use Rattle.book_core.proofs.KeyedRowLemmas.{keyed_rows-none}
 use Rattle.book_model.specs.Words.{IsPriced}
-use Rattle.table_ledger.proofs.other_prices.RowSums.new.Goals as goal
+use Rattle.table_ledger.proofs.row_sums.RowSums.new.Goals as goal
 
 pub returns : goal.returns
 returns c = record {

@@ -2,7 +2,7 @@ use Rattle.std.proofs.Common.{◌≡◌, rules}
 use Rattle.std.specs.BTreeMap.{values}
 use Rattle.std.proofs.lemmas.Result.{IfOk-weaker}
 use Rattle.table_ledger.proofs.OtherPriceLemmas.{rows_summed}
-use Rattle.table_ledger.proofs.other_prices.RowSums.into_rows.Goals as goal
+use Rattle.table_ledger.proofs.row_sums.RowSums.into_rows.Goals as goal
 
 pub returns : goal.returns
 returns c =

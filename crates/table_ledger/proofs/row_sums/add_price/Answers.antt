@@ -4,7 +4,7 @@ use Rattle.book_model.specs.Words.{row_at}
 use Rattle.book_core.specs.KeyedRows.{with_price}
 use Rattle.book_core.proofs.KeyedRowLemmas.{price_joined}
 use Rattle.table_ledger.proofs.OtherPriceLemmas.{price_fits, row_at_found}
-use Rattle.table_ledger.proofs.other_prices.add_price.Goals as goal
+use Rattle.table_ledger.proofs.row_sums.add_price.Goals as goal
 
 -- a price joins the row that was found
 pub returns-in-Some-clause-joined : goal.returns-in-Some-clause-joined

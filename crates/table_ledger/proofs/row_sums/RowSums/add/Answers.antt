@@ -1,7 +1,7 @@
 use Rattle.std.proofs.Common.{arith}
 use Rattle.tree_tables.proofs.Looking.{err_on}
 use Rattle.table_ledger.proofs.OtherPriceLemmas.{costs_fit}
-use Rattle.table_ledger.proofs.other_prices.RowSums.add.Goals as goal
+use Rattle.table_ledger.proofs.row_sums.RowSums.add.Goals as goal
 
 -- then 64 bits hold the sums of its row
 pub returns-in_err-add_price-clause-taken : goal.returns-in_err-add_price-clause-taken
