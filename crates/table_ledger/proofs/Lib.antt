@@ -43,6 +43,7 @@ mod RisingNames
 mod JoinLemmas
 mod DisputeTries
 mod DetailTries
+mod DetailCosts
 mod PostedDetails
 mod DetailsRead
 mod OpenLemmas

@@ -27,13 +27,13 @@ use Rattle.tariff_rules.specs.declared.priced.Priced.{Priced}
 use Rattle.book_model.specs.declared.fault.LedgerFault.TheVariants.{Full}
 use Rattle.book_model.specs.declared.row.ChargeRow.{ChargeRow}
 use Rattle.book_model.specs.declared.row.RowKey.{RowKey}
-use Rattle.book_model.specs.Words.{IsPriced, Terms, by_key, charged_at, key_of, most_cost}
+use Rattle.book_model.specs.Words.{AreRows, IsPriced, Terms, by_key, charged_at, key_of, most_cost}
 use Rattle.book_model.specs.Words.{most_held, price_by, row_at, rows_of}
 use Rattle.book_model.proofs.RowLemmas.{by_key_total}
 use Rattle.book_core.specs.KeyedRows.{keyed_rows}
 use Rattle.book_core.proofs.KeyedRowLemmas.{length-charged_at-le, row_so_far, rows_under_keys}
 use Rattle.book_core.proofs.KeyedRowLemmas.{sum_by-charged_at-le}
-use Rattle.book_core.proofs.ListLimits.{priced_fit}
+use Rattle.book_core.proofs.ListLimits.{priced_fit, priced_shown}
 use Rattle.table_model.specs.Tables.{Tables}
 use Rattle.table_model.proofs.CountedLemmas.{few_costs}
 use Rattle.table_model.specs.BookIn.{row_record}
@@ -120,7 +120,7 @@ costs_fit costs one are priced few small =
           (omega (arith, cost, more, small));
     }
 
--- the rows of costs that the books hold are answered
+-- the rows of costs that the books hold are answered, and can be shown
 pub rows_summed : {sums : RowSums} (costs : List Priced) (rows : Vec ChargeRow Global)
     → AreSumsOf sums costs
     → rows.items ≡ map (λ (entry : RowKey × ChargeRow). entry.1) sums.rows.entries
@@ -128,11 +128,12 @@ pub rows_summed : {sums : RowSums} (costs : List Priced) (rows : Vec ChargeRow G
 rows_summed {sums} costs rows are is =
     let small = are.small in
     let cost = are.cost in
-    let room = le-ltb most_cost (sum_by (λ one. one.amount) costs) (omega arith) in (
-      ap (λ dear. if dear then Err Full else Ok (rows_of costs)) room
-          ∙ ap Ok (sym (is ∙ ap (map (λ (entry : RowKey × ChargeRow). entry.1)) are.rows
-          ∙ rows_under_keys costs)),
-      are.priced,
+    let room = le-ltb most_cost (sum_by (λ one. one.amount) costs) (omega arith) in
+    let own : rows.items ≡ rows_of costs =
+    is ∙ ap (map (λ (entry : RowKey × ChargeRow). entry.1)) are.rows ∙ rows_under_keys costs in (
+      ap (λ dear. if dear then Err Full else Ok (rows_of costs)) room ∙ ap Ok (sym own),
+      λ few. subst AreRows (sym own)
+          (priced_shown costs are.priced few (omega (arith, small, cost))),
     )
 
 -- what holds of all of a list holds of one within it

@@ -1,28 +1,31 @@
 -- What is answered to the rows of a period by another tariff, where they were found in the tables.
 use Rattle.std.proofs.Common.{◌≡◌, ◌∙◌, ℕ, Bool, true, List, Some, None, Ok, Err}
-use Rattle.std.proofs.Common.{refl, sym, ap, subst, Vec}
-use Rattle.std.specs.Prelude.{All, filter, if◌then◌else◌}
+use Rattle.std.proofs.Common.{refl, sym, ap, subst, Vec, arith}
+use Rattle.std.specs.Prelude.{filter, if◌then◌else◌}
 use Rattle.std.specs.FinMap.{entries}
 use Rattle.std.specs.Global.{Global}
 use Rattle.book_model.specs.declared.fault.LedgerFault.TheVariants.{Full, NoSuchPeriod}
 use Rattle.book_model.specs.declared.row.ChargeRow.{ChargeRow}
-use Rattle.book_model.specs.Words.{AreRows, Book, IsPriced, Naming, Outcome, Rulings, Terms}
-use Rattle.book_model.specs.Words.{rows_if_room, what_if_outcome}
+use Rattle.book_model.specs.Words.{AreRows, Book, Naming, Outcome, Rulings, Terms, rows_if_room}
+use Rattle.book_model.specs.Words.{what_if_outcome}
 use Rattle.book_core.specs.OfficeRulings.{ruled_in}
 use Rattle.sqlite_trees.specs.View.{View}
 use Rattle.table_model.specs.Tables.{Tables}
 use Rattle.table_model.specs.TablesOf.{tables_of}
-use Rattle.table_model.specs.CountedRead.{counted_rows, row_costs, what_if_read}
+use Rattle.table_model.specs.CountedRead.{counted_rows, is_row_counted, row_costs, what_if_read}
 use Rattle.table_model.specs.ListsRead.{is_period}
-use Rattle.table_model.proofs.CountedLemmas.{counted_follows}
+use Rattle.table_model.specs.Readable.{IsReadable}
+use Rattle.table_model.proofs.CountedLemmas.{counted_follows, few_costs}
 use Rattle.tree_tables.specs.States.{State}
 use Rattle.table_ledger.specs.Commits.{Saw}
+use Rattle.table_ledger.specs.DetailPrices.{FindsRowsCounted, KeepsCounted}
 use Rattle.table_ledger.specs.Ready.{IsReadyAt, Remembers}
-use Rattle.table_ledger.specs.OtherPrices.{FindsRowsUnder, IsTestOf, costs_of}
+use Rattle.table_ledger.specs.OtherPrices.{IsTestOf, costs_of}
 use Rattle.table_ledger.specs.Stages.{AttemptsOne, IsAt}
 use Rattle.table_ledger.specs.declared.count_test.CountTest.{CountTest}
 use Rattle.table_ledger.specs.declared.summary.Summary.{Summary}
 use Rattle.table_ledger.proofs.Answering.{makes_answer, makes_refused}
+use Rattle.table_ledger.proofs.DetailCosts.{keeps_counted}
 use Rattle.table_ledger.proofs.Remembered.{rulings_are}
 use Rattle.table_ledger.proofs.TryLemmas.{try_answered}
 
@@ -31,8 +34,8 @@ abbrev pub items_of : Vec ChargeRow Global → List ChargeRow
 items_of rows = rows.items
 
 -- by the test of a period the costs are those of the records that it counts
-costs_tested : (number : ℕ) (rulings : Rulings) (terms : Terms) (tables : Tables) (test : CountTest)
-    → IsTestOf number rulings tables test
+pub costs_tested : (number : ℕ) (rulings : Rulings) (terms : Terms) (tables : Tables)
+    (test : CountTest) → IsTestOf number rulings tables test
     → row_costs terms (counted_rows number rulings tables)
     ≡ costs_of terms test (entries tables.records)
 costs_tested number rulings terms tables test tests =
@@ -69,48 +72,50 @@ module _ (naming : Naming) (summary : Summary) (number : ℕ) (terms : Terms) wh
       (counted_follows.what_if naming book number terms whole)
       ∙ read_by book at.remembers there is
 
-  module _ {old new : State} (test : CountTest)
-      (there : is_period number (ruled_in summary.rulings) ≡ true) where
+  module _ (there : is_period number (ruled_in summary.rulings) ≡ true) where
+    -- the period counts what is kept of its days
+    keeps : (book : Book) → IsReadable naming book → Remembers summary book
+        → KeepsCounted number (ruled_in summary.rulings) (tables_of naming book)
+    keeps book whole remembers =
+        subst (λ (rulings : Rulings). KeepsCounted number rulings (tables_of naming book))
+        (rulings_are remembers)
+        (keeps_counted naming book whole number
+        (ap (is_period number) (rulings_are remembers) ∙ there))
+
     -- the books cannot hold what the records cost
-    pub what_if_full : Saw old new (λ tables. IsTestOf number (ruled_in summary.rulings) tables test
-        × FindsRowsUnder terms test tables None)
+    pub what_if_full : {old new : State}
+        → Saw old new (λ tables. FindsRowsCounted number (ruled_in summary.rulings) terms tables
+        None)
         → AttemptsOne items_of naming summary summary old new (what_if_outcome number terms)
         (Ok (Err Full))
-    what_if_full saw =
+    what_if_full {old} {new} saw =
         try_answered (what_if_outcome number terms) saw (record { stored = refl; served = refl })
-        (λ book at known. makes_refused items_of (what_if_outcome number terms book) Full
+        (λ book at finds. makes_refused items_of (what_if_outcome number terms book) Full
         (answer_by old.view book at true there
-        ∙ ap rows_if_room (costs_tested number (ruled_in summary.rulings) terms
-        (tables_of naming book) test known.0)
-        ∙ known.1))
+        ∙ finds (keeps book at.kept.readable at.remembers)))
 
     -- the rows are found
-    pub what_if_found : (rows : Vec ChargeRow Global)
-        → Saw old new (λ tables. IsTestOf number (ruled_in summary.rulings) tables test
-        × FindsRowsUnder terms test tables (Some rows))
+    pub what_if_found : {old new : State} (rows : Vec ChargeRow Global)
+        → Saw old new (λ tables. FindsRowsCounted number (ruled_in summary.rulings) terms tables
+        (Some rows))
         → AttemptsOne items_of naming summary summary old new (what_if_outcome number terms)
         (Ok (Ok rows))
-    what_if_found rows saw =
+    what_if_found {old} {new} rows saw =
         try_answered (what_if_outcome number terms) saw (record { stored = refl; served = refl })
-        (λ book at known. makes_answer items_of (what_if_outcome number terms book) rows
+        (λ book at finds. makes_answer items_of (what_if_outcome number terms book) rows
         (answer_by old.view book at true there
-        ∙ ap rows_if_room (costs_tested number (ruled_in summary.rulings) terms
-        (tables_of naming book) test known.0)
-        ∙ known.1.0) refl)
+        ∙ (finds (keeps book at.kept.readable at.remembers)).0) refl)
 
-  -- they can be shown
-  pub what_if_shown : {view : View} (test : CountTest) (rows : Vec ChargeRow Global) (book : Book)
-      → is_period number (ruled_in summary.rulings) ≡ true
-      → IsReadyAt naming summary view book
-      → IsTestOf number (ruled_in summary.rulings) (tables_of naming book) test
-      → FindsRowsUnder terms test (tables_of naming book) (Some rows) → AreRows rows.items
-  what_if_shown test rows book there ready tests finds =
-      let whole = ready.kept.readable in
-      let costs = costs_tested number (ruled_in summary.rulings) terms (tables_of naming book) test
-      tests in
-      let own = ap (λ (rulings : Rulings). row_costs terms
-      (counted_rows number rulings (tables_of naming book))) (rulings_are ready.remembers)
-      ∙ costs in
-      counted_follows.shown naming book number terms rows.items whole
-      (subst (All IsPriced) (sym own) finds.1)
-      (read_by book ready.remembers true there ∙ ap rows_if_room costs ∙ finds.0)
+    -- they can be shown
+    pub what_if_shown : {view : View} (rows : Vec ChargeRow Global) (book : Book)
+        → IsReadyAt naming summary view book
+        → FindsRowsCounted number (ruled_in summary.rulings) terms (tables_of naming book)
+        (Some rows)
+        → AreRows rows.items
+    what_if_shown rows book ready finds =
+        let whole = ready.kept.readable in
+        let kept : Tables = tables_of naming book in
+        let few = few_costs terms (is_row_counted number (ruled_in summary.rulings) kept.lines)
+        (entries kept.records) in
+        let most = counted_follows.few naming book whole in
+        (finds (keeps book whole ready.remembers)).1 (omega (arith, few, most))

@@ -11,8 +11,8 @@ use Rattle.sqlite_value.specs.Order.{Row}
 use Rattle.tariff_rules.specs.declared.priced.Priced.{Priced}
 use Rattle.book_model.specs.declared.fault.LedgerFault.TheVariants.{Full}
 use Rattle.book_model.specs.declared.row.ChargeRow.{ChargeRow}
-use Rattle.book_model.specs.Words.{FitSums, IsPriced, Rulings, Terms, by_bytes, is_between}
-use Rattle.book_model.specs.Words.{most_cost, most_held, rows_if_room}
+use Rattle.book_model.specs.Words.{AreRows, FitSums, IsPriced, Rulings, Terms, by_bytes}
+use Rattle.book_model.specs.Words.{is_between, most_cost, most_held, rows_if_room}
 use Rattle.book_core.specs.KeyedRows.{keyed_rows}
 use Rattle.table_model.specs.Tables.{Tables}
 use Rattle.table_model.specs.CountedRead.{charged_before_lines, is_row_counted}
@@ -93,11 +93,12 @@ WantsMemory terms test row sums error =
     → SumsUp sums (costs_of terms test passed) true → length passed < most_held
     → RecordFits row → IsUsageData entry.1.data_bytes → error ≡ OutOfMemory
 
--- the charge rows of costs, each of them what a record may cost; or none where they are too dear
+-- the charge rows of costs, which can be shown where there are no more costs than records may be
+-- held; or none where they are too dear
 abbrev pub AreRowsOf : List Priced → Option (Vec ChargeRow Global) → Type 0
 AreRowsOf costs found =
     MatchOption found (rows_if_room costs ≡ Err Full)
-    (λ rows. (rows_if_room costs ≡ Ok rows.items) × All IsPriced costs)
+    (λ rows. (rows_if_room costs ≡ Ok rows.items) × (length costs ≤ most_held → AreRows rows.items))
 
 -- of the records that pass a test, by a tariff
 abbrev pub FindsRowsUnder : Terms → CountTest → Tables → Option (Vec ChargeRow Global) → Type 0

@@ -13,6 +13,7 @@ mod commits;
 mod count_test;
 mod day_write;
 mod days;
+mod detail_prices;
 mod details;
 mod disputes;
 mod effects;

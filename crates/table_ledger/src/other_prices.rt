@@ -1,10 +1,14 @@
 //! The charge rows that a period would have by another tariff.
 
-ghost use Rattle.std.specs.Prelude.{IfErr, IfOk};
+ghost use Rattle.std.specs.Prelude.{◌≡◌, IfErr, IfOk, true};
+ghost use Rattle.book_core.specs.OfficeRulings.{ruled_in};
 ghost use Rattle.book_model.specs.Words.{AreRows, Naming, what_if_outcome};
+ghost use Rattle.table_model.specs.ListsRead.{is_period};
+ghost use Rattle.tree_tables.specs.Fits.{DaysFit};
 ghost use Rattle.tree_tables.specs.States.{state_of};
-ghost use Rattle.tree_tables.specs.Steps.{FailsByStore, Looks};
+ghost use Rattle.tree_tables.specs.Steps.{Always, FailsByStore, Looks};
 ghost use Rattle.table_ledger.specs.Attempts.{IsWhatIfRefusal, TriesBut};
+ghost use Rattle.table_ledger.specs.DetailPrices.{CanBeTried, FindsRowsCounted};
 ghost use Rattle.table_ledger.specs.OtherPrices.{CanBeWalked, FindsRowsUnder, JoinsSums};
 ghost use Rattle.table_ledger.specs.OtherPrices.{WantsMemory};
 ghost use Rattle.table_ledger.specs.RecordReads.{HasWideNames};
@@ -12,6 +16,7 @@ ghost use Rattle.table_ledger.specs.Stages.{AttemptsOne};
 
 use crate::charges::can_show;
 use crate::count_test::CountTest;
+use crate::detail_prices::rows_by_details;
 use crate::row_sums::RowSums;
 use crate::summary::Summary;
 use book_core::{ChargeRow, LedgerFault};
@@ -21,6 +26,10 @@ use sqlite_value::row::Row;
 use std::alloc::Global;
 use tariff_rules::{Tariff, price};
 use tree_tables::{MOST_STEPS, TreeTables, data_of, put_data, read_mark, usage_in};
+
+/// About so many records are passed in a walk over all in the time in which one is looked for by
+/// its detail.
+const PASSED_MEANWHILE: u64 = 32;
 
 /// The record of a row joins the sums at its price by a tariff, if it is counted; or the answer is
 /// that with it they are more than the books hold. What is in `bytes` is lost.
@@ -74,6 +83,75 @@ fn rows_under<S: Store>(
     Err(StoreError::Corrupt)
 }
 
+/// The charge rows of the records that a period counts, each by a tariff, in a walk over all that
+/// are held.
+fn rows_by_name<S: Store>(
+    tables: &mut TreeTables<S>,
+    alloc: Global,
+    summary: &Summary,
+    period: u16,
+    tariff: &Tariff,
+) -> Result<Option<Vec<ChargeRow>>, StoreError>
+    requires { is_period period (ruled_in summary.now.rulings) ≡ true }
+    ensures looks { Looks result (state_of tables.old) (state_of tables.new)
+        (FindsRowsCounted period (ruled_in summary.now.rulings) tariff.now) }
+    ensures cause { FailsByStore result (state_of tables.old) (state_of tables.new)
+        (CanBeTried period (ruled_in summary.now.rulings)) }
+{
+    let test = CountTest::of_period(tables, alloc, summary, period)?;
+    rows_under(tables, alloc, tariff, &test)
+}
+
+/// How many records some charge rows count.
+fn count_of(rows: &[ChargeRow]) -> u64 {
+    let mut count = 0u64;
+    for row in rows {
+        count = count.saturating_add(row.count);
+    }
+    count
+}
+
+/// Whether a period counts so few of the records that are held that it is sooner to look for one
+/// after the other. No clause says when they are few: their rows are the same either way.
+fn counts_few<S: Store>(
+    tables: &mut TreeTables<S>,
+    alloc: Global,
+    held: usize,
+    period: u16,
+) -> Result<bool, StoreError>
+    ensures looks { Looks result (state_of tables.old) (state_of tables.new)
+        (λ tables few. Always tables) }
+    ensures cause { FailsByStore result (state_of tables.old) (state_of tables.new)
+        (DaysFit period) }
+{
+    let rows = tables.list_days(alloc, period)?;
+    Ok(count_of(&rows) <= held as u64 / PASSED_MEANWHILE)
+}
+
+/// The charge rows of the records that a period counts, each by a tariff, unless they cost more
+/// than the books hold.
+fn rows_counted<S: Store>(
+    tables: &mut TreeTables<S>,
+    alloc: Global,
+    summary: &Summary,
+    period: u16,
+    tariff: &Tariff,
+) -> Result<Option<Vec<ChargeRow>>, StoreError>
+    requires { is_period period (ruled_in summary.now.rulings) ≡ true }
+    ensures looks { Looks result (state_of tables.old) (state_of tables.new)
+        (FindsRowsCounted period (ruled_in summary.now.rulings) tariff.now) }
+    ensures cause { FailsByStore result (state_of tables.old) (state_of tables.new)
+        (CanBeTried period (ruled_in summary.now.rulings)) }
+{
+    let few = counts_few(tables, alloc, summary.held, period)?;
+    if few {
+        let close = summary.rulings.through_of(period - 1);
+        let through = summary.rulings.through_of(period);
+        return rows_by_details(tables, alloc, tariff, close, through);
+    }
+    rows_by_name(tables, alloc, summary, period, tariff)
+}
+
 /// The charge rows that a period would have by another tariff.
 pub(crate) fn try_charges_under<S: Store>(
     tables: &mut TreeTables<S>,
@@ -93,8 +171,7 @@ pub(crate) fn try_charges_under<S: Store>(
     if !summary.has_period(period) {
         return Ok(Err(LedgerFault::NoSuchPeriod));
     }
-    let test = CountTest::of_period(tables, alloc, summary, period)?;
-    let Some(rows) = rows_under(tables, alloc, tariff, &test)? else {
+    let Some(rows) = rows_counted(tables, alloc, summary, period, tariff)? else {
         return Ok(Err(LedgerFault::Full));
     };
     if !can_show(&rows) {

@@ -1,0 +1,10 @@
+use Rattle.tree_tables.specs.States.{state}
+use Rattle.table_ledger.specs.Commits.{Saw}
+use Rattle.table_ledger.proofs.DetailCosts.{SummedTo}
+use Rattle.table_ledger.proofs.detail_prices.rows_by_details.Given as goal
+
+-- the prices of the details up to the last one are summed
+abbrev pub invariant-details : goal.invariant-details
+invariant-details g l =
+    Saw (state g.S.Store l.fn.tables.store) (state g.S.Store l.tables.store)
+    (SummedTo l.fn.tariff l.fn.close l.fn.through l.last l.sums)

@@ -1,0 +1,75 @@
+-- What records cost by another tariff, where details lead to them; and that these are the records
+-- that a period counts.
+use Rattle.std.specs.Prelude.{◌≡◌, ◌-◌, ℕ, ℤ, Bool, ◌&&◌, List, filter, Option, None, Some, Vec}
+use Rattle.std.specs.FinMap.{contains_key, entries, get}
+use Rattle.std.specs.Global.{Global}
+use Rattle.tariff_rules.specs.declared.priced.Priced.{Priced}
+use Rattle.book_model.specs.RulingAnswers.{through_of}
+use Rattle.book_model.specs.declared.row.ChargeRow.{ChargeRow}
+use Rattle.book_model.specs.Words.{Rulings, Terms, is_between, price_by}
+use Rattle.table_model.specs.BookIn.{row_record}
+use Rattle.table_model.specs.CountedRead.{counted_rows, is_row_counted, row_costs}
+use Rattle.table_model.specs.DetailsRead.{FindsLeast, IsLeastDetail}
+use Rattle.table_model.specs.DisputesRead.{NamedRow}
+use Rattle.table_model.specs.Tables.{RecordRow, Tables}
+use Rattle.tree_tables.specs.Fits.{DaysFit}
+use Rattle.table_ledger.specs.DetailReads.{seeks}
+use Rattle.table_ledger.specs.OtherPrices.{AllLinesFit, AreRowsOf, CanBeWalked}
+use Rattle.table_ledger.specs.RecordReads.{CanBeRead}
+use Rattle.table_ledger.specs.declared.detail_prices.DetailPrice.{DetailPrice}
+use Rattle.table_ledger.specs.declared.details.Sought.{Sought}
+
+-- the record of a name costs this by a tariff
+abbrev pub CostsNamed : Terms → List ℕ → Tables → Priced → Type 0
+CostsNamed terms name tables priced =
+    (row : RecordRow) → get tables.records name ≡ Some row
+    → priced ≡ price_by terms (row_record row)
+
+-- records can be read, and one has the name
+pub record CanBePriced (name : List ℕ) (tables : Tables) : Type 0 where
+  pub read : CanBeRead tables
+  pub row : RecordRow
+  pub there : get tables.records name ≡ Some row
+
+-- the least of the details that are sought, and what its record costs by a tariff
+pub record IsNextPriced (terms : Terms) (sought : Sought) (tables : Tables) (next : DetailPrice)
+    : Type 0 where
+  pub least : IsLeastDetail (seeks sought) tables next.detail
+  pub price : CostsNamed terms next.detail.name tables next.priced
+
+-- that one, if there is one
+abbrev pub FindsPriced : Terms → Sought → Tables → Option DetailPrice → Type 0
+FindsPriced terms sought tables None = FindsLeast (seeks sought) tables None
+FindsPriced terms sought tables (Some next) = IsNextPriced terms sought tables next
+
+-- a record is counted, and dated after one close and no later than another
+abbrev pub is_kept : Option ℤ → Option ℤ → Tables → NamedRow → Bool
+is_kept close through tables entry =
+    contains_key tables.counted entry.0 && is_between close through entry.1.priced.day
+
+-- the charge rows of these records, each by a tariff
+abbrev pub FindsRowsOfDays : Terms → Option ℤ → Option ℤ → Tables
+    → Option (Vec ChargeRow Global) → Type 0
+FindsRowsOfDays terms close through tables found =
+    AreRowsOf (row_costs terms (filter (is_kept close through tables) (entries tables.records)))
+    found
+
+-- a period counts the records that are counted at all and dated in it
+abbrev pub KeepsCounted : ℕ → Rulings → Tables → Type 0
+KeepsCounted number rulings tables =
+    (name : List ℕ) (row : RecordRow) → get tables.records name ≡ Some row
+    → is_row_counted number rulings tables.lines (name, row)
+    ≡ is_kept (through_of (number - 1) rulings) (through_of number rulings) tables (name, row)
+
+-- then these are the charge rows of what it counts, each by a tariff
+abbrev pub FindsRowsCounted : ℕ → Rulings → Terms → Tables → Option (Vec ChargeRow Global)
+    → Type 0
+FindsRowsCounted number rulings terms tables found =
+    KeepsCounted number rulings tables
+    → AreRowsOf (row_costs terms (counted_rows number rulings tables)) found
+
+-- all that is read for them can be
+pub record CanBeTried (number : ℕ) (rulings : Rulings) (tables : Tables) : Type 0 where
+  pub days : DaysFit number tables
+  pub lines : AllLinesFit rulings tables
+  pub walk : CanBeWalked tables
