@@ -207,6 +207,9 @@ pub fn serve_request<R: Reader + Drop, W: Peer + Drop, S: Repository>(
 
     // The books are not opened before a request is whole.
     ensures closed { is_unanswered result.0.served ≡ true → repository.new ≡ repository.old }
+
+    // Nothing is written to a client that is not answered.
+    ensures unwritten { is_unanswered result.0.served ≡ true → result.1 ≡ writer }
     ensures log { LeavesLog S.shelf book.now repository.old repository.new result.0.log }
 
     // That reading failed is said where a read did, and nowhere else.

@@ -148,8 +148,10 @@ pub fn answer_peer<P: Peer + Drop, S: Repository>(
     ensures reads { IsServedByReads P.may_answer S.shelf repository.old repository.new book.now
         peer (P.contents peer) (P.contents result.1) result.0.served }
 
-    // Nor are they for a client that is not answered.
+    // Nor are they for a client that is not answered, and nothing is written to it.
     ensures closed { is_unanswered result.0.served ≡ true → repository.new ≡ repository.old }
+    ensures unwritten { is_unanswered result.0.served ≡ true
+        → P.contents result.1 ≡ P.contents peer }
     ensures drained { is_answered result.0.served ≡ true → P.is_drained result.1 ≡ true }
 {
     let mut source = Source::new(peer);

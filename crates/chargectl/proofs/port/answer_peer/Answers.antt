@@ -1,4 +1,4 @@
-use Rattle.std.proofs.Common.{refl}
+use Rattle.std.proofs.Common.{◌∙◌, ap, refl}
 use Rattle.streams.specs.Sources.{has_ended}
 use Rattle.book_http.specs.Reads.{bytes_read}
 use Rattle.chargectl.proofs.ClientLemmas.{by_reads, served_one, status_of}
@@ -42,6 +42,16 @@ returns-in_default-clause-reads g c =
     by_reads g.S.Repository.shelf c.args.repository.now came.new.repository c.args.book.now
     c.args.peer _ _ _ came.result.0.served first.result came.new.source first.ensures.reader
     first.ensures.failed first.ensures.ended came.ensures.served came.ensures.read refl
+
+-- nothing was written to who is not answered, and what it still sends is read without a write
+pub returns-in-Answered-clause-unwritten : goal.returns-in-Answered-clause-unwritten
+returns-in-Answered-clause-unwritten g c = λ unanswered.
+    c.drain.ensures.unwritten
+    ∙ ap g.P.Write.contents (c.serve_request-peer.ensures.unwritten unanswered)
+
+pub returns-in_default-clause-unwritten : goal.returns-in_default-clause-unwritten
+returns-in_default-clause-unwritten g c = λ unanswered.
+    ap g.P.Write.contents (c.serve_request-peer.ensures.unwritten unanswered)
 
 pub returns-in_default-clause-drained : goal.returns-in_default-clause-drained
 returns-in_default-clause-drained g c = λ answered.
