@@ -32,6 +32,11 @@ AreAsFound g found (Closed closed) = ⊤
 AreAsFound g found (Refused files) =
     IfSome files (λ files. (left : Image) → MayLeave g files left → IsAsFound found left)
 
+-- Files that were opened held this, where no disk lied: so no others were written to.
+abbrev pub OpenOnly : {D : Type 0} (g : Ghosts D) → Type 0 → Ended D → Type 0
+OpenOnly g Held (Closed closed) = AreClean g closed.files.log closed.files.db → ∥ Held ∥₁
+OpenOnly g Held (Refused files) = ⊤
+
 -- The files are in hand. Where none are, nothing can be said of them.
 abbrev pub AreInHand : {D : Type 0} → Ended D → Type 0
 AreInHand (Closed closed) = ⊤

@@ -14,12 +14,13 @@ ghost use Rattle.book_files.specs.Causes.{IsToldOfThis, WhyNotUpgraded, WhyNotVi
 ghost use Rattle.book_files.specs.Faults.{first_answer, resume_fault};
 ghost use Rattle.book_files.specs.NewBooks.{MayBeMade, NewBooksMade};
 ghost use Rattle.book_files.specs.Sessions.{AreAsFound, AreInHand, FileAloneGoesOn, FilesGoOn};
-ghost use Rattle.book_files.specs.Sessions.{KeepsLog, MayFollow, TriesToMoveLog};
+ghost use Rattle.book_files.specs.Sessions.{KeepsLog, MayFollow, OpenOnly, TriesToMoveLog};
 ghost use Rattle.book_files.specs.Upgrades.{FilesBroughtOver, HoldsWhatIsTold, TellsThisForm};
 ghost use Rattle.book_files.specs.Upgrades.{upgrade_answer};
 ghost use Rattle.book_restarts.specs.FileBooks.{HoldsHistory, done_by, file_names};
 ghost use Rattle.book_trees.specs.FirstForm.{HoldsFirstForm};
-ghost use Rattle.book_trees.specs.LedgerFiles.{HoldsBooks, HoldsEmptyBooks, HoldsNothing};
+ghost use Rattle.book_trees.specs.LedgerFiles.{HoldsBooks, HoldsEmptyBooks, HoldsFirstBooks};
+ghost use Rattle.book_trees.specs.LedgerFiles.{HoldsNothing};
 ghost use Rattle.book_trees.specs.StoreView.{ListsBooks};
 
 use crate::books::{
@@ -72,8 +73,10 @@ pub fn visit_at<S: LeftByLedger, V: Visit>(
         (done_by (V.Visit.work file_names visit.old visit.new) result.0) (image_at S.Start) result.1 }
     ensures moves { TriesToMoveLog result.1 }
 
-    // Files that are not opened are left as they were, whatever they hold.
+    // Files that are not opened are left as they were, whatever they hold, and none are opened but
+    // those that list the tables of books.
     ensures unopened { AreAsFound ⟦<FileFrom<S> as Disk>⟧ (image_at S.Start) result.1 }
+    ensures only { OpenOnly ⟦<FileFrom<S> as Disk>⟧ (ListsBooks (image_at S.Start)) result.1 }
 
     ensures came { MatchResult result.0 (V.Visit.comes visit.old visit.new)
         (λ _. visit.new ≡ visit.old) }
@@ -119,6 +122,7 @@ pub fn make_at<S: Start>(
     ensures moves { TriesToMoveLog result.1 }
     ensures unopened { (¬ HoldsNothing (image_at S.Start))
         → AreAsFound ⟦<FileFrom<S> as Disk>⟧ (image_at S.Start) result.1 }
+    ensures only { OpenOnly ⟦<FileFrom<S> as Disk>⟧ (HoldsNothing (image_at S.Start)) result.1 }
     ensures cause { IfErr result.0
         (WhyNotMade ⟦<FileFrom<S> as Disk>⟧ (image_at S.Start) result.1) }
 {
@@ -153,6 +157,7 @@ pub fn resume_at<S: LeftByLedger>(
 ) -> (Result<(), RepositoryFault>, Ended<FileFrom<S>>)
     ensures history { FilesGoOn ⟦<FileFrom<S> as Disk>⟧ NoEvent (image_at S.Start) result.1 }
     ensures unopened { AreAsFound ⟦<FileFrom<S> as Disk>⟧ (image_at S.Start) result.1 }
+    ensures only { OpenOnly ⟦<FileFrom<S> as Disk>⟧ (ListsBooks (image_at S.Start)) result.1 }
     ensures none { (image : Image) → MayFollow ⟦<FileFrom<S> as Disk>⟧ result.1 image
         → (history : List Event) → HoldsHistory file_names history (image_at S.Start)
         → IfOk result.0 (λ made. history ≡ []) }
@@ -186,6 +191,7 @@ pub fn audit_at<S: Start, W: Watch>(
 ) -> (Result<Audited, RepositoryFault>, Ended<FileFrom<S>>)
     ensures history { FilesGoOn ⟦<FileFrom<S> as Disk>⟧ NoEvent (image_at S.Start) result.1 }
     ensures unopened { AreAsFound ⟦<FileFrom<S> as Disk>⟧ (image_at S.Start) result.1 }
+    ensures only { OpenOnly ⟦<FileFrom<S> as Disk>⟧ (HoldsBooks (image_at S.Start)) result.1 }
 
     // The trees of books stay as they were, also where no book can be read back from them.
     ensures same { (image : Image) → MayFollow ⟦<FileFrom<S> as Disk>⟧ result.1 image
@@ -254,6 +260,8 @@ pub fn upgrade_at<S: Start>(
         → FilesBroughtOver ⟦<FileFrom<S> as Disk>⟧ (image_at S.Start) result.0 result.1 }
     ensures moves { TriesToMoveLog result.1 }
     ensures unopened { AreAsFound ⟦<FileFrom<S> as Disk>⟧ (image_at S.Start) result.1 }
+    ensures only { OpenOnly ⟦<FileFrom<S> as Disk>⟧ (HoldsFirstBooks (image_at S.Start))
+        result.1 }
 
     // Books of this form are left as they are, whatever is answered, and are told to be of it, or of
     // a newer one. No other form than this one is told of books that were brought over.

@@ -92,6 +92,10 @@ returns-in-Ok-clause-listed g c =
       listed = books_listed held.pages held.file;
     })
 
+pub returns-in-Ok-clause-only : goal.returns-in-Ok-clause-only
+returns-in-Ok-clause-only g c = λ clean.
+    c.in-Ok.ensures.held (clean_of _ (c.audit_and_close-audited.ensures.clean clean))
+
 pub returns-in-Err-clause-listed : goal.returns-in-Err-clause-listed
 returns-in-Err-clause-listed g c =
     let disk = modelled.ghosts the_row g.row.S host.ghosts host.dict g.S.Start g.S.Start-dict

@@ -30,6 +30,10 @@ returns-in-Ok-clause-new g c =
     c.in-Ok.ensures.started (clean_of _ (made.ensures.clean
     (found_clean disk made.result.1.files image may.1))))
 
+pub returns-in-Ok-clause-only : goal.returns-in-Ok-clause-only
+returns-in-Ok-clause-only g c = λ clean.
+    c.in-Ok.ensures.started (clean_of _ (c.make_and_close-made.ensures.clean clean))
+
 pub returns-in-Err-clause-made : goal.returns-in-Err-clause-made
 returns-in-Err-clause-made g c = λ nothing image may.
     refused_begun (modelled.ghosts the_row g.row.S host.ghosts host.dict g.S.Start g.S.Start-dict

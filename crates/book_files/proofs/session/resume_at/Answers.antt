@@ -4,6 +4,7 @@ use Rattle.sqlite_disk.specs.contracts.modelled.ModelledDisk.TheImpl as modelled
 use Rattle.sqlite_std_file.specs.contracts.host.Host.{the_row}
 use Rattle.sqlite_std_file.specs.contracts.host.HostCalls.TheImpl as host
 use Rattle.sqlite_store.specs.FileStore.{view}
+use Rattle.sqlite_trees.proofs.Doubt.{clean_of}
 use Rattle.sqlite_wal.specs.Files.{image_at}
 use Rattle.sqlite_wal.specs.Reads.{AreClean}
 use Rattle.book_model.specs.Words.{book_after, new_book}
@@ -63,6 +64,10 @@ returns-in-Ok-clause-cause g c =
     (λ kept clean. subst (λ unused. IsResumed unused resumed.result.0) (new_unused file_names)
     (resumed.ensures.told new_book
     (opened_stands file_names new_book first store opened.ready opened.found kept.0 kept.1) clean))
+
+pub returns-in-Ok-clause-only : goal.returns-in-Ok-clause-only
+returns-in-Ok-clause-only g c = λ clean.
+    ∣ (c.in-Ok.ensures.read (clean_of _ (c.resume_and_close-made.ensures.clean clean))).lists ∣₁
 
 pub returns-in-Err-clause-history : goal.returns-in-Err-clause-history
 returns-in-Err-clause-history g c = λ image may.

@@ -43,6 +43,10 @@ returns-in-Ok-clause-kept g c = λ image may.
     still_held file_names (image_at g.S.Start) image (λ book held.
     ∥∥₁_elim held ∥∥₁_prop λ kept. absurd (c.in-Ok.ensures.older clean kept.0))
 
+pub returns-in-Ok-clause-only : goal.returns-in-Ok-clause-only
+returns-in-Ok-clause-only g c = λ clean.
+    c.in-Ok.ensures.held (clean_of _ (c.upgrade_and_close-upgraded.ensures.clean clean))
+
 pub returns-in-Ok-clause-cause : goal.returns-in-Ok-clause-cause
 returns-in-Ok-clause-cause g c =
     let upgraded = c.upgrade_and_close-upgraded in

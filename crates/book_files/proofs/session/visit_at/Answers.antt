@@ -33,6 +33,7 @@ returns-in-Ok g c =
           gone_on image (alone_follows disk visited.result.1 image visited.ensures.short alone);
       moves = visited.ensures.moves;
       unopened = tt;
+      only = λ clean. ∣ (opened.read (clean_of _ (visited.ensures.clean clean))).lists ∣₁;
       came = visited.ensures.came;
       in_hand = λ answered. tt;
       there = ok_so visited.result.0 visited.ensures.there (λ answer there image may.
