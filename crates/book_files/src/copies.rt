@@ -6,8 +6,9 @@ ghost use Rattle.book_core.specs.Transition.{NoEvent};
 ghost use Rattle.book_files.specs.Causes.{FollowOnlyVisited, WhyNotCopied};
 ghost use Rattle.book_files.specs.Faults.{not_copied, tried_answer};
 ghost use Rattle.book_files.specs.Sessions.{AreHonest, AreInHand, CopyAloneGoesOn, CopyGoesOn};
-ghost use Rattle.book_files.specs.Sessions.{TriesToMoveLog, WereOnlyRead};
+ghost use Rattle.book_files.specs.Sessions.{OpenOnly, TriesToMoveLog, WereOnlyRead};
 ghost use Rattle.book_restarts.specs.FileBooks.{file_names};
+ghost use Rattle.book_trees.specs.LedgerFiles.{HoldsBooks};
 
 use crate::books::visit_and_close;
 use crate::repository::refused;
@@ -65,6 +66,11 @@ pub fn visit_copy_at<S: Start, T: Start, V: Visit>(
     ensures there { IfOk result.answer (λ answer.
         AreHonest ⟦<FileFrom<S> as Disk>⟧ result.original
         → FollowOnlyVisited ⟦<FileFrom<T> as Disk>⟧ (image_at S.Start) result.copy) }
+
+    // Nor of files that hold no books.
+    ensures books { IfOk result.answer (λ answer.
+        AreHonest ⟦<FileFrom<S> as Disk>⟧ result.original
+        → OpenOnly ⟦<FileFrom<T> as Disk>⟧ (HoldsBooks (image_at S.Start)) result.copy) }
 
     // The books that are copied were only read.
     ensures original { IfSome result.original
@@ -125,6 +131,9 @@ pub fn copy_at<S: Start, T: Start>(
     ensures there { IfOk result.answer (λ copied.
         AreHonest ⟦<FileFrom<S> as Disk>⟧ result.original
         → FollowOnlyVisited ⟦<FileFrom<T> as Disk>⟧ (image_at S.Start) result.copy) }
+    ensures books { IfOk result.answer (λ copied.
+        AreHonest ⟦<FileFrom<S> as Disk>⟧ result.original
+        → OpenOnly ⟦<FileFrom<T> as Disk>⟧ (HoldsBooks (image_at S.Start)) result.copy) }
     ensures original { IfSome result.original
         (WereOnlyRead ⟦<FileFrom<S> as Disk>⟧ (image_at S.Start)) }
     ensures in_hand { IsOk result.answer → IsSome result.original }

@@ -144,6 +144,10 @@ pub fn copy_to<D: Disk, T: Start>(
         → AreClean D.Disk from.new.log from.new.db
         → HoldNoNewer books_schema (image_of D.Disk from.old)) }
 
+    // There is one only of files that hold books.
+    ensures books { IfOk result (λ store. IsTrue (state store).is_clean
+        → AreClean D.Disk from.new.log from.new.db → ∥ HoldsBooks (image_of D.Disk from.old) ∥₁) }
+
     // Of files that hold books of this form there is no copy only because of memory and the disks.
     ensures cause { IfErr result (λ refusal. MatchOption refusal.1 (IsUnopenedLook refusal.0)
         (IsCopyRefusedFor D.Disk ⟦<FileFrom<T> as Disk>⟧ from.old from.new refusal.0)) }

@@ -12,7 +12,7 @@ use Rattle.book_trees.specs.Forms.{HoldNoNewer}
 use Rattle.book_trees.specs.LedgerFiles.{HoldsBooks, trees_held}
 use Rattle.book_trees.specs.Schema.{books_schema}
 use Rattle.book_files.specs.Causes.{FollowOnlyVisited, WhyNotCopied}
-use Rattle.book_files.specs.Sessions.{AreHonest, FilesGoOn}
+use Rattle.book_files.specs.Sessions.{AreHonest, FilesGoOn, OpenOnly}
 use Rattle.book_files.specs.declared.copies.CopyFault.TheVariants as copies
 use Rattle.book_files.specs.declared.session.Ended.TheVariants.{Closed, Refused}
 use Rattle.book_files.proofs.Causes.{mapped_err, mapped_ok, ok_so, told_by_row, uncopied_cause}
@@ -75,6 +75,21 @@ returns-in-Ok-copy_to-clause-there g c =
       subst (HoldNoNewer books_schema) c.in-Ok.ensures.held
           (c.in-Ok-copy_to.ensures.form (clean_of _ clean) honest),
     )))
+
+pub returns-in-Ok-copy_to-clause-books : goal.returns-in-Ok-copy_to-clause-books
+returns-in-Ok-copy_to-clause-books g c =
+    let one = modelled.ghosts the_row g.row.S host.ghosts host.dict g.S.Start g.S.Start-dict
+    g.S.Destruct-dict in
+    let two = modelled.ghosts the_row g.row.T host.ghosts host.dict g.T.Start g.T.Start-dict
+    g.T.Destruct-dict in
+    let visited = c.visit_and_close-opened in
+    let first = image_at g.S.Start in
+    mapped_ok (λ answer. AreHonest one (Some c.copy_to.new.from)
+    → OpenOnly two (HoldsBooks first) (Closed visited.result.1))
+    copies.Refused visited.result.0 c.map_err.result c.map_err.ensures.cases
+    (ok_so visited.result.0 visited.ensures.there (λ answer there honest clean.
+    subst (λ (i : Image). ∥ HoldsBooks i ∥₁) c.in-Ok.ensures.held
+    (c.in-Ok-copy_to.ensures.books (clean_of _ (visited.ensures.clean clean)) honest)))
 
 pub returns-in-Ok-copy_to-clause-original : goal.returns-in-Ok-copy_to-clause-original
 returns-in-Ok-copy_to-clause-original g c =

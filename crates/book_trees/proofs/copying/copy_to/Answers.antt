@@ -28,6 +28,13 @@ returns-in-Ok-look_through-clause-form g c clean honest =
     c.copy_files.ensures.read c.in-Ok-copy_files.ensures.copied honest)
     (c.in-Ok-look_through.ensures.form clean)
 
+pub returns-in-Ok-look_through-clause-books : goal.returns-in-Ok-look_through-clause-books
+returns-in-Ok-look_through-clause-books g c clean honest =
+    subst (λ (i : Image). ∥ HoldsBooks i ∥₁)
+    (copied_image c.args.from.now c.copy_files.new.from c.copy_files.new.to
+    c.copy_files.ensures.read c.in-Ok-copy_files.ensures.copied honest)
+    (c.in-Ok-look_through.ensures.held clean)
+
 pub returns-in-Err-look_through-clause-cause : goal.returns-in-Err-look_through-clause-cause
 returns-in-Err-look_through-clause-cause g c = λ honest clean.
     let disk = modelled.ghosts the_row g.row.T host.ghosts host.dict g.T.Start g.T.Start-dict
