@@ -1,5 +1,6 @@
 -- Books of an older form, which are brought over to the present one.
-use Rattle.std.specs.Prelude.{◌≡◌, true, ℕ, List, ◌++◌, codes, IfErr, Option, None, Result, Ok, Err}
+use Rattle.std.specs.Prelude.{◌≡◌, true, ℕ, List, ◌++◌, codes, IfErr, IfOk, Option, None, Result, Ok}
+use Rattle.std.specs.Prelude.{Err}
 use Rattle.std.specs.Fmt.{decimal}
 use Rattle.named_books.specs.declared.repository.RepositoryFault.{RepositoryFault}
 use Rattle.named_books.specs.declared.repository.Upgraded.{Upgraded}
@@ -22,13 +23,14 @@ abbrev pub EndsUpgrade : Result Upgraded RepositoryFault → Option (List ℕ) �
 EndsUpgrade (Ok upgraded) held holds came = IsPrinted (upgrade_text upgraded) held holds came
 EndsUpgrade (Err fault) held holds came = (holds ≡ held) × (came ≡ Err (shelf_fault fault))
 
--- The books of a name were brought over, or had the present form, or why not; and whether their log is
--- left. They hold the history that they held.
+-- The books of a name were brought over, or had the present form, as their place told, or why not; and
+-- whether their log is left. They hold the history that they held.
 pub record Upgrades (book : List ℕ) (old new : Shelf) (held holds : Option (List ℕ)) (ended : Ended)
     : Type 0 where
   pub upgraded : Result Upgraded RepositoryFault
   pub done : IsUntouched book old new
   pub there : IsThere book old new upgraded
+  pub may : IfOk upgraded (old.upgrades book)
   pub refused : IfErr upgraded (old.refuses book)
   pub ends : EndsUpgrade upgraded held holds ended.came
   pub log : new.has_log book ended.has_log

@@ -1,12 +1,13 @@
 -- What is done to books that are kept by their names.
 use Rattle.std.proofs.Common.{◌≡◌, ◌∙◌, ℕ, Bool, false, List, [], ◌++◌, refl, sym, subst, inl, inr}
 use Rattle.std.proofs.Common.{Result, Ok, Err, append_assoc}
-use Rattle.std.specs.Prelude.{IfErr, OnOk}
+use Rattle.std.specs.Prelude.{IfErr, IfOk, OnOk}
 use Rattle.book_model.specs.Words.{Book, Event, Naming, book_after, new_book}
 use Rattle.book_core.specs.Transition.{Transition, NoEvent, Then}
 use Rattle.book_core.proofs.TransitionLemmas.{after_all-append}
 use Rattle.named_books.specs.declared.repository.RepositoryFault.{RepositoryFault}
 use Rattle.named_books.specs.declared.repository.RepositoryFault.TheVariants.{Unseen}
+use Rattle.named_books.specs.declared.repository.Upgraded.{Upgraded}
 use Rattle.named_books.specs.Shelves.{Shelf, unknown, OpenedAnew, GoOn, IsDoneTo, IsOpened, IsMade}
 use Rattle.named_books.specs.Shelves.{ComesBy, IsSameShelf, IsThere, IsTried, IsUntouched, TakesName}
 use Rattle.named_books.specs.Shelves.{WhereUnopened}
@@ -34,6 +35,7 @@ same_shelf shelf = record {
   holds = λ book history held. held;
   free = λ book free. free;
   refuses = λ book fault refused. refused;
+  upgrades = λ book told may. may;
 }
 
 -- work, seen as other work
@@ -188,6 +190,11 @@ pub unknown_refused : {A : Type 0} (book : List ℕ) (naming : Naming)
     (answer : Result A RepositoryFault) → IfErr answer ((unknown naming).refuses book)
 unknown_refused book naming (Ok answer) = tt
 unknown_refused book naming (Err fault) = tt
+
+pub unknown_upgraded : (book : List ℕ) (naming : Naming) (answer : Result Upgraded RepositoryFault)
+    → IfOk answer ((unknown naming).upgrades book)
+unknown_upgraded book naming (Ok told) = tt
+unknown_upgraded book naming (Err fault) = tt
 
 pub unknown_found : {A : Type 0} (book : List ℕ) (naming : Naming)
     (answer : Result A RepositoryFault) → OnOk answer ((unknown naming).is_free book → ⊥)

@@ -5,17 +5,20 @@ use Rattle.book_model.specs.Words.{Book, Event, Naming, book_after}
 use Rattle.book_core.specs.Transition.{Transition, NoEvent}
 use Rattle.named_books.specs.declared.repository.RepositoryFault.{RepositoryFault}
 use Rattle.named_books.specs.declared.repository.RepositoryFault.TheVariants.{Unseen}
+use Rattle.named_books.specs.declared.repository.Upgraded.{Upgraded}
 
 -- What is known of the books that are kept somewhere: how they name records; which history the books
 -- of a name hold, as the next opening finds them; that there is nothing under a name; whether a log
--- beside the books of a name holds a part of them; and why a call on a name may be refused. Only a
--- call shows that, so a clause can say that nothing else is told as a refusal.
+-- beside the books of a name holds a part of them; and why a call on a name may be refused, and what
+-- an upgrade of it may tell. Only a call shows these two, so a clause can say that nothing else is
+-- told.
 pub record Shelf : Type 1 where
   pub naming : Naming
   pub holds : List ℕ → List Event → Type 0
   pub is_free : List ℕ → Type 0
   pub has_log : List ℕ → Bool → Type 0
   pub refuses : List ℕ → RepositoryFault → Type 0
+  pub upgrades : List ℕ → Upgraded → Type 0
 
 -- where they are kept in files nothing is known, whatever the files hold
 abbrev pub unknown : Naming → Shelf
@@ -25,16 +28,18 @@ unknown naming = record {
   is_free = λ book. ⊥;
   has_log = λ book is. Unit {0};
   refuses = λ book fault. Unit {0};
+  upgrades = λ book told. Unit {0};
 }
 
--- The same is known of books: they are where they were, a name that was free is free, and a call is
--- refused for no other reasons.
+-- The same is known of books: they are where they were, a name that was free is free, a call is refused
+-- for no other reasons, and an upgrade tells nothing else.
 pub record IsSameShelf (old new : Shelf) : Type 0 where
   pub naming : new.naming ≡ old.naming
   pub holds : (book : List ℕ) (history : List Event) → old.holds book history → new.holds book history
   pub free : (book : List ℕ) → old.is_free book → new.is_free book
   pub refuses : (book : List ℕ) (fault : RepositoryFault) → new.refuses book fault
       → old.refuses book fault
+  pub upgrades : (book : List ℕ) (told : Upgraded) → new.upgrades book told → old.upgrades book told
 
 -- Work on books that were opened anew, whatever was before, and whatever is left to be opened again.
 pub record OpenedAnew (Made : Transition) (was : Bool) (before : Book) (events : List Event) (is : Bool)

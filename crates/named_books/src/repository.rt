@@ -71,7 +71,7 @@ pub enum Upgraded {
 
 /// Where books are kept by their names.
 pub trait Repository {
-    ghost use Rattle.std.specs.Prelude.{◌≡◌, IfErr, OnOk};
+    ghost use Rattle.std.specs.Prelude.{◌≡◌, IfErr, IfOk, OnOk};
     ghost use Rattle.named_books.specs.Shelves.{Shelf, ComesBy, IsMade, IsOpened, IsThere, IsTried};
     ghost use Rattle.named_books.specs.Shelves.{IsUntouched};
 
@@ -112,6 +112,7 @@ pub trait Repository {
     fn upgrade(&mut self, book: &str) -> Opened<Upgraded>
         ensures same { IsUntouched book.now (shelf self.old) (shelf self.new) }
         ensures there { IsThere book.now (shelf self.old) (shelf self.new) result.answer }
+        ensures told { IfOk result.answer ((shelf self.old).upgrades book.now) }
         ensures refused { IfErr result.answer ((shelf self.old).refuses book.now) }
         ensures log { (shelf self.new).has_log book.now result.has_log };
 }

@@ -9,7 +9,7 @@ pub(crate) struct OpenShelf<'a, L: Ledger> {
     pub(crate) ledger: &'a mut L,
 }
 
-#[tactic(auto, using(named_books::proofs::ShelfLemmas::unknown_found, named_books::proofs::ShelfLemmas::unknown_made, named_books::proofs::ShelfLemmas::unknown_opened, named_books::proofs::ShelfLemmas::unknown_refused, named_books::proofs::ShelfLemmas::unknown_tried, named_books::proofs::ShelfLemmas::unknown_there, named_books::proofs::ShelfLemmas::unknown_untouched, named_books::proofs::ShelfLemmas::came_by, named_books::proofs::ShelfLemmas::same_by))]
+#[tactic(auto, using(named_books::proofs::ShelfLemmas::unknown_found, named_books::proofs::ShelfLemmas::unknown_made, named_books::proofs::ShelfLemmas::unknown_opened, named_books::proofs::ShelfLemmas::unknown_refused, named_books::proofs::ShelfLemmas::unknown_tried, named_books::proofs::ShelfLemmas::unknown_there, named_books::proofs::ShelfLemmas::unknown_untouched, named_books::proofs::ShelfLemmas::unknown_upgraded, named_books::proofs::ShelfLemmas::came_by, named_books::proofs::ShelfLemmas::same_by))]
 impl<L: Ledger> Repository for OpenShelf<'_, L> {
     ghost use Rattle.std.specs.Prelude.{replicate};
     ghost use Rattle.named_books.specs.Shelves.{unknown};
