@@ -94,11 +94,26 @@ lines_of (what ∷ before) = lines_of before ++ line_of what
 abbrev pub ready : List ℕ
 ready = codes "READY\n"
 
+-- what may become of the next of some connections, which leaves such others
+abbrev pub Coming : Type 0 → Type 1
+Coming C = C → Served → C → Type 0
+
+-- a connection came, and this became of it
+abbrev pub HasCome : {C : Type 0} → Coming C → Served → Type 0
+HasCome {C} may_come what = (before : C) × (after : C) × may_come before what after
+
+-- so it was with each of these
+abbrev pub HaveCome : {C : Type 0} → Coming C → List Served → Type 0
+HaveCome may_come [] = Unit {0}
+HaveCome may_come (what ∷ before) = HasCome may_come what × HaveCome may_come before
+
 -- So many connections were due, and so many are left. The others were served one after the other, whatever
--- is known of the books, and each has its line, up to a write that failed, if one did.
-pub record IsServing {S : Type 0} (shelf : S → Shelf) (due left : ℕ) (book : List ℕ) (old new : S)
-    (held holds : WriterSeen) : Type 0 where
+-- is known of the books, and each has the line of what became of one, up to a write that failed, if one
+-- did.
+pub record IsServing {S C : Type 0} (shelf : S → Shelf) (may_come : Coming C) (due left : ℕ)
+    (book : List ℕ) (old new : S) (held holds : WriterSeen) : Type 0 where
   pub told : List Served
+  pub came : HaveCome may_come told
   pub turn : ServesInTurn shelf book old new told
   pub count : left + length told ≡ due
   pub lines : Gains held holds (lines_of told)

@@ -20,10 +20,14 @@ use streams::Reader;
 pub trait Connections {
     ghost use Rattle.std.specs.Prelude.{ℕ, ◌≡◌, ◌<◌, ◌+◌, ◌==◌, IfErr, IfOk, OnErr};
     ghost use Rattle.std.specs.declared.io.Error.{Error};
-    ghost use Rattle.chargectl.specs.Serving.{Attends};
+    ghost use Rattle.chargectl.specs.Serving.{Attends, Coming};
 
     /// How many are left to be answered.
     ghost left: { Self → ℕ };
+
+    /// The next one may come, this may become of it, and leave such connections. Only a wait shows
+    /// it, so a clause can say that what is told of a connection became of one.
+    ghost may_come: { Coming Self };
 
     /// The next one may not come, for this reason, and leave such connections. Only a wait shows it, so
     /// a clause can say that nothing else ended a service.
@@ -39,6 +43,7 @@ pub trait Connections {
         requires { 0 < left self.old }
         ensures left { left self.new + 1 ≡ left self.old }
         ensures served { IfOk result (Attends S.shelf book.now repository.old repository.new) }
+        ensures came { IfOk result (λ attended. may_come self.old attended.served self.new) }
         ensures none { OnErr result (repository.new ≡ repository.old) }
         ensures failed { IfErr result (λ error. may_fail self.old error self.new) };
 }
@@ -102,6 +107,8 @@ impl Connections for Port<'_> {
     ghost left = { λ port. port.left };
 
     // Of the sockets of the machine nothing is known.
+    ghost may_come = { λ _ _ _. ⊤ };
+
     ghost may_fail = { λ _ _ _. ⊤ };
 
     fn is_over(&self) -> bool {

@@ -136,7 +136,7 @@ pub fn serve_each<C: Connections, S: Repository, O: Write + Drop>(
     lines: &mut ServedLines<O>,
 ) -> (io::Result<()>, bool)
     requires { (S.shelf repository.old).has_log book.now has_log }
-    ensures served { IsServing S.shelf (C.left connections.old)
+    ensures served { IsServing S.shelf C.may_come (C.left connections.old)
         (left_by result.0 (C.left connections.new)) book.now repository.old repository.new
         (seen_of O.contents lines.old) (seen_of O.contents lines.new) }
     ensures all { OnOk result.0 (C.left connections.new ≡ 0) }

@@ -118,7 +118,12 @@ pub(crate) struct Queue<'c, 'a> {
 }
 
 impl Connections for Queue<'_, '_> {
+    ghost use Rattle.std.specs.Prelude.{⊤};
+
     ghost left = { λ queue. length queue.left.now };
+
+    // Of what becomes of it nothing is known.
+    ghost may_come = { λ _ _ _. ⊤ };
 
     // Each of them comes.
     ghost may_fail = { λ _ _ _. ⊥ };
