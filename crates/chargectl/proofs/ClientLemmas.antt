@@ -25,13 +25,13 @@ use Rattle.book_http.proofs.ServeLemmas.{bytes_answered}
 use Rattle.book_http.proofs.StreamLemmas.{AnswersSized}
 use Rattle.named_books.specs.declared.repository.RepositoryFault.{RepositoryFault}
 use Rattle.named_books.specs.declared.repository.RepositoryFault.TheVariants as shelf
-use Rattle.named_books.specs.Shelves.{IsDoneTo, IsOpened, IsUntouched, Shelf}
+use Rattle.named_books.specs.Shelves.{ComesBy, IsDoneTo, IsOpened, IsUntouched, Shelf}
 use Rattle.named_books.proofs.ShelfLemmas.{done_as, untouched}
 use Rattle.chargectl.specs.declared.client_requests.Told.{Told}
 use Rattle.chargectl.specs.declared.client_requests.Told.TheVariants as tells
 use Rattle.chargectl.specs.ClientRequests.{AsksOpen, EndsBy, EndsUnseen, IsAnsweredFrom, IsReplied}
-use Rattle.chargectl.specs.ClientRequests.{IsServedByReads, IsServedFrom, StreamsAnswer, away_reply}
-use Rattle.chargectl.specs.ClientRequests.{is_streamed}
+use Rattle.chargectl.specs.ClientRequests.{IsServedByReads, IsServedFrom, SendsOpen, StreamsAnswer}
+use Rattle.chargectl.specs.ClientRequests.{away_reply, is_streamed}
 use Rattle.chargectl.specs.Serving.{AnswersSome, Fits, Replies, ServesOne, is_answered}
 
 -- ---- what is sent
@@ -64,9 +64,19 @@ settled book place answer held holds what sent = record {
   shown = held;
   done = done_as book NoEvent (RefusesRequest (reply_of answer) (reply_of answer)) place place
       (λ before events is none. record { none = none; replied = refl }) (untouched book place);
-  quiet = λ quiet. refl;
+  early = refl;
   ends = sent;
 }
+
+-- so much was sent by a visit, or nothing, where there was none
+pub sent_open : (request : Requested) (held shown : Option (List ℕ)) (Same : Type 0)
+    (told : Result Told RepositoryFault) → (Same → shown ≡ held)
+    → ComesBy (SendsOpen request held shown) Same told
+    → ComesBy (SendsOpen request held shown) (shown ≡ held) told
+sent_open request held shown Same (Ok answer) still came = came
+sent_open request held shown Same (Err shelf.Unseen) still (inl came) = inl came
+sent_open request held shown Same (Err shelf.Unseen) still (inr same) = inr (still same)
+sent_open request held shown Same (Err why) still same = still same
 
 -- what was answered was served
 pub served_from : {S : Type 0} (seen : S → Shelf) (old new : S) (book taken : List ℕ) (ended : Bool)
