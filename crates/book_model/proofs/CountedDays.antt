@@ -9,10 +9,10 @@ use Rattle.std.specs.List.{list_any}
 use Rattle.std.specs.List.Sorted.{IsStrictlySortedBy}
 use Rattle.std.specs.Ordering.{int_cmp}
 use Rattle.std.specs.declared.cmp.Ordering.TheVariants.{Less}
-use Rattle.std.proofs.Math.Bool.{or-true}
-use Rattle.std.proofs.lemmas.Bool.{ltb-true, ltb-false, ne_eqb}
+use Rattle.std.proofs.lemmas.Bool.{and_from, ltb-true, ltb-false, ne_eqb}
 use Rattle.std.proofs.lemmas.Int.{ints}
 use Rattle.std.proofs.lemmas.List.{length-append}
+use Rattle.std.proofs.lemmas.List.Folds.{list_any_at}
 use Rattle.std.proofs.lemmas.Map.Keys.{Less-from_sorted}
 use Rattle.std.proofs.lemmas.Option.{get_or_from_slice_get, slice_get-get_or, slice_get_within}
 use Rattle.smf_type30.specs.Usage.{day_of}
@@ -36,20 +36,8 @@ same_if true b there back = sym (there refl)
 same_if false true there back = back refl
 same_if false false there back = refl
 
--- two tests that hold
-both : (a b : Bool) → a ≡ true → b ≡ true → (a && b) ≡ true
-both a b one other = λ i. one i && other i
-
 module _ {X : Type 0} (p : X → Bool) where
-  -- one that passes is found
-  found_at : (xs : List X) (k : ℕ) (d : X) → k < length xs → p (get_or xs k d) ≡ true
-      → list_any p xs ≡ true
-  found_at [] k d within passes = absurd (omega arith)
-  found_at (x ∷ xs) zero d within passes = ap (λ b. b || list_any p xs) passes
-  found_at (x ∷ xs) (suc k) d within passes =
-      ap (λ b. p x || b) (found_at xs k d (omega arith) passes) ∙ or-true (p x)
-
-  -- and what is found stands somewhere
+  -- what is found stands somewhere
   place_found : (xs : List X) (d : X) → list_any p xs ≡ true
       → (k : ℕ) × (k < length xs) × (p (get_or xs k d) ≡ true)
   place_found [] d found = absurd (true≢false (sym found))
@@ -172,10 +160,10 @@ module _ (naming : Naming) (book : Book) (sound : IsSound naming book)
       let long = length-append book.past (open_period book ∷ []) in
       let closed = sound.closed in
       same_if (counts period) (in_window days rising bytes k && has (counted_of book) bytes)
-      (λ counted. both (in_window days rising bytes k) (has (counted_of book) bytes)
+      (λ counted. and_from (in_window days rising bytes k) (has (counted_of book) bytes)
       (dated k period bytes there counted)
       (has_counted_of naming book sound bytes
-      ∙ found_at counts every k (open_period book) within (ap counts is ∙ counted)))
+      ∙ list_any_at counts every k (open_period book) within (ap counts is ∙ counted)))
       (λ all.
       let own = first_of (in_window days rising bytes k) (has (counted_of book) bytes) all in
       let found = place_found counts every (open_period book)

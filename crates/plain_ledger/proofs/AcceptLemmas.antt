@@ -1,7 +1,7 @@
 -- What a plain ledger answers to a record, and what it holds then.
-use Rattle.std.proofs.Common.{◌≡◌, ◌∙◌, ℕ, ◌+◌, List, length, sym, ap, subst, refl, ◌||◌, Bool}
-use Rattle.std.proofs.Common.{true, false, true≢false, Option, Some, None, Ok, Err, arith}
-use Rattle.std.proofs.lemmas.Bool.{leb-false, ltb-false}
+use Rattle.std.proofs.Common.{◌≡◌, ◌∙◌, ℕ, ◌+◌, List, length, sym, ap, subst, ◌||◌, Bool, true}
+use Rattle.std.proofs.Common.{false, Option, Some, None, Ok, Err, arith}
+use Rattle.std.proofs.lemmas.Bool.{leb-false, ltb-false, or_parts}
 use Rattle.std.specs.Prelude.{if◌then◌else◌, nat_le, nat_lt}
 use Rattle.std.specs.BTreeMap.{insert_entry}
 use Rattle.std.specs.List.Sorted.{IsStrictlySortedBy}
@@ -22,11 +22,6 @@ use Rattle.plain_ledger.proofs.HeldLemmas.{total_of-held}
 -- the book of some rulings that holds the records of entries, whatever else it has
 abbrev pub book_holding : Rulings → List Entry → Book
 book_holding rulings entries = record new_book { rulings = rulings; held = held_in entries }
-
--- of two tests that do not pass together as one, neither passes
-neither : (a b : Bool) → (a || b) ≡ false → (a ≡ false) × (b ≡ false)
-neither true b e = absurd (true≢false e)
-neither false b e = (refl, e)
 
 module _ {naming : Naming} {rulings : Rulings} {entries : List Entry} {total : ℕ}
     (kept : AreBooked naming rulings entries total)
@@ -97,7 +92,7 @@ module _ {naming : Naming} {rulings : Rulings} {entries : List Entry} {total : �
       → AreBooked naming rulings (insert_entry by_bytes entries name h) (total + priced.amount)
   kept_with bytes name h priced is missing price copied costs room =
       let amount : h.priced.amount ≡ priced.amount = ap (λ (p : Priced). p.amount) costs in
-      let limits = neither (nat_le most_held (length entries))
+      let limits = or_parts (nat_le most_held (length entries))
       (nat_lt most_cost (total + priced.amount)) room in
       let few = leb-false most_held (length entries) limits.0 in
       let small = ltb-false most_cost (total + priced.amount) limits.1 in
