@@ -30,13 +30,6 @@ later-after day rulings later =
     second_of (list_all (λ tariff. int_lt tariff.terms.effective day) rulings.tariffs)
     (is_after (last_close rulings) day) later
 
--- it is later by these two tests
-pub is_later-by : (day : ℤ) (rulings : Rulings)
-    → is_later day rulings
-    ≡ (list_all (λ tariff. int_lt tariff.terms.effective day) rulings.tariffs
-    && is_after (last_close rulings) day)
-is_later-by day rulings = refl
-
 -- the first tariff begins before the other
 abbrev pub precedes : AcceptedTerms → AcceptedTerms → Bool
 precedes one other = int_lt one.terms.effective other.terms.effective
