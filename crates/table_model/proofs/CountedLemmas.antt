@@ -1,12 +1,11 @@
 -- What a period counts, and what it would have cost by another tariff, is read from the rows.
-use Rattle.std.proofs.Common.{◌≡◌, ℕ, suc, ◌-◌, ◌≤◌, List, [], ◌∷◌, map, length, refl, sym, ap}
-use Rattle.std.proofs.Common.{◌∙◌, subst, true, false, Bool, ◌&&◌, Option, Some, Result, Ok, Err}
+use Rattle.std.proofs.Common.{◌≡◌, ℕ, suc, ◌-◌, ◌≤◌, List, [], ◌∷◌, map, length, sym, ap}
+use Rattle.std.proofs.Common.{◌∙◌, subst, true, Bool, ◌&&◌, Option, Some}
 use Rattle.std.proofs.Common.{arith}
-use Rattle.std.specs.Prelude.{filter, if◌then◌else◌, nat_lt, sum_by}
+use Rattle.std.specs.Prelude.{filter}
 use Rattle.std.specs.FinMap.{entries}
 use Rattle.std.specs.FinMap as fin
 use Rattle.std.specs.List.{filter_map}
-use Rattle.std.proofs.lemmas.Bool.{ltb-false}
 use Rattle.std.proofs.lemmas.Cmp.{nat_list_cmp_total}
 use Rattle.std.proofs.lemmas.List.{length-append, length-map, map-id}
 use Rattle.std.proofs.lemmas.List.Sorted.{length_permutation}
@@ -15,19 +14,15 @@ use Rattle.std.proofs.lemmas.Map.Lookups.{exact_bytes}
 use Rattle.std.proofs.lemmas.Option.{slice_get_within}
 use Rattle.std.proofs.lemmas.Simd.{map-map}
 use Rattle.tariff_rules.specs.declared.priced.Priced.{Priced}
-use Rattle.book_model.specs.declared.fault.LedgerFault.{LedgerFault}
-use Rattle.book_model.specs.declared.fault.LedgerFault.TheVariants.{Full, NoSuchPeriod}
-use Rattle.book_model.specs.declared.row.ChargeRow.{ChargeRow}
-use Rattle.book_model.specs.Words.{AreAmong, AreRows, Book, Naming, Period, Rulings}
-use Rattle.book_model.specs.Words.{Terms, all_periods, by_bytes, charged_of, has, members, most_cost}
+use Rattle.book_model.specs.Words.{AreAmong, Book, Naming, Period}
+use Rattle.book_model.specs.Words.{Terms, all_periods, by_bytes, charged_of, has, members}
 use Rattle.book_model.specs.Words.{most_held, name_of, no_event, open_by, open_period, period_of}
-use Rattle.book_model.specs.Words.{price_by, price_in, rows_if_room, rows_of, set_of, those}
+use Rattle.book_model.specs.Words.{price_by, price_in, rows_if_room, set_of, those}
 use Rattle.book_model.specs.Words.{what_if_answer}
 use Rattle.book_model.proofs.RowLemmas.{rows_if_room-alike}
 use Rattle.book_model.proofs.SetChanges.{those-agree}
 use Rattle.book_model.proofs.SetLemmas.{members-those, set_of-alike}
 use Rattle.book_model.proofs.SumsAlike.{SumsAlike, map-alike}
-use Rattle.book_core.proofs.ListLimits.{priced_shown}
 use Rattle.table_model.specs.Tables.{RecordRow, Tables}
 use Rattle.table_model.specs.TablesOf.{status_of, tables_of}
 use Rattle.table_model.proofs.CostLemmas.{day-price}
@@ -35,9 +30,8 @@ use Rattle.table_model.proofs.PeriodPlaces.{at_place}
 use Rattle.table_model.proofs.RowsWhere.{rows_where, those_among}
 use Rattle.table_model.specs.BookIn.{row_record}
 use Rattle.table_model.specs.CountedRead.{charged_before_lines, counted_rows, first_line, is_day_of}
-use Rattle.table_model.specs.CountedRead.{is_row_counted, row_costs, what_if_read}
+use Rattle.table_model.specs.CountedRead.{is_row_counted, row_costs}
 use Rattle.table_model.specs.ListLaws.{CountedFollows}
-use Rattle.table_model.specs.ListsRead.{is_period}
 use Rattle.table_model.specs.Readable.{IsReadable}
 use Rattle.table_model.proofs.CountedReading.{counted_back, is_record_counted, its_period}
 use Rattle.table_model.proofs.CountedReading.{period_after}
@@ -120,8 +114,6 @@ module _ (naming : Naming) (book : Book) (whole : IsReadable naming book) (numbe
         (rows_where naming book whole.sound (status_of book) whole.sound.priced test counts
         row_test)))
 
--- ---- the rows by another tariff can be shown
-
 -- there are no more rows of records than records may be held
 few_rows : (naming : Naming) (book : Book) → IsReadable naming book
     → length (entries (tables_of naming book).records) ≤ most_held
@@ -143,48 +135,6 @@ few_costs terms test rows =
     let some = count_by-le-length test rows in
     omega (arith, mapped, passed, some)
 
--- rows are no refusal,
-no_refusal : {fault : LedgerFault} {rows : List ChargeRow}
-    → ◌≡◌ {A = Result (List ChargeRow) LedgerFault} (Err fault) (Ok rows) → ⊥
-no_refusal is = cc
-
--- and they are those that are answered
-same_rows : {one other : List ChargeRow}
-    → ◌≡◌ {A = Result (List ChargeRow) LedgerFault} (Ok one) (Ok other) → one ≡ other
-same_rows is = cc
-
--- the answer to costs, by whether they are too dear
-abbrev by_cost : List Priced → Bool → Result (List ChargeRow) LedgerFault
-by_cost costs dear = if dear then Err Full else Ok (rows_of costs)
-
--- where rows are answered to costs, they are those of the costs, which books can hold
-in_room : (costs : List Priced) (rows : List ChargeRow) → rows_if_room costs ≡ Ok rows
-    → (rows_of costs ≡ rows) × (sum_by (λ one. one.amount) costs ≤ most_cost)
-in_room costs rows is =
-    elim (nat_lt most_cost (sum_by (λ one. one.amount) costs)) as (λ dear.
-    nat_lt most_cost (sum_by (λ one. one.amount) costs) ≡ dear → by_cost costs dear ≡ Ok rows
-    → (rows_of costs ≡ rows) × (sum_by (λ one. one.amount) costs ≤ most_cost)) [
-      | true ↦ λ dear is. absurd (no_refusal is)
-      | false ↦ λ room is.
-          (same_rows is, ltb-false most_cost (sum_by (λ one. one.amount) costs) room)
-    ] refl is
-
--- the answer for a number, by whether there is a period of it
-abbrev by_period : List Priced → Bool → Result (List ChargeRow) LedgerFault
-by_period costs there = if there then rows_if_room costs else Err NoSuchPeriod
-
--- where rows are answered for a number, they are answered to what the counted records cost
-for_period : (number : ℕ) (terms : Terms) (rulings : Rulings) (kept : Tables)
-    (rows : List ChargeRow) → what_if_read number terms rulings kept ≡ Ok rows
-    → rows_if_room (row_costs terms (counted_rows number rulings kept)) ≡ Ok rows
-for_period number terms rulings kept rows is =
-    let costs : List Priced = row_costs terms (counted_rows number rulings kept) in
-    elim (is_period number rulings) as (λ there. by_period costs there ≡ Ok rows
-    → rows_if_room costs ≡ Ok rows) [
-      | true ↦ λ is. is
-      | false ↦ λ is. absurd (no_refusal is)
-    ] is
-
 -- the law
 pub counted_follows : CountedFollows
 counted_follows = record {
@@ -198,13 +148,5 @@ counted_follows = record {
       (rows_if_room (row_costs terms (counted_rows number book.rulings (tables_of naming book))))
       (λ period is. rows_if_room-alike
       (made_alike naming book whole number period is (price_by terms))));
-  shown = λ naming book number terms rows whole priced answer.
-      let kept : Tables = tables_of naming book in
-      let costs : List Priced = row_costs terms (counted_rows number book.rulings kept) in
-      let room = in_room costs rows (for_period number terms book.rulings kept rows answer) in
-      let few = few_costs terms (is_row_counted number book.rulings kept.lines)
-      (entries kept.records) in
-      subst AreRows room.0
-      (priced_shown costs priced (omega (arith, few, few_rows naming book whole)) room.1);
   few = few_rows;
 }

@@ -1,16 +1,15 @@
 -- The laws of lists: what is answered for a period, for rulings, for disputes and for a record is
 -- what the tables say, and can be shown.
 use Rattle.std.specs.Prelude.{◌≡◌, ◌+◌, ◌≤◌, ℕ, filter, map, List, [], ◌∷◌, ◌++◌, Ok, Some, length}
-use Rattle.std.specs.Prelude.{All, Option, slice_get, true}
+use Rattle.std.specs.Prelude.{Option, slice_get, true}
 use Rattle.std.specs.FinMap.{entries, values}
 use Rattle.std.specs.List.Sorted.{IsPermutation, IsStrictlySortedBy}
 use Rattle.std.specs.Option.{option_map}
 use Rattle.book_model.specs.declared.detail.Detail.{Detail}
-use Rattle.book_model.specs.declared.row.ChargeRow.{ChargeRow}
 use Rattle.book_model.specs.Words.{details_outcome, next_detail_outcome}
 use Rattle.book_model.specs.Words.{Book, charges_outcome, adjustments_outcome, disputes_outcome}
 use Rattle.book_model.specs.Words.{periods_outcome, no_event, Naming, AreDisputes, AreLines}
-use Rattle.book_model.specs.Words.{AreRows, IsPriced, Period, Terms, by_bytes, choice_seen}
+use Rattle.book_model.specs.Words.{AreRows, Period, Terms, by_bytes, choice_seen}
 use Rattle.book_model.specs.Words.{dispute_outcome, most_held, period_of, ruling_outcome, set_of}
 use Rattle.book_model.specs.Words.{trail_outcome, what_if_outcome}
 use Rattle.table_model.specs.TablesOf.{tables_of}
@@ -21,7 +20,7 @@ use Rattle.table_model.specs.DetailsRead.{FindsLeast, details_read, is_sought, n
 use Rattle.table_model.specs.ListsRead.{charges_read, adjustments_read, choice_read_at, is_period}
 use Rattle.table_model.specs.ListsRead.{of_period, rulings_read}
 use Rattle.table_model.specs.BookIn.{row_record}
-use Rattle.table_model.specs.CountedRead.{counted_rows, row_costs, what_if_read}
+use Rattle.table_model.specs.CountedRead.{counted_rows, what_if_read}
 use Rattle.table_model.specs.Readable.{IsReadable}
 use Rattle.table_model.specs.PeriodLists.{rows_read, lines_read}
 use Rattle.table_model.specs.TrailRead.{trail_read}
@@ -78,9 +77,8 @@ pub record DisputesFollow : Type 0 where
       ≡ no_event (Ok (option_map (dispute_with (tables_of naming book).records) found))
 
 -- Which records a period counts is read from the marks of their rows and from their lines; and by
--- another tariff the period would have the charge rows of what these rows cost. Where each costs
--- what a record may, the charge rows that are answered can be shown; and there are no more rows of
--- records than records may be held.
+-- another tariff the period would have the charge rows of what these rows cost. There are no more
+-- rows of records than records may be held.
 pub record CountedFollows : Type 0 where
   pub counted :
       (naming : Naming) (book : Book) (number : ℕ) (period : Period) → IsReadable naming book
@@ -92,12 +90,6 @@ pub record CountedFollows : Type 0 where
       (naming : Naming) (book : Book) (number : ℕ) (terms : Terms) → IsReadable naming book
       → what_if_outcome number terms book
       ≡ no_event (what_if_read number terms book.rulings (tables_of naming book))
-  pub shown :
-      (naming : Naming) (book : Book) (number : ℕ) (terms : Terms) (rows : List ChargeRow)
-      → IsReadable naming book
-      → All IsPriced (row_costs terms (counted_rows number book.rulings (tables_of naming book)))
-      → what_if_read number terms book.rulings (tables_of naming book) ≡ Ok rows
-      → AreRows rows
   pub few :
       (naming : Naming) (book : Book) → IsReadable naming book
       → length (entries (tables_of naming book).records) ≤ most_held

@@ -68,7 +68,7 @@ pub fn lists_follow()
 {}
 
 /// Which records a period counts is read from the marks of their rows and from their lines; and so
-/// are the charge rows that the period would have by another tariff, which can be shown.
+/// are the charge rows that the period would have by another tariff.
 pub fn counted_follows()
     ensures { CountedFollows }
 {}
