@@ -175,9 +175,6 @@ module _ (naming : Naming) (book : Book) (number : ℕ) (period : Period)
       ∙ ap statement (sym there))
 
   module _ (terms : Terms) where
-    abbrev by_tariff : List Priced
-    by_tariff = costs_under terms period.counted
-
     -- the same for one tariff
     same_is : ((bytes : List ℕ) → has period.counted bytes ≡ true
         → price_in book.rulings bytes ≡ Some (price_by terms bytes))

@@ -57,12 +57,6 @@ they_conflict : (closes : List ℤ) → conflict (ruled closes) one other ≡ tr
 unfolding usage.identity_of usage.job_of usage.subtype_of
 they_conflict closes = refl
 
-alone : (closes : List ℤ) → conflict (ruled closes) one one ≡ false
-alone closes = refl
-
-apart : is one other ≡ false
-apart = refl
-
 dated : is_dated_through last one ≡ true
 unfolding usage.day_of packed.packed_day_of
 dated = refl

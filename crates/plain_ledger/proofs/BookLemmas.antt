@@ -1,5 +1,5 @@
 -- The book of a plain ledger: a period of it by its number, and what a close and a record change.
-use Rattle.std.proofs.Common.{◌≡◌, ◌≢◌, ◌∙◌, ℕ, ◌+◌, ◌-◌, ◌≤◌, List, [], ◌∷◌, ◌++◌, length, map, refl}
+use Rattle.std.proofs.Common.{◌≡◌, ◌∙◌, ℕ, ◌+◌, ◌-◌, ◌≤◌, List, [], ◌∷◌, ◌++◌, length, map, refl}
 use Rattle.std.proofs.Common.{sym, ap, Bool, true, false, Option, Some, None, slice_get, arith, inl}
 use Rattle.std.proofs.Common.{inr, Result, Ok, Err}
 use Rattle.std.specs.Prelude.{◌==◌, ℤ, if◌then◌else◌, ok_or}
@@ -11,13 +11,10 @@ use Rattle.std.proofs.lemmas.Bool.Decides.{nat_tests}
 use Rattle.std.proofs.lemmas.List.{map-append}
 use Rattle.std.proofs.lemmas.Option.{slice_get-map, slice_get_past, slice_get_cases}
 use Rattle.book_model.specs.declared.fault.LedgerFault.{LedgerFault}
-use Rattle.book_model.specs.declared.answer.Ruled.TheVariants.{Already, Done}
 use Rattle.book_model.specs.declared.fault.LedgerFault.TheVariants.{NoSuchPeriod}
 use Rattle.book_model.specs.Words.{Book, open_number, open_period, period_of}
-use Rattle.book_model.specs.Words.{PeriodClosed, if_done}
-use Rattle.book_model.specs.Words.{after_any, keep, close, Period, Naming, by_bytes}
+use Rattle.book_model.specs.Words.{keep, close, Period, Naming, by_bytes}
 use Rattle.book_model.specs.Words.{Rulings, are_rising, price_under, with_close}
-use Rattle.book_model.specs.declared.answer.Ruled.{Ruled}
 use Rattle.plain_ledger.specs.declared.treatment.ClosedPeriod.{ClosedPeriod}
 use Rattle.plain_ledger.specs.declared.period_end.PeriodEnd.{PeriodEnd}
 use Rattle.plain_ledger.specs.declared.held.HeldRecord.{HeldRecord}
@@ -146,13 +143,6 @@ module _ {naming : Naming} {rulings : Rulings} {entries : List Entry} {total : �
         posted = now i;
         past = past i;
       })
-
--- an answer that is not Done changes no book
-pub close_leaves : (day : ℤ) (answer : Result Ruled LedgerFault) (book : Book) → answer ≢ Ok Done
-    → book ≡ after_any (if_done (Some (PeriodClosed day)) answer) book
-close_leaves day (Ok Done) book other = absurd (other refl)
-close_leaves day (Ok Already) book other = refl
-close_leaves day (Err fault) book other = refl
 
 -- no close changes how the entries are kept, no choice does, and no adoption
 pub kept_ruled : {naming : Naming} {rulings : Rulings} {entries : List Entry} {total : ℕ}
