@@ -1,6 +1,6 @@
 -- Bills split what statements show, and add up to the office's.
 use Rattle.std.proofs.Common.{◌≡◌, ℕ, ◌+◌, List, [], ◌∷◌, ◌++◌, refl, sym, ap, ◌∙◌, subst, map}
-use Rattle.std.proofs.Common.{true, false, Bool, not, ◌&&◌, ◌||◌, Option, Some, None, get_or, arith}
+use Rattle.std.proofs.Common.{true, Bool, not, ◌&&◌, ◌||◌, Option, Some, None, get_or, arith}
 use Rattle.std.specs.Prelude.{All, filter, sum_by, pos, ◌+ℤ◌, ◌-ℤ◌}
 use Rattle.std.specs.List.{list_any}
 use Rattle.std.proofs.Math.Bool.{or-true}
@@ -22,6 +22,7 @@ use Rattle.book_model.specs.Words.{lines_of}
 use Rattle.book_model.specs.Words.{period_of, row_at, rows_for, same_bytes, steps_of}
 use Rattle.book_model.specs.Words.{work_rows}
 use Rattle.book_model.proofs.ListLemmas.{filter-agree, filter-filter, filter-map, list_any-map}
+use Rattle.book_model.proofs.RecordSets.{tests_swap}
 use Rattle.book_model.proofs.SumLemmas.{sum_by-plus}
 use Rattle.book_model.proofs.SumsAlike.{length-sum_by}
 use Rattle.report_texts.specs.AdjustmentLists.{charged_amount, reversed_amount}
@@ -126,13 +127,6 @@ bills_split_statements naming book number period centre sound is =
       amount = split (λ row. row.amount) (λ one. one.amount) (λ priced key. refl) centre details;
       adjustments = lines_billed naming book number centre (lines_of naming book.rulings period);
     })
-
--- tests in either order pass the same
-tests_swap : (a b : Bool) → (a && b) ≡ (b && a)
-tests_swap true true = refl
-tests_swap true false = refl
-tests_swap false true = refl
-tests_swap false false = refl
 
 filters_swap : {X : Type 0} (p q : X → Bool) (xs : List X)
     → filter p (filter q xs) ≡ filter q (filter p xs)

@@ -4,7 +4,7 @@ use Rattle.std.proofs.Common.{◌≡◌, ℕ, zero, suc, ◌-◌, ◌≤◌, ◌
 use Rattle.std.proofs.Common.{refl, sym, ap, ◌∙◌, subst, true, false, true≢false, Bool}
 use Rattle.std.proofs.Common.{◌&&◌, ◌||◌, ◌⊎◌, Option, Some, None, get_or, arith, inl, inr}
 use Rattle.std.specs.Prelude.{ℤ, pos, ◌<ℤ◌, int_lt, nat_lt, slice_get, if◌then◌else◌}
-use Rattle.std.specs.Cmp.{int_ranked}
+use Rattle.std.specs.Cmp.{both_ways, int_ranked}
 use Rattle.std.specs.List.{list_any}
 use Rattle.std.specs.List.Sorted.{IsStrictlySortedBy}
 use Rattle.std.specs.Ordering.{int_cmp}
@@ -29,12 +29,6 @@ use Rattle.book_model.specs.Sets.{has, those}
 use Rattle.book_model.specs.Sound.{IsSound}
 use Rattle.book_model.proofs.CountedLemmas.{has_counted}
 use Rattle.book_model.proofs.RecordSets.{first_of, has_those, in_those, not_true, same_records, second_of}
-
--- tests that each hold where the other does are one
-same_if : (a b : Bool) → (a ≡ true → b ≡ true) → (b ≡ true → a ≡ true) → a ≡ b
-same_if true b there back = sym (there refl)
-same_if false true there back = back refl
-same_if false false there back = refl
 
 module _ {X : Type 0} (p : X → Bool) where
   -- what is found stands somewhere
@@ -159,7 +153,7 @@ module _ (naming : Naming) (book : Book) (sound : IsSound naming book)
       let is = get_or_from_slice_get every k period (open_period book) there in
       let long = length-append book.past (open_period book ∷ []) in
       let closed = sound.closed in
-      same_if (counts period) (in_window days rising bytes k && has (counted_of book) bytes)
+      both_ways (counts period) (in_window days rising bytes k && has (counted_of book) bytes)
       (λ counted. and_from (in_window days rising bytes k) (has (counted_of book) bytes)
       (dated k period bytes there counted)
       (has_counted_of naming book sound bytes

@@ -47,6 +47,13 @@ pub second_of : (a b : Bool) → (a && b) ≡ true → b ≡ true
 second_of true b both = both
 second_of false b both = absurd (true≢false (sym both))
 
+-- both of two tests, in either order
+pub tests_swap : (a b : Bool) → (a && b) ≡ (b && a)
+tests_swap true true = refl
+tests_swap true false = refl
+tests_swap false true = refl
+tests_swap false false = refl
+
 -- a test that is not passed fails
 pub not_true : (a : Bool) → not a ≡ true → a ≡ false
 not_true true is_not = absurd (true≢false (sym is_not))

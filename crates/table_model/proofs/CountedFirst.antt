@@ -10,7 +10,7 @@ use Rattle.std.specs.List.{filter_map}
 use Rattle.std.specs.List.Sorted.{IsPermutation}
 use Rattle.std.specs.Option.{option_map_or, option_or}
 use Rattle.std.specs.Ordering.{eq_by_cmp}
-use Rattle.std.proofs.lemmas.Bool.{false_from_ne_true}
+use Rattle.std.proofs.lemmas.Bool.{and_right, false_from_ne_true}
 use Rattle.std.proofs.lemmas.Cmp.{nat_list_cmp_total}
 use Rattle.std.proofs.lemmas.List.Sorted.{IsPermutation-map, list_any-IsPermutation}
 use Rattle.std.proofs.lemmas.Map.Lookups.{exact_bytes}
@@ -49,11 +49,6 @@ no_side true taken one other = absurd (true≢false one)
 no_side false true one other = absurd (true≢false other)
 no_side false false one other = refl
 
--- two tests, of which the first does not hold, or the second
-and_none : (a b : Bool) → b ≡ false → (a && b) ≡ false
-and_none true b none = none
-and_none false b none = refl
-
 module _ (naming : Naming) (book : Book) (whole : IsReadable naming book) (bytes : List ℕ)
     (there : has book.held bytes ≡ true) where
   -- a record that is dated after a close was not charged by it
@@ -81,7 +76,7 @@ module _ (naming : Naming) (book : Book) (whole : IsReadable naming book) (bytes
       ∙ ap (λ b. not b && has (without now before) bytes) late in
       let taken : has period.taken bytes ≡ false =
       has_those (λ b. not (has now b)) before bytes
-      ∙ and_none (not (has now bytes)) (has before bytes) (not_yet k within late) in
+      ∙ and_right (not (has now bytes)) (has before bytes) (not_yet k within late) in
       get-from_entries (by_period_total by_bytes nat_list_cmp_total)
       (numbered 1 (map own (all_periods book))) (suc k, name_of naming bytes)
       ∙ find-at by_bytes (suc k, name_of naming bytes) 1 k

@@ -22,7 +22,7 @@ use Rattle.book_model.proofs.ListLemmas.{filter-filter}
 use Rattle.tariff_rules.specs.declared.priced.Priced.{Priced}
 use Rattle.book_model.specs.declared.dispute.Variant.{Variant}
 use Rattle.book_model.proofs.PermutedSets.{apart_from_distinct, given_permuted}
-use Rattle.book_model.proofs.RecordSets.{second_of, in_those}
+use Rattle.book_model.proofs.RecordSets.{second_of, in_those, tests_swap}
 use Rattle.book_model.proofs.SetLemmas.{members-those}
 use Rattle.table_model.specs.PeriodLists.{AreFramed}
 use Rattle.table_model.specs.Tables.{RecordTable}
@@ -39,13 +39,6 @@ use Rattle.table_model.proofs.RowsWhere.{rows_where, those_among}
 use Rattle.table_model.proofs.RecordReading.{each_entry, entry, entry_at}
 use Rattle.table_model.proofs.RowOrder.{list_any-filter, rows_in_order}
 use Rattle.table_model.proofs.SetReading.{some_passes}
-
--- both of two tests, in either order
-both_ways : (a b : Bool) → (a && b) ≡ (b && a)
-both_ways true true = refl
-both_ways true false = refl
-both_ways false true = refl
-both_ways false false = refl
 
 module _ (naming : Naming) (book : Book) (sound : IsSound naming book) where
   -- the entries of records that are listed: one for each
@@ -121,7 +114,7 @@ module _ (naming : Naming) (book : Book) (sound : IsSound naming book) where
       (λ x. same_bytes (identity_by book.rulings x) id && has charged x)
       (λ x priced price. refl)
       ∙ (λ i. list_any (λ x.
-      both_ways (nat_list_eq_equiv.symm (identity_by book.rulings x) id i) (has charged x) i)
+      tests_swap (nat_list_eq_equiv.symm (identity_by book.rulings x) id i) (has charged x) i)
       (members book.held))
       ∙ sym (list_any-filter share (has charged) (members book.held))
       ∙ ap (list_any share) charged_among
