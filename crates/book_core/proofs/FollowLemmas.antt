@@ -1,20 +1,16 @@
 -- Work on books that are those of a history continues it.
 use Rattle.std.proofs.Common.{◌≡◌, ◌∙◌, ℕ, Bool, true, false, List, [], ◌++◌, refl, sym, ap, subst}
-use Rattle.std.proofs.Common.{Result, Ok, Err, ◌⊎◌, inl, inr, append_assoc}
-use Rattle.std.proofs.lemmas.Bool.{eqb-true}
-use Rattle.std.specs.Prelude.{ℤ, ◌==◌, if◌then◌else◌, IfSome, Option, Some, None}
-use Rattle.book_model.specs.Words.{Terms, terms_in, Naming, Book, new_book, Event}
-use Rattle.book_model.specs.Words.{PeriodClosed, RulingGiven, SecondRuleAdopted}
-use Rattle.book_model.specs.Words.{after_all, accept_answer, tariff_answer}
-use Rattle.book_model.specs.Words.{close_answer, Outcome}
-use Rattle.book_model.specs.Words.{accept_event, if_done, ruled_as, tariff_outcome}
-use Rattle.book_model.specs.Words.{close_outcome, book_after, book_of, IsAnswered, IsMadeByCalls}
-use Rattle.book_model.specs.Words.{choose_answer, choose_outcome, record_named}
-use Rattle.book_model.specs.Words.{adopt_answer, adopt_outcome, rule_by, second_rule}
+use Rattle.std.proofs.Common.{Result, Ok, Err, ◌⊎◌, inl, inr, append_assoc, eqb-true, ℤ, ◌==◌}
+use Rattle.std.proofs.Common.{if◌then◌else◌, IfSome, Option, Some, None}
+use Rattle.book_model.specs.Words.{Terms, terms_in, Naming, Book, new_book, Event, PeriodClosed}
+use Rattle.book_model.specs.Words.{RulingGiven, SecondRuleAdopted, after_all, accept_answer}
+use Rattle.book_model.specs.Words.{tariff_answer, close_answer, Outcome, accept_event, if_done}
+use Rattle.book_model.specs.Words.{ruled_as, tariff_outcome, close_outcome, book_after, book_of}
+use Rattle.book_model.specs.Words.{IsAnswered, IsMadeByCalls, choose_answer, choose_outcome}
+use Rattle.book_model.specs.Words.{record_named, adopt_answer, adopt_outcome, rule_by, second_rule}
 use Rattle.tariff_rules.specs.declared.fault.TariffFault.{TariffFault}
 use Rattle.book_model.specs.declared.fault.LedgerFault.{LedgerFault}
-use Rattle.book_model.specs.declared.fault.LedgerFault.TheVariants.{Memory, Store, Reopen}
-use Rattle.book_model.specs.declared.fault.LedgerFault.TheVariants.{OldRule}
+use Rattle.book_model.specs.declared.fault.LedgerFault.TheVariants.{Memory, Store, Reopen, OldRule}
 use Rattle.book_model.specs.declared.answer.Accepted.{Accepted}
 use Rattle.book_model.specs.declared.answer.Accepted.TheVariants.{Kept, Known, Unpriced}
 use Rattle.book_model.specs.declared.answer.Ruled.{Ruled}
@@ -25,9 +21,8 @@ use Rattle.book_core.specs.Ledgers.{Seen}
 use Rattle.book_core.specs.Transition.{Transition, NoEvent, Then, IsTransition}
 use Rattle.book_core.specs.Calls.{Makes, Calls, listed}
 use Rattle.book_core.specs.Follow.{FollowsHistory, MakesAnswered}
-use Rattle.book_core.proofs.RulingLemmas.{meant_by}
+use Rattle.book_core.proofs.RulingLemmas.{meant_by, said_by}
 use Rattle.book_core.proofs.NamedLemmas.{its_name}
-use Rattle.book_core.proofs.RulingLemmas.{said_by}
 use Rattle.book_core.proofs.TransitionLemmas.{after_all-append}
 
 -- work without an event makes none

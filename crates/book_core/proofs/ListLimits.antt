@@ -1,11 +1,8 @@
 -- Rows can be shown: their days are days, and their sums fit 64 bits.
 use Rattle.std.proofs.Common.{◌≡◌, ◌∙◌, ℕ, ◌+◌, ◌*◌, ◌^◌, ◌<◌, ◌≤◌, List, length, refl, sym, true}
-use Rattle.std.proofs.Common.{false, Bool, cond, map, arith}
-use Rattle.std.specs.Prelude.{filter, sum_by, All}
+use Rattle.std.proofs.Common.{false, Bool, cond, map, arith, filter, sum_by, All, Ordering}
 use Rattle.std.specs.Cmp.{IsEquivalence, IsTotalOrder}
-use Rattle.std.specs.FinMap as finite
 use Rattle.std.specs.List.{IsDistinct}
-use Rattle.std.specs.declared.cmp.Ordering.{Ordering}
 use Rattle.std.proofs.lemmas.Cmp.{eq_by_cmp_equiv}
 use Rattle.std.proofs.lemmas.List.Elements.{All-map, All-contains}
 use Rattle.std.proofs.lemmas.List.Folds.{fold-map}
@@ -21,6 +18,7 @@ use Rattle.book_model.proofs.ListLemmas.{count_by-distinct}
 use Rattle.book_model.proofs.SetLemmas.{any_tied-members}
 use Rattle.book_model.proofs.SumLemmas.{sum_by-exchange}
 use Rattle.book_model.proofs.SumsAlike.{sum_by-filter, length-sum_by}
+use Rattle.std.specs.FinMap as finite
 
 -- what holds of each element of a list holds of each member of its set
 pub All-members : {K : Type 0} {R : K → K → Ordering} → IsTotalOrder R → finite.IsAntisymmetric R

@@ -1,10 +1,8 @@
 -- Where a number leads in the list of rulings, part by part.
-use Rattle.std.proofs.Common.{◌≡◌, ◌∙◌, ◌+◌, ◌-◌, ◌<◌, ◌≤◌, ℕ, List, ◌++◌, length}
-use Rattle.std.proofs.Common.{Option, Err, ap, arith}
-use Rattle.std.specs.Prelude.{slice_get}
-use Rattle.std.specs.Option.{option_map}
-use Rattle.book_model.specs.Words.{AcceptedTerms, Choice, Naming, Rulings, RulingSeen, adoption_seen}
-use Rattle.book_model.specs.Words.{choice_seen, choices_seen, closes_seen}
+use Rattle.std.proofs.Common.{◌≡◌, ◌∙◌, ◌+◌, ◌-◌, ◌<◌, ◌≤◌, ℕ, List, ◌++◌, length, Option, Err, ap}
+use Rattle.std.proofs.Common.{arith, slice_get, option_map}
+use Rattle.book_model.specs.Words.{AcceptedTerms, Choice, Naming, Rulings, RulingSeen}
+use Rattle.book_model.specs.Words.{adoption_seen, choice_seen, choices_seen, closes_seen}
 use Rattle.book_model.specs.Words.{tariffs_seen}
 use Rattle.book_model.proofs.ListedLemmas.{choice_seen_at, choices_count, in_turn, slice_get-left}
 use Rattle.book_model.proofs.ListedLemmas.{slice_get-right}

@@ -1,7 +1,6 @@
 -- The record that is held under a name: it has the name. And records in the order by name.
 use Rattle.std.proofs.Common.{◌≡◌, ◌∙◌, ◌||◌, ℕ, List, [], ◌∷◌, refl, sym, ap, Bool, true, cond}
-use Rattle.std.proofs.Common.{false, Some, is_some}
-use Rattle.std.specs.Prelude.{find}
+use Rattle.std.proofs.Common.{false, Some, is_some, find, Ordering, Less, Equal, Greater}
 use Rattle.std.specs.List.{list_any}
 use Rattle.std.proofs.lemmas.Map.Lookups.{exact_bytes}
 use Rattle.std.proofs.lemmas.Map.Views.{tells_apart}
@@ -9,11 +8,9 @@ use Rattle.book_model.specs.Words.{Naming, Records, members, name_of, record_nam
 use Rattle.book_model.specs.Words.{by_name, by_bytes}
 use Rattle.book_model.proofs.SetLemmas.{same_bytes-by_cmp}
 use Rattle.std.specs.Cmp.{IsTotalOrder}
-use Rattle.std.specs.FinMap as finite
 use Rattle.std.specs.Ordering.{ordering_then}
-use Rattle.std.specs.declared.cmp.Ordering.{Ordering}
-use Rattle.std.specs.declared.cmp.Ordering.TheVariants.{Less, Equal, Greater}
 use Rattle.std.proofs.lemmas.Cmp.{nat_list_cmp_total, then_total, on_total}
+use Rattle.std.specs.FinMap as finite
 
 -- what is found in a list passes the test
 find-passes : (p : List ℕ → Bool) (list : List (List ℕ)) (one : List ℕ) → find p list ≡ Some one

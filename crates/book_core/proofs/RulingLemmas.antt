@@ -1,7 +1,7 @@
 -- The rulings of an office: the day of the last close, one tariff more, and what is asked for.
 use Rattle.std.proofs.Common.{◌≡◌, ◌∙◌, ◌-◌, List, [], ◌∷◌, ◌++◌, length, refl, sym, ap, arith}
 use Rattle.std.proofs.Common.{None, slice_get, true, ◌≢◌, ℕ, Bool, false, Option, Some, Ok, Err}
-use Rattle.std.proofs.Common.{Result}
+use Rattle.std.proofs.Common.{Result, if◌then◌else◌, option_map}
 use Rattle.std.specs.List.{last_or}
 use Rattle.book_model.specs.Words.{AcceptedTerms, are_rising, is_later, Terms, Event, RulingGiven}
 use Rattle.book_model.specs.Words.{TariffAccepted, RecordChosen}
@@ -9,8 +9,6 @@ use Rattle.book_model.proofs.LatestLemmas.{later-before, rising-behind}
 use Rattle.book_model.proofs.ListLemmas.{last_or-is}
 use Rattle.book_core.specs.declared.rulings.Rulings.{Rulings}
 use Rattle.book_core.specs.OfficeRulings.{ruled_in}
-use Rattle.std.specs.Prelude.{if◌then◌else◌}
-use Rattle.std.specs.Option.{option_map}
 use Rattle.std.specs.Result.{result_ok}
 use Rattle.tariff_rules.specs.declared.fault.TariffFault.{TariffFault}
 use Rattle.book_model.proofs.TestLemmas.{by_tests}

@@ -1,7 +1,5 @@
 -- The amounts of rows balance with what periods add and take back.
-use Rattle.std.proofs.Common.{◌≡◌, ℕ, ◌+◌, List, ap, ◌∙◌, Option, arith}
-use Rattle.std.specs.Prelude.{sum_by, ℤ}
-use Rattle.std.specs.FinMap as map
+use Rattle.std.proofs.Common.{◌≡◌, ℕ, ◌+◌, List, ap, ◌∙◌, Option, arith, sum_by, ℤ}
 use Rattle.std.specs.Option.{option_map_or}
 use Rattle.book_model.specs.Words.{Period, period_by, Event, book_after, Records, by_bytes}
 use Rattle.book_model.specs.Words.{rows_for, Rulings, prices, price_in, members, total_of}
@@ -14,6 +12,7 @@ use Rattle.book_laws.specs.HistoryLaws.{ConservedInSets}
 use Rattle.book_laws.proofs.PeriodLemmas.{net, all_nets}
 use Rattle.book_laws.proofs.RowSums.{sum_by-rows_of}
 use Rattle.book_laws.proofs.SetSums.{over, one_period}
+use Rattle.std.specs.FinMap as map
 
 module _ (rulings : Rulings) where
   -- what a record costs, or nothing

@@ -1,7 +1,6 @@
 -- One call of an open ledger.
-use Rattle.std.proofs.Common.{◌≡◌, ◌≢◌, ◌∙◌, false, true≢false, List, []}
-use Rattle.std.proofs.Common.{refl, ap, subst, Result, Err}
-use Rattle.std.specs.Prelude.{◌||◌}
+use Rattle.std.proofs.Common.{◌≡◌, ◌≢◌, ◌∙◌, false, true≢false, List, [], refl, ap, subst, Result}
+use Rattle.std.proofs.Common.{Err, ◌||◌}
 use Rattle.book_model.specs.declared.fault.LedgerFault.{LedgerFault}
 use Rattle.book_model.specs.declared.fault.LedgerFault.TheVariants.{Memory, Store, Reopen}
 use Rattle.book_model.specs.Words.{Book, Event, after_all, Outcome, Naming}

@@ -1,7 +1,7 @@
 -- Bills split what statements show, and add up to the office's.
 use Rattle.std.proofs.Common.{◌≡◌, ℕ, ◌+◌, List, [], ◌∷◌, ◌++◌, refl, sym, ap, ◌∙◌, subst, map}
-use Rattle.std.proofs.Common.{true, Bool, not, ◌&&◌, ◌||◌, Option, Some, None, get_or, arith}
-use Rattle.std.specs.Prelude.{All, filter, sum_by, pos, ◌+ℤ◌, ◌-ℤ◌}
+use Rattle.std.proofs.Common.{true, Bool, not, ◌&&◌, ◌||◌, Option, Some, None, get_or, arith, All}
+use Rattle.std.proofs.Common.{filter, sum_by, pos, ◌+ℤ◌, ◌-ℤ◌}
 use Rattle.std.specs.List.{list_any}
 use Rattle.std.proofs.Math.Bool.{or-true}
 use Rattle.std.proofs.lemmas.Int.{ints}
@@ -16,11 +16,9 @@ use Rattle.book_model.specs.declared.line.Line.{Line}
 use Rattle.book_model.specs.declared.row.ChargeRow.{ChargeRow}
 use Rattle.book_model.specs.declared.row.RowKey.{RowKey}
 use Rattle.book_model.specs.Words.{BillSeen, Book, IsSound, Naming, Period, all_periods, bill_of}
-use Rattle.book_model.specs.Words.{billed_line, billed_lines, charged_at, details_asked}
-use Rattle.book_model.specs.Words.{details_of, details_of_centre, is_step, jobs_of, line_alone}
-use Rattle.book_model.specs.Words.{lines_of}
-use Rattle.book_model.specs.Words.{period_of, row_at, rows_for, same_bytes, steps_of}
-use Rattle.book_model.specs.Words.{work_rows}
+use Rattle.book_model.specs.Words.{billed_line, billed_lines, charged_at, details_asked, details_of}
+use Rattle.book_model.specs.Words.{details_of_centre, is_step, jobs_of, line_alone, lines_of}
+use Rattle.book_model.specs.Words.{period_of, row_at, rows_for, same_bytes, steps_of, work_rows}
 use Rattle.book_model.proofs.ListLemmas.{filter-agree, filter-filter, filter-map, list_any-map}
 use Rattle.book_model.proofs.RecordSets.{tests_swap}
 use Rattle.book_model.proofs.SumLemmas.{sum_by-plus}

@@ -1,11 +1,9 @@
 -- The bills of closed periods stay.
 use Rattle.std.proofs.Common.{◌≡◌, ℕ, zero, suc, ◌<◌, List, [], ◌∷◌, ◌++◌, length, refl, sym, ap}
 use Rattle.std.proofs.Common.{◌∙◌, true, false, true≢false, Bool, ◌||◌, Option, Some, None, is_some}
-use Rattle.std.proofs.Common.{arith}
-use Rattle.std.specs.Prelude.{All, ℤ, pos, if◌then◌else◌}
-use Rattle.std.specs.FinMap as map
-use Rattle.std.specs.List.{cons_option, filter_map, list_any}
-use Rattle.std.specs.Option.{ok_or, option_and_then, option_map}
+use Rattle.std.proofs.Common.{arith, All, ℤ, pos, if◌then◌else◌, filter_map, ok_or, option_and_then}
+use Rattle.std.proofs.Common.{option_map}
+use Rattle.std.specs.List.{cons_option, list_any}
 use Rattle.std.specs.Result.{result_ok}
 use Rattle.std.proofs.Math.Bool.{or-true}
 use Rattle.std.proofs.lemmas.List.Elements.{All-append, All-cons, All-filter, All-nil}
@@ -16,14 +14,14 @@ use Rattle.tariff_rules.specs.declared.priced.Priced.{Priced}
 use Rattle.book_model.specs.declared.bill.HeldBack.{HeldBack}
 use Rattle.book_model.specs.declared.fault.LedgerFault.TheVariants.{NoSuchPeriod, NoSuchRecord}
 use Rattle.book_model.specs.declared.line.Line.{Line}
-use Rattle.book_model.specs.Words.{Book, IsSound, Naming}
-use Rattle.book_model.specs.Words.{Period, Records, Rulings, Terms, bill_of, billed_line, billed_lines}
-use Rattle.book_model.specs.Words.{billed_tariff, book_after, charged_before, details_asked}
-use Rattle.book_model.specs.Words.{disputes_in, has, held_back_in, held_back_of, in_force, is_dated_after}
-use Rattle.book_model.specs.Words.{jobs_of, last_close, letterhead_among, life_of, lines_for, lines_of}
-use Rattle.book_model.specs.Words.{members, name_of, no_event, period_by_trail, period_of_line}
-use Rattle.book_model.specs.Words.{period_on, price_by, price_in, reckoning_by, record_named, same_bytes}
-use Rattle.book_model.specs.Words.{steps_of, trail_by, trail_of, work_rows}
+use Rattle.book_model.specs.Words.{Book, IsSound, Naming, Period, Records, Rulings, Terms, bill_of}
+use Rattle.book_model.specs.Words.{billed_line, billed_lines, billed_tariff, book_after}
+use Rattle.book_model.specs.Words.{charged_before, details_asked, disputes_in, has, held_back_in}
+use Rattle.book_model.specs.Words.{held_back_of, in_force, is_dated_after, jobs_of, last_close}
+use Rattle.book_model.specs.Words.{letterhead_among, life_of, lines_for, lines_of, members, name_of}
+use Rattle.book_model.specs.Words.{no_event, period_by_trail, period_of_line, period_on, price_by}
+use Rattle.book_model.specs.Words.{price_in, reckoning_by, record_named, same_bytes, steps_of}
+use Rattle.book_model.specs.Words.{trail_by, trail_of, work_rows}
 use Rattle.book_model.proofs.CountedDays.{through_at}
 use Rattle.book_model.proofs.LineOrder.{line_by, line_of}
 use Rattle.book_model.proofs.ListLemmas.{map-agree}
@@ -40,6 +38,7 @@ use Rattle.book_laws.proofs.ReadLemmas.{lines_once}
 use Rattle.book_laws.proofs.StayLemmas.{answered_before, keeps, keeps_period}
 use Rattle.book_laws.proofs.TariffStays.{keeps_tariffs, tariffs_stay}
 use Rattle.book_laws.proofs.TurnStays.{charge_stays}
+use Rattle.std.specs.FinMap as map
 
 -- the period that a line speaks of, by the record of its name
 module _ (naming : Naming) (book : Book) (sound : IsSound naming book) (number : ℕ) (line : Line)

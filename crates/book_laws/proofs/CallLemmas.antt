@@ -1,9 +1,6 @@
 -- Calls on one ledger, one after another: their work, and the events that they make.
-use Rattle.std.proofs.Common.{false, ℕ, List, [], ◌∷◌, ◌++◌, Result, Ok, Err, map, refl, sym}
-use Rattle.std.proofs.Common.{subst}
-use Rattle.std.specs.Prelude.{Vec}
-use Rattle.std.specs.Global.{Global}
-use Rattle.std.specs.Option.{option_map}
+use Rattle.std.proofs.Common.{false, ℕ, List, [], ◌∷◌, ◌++◌, Result, Ok, Err, map, refl, sym, subst}
+use Rattle.std.proofs.Common.{Vec, Global, option_map}
 use Rattle.book_model.specs.declared.answer.Accepted.{Accepted}
 use Rattle.book_model.specs.Words.{accept_answer, IsMadeByCalls, Book, new_book, dispute_shown}
 use Rattle.book_model.specs.Words.{book_after, Outcome, accept_outcome, charges_outcome}
@@ -17,9 +14,9 @@ use Rattle.book_core.specs.Ledgers.{Seen, IsOpenAt}
 use Rattle.book_core.specs.Submissions.{Accepts, Takes, first_of}
 use Rattle.book_core.specs.Transition.{IsTransition}
 use Rattle.book_core.proofs.FollowLemmas.{then_answered, calls_answered, none_answered}
-use Rattle.book_core.specs.Follow.{MakesAnswered}
 use Rattle.book_core.proofs.FollowLemmas.{accept_event-answered, adopt_answered, choose_answered}
 use Rattle.book_core.proofs.FollowLemmas.{close_answered, tariff_answered}
+use Rattle.book_core.specs.Follow.{MakesAnswered}
 use Rattle.book_core.proofs.TransitionLemmas.{no_work, work_then, after_all-append}
 use Rattle.book_reports.proofs.ReadingLemmas.{IsReading}
 use Rattle.office.proofs.ChoiceLemmas.{choices_answered}
@@ -30,11 +27,10 @@ use Rattle.book_http.proofs.LawLemmas.{requests_make_history}
 use Rattle.book_laws.specs.CallLaws.{CallsFollowHistory}
 use Rattle.book_laws.specs.Calls.{Call, Request, RunRequests, AcceptRecord, ReadCharges}
 use Rattle.book_laws.specs.Calls.{AcceptRecords, AdoptRule, ChooseEach, ChooseRecord, ClosePeriod}
-use Rattle.book_laws.specs.Calls.{HttpDetails, SubmitTariff}
-use Rattle.book_laws.specs.Calls.{HttpRequest, ReadAdjustments, ReadDisputes, ReadPeriods}
-use Rattle.book_laws.specs.Calls.{ReadChargesUnder, ReadDetail, ReadDispute, ReadRuling, ReadTrail}
-use Rattle.book_laws.specs.Calls.{Step}
-use Rattle.book_laws.specs.Calls.{AreDone, calls_of, ledger_after_calls, work_of, works_of}
+use Rattle.book_laws.specs.Calls.{HttpDetails, SubmitTariff, HttpRequest, ReadAdjustments}
+use Rattle.book_laws.specs.Calls.{ReadDisputes, ReadPeriods, ReadChargesUnder, ReadDetail}
+use Rattle.book_laws.specs.Calls.{ReadDispute, ReadRuling, ReadTrail, Step, AreDone, calls_of}
+use Rattle.book_laws.specs.Calls.{ledger_after_calls, work_of, works_of}
 
 -- what is read makes none
 readings_answered : {V A : Type 0} (naming : Naming) (view : V → A) (outcome : Book → Outcome A)

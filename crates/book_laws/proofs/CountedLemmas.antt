@@ -1,24 +1,22 @@
 -- Which records are counted: each at most once, as it is read from its mark and its lines, and in the
 -- period of its day.
-use Rattle.std.proofs.Common.{◌≡◌, ℕ, zero, suc, ◌+◌, ◌≤◌, List, [], ◌∷◌, ◌++◌, length}
-use Rattle.std.proofs.Common.{refl, sym, ap, ◌∙◌, true, false, true≢false, Bool, cond}
-use Rattle.std.proofs.Common.{◌&&◌, Option, Some, None, arith}
-use Rattle.std.specs.Prelude.{All, ℤ, pos, ◌-ℤ◌, count_by, nat_lt, slice_get}
+use Rattle.std.proofs.Common.{◌≡◌, ℕ, zero, suc, ◌+◌, ◌≤◌, List, [], ◌∷◌, ◌++◌, length, refl, sym}
+use Rattle.std.proofs.Common.{ap, ◌∙◌, true, false, true≢false, Bool, cond, ◌&&◌, Option, Some}
+use Rattle.std.proofs.Common.{None, arith, All, ℤ, pos, ◌-ℤ◌, count_by, nat_lt, slice_get, int_cmp}
+use Rattle.std.proofs.Common.{lt-ltb}
 use Rattle.std.specs.List.Sorted.{IsStrictlySortedBy}
 use Rattle.std.specs.Option.{option_map_or}
-use Rattle.std.specs.Ordering.{int_cmp}
-use Rattle.std.proofs.lemmas.Bool.{false_from_ne_true, lt-ltb}
+use Rattle.std.proofs.lemmas.Bool.{false_from_ne_true}
 use Rattle.std.proofs.lemmas.Int.{ints}
 use Rattle.std.proofs.lemmas.List.Elements.{All-weaker}
 use Rattle.std.proofs.lemmas.List.Sums.{sum_by-cons, sum_by_push}
 use Rattle.book_model.specs.Rulings.{rulings_before}
-use Rattle.book_model.specs.Words.{AreAllDatedThrough, Book, Event, IsMadeByCalls, IsSound}
-use Rattle.book_model.specs.Words.{Naming, Period, PeriodClosed, Records}
-use Rattle.book_model.specs.Words.{Rulings, all_periods, book_after}
+use Rattle.book_model.specs.Words.{AreAllDatedThrough, Book, Event, IsMadeByCalls, IsSound, Naming}
+use Rattle.book_model.specs.Words.{Period, PeriodClosed, Records, Rulings, all_periods, book_after}
 use Rattle.book_model.specs.Words.{charged_by, charged_in, charged_of, charged_through, closes}
 use Rattle.book_model.specs.Words.{counted_of, day_of_close, has, held_before, is_dated_after}
-use Rattle.book_model.specs.Words.{is_dated_in, is_dated_through, is_undisputed, last_close, open_number}
-use Rattle.book_model.specs.Words.{period_after, period_by, rulings, those}
+use Rattle.book_model.specs.Words.{is_dated_in, is_dated_through, is_undisputed, last_close}
+use Rattle.book_model.specs.Words.{open_number, period_after, period_by, rulings, those}
 use Rattle.book_model.proofs.CallLemmas.{calls_go_forward}
 use Rattle.book_model.proofs.CountedDays.{AreInWindows, close_at, counted_at, has_counted_of}
 use Rattle.book_model.proofs.MadeByCallsLemmas.{rulings_are, sound_after}

@@ -1,7 +1,6 @@
 -- Kept details: the details of a period are those of its days, and they follow the book.
-use Rattle.std.proofs.Common.{◌≡◌, ℕ, List, refl, ap, ◌∙◌, true, false, Option, Some, None}
-use Rattle.std.specs.Prelude.{ℤ, ◌<ℤ◌, int_lt, MatchOption}
-use Rattle.std.proofs.Common.{arith}
+use Rattle.std.proofs.Common.{◌≡◌, ℕ, List, refl, ap, ◌∙◌, true, false, Option, Some, None, ℤ, ◌<ℤ◌}
+use Rattle.std.proofs.Common.{int_lt, MatchOption, arith}
 use Rattle.std.proofs.lemmas.Int.{ints}
 use Rattle.smf_type30.specs.Usage.{day_of}
 use Rattle.book_model.specs.Words.{Book, IsSound, Naming, book_after, charged_of, counted_of}

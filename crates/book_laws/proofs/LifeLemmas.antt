@@ -1,17 +1,14 @@
 -- Lives: charges and reversals take turns, and net to whether the record is charged now.
-use Rattle.std.proofs.Common.{◌≡◌, ℕ, suc, ◌+◌, List, [], ◌∷◌, ◌++◌, refl, sym, ap, ◌∙◌}
-use Rattle.std.proofs.Common.{subst, true, false, true≢false, Bool, cond, not, ◌&&◌, Option, arith}
-use Rattle.std.proofs.Common.{None, Some, Ok}
-use Rattle.std.specs.Prelude.{ℤ, pos, ◌-ℤ◌, codes, count_by, sum_by}
-use Rattle.std.specs.Fmt.{decimal, signed_decimal}
-use Rattle.std.specs.Option.{ok_or, option_and_then, option_map}
-use Rattle.std.proofs.lemmas.List.{append-nil}
+use Rattle.std.proofs.Common.{◌≡◌, ℕ, suc, ◌+◌, List, [], ◌∷◌, ◌++◌, refl, sym, ap, ◌∙◌, subst}
+use Rattle.std.proofs.Common.{true, false, true≢false, Bool, cond, not, ◌&&◌, Option, arith, None}
+use Rattle.std.proofs.Common.{Some, Ok, ℤ, pos, ◌-ℤ◌, codes, count_by, sum_by, decimal, ok_or}
+use Rattle.std.proofs.Common.{option_and_then, option_map, append-nil}
+use Rattle.std.specs.Fmt.{signed_decimal}
 use Rattle.std.proofs.lemmas.List.Sums.{sum_by-append, sum_by-cons}
-use Rattle.book_model.specs.Words.{Book, Event, Period, PeriodClosed}
-use Rattle.book_model.specs.Words.{Records, AreDatedThrough}
+use Rattle.book_model.specs.Words.{Book, Event, Period, PeriodClosed, Records, AreDatedThrough}
 use Rattle.book_model.specs.Words.{all_periods, book_after, charged_of, charged_through, has}
-use Rattle.book_model.specs.Words.{is_charge, is_dated_after, last_close, life_from, life_of, net_of}
-use Rattle.book_model.specs.Words.{Naming, TrailSeen, period_by, reckoning_in, record_named}
+use Rattle.book_model.specs.Words.{is_charge, is_dated_after, last_close, life_from, life_of}
+use Rattle.book_model.specs.Words.{net_of, Naming, TrailSeen, period_by, reckoning_in, record_named}
 use Rattle.book_model.specs.Words.{trail_by, trail_of, turn_if, turns_in, without}
 use Rattle.tariff_rules.specs.declared.reckoning.Reckoning.{Reckoning}
 use Rattle.book_model.specs.declared.fault.LedgerFault.TheVariants.{NoSuchRecord}

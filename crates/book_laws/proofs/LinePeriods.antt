@@ -1,14 +1,11 @@
 -- Each line of a centre's bill has a period that it speaks of: what a period reverses was counted or
 -- added by one before it.
 use Rattle.std.proofs.Common.{◌≡◌, ◌∙◌, ℕ, zero, suc, ◌+◌, ◌≤◌, ◌<◌, Bool, true, false, true≢false}
-use Rattle.std.proofs.Common.{not, cond, ◌&&◌, ◌||◌, List, [], ◌∷◌, ◌++◌, length, Option, Some, None}
-use Rattle.std.proofs.Common.{ap, arith, is_some, refl, subst, sym}
-use Rattle.std.specs.Prelude.{All, IsSome, filter, nat_lt, slice_get}
+use Rattle.std.proofs.Common.{not, cond, ◌&&◌, ◌||◌, List, [], ◌∷◌, ◌++◌, length, Option, Some}
+use Rattle.std.proofs.Common.{None, ap, arith, is_some, refl, subst, sym, All, IsSome, filter}
+use Rattle.std.proofs.Common.{nat_lt, slice_get, option_map, lt-ltb, length-append}
 use Rattle.std.specs.List.{last_or, list_any}
-use Rattle.std.specs.Option.{option_map}
 use Rattle.std.proofs.Math.Bool.{or-true}
-use Rattle.std.proofs.lemmas.Bool.{lt-ltb}
-use Rattle.std.proofs.lemmas.List.{length-append}
 use Rattle.std.proofs.lemmas.List.Elements.{All-filter, All-map}
 use Rattle.std.proofs.lemmas.List.Folds.{list_any-append}
 use Rattle.std.proofs.lemmas.Option.{slice_get_within}
@@ -17,12 +14,13 @@ use Rattle.book_model.specs.declared.line.Line.{Line}
 use Rattle.book_model.specs.declared.trail.Deed.TheVariants.{Added, Charged, Reversed}
 use Rattle.book_model.specs.declared.trail.Turn.{Turn}
 use Rattle.book_model.specs.Words.{Book, Naming, Period, Records, all_periods, billed_line}
-use Rattle.book_model.specs.Words.{charged_before, has, is_dated_after, life_from, life_of, lines_of}
-use Rattle.book_model.specs.Words.{open_period, period_by, period_of_line, same_bytes, turn_if, turns_in}
+use Rattle.book_model.specs.Words.{charged_before, has, is_dated_after, life_from, life_of}
+use Rattle.book_model.specs.Words.{lines_of, open_period, period_by, period_of_line, same_bytes}
+use Rattle.book_model.specs.Words.{turn_if, turns_in}
 use Rattle.table_model.specs.BookIn.{close_after}
 use Rattle.table_model.specs.Readable.{IsReadable}
-use Rattle.table_model.proofs.CountedReading.{in_added, in_counted, in_taken, its_period, period_after}
-use Rattle.table_model.proofs.CountedReading.{sets, sets_past}
+use Rattle.table_model.proofs.CountedReading.{in_added, in_counted, in_taken, its_period}
+use Rattle.table_model.proofs.CountedReading.{period_after, sets, sets_past}
 use Rattle.table_model.proofs.ListLemmas.{held_in}
 use Rattle.table_model.proofs.PeriodPlaces.{at_place}
 use Rattle.book_model.proofs.RecordSets.{second_of}

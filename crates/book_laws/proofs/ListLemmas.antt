@@ -1,12 +1,10 @@
 -- All periods of books, as they are read.
 use Rattle.std.proofs.Common.{◌≡◌, ◌∙◌, ℕ, suc, ◌+◌, ◌-◌, ◌<◌, Bool, true, false, List, [], ◌∷◌}
 use Rattle.std.proofs.Common.{◌++◌, length, Option, None, Some, Result, Ok, refl, sym, ap, subst}
-use Rattle.std.proofs.Common.{append_assoc, arith}
-use Rattle.std.proofs.lemmas.Bool.{eqb-true, eq-eqb}
-use Rattle.std.proofs.lemmas.List.{length-append, length-map}
+use Rattle.std.proofs.Common.{append_assoc, arith, eqb-true, eq-eqb, length-append, ok_or}
+use Rattle.std.proofs.Common.{option_map, ◌==◌, if◌then◌else◌, pos, ◌-ℤ◌, slice_get, sum_by}
+use Rattle.std.proofs.lemmas.List.{length-map}
 use Rattle.std.proofs.lemmas.List.Sums.{sum_by-cons}
-use Rattle.std.specs.Option.{ok_or, option_map}
-use Rattle.std.specs.Prelude.{◌==◌, if◌then◌else◌, pos, ◌-ℤ◌, slice_get, sum_by}
 use Rattle.book_model.specs.declared.fault.LedgerFault.{LedgerFault}
 use Rattle.book_model.specs.declared.fault.LedgerFault.TheVariants.{NoSuchPeriod}
 use Rattle.book_model.specs.declared.line.Line.{Line}

@@ -1,10 +1,8 @@
 -- Charge rows by another tariff: what they cost, and when they are the statement's.
 use Rattle.std.proofs.Common.{◌≡◌, ℕ, List, [], ◌∷◌, map, refl, sym, ap, ◌∙◌, subst, true, false}
-use Rattle.std.proofs.Common.{Bool, cond, not, Option, Some, None, Result, Ok, Err, arith}
-use Rattle.std.specs.Prelude.{ℤ, ◌+◌, ◌≤◌, ◌≤ℤ◌, filter, int_lt, nat_lt, if◌then◌else◌, slice_get}
-use Rattle.std.specs.Prelude.{sum_by}
-use Rattle.std.specs.List.{filter_map}
-use Rattle.std.specs.Option.{ok_or, option_map}
+use Rattle.std.proofs.Common.{Bool, cond, not, Option, Some, None, Result, Ok, Err, arith, ℤ, ◌+◌}
+use Rattle.std.proofs.Common.{◌≤◌, ◌≤ℤ◌, filter, int_lt, nat_lt, if◌then◌else◌, slice_get, sum_by}
+use Rattle.std.proofs.Common.{filter_map, ok_or, option_map}
 use Rattle.std.proofs.lemmas.Bool.Decides.{nat_tests}
 use Rattle.std.proofs.lemmas.Int.{ints}
 use Rattle.std.proofs.lemmas.List.Folds.{fold-map}
@@ -15,11 +13,11 @@ use Rattle.book_model.specs.declared.fault.LedgerFault.{LedgerFault}
 use Rattle.book_model.specs.declared.fault.LedgerFault.TheVariants.{Full, NoSuchPeriod}
 use Rattle.book_model.specs.declared.row.ChargeRow.{ChargeRow}
 use Rattle.book_model.specs.Words.{AcceptedTerms, AreAmong, Book, IsDay, Naming, Period, Records}
-use Rattle.book_model.specs.Words.{Rulings, Terms, charges_outcome}
-use Rattle.book_model.specs.Words.{costs_under, day_of, flat_book, has, has_begun, in_force}
-use Rattle.book_model.specs.Words.{members, most_cost, no_event, period_of, price_by, price_in}
-use Rattle.book_model.specs.Words.{price_under, prices, rows_for, rows_if_room, rows_of, same_bytes}
-use Rattle.book_model.specs.Words.{terms_in, what_if_answer, what_if_outcome}
+use Rattle.book_model.specs.Words.{Rulings, Terms, charges_outcome, costs_under, day_of, flat_book}
+use Rattle.book_model.specs.Words.{has, has_begun, in_force, members, most_cost, no_event}
+use Rattle.book_model.specs.Words.{period_of, price_by, price_in, price_under, prices, rows_for}
+use Rattle.book_model.specs.Words.{rows_if_room, rows_of, same_bytes, terms_in, what_if_answer}
+use Rattle.book_model.specs.Words.{what_if_outcome}
 use Rattle.book_model.specs.Rulings.{latest}
 use Rattle.book_model.proofs.ListLemmas.{filter-map}
 use Rattle.book_model.proofs.SetChanges.{pick-agree}

@@ -1,9 +1,6 @@
 -- The lines of charge rows by another tariff are as long as those of a statement.
 use Rattle.std.proofs.Common.{◌≡◌, ◌∙◌, ℕ, ◌≤◌, List, refl, sym, ap, subst, true, false, Bool, Ok}
-use Rattle.std.proofs.Common.{Err, arith}
-use Rattle.std.specs.Prelude.{All, Some, if◌then◌else◌, nat_lt, sum_by}
-use Rattle.std.specs.FinMap as fin
-use Rattle.std.proofs.lemmas.Bool.{ltb-false}
+use Rattle.std.proofs.Common.{Err, arith, All, Some, if◌then◌else◌, nat_lt, sum_by, ltb-false}
 use Rattle.std.proofs.lemmas.Cmp.{eq_by_cmp_equiv, nat_list_cmp_total}
 use Rattle.std.proofs.lemmas.List.Elements.{All-map}
 use Rattle.std.proofs.lemmas.Map.Views.{All-from_any}
@@ -20,6 +17,7 @@ use Rattle.book_laws.specs.StatementWidths.{AreAligned, WhatIfsAreAligned}
 use Rattle.book_laws.proofs.OtherPriceLemmas.{answered_rows, counted_held}
 use Rattle.book_laws.proofs.OtherWorkLemmas.{IsWork, same_sums}
 use Rattle.book_laws.proofs.WidthLemmas.{FitTogether, are_even, held_fit}
+use Rattle.std.specs.FinMap as fin
 
 -- what has rows costs no more than books hold
 cost_within : (costs : List Priced) (rows : List ChargeRow) → rows_if_room costs ≡ Ok rows

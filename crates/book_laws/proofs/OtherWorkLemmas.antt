@@ -1,10 +1,8 @@
 -- Charge rows by another tariff are about the same work as the statement.
 use Rattle.std.proofs.Common.{◌≡◌, ℕ, List, [], ◌∷◌, map, refl, sym, ap, ◌∙◌, subst, true, Bool}
-use Rattle.std.proofs.Common.{cond, ◌||◌, Option, Some, None, Result, Ok, Err, arith}
-use Rattle.std.specs.Prelude.{filter, sum_by}
-use Rattle.std.specs.FinMap as fin
-use Rattle.std.specs.List.{cons_option, filter_map, list_any}
-use Rattle.std.specs.Option.{ok_or, option_map}
+use Rattle.std.proofs.Common.{cond, ◌||◌, Option, Some, None, Result, Ok, Err, arith, filter}
+use Rattle.std.proofs.Common.{sum_by, filter_map, ok_or, option_map}
+use Rattle.std.specs.List.{cons_option, list_any}
 use Rattle.std.proofs.Math.Bool.{or-true}
 use Rattle.std.proofs.lemmas.List.Sums.{sum_by-cons}
 use Rattle.tariff_rules.specs.declared.priced.Priced.{Priced}
@@ -25,6 +23,7 @@ use Rattle.book_laws.proofs.ClosedLemmas.{closed_stays}
 use Rattle.book_laws.proofs.OtherPriceLemmas.{answered_rows, costs_as_said, counted_priced}
 use Rattle.book_laws.proofs.OtherPriceLemmas.{gives_statement}
 use Rattle.book_laws.proofs.RowSums.{sum_by-centre_rows, sum_by-rows}
+use Rattle.std.specs.FinMap as fin
 
 -- work of a record is the same by each tariff
 pub record IsWork (part : Priced → ℕ) : Type 0 where

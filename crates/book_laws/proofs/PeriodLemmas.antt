@@ -1,19 +1,18 @@
 -- What the periods of a history give and take, each by what is charged before it and at its end.
 use Rattle.std.proofs.Common.{◌≡◌, ℕ, zero, suc, ◌+◌, List, [], ◌∷◌, ◌++◌, length, sym, ap, ◌∙◌}
-use Rattle.std.proofs.Common.{subst, true≢false, Option, None, is_some, arith}
-use Rattle.std.specs.Prelude.{All, sum_by, ℤ, pos, ◌-ℤ◌, ◌≤◌}
-use Rattle.std.specs.FinMap as map
+use Rattle.std.proofs.Common.{subst, true≢false, Option, None, is_some, arith, All, sum_by, ℤ, pos}
+use Rattle.std.proofs.Common.{◌-ℤ◌, ◌≤◌}
 use Rattle.std.proofs.lemmas.Int.{ints}
 use Rattle.std.proofs.lemmas.List.Elements.{All-nil, All-cons, All-append}
 use Rattle.std.proofs.lemmas.List.Sums.{sum_by_push}
 use Rattle.book_model.specs.Words.{Period, period_by, Book, all_periods, charged_of, is_dated_after}
-use Rattle.book_model.specs.Words.{charged_through, Event, PeriodClosed}
-use Rattle.book_model.specs.Words.{book_after, Records, by_bytes}
-use Rattle.book_model.specs.Words.{last_close, AreDatedThrough, Naming}
+use Rattle.book_model.specs.Words.{charged_through, Event, PeriodClosed, book_after, Records}
+use Rattle.book_model.specs.Words.{by_bytes, last_close, AreDatedThrough, Naming}
 use Rattle.book_model.proofs.ListLemmas.{last_or-behind}
 use Rattle.book_model.proofs.SoundLemmas.{through_dated}
 use Rattle.table_model.specs.BookIn.{close_after}
 use Rattle.table_model.specs.Readable.{IsReadable, chained}
+use Rattle.std.specs.FinMap as map
 
 -- a difference of what is given and taken
 pub net : (given taken rest : ℕ) → given ≡ rest + taken → pos given -ℤ pos taken ≡ pos rest

@@ -1,10 +1,8 @@
 -- How prices came about: the rules that are named have what the price has.
-use Rattle.std.proofs.Common.{◌≡◌, ℕ, suc, ◌-◌, List, length, refl, sym, ap, ◌∙◌, true, false}
-use Rattle.std.proofs.Common.{cond, Option, Some, None, arith}
-use Rattle.std.specs.Prelude.{Bool, find, nat_lt, slice_get}
-use Rattle.std.specs.List.{position, position_or_len}
-use Rattle.std.specs.Option.{option_and_then, option_map}
-use Rattle.std.proofs.lemmas.Bool.{ltb-false}
+use Rattle.std.proofs.Common.{◌≡◌, ℕ, suc, ◌-◌, List, length, refl, sym, ap, ◌∙◌, true, false, cond}
+use Rattle.std.proofs.Common.{Option, Some, None, arith, Bool, find, nat_lt, slice_get, position}
+use Rattle.std.proofs.Common.{option_and_then, option_map, ltb-false}
+use Rattle.std.specs.List.{position_or_len}
 use Rattle.std.proofs.lemmas.List.Folds.{find_at}
 use Rattle.std.proofs.lemmas.Option.{same_Some, slice_get_past}
 use Rattle.smf_text.specs.Day.{weekday_of}

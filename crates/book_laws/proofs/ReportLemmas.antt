@@ -1,9 +1,7 @@
 -- Reports of an open ledger.
-use Rattle.std.proofs.Common.{◌≡◌, ◌≢◌, List, refl, sym, ap, subst, Result, Ok, Err}
-use Rattle.std.specs.Prelude.{ℕ}
+use Rattle.std.proofs.Common.{◌≡◌, ◌≢◌, List, refl, sym, ap, subst, Result, Ok, Err, ℕ}
 use Rattle.streams.specs.InputOutput.{Output}
 use Rattle.book_model.specs.declared.fault.LedgerFault.{LedgerFault}
-use Rattle.book_model.specs.declared.fault.LedgerFault.TheVariants as ledger
 use Rattle.book_model.specs.Words.{Book, Naming}
 use Rattle.book_core.specs.Calls.{IsCall}
 use Rattle.book_core.specs.Ledgers.{Books, Seen, books}
@@ -15,9 +13,10 @@ use Rattle.book_reports.specs.Faults.{report_fault_of}
 use Rattle.book_reports.specs.Reports.{IsPassedOn}
 use Rattle.book_reports.proofs.WritingLemmas.{refusal_not_write}
 use Rattle.book_laws.specs.AnswerLaws.{IsCalled}
-use Rattle.book_laws.specs.ReportLaws.{IsReported, HasText, HasPrefix, IsRefused}
-use Rattle.book_laws.specs.ReportLaws.{OneText, OnePrefix, OneRefusedReport}
+use Rattle.book_laws.specs.ReportLaws.{IsReported, HasText, HasPrefix, IsRefused, OneText}
+use Rattle.book_laws.specs.ReportLaws.{OnePrefix, OneRefusedReport}
 use Rattle.book_laws.proofs.AnswerLemmas.{one_answer, one_refusal}
+use Rattle.book_model.specs.declared.fault.LedgerFault.TheVariants as ledger
 
 -- the fault of a report that failed
 abbrev fault_or : ReportFault → Result (Unit {0}) ReportFault → ReportFault

@@ -1,7 +1,6 @@
 -- Charge rows sum what all prices sum to.
 use Rattle.std.proofs.Common.{◌≡◌, ℕ, ◌+◌, List, [], ◌∷◌, refl, sym, ap, ◌∙◌, true, false, Bool}
-use Rattle.std.proofs.Common.{cond, ◌||◌, map, arith, length}
-use Rattle.std.specs.Prelude.{filter, sum_by}
+use Rattle.std.proofs.Common.{cond, ◌||◌, map, arith, length, filter, sum_by}
 use Rattle.std.specs.Cmp.{IsEquivalence}
 use Rattle.std.specs.List.{list_any, IsDistinct}
 use Rattle.std.proofs.Math.Bool.{or-true}

@@ -1,14 +1,12 @@
 -- Each tariff of a bill is in force on some day of the period: on its own first day, if that comes
 -- after the close before the period, or else on the first day of the period.
-use Rattle.std.proofs.Common.{◌≡◌, ◌∙◌, ℕ, zero, suc, ◌-◌, Bool, true, false, not, cond}
-use Rattle.std.proofs.Common.{◌||◌, List, [], ◌∷◌, map, reverse, Option, Some, None, unwrap_or}
-use Rattle.std.proofs.Common.{ap, arith, refl, subst, sym}
-use Rattle.std.specs.Prelude.{ℤ, pos, ◌+ℤ◌, ◌<ℤ◌, ◌&&◌, All, IfSome, filter, find, if◌then◌else◌}
-use Rattle.std.specs.Prelude.{int_lt, slice_get}
-use Rattle.std.specs.List.{cons_option, filter_map, list_all, list_any}
+use Rattle.std.proofs.Common.{◌≡◌, ◌∙◌, ℕ, zero, suc, ◌-◌, Bool, true, false, not, cond, ◌||◌, List}
+use Rattle.std.proofs.Common.{[], ◌∷◌, map, reverse, Option, Some, None, unwrap_or, ap, arith, refl}
+use Rattle.std.proofs.Common.{subst, sym, ℤ, pos, ◌+ℤ◌, ◌<ℤ◌, ◌&&◌, All, IfSome, filter, find}
+use Rattle.std.proofs.Common.{if◌then◌else◌, int_lt, slice_get, filter_map, option_map, int_cmp}
+use Rattle.std.specs.List.{cons_option, list_all, list_any}
 use Rattle.std.specs.List.Sorted.{IsStrictlySortedBy}
-use Rattle.std.specs.Option.{option_map, option_map_or, option_or}
-use Rattle.std.specs.Ordering.{int_cmp}
+use Rattle.std.specs.Option.{option_map_or, option_or}
 use Rattle.std.specs.Result.{result_ok}
 use Rattle.std.proofs.lemmas.Bool.{or_parts}
 use Rattle.std.proofs.lemmas.Int.{ints}

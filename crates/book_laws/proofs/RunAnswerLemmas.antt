@@ -1,7 +1,6 @@
 -- Lists of requests on an open ledger.
 use Rattle.std.proofs.Common.{◌≡◌, ◌∙◌, ℕ, Bool, true, false, List, [], ◌∷◌, Result, Ok, Err, refl}
-use Rattle.std.proofs.Common.{sym, ap, subst, map}
-use Rattle.std.specs.Prelude.{All}
+use Rattle.std.proofs.Common.{sym, ap, subst, map, All}
 use Rattle.std.proofs.lemmas.List.Elements.{All-head, All-tail}
 use Rattle.book_model.specs.declared.fault.LedgerFault.{LedgerFault}
 use Rattle.book_model.specs.Words.{front, Book, Event, after_all, Naming, Outcome}
@@ -17,8 +16,7 @@ use Rattle.office.specs.declared.request.Asked.{Asked}
 use Rattle.office.specs.declared.request.Asked.TheVariants.{Import, ImportBytes}
 use Rattle.office.specs.declared.request.Answer.{Answer}
 use Rattle.office.specs.Outcomes.{AskedOutcome, asked_outcome, is_hindered}
-use Rattle.office.specs.Requests.{Dump, Response, Ruling, Count, Text, Receives, Asks}
-use Rattle.office.specs.Requests.{response_by}
+use Rattle.office.specs.Requests.{Dump, Response, Ruling, Count, Text, Receives, Asks, response_by}
 use Rattle.office.specs.Runs.{AsksWithoutReader, Runs, dump_here}
 use Rattle.office.proofs.LawLemmas.{asks_done}
 use Rattle.office.proofs.LeavingLemmas.{work_leaves}

@@ -1,7 +1,5 @@
 -- The laws of runs, from those of the histories that runs make.
-use Rattle.std.proofs.Common.{◌≡◌, ◌∙◌, ℕ, List, refl, sym, ap, subst}
-use Rattle.std.specs.Prelude.{Some, pos, ℤ}
-use Rattle.std.specs.Option.{option_map}
+use Rattle.std.proofs.Common.{◌≡◌, ◌∙◌, ℕ, List, refl, sym, ap, subst, Some, pos, ℤ, option_map}
 use Rattle.std.specs.Result.{result_ok}
 use Rattle.book_model.specs.declared.row.ChargeRow.{ChargeRow}
 use Rattle.book_model.specs.Words.{IsMadeByCalls, Book, new_book, is_undisputed, Event, book_after}

@@ -1,7 +1,6 @@
 -- Sums over the sets of a period.
 use Rattle.std.proofs.Common.{◌≡◌, ℕ, ◌+◌, List, refl, sym, ap, ◌∙◌, true, false, Bool, not, ◌&&◌}
-use Rattle.std.proofs.Common.{Option, arith}
-use Rattle.std.specs.Prelude.{sum_by, ℤ}
+use Rattle.std.proofs.Common.{Option, arith, sum_by, ℤ}
 use Rattle.std.proofs.lemmas.Cmp.{nat_list_cmp_total}
 use Rattle.std.proofs.lemmas.List.Filters.{sum_by-filter_both}
 use Rattle.std.proofs.lemmas.Map.Lookups.{exact_bytes}

@@ -1,18 +1,15 @@
 -- Details of closed periods stay, and come one after another.
 use Rattle.std.proofs.Common.{◌≡◌, ℕ, List, [], ◌∷◌, ◌++◌, refl, sym, ap, ◌∙◌, subst, true, false}
 use Rattle.std.proofs.Common.{true≢false, Bool, cond, Option, Some, None, suc, length, append-nil}
-use Rattle.std.specs.Prelude.{ℤ, int_lt, filter}
+use Rattle.std.proofs.Common.{ℤ, int_lt, filter, ok_or, option_map}
 use Rattle.std.specs.List.Sorted.{IsStrictlySortedBy}
-use Rattle.std.specs.Option.{ok_or, option_map}
 use Rattle.std.proofs.lemmas.List.Elements.{filter-append}
 use Rattle.smf_type30.specs.Usage.{day_of}
 use Rattle.book_model.specs.declared.fault.LedgerFault.TheVariants.{NoSuchPeriod}
 use Rattle.book_model.specs.Words.{AreAllDatedThrough, Book, Event, IsMadeByCalls, Naming, Period}
-use Rattle.book_model.specs.Words.{PeriodClosed, RulingGiven, Rulings}
-use Rattle.book_model.specs.Words.{TariffAccepted, book_after, is_dated_after}
-use Rattle.book_model.specs.Words.{last_close, members, no_event, open_number, period_of, period_on}
-use Rattle.book_model.specs.Words.{price_in}
-use Rattle.book_model.specs.Words.{set_of}
+use Rattle.book_model.specs.Words.{PeriodClosed, RulingGiven, Rulings, TariffAccepted, book_after}
+use Rattle.book_model.specs.Words.{is_dated_after, last_close, members, no_event, open_number}
+use Rattle.book_model.specs.Words.{period_of, period_on, price_in, set_of}
 use Rattle.book_model.proofs.CallLemmas.{calls_go_forward, closed_prices_stay}
 use Rattle.book_model.proofs.DetailLemmas.{asked_rise, details_rise}
 use Rattle.book_model.proofs.DetailOrder.{next_in}

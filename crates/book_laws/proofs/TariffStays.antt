@@ -1,23 +1,18 @@
 -- The tariffs of a closed period's days stay: those that come later begin after these days.
-use Rattle.std.proofs.Common.{◌≡◌, ℕ, zero, suc, ◌-◌, ◌<◌, List, [], ◌∷◌, ◌++◌, length, get_or, refl}
-use Rattle.std.proofs.Common.{sym, ap, ◌∙◌, subst, true, false, cond, not, Some, None, append-nil}
-use Rattle.std.proofs.Common.{arith}
-use Rattle.std.specs.Prelude.{ℤ, pos, ◌+ℤ◌, ◌<ℤ◌, int_lt, filter, slice_get, MatchOption}
-use Rattle.std.specs.Prelude.{if◌then◌else◌}
+use Rattle.std.proofs.Common.{◌≡◌, ℕ, zero, suc, ◌-◌, ◌<◌, List, [], ◌∷◌, ◌++◌, length, get_or}
+use Rattle.std.proofs.Common.{refl, sym, ap, ◌∙◌, subst, true, false, cond, not, Some, None}
+use Rattle.std.proofs.Common.{append-nil, arith, ℤ, pos, ◌+ℤ◌, ◌<ℤ◌, int_lt, filter, slice_get}
+use Rattle.std.proofs.Common.{MatchOption, if◌then◌else◌, option_map, int_cmp, length-append}
 use Rattle.std.specs.List.{last_or}
 use Rattle.std.specs.List.Sorted.{IsStrictlySortedBy}
-use Rattle.std.specs.Option.{option_map}
-use Rattle.std.specs.Ordering.{int_cmp}
 use Rattle.std.proofs.lemmas.Int.{ints}
-use Rattle.std.proofs.lemmas.List.{length-append}
 use Rattle.std.proofs.lemmas.List.Elements.{filter-append, filter_map-append}
 use Rattle.std.proofs.lemmas.Map.Keys.{Less-from_sorted}
 use Rattle.std.proofs.lemmas.Option.{get_or_from_slice_get, slice_get-get_or, slice_get_within}
 use Rattle.book_model.specs.Words.{AcceptedTerms, Book, Event, IsMadeByCalls, Naming, PeriodClosed}
-use Rattle.book_model.specs.Words.{RulingGiven, Rulings, RulingSeen}
-use Rattle.book_model.specs.Words.{TariffAccepted, TariffSeen, Terms, begins_by, book_after}
-use Rattle.book_model.specs.Words.{in_force_from, tariff_seen, tariffs_from, tariffs_in, tariffs_seen}
-use Rattle.book_model.specs.Words.{tariffs_through}
+use Rattle.book_model.specs.Words.{RulingGiven, Rulings, RulingSeen, TariffAccepted, TariffSeen}
+use Rattle.book_model.specs.Words.{Terms, begins_by, book_after, in_force_from, tariff_seen}
+use Rattle.book_model.specs.Words.{tariffs_from, tariffs_in, tariffs_seen, tariffs_through}
 use Rattle.book_model.specs.RulingAnswers.{through_of}
 use Rattle.book_model.proofs.CallLemmas.{calls_go_forward}
 use Rattle.book_model.proofs.CountedDays.{close_at, through_at}

@@ -1,16 +1,14 @@
 -- The text of a tariff that was accepted is found on its first day, whatever follows.
 use Rattle.std.proofs.Common.{◌≡◌, ◌∙◌, ℕ, Bool, true, false, true≢false, List, [], ◌∷◌, ◌++◌}
-use Rattle.std.proofs.Common.{Option, Some, None, Ok, ap, refl, ◌||◌}
-use Rattle.std.specs.Prelude.{ℤ, if◌then◌else◌, slice_get}
-use Rattle.std.specs.List.{cons_option, filter_map, list_any}
-use Rattle.std.specs.Option.{option_map}
-use Rattle.std.specs.Ordering.{int_eq}
+use Rattle.std.proofs.Common.{Option, Some, None, Ok, ap, refl, ◌||◌, ℤ, if◌then◌else◌, slice_get}
+use Rattle.std.proofs.Common.{filter_map, option_map, int_eq}
+use Rattle.std.specs.List.{cons_option, list_any}
 use Rattle.std.proofs.lemmas.Bool.Decides.{Decides-int_eq}
 use Rattle.std.proofs.lemmas.List.Elements.{filter_map-append}
 use Rattle.book_model.specs.declared.answer.Ruled.TheVariants.{Done}
-use Rattle.book_model.specs.Words.{AcceptedTerms, Book, Event, RulingGiven, TariffAccepted, TariffSeen}
-use Rattle.book_model.specs.Words.{Terms, after, is_effective, tariff_seen, tariff_text_on}
-use Rattle.book_model.specs.Words.{tariffs_seen, terms_answer, text_on, with_tariff}
+use Rattle.book_model.specs.Words.{AcceptedTerms, Book, Event, RulingGiven, TariffAccepted}
+use Rattle.book_model.specs.Words.{TariffSeen, Terms, after, is_effective, tariff_seen}
+use Rattle.book_model.specs.Words.{tariff_text_on, tariffs_seen, terms_answer, text_on, with_tariff}
 use Rattle.book_model.proofs.TestLemmas.{tariff_passes}
 use Rattle.book_laws.specs.TariffLaws.{TariffTextsStay}
 

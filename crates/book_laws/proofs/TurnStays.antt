@@ -1,11 +1,8 @@
 -- What a record's life has before a closed period stays.
-use Rattle.std.proofs.Common.{◌≡◌, ℕ, suc, ◌+◌, ◌≤◌, List, [], ◌∷◌, ◌++◌, length, refl, sym, ap, ◌∙◌}
-use Rattle.std.proofs.Common.{true, false, Bool, cond, ◌&&◌, None, arith}
-use Rattle.std.specs.Prelude.{filter, nat_lt}
+use Rattle.std.proofs.Common.{◌≡◌, ℕ, suc, ◌+◌, ◌≤◌, List, [], ◌∷◌, ◌++◌, length, refl, sym, ap}
+use Rattle.std.proofs.Common.{◌∙◌, true, false, Bool, cond, ◌&&◌, None, arith, filter, nat_lt}
+use Rattle.std.proofs.Common.{option_map, le-ltb, length-append}
 use Rattle.std.specs.List.{last_or}
-use Rattle.std.specs.Option.{option_map}
-use Rattle.std.proofs.lemmas.Bool.{le-ltb}
-use Rattle.std.proofs.lemmas.List.{length-append}
 use Rattle.std.proofs.lemmas.List.Elements.{filter-append}
 use Rattle.book_model.specs.declared.trail.Deed.{Deed}
 use Rattle.book_model.specs.declared.trail.Deed.TheVariants.{Added, Charged, Reversed}

@@ -1,11 +1,10 @@
 -- The lines of a statement are equally long, since the office's limits keep each number within its
 -- column.
 use Rattle.std.proofs.Common.{◌≡◌, ◌∙◌, ℕ, ◌+◌, ◌-◌, ◌/◌, ◌%◌, ◌^◌, ◌<◌, ◌≤◌, List, [], ◌++◌}
-use Rattle.std.proofs.Common.{length, map, refl, sym, subst, Option, ℤ}
-use Rattle.std.proofs.Common.{Some, None, Ok, Result, arith, length-append}
-use Rattle.std.specs.Prelude.{All, codes, replicate, sum_by}
-use Rattle.std.specs.Fmt.{decimal}
-use Rattle.std.specs.Option.{ok_or, option_map, option_map_or}
+use Rattle.std.proofs.Common.{length, map, refl, sym, subst, Option, ℤ, Some, None, Ok, Result}
+use Rattle.std.proofs.Common.{arith, length-append, All, codes, replicate, sum_by, decimal, ok_or}
+use Rattle.std.proofs.Common.{option_map}
+use Rattle.std.specs.Option.{option_map_or}
 use Rattle.std.proofs.lemmas.Bool.{and_parts}
 use Rattle.std.proofs.lemmas.Bool.Decides.{nat_tests}
 use Rattle.std.proofs.lemmas.Fmt.{length-decimal-le}
@@ -20,8 +19,8 @@ use Rattle.book_model.specs.declared.fault.LedgerFault.TheVariants.{NoSuchPeriod
 use Rattle.book_model.specs.declared.row.ChargeRow.{ChargeRow}
 use Rattle.book_model.specs.declared.row.RowKey.{RowKey}
 use Rattle.book_model.specs.Words.{Book, Naming, IsPriced, Period, Records, charged_at, key_of}
-use Rattle.book_model.specs.Words.{AreAmong, keys_of, members, period_of, price_in, prices}
-use Rattle.book_model.specs.Words.{row_at, rows_for, rows_of}
+use Rattle.book_model.specs.Words.{AreAmong, keys_of, members, period_of, price_in, prices, row_at}
+use Rattle.book_model.specs.Words.{rows_for, rows_of}
 use Rattle.book_model.proofs.RowLemmas.{by_key_total, by_key_exact}
 use Rattle.book_model.proofs.SumsAlike.{length-sum_by, sum_by-filter_map}
 use Rattle.book_laws.proofs.RowSums.{sum_by-rows}

@@ -1,25 +1,24 @@
 -- The law of the net count is false where a period is made wrongly.
 use Rattle.std.proofs.Common.{◌≡◌, ℕ, ◌+◌, List, [], ◌∷◌, ◌++◌, refl, sym, ap, ◌∙◌, true, false}
-use Rattle.std.proofs.Common.{Bool, not, ◌&&◌, ◌||◌, Option, None, Some, arith}
-use Rattle.std.specs.Prelude.{replicate, ℤ, pos, ◌-ℤ◌}
+use Rattle.std.proofs.Common.{Bool, not, ◌&&◌, ◌||◌, Option, None, Some, arith, replicate, ℤ, pos}
+use Rattle.std.proofs.Common.{◌-ℤ◌}
 use Rattle.std.specs.List.{list_any}
 use Rattle.std.proofs.Math.Bool.{and-false}
 use Rattle.std.proofs.lemmas.Cmp.{nat_list_cmp_total}
 use Rattle.std.proofs.lemmas.Int.{ints}
 use Rattle.std.proofs.lemmas.Map.Lookups.{exact_bytes}
-use Rattle.smf_text.specs.PackedDate as packed
-use Rattle.smf_type30.specs.Usage as usage
 use Rattle.book_model.specs.Words.{day_of, Period, period_by, Book, conflict, is_undisputed}
-use Rattle.book_model.specs.Words.{is_dated_through, is_dated_after, charged_now, charged_through, Event}
-use Rattle.book_model.specs.Words.{RecordKept, PeriodClosed}
-use Rattle.book_model.specs.Words.{book_after, Records, by_bytes, Rulings}
-use Rattle.book_model.specs.Words.{no_rulings, last_close, set_of, has, without}
+use Rattle.book_model.specs.Words.{is_dated_through, is_dated_after, charged_now, charged_through}
+use Rattle.book_model.specs.Words.{Event, RecordKept, PeriodClosed, book_after, Records, by_bytes}
+use Rattle.book_model.specs.Words.{Rulings, no_rulings, last_close, set_of, has, without}
 use Rattle.book_model.proofs.SetLemmas.{has-set_of, any-members}
 use Rattle.book_model.proofs.RecordSets.{is, has_those}
 use Rattle.book_laws.specs.NetCounts.{one_if, net_count}
-use Rattle.book_laws.specs.WrongPeriods.{closed_periods_by, ChargedOnceBy, as_defined, no_minus, counts_late}
-use Rattle.book_laws.specs.WrongPeriods.{adds_current, WrongPeriodsFail}
+use Rattle.book_laws.specs.WrongPeriods.{closed_periods_by, ChargedOnceBy, as_defined, no_minus}
+use Rattle.book_laws.specs.WrongPeriods.{counts_late, adds_current, WrongPeriodsFail}
 use Rattle.book_laws.proofs.NetLemmas.{has_without, in_counted, in_added, charged_once}
+use Rattle.smf_text.specs.PackedDate as packed
+use Rattle.smf_type30.specs.Usage as usage
 
 -- the periods of the book are made as they are defined
 past_is : (history : List Event) → closed_periods_by as_defined history ≡ (book_after history).past

@@ -2,8 +2,7 @@
 use Rattle.std.specs.Prelude.{◌≡◌, ◌&&◌, ℕ, Bool, List, [], ◌∷◌, None, Some, pos}
 use Rattle.book_model.specs.Words.{Terms, has, Naming, is_undisputed, Book, new_book, flat_book}
 use Rattle.book_model.specs.Words.{all_periods, Event, RulingGiven, TariffAccepted, book_after}
-use Rattle.book_model.specs.Words.{book_of}
-use Rattle.book_model.specs.Words.{IsMadeByCalls, rulings_in, record_batches}
+use Rattle.book_model.specs.Words.{book_of, IsMadeByCalls, rulings_in, record_batches}
 use Rattle.book_laws.specs.NetCounts.{net_count, one_if}
 use Rattle.book_laws.specs.HistoryLaws.{IsBalanced}
 use Rattle.book_laws.specs.ClosedPeriods.{IsClosed}

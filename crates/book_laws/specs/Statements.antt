@@ -1,6 +1,5 @@
 -- The statement of any period of books, and the texts of equal books.
-use Rattle.std.specs.Prelude.{◌≡◌, ℕ, List, Option}
-use Rattle.std.specs.Option.{option_map}
+use Rattle.std.specs.Prelude.{◌≡◌, ℕ, List, Option, option_map}
 use Rattle.std.specs.Result.{result_ok}
 use Rattle.book_model.specs.Words.{Naming, Book, charges_outcome}
 use Rattle.book_laws.specs.ClosedPeriods.{IsReadAlike}

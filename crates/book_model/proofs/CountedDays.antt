@@ -1,17 +1,15 @@
 -- Where closes rise and each period counts what is dated in it, a period counts what is counted at
 -- all and dated in it.
-use Rattle.std.proofs.Common.{◌≡◌, ℕ, zero, suc, ◌-◌, ◌≤◌, ◌<◌, List, [], ◌∷◌, length}
-use Rattle.std.proofs.Common.{refl, sym, ap, ◌∙◌, subst, true, false, true≢false, Bool}
-use Rattle.std.proofs.Common.{◌&&◌, ◌||◌, ◌⊎◌, Option, Some, None, get_or, arith, inl, inr}
-use Rattle.std.specs.Prelude.{ℤ, pos, ◌<ℤ◌, int_lt, nat_lt, slice_get, if◌then◌else◌}
+use Rattle.std.proofs.Common.{◌≡◌, ℕ, zero, suc, ◌-◌, ◌≤◌, ◌<◌, List, [], ◌∷◌, length, refl, sym}
+use Rattle.std.proofs.Common.{ap, ◌∙◌, subst, true, false, true≢false, Bool, ◌&&◌, ◌||◌, ◌⊎◌}
+use Rattle.std.proofs.Common.{Option, Some, None, get_or, arith, inl, inr, ℤ, pos, ◌<ℤ◌, int_lt}
+use Rattle.std.proofs.Common.{nat_lt, slice_get, if◌then◌else◌, int_cmp, Less, ltb-true, ltb-false}
+use Rattle.std.proofs.Common.{ne_eqb, length-append}
 use Rattle.std.specs.Cmp.{both_ways, int_ranked}
 use Rattle.std.specs.List.{list_any}
 use Rattle.std.specs.List.Sorted.{IsStrictlySortedBy}
-use Rattle.std.specs.Ordering.{int_cmp}
-use Rattle.std.specs.declared.cmp.Ordering.TheVariants.{Less}
-use Rattle.std.proofs.lemmas.Bool.{and_from, ltb-true, ltb-false, ne_eqb}
+use Rattle.std.proofs.lemmas.Bool.{and_from}
 use Rattle.std.proofs.lemmas.Int.{ints}
-use Rattle.std.proofs.lemmas.List.{length-append}
 use Rattle.std.proofs.lemmas.List.Folds.{list_any_at}
 use Rattle.std.proofs.lemmas.Map.Keys.{Less-from_sorted}
 use Rattle.std.proofs.lemmas.Option.{get_or_from_slice_get, slice_get-get_or, slice_get_within}
@@ -28,7 +26,8 @@ use Rattle.book_model.specs.Rulings.{Rulings}
 use Rattle.book_model.specs.Sets.{has, those}
 use Rattle.book_model.specs.Sound.{IsSound}
 use Rattle.book_model.proofs.CountedLemmas.{has_counted}
-use Rattle.book_model.proofs.RecordSets.{first_of, has_those, in_those, not_true, same_records, second_of}
+use Rattle.book_model.proofs.RecordSets.{first_of, has_those, in_those, not_true, same_records}
+use Rattle.book_model.proofs.RecordSets.{second_of}
 
 module _ {X : Type 0} (p : X → Bool) where
   -- what is found stands somewhere

@@ -1,7 +1,6 @@
 -- Days, as the code holds them.
-use Rattle.std.proofs.Common.{◌≡◌, FitsSigned, arith, w32, to_z, of_z}
+use Rattle.std.proofs.Common.{◌≡◌, FitsSigned, arith, w32, to_z, of_z, ℤ, pos, negsuc}
 use Rattle.std.proofs.lemmas.Int.{ints, to_z-of_z}
-use Rattle.std.specs.Prelude.{ℤ, pos, negsuc}
 use Rattle.book_model.specs.Words.{IsDay}
 
 -- a day fits the code's numbers

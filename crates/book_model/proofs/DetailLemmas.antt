@@ -1,16 +1,13 @@
 -- Details of sets of records, no two of which have one name: each record has one of them; those of
 -- the records that pass a test; and one more in its place.
-use Rattle.std.proofs.Common.{◌≡◌, ℕ, List, [], ◌∷◌, refl, sym, ap, ◌∙◌, subst, true, false}
-use Rattle.std.proofs.Common.{Bool, cond, map, Option, Some, None}
-use Rattle.std.specs.Prelude.{filter}
+use Rattle.std.proofs.Common.{◌≡◌, ℕ, List, [], ◌∷◌, refl, sym, ap, ◌∙◌, subst, true, false, Bool}
+use Rattle.std.proofs.Common.{cond, map, Option, Some, None, filter, filter_map, IsPermutation}
+use Rattle.std.proofs.Common.{IsSorted, option_map, is_eq, nat_cmp, Ordering, Less, Equal, Greater}
 use Rattle.std.specs.BTreeSet.{insert_key}
-use Rattle.std.specs.FinMap as finite
-use Rattle.std.specs.List.{cons_option, filter_map, list_any, IsDistinct}
-use Rattle.std.specs.List.Sorted.{IsPermutation, IsSorted, IsStrictlySortedBy}
-use Rattle.std.specs.Option.{option_map, option_map_or}
-use Rattle.std.specs.Ordering.{eq_by_cmp, is_eq, nat_cmp, ordering_then}
-use Rattle.std.specs.declared.cmp.Ordering.{Ordering}
-use Rattle.std.specs.declared.cmp.Ordering.TheVariants.{Less, Equal, Greater}
+use Rattle.std.specs.List.{cons_option, list_any, IsDistinct}
+use Rattle.std.specs.List.Sorted.{IsStrictlySortedBy}
+use Rattle.std.specs.Option.{option_map_or}
+use Rattle.std.specs.Ordering.{eq_by_cmp, ordering_then}
 use Rattle.std.proofs.lemmas.Cmp.{nat_list_cmp_total}
 use Rattle.std.proofs.lemmas.List.Kept.{IsStrictlySortedBy-filter}
 use Rattle.std.proofs.lemmas.List.Sorted.{IsPermutation-sym}
@@ -32,6 +29,7 @@ use Rattle.book_model.proofs.PermutedSets.{insert_given, members_permuted, membe
 use Rattle.book_model.proofs.PermutedSets.{rising_from_sorted, sorted_members}
 use Rattle.book_model.proofs.RecordSets.{is}
 use Rattle.book_model.proofs.SetLemmas.{members-those, members-with, members_rise}
+use Rattle.std.specs.FinMap as finite
 
 -- details that tie have one name
 last_ties : (a b c : Ordering) → is_eq (ordering_then a (ordering_then b c)) ≡ true → c ≡ Equal

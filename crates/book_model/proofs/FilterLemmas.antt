@@ -1,17 +1,14 @@
 -- The entries of a map that is made of a list, and those of them that pass a test.
 use Rattle.std.proofs.Common.{◌≡◌, List, [], ◌∷◌, refl, sym, ap, ◌∙◌, subst, true, false, Bool}
-use Rattle.std.proofs.Common.{cond, Option, Some, None, T, arith, get_or, length}
-use Rattle.std.specs.Prelude.{filter}
+use Rattle.std.proofs.Common.{cond, Option, Some, None, T, arith, get_or, length, filter}
+use Rattle.std.proofs.Common.{filter_map, Contains, IsPermutation, is_eq, Ordering, Less, Equal}
+use Rattle.std.proofs.Common.{Greater}
 use Rattle.std.specs.Cmp.{IsTotalOrder}
 use Rattle.std.specs.FinMap.{FinMap, IsAntisymmetric, find, entries, empty, from_entries}
 use Rattle.std.specs.FinMap.{entries_sorted, get-entries, get-from_entries, entries-insert}
 use Rattle.std.specs.FinMap.{len-entries, len-empty}
 use Rattle.std.specs.FinMap.Entries.{put, by_order, is_sorted, same_entries}
-use Rattle.std.specs.List.{filter_map, cons_option, Contains}
-use Rattle.std.specs.List.Sorted.{IsPermutation}
-use Rattle.std.specs.Ordering.{is_eq}
-use Rattle.std.specs.declared.cmp.Ordering.{Ordering}
-use Rattle.std.specs.declared.cmp.Ordering.TheVariants.{Less, Equal, Greater}
+use Rattle.std.specs.List.{cons_option}
 use Rattle.std.proofs.lemmas.List.Sorted.{IsPermutation-refl, IsPermutation-cons}
 use Rattle.std.proofs.lemmas.List.Sorted.{IsPermutation-trans, IsPermutation-middle}
 use Rattle.std.proofs.lemmas.List.Sorted.{length_permutation, Contains-permutation}

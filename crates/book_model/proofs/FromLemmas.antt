@@ -1,16 +1,13 @@
 -- Bytes from some bytes on, what is found first from there, and a walk over disputes.
 use Rattle.std.proofs.Common.{◌≡◌, ◌∙◌, ℕ, List, [], ◌∷◌, ◌++◌, map, Bool, true, false, not, cond}
-use Rattle.std.proofs.Common.{Some, refl, sym, ap, subst, true≢false, arith}
-use Rattle.std.specs.Prelude.{filter, find, slice_get}
+use Rattle.std.proofs.Common.{Some, refl, sym, ap, subst, true≢false, arith, filter, find}
+use Rattle.std.proofs.Common.{slice_get, option_map, is_lt, nat_cmp, Less, Equal, Greater, map-id}
 use Rattle.std.specs.Cmp.{nat_cmp_total, tied_itself}
 use Rattle.std.specs.List.{AllByRecursion}
 use Rattle.std.specs.List.Sorted.{IsStrictlySortedBy}
-use Rattle.std.specs.Option.{option_map}
-use Rattle.std.specs.Ordering.{is_lt, nat_cmp, ordering_reverse, ordering_then}
-use Rattle.std.specs.declared.cmp.Ordering.TheVariants.{Less, Equal, Greater}
+use Rattle.std.specs.Ordering.{ordering_reverse, ordering_then}
 use Rattle.std.proofs.lemmas.Bool.Decides.{nat_tests}
 use Rattle.std.proofs.lemmas.Cmp.{nat_list_cmp_total}
-use Rattle.std.proofs.lemmas.List.{map-id}
 use Rattle.std.proofs.lemmas.List.Kept.{IsStrictlySortedBy-filter}
 use Rattle.std.proofs.lemmas.Map.Lookups.{exact_bytes}
 use Rattle.std.proofs.lemmas.Simd.{map-map}

@@ -1,21 +1,19 @@
 -- The closes of a history: their days, the history and the rulings before each of them, and what
 -- each of them charged.
 use Rattle.std.proofs.Common.{◌≡◌, ℕ, zero, suc, ◌≤◌, ◌<◌, List, [], ◌∷◌, length, Option, Some}
-use Rattle.std.proofs.Common.{None, refl, ap, sym, ◌∙◌, arith, Bool}
-use Rattle.std.proofs.Common.{◌++◌, cond}
-use Rattle.std.specs.Prelude.{ℤ, slice_get, filter, nat_le, unwrap_or}
+use Rattle.std.proofs.Common.{None, refl, ap, sym, ◌∙◌, arith, Bool, ◌++◌, cond, ℤ, slice_get}
+use Rattle.std.proofs.Common.{filter, nat_le, unwrap_or, option_and_then, lt-ltb, le-ltb, le-leb}
+use Rattle.std.proofs.Common.{length-append, append-nil}
 use Rattle.std.specs.List.{last_or}
-use Rattle.std.specs.Option.{option_and_then}
-use Rattle.std.proofs.lemmas.Bool.{lt-ltb, le-ltb, le-leb, lt-leb}
-use Rattle.std.proofs.lemmas.List.{length-append, take-append-le, append-nil}
+use Rattle.std.proofs.lemmas.Bool.{lt-leb}
+use Rattle.std.proofs.lemmas.List.{take-append-le}
 use Rattle.std.proofs.lemmas.List.Elements.{filter-append}
 use Rattle.std.proofs.Math.Seq.{take-length, take-append_seam}
 use Rattle.std.proofs.lemmas.Option.{slice_get_past}
-use Rattle.book_model.specs.Charged.{charged_now}
-use Rattle.book_model.specs.Charged.{charged_by}
+use Rattle.book_model.specs.Charged.{charged_now, charged_by}
 use Rattle.book_model.specs.Events.{Event, PeriodClosed, RulingGiven}
-use Rattle.book_model.specs.History.{rulings, closes, kept, before_close, day_of_close}
-use Rattle.book_model.specs.History.{held_before, charged_in}
+use Rattle.book_model.specs.History.{rulings, closes, kept, before_close, day_of_close, held_before}
+use Rattle.book_model.specs.History.{charged_in}
 use Rattle.book_model.specs.Records.{Records, by_bytes}
 use Rattle.book_model.specs.Rulings.{Rulings, AcceptedTerms, Choice, rulings_before, if_before}
 use Rattle.book_model.specs.Rulings.{RecordChosen, SecondRuleAdopted, last_close, open_by}

@@ -1,8 +1,7 @@
 -- Histories that calls made.
-use Rattle.std.proofs.Common.{◌≡◌, List, [], ◌∷◌, refl, sym, ap, ◌∙◌, subst, true, Some, None}
-use Rattle.std.specs.Prelude.{ℤ, int_lt}
+use Rattle.std.proofs.Common.{◌≡◌, List, [], ◌∷◌, refl, sym, ap, ◌∙◌, subst, true, Some, None, ℤ}
+use Rattle.std.proofs.Common.{int_lt, option_map}
 use Rattle.std.specs.List.{list_all}
-use Rattle.std.specs.Option.{option_map}
 use Rattle.book_model.specs.MadeByCalls.{IsMadeByCalls}
 use Rattle.book_model.specs.Books.{Book, open_number}
 use Rattle.book_model.specs.Events.{Event, RecordKept, PeriodClosed, RulingGiven, give}

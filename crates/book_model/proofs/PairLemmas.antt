@@ -1,13 +1,11 @@
 -- Entries that give each key of a list a value of its own.
 use Rattle.std.proofs.Common.{◌≡◌, List, [], ◌∷◌, refl, sym, ap, subst, cond, ◌||◌, ◌&&◌, Some}
-use Rattle.std.proofs.Common.{None, map, T}
-use Rattle.std.specs.FinMap as fin
+use Rattle.std.proofs.Common.{None, map, T, is_lt, is_eq, Ordering, Less, Equal, Greater}
 use Rattle.std.specs.FinMap.Entries.{find, below_all, is_sorted}
 use Rattle.std.specs.List.{list_any}
-use Rattle.std.specs.Ordering.{eq_by_cmp, is_lt, is_eq}
-use Rattle.std.specs.declared.cmp.Ordering.{Ordering}
-use Rattle.std.specs.declared.cmp.Ordering.TheVariants.{Less, Equal, Greater}
+use Rattle.std.specs.Ordering.{eq_by_cmp}
 use Rattle.book_model.specs.Sets.{Set, members}
+use Rattle.std.specs.FinMap as fin
 
 -- each key with its value
 abbrev pub pairs : {K V : Type 0} → (K → V) → List K → List (K × V)

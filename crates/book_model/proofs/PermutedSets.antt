@@ -1,15 +1,13 @@
 -- Sets of lists that have nothing twice: their members are the list's elements, in another order.
-use Rattle.std.proofs.Common.{◌≡◌, ℕ, ◌+◌, ◌<◌, zero, suc, List, [], ◌∷◌, length, get_or}
-use Rattle.std.proofs.Common.{refl, sym, ap, ◌∙◌, subst, true, false, true≢false, Bool, cond, ◌||◌}
-use Rattle.std.proofs.Common.{Option, Some, None, map, arith}
-use Rattle.std.specs.Prelude.{filter}
+use Rattle.std.proofs.Common.{◌≡◌, ℕ, ◌+◌, ◌<◌, zero, suc, List, [], ◌∷◌, length, get_or, refl, sym}
+use Rattle.std.proofs.Common.{ap, ◌∙◌, subst, true, false, true≢false, Bool, cond, ◌||◌, Option}
+use Rattle.std.proofs.Common.{Some, None, map, arith, filter, filter_map, Contains, IsPermutation}
+use Rattle.std.proofs.Common.{IsSorted, is_eq, is_lt, Ordering, Less, Equal, Greater}
 use Rattle.std.specs.BTreeSet.{insert_key}
 use Rattle.std.specs.Cmp.{IsTotalOrder}
-use Rattle.std.specs.List.{list_any, filter_map, cons_option, AllByRecursion, Contains, IsDistinct}
-use Rattle.std.specs.List.Sorted.{IsPermutation, IsSorted, IsStrictlySortedBy}
-use Rattle.std.specs.Ordering.{eq_by_cmp, match_ordering, is_eq, is_lt, ordering_reverse}
-use Rattle.std.specs.declared.cmp.Ordering.{Ordering}
-use Rattle.std.specs.declared.cmp.Ordering.TheVariants.{Less, Equal, Greater}
+use Rattle.std.specs.List.{list_any, cons_option, AllByRecursion, IsDistinct}
+use Rattle.std.specs.List.Sorted.{IsStrictlySortedBy}
+use Rattle.std.specs.Ordering.{eq_by_cmp, match_ordering, ordering_reverse}
 use Rattle.std.proofs.lemmas.Cmp.{eq_by_cmp_equiv}
 use Rattle.std.proofs.lemmas.List.Elements.{All-from_recursion, All-contains, Contains-append_right}
 use Rattle.std.proofs.lemmas.List.Folds.{list_any_none}
@@ -19,9 +17,9 @@ use Rattle.std.proofs.lemmas.List.Sorted.{Contains-permutation}
 use Rattle.std.proofs.lemmas.Map.Keys.{IsDistinct-head, IsDistinct-tail, IsDistinct-cons}
 use Rattle.std.proofs.lemmas.Map.Keys.{IsDistinct-IsPermutation, sorted_head, sorted_tail}
 use Rattle.std.proofs.lemmas.Map.Keys.{sorted_from_all_adjacent}
-use Rattle.std.proofs.lemmas.Map.Keys as keys
 use Rattle.book_model.specs.Sets.{set_of, members}
 use Rattle.book_model.proofs.SetLemmas.{members-empty, members-with, members_rise, any_tied-members}
+use Rattle.std.proofs.lemmas.Map.Keys as keys
 
 -- no element ties with one after it
 abbrev pub Apart : {X : Type 0} → (X → X → Bool) → List X → Type 0

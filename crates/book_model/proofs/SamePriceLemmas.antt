@@ -1,6 +1,5 @@
 -- Rows and lines by two rulings, where they price alike what is dated no later than a close.
-use Rattle.std.proofs.Common.{◌≡◌, ℕ, List, ◌++◌, Bool, true, false, ap, Option}
-use Rattle.std.specs.Prelude.{ℤ}
+use Rattle.std.proofs.Common.{◌≡◌, ℕ, List, ◌++◌, Bool, true, false, ap, Option, ℤ}
 use Rattle.book_model.specs.Charged.{is_dated_after}
 use Rattle.book_model.specs.Lines.{by_line, lines_for, lines_of}
 use Rattle.book_model.specs.Periods.{Period}

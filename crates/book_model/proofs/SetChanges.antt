@@ -1,12 +1,8 @@
 -- Sets of records, with one record more or one less.
 use Rattle.std.proofs.Common.{◌≡◌, ℕ, List, [], ◌∷◌, refl, sym, ap, ◌∙◌, true, false, true≢false}
-use Rattle.std.proofs.Common.{Bool, not, ◌||◌, ◌&&◌, Option, map}
-use Rattle.std.specs.Prelude.{sum_by}
-use Rattle.std.specs.FinMap as fin
-use Rattle.std.specs.List.{AllByRecursion, list_any, filter_map}
+use Rattle.std.proofs.Common.{Bool, not, ◌||◌, ◌&&◌, Option, map, sum_by, filter_map, is_eq, Less}
+use Rattle.std.specs.List.{AllByRecursion, list_any}
 use Rattle.std.specs.List.Sorted.{IsStrictlySortedBy}
-use Rattle.std.specs.Ordering.{is_eq}
-use Rattle.std.specs.declared.cmp.Ordering.TheVariants.{Less}
 use Rattle.std.proofs.Math.Bool.{or-true, and-false}
 use Rattle.std.proofs.lemmas.Cmp.{nat_list_cmp_total, eq_by_cmp_equiv}
 use Rattle.std.proofs.lemmas.Map.Keys.{sorted_head}
@@ -20,6 +16,7 @@ use Rattle.book_model.proofs.RecordSets.{is, is_itself, same_records, has_with, 
 use Rattle.book_model.proofs.SetLemmas.{members-with, insert_key-alike, map-members_agree}
 use Rattle.book_model.proofs.SetLemmas.{members-set_of, members_rise}
 use Rattle.book_model.proofs.SumsAlike.{SumsAlike, list_any-alike}
+use Rattle.std.specs.FinMap as fin
 
 -- the set without a record
 abbrev pub except : List ℕ → Records → Records

@@ -1,9 +1,7 @@
 -- What passed the tests of a call: a record that is kept, and a ruling that is done.
 use Rattle.std.proofs.Common.{◌≡◌, ℕ, List, Bool, true, false, not, Option, Some, None, Result, Ok}
-use Rattle.std.proofs.Common.{Err, refl, length}
-use Rattle.std.specs.Prelude.{if◌then◌else◌, ◌==◌, ℤ, IsSome, nat_le}
+use Rattle.std.proofs.Common.{Err, refl, length, if◌then◌else◌, ◌==◌, ℤ, IsSome, nat_le, eqb-true}
 use Rattle.std.specs.List.{list_any}
-use Rattle.std.proofs.lemmas.Bool.{eqb-true}
 use Rattle.tariff_rules.specs.Terms.{Terms}
 use Rattle.tariff_rules.specs.declared.priced.Priced.{Priced}
 use Rattle.book_model.specs.declared.answer.Accepted.{Accepted}

@@ -1,7 +1,6 @@
 -- A ledger's faults: their numbers, and what is answered to a text that is no tariff.
 use Rattle.std.specs.Prelude.{ℕ}
 use Rattle.tariff_rules.specs.declared.fault.TariffFault.{TariffFault}
-use Rattle.tariff_rules.specs.declared.fault.TariffFault.TheVariants as tariff
 use Rattle.book_model.specs.declared.fault.LedgerFault.{LedgerFault}
 use Rattle.book_model.specs.declared.fault.LedgerFault.TheVariants.{Memory, Store, Reopen, Full}
 use Rattle.book_model.specs.declared.fault.LedgerFault.TheVariants.{DigestClash, TariffDate}
@@ -10,8 +9,8 @@ use Rattle.book_model.specs.declared.fault.LedgerFault.TheVariants.{WrongPeriod,
 use Rattle.book_model.specs.declared.fault.LedgerFault.TheVariants.{NoSuchPeriod, NoSuchRecord}
 use Rattle.book_model.specs.declared.fault.LedgerFault.TheVariants.{NotDisputed, OldRule}
 use Rattle.book_model.specs.declared.fault.LedgerFault.TheVariants.{TariffRefused, NotBooks}
-use Rattle.book_model.specs.declared.fault.LedgerFault.TheVariants.{OldForm, NewForm}
-use Rattle.book_model.specs.declared.fault.LedgerFault.TheVariants.{NoSuchTariff}
+use Rattle.book_model.specs.declared.fault.LedgerFault.TheVariants.{OldForm, NewForm, NoSuchTariff}
+use Rattle.tariff_rules.specs.declared.fault.TariffFault.TheVariants as tariff
 
 -- the number that reports and messages show
 abbrev pub ledger_number : LedgerFault → ℕ

@@ -1,10 +1,7 @@
 -- Laws of the books, which follow from the definitions alone.
 use Rattle.std.specs.Prelude.{◌≡◌, ℕ, suc, true, false, List, All, Option, Some, MatchOption, Ok}
-use Rattle.std.specs.Prelude.{find}
-use Rattle.std.specs.Prelude.{reverse, ℤ, ◌<ℤ◌}
-use Rattle.std.specs.Prelude.{not, ◌&&◌}
+use Rattle.std.specs.Prelude.{find, reverse, ℤ, ◌<ℤ◌, not, ◌&&◌, option_map}
 use Rattle.std.specs.List.{list_any}
-use Rattle.std.specs.Option.{option_map}
 use Rattle.tariff_rules.specs.Terms.{Terms}
 use Rattle.smf_type30.specs.Usage.{day_of}
 use Rattle.book_model.specs.declared.answer.Accepted.TheVariants.{Kept}

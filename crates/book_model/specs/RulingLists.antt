@@ -1,16 +1,14 @@
 -- The office's rulings as a list shows them: the tariffs that came as texts, the closes, the choices
 -- and the adoption of the second rule; and the text of the tariff that begins on a day.
 use Rattle.std.specs.Prelude.{ℕ, suc, List, [], ◌∷◌, ◌++◌, Option, Some, None, if◌then◌else◌, ℤ}
-use Rattle.std.specs.Prelude.{IfSome, slice_get, string_bytes}
-use Rattle.std.specs.List.{filter_map}
-use Rattle.std.specs.Option.{option_map}
+use Rattle.std.specs.Prelude.{IfSome, slice_get, string_bytes, filter_map, option_map}
 use Rattle.std.specs.Ordering.{int_eq}
 use Rattle.smf_text.specs.Day.{IsDay}
 use Rattle.book_model.specs.declared.listed_ruling.ListedRuling.{ListedRuling}
 use Rattle.book_model.specs.declared.listed_ruling.ListedRuling.TheVariants.{Tariff, Close}
-use Rattle.book_model.specs.declared.listed_ruling.ListedRuling.TheVariants as listed
 use Rattle.book_model.specs.Records.{Naming, name_of}
 use Rattle.book_model.specs.Rulings.{AcceptedTerms, Choice, Rulings}
+use Rattle.book_model.specs.declared.listed_ruling.ListedRuling.TheVariants as listed
 
 -- A ruling as one reads it in the list: a tariff, by its first day and its text; a close, by its
 -- period and its day; a choice, by its number, the period that was open then and the record's name;

@@ -1,8 +1,8 @@
 -- What a plain ledger answers to a record, and what it holds then.
 use Rattle.std.proofs.Common.{◌≡◌, ◌∙◌, ℕ, ◌+◌, List, length, sym, ap, subst, ◌||◌, Bool, true}
-use Rattle.std.proofs.Common.{false, Option, Some, None, Ok, Err, arith}
-use Rattle.std.proofs.lemmas.Bool.{leb-false, ltb-false, or_parts}
-use Rattle.std.specs.Prelude.{if◌then◌else◌, nat_le, nat_lt}
+use Rattle.std.proofs.Common.{false, Option, Some, None, Ok, Err, arith, leb-false, ltb-false}
+use Rattle.std.proofs.Common.{if◌then◌else◌, nat_le, nat_lt}
+use Rattle.std.proofs.lemmas.Bool.{or_parts}
 use Rattle.std.specs.BTreeMap.{insert_entry}
 use Rattle.std.specs.List.Sorted.{IsStrictlySortedBy}
 use Rattle.std.specs.Map.{keys_of}
@@ -15,9 +15,8 @@ use Rattle.book_model.specs.declared.fault.LedgerFault.TheVariants.{Full, Digest
 use Rattle.plain_ledger.specs.declared.held.HeldRecord.{HeldRecord}
 use Rattle.plain_ledger.specs.Plain.{Entry, AreBooked, held_in, record_of}
 use Rattle.plain_ledger.specs.Treatments.{under_name}
-use Rattle.plain_ledger.proofs.HeldLemmas.{has-found, has-missing, kept_more}
-use Rattle.plain_ledger.proofs.HeldLemmas.{clashes-found, clashes-missing, length-held}
-use Rattle.plain_ledger.proofs.HeldLemmas.{total_of-held}
+use Rattle.plain_ledger.proofs.HeldLemmas.{has-found, has-missing, kept_more, clashes-found}
+use Rattle.plain_ledger.proofs.HeldLemmas.{clashes-missing, length-held, total_of-held}
 
 -- the book of some rulings that holds the records of entries, whatever else it has
 abbrev pub book_holding : Rulings → List Entry → Book

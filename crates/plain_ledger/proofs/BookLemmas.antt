@@ -1,20 +1,17 @@
 -- The book of a plain ledger: a period of it by its number, and what a close and a record change.
 use Rattle.std.proofs.Common.{◌≡◌, ◌∙◌, ℕ, ◌+◌, ◌-◌, ◌≤◌, List, [], ◌∷◌, ◌++◌, length, map, refl}
 use Rattle.std.proofs.Common.{sym, ap, Bool, true, false, Option, Some, None, slice_get, arith, inl}
-use Rattle.std.proofs.Common.{inr, Result, Ok, Err}
-use Rattle.std.specs.Prelude.{◌==◌, ℤ, if◌then◌else◌, ok_or}
+use Rattle.std.proofs.Common.{inr, Result, Ok, Err, ◌==◌, ℤ, if◌then◌else◌, ok_or, option_map}
 use Rattle.std.specs.BTreeMap.{insert_entry}
 use Rattle.std.specs.List.Sorted.{IsStrictlySortedBy}
 use Rattle.std.specs.Map.{keys_of}
-use Rattle.std.specs.Option.{option_map}
 use Rattle.std.proofs.lemmas.Bool.Decides.{nat_tests}
 use Rattle.std.proofs.lemmas.List.{map-append}
 use Rattle.std.proofs.lemmas.Option.{slice_get-map, slice_get_past, slice_get_cases}
 use Rattle.book_model.specs.declared.fault.LedgerFault.{LedgerFault}
 use Rattle.book_model.specs.declared.fault.LedgerFault.TheVariants.{NoSuchPeriod}
-use Rattle.book_model.specs.Words.{Book, open_number, open_period, period_of}
-use Rattle.book_model.specs.Words.{keep, close, Period, Naming, by_bytes}
-use Rattle.book_model.specs.Words.{Rulings, are_rising, price_under, with_close}
+use Rattle.book_model.specs.Words.{Book, open_number, open_period, period_of, keep, close, Period}
+use Rattle.book_model.specs.Words.{Naming, by_bytes, Rulings, are_rising, price_under, with_close}
 use Rattle.plain_ledger.specs.declared.treatment.ClosedPeriod.{ClosedPeriod}
 use Rattle.plain_ledger.specs.declared.period_end.PeriodEnd.{PeriodEnd}
 use Rattle.plain_ledger.specs.declared.held.HeldRecord.{HeldRecord}

@@ -1,13 +1,10 @@
 -- What is put into a map for a key, and that the records which a plain ledger recalls stay held.
 use Rattle.std.proofs.Common.{◌≡◌, ◌∙◌, ◌||◌, ap, Bool, true, ℕ, List, ◌∷◌, Option, Some, None}
-use Rattle.std.proofs.Common.{Result, Ok, Err, subst, sym}
-use Rattle.std.specs.Prelude.{All, IfOk, OnErr}
+use Rattle.std.proofs.Common.{Result, Ok, Err, subst, sym, All, IfOk, OnErr, Global, IsPermutation}
+use Rattle.std.proofs.Common.{MatchOption}
 use Rattle.std.specs.BTreeMap.{insert_entry}
-use Rattle.std.specs.Global.{Global}
 use Rattle.std.specs.HashMap.{values}
-use Rattle.std.specs.List.Sorted.{IsPermutation}
 use Rattle.std.specs.Map.{set_value, values_of}
-use Rattle.std.specs.Option.{MatchOption}
 use Rattle.std.specs.Rc.{rc_slice_items}
 use Rattle.std.specs.declared.rc.RcSlice.{RcSlice}
 use Rattle.std.proofs.lemmas.Bool.{or_right}

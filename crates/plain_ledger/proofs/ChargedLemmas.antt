@@ -1,7 +1,6 @@
 -- Which entries of a plain ledger have no rival: those that are alone in their identity.
-use Rattle.std.proofs.Common.{◌≡◌, ℕ, ◌+◌, List, sym, ap, ◌∙◌, subst, true, Bool, cond}
-use Rattle.std.proofs.Common.{not, arith, get_or}
-use Rattle.std.specs.Prelude.{count_by, All, nat_eq, nat_lt}
+use Rattle.std.proofs.Common.{◌≡◌, ℕ, ◌+◌, List, sym, ap, ◌∙◌, subst, true, Bool, cond, not, arith}
+use Rattle.std.proofs.Common.{get_or, count_by, All, nat_eq, nat_lt}
 use Rattle.std.specs.Cmp.Lexicographic.{bytes_decides}
 use Rattle.std.specs.List.{list_any, IsDistinct}
 use Rattle.std.specs.List.Sorted.{IsStrictlySortedBy}

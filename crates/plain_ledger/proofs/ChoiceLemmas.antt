@@ -1,15 +1,14 @@
 -- The choices of a plain ledger: which record was chosen last of an identity, and which identities
 -- are settled.
 use Rattle.std.proofs.Common.{◌≡◌, ◌∙◌, ◌++◌, ◌+◌, ◌<◌, ℕ, List, [], ◌∷◌, length, get_or, take}
-use Rattle.std.proofs.Common.{refl, sym, ap, map, Bool, true}
-use Rattle.std.proofs.Common.{false, cond, not, ◌||◌, ◌&&◌, Option, Some, None, append-nil}
-use Rattle.std.specs.Prelude.{filter, find, reverse}
+use Rattle.std.proofs.Common.{refl, sym, ap, map, Bool, true, false, cond, not, ◌||◌, ◌&&◌, Option}
+use Rattle.std.proofs.Common.{Some, None, append-nil, filter, find, reverse, BTreeSet, Global}
+use Rattle.std.proofs.Common.{option_map}
 use Rattle.std.specs.BTreeMap.{get, is_at}
-use Rattle.std.specs.BTreeSet.{BTreeSet, contains}
+use Rattle.std.specs.BTreeSet.{contains}
 use Rattle.std.specs.Cmp.Lexicographic.{texts_ties}
-use Rattle.std.specs.Global.{Global}
 use Rattle.std.specs.List.{last_or}
-use Rattle.std.specs.Option.{option_map, option_map_or, option_or}
+use Rattle.std.specs.Option.{option_map_or, option_or}
 use Rattle.std.specs.Rc.{rc_slice_items}
 use Rattle.std.specs.declared.rc.RcSlice.{RcSlice}
 use Rattle.std.proofs.Math.Bool.{and-false, or-false, or-true}
@@ -18,8 +17,8 @@ use Rattle.std.proofs.lemmas.List.{reverse-append, take_more}
 use Rattle.std.proofs.lemmas.List.Elements.{filter-append}
 use Rattle.std.proofs.lemmas.List.Folds.{find-append, list_any-append}
 use Rattle.std.proofs.lemmas.Simd.{map-map}
-use Rattle.book_model.specs.Words.{by_bytes, same_bytes, identity_by, is_chosen, is_settled}
-use Rattle.book_model.specs.Words.{Choice, Rulings}
+use Rattle.book_model.specs.Words.{by_bytes, same_bytes, identity_by, is_chosen, is_settled, Choice}
+use Rattle.book_model.specs.Words.{Rulings}
 use Rattle.book_model.proofs.LatestLemmas.{or-none}
 use Rattle.book_model.proofs.ListLemmas.{filter-map, last_or-behind, list_any-map}
 use Rattle.plain_ledger.specs.declared.chosen.ChosenRecord.{ChosenRecord}

@@ -1,8 +1,7 @@
 -- What a plain ledger answers to a choice, by the record that is meant.
 use Rattle.std.proofs.Common.{◌≡◌, ◌∙◌, ◌++◌, ℕ, List, [], ◌∷◌, length, refl, sym, ap, map, Bool}
 use Rattle.std.proofs.Common.{true, false, true≢false, cond, Option, Some, None, is_some, Result}
-use Rattle.std.proofs.Common.{Ok, Err, ◌≤◌, ◌<◌, subst, arith}
-use Rattle.std.specs.Prelude.{if◌then◌else◌, All, nat_le}
+use Rattle.std.proofs.Common.{Ok, Err, ◌≤◌, ◌<◌, subst, arith, if◌then◌else◌, All, nat_le}
 use Rattle.std.specs.BTreeMap.{is_at}
 use Rattle.std.specs.List.Sorted.{IsStrictlySortedBy}
 use Rattle.std.specs.Map.{keys_of, lookup}

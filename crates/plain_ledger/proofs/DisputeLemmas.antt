@@ -1,12 +1,10 @@
 -- The disputes of a plain ledger: the entries that are not alone in their identity, where none
 -- was chosen.
 use Rattle.std.proofs.Common.{◌≡◌, ℕ, List, [], ◌∷◌, length, sym, ap, ◌∙◌, true, false, Bool, not}
-use Rattle.std.proofs.Common.{◌&&◌, Option, Some, cond, map, arith, get_or}
-use Rattle.std.specs.Prelude.{count_by, filter, find, All, nat_eq, nat_le, nat_lt}
-use Rattle.std.specs.List.{filter_map}
+use Rattle.std.proofs.Common.{◌&&◌, Option, Some, cond, map, arith, get_or, count_by, filter, find}
+use Rattle.std.proofs.Common.{All, nat_eq, nat_le, nat_lt, filter_map, option_map}
 use Rattle.std.specs.List.Sorted.{IsStrictlySortedBy}
 use Rattle.std.specs.Map.{keys_of}
-use Rattle.std.specs.Option.{option_map}
 use Rattle.std.proofs.lemmas.Bool.Decides.{nat_tests}
 use Rattle.std.proofs.lemmas.Cmp.{nat_list_cmp_total, nat_list_eq_equiv}
 use Rattle.std.proofs.lemmas.List.{length-map}
@@ -16,18 +14,18 @@ use Rattle.std.proofs.lemmas.List.Kept.{IsStrictlySortedBy-filter}
 use Rattle.std.proofs.lemmas.List.Sums.{length-filter}
 use Rattle.std.proofs.lemmas.Map.Lookups.{exact_bytes}
 use Rattle.std.proofs.lemmas.Simd.{map-map}
-use Rattle.book_model.specs.Words.{identity_by, by_name, variant_of, identities}
-use Rattle.book_model.specs.Words.{records_of, dispute_at, disputes_in, is_in_dispute, is_settled}
-use Rattle.book_model.specs.Words.{Naming, by_bytes, same_bytes, Rulings, set_of, members}
-use Rattle.book_model.specs.Words.{IsDispute, ShowsDispute, dispute_shown}
+use Rattle.book_model.specs.Words.{identity_by, by_name, variant_of, identities, records_of}
+use Rattle.book_model.specs.Words.{dispute_at, disputes_in, is_in_dispute, is_settled, Naming}
+use Rattle.book_model.specs.Words.{by_bytes, same_bytes, Rulings, set_of, members, IsDispute}
+use Rattle.book_model.specs.Words.{ShowsDispute, dispute_shown}
 use Rattle.book_model.specs.declared.dispute.Dispute.{Dispute}
 use Rattle.book_model.specs.declared.dispute.Variant.{Variant}
 use Rattle.plain_ledger.specs.Plain.{Entry, entry_records, held_in, AreBooked, is_alone, variant_at}
 use Rattle.plain_ledger.specs.Plain.{dispute_among, disputes_among, entry_identity}
 use Rattle.plain_ledger.specs.Plain.{entry_has_identity, is_disputed, is_shared}
-use Rattle.plain_ledger.proofs.HeldLemmas.{bytes_of}
+use Rattle.plain_ledger.proofs.HeldLemmas.{bytes_of, records_rise, held-alike, each_priced}
+use Rattle.plain_ledger.proofs.HeldLemmas.{each_named}
 use Rattle.book_core.proofs.NamedLemmas.{by_name_total, by_name_exact}
-use Rattle.plain_ledger.proofs.HeldLemmas.{records_rise, held-alike, each_priced, each_named}
 use Rattle.book_model.proofs.ListLemmas.{filter-map, filter-agree, filter_map-map}
 use Rattle.book_model.proofs.ListLemmas.{filter_map-defined}
 use Rattle.book_model.proofs.SetLemmas.{members-those, members-set_of, set_of-alike, those-set_of}

@@ -1,16 +1,14 @@
 -- One entry more of a map, and one element among those that pass a test.
 use Rattle.std.proofs.Common.{◌≡◌, List, [], ◌∷◌, refl, sym, ap, ◌∙◌, subst, true, false, Bool}
 use Rattle.std.proofs.Common.{cond, ◌||◌, ◌&&◌, Some, None, is_some, ℕ, zero, suc, ◌<◌, length, map}
-use Rattle.std.proofs.Common.{get_or, true≢false, arith}
-use Rattle.std.specs.Prelude.{sum_by, All, filter}
+use Rattle.std.proofs.Common.{get_or, true≢false, arith, sum_by, All, filter, is_eq, Ordering, Less}
+use Rattle.std.proofs.Common.{Equal, Greater}
 use Rattle.std.specs.BTreeMap.{is_at, insert_entry}
 use Rattle.std.specs.BTreeSet.{insert_key}
 use Rattle.std.specs.Cmp.{IsEquivalence}
 use Rattle.std.specs.List.{list_any, IsDistinct}
 use Rattle.std.specs.Map.{lookup}
-use Rattle.std.specs.Ordering.{match_ordering, is_eq}
-use Rattle.std.specs.declared.cmp.Ordering.{Ordering}
-use Rattle.std.specs.declared.cmp.Ordering.TheVariants.{Less, Equal, Greater}
+use Rattle.std.specs.Ordering.{match_ordering}
 use Rattle.std.proofs.Math.Bool.{or-false, and-true, and-false}
 use Rattle.std.proofs.lemmas.List.Elements.{All-from_recursion}
 use Rattle.std.proofs.lemmas.List.Folds.{list_any_at, list_any_none}

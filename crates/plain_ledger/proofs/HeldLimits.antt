@@ -1,7 +1,6 @@
 -- What a plain ledger returns can be shown: its days are days, and its sums fit 64 bits.
 use Rattle.std.proofs.Common.{◌≡◌, ◌∙◌, ℕ, ◌+◌, ◌≤◌, List, length, refl, sym, ap, Bool, not, map}
-use Rattle.std.proofs.Common.{arith, get_or, inl, inr, ◌⊎◌, Option, Some, None}
-use Rattle.std.specs.Prelude.{filter, sum_by, All}
+use Rattle.std.proofs.Common.{arith, get_or, inl, inr, ◌⊎◌, Option, Some, None, filter, sum_by, All}
 use Rattle.std.proofs.lemmas.Cmp.{nat_list_cmp_total}
 use Rattle.std.proofs.lemmas.List.{length-map}
 use Rattle.std.proofs.lemmas.List.Elements.{All-map}

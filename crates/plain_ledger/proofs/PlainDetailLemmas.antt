@@ -1,11 +1,10 @@
 -- The details of the entries of a plain ledger.
 use Rattle.std.proofs.Common.{◌≡◌, ◌∙◌, ℕ, List, [], ◌∷◌, map, sym, ap, subst, Bool, true, false}
-use Rattle.std.proofs.Common.{cond, Option, Some, get_or}
-use Rattle.std.specs.Prelude.{All, filter, find}
-use Rattle.std.specs.List.{filter_map, IsDistinct}
-use Rattle.std.specs.List.Sorted.{IsPermutation, IsStrictlySortedBy}
+use Rattle.std.proofs.Common.{cond, Option, Some, get_or, All, filter, find, filter_map}
+use Rattle.std.proofs.Common.{IsPermutation, option_map}
+use Rattle.std.specs.List.{IsDistinct}
+use Rattle.std.specs.List.Sorted.{IsStrictlySortedBy}
 use Rattle.std.specs.Map.{keys_of}
-use Rattle.std.specs.Option.{option_map}
 use Rattle.std.specs.Ordering.{eq_by_cmp}
 use Rattle.std.proofs.lemmas.Cmp.{nat_list_cmp_total}
 use Rattle.std.proofs.lemmas.List.Elements.{All-filter, All-head, All-map, All-tail}

@@ -1,8 +1,7 @@
 -- The records that are held, each at the price that it has under one more tariff: nothing else of
 -- them changes.
 use Rattle.std.proofs.Common.{◌≡◌, ◌∙◌, ℕ, List, [], ◌∷◌, refl, sym, ap, subst, map, Bool, true}
-use Rattle.std.proofs.Common.{false, cond, Option, Some, None, is_some, true≢false}
-use Rattle.std.specs.Prelude.{filter, nat_lt}
+use Rattle.std.proofs.Common.{false, cond, Option, Some, None, is_some, true≢false, filter, nat_lt}
 use Rattle.std.specs.BTreeMap.{get, is_at}
 use Rattle.std.specs.BTreeSet.{contains}
 use Rattle.std.specs.Map.Calls.{RetainsPairs}

@@ -1,19 +1,18 @@
 -- What a plain ledger answers to a tariff, and what its records cost then.
 use Rattle.std.proofs.Common.{◌≡◌, ◌∙◌, ◌≤◌, ◌+◌, ℕ, List, sym, ap, Bool, true, false, Option, Some}
-use Rattle.std.proofs.Common.{map, Ok, Err, Result, get_or, refl, length, subst}
-use Rattle.std.specs.Prelude.{if◌then◌else◌, int_lt, nat_lt, All, sum_by}
+use Rattle.std.proofs.Common.{map, Ok, Err, Result, get_or, refl, length, subst, if◌then◌else◌}
+use Rattle.std.proofs.Common.{int_lt, nat_lt, All, sum_by, ltb-false}
 use Rattle.std.specs.List.{list_all, list_any}
 use Rattle.std.specs.List.Sorted.{IsStrictlySortedBy}
 use Rattle.std.specs.Map.{keys_of}
-use Rattle.std.proofs.lemmas.Bool.{ltb-false}
 use Rattle.std.proofs.lemmas.List.{length-map}
 use Rattle.std.proofs.lemmas.List.Folds.{fold-map}
 use Rattle.std.proofs.lemmas.Simd.{map-map}
 use Rattle.book_model.specs.Words.{day_of, Terms, Naming, name_of, by_bytes, Book, Rulings}
 use Rattle.book_model.specs.Words.{price_in, price_by, with_tariff, has_text, total_of}
-use Rattle.book_model.specs.RulingAnswers.{terms_ruled}
 use Rattle.book_model.specs.Words.{is_effective, is_later, is_too_dear, tariff_answer, terms_answer}
 use Rattle.book_model.specs.Words.{most_held, most_cost}
+use Rattle.book_model.specs.RulingAnswers.{terms_ruled}
 use Rattle.tariff_rules.specs.declared.fault.TariffFault.{TariffFault}
 use Rattle.tariff_rules.specs.declared.priced.Priced.{Priced}
 use Rattle.plain_ledger.specs.declared.held.HeldRecord.{HeldRecord}

@@ -1,11 +1,10 @@
 -- The trail of a record of a plain ledger.
 use Rattle.std.proofs.Common.{◌≡◌, ◌∙◌, ℕ, List, [], ◌∷◌, ◌++◌, map, refl, sym, ap, Bool, true}
 use Rattle.std.proofs.Common.{false, Option, None, Some, Err, ◌+◌, ◌<◌, length, take, get_or, cond}
-use Rattle.std.specs.Prelude.{All, filter}
+use Rattle.std.proofs.Common.{All, filter, ok_or, option_and_then, option_map}
 use Rattle.std.specs.BTreeMap.{is_at}
 use Rattle.std.specs.List.Sorted.{IsStrictlySortedBy}
 use Rattle.std.specs.Map.{keys_of}
-use Rattle.std.specs.Option.{ok_or, option_and_then, option_map}
 use Rattle.std.proofs.lemmas.List.{map-append, take_more}
 use Rattle.std.proofs.lemmas.List.Elements.{All-map, filter-append}
 use Rattle.std.proofs.lemmas.Map.Lookups.{exact_bytes}

@@ -1,9 +1,9 @@
 -- Periods by the shares that they have in entries: which sets of records these are.
-use Rattle.std.proofs.Common.{◌≡◌, ◌∙◌, ℕ, List, [], map, refl, sym, ap, subst, Bool}
-use Rattle.std.proofs.Common.{true, false, not, ◌&&◌, ◌||◌, Option, Some, None, get_or}
-use Rattle.std.specs.Prelude.{All, filter, sum_by, ℤ, int_lt}
+use Rattle.std.proofs.Common.{◌≡◌, ◌∙◌, ℕ, List, [], map, refl, sym, ap, subst, Bool, true, false}
+use Rattle.std.proofs.Common.{not, ◌&&◌, ◌||◌, Option, Some, None, get_or, All, filter, sum_by, ℤ}
+use Rattle.std.proofs.Common.{int_lt, filter_map}
 use Rattle.std.specs.BTreeSet.{contains}
-use Rattle.std.specs.List.{filter_map, IsDistinct}
+use Rattle.std.specs.List.{IsDistinct}
 use Rattle.std.specs.List.Sorted.{IsStrictlySortedBy}
 use Rattle.std.specs.Map.{keys_of}
 use Rattle.std.specs.Option.{option_map_or}
@@ -13,9 +13,9 @@ use Rattle.std.proofs.lemmas.List.Elements.{All-filter}
 use Rattle.std.proofs.lemmas.Map.Lookups.{exact_bytes}
 use Rattle.tariff_rules.specs.declared.priced.Priced.{Priced}
 use Rattle.book_model.specs.Words.{is_chosen, is_undisputed, is_dated_through, is_dated_after}
-use Rattle.book_model.specs.Words.{charged_by, identity_by, last_close}
-use Rattle.book_model.specs.Words.{period_by, Records, Naming, by_bytes, same_bytes, rows_for}
-use Rattle.book_model.specs.Words.{rows_of, Rulings, price_in, set_of, members, has, those, without}
+use Rattle.book_model.specs.Words.{charged_by, identity_by, last_close, period_by, Records, Naming}
+use Rattle.book_model.specs.Words.{by_bytes, same_bytes, rows_for, rows_of, Rulings, price_in}
+use Rattle.book_model.specs.Words.{set_of, members, has, those, without}
 use Rattle.book_model.proofs.ListLemmas.{filter-agree, filter-map, filter-filter, list_any-map}
 use Rattle.book_model.proofs.ListLemmas.{filter_map-map, filter_map-defined}
 use Rattle.book_model.proofs.RowLemmas.{rows_of-alike}
@@ -26,10 +26,9 @@ use Rattle.plain_ledger.specs.declared.treatment.Treatment.{Treatment}
 use Rattle.plain_ledger.specs.Plain.{Entry, entry_identity, entry_records, held_in, AreBooked}
 use Rattle.plain_ledger.specs.Plain.{is_alone, rulings_of}
 use Rattle.plain_ledger.specs.Treatments.{treatment_of, is_counted, is_added, is_taken, charges}
-use Rattle.plain_ledger.specs.Treatments.{treatment_at}
+use Rattle.plain_ledger.specs.Treatments.{treatment_at, records_where, period_with, IsPeriodEnd}
+use Rattle.plain_ledger.specs.Treatments.{identity_at, is_choice}
 use Rattle.plain_ledger.specs.Choices.{last_of}
-use Rattle.plain_ledger.specs.Treatments.{records_where, period_with, IsPeriodEnd, identity_at}
-use Rattle.plain_ledger.specs.Treatments.{is_choice}
 use Rattle.plain_ledger.proofs.HeldLemmas.{bytes_of, records_differ, held-alike, each_priced}
 use Rattle.plain_ledger.proofs.ChargedLemmas.{each_unrivalled}
 use Rattle.plain_ledger.proofs.TariffLemmas.{each_dated}

@@ -1,10 +1,9 @@
 -- The choices of a plain ledger, which keeps the record that was chosen: which record was chosen
 -- last of an identity.
-use Rattle.std.specs.Prelude.{◌≡◌, ℕ, Bool, List, filter, map, Option, None}
+use Rattle.std.specs.Prelude.{◌≡◌, ℕ, Bool, List, filter, map, Option, None, option_map}
 use Rattle.std.specs.BTreeMap.{BTreeMap, get}
 use Rattle.std.specs.Global.{Global}
 use Rattle.std.specs.List.{last_or}
-use Rattle.std.specs.Option.{option_map}
 use Rattle.std.specs.Rc.{rc_slice_items}
 use Rattle.std.specs.declared.rc.RcSlice.{RcSlice}
 use Rattle.book_model.specs.Words.{by_bytes, same_bytes, Choice, Rulings, identity_by}

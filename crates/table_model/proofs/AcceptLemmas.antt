@@ -1,14 +1,13 @@
 -- A record is answered by the rows of its name and of the book.
 use Rattle.std.proofs.Common.{◌≡◌, ℕ, List, [], ◌∷◌, refl, sym, ap, ◌∙◌, true, false, true≢false}
-use Rattle.std.proofs.Common.{Bool, Option, Some, None, Result, Ok, Err}
-use Rattle.std.specs.Prelude.{if◌then◌else◌, ℤ}
+use Rattle.std.proofs.Common.{Bool, Option, Some, None, Result, Ok, Err, if◌then◌else◌, ℤ}
 use Rattle.std.specs.FinMap.{get, get-from_entries}
 use Rattle.std.proofs.lemmas.Cmp.{nat_list_cmp_total}
 use Rattle.std.proofs.lemmas.Map.Lookups.{exact_bytes}
 use Rattle.std.proofs.lemmas.Map.Views.{tells_apart}
 use Rattle.book_model.specs.Words.{data_of, record_with, IsFramed, accept_answer, accept_priced}
-use Rattle.book_model.specs.Words.{clashes, Book, charged_of, Naming, name_of}
-use Rattle.book_model.specs.Words.{same_bytes, price_in, identity_by, has}
+use Rattle.book_model.specs.Words.{clashes, Book, charged_of, Naming, name_of, same_bytes, price_in}
+use Rattle.book_model.specs.Words.{identity_by, has}
 use Rattle.tariff_rules.specs.declared.priced.Priced.{Priced}
 use Rattle.book_model.specs.declared.answer.Accepted.{Accepted}
 use Rattle.book_model.specs.declared.answer.Accepted.TheVariants.{Known}

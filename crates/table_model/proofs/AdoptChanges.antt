@@ -1,19 +1,16 @@
 -- The tables of a book under the second rule of identity are those under the first after a walk.
 use Rattle.std.proofs.Common.{◌≡◌, inl, inr, ℕ, List, refl, sym, ap, ◌∙◌, true, false, true≢false}
-use Rattle.std.proofs.Common.{Bool, not, ◌&&◌, Option, Some, None, Ok}
-use Rattle.std.specs.Prelude.{if◌then◌else◌, unwrap_or}
+use Rattle.std.proofs.Common.{Bool, not, ◌&&◌, Option, Some, None, Ok, if◌then◌else◌, unwrap_or}
+use Rattle.std.proofs.Common.{filter_map, option_map}
 use Rattle.std.specs.FinMap.{keys, from_entries}
-use Rattle.std.specs.List.{filter_map}
-use Rattle.std.specs.Option.{option_map}
 use Rattle.std.proofs.Math.Bool.{and-true}
 use Rattle.std.proofs.lemmas.Cmp.{nat_list_cmp_total}
 use Rattle.std.proofs.lemmas.Map.Lookups.{exact_bytes}
 use Rattle.std.proofs.lemmas.Option.{same_Some}
-use Rattle.book_model.specs.Words.{identity2_of, Book, open_number, charged_of, is_undisputed}
-use Rattle.book_model.specs.Words.{give, SecondRuleAdopted, Records, Naming, name_of, adopt_answer}
-use Rattle.book_model.specs.Words.{second_rule}
-use Rattle.book_model.specs.Words.{Rulings, price_in, identity_by, with_second_rule, last_close}
-use Rattle.book_model.specs.Words.{open_by, members, has, IsSound, AreAmong}
+use Rattle.book_model.specs.Words.{identity2_of, Book, open_number, charged_of, is_undisputed, give}
+use Rattle.book_model.specs.Words.{SecondRuleAdopted, Records, Naming, name_of, adopt_answer}
+use Rattle.book_model.specs.Words.{second_rule, Rulings, price_in, identity_by, with_second_rule}
+use Rattle.book_model.specs.Words.{last_close, open_by, members, has, IsSound, AreAmong}
 use Rattle.tariff_rules.specs.declared.priced.Priced.{Priced}
 use Rattle.book_model.specs.declared.answer.Ruled.TheVariants.{Done}
 use Rattle.book_model.proofs.AdoptedLemmas.{adoption_takes_nothing, first_adopted}
@@ -28,8 +25,7 @@ use Rattle.table_model.specs.Steps.{rename_rows, set_rule}
 use Rattle.table_model.specs.RowChanges.{by_second_rule}
 use Rattle.table_model.specs.TableChanges.{walk, charge_due_step}
 use Rattle.table_model.specs.Tables.{RecordRow, BookRow, Tables}
-use Rattle.table_model.specs.TablesOf.{tables_of, tables_at, row_by, entry_by, book_row}
-use Rattle.table_model.specs.TablesOf.{status_by}
+use Rattle.table_model.specs.TablesOf.{tables_of, tables_at, row_by, entry_by, book_row, status_by}
 use Rattle.table_model.specs.Views.{is_due_in}
 use Rattle.table_model.proofs.DueLemmas.{due-follows}
 use Rattle.table_model.proofs.MovedLemmas.{updated-from_entries}

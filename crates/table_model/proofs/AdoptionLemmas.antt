@@ -1,6 +1,5 @@
 -- Identities by the second rule, and how the row of the book determines the rule.
-use Rattle.std.proofs.Common.{ℕ, ap, Option}
-use Rattle.std.specs.Prelude.{if◌then◌else◌, is_some, unwrap_or}
+use Rattle.std.proofs.Common.{ℕ, ap, Option, if◌then◌else◌, is_some, unwrap_or}
 use Rattle.book_model.specs.Words.{first_rule, second_rule}
 use Rattle.table_model.specs.Tables.{never_adopted}
 use Rattle.table_model.specs.AnswerLaws.{AdoptionsFollow}

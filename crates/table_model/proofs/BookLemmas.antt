@@ -1,10 +1,9 @@
 -- The book is read back from its tables.
-use Rattle.std.proofs.Common.{◌≡◌, ℕ, zero, suc, List, [], ◌∷◌, ◌++◌, length, refl, sym, ap}
-use Rattle.std.proofs.Common.{◌∙◌, true, false, Some, arith}
-use Rattle.std.specs.Prelude.{◌<◌, ◌≤◌, nat_lt, slice_get, ℤ}
+use Rattle.std.proofs.Common.{◌≡◌, ℕ, zero, suc, List, [], ◌∷◌, ◌++◌, length, refl, sym, ap, ◌∙◌}
+use Rattle.std.proofs.Common.{true, false, Some, arith, ◌<◌, ◌≤◌, nat_lt, slice_get, ℤ}
+use Rattle.std.proofs.Common.{length-append}
 use Rattle.std.specs.FinMap.{values}
 use Rattle.std.proofs.lemmas.Bool.Decides.{nat_tests}
-use Rattle.std.proofs.lemmas.List.{length-append}
 use Rattle.book_model.specs.Words.{Book, all_periods, open_period, is_dated_after, Period}
 use Rattle.book_model.specs.Words.{period_by, Records, Naming, those}
 use Rattle.book_model.proofs.ListLemmas.{slice_get-front, slice_get-behind}

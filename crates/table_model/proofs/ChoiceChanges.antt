@@ -1,14 +1,12 @@
 -- The tables of a book with one more choice are those without it, with its row and its
 -- effects.
-use Rattle.std.proofs.Common.{◌≡◌, ℕ, ◌+◌, ◌≤◌, List, [], ◌∷◌, map, length, refl, sym, ap}
-use Rattle.std.proofs.Common.{◌∙◌, subst, true, false, true≢false, not, ◌&&◌}
-use Rattle.std.proofs.Common.{arith, Option, None, Some}
-use Rattle.std.specs.Prelude.{ℤ, filter}
+use Rattle.std.proofs.Common.{◌≡◌, ℕ, ◌+◌, ◌≤◌, List, [], ◌∷◌, map, length, refl, sym, ap, ◌∙◌}
+use Rattle.std.proofs.Common.{subst, true, false, true≢false, not, ◌&&◌, arith, Option, None, Some}
+use Rattle.std.proofs.Common.{ℤ, filter, option_map, option_and_then, nat_cmp, is_eq}
 use Rattle.std.specs.FinMap.{find, from_entries}
 use Rattle.std.specs.List.{list_any}
 use Rattle.std.specs.List.Sorted.{IsStrictlySortedBy}
-use Rattle.std.specs.Option.{option_map, option_map_or, option_and_then}
-use Rattle.std.specs.Ordering.{nat_cmp, is_eq}
+use Rattle.std.specs.Option.{option_map_or}
 use Rattle.std.proofs.lemmas.Cmp.{nat_list_cmp_total, nat_list_eq_equiv}
 use Rattle.std.proofs.lemmas.List.{length-map, map-append}
 use Rattle.std.proofs.lemmas.List.Kept.{IsStrictlySortedBy-filter}
@@ -16,14 +14,13 @@ use Rattle.std.proofs.lemmas.Map.Keys.{sorted_head}
 use Rattle.std.proofs.lemmas.Option.{same_Some}
 use Rattle.tariff_rules.specs.declared.priced.Priced.{Priced}
 use Rattle.book_model.specs.Words.{Book, open_number, charged_of, share_identity, is_unrivalled}
-use Rattle.book_model.specs.Words.{RecordChosen, is_undisputed, charged_now, give}
-use Rattle.book_model.specs.Words.{Records, Naming, name_of, by_bytes, record_named}
-use Rattle.book_model.specs.Words.{Choice, price_in, identity_by, last_close, with_choice, open_by}
-use Rattle.book_model.specs.Words.{has, those, IsSound, AreAmong}
+use Rattle.book_model.specs.Words.{RecordChosen, is_undisputed, charged_now, give, Records, Naming}
+use Rattle.book_model.specs.Words.{name_of, by_bytes, record_named, Choice, price_in, identity_by}
+use Rattle.book_model.specs.Words.{last_close, with_choice, open_by, has, those, IsSound, AreAmong}
 use Rattle.book_model.proofs.ChargedChanges.{share_back}
 use Rattle.book_model.proofs.ChosenLemmas.{charged-choice, others-all, others-except}
-use Rattle.book_model.proofs.RecordSets.{is, has_those, in_those, first_of}
-use Rattle.book_model.proofs.RecordSets.{second_of, is_first, is_second}
+use Rattle.book_model.proofs.RecordSets.{is, has_those, in_those, first_of, second_of, is_first}
+use Rattle.book_model.proofs.RecordSets.{is_second}
 use Rattle.book_model.proofs.SetChanges.{is_back}
 use Rattle.book_model.proofs.SetLemmas.{members_rise}
 use Rattle.book_model.proofs.SoundLemmas.{named_held}

@@ -1,12 +1,10 @@
 -- A choice is answered by the rows of its record's identity.
 use Rattle.std.proofs.Common.{◌≡◌, ℕ, suc, ◌≤◌, List, [], ◌∷◌, length, refl, sym, ap, ◌∙◌, is_some}
 use Rattle.std.proofs.Common.{subst, true, false, true≢false, Bool, ◌||◌, ◌&&◌, Some, None, arith}
-use Rattle.std.specs.Prelude.{filter, nat_le, slice_get, take, ◌==◌}
+use Rattle.std.proofs.Common.{filter, nat_le, slice_get, take, ◌==◌, option_map, is_eq}
 use Rattle.std.specs.FinMap.{entries, get, get-from_entries}
 use Rattle.std.specs.List.{list_any}
 use Rattle.std.specs.List.Sorted.{IsStrictlySortedBy}
-use Rattle.std.specs.Option.{option_map}
-use Rattle.std.specs.Ordering.{is_eq}
 use Rattle.std.proofs.Math.Bool.{and-true}
 use Rattle.std.proofs.lemmas.Bool.Decides.{nat_tests}
 use Rattle.std.proofs.lemmas.Cmp.{nat_list_cmp_total, nat_list_eq_equiv}

@@ -1,10 +1,8 @@
 -- The choices are read back from their table.
-use Rattle.std.proofs.Common.{◌≡◌, ℕ, ◌+◌, List, [], ◌∷◌, map, length, refl, sym, ap, ◌∙◌}
-use Rattle.std.proofs.Common.{Some, None, arith}
-use Rattle.std.specs.Prelude.{All, unwrap_or}
+use Rattle.std.proofs.Common.{◌≡◌, ℕ, ◌+◌, List, [], ◌∷◌, map, length, refl, sym, ap, ◌∙◌, Some}
+use Rattle.std.proofs.Common.{None, arith, All, unwrap_or, filter_map, option_map}
 use Rattle.std.specs.FinMap.{keys, values}
-use Rattle.std.specs.List.{cons_option, filter_map, last_or}
-use Rattle.std.specs.Option.{option_map}
+use Rattle.std.specs.List.{cons_option, last_or}
 use Rattle.std.proofs.lemmas.List.{length-map}
 use Rattle.std.proofs.lemmas.List.Elements.{All-head, All-tail}
 use Rattle.book_model.specs.Words.{Book, Choice, IsChoiceOf, IsSound, Naming, name_of}

@@ -1,11 +1,9 @@
 -- The days of closes in their order, the periods that they end and open, and what they post.
-use Rattle.std.proofs.Common.{◌≡◌, ℕ, List, [], ◌∷◌, ◌++◌, refl, ap}
-use Rattle.std.proofs.Common.{true, false, true≢false, Bool, Option, Some, None, arith}
-use Rattle.std.specs.Prelude.{ℤ, int_lt, ◌<ℤ◌, MatchOption}
+use Rattle.std.proofs.Common.{◌≡◌, ℕ, List, [], ◌∷◌, ◌++◌, refl, ap, true, false, true≢false, Bool}
+use Rattle.std.proofs.Common.{Option, Some, None, arith, ℤ, int_lt, ◌<ℤ◌, MatchOption}
 use Rattle.std.proofs.lemmas.Int.{ints}
-use Rattle.book_model.specs.Words.{Book, all_periods, close}
-use Rattle.book_model.specs.Words.{last_close, Records, Period, period_by, charged_of}
-use Rattle.book_model.specs.Words.{charged_through, is_dated_after}
+use Rattle.book_model.specs.Words.{Book, all_periods, close, last_close, Records, Period, period_by}
+use Rattle.book_model.specs.Words.{charged_of, charged_through, is_dated_after}
 use Rattle.book_model.proofs.ListLemmas.{last_or-behind}
 use Rattle.book_core.specs.Effects.{is_after}
 

@@ -1,16 +1,14 @@
 -- The tables of a book after a close are those before it, changed by the close.
-use Rattle.std.proofs.Common.{◌≡◌, ℕ, List, refl, sym, ap, ◌∙◌}
-use Rattle.std.proofs.Common.{true, false, true≢false, Bool, not, ◌&&◌, Option, Some, None, arith}
-use Rattle.std.specs.Prelude.{ℤ, int_lt, if◌then◌else◌}
+use Rattle.std.proofs.Common.{◌≡◌, ℕ, List, refl, sym, ap, ◌∙◌, true, false, true≢false, Bool, not}
+use Rattle.std.proofs.Common.{◌&&◌, Option, Some, None, arith, ℤ, int_lt, if◌then◌else◌, option_map}
 use Rattle.std.specs.FinMap.{from_entries}
-use Rattle.std.specs.Option.{option_map}
 use Rattle.std.proofs.lemmas.Bool.{false_from_ne_true}
 use Rattle.std.proofs.lemmas.Cmp.{nat_list_cmp_total}
 use Rattle.std.proofs.lemmas.Map.Lookups.{exact_bytes}
 use Rattle.tariff_rules.specs.declared.priced.Priced.{Priced}
-use Rattle.book_model.specs.Words.{Book, open_number, charged_of, close}
-use Rattle.book_model.specs.Words.{IsAfterLastClose, Records, Naming, name_of, by_bytes, price_in}
-use Rattle.book_model.specs.Words.{with_close, members, has, IsSound}
+use Rattle.book_model.specs.Words.{Book, open_number, charged_of, close, IsAfterLastClose, Records}
+use Rattle.book_model.specs.Words.{Naming, name_of, by_bytes, price_in, with_close, members, has}
+use Rattle.book_model.specs.Words.{IsSound}
 use Rattle.book_model.proofs.CallLemmas.{calls_go_forward}
 use Rattle.book_model.proofs.FilterMapLemmas.{map-filter_map}
 use Rattle.book_model.proofs.SetChanges.{pick-agree}
@@ -19,8 +17,7 @@ use Rattle.table_model.specs.MapChanges.{updated}
 use Rattle.table_model.specs.Changed.{closed_at}
 use Rattle.table_model.specs.RowChanges.{post_by}
 use Rattle.table_model.specs.Tables.{RecordRow}
-use Rattle.table_model.specs.TablesOf.{record_row, record_entry, record_entries}
-use Rattle.table_model.specs.TablesOf.{tables_of}
+use Rattle.table_model.specs.TablesOf.{record_row, record_entry, record_entries, tables_of}
 use Rattle.book_model.proofs.TestLemmas.{closed_open}
 use Rattle.table_model.proofs.CloseDays.{posted_by}
 use Rattle.table_model.proofs.ClosedLines.{is_late, lines_closed}

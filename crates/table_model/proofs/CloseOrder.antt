@@ -1,12 +1,10 @@
 -- Days that rise, with a later one after them.
 use Rattle.std.proofs.Common.{◌≡◌, List, [], ◌∷◌, ◌++◌, sym, Option, Some, None, arith, refl, true}
-use Rattle.std.specs.Prelude.{ℤ, ◌<ℤ◌, MatchOption, int_lt}
+use Rattle.std.proofs.Common.{ℤ, ◌<ℤ◌, MatchOption, int_lt, int_cmp, Less}
 use Rattle.std.specs.Cmp.{int_cmp_is, int_ranked}
 use Rattle.std.specs.List.{AllByRecursion, last_or}
 use Rattle.std.specs.List.Sorted.{IsStrictlySortedBy}
 use Rattle.std.specs.Option.{option_map_or}
-use Rattle.std.specs.Ordering.{int_cmp}
-use Rattle.std.specs.declared.cmp.Ordering.TheVariants.{Less}
 use Rattle.std.proofs.lemmas.Int.{ints}
 
 -- a day is later than another if it compares so

@@ -1,13 +1,11 @@
 -- The lines after a close: those of the open period stay with it, and the next has none.
-use Rattle.std.proofs.Common.{◌≡◌, ℕ, List, [], ◌∷◌, ◌++◌, map, refl, sym, ap, ◌∙◌, true}
-use Rattle.std.proofs.Common.{false, Bool, not, ◌&&◌, Some, is_some}
-use Rattle.std.specs.Prelude.{ℤ, int_lt}
+use Rattle.std.proofs.Common.{◌≡◌, ℕ, List, [], ◌∷◌, ◌++◌, map, refl, sym, ap, ◌∙◌, true, false}
+use Rattle.std.proofs.Common.{Bool, not, ◌&&◌, Some, is_some, ℤ, int_lt}
 use Rattle.std.specs.FinMap.{from_entries}
-use Rattle.std.specs.FinMap as fin
 use Rattle.std.proofs.lemmas.List.{map-append}
-use Rattle.book_model.specs.Words.{day_of, Book, open_period, all_periods, charged_of, is_dated_through}
-use Rattle.book_model.specs.Words.{close, IsAfterLastClose, Period, Records, Naming}
-use Rattle.book_model.specs.Words.{name_of, by_bytes, last_close, set_of, members, has}
+use Rattle.book_model.specs.Words.{day_of, Book, open_period, all_periods, charged_of}
+use Rattle.book_model.specs.Words.{is_dated_through, close, IsAfterLastClose, Period, Records}
+use Rattle.book_model.specs.Words.{Naming, name_of, by_bytes, last_close, set_of, members, has}
 use Rattle.book_model.specs.Words.{IsSound}
 use Rattle.book_model.proofs.RecordSets.{same_records, has_those}
 use Rattle.book_model.proofs.SetChanges.{those-agree}
@@ -19,6 +17,7 @@ use Rattle.table_model.proofs.CloseDays.{not_after_both}
 use Rattle.table_model.proofs.LineChanges.{has_added}
 use Rattle.table_model.proofs.NumberedLemmas.{numbered-nothing}
 use Rattle.table_model.proofs.PostedSets.{posted_is}
+use Rattle.std.specs.FinMap as fin
 
 -- a set that has no record has no members
 pub no_members : (records : Records) → ((bytes : List ℕ) → has records bytes ≡ false)

@@ -1,13 +1,12 @@
 -- The charge rows after a close: the later ones of the open period are in the next.
 use Rattle.std.proofs.Common.{◌≡◌, ℕ, List, [], ◌∷◌, ◌++◌, map, sym, ap, ◌∙◌, true, false, not}
-use Rattle.std.proofs.Common.{◌&&◌, Some, None}
-use Rattle.std.specs.Prelude.{ℤ, int_lt}
+use Rattle.std.proofs.Common.{◌&&◌, Some, None, ℤ, int_lt}
 use Rattle.std.specs.FinMap.{find, from_entries}
 use Rattle.std.proofs.Math.Bool.{and-false, and-true}
 use Rattle.std.proofs.lemmas.List.{map-append}
 use Rattle.book_model.specs.Words.{day_of, Book, open_number, open_period, all_periods, charged_of}
-use Rattle.book_model.specs.Words.{is_dated_through, is_dated_after, close, IsAfterLastClose, Period}
-use Rattle.book_model.specs.Words.{Naming, by_key, prices, last_close, those, IsSound}
+use Rattle.book_model.specs.Words.{is_dated_through, is_dated_after, close, IsAfterLastClose}
+use Rattle.book_model.specs.Words.{Period, Naming, by_key, prices, last_close, those, IsSound}
 use Rattle.book_model.specs.declared.row.ChargeRow.{ChargeRow}
 use Rattle.book_model.specs.declared.row.RowKey.{RowKey}
 use Rattle.book_model.proofs.RecordSets.{same_records, has_those}

@@ -1,13 +1,9 @@
 -- Whether a record is counted at all is told by its mark and by the first of its lines: all of them
 -- are in periods later than that of its day. So rows and lines tell the names that are counted.
 use Rattle.std.proofs.Common.{◌≡◌, ℕ, zero, suc, ◌+◌, ◌-◌, ◌≤◌, List, [], ◌∷◌, length, refl, sym}
-use Rattle.std.proofs.Common.{ap, ◌∙◌, subst, true, false, true≢false, Bool, cond, not, ◌&&◌}
-use Rattle.std.proofs.Common.{Some, None, arith, map}
-use Rattle.std.specs.Prelude.{filter}
-use Rattle.std.specs.FinMap as fin
+use Rattle.std.proofs.Common.{ap, ◌∙◌, subst, true, false, true≢false, Bool, cond, not, ◌&&◌, Some}
+use Rattle.std.proofs.Common.{None, arith, map, filter, filter_map, IsPermutation}
 use Rattle.std.specs.FinMap.{entries, from_entries, get, get-from_entries, insert}
-use Rattle.std.specs.List.{filter_map}
-use Rattle.std.specs.List.Sorted.{IsPermutation}
 use Rattle.std.specs.Option.{option_map_or, option_or}
 use Rattle.std.specs.Ordering.{eq_by_cmp}
 use Rattle.std.proofs.lemmas.Bool.{and_right, false_from_ne_true}
@@ -32,15 +28,16 @@ use Rattle.table_model.specs.Tables.{CountedTable, Tables}
 use Rattle.table_model.specs.TablesOf.{line_entries, status_of, tables_of}
 use Rattle.table_model.specs.BookIn.{close_after}
 use Rattle.table_model.proofs.CountedReading.{charged_back, find_line, in_counted, its_held}
-use Rattle.table_model.proofs.CountedReading.{its_period, last_after, period_after, sets}
-use Rattle.table_model.proofs.CountedReading.{sets_past, through_is}
+use Rattle.table_model.proofs.CountedReading.{its_period, last_after, period_after, sets, sets_past}
+use Rattle.table_model.proofs.CountedReading.{through_is}
 use Rattle.table_model.proofs.DetailReading.{in_windows, through_close}
 use Rattle.table_model.proofs.NumberedLemmas.{by_period_total}
 use Rattle.table_model.proofs.PeriodPlaces.{slice_get-map}
 use Rattle.table_model.proofs.PeriodReading.{find-at}
 use Rattle.table_model.proofs.RecordReading.{entry}
-use Rattle.table_model.proofs.RowsWhere.{AreMembers, first_entry, others_held}
-use Rattle.table_model.proofs.RowsWhere.{rows_where, those_among}
+use Rattle.table_model.proofs.RowsWhere.{AreMembers, first_entry, others_held, rows_where}
+use Rattle.table_model.proofs.RowsWhere.{those_among}
+use Rattle.std.specs.FinMap as fin
 
 -- no line is found on either side
 no_side : (added taken : Bool) → added ≡ false → taken ≡ false

@@ -1,24 +1,20 @@
 -- What a period counts, and what it would have cost by another tariff, is read from the rows.
-use Rattle.std.proofs.Common.{◌≡◌, ℕ, suc, ◌-◌, ◌≤◌, List, [], ◌∷◌, map, length, sym, ap}
-use Rattle.std.proofs.Common.{◌∙◌, subst, true, Bool, ◌&&◌, Option, Some}
-use Rattle.std.proofs.Common.{arith}
-use Rattle.std.specs.Prelude.{filter}
+use Rattle.std.proofs.Common.{◌≡◌, ℕ, suc, ◌-◌, ◌≤◌, List, [], ◌∷◌, map, length, sym, ap, ◌∙◌}
+use Rattle.std.proofs.Common.{subst, true, Bool, ◌&&◌, Option, Some, arith, filter, filter_map}
+use Rattle.std.proofs.Common.{length-append, map-id}
 use Rattle.std.specs.FinMap.{entries}
-use Rattle.std.specs.FinMap as fin
-use Rattle.std.specs.List.{filter_map}
 use Rattle.std.proofs.lemmas.Cmp.{nat_list_cmp_total}
-use Rattle.std.proofs.lemmas.List.{length-append, length-map, map-id}
+use Rattle.std.proofs.lemmas.List.{length-map}
 use Rattle.std.proofs.lemmas.List.Sorted.{length_permutation}
 use Rattle.std.proofs.lemmas.List.Sums.{count_by-le-length, length-filter}
 use Rattle.std.proofs.lemmas.Map.Lookups.{exact_bytes}
 use Rattle.std.proofs.lemmas.Option.{slice_get_within}
 use Rattle.std.proofs.lemmas.Simd.{map-map}
 use Rattle.tariff_rules.specs.declared.priced.Priced.{Priced}
-use Rattle.book_model.specs.Words.{AreAmong, Book, Naming, Period}
-use Rattle.book_model.specs.Words.{Terms, all_periods, by_bytes, charged_of, has, members}
-use Rattle.book_model.specs.Words.{most_held, name_of, no_event, open_by, open_period, period_of}
-use Rattle.book_model.specs.Words.{price_by, price_in, rows_if_room, set_of, those}
-use Rattle.book_model.specs.Words.{what_if_answer}
+use Rattle.book_model.specs.Words.{AreAmong, Book, Naming, Period, Terms, all_periods, by_bytes}
+use Rattle.book_model.specs.Words.{charged_of, has, members, most_held, name_of, no_event, open_by}
+use Rattle.book_model.specs.Words.{open_period, period_of, price_by, price_in, rows_if_room, set_of}
+use Rattle.book_model.specs.Words.{those, what_if_answer}
 use Rattle.book_model.proofs.RowLemmas.{rows_if_room-alike}
 use Rattle.book_model.proofs.SetChanges.{those-agree}
 use Rattle.book_model.proofs.SetLemmas.{members-those, set_of-alike}
@@ -39,6 +35,7 @@ use Rattle.table_model.proofs.ListLemmas.{held_in, told}
 use Rattle.table_model.proofs.PriceSums.{given_few}
 use Rattle.table_model.proofs.RecordReading.{all_entries, all_permuted, entry, entry_at, records_of}
 use Rattle.table_model.proofs.SetReading.{permuted-alike, set_of-members}
+use Rattle.std.specs.FinMap as fin
 
 module _ (naming : Naming) (book : Book) (whole : IsReadable naming book) (number : ℕ)
     (period : Period) (is : period_of book number ≡ Some period) where

@@ -2,16 +2,15 @@
 -- so no more, its own name joins or leaves them, or none does; a record that is kept and not charged
 -- leaves them as they are, and so does a close. No price is looked at.
 use Rattle.std.proofs.Common.{◌≡◌, ℕ, List, refl, sym, ap, ◌∙◌, true, false, Bool, cond, ◌&&◌, ◌||◌}
-use Rattle.std.proofs.Common.{Option, Some, None}
-use Rattle.std.specs.Prelude.{ℤ}
+use Rattle.std.proofs.Common.{Option, Some, None, ℤ}
 use Rattle.std.specs.FinMap.{find, from_entries}
 use Rattle.std.proofs.lemmas.Cmp.{nat_list_cmp_total}
 use Rattle.std.proofs.lemmas.Map.Lookups.{exact_bytes}
-use Rattle.book_model.specs.Words.{AreAmong, Book, IsAfterLastClose, IsSound, Naming, Records, by_bytes}
-use Rattle.book_model.specs.Words.{charged_of, close, has, is_counted_in, is_dated_after, keep}
-use Rattle.book_model.specs.Words.{last_close, name_of, with}
-use Rattle.book_model.proofs.CountedLemmas.{close_leaves, counted_somewhere, current_is, has_counted}
-use Rattle.book_model.proofs.CountedLemmas.{new_uncounted, settled_is}
+use Rattle.book_model.specs.Words.{AreAmong, Book, IsAfterLastClose, IsSound, Naming, Records}
+use Rattle.book_model.specs.Words.{by_bytes, charged_of, close, has, is_counted_in, is_dated_after}
+use Rattle.book_model.specs.Words.{keep, last_close, name_of, with}
+use Rattle.book_model.proofs.CountedLemmas.{close_leaves, counted_somewhere, current_is}
+use Rattle.book_model.proofs.CountedLemmas.{has_counted, new_uncounted, settled_is}
 use Rattle.book_model.proofs.MapLemmas.{from_entries-insert, from_entries-remove}
 use Rattle.book_model.proofs.RecordSets.{has_those, in_those, is}
 use Rattle.book_model.proofs.SetChanges.{except, those-with_out, with-except}

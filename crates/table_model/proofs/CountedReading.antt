@@ -1,22 +1,21 @@
 -- Which records a period counts is read from their marks and lines.
-use Rattle.std.proofs.Common.{◌≡◌, ℕ, zero, suc, ◌+◌, ◌-◌, ◌<◌, ◌≤◌, List, [], ◌∷◌, map}
-use Rattle.std.proofs.Common.{length, refl, sym, ap, ◌∙◌, true, false, true≢false, Bool}
-use Rattle.std.proofs.Common.{cond, not, ◌&&◌, Option, Some, None, arith}
-use Rattle.std.specs.Prelude.{ℤ, pos, ◌==◌, nat_le, if◌then◌else◌, int_lt, slice_get}
+use Rattle.std.proofs.Common.{◌≡◌, ℕ, zero, suc, ◌+◌, ◌-◌, ◌<◌, ◌≤◌, List, [], ◌∷◌, map, length}
+use Rattle.std.proofs.Common.{refl, sym, ap, ◌∙◌, true, false, true≢false, Bool, cond, not, ◌&&◌}
+use Rattle.std.proofs.Common.{Option, Some, None, arith, ℤ, pos, ◌==◌, nat_le, if◌then◌else◌}
+use Rattle.std.proofs.Common.{int_lt, slice_get, int_cmp}
 use Rattle.std.specs.FinMap.{find, get, get-from_entries}
 use Rattle.std.specs.List.{last_or}
 use Rattle.std.specs.List.Sorted.{IsStrictlySortedBy}
 use Rattle.std.specs.Option.{option_map_or, option_or}
-use Rattle.std.specs.Ordering.{int_cmp}
 use Rattle.std.proofs.lemmas.Bool.{false_from_ne_true}
 use Rattle.std.proofs.lemmas.Bool.Decides.{nat_tests}
 use Rattle.std.proofs.lemmas.Cmp.{nat_list_cmp_total}
 use Rattle.std.proofs.lemmas.Int.{ints}
 use Rattle.std.proofs.lemmas.Option.{slice_get_within, slice_get-get_or}
 use Rattle.book_model.specs.RulingAnswers.{through_of}
-use Rattle.book_model.specs.Words.{AreHeld, Book, IsSound, Naming, Period, Records}
-use Rattle.book_model.specs.Words.{all_periods, by_bytes, charged_of, day_of, has, is_dated_after}
-use Rattle.book_model.specs.Words.{Rulings, name_of, open_by, open_period, period_by, without}
+use Rattle.book_model.specs.Words.{AreHeld, Book, IsSound, Naming, Period, Records, all_periods}
+use Rattle.book_model.specs.Words.{by_bytes, charged_of, day_of, has, is_dated_after, Rulings}
+use Rattle.book_model.specs.Words.{name_of, open_by, open_period, period_by, without}
 use Rattle.book_model.proofs.ListLemmas.{last_or-is, slice_get-behind}
 use Rattle.book_model.proofs.MapLemmas.{else_find, find-both}
 use Rattle.book_model.proofs.RecordSets.{has_those}

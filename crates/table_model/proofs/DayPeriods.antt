@@ -1,10 +1,9 @@
 -- The period that a day belongs to, among closes in order: those before it come before the day, and
 -- its own close, if there is one, does not.
-use Rattle.std.proofs.Common.{◌≡◌, ◌∙◌, ℕ, zero, suc, ◌<◌, ◌≤◌, List, [], ◌∷◌, length, refl, sym, ap}
-use Rattle.std.proofs.Common.{true, false, Bool, cond, Some, arith}
-use Rattle.std.specs.Prelude.{ℤ, filter, int_lt, slice_get}
+use Rattle.std.proofs.Common.{◌≡◌, ◌∙◌, ℕ, zero, suc, ◌<◌, ◌≤◌, List, [], ◌∷◌, length, refl, sym}
+use Rattle.std.proofs.Common.{ap, true, false, Bool, cond, Some, arith, ℤ, filter, int_lt}
+use Rattle.std.proofs.Common.{slice_get, int_cmp}
 use Rattle.std.specs.List.Sorted.{IsStrictlySortedBy}
-use Rattle.std.specs.Ordering.{int_cmp}
 use Rattle.std.proofs.lemmas.Int.{ints}
 use Rattle.std.proofs.lemmas.List.Sums.{count_by-le-length, length-filter}
 use Rattle.table_model.proofs.CloseOrder.{earlier}

@@ -1,12 +1,11 @@
 -- A record that is kept changes at most four rows, and a choice at most five: each of their steps
 -- changes one row of one table.
-use Rattle.std.proofs.Common.{◌≡◌, ◌≢◌, ℕ, zero, suc, List, [], ◌∷◌, refl, sym, ap}
-use Rattle.std.proofs.Common.{◌∙◌, subst, true, false, Bool, cond, Option, Some, None, arith}
-use Rattle.std.specs.Prelude.{ℤ, if◌then◌else◌, ◌==◌}
+use Rattle.std.proofs.Common.{◌≡◌, ◌≢◌, ℕ, zero, suc, List, [], ◌∷◌, refl, sym, ap, ◌∙◌, subst}
+use Rattle.std.proofs.Common.{true, false, Bool, cond, Option, Some, None, arith, ℤ, if◌then◌else◌}
+use Rattle.std.proofs.Common.{◌==◌, Ordering}
 use Rattle.std.specs.Cmp.{IsTotalOrder, nat_cmp_total}
 use Rattle.std.specs.FinMap.{FinMap, IsAntisymmetric, get, insert, remove, get-insert, get-remove}
 use Rattle.std.specs.FinMap.{nat_cmp-IsAntisymmetric}
-use Rattle.std.specs.declared.cmp.Ordering.{Ordering}
 use Rattle.std.proofs.lemmas.Cmp.{nat_list_cmp_total}
 use Rattle.std.proofs.lemmas.Map.Lookups.{exact_bytes}
 use Rattle.tariff_rules.specs.declared.priced.Priced.{Priced}
@@ -16,8 +15,8 @@ use Rattle.book_model.specs.Words.{open_number, name_of, by_bytes, key_of, by_ke
 use Rattle.book_model.proofs.MapLemmas.{not_tied}
 use Rattle.book_model.proofs.RowLemmas.{by_key_total, by_key_exact}
 use Rattle.book_core.specs.declared.effects.DayChange.TheVariants.{Add, Take}
-use Rattle.book_core.specs.declared.effects.LineChange.TheVariants.{AddPlus, DropPlus}
-use Rattle.book_core.specs.declared.effects.LineChange.TheVariants.{AddMinus, DropMinus}
+use Rattle.book_core.specs.declared.effects.LineChange.TheVariants.{AddPlus, DropPlus, AddMinus}
+use Rattle.book_core.specs.declared.effects.LineChange.TheVariants.{DropMinus}
 use Rattle.book_core.specs.declared.effects.Member.{Member}
 use Rattle.book_core.specs.declared.effects.View.{View}
 use Rattle.book_core.specs.Effects.{charge, charge_held, charges, choice_effects, effects_by}

@@ -1,11 +1,8 @@
 -- The disputes are answered from the tables.
 use Rattle.std.proofs.Common.{◌≡◌, ℕ, List, [], ◌∷◌, map, length, refl, sym, ap, ◌∙◌, true, Ok}
-use Rattle.std.proofs.Common.{arith, subst, not}
-use Rattle.std.specs.Prelude.{◌<◌}
+use Rattle.std.proofs.Common.{arith, subst, not, ◌<◌, is_eq, Less}
 use Rattle.std.specs.List.{AllByRecursion}
 use Rattle.std.specs.List.Sorted.{IsStrictlySortedBy}
-use Rattle.std.specs.Ordering.{is_eq}
-use Rattle.std.specs.declared.cmp.Ordering.TheVariants.{Less}
 use Rattle.std.proofs.lemmas.Bool.Decides.{nat_tests}
 use Rattle.std.proofs.lemmas.List.Elements.{filter_map-append, filter_passes, recursion_from_All}
 use Rattle.book_model.specs.Words.{Book, Disputed, dispute_at, disputes_in, identities}

@@ -1,22 +1,18 @@
 -- The rows of the records in dispute, and what they show.
 use Rattle.std.proofs.Common.{◌≡◌, ℕ, List, [], ◌∷◌, map, refl, sym, ap, ◌∙◌, subst, true, false}
-use Rattle.std.proofs.Common.{true≢false, Bool, not, ◌&&◌}
-use Rattle.std.specs.Prelude.{filter}
+use Rattle.std.proofs.Common.{true≢false, Bool, not, ◌&&◌, filter, filter_map, IsPermutation}
+use Rattle.std.proofs.Common.{option_map, Less, Equal}
 use Rattle.std.specs.Cmp.{tied_itself}
 use Rattle.std.specs.FinMap.{entries}
-use Rattle.std.specs.List.{list_any, filter_map, cons_option}
-use Rattle.std.specs.List.Sorted.{IsPermutation, IsStrictlySortedBy}
-use Rattle.std.specs.Option.{option_map}
+use Rattle.std.specs.List.{list_any, cons_option}
+use Rattle.std.specs.List.Sorted.{IsStrictlySortedBy}
 use Rattle.std.specs.Ordering.{eq_by_cmp}
-use Rattle.std.specs.declared.cmp.Ordering.TheVariants.{Less, Equal}
 use Rattle.std.proofs.lemmas.Cmp.{nat_list_cmp_total, nat_list_eq_equiv}
 use Rattle.std.proofs.lemmas.List.Sorted.{IsPermutation-sym, IsPermutation-trans}
 use Rattle.std.proofs.lemmas.Map.Lookups.{exact_bytes}
-use Rattle.book_model.specs.Words.{variant_with}
-use Rattle.book_model.specs.Words.{Book, charged_of}
-use Rattle.book_model.specs.Words.{variant_of, Naming, name_of, by_bytes, identity_by}
-use Rattle.book_model.specs.Words.{set_of, members, has, IsSound, Records, is_undisputed}
-use Rattle.book_model.specs.Words.{same_bytes, share_identity}
+use Rattle.book_model.specs.Words.{variant_with, Book, charged_of, variant_of, Naming, name_of}
+use Rattle.book_model.specs.Words.{by_bytes, identity_by, set_of, members, has, IsSound, Records}
+use Rattle.book_model.specs.Words.{is_undisputed, same_bytes, share_identity}
 use Rattle.book_model.proofs.DisputeLemmas.{disputed_is_uncharged}
 use Rattle.book_model.proofs.ListLemmas.{filter-filter}
 use Rattle.tariff_rules.specs.declared.priced.Priced.{Priced}

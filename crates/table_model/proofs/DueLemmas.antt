@@ -1,9 +1,8 @@
 -- By the tables, a record is due to be charged if the book calls it undisputed.
 use Rattle.std.proofs.Common.{◌≡◌, ℕ, List, [], ◌∷◌, map, refl, sym, ap, ◌∙◌, true, false, Bool}
-use Rattle.std.proofs.Common.{◌||◌, Option, Some, None}
-use Rattle.std.specs.Prelude.{filter}
+use Rattle.std.proofs.Common.{◌||◌, Option, Some, None, filter, option_map}
 use Rattle.std.specs.List.{last_or}
-use Rattle.std.specs.Option.{option_map, option_map_or}
+use Rattle.std.specs.Option.{option_map_or}
 use Rattle.std.proofs.lemmas.Cmp.{nat_list_eq_equiv}
 use Rattle.std.proofs.lemmas.List.Elements.{All-weaker}
 use Rattle.book_model.specs.Words.{Book, share_identity, is_chosen, last_chosen, is_undisputed}

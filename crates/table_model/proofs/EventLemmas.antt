@@ -1,18 +1,15 @@
 -- The tables after an event, and so those that are updated over a history, are those of the book.
 use Rattle.std.proofs.Common.{◌≡◌, ℕ, ◌+◌, List, [], ◌∷◌, ◌++◌, map, length, sym, ap, ◌∙◌, true}
-use Rattle.std.proofs.Common.{false, Bool, not, ◌||◌, Option, Some, None, subst}
+use Rattle.std.proofs.Common.{false, Bool, not, ◌||◌, Option, Some, None, subst, sum_by, filter_map}
 use Rattle.std.proofs.Math.Bool.{or-true}
-use Rattle.std.specs.Prelude.{sum_by}
 use Rattle.std.specs.FinMap.{from_entries}
-use Rattle.std.specs.List.{filter_map}
 use Rattle.std.specs.Option.{option_map_or}
 use Rattle.tariff_rules.specs.declared.priced.Priced.{Priced}
 use Rattle.book_model.specs.declared.row.ChargeRow.{ChargeRow}
 use Rattle.book_model.specs.declared.row.RowKey.{RowKey}
-use Rattle.book_model.specs.Words.{Book, open_number, new_book, is_undisputed}
-use Rattle.book_model.specs.Words.{is_counted_in, is_dated_after, Event, TariffAccepted}
-use Rattle.book_model.specs.Words.{PeriodClosed, RecordKept, RulingGiven}
-use Rattle.book_model.specs.Words.{RecordChosen, SecondRuleAdopted, after, give, Terms}
+use Rattle.book_model.specs.Words.{Book, open_number, new_book, is_undisputed, is_counted_in}
+use Rattle.book_model.specs.Words.{is_dated_after, Event, TariffAccepted, PeriodClosed, RecordKept}
+use Rattle.book_model.specs.Words.{RulingGiven, RecordChosen, SecondRuleAdopted, after, give, Terms}
 use Rattle.book_model.specs.Words.{charged_of, chosen_answer, book_after, Records, Naming, name_of}
 use Rattle.book_model.specs.Words.{by_bytes, by_key, row_at, no_rulings, Rulings, price_in}
 use Rattle.book_model.specs.Words.{AcceptedTerms, identity_by, last_close, members, has, those}
@@ -29,8 +26,7 @@ use Rattle.table_model.specs.Steps.{put_tariff_row, set_sums}
 use Rattle.table_model.specs.TablesAfter.{new_tables}
 use Rattle.table_model.specs.Laws.{EventFollows, TablesFollow}
 use Rattle.table_model.specs.PeriodRows.{under}
-use Rattle.table_model.specs.TableChanges.{amount_under, put_choice, put_new, walk}
-use Rattle.table_model.specs.TableChanges.{reprice_step}
+use Rattle.table_model.specs.TableChanges.{amount_under, put_choice, put_new, walk, reprice_step}
 use Rattle.table_model.specs.Tables.{RecordRow, Tables}
 use Rattle.table_model.specs.Views.{member_at, member_by}
 use Rattle.table_model.specs.TablesOf.{counted_by, periods_by, record_entry, record_row, row_key}

@@ -1,14 +1,11 @@
 -- What is found in a table has the properties that all of its rows have.
 use Rattle.std.proofs.Common.{◌≡◌, ℕ, zero, suc, ◌+◌, List, [], ◌∷◌, map, refl, sym, ap, ◌∙◌, subst}
-use Rattle.std.proofs.Common.{true, Bool, cond, Option, Some, None, arith}
-use Rattle.std.specs.Prelude.{filter, slice_get, All}
+use Rattle.std.proofs.Common.{true, Bool, cond, Option, Some, None, arith, filter, slice_get, All}
+use Rattle.std.proofs.Common.{is_eq, nat_cmp, Ordering, Less, Equal, Greater}
 use Rattle.std.specs.Cmp.{IsTotalOrder}
 use Rattle.std.specs.FinMap.{IsAntisymmetric, find, from_entries, get, get-from_entries}
 use Rattle.std.specs.FinMap.{nat_cmp-IsAntisymmetric}
 use Rattle.std.specs.List.{AllByRecursion}
-use Rattle.std.specs.Ordering.{is_eq, nat_cmp}
-use Rattle.std.specs.declared.cmp.Ordering.{Ordering}
-use Rattle.std.specs.declared.cmp.Ordering.TheVariants.{Less, Equal, Greater}
 use Rattle.book_model.proofs.MapLemmas.{else_find, find-both}
 use Rattle.table_model.specs.PeriodRows.{by_period, under, numbered}
 use Rattle.table_model.proofs.NumberedLemmas.{by_period_total, find-under}

@@ -1,21 +1,19 @@
 -- 64 bits with a sign hold the numbers of the tables.
-use Rattle.std.proofs.Common.{◌≡◌, ℕ, suc, ◌+◌, List, [], ◌∷◌, length, refl, sym, ap}
-use Rattle.std.proofs.Common.{◌∙◌, subst, Bool, Option, Some, None, is_some, inl}
-use Rattle.std.proofs.Common.{inr, arith}
-use Rattle.std.specs.Prelude.{◌<◌, ◌≤◌, if◌then◌else◌, slice_get, sum_by, unwrap_or, All, ℤ}
+use Rattle.std.proofs.Common.{◌≡◌, ℕ, suc, ◌+◌, List, [], ◌∷◌, length, refl, sym, ap, ◌∙◌, subst}
+use Rattle.std.proofs.Common.{Bool, Option, Some, None, is_some, inl, inr, arith, ◌<◌, ◌≤◌}
+use Rattle.std.proofs.Common.{if◌then◌else◌, slice_get, sum_by, unwrap_or, All, ℤ, length-append}
 use Rattle.std.specs.FinMap.{find, int_cmp-IsAntisymmetric, nat_cmp-IsAntisymmetric}
 use Rattle.std.specs.Cmp.{int_cmp_total, nat_cmp_total}
 use Rattle.std.specs.List.{AllByRecursion}
 use Rattle.std.proofs.lemmas.Cmp.{nat_list_cmp_total}
-use Rattle.std.proofs.lemmas.List.{length-append}
 use Rattle.std.proofs.lemmas.List.Elements.{All-head, All-tail, All-filter}
 use Rattle.std.proofs.lemmas.Map.Views.{tells_apart}
 use Rattle.std.proofs.lemmas.Option.{slice_get_within}
 use Rattle.book_model.specs.Words.{IsDay, IsName, IsPriced, Book, all_periods, open_period}
-use Rattle.book_model.specs.Words.{last_period, Period, Naming, IsUsageRecord, key_of}
-use Rattle.book_model.specs.Words.{by_key, same_key, charged_at, charged_of, AcceptedTerms}
-use Rattle.book_model.specs.Words.{AreAmong, AreHeld, Choice, IsChoiceOf, most_choices, IsRule}
-use Rattle.book_model.specs.Words.{first_rule, second_rule}
+use Rattle.book_model.specs.Words.{last_period, Period, Naming, IsUsageRecord, key_of, by_key}
+use Rattle.book_model.specs.Words.{same_key, charged_at, charged_of, AcceptedTerms, AreAmong}
+use Rattle.book_model.specs.Words.{AreHeld, Choice, IsChoiceOf, most_choices, IsRule, first_rule}
+use Rattle.book_model.specs.Words.{second_rule}
 use Rattle.tariff_rules.specs.declared.priced.Priced.{Priced}
 use Rattle.book_model.specs.declared.row.ChargeRow.{ChargeRow}
 use Rattle.book_model.specs.declared.row.RowKey.{RowKey}

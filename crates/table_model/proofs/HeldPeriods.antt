@@ -1,8 +1,7 @@
 -- All periods of a book, including the open one: the records in them are held, and none reverses
 -- what it adds.
-use Rattle.std.proofs.Common.{◌≡◌, ℕ, List, [], ◌∷◌, sym, ◌∙◌, subst, true≢false}
-use Rattle.std.proofs.Common.{not, Option, Some}
-use Rattle.std.specs.Prelude.{ℤ, All, slice_get}
+use Rattle.std.proofs.Common.{◌≡◌, ℕ, List, [], ◌∷◌, sym, ◌∙◌, subst, true≢false, not, Option, Some}
+use Rattle.std.proofs.Common.{ℤ, All, slice_get}
 use Rattle.std.proofs.lemmas.Bool.{false_from_ne_true}
 use Rattle.std.proofs.lemmas.List.Elements.{All-append, All-cons, All-nil}
 use Rattle.std.proofs.lemmas.Option.{get_or_from_slice_get, slice_get_within}

@@ -1,6 +1,5 @@
 -- The identity of a record that measures work has the length that its parts need, by each rule.
-use Rattle.std.proofs.Common.{◌≡◌, ℕ, List, Option, Some, None, length, inl, inr}
-use Rattle.std.specs.Prelude.{◌⊎◌}
+use Rattle.std.proofs.Common.{◌≡◌, ℕ, List, Option, Some, None, length, inl, inr, ◌⊎◌}
 use Rattle.std.specs.Option.{option_map_or}
 use Rattle.smf_type30.specs.Class.{IsUsage}
 use Rattle.smf_type30.specs.Usage.{identity_of, identity2_of, identity_length, identity2_length}

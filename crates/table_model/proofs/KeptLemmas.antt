@@ -1,17 +1,14 @@
 -- The tables of a book with one more record are those without it, changed by its effects.
-use Rattle.std.proofs.Common.{◌≡◌, ℕ, List, [], ◌∷◌, refl, sym, ap, ◌∙◌, true, false}
-use Rattle.std.proofs.Common.{Bool, ◌&&◌, Option, Some, None, subst}
-use Rattle.std.specs.Prelude.{ℤ, if◌then◌else◌}
+use Rattle.std.proofs.Common.{◌≡◌, ℕ, List, [], ◌∷◌, refl, sym, ap, ◌∙◌, true, false, Bool, ◌&&◌}
+use Rattle.std.proofs.Common.{Option, Some, None, subst, ℤ, if◌then◌else◌, is_eq}
 use Rattle.std.specs.List.{list_any}
 use Rattle.std.specs.List.Sorted.{IsStrictlySortedBy}
-use Rattle.std.specs.Ordering.{is_eq}
 use Rattle.std.proofs.Math.Bool.{or-false}
 use Rattle.std.proofs.lemmas.Cmp.{nat_list_cmp_total}
 use Rattle.std.proofs.lemmas.Map.Keys.{sorted_head}
 use Rattle.std.proofs.lemmas.Map.Lookups.{exact_bytes}
 use Rattle.tariff_rules.specs.declared.priced.Priced.{Priced}
-use Rattle.book_model.specs.Words.{Book, share_identity}
-use Rattle.book_model.specs.Words.{is_chosen, keep, Naming, name_of, by_bytes}
+use Rattle.book_model.specs.Words.{Book, share_identity, is_chosen, keep, Naming, name_of, by_bytes}
 use Rattle.book_model.specs.Words.{same_bytes, price_in, last_close, has, those, IsSound}
 use Rattle.book_model.proofs.ChargedChanges.{charged-new, charged-alone, charged-only}
 use Rattle.book_model.proofs.ChargedChanges.{charged-stays, charged-chosen}

@@ -1,9 +1,8 @@
 -- What the tables of a book say of the records that a later tariff may be for, and of what all cost.
 use Rattle.std.proofs.Common.{◌≡◌, ◌∙◌, ◌+◌, ℕ, List, [], ◌∷◌, true, false, refl, sym, ap, arith}
-use Rattle.std.proofs.Common.{Option, Some, None}
-use Rattle.std.specs.Prelude.{ℤ, int_lt, sum_by}
+use Rattle.std.proofs.Common.{Option, Some, None, ℤ, int_lt, sum_by, filter_map}
 use Rattle.std.specs.FinMap.{contains_key, entries, get, values}
-use Rattle.std.specs.List.{cons_option, filter_map}
+use Rattle.std.specs.List.{cons_option}
 use Rattle.std.proofs.lemmas.Int.{ints}
 use Rattle.std.proofs.lemmas.List.Folds.{fold-map}
 use Rattle.std.proofs.lemmas.List.Sorted.{sum_by-IsPermutation}

@@ -1,12 +1,11 @@
 -- The life of a record is read from its row and its lines: the periods before that of its day did
 -- nothing with it, that one counted it or not, and what the later ones did is in their lines.
 use Rattle.std.proofs.Common.{◌≡◌, ◌∙◌, ℕ, zero, suc, ◌+◌, ◌-◌, ◌<◌, ◌≤◌, List, [], ◌∷◌, ◌++◌}
-use Rattle.std.proofs.Common.{length, refl, sym, ap, subst, true, false, true≢false, Bool, cond, not}
-use Rattle.std.proofs.Common.{◌&&◌, Option, Some, None, arith}
-use Rattle.std.specs.Prelude.{ℤ, pos, slice_get}
+use Rattle.std.proofs.Common.{length, refl, sym, ap, subst, true, false, true≢false, Bool, cond}
+use Rattle.std.proofs.Common.{not, ◌&&◌, Option, Some, None, arith, ℤ, pos, slice_get}
+use Rattle.std.proofs.Common.{length-append}
 use Rattle.std.specs.FinMap.{get}
 use Rattle.std.proofs.lemmas.Bool.{false_from_ne_true}
-use Rattle.std.proofs.lemmas.List.{length-append}
 use Rattle.std.proofs.lemmas.Option.{slice_get-get_or, slice_get_past}
 use Rattle.tariff_rules.specs.declared.priced.Priced.{Priced}
 use Rattle.book_model.specs.declared.trail.Deed.TheVariants.{Charged, Added, Reversed}

@@ -1,12 +1,9 @@
 -- What a period adds and reverses is read from its lines.
 use Rattle.std.proofs.Common.{◌≡◌, ℕ, suc, List, [], ◌∷◌, ◌++◌, map, refl, sym, ap, ◌∙◌, true}
-use Rattle.std.proofs.Common.{false, ◌+◌, Bool, cond, not, Option, Some, append-nil, arith}
-use Rattle.std.specs.Prelude.{filter, slice_get}
+use Rattle.std.proofs.Common.{false, ◌+◌, Bool, cond, not, Option, Some, append-nil, arith, filter}
+use Rattle.std.proofs.Common.{slice_get, filter_map, option_map, map-id}
 use Rattle.std.specs.FinMap.{get, entries, from_entries}
-use Rattle.std.specs.List.{filter_map}
-use Rattle.std.specs.Option.{option_map}
 use Rattle.std.proofs.lemmas.Cmp.{nat_list_cmp_total}
-use Rattle.std.proofs.lemmas.List.{map-id}
 use Rattle.std.proofs.lemmas.List.Elements.{filter-append}
 use Rattle.std.proofs.lemmas.Map.Lookups.{exact_bytes}
 use Rattle.book_model.specs.Words.{Book, all_periods, Period, Records, Naming, name_of, by_bytes}

@@ -1,6 +1,5 @@
 -- Each event leaves a book with lines that can be read.
-use Rattle.std.proofs.Common.{ℕ, List, [], ◌∷◌, sym, ◌∙◌, subst, true≢false}
-use Rattle.std.specs.Prelude.{ℤ}
+use Rattle.std.proofs.Common.{ℕ, List, [], ◌∷◌, sym, ◌∙◌, subst, true≢false, ℤ}
 use Rattle.std.proofs.lemmas.List.Elements.{All-append, All-cons, All-nil}
 use Rattle.book_model.specs.Words.{IsFramed, Terms, Book, new_book, flat_book, keep, close, Period}
 use Rattle.book_model.specs.Words.{last_close}

@@ -1,8 +1,7 @@
 -- The lists of a period, and the list of rulings, are answered from the tables.
 use Rattle.std.proofs.Common.{◌≡◌, ℕ, ◌-◌, length, refl, sym, ap, ◌∙◌, true, false, true≢false}
-use Rattle.std.proofs.Common.{Bool, not, ◌&&◌, Option, Some, None, Result, Ok, get_or, arith}
-use Rattle.std.specs.Prelude.{◌<◌, ◌≤◌, ◌==◌, nat_le, if◌then◌else◌, slice_get}
-use Rattle.std.specs.Option.{ok_or, option_map}
+use Rattle.std.proofs.Common.{Bool, not, ◌&&◌, Option, Some, None, Result, Ok, get_or, arith, ◌<◌}
+use Rattle.std.proofs.Common.{◌≤◌, ◌==◌, nat_le, if◌then◌else◌, slice_get, ok_or, option_map}
 use Rattle.std.proofs.lemmas.Bool.Decides.{nat_tests}
 use Rattle.std.proofs.lemmas.Option.{slice_get-get_or, slice_get_past}
 use Rattle.book_model.specs.declared.fault.LedgerFault.{LedgerFault}

@@ -1,11 +1,9 @@
 -- The choices of the list of rulings are those of the table.
-use Rattle.std.proofs.Common.{◌≡◌, ◌∙◌, ◌+◌, ℕ, suc, List, [], ◌∷◌, ◌++◌, map, refl, sym}
-use Rattle.std.proofs.Common.{ap, arith, Option, Some, None}
+use Rattle.std.proofs.Common.{◌≡◌, ◌∙◌, ◌+◌, ℕ, suc, List, [], ◌∷◌, ◌++◌, map, refl, sym, ap, arith}
+use Rattle.std.proofs.Common.{Option, Some, None, slice_get, option_map}
 use Rattle.std.proofs.lemmas.Option.{slice_get-map}
-use Rattle.std.specs.Prelude.{slice_get}
 use Rattle.std.specs.Cmp.{nat_cmp_total}
 use Rattle.std.specs.FinMap.{get, get-from_entries}
-use Rattle.std.specs.Option.{option_map}
 use Rattle.book_model.specs.Words.{Book, Choice, Naming, RulingSeen, adoption_seen, choice_seen}
 use Rattle.book_model.specs.Words.{choices_seen, closes_seen, rulings_listed, tariffs_seen}
 use Rattle.table_model.specs.Tables.{ChoiceRow}

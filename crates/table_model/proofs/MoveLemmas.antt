@@ -1,16 +1,15 @@
 -- A close moves the rows of the open period that are dated after its day to the next period.
 use Rattle.std.proofs.Common.{◌≡◌, ℕ, suc, ◌+◌, List, [], ◌∷◌, ◌++◌, length, refl, sym, ap, ◌∙◌}
 use Rattle.std.proofs.Common.{true, false, true≢false, Bool, cond, ◌&&◌, Option, Some, None, arith}
-use Rattle.std.proofs.Common.{is_some, subst}
-use Rattle.std.specs.Prelude.{ℤ, int_lt, ◌==◌, if◌then◌else◌}
+use Rattle.std.proofs.Common.{is_some, subst, ℤ, int_lt, ◌==◌, if◌then◌else◌, option_and_then}
+use Rattle.std.proofs.Common.{eqb-true, eq-eqb, length-append}
 use Rattle.std.specs.Cmp.{both_ways, IsTotalOrder, nat_cmp_total, unsigned_tied}
 use Rattle.std.specs.FinMap.{find, get, from_entries, same_map, get-from_entries, contains_key}
 use Rattle.std.specs.FinMap.{IsAntisymmetric, nat_cmp-IsAntisymmetric}
-use Rattle.std.specs.Option.{option_and_then, option_map_or}
+use Rattle.std.specs.Option.{option_map_or}
 use Rattle.std.specs.Ordering.{eq_by_cmp}
-use Rattle.std.proofs.lemmas.Bool.{eqb-true, eq-eqb, false_from_ne_true}
+use Rattle.std.proofs.lemmas.Bool.{false_from_ne_true}
 use Rattle.std.proofs.lemmas.Cmp.{eq_by_cmp_equiv}
-use Rattle.std.proofs.lemmas.List.{length-append}
 use Rattle.std.proofs.lemmas.Map.Views.{tells_apart}
 use Rattle.book_model.specs.declared.row.ChargeRow.{ChargeRow}
 use Rattle.book_model.specs.declared.row.RowKey.{RowKey}

@@ -1,22 +1,21 @@
 -- The first dispute from some bytes on is that of the least identity from there on that a row in
 -- dispute has.
 use Rattle.std.proofs.Common.{◌≡◌, ◌∙◌, ℕ, List, [], ◌∷◌, map, Bool, true, false, true≢false, cond}
-use Rattle.std.proofs.Common.{not, ◌&&◌, ◌||◌, Option, None, Some, Ok, refl, sym, ap, subst}
-use Rattle.std.specs.Prelude.{T, filter, find}
+use Rattle.std.proofs.Common.{not, ◌&&◌, ◌||◌, Option, None, Some, Ok, refl, sym, ap, subst, T}
+use Rattle.std.proofs.Common.{filter, find, filter_map, IsPermutation, option_map, Less}
 use Rattle.std.specs.Cmp.{tied_itself}
 use Rattle.std.specs.FinMap.{entries, entries_sorted, get, is_sorted}
 use Rattle.std.specs.FinMap.Entries.{below_all}
-use Rattle.std.specs.List.{AllByRecursion, filter_map, list_any}
-use Rattle.std.specs.List.Sorted.{IsPermutation, IsStrictlySortedBy}
-use Rattle.std.specs.Option.{option_map}
+use Rattle.std.specs.List.{AllByRecursion, list_any}
+use Rattle.std.specs.List.Sorted.{IsStrictlySortedBy}
 use Rattle.std.specs.Ordering.{eq_by_cmp, ordering_then}
-use Rattle.std.specs.declared.cmp.Ordering.TheVariants.{Less}
 use Rattle.std.proofs.Math.Bool.{or-true}
 use Rattle.std.proofs.lemmas.Cmp.{nat_list_cmp_total, nat_list_eq_equiv}
-use Rattle.std.proofs.lemmas.List.Sorted.{IsPermutation-refl, IsPermutation-sym, IsPermutation-trans}
+use Rattle.std.proofs.lemmas.List.Sorted.{IsPermutation-refl, IsPermutation-sym}
+use Rattle.std.proofs.lemmas.List.Sorted.{IsPermutation-trans}
 use Rattle.book_model.specs.Words.{Book, Disputed, Naming, by_bytes, by_name, dispute_at}
-use Rattle.book_model.specs.Words.{dispute_outcome, has, identity_by, is_from, is_in_dispute, members}
-use Rattle.book_model.specs.Words.{no_event, same_bytes, set_of}
+use Rattle.book_model.specs.Words.{dispute_outcome, has, identity_by, is_from, is_in_dispute}
+use Rattle.book_model.specs.Words.{members, no_event, same_bytes, set_of}
 use Rattle.book_model.proofs.DisputeLemmas.{disputed_is_uncharged}
 use Rattle.book_model.proofs.FromLemmas.{find-map, not_from}
 use Rattle.book_model.proofs.ListLemmas.{list_any-map}

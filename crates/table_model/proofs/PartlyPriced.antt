@@ -1,18 +1,15 @@
 -- The tables while a tariff is put in force: some of the records have their prices by it, and the
 -- others those that they had.
-use Rattle.std.proofs.Common.{◌≡◌, ◌∙◌, ℕ, List, Bool, true, false, true≢false, cond, ◌||◌, Some, Ok}
-use Rattle.std.proofs.Common.{Option, refl, sym, ap, subst}
-use Rattle.std.specs.Prelude.{ℤ, if◌then◌else◌, int_lt, is_some}
+use Rattle.std.proofs.Common.{◌≡◌, ◌∙◌, ℕ, List, Bool, true, false, true≢false, cond, ◌||◌, Some}
+use Rattle.std.proofs.Common.{Ok, Option, refl, sym, ap, subst, ℤ, if◌then◌else◌, int_lt, is_some}
 use Rattle.std.specs.FinMap.{contains_key, get, keys}
-use Rattle.std.specs.FinMap as fin
 use Rattle.std.specs.List.{list_any}
 use Rattle.std.proofs.lemmas.Bool.{false_from_ne_true}
 use Rattle.std.proofs.lemmas.Option.{same_Some}
 use Rattle.tariff_rules.specs.declared.priced.Priced.{Priced}
 use Rattle.book_model.specs.Words.{Book, IsSound, Naming, Rulings, Terms, day_of, has}
-use Rattle.book_model.specs.Words.{is_dated_after, last_close}
-use Rattle.book_model.specs.Words.{name_of, open_number, price_by, price_in, record_with}
-use Rattle.book_model.specs.Words.{terms_answer, with_tariff}
+use Rattle.book_model.specs.Words.{is_dated_after, last_close, name_of, open_number, price_by}
+use Rattle.book_model.specs.Words.{price_in, record_with, terms_answer, with_tariff}
 use Rattle.book_model.specs.declared.answer.Ruled.TheVariants.{Done}
 use Rattle.book_model.proofs.TestLemmas.{tariff_passes}
 use Rattle.book_model.proofs.PricingLemmas.{price_in-behind}
@@ -30,6 +27,7 @@ use Rattle.table_model.proofs.TableParts.{what_is}
 use Rattle.table_model.proofs.TariffChanges.{becomes, late_is_after, settled, step_is, walked, was}
 use Rattle.table_model.proofs.TariffPrices.{new_price}
 use Rattle.table_model.proofs.WalkLemmas.{among, between, is_between, key_named, one_step, status}
+use Rattle.std.specs.FinMap as fin
 
 -- its price is that of a tariff
 abbrev pub HasPrice : Terms → RecordRow → Type 0

@@ -1,15 +1,12 @@
 -- The place of a period among all periods of a book.
-use Rattle.std.proofs.Common.{◌≡◌, ℕ, ◌+◌, ◌-◌, List, map, length, refl, sym}
-use Rattle.std.proofs.Common.{ap, ◌∙◌, true, false, true≢false, Bool, Option, Some, None, arith}
-use Rattle.std.proofs.Common.{◌≢◌}
-use Rattle.std.specs.Prelude.{slice_get, ◌==◌, if◌then◌else◌}
-use Rattle.std.proofs.lemmas.Bool.{eqb-true, eq-eqb}
-use Rattle.std.proofs.lemmas.Option as options
+use Rattle.std.proofs.Common.{◌≡◌, ℕ, ◌+◌, ◌-◌, List, map, length, refl, sym, ap, ◌∙◌, true, false}
+use Rattle.std.proofs.Common.{true≢false, Bool, Option, Some, None, arith, ◌≢◌, slice_get, ◌==◌}
+use Rattle.std.proofs.Common.{if◌then◌else◌, eqb-true, eq-eqb, option_map}
 use Rattle.std.proofs.lemmas.Option.{slice_get_within}
 use Rattle.book_model.specs.Words.{Book, open_number, open_period, all_periods, period_of, Period}
 use Rattle.book_model.specs.Words.{Naming, IsSound}
 use Rattle.book_model.proofs.ListLemmas.{slice_get-front, slice_get-behind}
-use Rattle.std.specs.Option.{option_map}
+use Rattle.std.proofs.lemmas.Option as options
 
 -- numbers that are not equal by their test
 eqb-not : (a b : ℕ) → (a == b) ≡ false → a ≢ b

@@ -1,15 +1,13 @@
 -- The rows of a period are those that a table of all periods has under its number.
 use Rattle.std.proofs.Common.{◌≡◌, ℕ, zero, suc, ◌+◌, ◌<◌, List, [], ◌∷◌, refl, sym, ap, ◌∙◌, subst}
-use Rattle.std.proofs.Common.{Bool, cond, ◌&&◌, Some, None, T, arith}
-use Rattle.std.specs.Prelude.{slice_get, ◌==◌}
+use Rattle.std.proofs.Common.{Bool, cond, ◌&&◌, Some, None, T, arith, slice_get, ◌==◌, is_eq, is_lt}
+use Rattle.std.proofs.Common.{nat_cmp, Ordering, Less, Equal, Greater}
 use Rattle.std.specs.Cmp.{IsTotalOrder, nat_cmp_total, tied_itself, unsigned_tied}
 use Rattle.std.specs.FinMap.{FinMap, IsAntisymmetric, find, entries, from_entries, entries_sorted}
 use Rattle.std.specs.FinMap.{get-entries, get-from_entries, nat_cmp-IsAntisymmetric}
 use Rattle.std.specs.FinMap.Entries.{below_all, is_sorted, where_key, is_sorted-where_key}
 use Rattle.std.specs.FinMap.Entries.{find-where_key, same_entries}
-use Rattle.std.specs.Ordering.{is_eq, is_lt, nat_cmp, ordering_then}
-use Rattle.std.specs.declared.cmp.Ordering.{Ordering}
-use Rattle.std.specs.declared.cmp.Ordering.TheVariants.{Less, Equal, Greater}
+use Rattle.std.specs.Ordering.{ordering_then}
 use Rattle.book_model.proofs.MapLemmas.{else_find, find-both, else_none}
 use Rattle.table_model.specs.PeriodRows.{by_period, under, numbered, rows_under}
 use Rattle.table_model.proofs.MoveLemmas.{not_number}

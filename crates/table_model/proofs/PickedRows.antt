@@ -1,9 +1,7 @@
 -- Charge rows at a place, of those records of a set that pass a test.
-use Rattle.std.proofs.Common.{◌≡◌, ℕ, List, [], ◌∷◌, refl, sym, ap, ◌∙◌, true, false, Bool}
-use Rattle.std.proofs.Common.{Option, Some, None, ◌&&◌}
-use Rattle.std.specs.Prelude.{filter}
+use Rattle.std.proofs.Common.{◌≡◌, ℕ, List, [], ◌∷◌, refl, sym, ap, ◌∙◌, true, false, Bool, Option}
+use Rattle.std.proofs.Common.{Some, None, ◌&&◌, filter, filter_map}
 use Rattle.std.specs.FinMap.{find}
-use Rattle.std.specs.List.{filter_map}
 use Rattle.std.proofs.lemmas.Cmp.{nat_list_cmp_total}
 use Rattle.std.proofs.lemmas.Map.Lookups.{exact_bytes}
 use Rattle.std.proofs.lemmas.Map.Views.{tells_apart}

@@ -1,11 +1,9 @@
 -- Records that are posted by a day one after another, by their names: which rows differ then. Where
 -- each row that a close changes is among them, all rows are as the close posts them.
 use Rattle.std.proofs.Common.{◌≡◌, ◌∙◌, ℕ, List, [], ◌∷◌, ◌||◌, Bool, true, false, cond, Option}
-use Rattle.std.proofs.Common.{Some, None, refl, sym, ap}
-use Rattle.std.specs.Prelude.{ℤ, int_lt}
+use Rattle.std.proofs.Common.{Some, None, refl, sym, ap, ℤ, int_lt, option_map}
 use Rattle.std.specs.FinMap.{get, get-insert, same_map}
 use Rattle.std.specs.List.{list_any}
-use Rattle.std.specs.Option.{option_map}
 use Rattle.std.proofs.lemmas.Cmp.{nat_list_cmp_total}
 use Rattle.std.proofs.lemmas.Map.Lookups.{exact_bytes}
 use Rattle.book_model.proofs.MapLemmas.{by_tie}

@@ -1,6 +1,5 @@
 -- What a close posts: what is charged, and dated on or before its day.
-use Rattle.std.proofs.Common.{◌≡◌, ℕ, List, refl, sym, ap, ◌∙◌, true, false, Bool, ◌&&◌}
-use Rattle.std.specs.Prelude.{ℤ}
+use Rattle.std.proofs.Common.{◌≡◌, ℕ, List, refl, sym, ap, ◌∙◌, true, false, Bool, ◌&&◌, ℤ}
 use Rattle.book_model.specs.Words.{is_undisputed, is_dated_through, charged_now, charged_through}
 use Rattle.book_model.specs.Words.{Records, Rulings, has}
 use Rattle.book_model.proofs.RecordSets.{has_those}

@@ -1,12 +1,11 @@
 -- Books that calls made can be read back.
-use Rattle.std.proofs.Common.{◌≡◌, ◌∙◌, List, [], ◌∷◌, ap, arith, length, refl, subst, sym, true≢false}
-use Rattle.std.specs.Prelude.{◌≤◌, sum_by}
-use Rattle.std.specs.List.{filter_map}
+use Rattle.std.proofs.Common.{◌≡◌, ◌∙◌, List, [], ◌∷◌, ap, arith, length, refl, subst, sym}
+use Rattle.std.proofs.Common.{true≢false, ◌≤◌, sum_by, filter_map}
 use Rattle.std.specs.List.Sorted.{IsStrictlySortedBy}
 use Rattle.std.proofs.lemmas.List.Elements.{All-nil}
 use Rattle.tariff_rules.specs.declared.priced.Priced.{Priced}
-use Rattle.book_model.specs.Words.{Event, IsDay, IsMadeByCalls, Naming, book_after, by_bytes, members}
-use Rattle.book_model.specs.Words.{most_cost, most_held, new_book, price_in, total_of}
+use Rattle.book_model.specs.Words.{Event, IsDay, IsMadeByCalls, Naming, book_after, by_bytes}
+use Rattle.book_model.specs.Words.{members, most_cost, most_held, new_book, price_in, total_of}
 use Rattle.book_model.proofs.SetLemmas.{members-empty}
 use Rattle.book_model.proofs.SoundLemmas.{none_in, steps_stay_sound}
 use Rattle.table_model.specs.FromCalls.{AreSubmitted}

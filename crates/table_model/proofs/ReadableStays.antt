@@ -1,21 +1,18 @@
 -- Each call that is an event leaves a book that can be read back.
 use Rattle.std.proofs.Common.{◌≡◌, ◌∙◌, ◌++◌, ◌+◌, ◌∷◌, [], ℕ, zero, suc, List, length, refl, sym}
-use Rattle.std.proofs.Common.{ap, subst, true, false, Bool, ◌||◌, Option, Some, None, Ok, Err, arith}
-use Rattle.std.specs.Prelude.{◌≤◌, ◌<◌, nat_le, nat_lt, if◌then◌else◌, All, unwrap_or, ℤ}
-use Rattle.std.proofs.lemmas.Bool.{ltb-false, leb-false}
+use Rattle.std.proofs.Common.{ap, subst, true, false, Bool, ◌||◌, Option, Some, None, Ok, Err}
+use Rattle.std.proofs.Common.{arith, ◌≤◌, ◌<◌, nat_le, nat_lt, if◌then◌else◌, All, unwrap_or, ℤ}
+use Rattle.std.proofs.Common.{ltb-false, leb-false, length-append}
 use Rattle.std.proofs.lemmas.Bool.Decides.{nat_tests}
-use Rattle.std.proofs.lemmas.List.{length-append}
 use Rattle.std.proofs.lemmas.List.Elements.{All-push, All-weaker}
 use Rattle.book_model.specs.Words.{AreDatedThrough, AcceptedTerms, Book, Choice, Event, IsDay}
 use Rattle.book_model.specs.Words.{IsAnswered, IsSound, IsUsageRecord, Naming, PeriodClosed}
 use Rattle.book_model.specs.Words.{RecordChosen, RecordKept, Records, Rulings, RulingGiven}
-use Rattle.book_model.specs.Words.{SecondRuleAdopted, TariffAccepted}
-use Rattle.book_model.specs.Words.{Terms, accept_answer, accept_priced, after, give}
-use Rattle.book_model.specs.Words.{choose_answer, chosen_answer, close, close_answer}
-use Rattle.book_model.specs.Words.{keep, last_close, members}
-use Rattle.book_model.specs.Words.{most_choices, most_cost, most_held, name_of, open_by, open_number}
-use Rattle.book_model.specs.Words.{period_by, price_in, record_named, terms_answer}
-use Rattle.book_model.specs.Words.{total_of, with, with_tariff}
+use Rattle.book_model.specs.Words.{SecondRuleAdopted, TariffAccepted, Terms, accept_answer}
+use Rattle.book_model.specs.Words.{accept_priced, after, give, choose_answer, chosen_answer, close}
+use Rattle.book_model.specs.Words.{close_answer, keep, last_close, members, most_choices, most_cost}
+use Rattle.book_model.specs.Words.{most_held, name_of, open_by, open_number, period_by, price_in}
+use Rattle.book_model.specs.Words.{record_named, terms_answer, total_of, with, with_tariff}
 use Rattle.book_model.specs.declared.answer.Accepted.TheVariants.{Kept}
 use Rattle.book_model.specs.declared.answer.Ruled.TheVariants.{Done}
 use Rattle.book_model.specs.declared.fault.LedgerFault.TheVariants.{Full}

@@ -1,9 +1,9 @@
 -- What a new record changes in the table of the records, and in the row of the book.
-use Rattle.std.proofs.Common.{◌≡◌, ℕ, ◌+◌, List, length, refl, ap, ◌∙◌, true, false}
-use Rattle.std.proofs.Common.{Option, Some, None, arith}
+use Rattle.std.proofs.Common.{◌≡◌, ℕ, ◌+◌, List, length, refl, ap, ◌∙◌, true, false, Option, Some}
+use Rattle.std.proofs.Common.{None, arith, filter_map, option_map}
 use Rattle.std.specs.FinMap.{find, insert, from_entries}
-use Rattle.std.specs.List.{filter_map, list_any}
-use Rattle.std.specs.Option.{option_map, option_map_or}
+use Rattle.std.specs.List.{list_any}
+use Rattle.std.specs.Option.{option_map_or}
 use Rattle.std.proofs.lemmas.Cmp.{nat_list_cmp_total}
 use Rattle.std.proofs.lemmas.List.Sums.{sum_by-cons}
 use Rattle.std.proofs.lemmas.Map.Lookups.{exact_bytes}
@@ -13,8 +13,7 @@ use Rattle.book_model.specs.Words.{prices, members, has, with}
 use Rattle.book_model.proofs.FilterMapLemmas.{find-insert_key, find-none}
 use Rattle.book_model.proofs.MapLemmas.{from_entries-insert}
 use Rattle.book_model.proofs.RecordSets.{is}
-use Rattle.book_model.proofs.SetChanges.{members_with}
-use Rattle.book_model.proofs.SetChanges.{IsUnnamed}
+use Rattle.book_model.proofs.SetChanges.{members_with, IsUnnamed}
 use Rattle.book_model.proofs.SetLemmas.{members-with}
 use Rattle.book_model.proofs.SumsAlike.{length-alike}
 use Rattle.table_model.specs.Tables.{RecordRow, RecordTable}

@@ -1,25 +1,23 @@
 -- Where one record that is held goes from one status to another, the tables change by its row, its
 -- charge row and its line, and by whether its name is counted.
 use Rattle.std.proofs.Common.{◌≡◌, ℕ, List, [], ◌∷◌, ◌++◌, map, refl, sym, ap, ◌∙◌, true, false}
-use Rattle.std.proofs.Common.{true≢false, Bool, cond, not, ◌&&◌, Option, Some, None, get_or}
-use Rattle.std.specs.Prelude.{ℤ, IsSome}
+use Rattle.std.proofs.Common.{true≢false, Bool, cond, not, ◌&&◌, Option, Some, None, get_or, ℤ}
+use Rattle.std.proofs.Common.{IsSome, option_map}
 use Rattle.std.specs.FinMap.{find, get, insert, from_entries}
-use Rattle.std.specs.Option.{option_map}
 use Rattle.std.proofs.lemmas.Bool.{false_from_ne_true}
 use Rattle.std.proofs.lemmas.Cmp.{nat_list_cmp_total}
 use Rattle.std.proofs.lemmas.Map.Lookups.{exact_bytes}
 use Rattle.std.proofs.lemmas.Map.Views.{tells_apart}
 use Rattle.book_model.specs.Words.{day_of, data_of, Book, open_number, is_dated_after, Records}
-use Rattle.book_model.specs.Words.{Naming, name_of, by_bytes, last_close, has, those}
-use Rattle.book_model.specs.Words.{IsSound, AreAmong}
+use Rattle.book_model.specs.Words.{Naming, name_of, by_bytes, last_close, has, those, IsSound}
+use Rattle.book_model.specs.Words.{AreAmong}
 use Rattle.tariff_rules.specs.declared.priced.Priced.{Priced}
 use Rattle.book_model.specs.declared.row.ChargeRow.{ChargeRow}
 use Rattle.book_model.specs.declared.row.RowKey.{RowKey}
 use Rattle.book_model.proofs.ListLemmas.{map-agree}
 use Rattle.book_model.proofs.MapLemmas.{else_find, find-both, insert-insert, get-inserted}
 use Rattle.book_model.proofs.RecordSets.{is, is_itself, same_records, has_those, in_those}
-use Rattle.book_model.proofs.SetChanges.{pick-agree, except, not_new, with-except}
-use Rattle.book_model.proofs.SetChanges.{has-except}
+use Rattle.book_model.proofs.SetChanges.{pick-agree, except, not_new, with-except, has-except}
 use Rattle.book_core.specs.Effects.{is_after}
 use Rattle.table_model.specs.PeriodRows.{numbered}
 use Rattle.table_model.proofs.RestatedRows.{line_by, line_in, is_counted, part_row, join_row}

@@ -1,8 +1,6 @@
 -- Records that share their identity: how many there are, and that one with no rival is alone.
-use Rattle.std.proofs.Common.{◌≡◌, ℕ, ◌+◌, List, sym, ap, ◌∙◌, true}
-use Rattle.std.proofs.Common.{Bool, cond, not, ◌&&◌, arith}
-use Rattle.std.specs.Prelude.{count_by, nat_lt, ◌==◌}
-use Rattle.std.specs.FinMap as fin
+use Rattle.std.proofs.Common.{◌≡◌, ℕ, ◌+◌, List, sym, ap, ◌∙◌, true, Bool, cond, not, ◌&&◌, arith}
+use Rattle.std.proofs.Common.{count_by, nat_lt, ◌==◌}
 use Rattle.std.proofs.lemmas.Bool.Decides.{nat_tests}
 use Rattle.std.proofs.lemmas.Cmp.{nat_list_cmp_total, nat_list_eq_equiv, eq_by_cmp_equiv}
 use Rattle.std.proofs.lemmas.Map.Keys.{IsDistinct-from_sorted}
@@ -14,6 +12,7 @@ use Rattle.book_model.proofs.ListLemmas.{count_by-narrower, count_by-distinct}
 use Rattle.book_model.proofs.RecordSets.{is}
 use Rattle.book_model.proofs.SetLemmas.{members_rise, same_bytes-by_cmp}
 use Rattle.book_model.proofs.SumsAlike.{list_any-count_by}
+use Rattle.std.specs.FinMap as fin
 
 -- one and this many more are one if there are no more
 none_more : (n : ℕ) → ((1 + n) == 1) ≡ not (nat_lt 0 n)

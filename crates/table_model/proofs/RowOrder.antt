@@ -1,10 +1,9 @@
 -- Rows in their order, and those among them that pass a test.
 use Rattle.std.proofs.Common.{◌≡◌, List, [], ◌∷◌, refl, sym, ap, subst, true, false, Bool, cond}
-use Rattle.std.proofs.Common.{◌&&◌, ◌||◌, Option, Some, None}
-use Rattle.std.specs.Prelude.{filter}
+use Rattle.std.proofs.Common.{◌&&◌, ◌||◌, Option, Some, None, filter, filter_map, IsPermutation}
 use Rattle.std.specs.Cmp.{IsTotalOrder}
-use Rattle.std.specs.List.{cons_option, filter_map, list_any}
-use Rattle.std.specs.List.Sorted.{IsPermutation, IsStrictlySortedBy}
+use Rattle.std.specs.List.{cons_option, list_any}
+use Rattle.std.specs.List.Sorted.{IsStrictlySortedBy}
 use Rattle.std.specs.Ordering.{eq_by_cmp}
 use Rattle.std.proofs.lemmas.Cmp.{nat_list_cmp_total, then_total, on_total}
 use Rattle.std.proofs.lemmas.List.Kept.{IsStrictlySortedBy-filter}

@@ -1,15 +1,12 @@
 -- A tariff is answered by what the records' rows will cost.
-use Rattle.std.proofs.Common.{◌≡◌, ℕ, List, refl, sym, ap, ◌∙◌, true, false}
-use Rattle.std.proofs.Common.{Bool, Some, Ok, subst}
-use Rattle.std.specs.Prelude.{int_lt, nat_lt}
+use Rattle.std.proofs.Common.{◌≡◌, ℕ, List, refl, sym, ap, ◌∙◌, true, false, Bool, Some, Ok, subst}
+use Rattle.std.proofs.Common.{int_lt, nat_lt}
 use Rattle.std.specs.FinMap.{get}
 use Rattle.std.specs.List.{list_any}
 use Rattle.std.proofs.lemmas.Option.{same_Some}
 use Rattle.book_model.specs.Words.{day_of, Terms, IsPriced, price_by, Book, charged_of, Naming}
-use Rattle.book_model.specs.Words.{name_of, has_text, Rulings}
-use Rattle.book_model.specs.Words.{is_effective, is_later, is_too_dear, terms_answer}
-use Rattle.book_model.specs.Words.{most_cost, with_tariff, has}
-use Rattle.book_model.specs.Words.{IsSound}
+use Rattle.book_model.specs.Words.{name_of, has_text, Rulings, is_effective, is_later, is_too_dear}
+use Rattle.book_model.specs.Words.{terms_answer, most_cost, with_tariff, has, IsSound}
 use Rattle.book_model.specs.declared.answer.Ruled.TheVariants.{Done}
 use Rattle.book_model.proofs.LatestLemmas.{later-before, later_price}
 use Rattle.book_model.proofs.PricingLemmas.{price_in-behind}

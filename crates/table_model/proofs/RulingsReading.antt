@@ -1,14 +1,11 @@
 -- The tariffs, the closes and the rule of identity are read back from their tables.
-use Rattle.std.proofs.Common.{◌≡◌, ℕ, List, [], ◌∷◌, refl, sym, ap, ◌∙◌, true, Bool}
-use Rattle.std.proofs.Common.{T, Option, Some, None, arith, subst}
-use Rattle.std.specs.Prelude.{All, ℤ, int_lt, ◌<ℤ◌, ◌==◌, if◌then◌else◌, is_some, unwrap_or}
+use Rattle.std.proofs.Common.{◌≡◌, ℕ, List, [], ◌∷◌, refl, sym, ap, ◌∙◌, true, Bool, T, Option}
+use Rattle.std.proofs.Common.{Some, None, arith, subst, All, ℤ, int_lt, ◌<ℤ◌, ◌==◌, if◌then◌else◌}
+use Rattle.std.proofs.Common.{is_some, unwrap_or, filter_map, option_and_then, int_cmp, is_lt, Less}
 use Rattle.std.specs.Cmp.{int_cmp_is, int_cmp_total}
 use Rattle.std.specs.FinMap.{from_entries, entries, int_cmp-IsAntisymmetric}
 use Rattle.std.specs.FinMap.Entries.{below_all, is_sorted}
-use Rattle.std.specs.List.{filter_map, cons_option, list_all}
-use Rattle.std.specs.Option.{option_and_then}
-use Rattle.std.specs.Ordering.{int_cmp, is_lt}
-use Rattle.std.specs.declared.cmp.Ordering.TheVariants.{Less}
+use Rattle.std.specs.List.{cons_option, list_all}
 use Rattle.std.proofs.lemmas.Int.{ints}
 use Rattle.std.proofs.lemmas.List.Elements.{All-head, All-tail}
 use Rattle.book_model.specs.Words.{terms_in, Records, Rulings, AcceptedTerms, are_rising}

@@ -1,10 +1,6 @@
 -- Sets of records that are made from lists in any order.
-use Rattle.std.proofs.Common.{◌≡◌, ℕ, List, ◌++◌, refl, sym, ap, ◌∙◌, true, false, true≢false}
-use Rattle.std.proofs.Common.{Bool, not, ◌&&◌, ◌||◌, Option}
-use Rattle.std.specs.Prelude.{filter, ℤ}
-use Rattle.std.specs.FinMap as fin
-use Rattle.std.specs.List.{filter_map}
-use Rattle.std.specs.List.Sorted.{IsPermutation}
+use Rattle.std.proofs.Common.{◌≡◌, ℕ, List, ◌++◌, refl, sym, ap, ◌∙◌, true, false, true≢false, Bool}
+use Rattle.std.proofs.Common.{not, ◌&&◌, ◌||◌, Option, filter, ℤ, filter_map, IsPermutation}
 use Rattle.std.proofs.lemmas.Cmp.{nat_list_cmp_total}
 use Rattle.std.proofs.lemmas.List.Folds.{list_any-append}
 use Rattle.std.proofs.lemmas.List.Sorted.{sum_by-IsPermutation}
@@ -14,8 +10,9 @@ use Rattle.book_model.specs.Words.{members, has, those, without, AreDatedThrough
 use Rattle.book_model.proofs.RecordSets.{is, same_records, has_those}
 use Rattle.book_model.proofs.SetLemmas.{has-set_of, members-those, set_of-alike}
 use Rattle.book_model.proofs.SumsAlike.{SumsAlike, filter_map-alike}
-pub use Rattle.table_model.proofs.RowsWhere.{among-filter, one_passes, some_passes}
 use Rattle.table_model.specs.BookIn.{union_of, charged_before}
+use Rattle.std.specs.FinMap as fin
+pub use Rattle.table_model.proofs.RowsWhere.{among-filter, one_passes, some_passes}
 
 -- lists that are equal but for their order have equal sums
 pub permuted-alike : {X : Type 0} (xs ys : List X) → IsPermutation xs ys → SumsAlike xs ys

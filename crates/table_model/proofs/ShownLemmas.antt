@@ -1,26 +1,23 @@
 -- What is answered from the tables can be shown.
 use Rattle.std.proofs.Common.{◌≡◌, ℕ, ◌+◌, List, [], ◌∷◌, ◌++◌, map, length, refl, sym, ap, ◌∙◌}
-use Rattle.std.proofs.Common.{subst, true, false, Bool, Option, Some, None, arith}
-use Rattle.std.specs.Prelude.{◌<◌, ◌≤◌, ◌^◌, sum_by, All}
+use Rattle.std.proofs.Common.{subst, true, false, Bool, Option, Some, None, arith, ◌<◌, ◌≤◌, ◌^◌}
+use Rattle.std.proofs.Common.{sum_by, All, filter_map, Ordering, Less, Equal, Greater, option_map}
 use Rattle.std.specs.BTreeSet.{insert_key}
 use Rattle.std.specs.Cmp.{IsTotalOrder}
-use Rattle.std.specs.List.{AllByRecursion, filter_map}
+use Rattle.std.specs.List.{AllByRecursion}
 use Rattle.std.specs.Ordering.{match_ordering}
-use Rattle.std.specs.declared.cmp.Ordering.{Ordering}
-use Rattle.std.specs.declared.cmp.Ordering.TheVariants.{Less, Equal, Greater}
 use Rattle.std.proofs.lemmas.List.Elements.{All-from_recursion, recursion_from_All}
 use Rattle.std.proofs.lemmas.List.Folds.{fold-map}
 use Rattle.std.proofs.lemmas.List.Sums.{sum_by-cons, sum_by-append}
 use Rattle.book_model.specs.Words.{IsDay, Book, most_cost, AreLines, lines_for, lines_of, Records}
-use Rattle.book_model.specs.Words.{Naming, name_of, FitSums, AreRows, AreAmong, price_in}
-use Rattle.book_model.specs.Words.{set_of, members, line_with}
+use Rattle.book_model.specs.Words.{Naming, name_of, FitSums, AreRows, AreAmong, price_in, set_of}
+use Rattle.book_model.specs.Words.{members, line_with}
 use Rattle.tariff_rules.specs.declared.priced.Priced.{Priced}
 use Rattle.book_model.specs.declared.line.Line.{Line}
 use Rattle.book_model.proofs.FilterMapLemmas.{map-filter_map}
 use Rattle.book_model.proofs.LineOrder.{by_line_total}
 use Rattle.book_model.proofs.SetLemmas.{members-empty, members-with}
 use Rattle.table_model.proofs.LineReading.{lines_follow}
-use Rattle.std.specs.Option.{option_map}
 use Rattle.table_model.proofs.ListOrder.{all_joined, all_unmapped}
 use Rattle.book_core.proofs.ListLimits.{rows_shown}
 use Rattle.table_model.specs.PeriodLists.{rows_read, lines_read}

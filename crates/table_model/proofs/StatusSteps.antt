@@ -1,18 +1,16 @@
 -- One record that is held becomes charged, or is no longer charged: as the table of effects says.
 use Rattle.std.proofs.Common.{◌≡◌, ℕ, List, refl, sym, ap, ◌∙◌, true, false, Bool, cond, not, ◌&&◌}
-use Rattle.std.proofs.Common.{◌||◌, Option, Some, None}
-use Rattle.std.specs.Prelude.{ℤ, IsSome, if◌then◌else◌}
+use Rattle.std.proofs.Common.{◌||◌, Option, Some, None, ℤ, IsSome, if◌then◌else◌}
 use Rattle.std.specs.FinMap.{get, insert}
-use Rattle.book_model.specs.Words.{Book, open_number, Records, Naming, name_of}
-use Rattle.book_model.specs.Words.{last_close, price_in, identity_by, has, with, IsSound, AreAmong}
-use Rattle.book_model.specs.Words.{Rulings}
+use Rattle.book_model.specs.Words.{Book, open_number, Records, Naming, name_of, last_close}
+use Rattle.book_model.specs.Words.{price_in, identity_by, has, with, IsSound, AreAmong, Rulings}
 use Rattle.tariff_rules.specs.declared.priced.Priced.{Priced}
 use Rattle.book_model.proofs.RecordSets.{is, has_with, has_those, in_those, is_itself, not_true}
 use Rattle.book_model.proofs.RecordSets.{one_or, second_of}
 use Rattle.book_model.proofs.SetChanges.{except, has-except}
 use Rattle.book_core.specs.declared.effects.DayChange.TheVariants.{Add, Take}
-use Rattle.book_core.specs.declared.effects.LineChange.TheVariants.{AddPlus, DropPlus}
-use Rattle.book_core.specs.declared.effects.LineChange.TheVariants.{AddMinus, DropMinus}
+use Rattle.book_core.specs.declared.effects.LineChange.TheVariants.{AddPlus, DropPlus, AddMinus}
+use Rattle.book_core.specs.declared.effects.LineChange.TheVariants.{DropMinus}
 use Rattle.book_core.specs.declared.effects.Member.{Member}
 use Rattle.book_core.specs.Effects.{is_after, charge_held, withdraw, charges, unmarks}
 use Rattle.table_model.proofs.RestatedRows.{line_by, restate, set_counted, set_line}

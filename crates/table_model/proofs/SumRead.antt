@@ -1,15 +1,14 @@
 -- What the records will cost together under a tariff is read from their rows.
-use Rattle.std.proofs.Common.{◌≡◌, ◌+◌, ℕ, List, [], ◌∷◌, refl, sym, ap, ◌∙◌, true, false}
-use Rattle.std.proofs.Common.{Option, Some, arith}
-use Rattle.std.specs.Prelude.{sum_by, int_lt}
+use Rattle.std.proofs.Common.{◌≡◌, ◌+◌, ℕ, List, [], ◌∷◌, refl, sym, ap, ◌∙◌, true, false, Option}
+use Rattle.std.proofs.Common.{Some, arith, sum_by, int_lt, filter_map}
 use Rattle.std.specs.FinMap.{entries}
-use Rattle.std.specs.List.{filter_map, cons_option}
+use Rattle.std.specs.List.{cons_option}
 use Rattle.std.proofs.lemmas.List.Folds.{fold-map}
 use Rattle.std.proofs.lemmas.List.Sorted.{sum_by-IsPermutation}
 use Rattle.std.proofs.lemmas.List.Sums.{sum_by-cons}
-use Rattle.book_model.specs.Words.{day_of, Terms, price_by, total_of, Book}
-use Rattle.book_model.specs.Words.{charged_of, Records, Naming, name_of, is_later, price_in}
-use Rattle.book_model.specs.Words.{with_tariff, identity_by, members, has, IsSound}
+use Rattle.book_model.specs.Words.{day_of, Terms, price_by, total_of, Book, charged_of, Records}
+use Rattle.book_model.specs.Words.{Naming, name_of, is_later, price_in, with_tariff, identity_by}
+use Rattle.book_model.specs.Words.{members, has, IsSound}
 use Rattle.tariff_rules.specs.declared.priced.Priced.{Priced}
 use Rattle.book_model.proofs.PricingLemmas.{price_in-behind}
 use Rattle.table_model.specs.Laws.{SumIsRead}
@@ -19,8 +18,8 @@ use Rattle.table_model.specs.Tables.{RecordRow, RecordTable}
 use Rattle.table_model.specs.TablesOf.{status_of, tables_of, record_entry, row_by}
 use Rattle.table_model.proofs.CostLemmas.{day-price}
 use Rattle.book_model.proofs.LatestLemmas.{later-before, later_price}
-use Rattle.table_model.proofs.RowsWhere.{AreMembers, all_rows, first_entry, first_held, members_held}
-use Rattle.table_model.proofs.RowsWhere.{others_held}
+use Rattle.table_model.proofs.RowsWhere.{AreMembers, all_rows, first_entry, first_held}
+use Rattle.table_model.proofs.RowsWhere.{members_held, others_held}
 use Rattle.std.specs.FinMap as fin
 
 module _ (naming : Naming) (book : Book) (sound : IsSound naming book)

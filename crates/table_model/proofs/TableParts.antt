@@ -1,6 +1,5 @@
 -- What is in an option.
-use Rattle.std.proofs.Common.{◌≡◌, refl, sym, true≢false, Option, Some, None}
-use Rattle.std.specs.Prelude.{IsSome}
+use Rattle.std.proofs.Common.{◌≡◌, refl, sym, true≢false, Option, Some, None, IsSome}
 
 -- what is there
 pub what_is : {X : Type 0} (o : Option X) → IsSome o → (x : X) × (o ≡ Some x)

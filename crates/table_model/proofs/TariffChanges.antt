@@ -1,23 +1,19 @@
 -- The tables of a book with one more tariff are those without it after a walk.
-use Rattle.std.proofs.Common.{◌≡◌, ℕ, List, [], ◌∷◌, refl, sym, ap, ◌∙◌, true, false}
-use Rattle.std.proofs.Common.{true≢false, inl, inr, cond, ◌||◌, Option, Some, None, Ok}
-use Rattle.std.proofs.Common.{arith}
-use Rattle.std.specs.Prelude.{ℤ, ◌<ℤ◌, int_lt, MatchOption, if◌then◌else◌}
+use Rattle.std.proofs.Common.{◌≡◌, ℕ, List, [], ◌∷◌, refl, sym, ap, ◌∙◌, true, false, true≢false}
+use Rattle.std.proofs.Common.{inl, inr, cond, ◌||◌, Option, Some, None, Ok, arith, ℤ, ◌<ℤ◌, int_lt}
+use Rattle.std.proofs.Common.{MatchOption, if◌then◌else◌, int_cmp}
 use Rattle.std.specs.Cmp.{int_cmp_total}
-use Rattle.std.specs.FinMap.{find, keys, from_entries, from_entries_push}
-use Rattle.std.specs.FinMap.{int_cmp-IsAntisymmetric}
+use Rattle.std.specs.FinMap.{find, keys, from_entries, from_entries_push, int_cmp-IsAntisymmetric}
 use Rattle.std.specs.List.{list_any}
-use Rattle.std.specs.Ordering.{int_cmp}
 use Rattle.std.proofs.lemmas.Bool.{false_from_ne_true}
 use Rattle.std.proofs.lemmas.Option.{same_Some}
 use Rattle.std.proofs.lemmas.Int.{ints}
 use Rattle.std.proofs.lemmas.List.{map-append}
 use Rattle.book_model.specs.Words.{day_of, Terms, price_by, total_of, Book, open_number, charged_of}
 use Rattle.book_model.specs.Words.{is_dated_after, is_undisputed, give, TariffAccepted, Records}
-use Rattle.book_model.specs.Words.{Naming}
-use Rattle.book_model.specs.Words.{name_of, is_effective, terms_answer, Rulings, AcceptedTerms, price_in}
-use Rattle.book_model.specs.Words.{with_tariff, identity_by, last_close, has}
-use Rattle.book_model.specs.Words.{IsSound, AreAmong}
+use Rattle.book_model.specs.Words.{Naming, name_of, is_effective, terms_answer, Rulings}
+use Rattle.book_model.specs.Words.{AcceptedTerms, price_in, with_tariff, identity_by, last_close}
+use Rattle.book_model.specs.Words.{has, IsSound, AreAmong}
 use Rattle.tariff_rules.specs.declared.priced.Priced.{Priced}
 use Rattle.book_model.specs.declared.answer.Ruled.TheVariants.{Done}
 use Rattle.book_model.proofs.CallLemmas.{calls_go_forward}
@@ -30,8 +26,7 @@ use Rattle.table_model.specs.Changed.{tariff_at}
 use Rattle.table_model.specs.Steps.{put_tariff_row, set_sums}
 use Rattle.table_model.specs.TableChanges.{walk, reprice, reprice_step}
 use Rattle.table_model.specs.Tables.{RecordRow, Tables}
-use Rattle.table_model.specs.TablesOf.{RecordStatus, tariff_entries}
-use Rattle.table_model.specs.TablesOf.{tables_of, tables_at}
+use Rattle.table_model.specs.TablesOf.{RecordStatus, tariff_entries, tables_of, tables_at}
 use Rattle.book_core.specs.Effects.{is_after}
 use Rattle.table_model.proofs.CostLemmas.{day-price}
 use Rattle.table_model.proofs.Restated.{IsStatus, row_for, status_at}

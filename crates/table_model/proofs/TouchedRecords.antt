@@ -1,7 +1,6 @@
 -- Which records the open period touches: each other one is charged as the last close posted it.
 use Rattle.std.proofs.Common.{◌≡◌, ◌∙◌, ℕ, List, Bool, true, false, true≢false, cond, Option, Some}
-use Rattle.std.proofs.Common.{is_some, refl, sym, ap}
-use Rattle.std.specs.Prelude.{ℤ}
+use Rattle.std.proofs.Common.{is_some, refl, sym, ap, ℤ}
 use Rattle.std.specs.FinMap.{contains_key, get}
 use Rattle.std.proofs.lemmas.Bool.{false_from_ne_true}
 use Rattle.tariff_rules.specs.declared.priced.Priced.{Priced}

@@ -1,9 +1,7 @@
 -- The trail of a record is answered from the tables.
 use Rattle.std.proofs.Common.{◌≡◌, ◌∙◌, ℕ, List, map, refl, sym, ap, true, true≢false, Bool, Option}
-use Rattle.std.proofs.Common.{None, Some, is_some}
-use Rattle.std.specs.Prelude.{filter}
+use Rattle.std.proofs.Common.{None, Some, is_some, filter, ok_or, option_and_then, option_map}
 use Rattle.std.specs.FinMap.{get}
-use Rattle.std.specs.Option.{ok_or, option_and_then, option_map}
 use Rattle.std.proofs.lemmas.Cmp.{nat_list_eq_equiv}
 use Rattle.std.proofs.lemmas.List.Elements.{All-weaker}
 use Rattle.std.proofs.lemmas.Simd.{map-map}
@@ -13,8 +11,7 @@ use Rattle.book_model.specs.declared.fault.LedgerFault.TheVariants.{NoSuchRecord
 use Rattle.book_model.specs.Words.{Book, Choice, IsChoiceOf, IsSound, Naming, choice_named}
 use Rattle.book_model.specs.Words.{charged_of, choices_among, has, identity_by, name_of, no_event}
 use Rattle.book_model.specs.Words.{period_on, price_in, reckoning_in, record_named, same_bytes}
-use Rattle.book_model.specs.Words.{share_identity}
-use Rattle.book_model.specs.Words.{trail_by, trail_of, trail_outcome}
+use Rattle.book_model.specs.Words.{share_identity, trail_by, trail_of, trail_outcome}
 use Rattle.book_model.proofs.ListLemmas.{filter-agree, filter-map}
 use Rattle.book_model.proofs.SoundLemmas.{named_held}
 use Rattle.book_core.proofs.NamedLemmas.{is_some-named, its_name}

@@ -1,16 +1,13 @@
 -- Values that are stored under numbers that count up, as closes and choices are.
 use Rattle.std.proofs.Common.{◌≡◌, ℕ, suc, ◌+◌, ◌<◌, ◌≤◌, List, [], ◌∷◌, ◌++◌, map, length, refl}
 use Rattle.std.proofs.Common.{ap, ◌∙◌, subst, true, false, Bool, cond, ◌&&◌, Option, Some, None, T}
-use Rattle.std.proofs.Common.{arith, zero, ◌-◌}
-use Rattle.std.specs.Prelude.{unwrap_or, slice_get}
+use Rattle.std.proofs.Common.{arith, zero, ◌-◌, unwrap_or, slice_get, is_lt, nat_cmp, is_eq}
+use Rattle.std.proofs.Common.{Ordering, Less, Equal, Greater}
 use Rattle.std.specs.Cmp.{nat_cmp_total, nat_cmp_is}
 use Rattle.std.specs.FinMap.{entries, find, insert, values, from_entries, from_entries_push}
 use Rattle.std.specs.FinMap.{nat_cmp-IsAntisymmetric}
 use Rattle.std.specs.FinMap.Entries.{below_all, is_sorted}
 use Rattle.std.specs.List.{last_or}
-use Rattle.std.specs.Ordering.{is_lt, nat_cmp, is_eq}
-use Rattle.std.specs.declared.cmp.Ordering.{Ordering}
-use Rattle.std.specs.declared.cmp.Ordering.TheVariants.{Less, Equal, Greater}
 use Rattle.book_model.proofs.FilterLemmas.{entries-sorted}
 use Rattle.table_model.specs.TablesOf.{under_numbers}
 use Rattle.table_model.proofs.MoveLemmas.{not_number}

@@ -1,7 +1,6 @@
 -- A view that is read from tables gives a member only if it counts one.
-use Rattle.std.proofs.Common.{◌≡◌, ℕ, suc, List, [], ◌∷◌, length, refl, true, false}
-use Rattle.std.proofs.Common.{Some, None, is_some, arith}
-use Rattle.std.specs.Prelude.{◌==◌, if◌then◌else◌}
+use Rattle.std.proofs.Common.{◌≡◌, ℕ, suc, List, [], ◌∷◌, length, refl, true, false, Some, None}
+use Rattle.std.proofs.Common.{is_some, arith, ◌==◌, if◌then◌else◌}
 use Rattle.std.proofs.lemmas.Bool.Decides.{nat_tests}
 use Rattle.table_model.specs.Laws.{ViewFits}
 use Rattle.table_model.specs.Tables.{ChoiceTable, RecordRow}

@@ -1,7 +1,6 @@
 -- A walk over the rows of the records, by their names: it meets each record that is held once.
-use Rattle.std.proofs.Common.{◌≡◌, ◌⊎◌, inl, inr, ℕ, List, [], ◌∷◌, refl, sym, ap, ◌∙◌, true}
-use Rattle.std.proofs.Common.{false, Bool, cond, ◌&&◌, ◌||◌, Some, subst}
-use Rattle.std.specs.Prelude.{IsSome}
+use Rattle.std.proofs.Common.{◌≡◌, ◌⊎◌, inl, inr, ℕ, List, [], ◌∷◌, refl, sym, ap, ◌∙◌, true, false}
+use Rattle.std.proofs.Common.{Bool, cond, ◌&&◌, ◌||◌, Some, subst, IsSome}
 use Rattle.std.specs.FinMap.{get, keys, entries, entries_sorted}
 use Rattle.std.specs.List.{list_any}
 use Rattle.std.specs.List.Sorted.{IsStrictlySortedBy}
@@ -10,9 +9,8 @@ use Rattle.std.proofs.lemmas.Map.Keys.{sorted_tail}
 use Rattle.std.proofs.lemmas.Map.Lookups.{exact_bytes}
 use Rattle.std.proofs.lemmas.Map.Views.{tells_apart}
 use Rattle.tariff_rules.specs.declared.priced.Priced.{Priced}
-use Rattle.book_model.specs.Words.{day_of, Book, open_number, is_dated_after, Naming}
-use Rattle.book_model.specs.Words.{name_of, by_bytes, last_close, members, has, those, IsSound}
-use Rattle.book_model.specs.Words.{AreAmong}
+use Rattle.book_model.specs.Words.{day_of, Book, open_number, is_dated_after, Naming, name_of}
+use Rattle.book_model.specs.Words.{by_bytes, last_close, members, has, those, IsSound, AreAmong}
 use Rattle.book_model.proofs.ListLemmas.{list_any-map}
 use Rattle.book_model.proofs.RecordSets.{is, is_first, is_itself, has_those, in_those}
 use Rattle.book_model.proofs.SetChanges.{is_back, not_first}

@@ -1,14 +1,11 @@
 -- The laws of answers: for a book that can be read back, each is what its tables say.
 use Rattle.std.specs.Prelude.{◌≡◌, ℕ, ◌≤◌, ◌==◌, false, filter, length, List, Some, None, Ok, ℤ}
-use Rattle.std.specs.Prelude.{int_lt, slice_get, take, unwrap_or, Option}
+use Rattle.std.specs.Prelude.{int_lt, slice_get, take, unwrap_or, Option, option_map}
 use Rattle.std.specs.FinMap.{get, keys}
 use Rattle.std.specs.List.{last_or}
-use Rattle.std.specs.Option.{option_map}
-use Rattle.book_model.specs.Words.{Terms, accept_answer, Book}
-use Rattle.book_model.specs.Words.{choose_answer, Naming, IsUsageRecord}
-use Rattle.book_model.specs.Words.{terms_answer}
-use Rattle.book_model.specs.Words.{price_by, IsPriced, with_tariff}
-use Rattle.book_model.specs.Words.{first_rule, second_rule, identity2_length}
+use Rattle.book_model.specs.Words.{Terms, accept_answer, Book, choose_answer, Naming, IsUsageRecord}
+use Rattle.book_model.specs.Words.{terms_answer, price_by, IsPriced, with_tariff, first_rule}
+use Rattle.book_model.specs.Words.{second_rule, identity2_length}
 use Rattle.tariff_rules.specs.declared.priced.Priced.{Priced}
 use Rattle.book_model.specs.declared.answer.Ruled.TheVariants.{Done}
 use Rattle.book_core.specs.Effects.{effects_of}
@@ -16,14 +13,12 @@ use Rattle.table_model.specs.RowChanges.{by_second_rule}
 use Rattle.table_model.specs.Tables.{ChoiceTable, RecordRow, RecordTable, never_adopted}
 use Rattle.table_model.specs.TablesOf.{tables_of}
 use Rattle.table_model.specs.Views.{current_in, member_at, rows_with}
-use Rattle.table_model.specs.AcceptRead.{accept_read, is_one_named, view_if_named}
-use Rattle.table_model.specs.AcceptRead.{view_with}
+use Rattle.table_model.specs.AcceptRead.{accept_read, is_one_named, view_if_named, view_with}
 use Rattle.table_model.specs.BookIn.{adopted_read, row_record}
 use Rattle.table_model.specs.Fits.{TablesFit}
 use Rattle.table_model.specs.FromCalls.{ArePriced}
 use Rattle.table_model.specs.Readable.{IsReadable}
-use Rattle.table_model.specs.RulingsRead.{choices_made, choose_read, is_lone_row}
-use Rattle.table_model.specs.RulingsRead.{terms_read}
+use Rattle.table_model.specs.RulingsRead.{choices_made, choose_read, is_lone_row, terms_read}
 
 -- A record that is submitted is answered by the rows of its name and of the book.
 pub record AcceptFollows : Type 0 where

@@ -1,17 +1,14 @@
 -- The book that tables determine, but for the naming of its records.
 use Rattle.std.specs.Prelude.{ℕ, zero, suc, ◌==◌, Bool, true, not, if◌then◌else◌, List, [], ◌∷◌}
 use Rattle.std.specs.Prelude.{◌++◌, map, filter, length, Option, Some, None, Result, Ok, Err, ℤ}
-use Rattle.std.specs.Prelude.{slice_get}
+use Rattle.std.specs.Prelude.{slice_get, filter_map, option_map, option_and_then}
 use Rattle.std.specs.FinMap.{get, entries, values}
-use Rattle.std.specs.List.{filter_map}
-use Rattle.std.specs.Option.{option_map, option_and_then}
 use Rattle.book_model.specs.Words.{record_with, terms_in, Terms, Book, is_dated_after, Period}
 use Rattle.book_model.specs.Words.{Records, by_bytes, Rulings, AcceptedTerms, second_rule, set_of}
 use Rattle.book_model.specs.Words.{Choice, members, those, without}
 use Rattle.tariff_rules.specs.declared.fault.TariffFault.{TariffFault}
 use Rattle.table_model.specs.PeriodRows.{rows_under}
-use Rattle.table_model.specs.Tables.{BookRow, ChoiceRow, RecordRow, RecordTable}
-use Rattle.table_model.specs.Tables.{Tables}
+use Rattle.table_model.specs.Tables.{BookRow, ChoiceRow, RecordRow, RecordTable, Tables}
 
 -- a tariff of this text, if it says terms
 abbrev pub tariff_saying : List ℕ → Result Terms TariffFault → Option AcceptedTerms

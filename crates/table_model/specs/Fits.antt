@@ -1,6 +1,5 @@
 -- Tables whose numbers fit signed 64-bit integers, and whose days and periods are valid.
-use Rattle.std.specs.Prelude.{◌≡◌, ℕ, ◌≤◌, ◌<◌, ◌^◌, Bool, IsSome, length, List, Option, Some}
-use Rattle.std.specs.Prelude.{ℤ}
+use Rattle.std.specs.Prelude.{◌≡◌, ℕ, ◌≤◌, ◌<◌, ◌^◌, Bool, IsSome, length, List, Option, Some, ℤ}
 use Rattle.std.specs.FinMap.{get, values}
 use Rattle.book_model.specs.Words.{IsDay, IsName, IsPriced, most_held, most_cost, last_period}
 use Rattle.book_model.specs.Words.{IsRule, IsUsageRecord, most_choices}

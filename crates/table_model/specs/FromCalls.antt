@@ -1,10 +1,9 @@
 -- Books that calls made.
-use Rattle.std.specs.Prelude.{◌≡◌, ℕ, true, List, [], ◌∷◌, Some, None, Ok}
-use Rattle.std.specs.Str.{IsUtf8}
+use Rattle.std.specs.Prelude.{◌≡◌, ℕ, true, List, [], ◌∷◌, Some, None, Ok, IsUtf8}
 use Rattle.book_model.specs.Words.{IsDay, IsPriced, terms_in, Terms, IsMadeByCalls, Book, Event}
 use Rattle.book_model.specs.Words.{RecordKept, PeriodClosed, RulingGiven, TariffAccepted}
-use Rattle.book_model.specs.Words.{book_after, Naming, IsUsageRecord}
-use Rattle.book_model.specs.Words.{Records, Rulings, has, price_in, with_tariff}
+use Rattle.book_model.specs.Words.{book_after, Naming, IsUsageRecord, Records, Rulings, has}
+use Rattle.book_model.specs.Words.{price_in, with_tariff}
 use Rattle.tariff_rules.specs.declared.priced.Priced.{Priced}
 
 -- A record that a call submits: it measures work, and its price is within the limits.

@@ -1,9 +1,8 @@
 -- The charge rows and the adjustment lines of a period, and the list of rulings, as they are
 -- answered from the tables.
 use Rattle.std.specs.Prelude.{ℕ, Bool, ◌==◌, ◌&&◌, not, nat_le, if◌then◌else◌, List, ◌++◌, map}
-use Rattle.std.specs.Prelude.{Option, Result, Ok, Err}
+use Rattle.std.specs.Prelude.{Option, Result, Ok, Err, option_map}
 use Rattle.std.specs.FinMap.{entries, get}
-use Rattle.std.specs.Option.{option_map}
 use Rattle.book_model.specs.declared.fault.LedgerFault.{LedgerFault}
 use Rattle.book_model.specs.declared.fault.LedgerFault.TheVariants.{NoSuchPeriod}
 use Rattle.book_model.specs.declared.line.Line.{Line}

@@ -1,8 +1,7 @@
 -- What is read back from the tables.
-use Rattle.std.specs.Prelude.{◌≡◌, ℕ, true, false, Bool, List, map, All, Option}
+use Rattle.std.specs.Prelude.{◌≡◌, ℕ, true, false, Bool, List, map, All, Option, filter_map}
+use Rattle.std.specs.Prelude.{option_map}
 use Rattle.std.specs.FinMap.{get}
-use Rattle.std.specs.List.{filter_map}
-use Rattle.std.specs.Option.{option_map}
 use Rattle.book_model.specs.Words.{record_with, IsFramed, Book, by_line, line_with, Period, Records}
 use Rattle.book_model.specs.Words.{set_of, members, has, IsUsageRecord}
 use Rattle.book_model.specs.declared.line.Line.{Line}

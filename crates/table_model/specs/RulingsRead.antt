@@ -1,7 +1,6 @@
 -- What is answered to a tariff and to a choice, by the tables.
-use Rattle.std.specs.Prelude.{ℕ, ◌==◌, Bool, if◌then◌else◌, List, length}
-use Rattle.std.specs.Prelude.{Option, Some, None, Result, Ok, Err, nat_le, nat_lt}
-use Rattle.std.specs.Prelude.{sum_by}
+use Rattle.std.specs.Prelude.{ℕ, ◌==◌, Bool, if◌then◌else◌, List, length, Option, Some, None}
+use Rattle.std.specs.Prelude.{Result, Ok, Err, nat_le, nat_lt, sum_by}
 use Rattle.std.specs.FinMap.{get, values}
 use Rattle.book_model.specs.RulingAnswers.{terms_ruled}
 use Rattle.book_model.specs.Words.{Rulings, Terms, most_choices, most_cost}

@@ -1,13 +1,11 @@
 -- The tables of a book.
 use Rattle.std.specs.Prelude.{ℕ, suc, Bool, true, false, List, [], ◌∷◌, ◌++◌, map, length, Option}
-use Rattle.std.specs.Prelude.{unwrap_or, ℤ}
+use Rattle.std.specs.Prelude.{unwrap_or, ℤ, filter_map, option_map}
 use Rattle.std.specs.FinMap.{from_entries}
-use Rattle.std.specs.List.{filter_map}
-use Rattle.std.specs.Option.{option_map}
 use Rattle.book_model.specs.Words.{data_of, total_of, Book, charged_of, Period, Records, Naming}
-use Rattle.book_model.specs.Words.{name_of, Rulings, AcceptedTerms, price_in, identity_by, members, has}
-use Rattle.book_model.specs.Words.{period_by, rule_by, rows_of, Choice, is_counted_in, last_close}
-use Rattle.book_model.specs.Words.{those}
+use Rattle.book_model.specs.Words.{name_of, Rulings, AcceptedTerms, price_in, identity_by, members}
+use Rattle.book_model.specs.Words.{has, period_by, rule_by, rows_of, Choice, is_counted_in}
+use Rattle.book_model.specs.Words.{last_close, those}
 use Rattle.tariff_rules.specs.declared.priced.Priced.{Priced}
 use Rattle.book_model.specs.declared.row.ChargeRow.{ChargeRow}
 use Rattle.book_model.specs.declared.row.RowKey.{RowKey}

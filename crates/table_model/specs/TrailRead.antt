@@ -1,9 +1,8 @@
 -- The trail of a record, as it is answered from the tables: by its row, by the rows of its identity
 -- and the choices that name one of these, and by its lines.
-use Rattle.std.specs.Prelude.{ℕ, zero, suc, ◌-◌, Bool, true, false, List, [], ◌∷◌, ◌++◌, map, filter}
-use Rattle.std.specs.Prelude.{Option, None, Some, Result, Err}
+use Rattle.std.specs.Prelude.{ℕ, zero, suc, ◌-◌, Bool, true, false, List, [], ◌∷◌, ◌++◌, map}
+use Rattle.std.specs.Prelude.{filter, Option, None, Some, Result, Err, ok_or, option_map}
 use Rattle.std.specs.FinMap.{get, values}
-use Rattle.std.specs.Option.{ok_or, option_map}
 use Rattle.tariff_rules.specs.declared.reckoning.Reckoning.{Reckoning}
 use Rattle.book_model.specs.declared.fault.LedgerFault.{LedgerFault}
 use Rattle.book_model.specs.declared.fault.LedgerFault.TheVariants.{NoSuchRecord}

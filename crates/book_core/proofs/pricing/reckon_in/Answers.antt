@@ -1,10 +1,9 @@
-use Rattle.std.proofs.Common.{sym, ap, ◌∙◌, Some, None, ◌≡◌, ℕ, List, refl, true, Option}
+use Rattle.std.proofs.Common.{sym, ap, ◌∙◌, Some, None, ◌≡◌, ℕ, List, refl, true, Option, ℤ, find}
+use Rattle.std.proofs.Common.{reverse, option_map}
 use Rattle.book_model.specs.Words.{AcceptedTerms, reckoning_by, are_rising, day_of, has_begun}
 use Rattle.book_model.specs.Words.{in_force}
-use Rattle.book_core.proofs.pricing.reckon_in.Goals as goal
-use Rattle.std.specs.Prelude.{ℤ, find, reverse}
-use Rattle.std.specs.Option.{option_map}
 use Rattle.book_model.proofs.LatestLemmas.{begun-last}
+use Rattle.book_core.proofs.pricing.reckon_in.Goals as goal
 
 -- how the price of a record comes about by the last tariff that has begun on its day
 reckoned_under : (tariffs : List AcceptedTerms) (bytes : List ℕ) (day : ℤ)

@@ -1,6 +1,5 @@
 use Rattle.std.proofs.Common.{◌≡◌, ◌∙◌, ℕ, ◌+◌, ◌≤◌, List, refl, sym, ap, take, unwrap_or, arith}
-use Rattle.std.proofs.Common.{rules}
-use Rattle.std.specs.Prelude.{sum_by}
+use Rattle.std.proofs.Common.{rules, sum_by}
 use Rattle.std.specs.BTreeMap.{values}
 use Rattle.std.proofs.lemmas.Result.{IfOk-weaker}
 use Rattle.book_model.specs.declared.row.ChargeRow.{ChargeRow}
@@ -8,11 +7,11 @@ use Rattle.book_model.specs.declared.row.RowKey.{RowKey}
 use Rattle.book_model.specs.Words.{row_at, charged_at}
 use Rattle.tariff_rules.specs.declared.priced.Priced.{Priced}
 use Rattle.book_core.specs.KeyedRows.{with_price}
-use Rattle.book_core.proofs.KeyedRowLemmas.{keyed_rows-none, keyed_rows-more}
-use Rattle.book_core.proofs.KeyedRowLemmas.{row_so_far, sum_by-charged_at-more}
-use Rattle.book_core.proofs.KeyedRowLemmas.{length-charged_at-more, rows_of-keyed_rows}
-use Rattle.plain_ledger.proofs.charge_rows.charge_rows.Goals as goal
+use Rattle.book_core.proofs.KeyedRowLemmas.{keyed_rows-none, keyed_rows-more, row_so_far}
+use Rattle.book_core.proofs.KeyedRowLemmas.{sum_by-charged_at-more, length-charged_at-more}
+use Rattle.book_core.proofs.KeyedRowLemmas.{rows_of-keyed_rows}
 use Rattle.plain_ledger.proofs.charge_rows.charge_rows.Goals.{After-or_insert-row}
+use Rattle.plain_ledger.proofs.charge_rows.charge_rows.Goals as goal
 
 -- the row that was found is that of the prices so far
 row_is : (c : After-or_insert-row)

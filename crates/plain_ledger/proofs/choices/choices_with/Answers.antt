@@ -1,6 +1,5 @@
 use Rattle.std.proofs.Common.{◌≡◌, ◌∙◌, ◌+◌, ◌++◌, [], ◌∷◌, ℕ, List, Bool, true, false, cond, ap}
-use Rattle.std.proofs.Common.{append-nil, map, sym, take}
-use Rattle.std.specs.Prelude.{filter}
+use Rattle.std.proofs.Common.{append-nil, map, sym, take, filter}
 use Rattle.book_model.specs.declared.trail.NamedChoice.{NamedChoice}
 use Rattle.book_model.specs.Words.{choice_named, name_of, same_bytes}
 use Rattle.plain_ledger.specs.Choices.{choice_of, is_of}
@@ -8,8 +7,8 @@ use Rattle.plain_ledger.specs.Plain.{rulings_of}
 use Rattle.plain_ledger.specs.declared.chosen.ChosenRecord.{ChosenRecord}
 use Rattle.plain_ledger.proofs.TrailLemmas.{made-more}
 use Rattle.plain_ledger.proofs.choices.choices_with.Given.{Over}
-use Rattle.plain_ledger.proofs.choices.choices_with.Goals as goal
 use Rattle.plain_ledger.proofs.choices.choices_with.Goals.{After-eq, then-eq+in_ok-push, else-eq}
+use Rattle.plain_ledger.proofs.choices.choices_with.Goals as goal
 
 -- the choices with one more
 more : (g : Over) (c : After-eq g) (passes : Bool) → c.eq.result ≡ passes

@@ -1,5 +1,4 @@
-use Rattle.std.proofs.Common.{◌≡◌, [], map, take}
-use Rattle.std.specs.Prelude.{filter}
+use Rattle.std.proofs.Common.{◌≡◌, [], map, take, filter}
 use Rattle.book_model.specs.Words.{choice_named}
 use Rattle.plain_ledger.specs.Choices.{choice_of, is_of}
 use Rattle.plain_ledger.specs.Plain.{rulings_of}

@@ -1,5 +1,4 @@
-use Rattle.std.proofs.Common.{◌∙◌, sym, ap}
-use Rattle.std.specs.Prelude.{option_copied}
+use Rattle.std.proofs.Common.{◌∙◌, sym, ap, option_copied}
 use Rattle.book_model.specs.Words.{same_bytes}
 use Rattle.plain_ledger.proofs.ChoiceLemmas.{is_chosen-by}
 use Rattle.plain_ledger.proofs.choices.is_chosen.Goals as goal

@@ -1,6 +1,5 @@
-use Rattle.std.proofs.Common.{◌≡◌, ◌∙◌, ◌++◌, [], ◌∷◌, sym, ap, map, rules}
+use Rattle.std.proofs.Common.{◌≡◌, ◌∙◌, ◌++◌, [], ◌∷◌, sym, ap, map, rules, filter}
 use Rattle.std.specs.BTreeSet.{contains}
-use Rattle.std.specs.Prelude.{filter}
 use Rattle.std.specs.Map.Iter.{deref_pair}
 use Rattle.std.specs.BTreeMap.Entry.{entry_value, map_with_value}
 use Rattle.std.proofs.lemmas.List.{map-append}

@@ -1,6 +1,5 @@
-use Rattle.std.proofs.Common.{◌≡◌, map}
+use Rattle.std.proofs.Common.{◌≡◌, map, filter}
 use Rattle.std.specs.Map.Iter.{deref_pair}
-use Rattle.std.specs.Prelude.{filter}
 use Rattle.plain_ledger.specs.Plain.{rulings_of}
 use Rattle.plain_ledger.proofs.IdentityLemmas.{shown_groups, groups_of, is_among}
 use Rattle.plain_ledger.proofs.identities.group_disputed.Given as goal

@@ -1,5 +1,4 @@
-use Rattle.std.proofs.Common.{◌∙◌, [], ap, Bool, rules, tests}
-use Rattle.std.specs.Prelude.{nat_eq}
+use Rattle.std.proofs.Common.{◌∙◌, [], ap, Bool, rules, tests, nat_eq}
 use Rattle.std.specs.BTreeMap.{values}
 use Rattle.std.proofs.lemmas.Iterator.Consumers.{YieldsList-from_filter, YieldsList-from_rest}
 use Rattle.std.proofs.lemmas.Iterator.Consumers.{YieldsList-at, count_from_yields_List}

@@ -1,5 +1,4 @@
-use Rattle.std.proofs.Common.{◌≡◌, ◌++◌, [], map}
-use Rattle.std.specs.Prelude.{filter}
+use Rattle.std.proofs.Common.{◌≡◌, ◌++◌, [], map, filter}
 use Rattle.plain_ledger.specs.Plain.{entry_has_identity, rulings_of, variant_at}
 use Rattle.plain_ledger.proofs.identities.members_with.Given as goal
 

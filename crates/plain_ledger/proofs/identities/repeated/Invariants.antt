@@ -1,5 +1,4 @@
-use Rattle.std.proofs.Common.{◌≡◌, ℕ, List, ◌+◌, ◌-◌, ◌≤◌, length, drop, take}
-use Rattle.std.specs.Prelude.{nat_le}
+use Rattle.std.proofs.Common.{◌≡◌, ℕ, List, ◌+◌, ◌-◌, ◌≤◌, length, drop, take, nat_le}
 use Rattle.std.specs.BTreeSet.{contains}
 use Rattle.std.specs.Slice.Iter.{windows_size, windows_rest}
 use Rattle.book_model.specs.Words.{by_bytes}

@@ -1,5 +1,4 @@
-use Rattle.std.proofs.Common.{◌∙◌, List, ℕ, [], ap}
-use Rattle.std.specs.Prelude.{nat_le}
+use Rattle.std.proofs.Common.{◌∙◌, List, ℕ, [], ap, nat_le}
 use Rattle.std.specs.BTreeMap.{values}
 use Rattle.std.proofs.lemmas.Result.{IfOk-weaker}
 use Rattle.plain_ledger.specs.Plain.{Entry, record_of, rulings_of}

@@ -1,7 +1,6 @@
-use Rattle.std.proofs.Common.{◌∙◌, ◌&&◌, sym, ap, Bool, List, w32}
+use Rattle.std.proofs.Common.{◌∙◌, ◌&&◌, sym, ap, Bool, List, w32, int_lt, ℤ}
 use Rattle.std.proofs.lemmas.Int.{to_z-of_z}
 use Rattle.std.specs.List.{list_all}
-use Rattle.std.specs.Prelude.{int_lt, ℤ}
 use Rattle.book_model.specs.Words.{AcceptedTerms, is_after, last_close}
 use Rattle.book_model.proofs.DayLemmas.{day_fits}
 use Rattle.book_core.specs.OfficeRulings.{ruled_in}

@@ -1,11 +1,10 @@
-use Rattle.std.proofs.Common.{◌≡◌, ◌∙◌, ◌-◌, ◌<◌, ◌≤◌, Err, arith, length, subst, sym}
-use Rattle.std.specs.Prelude.{slice_get}
+use Rattle.std.proofs.Common.{◌≡◌, ◌∙◌, ◌-◌, ◌<◌, ◌≤◌, Err, arith, length, subst, sym, slice_get}
 use Rattle.book_model.specs.Words.{adoption_seen, closes_seen, tariffs_seen}
 use Rattle.book_core.specs.ListedRulings.{LeadsInto}
 use Rattle.book_core.specs.OfficeRulings.{ruled_in}
 use Rattle.book_core.proofs.ListedLemmas.{at_choice, at_last}
-use Rattle.book_core.proofs.rulings.Rulings.listed_at.Goals as goal
 use Rattle.book_core.proofs.rulings.Rulings.listed_at.Goals.{After-close_at, In-Err-close_at}
+use Rattle.book_core.proofs.rulings.Rulings.listed_at.Goals as goal
 
 -- the number is past the tariffs,
 past : (c : After-close_at)

@@ -1,5 +1,4 @@
-use Rattle.std.proofs.Common.{◌≡◌, map}
-use Rattle.std.specs.List.{filter_map}
+use Rattle.std.proofs.Common.{◌≡◌, map, filter_map}
 use Rattle.std.specs.Map.Iter.{deref_pair}
 use Rattle.plain_ledger.specs.Treatments.{line_at, treatment_in}
 use Rattle.plain_ledger.proofs.period.Period.lines.Given as goal

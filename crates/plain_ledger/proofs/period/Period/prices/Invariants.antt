@@ -1,5 +1,4 @@
-use Rattle.std.proofs.Common.{◌≡◌, ◌++◌, map}
-use Rattle.std.specs.Prelude.{filter}
+use Rattle.std.proofs.Common.{◌≡◌, ◌++◌, map, filter}
 use Rattle.plain_ledger.specs.Plain.{Entry}
 use Rattle.plain_ledger.specs.Treatments.{is_counted, treatment_in}
 use Rattle.plain_ledger.proofs.period.Period.prices.Given as goal

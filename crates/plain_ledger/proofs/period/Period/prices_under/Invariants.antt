@@ -1,5 +1,4 @@
-use Rattle.std.proofs.Common.{◌≡◌, ◌++◌, map}
-use Rattle.std.specs.Prelude.{All, filter}
+use Rattle.std.proofs.Common.{◌≡◌, ◌++◌, map, All, filter}
 use Rattle.book_model.specs.Words.{IsPriced, price_by}
 use Rattle.plain_ledger.specs.Plain.{Entry, record_of}
 use Rattle.plain_ledger.specs.Treatments.{is_counted, treatment_in}

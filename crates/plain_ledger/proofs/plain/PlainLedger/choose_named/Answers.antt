@@ -1,9 +1,8 @@
-use Rattle.std.proofs.Common.{◌≡◌, ◌∙◌, [], length, Bool, true, false, sym, ap, refl, Some}
-use Rattle.std.specs.Prelude.{nat_le}
+use Rattle.std.proofs.Common.{◌≡◌, ◌∙◌, [], length, Bool, true, false, sym, ap, refl, Some, nat_le}
 use Rattle.std.proofs.lemmas.List.{length-map}
 use Rattle.book_model.specs.declared.answer.Ruled.{Ruled}
-use Rattle.book_model.specs.Words.{Book, IsBookCall, after_any, choose_outcome, if_done}
-use Rattle.book_model.specs.Words.{is_chosen, most_choices}
+use Rattle.book_model.specs.Words.{Book, IsBookCall, after_any, choose_outcome, if_done, is_chosen}
+use Rattle.book_model.specs.Words.{most_choices}
 use Rattle.plain_ledger.specs.Choices.{choice_of}
 use Rattle.plain_ledger.specs.Plain.{is_alone, is_lone, record_of, rulings_of}
 use Rattle.plain_ledger.specs.PlainBook.{book_in, book_with}
@@ -11,9 +10,9 @@ use Rattle.plain_ledger.proofs.ChosenLemmas.{at_least, below, chosen_by, ruled-c
 use Rattle.plain_ledger.proofs.ChosenLemmas.{choose_calls-found, choose_calls-missing}
 use Rattle.book_core.proofs.RulingLemmas.{meant_by}
 use Rattle.plain_ledger.proofs.plain.PlainLedger.choose_named.Given.{Over}
-use Rattle.plain_ledger.proofs.plain.PlainLedger.choose_named.Goals as goal
 use Rattle.plain_ledger.proofs.plain.PlainLedger.choose_named.Goals.{After-is_lone, After-is_chosen}
 use Rattle.plain_ledger.proofs.plain.PlainLedger.choose_named.Goals.{After-len}
+use Rattle.plain_ledger.proofs.plain.PlainLedger.choose_named.Goals as goal
 
 pub returns-in_default : goal.returns-in_default
 returns-in_default g c =

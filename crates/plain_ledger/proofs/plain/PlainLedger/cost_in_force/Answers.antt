@@ -1,5 +1,4 @@
-use Rattle.std.proofs.Common.{◌≡◌, ◌∙◌, Bool, true, false, sym, ap, Ok, Some}
-use Rattle.std.specs.Prelude.{nat_lt}
+use Rattle.std.proofs.Common.{◌≡◌, ◌∙◌, Bool, true, false, sym, ap, Ok, Some, nat_lt}
 use Rattle.std.specs.BTreeMap.{values}
 use Rattle.book_model.specs.RulingAnswers.{terms_ruled}
 use Rattle.book_model.specs.Words.{is_too_dear, most_cost, with_tariff}
@@ -11,8 +10,8 @@ use Rattle.plain_ledger.proofs.RepricingLemmas.{has_room, no_room}
 use Rattle.book_model.proofs.LatestLemmas.{later-before}
 use Rattle.plain_ledger.proofs.TariffLemmas.{later_of, terms_answer-done, total_of-anew}
 use Rattle.plain_ledger.proofs.plain.PlainLedger.cost_in_force.Given.{Over}
-use Rattle.plain_ledger.proofs.plain.PlainLedger.cost_in_force.Goals as goal
 use Rattle.plain_ledger.proofs.plain.PlainLedger.cost_in_force.Goals.{After-cost_under}
+use Rattle.plain_ledger.proofs.plain.PlainLedger.cost_in_force.Goals as goal
 
 -- by the rulings the tariff can be put in force
 ruled : (g : Over) (c : After-cost_under g)

@@ -1,5 +1,4 @@
-use Rattle.std.proofs.Common.{sym, ap, subst, ◌∙◌, Ok}
-use Rattle.std.specs.Option.{option_map}
+use Rattle.std.proofs.Common.{sym, ap, subst, ◌∙◌, Ok, option_map}
 use Rattle.book_model.specs.Words.{AreDisputes, ShowsDispute, dispute_from, dispute_shown, is_from}
 use Rattle.book_model.specs.Words.{Disputed}
 use Rattle.book_model.proofs.FromLemmas.{find-map}

@@ -1,5 +1,4 @@
-use Rattle.std.proofs.Common.{◌≡◌, ◌∙◌, ◌+◌, [], ◌∷◌, Some, length, sym, subst, ap}
-use Rattle.std.proofs.lemmas.List.{length-append}
+use Rattle.std.proofs.Common.{◌≡◌, ◌∙◌, ◌+◌, [], ◌∷◌, Some, length, sym, subst, ap, length-append}
 use Rattle.book_model.specs.Words.{Rulings, with_close}
 use Rattle.plain_ledger.specs.Plain.{ruled_by, with_choices}
 use Rattle.plain_ledger.specs.PlainBook.{book_in}
@@ -8,8 +7,8 @@ use Rattle.plain_ledger.proofs.BookLemmas.{book-closed, kept_ruled}
 use Rattle.book_model.proofs.DayLemmas.{day_kept}
 use Rattle.plain_ledger.proofs.NameLemmas.{named-closed}
 use Rattle.plain_ledger.proofs.plain.PlainLedger.end_period.Given.{Over}
-use Rattle.plain_ledger.proofs.plain.PlainLedger.end_period.Goals as goal
 use Rattle.plain_ledger.proofs.plain.PlainLedger.end_period.Goals.{After-put_close}
+use Rattle.plain_ledger.proofs.plain.PlainLedger.end_period.Goals as goal
 
 -- the rulings then
 ruled : (g : Over) (c : After-put_close g)

@@ -1,7 +1,5 @@
-use Rattle.std.proofs.Common.{◌∙◌, refl, sym, ap, length, arith}
-use Rattle.std.proofs.lemmas.Bool.{ltb-false}
+use Rattle.std.proofs.Common.{◌∙◌, refl, sym, ap, length, arith, ltb-false, ok_or, slice_get, ◌-◌}
 use Rattle.std.proofs.lemmas.Option.{slice_get_past, slice_get_read}
-use Rattle.std.specs.Prelude.{ok_or, slice_get, ◌-◌}
 use Rattle.book_model.specs.declared.fault.LedgerFault.TheVariants.{NoSuchPeriod}
 use Rattle.plain_ledger.specs.PlainBook.{book_in}
 use Rattle.plain_ledger.proofs.BookLemmas.{period_of-closed, period_of-open}

@@ -1,6 +1,5 @@
 use Rattle.std.proofs.Common.{◌≡◌, ◌∙◌, Ok, sym, ap, refl}
-use Rattle.book_model.specs.Words.{Book, terms_in, after_any, if_done, tariff_outcome}
-use Rattle.book_model.specs.Words.{IsBookCall}
+use Rattle.book_model.specs.Words.{Book, terms_in, after_any, if_done, tariff_outcome, IsBookCall}
 use Rattle.book_model.specs.declared.answer.Ruled.{Ruled}
 use Rattle.book_model.proofs.AnswerLemmas.{ruling_calls}
 use Rattle.plain_ledger.specs.PlainBook.{book_in}

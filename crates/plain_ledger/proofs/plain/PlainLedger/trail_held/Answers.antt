@@ -1,6 +1,5 @@
-use Rattle.std.proofs.Common.{◌∙◌, [], ℕ, List, Some, None, Ok, map, sym, subst}
-use Rattle.std.specs.Option.{option_map}
-use Rattle.std.specs.Prelude.{All, filter}
+use Rattle.std.proofs.Common.{◌∙◌, [], ℕ, List, Some, None, Ok, map, sym, subst, option_map, All}
+use Rattle.std.proofs.Common.{filter}
 use Rattle.book_model.specs.declared.dispute.Variant.{Variant}
 use Rattle.book_model.specs.declared.trail.NamedChoice.{NamedChoice}
 use Rattle.book_model.specs.declared.trail.Turn.{Turn}

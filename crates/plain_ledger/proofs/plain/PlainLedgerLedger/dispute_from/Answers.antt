@@ -1,5 +1,4 @@
-use Rattle.std.proofs.Common.{Option, refl}
-use Rattle.std.specs.Option.{option_map}
+use Rattle.std.proofs.Common.{Option, refl, option_map}
 use Rattle.book_model.specs.declared.dispute.Dispute.{Dispute}
 use Rattle.book_model.specs.Words.{dispute_outcome, dispute_shown}
 use Rattle.book_core.proofs.OpenAnswers.{answered_open}

@@ -1,5 +1,4 @@
-use Rattle.std.proofs.Common.{Vec, Global, refl}
-use Rattle.std.specs.Prelude.{ℤ}
+use Rattle.std.proofs.Common.{Vec, Global, refl, ℤ}
 use Rattle.book_model.specs.Words.{periods_outcome}
 use Rattle.book_core.proofs.OpenAnswers.{answered_open}
 use Rattle.plain_ledger.specs.PlainBook.{book_in, naming_in}

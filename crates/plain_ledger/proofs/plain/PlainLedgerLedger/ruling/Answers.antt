@@ -1,5 +1,4 @@
-use Rattle.std.proofs.Common.{Option, refl}
-use Rattle.std.specs.Option.{option_map}
+use Rattle.std.proofs.Common.{Option, refl, option_map}
 use Rattle.book_model.specs.declared.listed_ruling.ListedRuling.{ListedRuling}
 use Rattle.book_model.specs.Words.{ruling_outcome, ruling_shown}
 use Rattle.book_core.proofs.OpenAnswers.{answered_open}
