@@ -8,13 +8,8 @@ use Rattle.book_model.specs.Words.{tariff_answer, close_answer, Outcome, accept_
 use Rattle.book_model.specs.Words.{ruled_as, tariff_outcome, close_outcome, book_after, book_of}
 use Rattle.book_model.specs.Words.{IsAnswered, IsMadeByCalls, choose_answer, choose_outcome}
 use Rattle.book_model.specs.Words.{record_named, adopt_answer, adopt_outcome, rule_by, second_rule}
-use Rattle.tariff_rules.specs.declared.fault.TariffFault.{TariffFault}
-use Rattle.book_model.specs.declared.fault.LedgerFault.{LedgerFault}
-use Rattle.book_model.specs.declared.fault.LedgerFault.TheVariants.{Memory, Store, Reopen, OldRule}
-use Rattle.book_model.specs.declared.answer.Accepted.{Accepted}
-use Rattle.book_model.specs.declared.answer.Accepted.TheVariants.{Kept, Known, Unpriced}
-use Rattle.book_model.specs.declared.answer.Ruled.{Ruled}
-use Rattle.book_model.specs.declared.answer.Ruled.TheVariants.{Done, Already}
+use Rattle.book_model.specs.Words.{TariffFault, LedgerFault, Memory, Store, Reopen, OldRule}
+use Rattle.book_model.specs.Words.{Accepted, Kept, Known, Unpriced, Ruled, Done, Already}
 use Rattle.book_model.proofs.StepLemmas.{books_follow_history}
 use Rattle.book_model.proofs.TestLemmas.{closed_open}
 use Rattle.book_core.specs.Ledgers.{Seen}

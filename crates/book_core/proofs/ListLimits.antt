@@ -9,10 +9,8 @@ use Rattle.std.proofs.lemmas.List.Folds.{fold-map}
 use Rattle.std.proofs.lemmas.List.Sums.{sum_by-le, sum_by-le-sum_by, length-filter}
 use Rattle.std.proofs.lemmas.Map.Views.{All-from_any, Contains-from_any, tells_apart}
 use Rattle.book_model.specs.Words.{IsDay, IsPriced, most_held, key_of, charged_at, row_at, keys_of}
-use Rattle.book_model.specs.Words.{rows_of, FitSums, AreRows, set_of, members, most_cost}
-use Rattle.tariff_rules.specs.declared.priced.Priced.{Priced}
-use Rattle.book_model.specs.declared.row.ChargeRow.{ChargeRow}
-use Rattle.book_model.specs.declared.row.RowKey.{RowKey}
+use Rattle.book_model.specs.Words.{rows_of, FitSums, AreRows, set_of, members, most_cost, Priced}
+use Rattle.book_model.specs.Words.{ChargeRow, RowKey}
 use Rattle.book_model.proofs.RowLemmas.{by_key_total, by_key_exact, same_key_laws, keys_distinct}
 use Rattle.book_model.proofs.ListLemmas.{count_by-distinct}
 use Rattle.book_model.proofs.SetLemmas.{any_tied-members}

@@ -1,20 +1,17 @@
 -- What the definitions answer leaves open books open: they tell no fault of a store, and not that
 -- books are to be reopened.
 use Rattle.std.proofs.Common.{◌≡◌, ℕ, List, refl, Bool, true, false, not, Option, None, Some}
-use Rattle.std.proofs.Common.{Result, Ok, Err, length}
-use Rattle.std.specs.Prelude.{ℤ, ◌==◌, if◌then◌else◌, ok_or, nat_le, nat_lt, sum_by}
+use Rattle.std.proofs.Common.{Result, Ok, Err, length, ℤ, ◌==◌, if◌then◌else◌, ok_or, nat_le}
+use Rattle.std.proofs.Common.{nat_lt, sum_by}
 use Rattle.std.specs.List.{list_any}
-use Rattle.tariff_rules.specs.declared.fault.TariffFault.{TariffFault}
-use Rattle.tariff_rules.specs.declared.priced.Priced.{Priced}
-use Rattle.book_model.specs.declared.fault.LedgerFault.{LedgerFault}
-use Rattle.book_model.specs.declared.fault.LedgerFault.TheVariants.{NoSuchPeriod}
-use Rattle.book_model.specs.RulingAnswers.{terms_ruled}
-use Rattle.book_model.specs.Words.{Book, Naming, Period, Rulings, Terms, accept_answer, accept_priced}
-use Rattle.book_model.specs.Words.{adopt_answer, chosen_answer, clashes, close_answer, costs_under}
-use Rattle.book_model.specs.Words.{has, has_text, is_chosen, is_closed, is_early, is_effective, is_full}
-use Rattle.book_model.specs.Words.{is_later, is_too_dear, is_unrivalled, last_period, most_choices}
-use Rattle.book_model.specs.Words.{most_cost, open_by, price_in, rule_by, second_rule, tariff_answer}
-use Rattle.book_model.specs.Words.{what_if_answer, with_tariff}
+use Rattle.book_model.specs.Words.{TariffFault, Priced, LedgerFault, NoSuchPeriod, terms_ruled}
+use Rattle.book_model.specs.Words.{Book, Naming, Period, Rulings, Terms, accept_answer}
+use Rattle.book_model.specs.Words.{accept_priced, adopt_answer, chosen_answer, clashes}
+use Rattle.book_model.specs.Words.{close_answer, costs_under, has, has_text, is_chosen, is_closed}
+use Rattle.book_model.specs.Words.{is_early, is_effective, is_full, is_later, is_too_dear}
+use Rattle.book_model.specs.Words.{is_unrivalled, last_period, most_choices, most_cost, open_by}
+use Rattle.book_model.specs.Words.{price_in, rule_by, second_rule, tariff_answer, what_if_answer}
+use Rattle.book_model.specs.Words.{with_tariff}
 use Rattle.book_core.specs.Calls.{LeavesOpen, is_reopen, is_store}
 
 -- an answer leaves books open

@@ -4,16 +4,13 @@ use Rattle.std.proofs.Common.{None, slice_get, true, ◌≢◌, ℕ, Bool, false
 use Rattle.std.proofs.Common.{Result, if◌then◌else◌, option_map}
 use Rattle.std.specs.List.{last_or}
 use Rattle.book_model.specs.Words.{AcceptedTerms, are_rising, is_later, Terms, Event, RulingGiven}
-use Rattle.book_model.specs.Words.{TariffAccepted, RecordChosen}
+use Rattle.book_model.specs.Words.{TariffAccepted, RecordChosen, TariffFault, Done, Full}
 use Rattle.book_model.proofs.LatestLemmas.{later-before, rising-behind}
 use Rattle.book_model.proofs.ListLemmas.{last_or-is}
 use Rattle.book_core.specs.declared.rulings.Rulings.{Rulings}
 use Rattle.book_core.specs.OfficeRulings.{ruled_in}
 use Rattle.std.specs.Result.{result_ok}
-use Rattle.tariff_rules.specs.declared.fault.TariffFault.{TariffFault}
 use Rattle.book_model.proofs.TestLemmas.{by_tests}
-use Rattle.book_model.specs.declared.answer.Ruled.TheVariants.{Done}
-use Rattle.book_model.specs.declared.fault.LedgerFault.TheVariants.{Full}
 
 -- what is found at the end of a list is its last
 pub last_found : {X : Type 0} (xs : List X) → slice_get xs (length xs - 1) ≡ last_or None xs

@@ -1,9 +1,8 @@
 -- Work on a ledger, part by part.
 use Rattle.std.proofs.Common.{◌≡◌, ◌∙◌, Bool, true, false, List, [], ◌∷◌, ◌++◌, refl, sym, ap}
 use Rattle.std.proofs.Common.{subst, ◌||◌, Err, ◌⊎◌}
-use Rattle.book_model.specs.declared.fault.LedgerFault.{LedgerFault}
-use Rattle.book_model.specs.declared.fault.LedgerFault.TheVariants.{Memory, Store, Reopen}
-use Rattle.book_model.specs.Words.{Book, Event, after, after_all, Outcome}
+use Rattle.book_model.specs.Words.{LedgerFault, Memory, Store, Reopen, Book, Event, after}
+use Rattle.book_model.specs.Words.{after_all, Outcome}
 use Rattle.book_core.specs.Ledgers.{Seen}
 use Rattle.book_core.specs.Transition.{Transition, NoEvent, Then, IsTransition}
 use Rattle.book_core.specs.Calls.{Calls, listed}

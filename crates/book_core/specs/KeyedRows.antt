@@ -1,9 +1,6 @@
 -- Charge rows while they are summed up, one price at a time.
 use Rattle.std.specs.Prelude.{◌+◌, List, map}
-use Rattle.tariff_rules.specs.declared.priced.Priced.{Priced}
-use Rattle.book_model.specs.Words.{keys_of, row_at}
-use Rattle.book_model.specs.declared.row.ChargeRow.{ChargeRow}
-use Rattle.book_model.specs.declared.row.RowKey.{RowKey}
+use Rattle.book_model.specs.Words.{Priced, keys_of, row_at, ChargeRow, RowKey}
 
 -- the rows of some prices, each under its key
 abbrev pub keyed_rows : List Priced → List (RowKey × ChargeRow)

@@ -9,14 +9,9 @@ use Rattle.std.proofs.lemmas.List.Filters.{sum_by-filter_both}
 use Rattle.std.proofs.lemmas.List.Folds.{fold-map, list_any-append}
 use Rattle.std.proofs.lemmas.List.Sums.{sum_by-cons}
 use Rattle.std.proofs.lemmas.Option.{get_or_from_slice_get, slice_get_within}
-use Rattle.tariff_rules.specs.declared.priced.Priced.{Priced}
-use Rattle.book_model.specs.declared.bill.BilledLine.{BilledLine}
-use Rattle.book_model.specs.declared.detail.Detail.{Detail}
-use Rattle.book_model.specs.declared.line.Line.{Line}
-use Rattle.book_model.specs.declared.row.ChargeRow.{ChargeRow}
-use Rattle.book_model.specs.declared.row.RowKey.{RowKey}
-use Rattle.book_model.specs.Words.{BillSeen, Book, IsSound, Naming, Period, all_periods, bill_of}
-use Rattle.book_model.specs.Words.{billed_line, billed_lines, charged_at, details_asked, details_of}
+use Rattle.book_model.specs.Words.{Priced, BilledLine, Detail, Line, ChargeRow, RowKey, BillSeen}
+use Rattle.book_model.specs.Words.{Book, IsSound, Naming, Period, all_periods, bill_of, billed_line}
+use Rattle.book_model.specs.Words.{billed_lines, charged_at, details_asked, details_of}
 use Rattle.book_model.specs.Words.{details_of_centre, is_step, jobs_of, line_alone, lines_of}
 use Rattle.book_model.specs.Words.{period_of, row_at, rows_for, same_bytes, steps_of, work_rows}
 use Rattle.book_model.proofs.ListLemmas.{filter-agree, filter-filter, filter-map, list_any-map}

@@ -9,13 +9,9 @@ use Rattle.std.proofs.Math.Bool.{or-true}
 use Rattle.std.proofs.lemmas.List.Elements.{All-append, All-cons, All-filter, All-nil}
 use Rattle.std.proofs.lemmas.List.Sorted.{All-permutation, IsPermutation-sym}
 use Rattle.std.proofs.lemmas.Option.{slice_get-get_or}
-use Rattle.smf_type30.specs.Usage.{day_of, job_of}
-use Rattle.tariff_rules.specs.declared.priced.Priced.{Priced}
-use Rattle.book_model.specs.declared.bill.HeldBack.{HeldBack}
-use Rattle.book_model.specs.declared.fault.LedgerFault.TheVariants.{NoSuchPeriod, NoSuchRecord}
-use Rattle.book_model.specs.declared.line.Line.{Line}
-use Rattle.book_model.specs.Words.{Book, IsSound, Naming, Period, Records, Rulings, Terms, bill_of}
-use Rattle.book_model.specs.Words.{billed_line, billed_lines, billed_tariff, book_after}
+use Rattle.book_model.specs.Words.{day_of, job_of, Priced, HeldBack, NoSuchPeriod, NoSuchRecord}
+use Rattle.book_model.specs.Words.{Line, Book, IsSound, Naming, Period, Records, Rulings, Terms}
+use Rattle.book_model.specs.Words.{bill_of, billed_line, billed_lines, billed_tariff, book_after}
 use Rattle.book_model.specs.Words.{charged_before, details_asked, disputes_in, has, held_back_in}
 use Rattle.book_model.specs.Words.{held_back_of, in_force, is_dated_after, jobs_of, last_close}
 use Rattle.book_model.specs.Words.{letterhead_among, life_of, lines_for, lines_of, members, name_of}

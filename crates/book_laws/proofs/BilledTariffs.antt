@@ -1,22 +1,21 @@
 -- A bill has the tariffs by which the records are priced that its period counts.
-use Rattle.std.proofs.Common.{◌≡◌, ◌∙◌, ℕ, suc, Bool, true, false, true≢false, not, cond, ◌||◌, List}
-use Rattle.std.proofs.Common.{[], ◌∷◌, ◌++◌, reverse, Option, Some, None, Ok}
-use Rattle.std.proofs.Common.{ap, arith, refl, subst, sym}
-use Rattle.std.specs.Prelude.{ℤ, pos, ◌+ℤ◌, Contains, filter, find, if◌then◌else◌, int_lt, slice_get}
-use Rattle.std.specs.List.{cons_option, filter_map, list_any}
-use Rattle.std.specs.Option.{option_map, option_map_or, option_or}
+use Rattle.std.proofs.Common.{◌≡◌, ◌∙◌, ℕ, suc, Bool, true, false, true≢false, not, cond, ◌||◌}
+use Rattle.std.proofs.Common.{List, [], ◌∷◌, ◌++◌, reverse, Option, Some, None, Ok, ap, arith, refl}
+use Rattle.std.proofs.Common.{subst, sym, ℤ, pos, ◌+ℤ◌, Contains, filter, find, if◌then◌else◌}
+use Rattle.std.proofs.Common.{int_lt, slice_get, filter_map, option_map}
+use Rattle.std.specs.List.{cons_option, list_any}
+use Rattle.std.specs.Option.{option_map_or, option_or}
 use Rattle.std.specs.Result.{result_ok}
 use Rattle.std.proofs.lemmas.Int.{ints}
 use Rattle.std.proofs.lemmas.List.{reverse-append}
 use Rattle.std.proofs.lemmas.List.Elements.{All-contains, Contains-append_right, filter-append}
 use Rattle.std.proofs.lemmas.List.Elements.{filter_map-append}
 use Rattle.std.proofs.lemmas.List.Folds.{find-append}
-use Rattle.book_model.specs.declared.bill.BilledTariff.{BilledTariff}
-use Rattle.book_model.specs.Words.{AcceptedTerms, RulingSeen, TariffSeen, Terms, begins_by}
-use Rattle.book_model.specs.Words.{billed_tariff, day_of, has_begun, in_force_from, is_dated_after}
-use Rattle.book_model.specs.Words.{is_dated_through, tariff_by, tariff_seen, tariffs_from, tariffs_in}
-use Rattle.book_model.specs.Words.{tariffs_seen, tariffs_through, terms_in}
-use Rattle.book_model.specs.Rulings.{latest}
+use Rattle.book_model.specs.Words.{BilledTariff, AcceptedTerms, RulingSeen, TariffSeen, Terms}
+use Rattle.book_model.specs.Words.{begins_by, billed_tariff, day_of, has_begun, in_force_from}
+use Rattle.book_model.specs.Words.{is_dated_after, is_dated_through, tariff_by, tariff_seen}
+use Rattle.book_model.specs.Words.{tariffs_from, tariffs_in, tariffs_seen, tariffs_through}
+use Rattle.book_model.specs.Words.{terms_in, latest}
 use Rattle.book_model.proofs.CountedDays.{close_at}
 use Rattle.book_model.proofs.LatestLemmas.{begun-last}
 use Rattle.book_model.proofs.RecordSets.{first_of, not_true, second_of}

@@ -1,22 +1,18 @@
 -- Details add up to the rows of what they cost, and those of a centre to its rows.
 use Rattle.std.proofs.Common.{◌≡◌, ℕ, List, [], ◌∷◌, refl, sym, ap, ◌∙◌, subst, true, false, map}
-use Rattle.std.proofs.Common.{Some, None, Bool, cond, ◌&&◌, get_or, ◌+◌}
-use Rattle.std.specs.Prelude.{All, filter, sum_by}
-use Rattle.std.specs.List.{filter_map, cons_option}
-use Rattle.std.specs.Option.{option_map}
-use Rattle.std.specs.Ordering.{int_eq}
+use Rattle.std.proofs.Common.{Some, None, Bool, cond, ◌&&◌, get_or, ◌+◌, All, filter, sum_by}
+use Rattle.std.proofs.Common.{filter_map, option_map, int_eq}
+use Rattle.std.specs.List.{cons_option}
 use Rattle.std.proofs.lemmas.Cmp.{nat_list_eq_equiv}
 use Rattle.std.proofs.lemmas.List.{length-map}
-use Rattle.std.proofs.lemmas.List.Elements.{All-cons, All-head, All-map, All-nil, All-tail, All-weaker}
+use Rattle.std.proofs.lemmas.List.Elements.{All-cons, All-head, All-map, All-nil, All-tail}
+use Rattle.std.proofs.lemmas.List.Elements.{All-weaker}
 use Rattle.std.proofs.lemmas.List.Folds.{fold-map}
-use Rattle.tariff_rules.specs.declared.priced.Priced.{Priced}
-use Rattle.book_model.specs.declared.detail.Detail.{Detail}
-use Rattle.book_model.specs.declared.row.ChargeRow.{ChargeRow}
-use Rattle.book_model.specs.declared.row.RowKey.{RowKey}
-use Rattle.book_model.specs.Words.{AreHeld, Naming, Records, Rulings, all_periods, charged_at}
-use Rattle.book_model.specs.Words.{detail_by, detail_of, details_at, details_for, details_of}
-use Rattle.book_model.specs.Words.{details_of_centre, has, key_of, keys_of, members, name_of}
-use Rattle.book_model.specs.Words.{price_in, prices, row_at, rows_for, rows_of, same_bytes, same_key}
+use Rattle.book_model.specs.Words.{Priced, Detail, ChargeRow, RowKey, AreHeld, Naming, Records}
+use Rattle.book_model.specs.Words.{Rulings, all_periods, charged_at, detail_by, detail_of}
+use Rattle.book_model.specs.Words.{details_at, details_for, details_of, details_of_centre, has}
+use Rattle.book_model.specs.Words.{key_of, keys_of, members, name_of, price_in, prices, row_at}
+use Rattle.book_model.specs.Words.{rows_for, rows_of, same_bytes, same_key}
 use Rattle.book_model.proofs.DetailLemmas.{read_once}
 use Rattle.book_model.proofs.ListLemmas.{filter-agree, filter-filter, filter-map}
 use Rattle.book_model.proofs.RecordSets.{first_of, second_of}

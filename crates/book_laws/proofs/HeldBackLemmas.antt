@@ -1,14 +1,13 @@
 -- Whichever record of each dispute is taken, what these cost a centre together lies between the two
 -- amounts that are held back.
 use Rattle.std.proofs.Common.{◌≡◌, ℕ, ◌≤◌, min, max, List, [], ◌∷◌, map, refl, ap, true, false}
-use Rattle.std.proofs.Common.{true≢false, Bool, cond, ◌||◌, Option, unwrap_or, arith}
-use Rattle.std.specs.Prelude.{All, Contains, fold, sum_by, if◌then◌else◌}
+use Rattle.std.proofs.Common.{true≢false, Bool, cond, ◌||◌, Option, unwrap_or, arith, All, Contains}
+use Rattle.std.proofs.Common.{fold, sum_by, if◌then◌else◌}
 use Rattle.std.specs.List.{list_any, reduce}
 use Rattle.std.proofs.lemmas.List.Elements.{All-cons, All-contains, All-head, All-nil, All-tail}
 use Rattle.std.proofs.lemmas.List.Sums.{sum_by-cons}
-use Rattle.book_model.specs.declared.dispute.Variant.{Variant}
-use Rattle.book_model.specs.Words.{Disputed, amount_for, disputes_for, greatest_for, held_back_in}
-use Rattle.book_model.specs.Words.{is_paid_by, least_for}
+use Rattle.book_model.specs.Words.{Variant, Disputed, amount_for, disputes_for, greatest_for}
+use Rattle.book_model.specs.Words.{held_back_in, is_paid_by, least_for}
 use Rattle.book_laws.specs.BillLaws.{HeldBackBounds, IsWithin}
 
 -- the least of some numbers is none of them or less,

@@ -2,17 +2,15 @@
 use Rattle.std.proofs.Common.{◌≡◌, ℕ, List, refl, ap, ◌∙◌, true, false, Option, Some, None, ℤ, ◌<ℤ◌}
 use Rattle.std.proofs.Common.{int_lt, MatchOption, arith}
 use Rattle.std.proofs.lemmas.Int.{ints}
-use Rattle.smf_type30.specs.Usage.{day_of}
-use Rattle.book_model.specs.Words.{Book, IsSound, Naming, book_after, charged_of, counted_of}
-use Rattle.book_model.specs.Words.{details_for, has, is_counted, is_dated_after, is_dated_in}
-use Rattle.book_model.specs.Words.{last_close}
+use Rattle.book_model.specs.Words.{day_of, Book, IsSound, Naming, book_after, charged_of}
+use Rattle.book_model.specs.Words.{counted_of, details_for, has, is_counted, is_dated_after}
+use Rattle.book_model.specs.Words.{is_dated_in, last_close, is_day_of}
 use Rattle.book_model.proofs.CallLemmas.{calls_go_forward}
 use Rattle.book_model.proofs.CountedDays.{has_counted_of}
 use Rattle.book_model.proofs.CountedLemmas.{close_leaves, current_is, settled_is}
 use Rattle.book_model.proofs.DetailLemmas.{detail_joins, details_those}
 use Rattle.book_model.proofs.MadeByCallsLemmas.{sound_after}
 use Rattle.book_model.proofs.RecordSets.{in_those}
-use Rattle.table_model.specs.CountedRead.{is_day_of}
 use Rattle.table_model.proofs.DetailReading.{dated_alike}
 use Rattle.book_laws.specs.KeptDetails.{CountedFollows, DetailsAreKept, RowsJoinAndGo}
 use Rattle.book_laws.specs.KeptDetails.{TariffsReadKept}

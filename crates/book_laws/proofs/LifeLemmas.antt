@@ -9,12 +9,8 @@ use Rattle.book_model.specs.Words.{Book, Event, Period, PeriodClosed, Records, A
 use Rattle.book_model.specs.Words.{all_periods, book_after, charged_of, charged_through, has}
 use Rattle.book_model.specs.Words.{is_charge, is_dated_after, last_close, life_from, life_of}
 use Rattle.book_model.specs.Words.{net_of, Naming, TrailSeen, period_by, reckoning_in, record_named}
-use Rattle.book_model.specs.Words.{trail_by, trail_of, turn_if, turns_in, without}
-use Rattle.tariff_rules.specs.declared.reckoning.Reckoning.{Reckoning}
-use Rattle.book_model.specs.declared.fault.LedgerFault.TheVariants.{NoSuchRecord}
-use Rattle.book_model.specs.declared.trail.Deed.{Deed}
-use Rattle.book_model.specs.declared.trail.Deed.TheVariants.{Added, Charged, Reversed}
-use Rattle.book_model.specs.declared.trail.Turn.{Turn}
+use Rattle.book_model.specs.Words.{trail_by, trail_of, turn_if, turns_in, without, Reckoning}
+use Rattle.book_model.specs.Words.{NoSuchRecord, Deed, Added, Charged, Reversed, Turn}
 use Rattle.book_model.proofs.RecordSets.{has_those}
 use Rattle.book_model.proofs.SoundLemmas.{none_in}
 use Rattle.book_model.proofs.SumLemmas.{sum_by-plus}

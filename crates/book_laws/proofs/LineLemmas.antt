@@ -11,11 +11,9 @@ use Rattle.std.proofs.lemmas.List.Sorted.{sum_by-IsPermutation}
 use Rattle.std.proofs.lemmas.List.Sums.{sum_by-append, sum_by-cons}
 use Rattle.std.proofs.lemmas.Map.Keys.{IsDistinct-from_sorted}
 use Rattle.std.proofs.lemmas.Map.Lookups.{exact_bytes}
-use Rattle.tariff_rules.specs.declared.priced.Priced.{Priced}
-use Rattle.book_model.specs.declared.line.Line.{Line}
-use Rattle.book_model.specs.Words.{plus_first, by_line, lines_for, lines_of, Period, Records}
-use Rattle.book_model.specs.Words.{Naming, name_of, by_bytes, Rulings, price_in, members, has}
-use Rattle.book_model.specs.Words.{prices, total_of}
+use Rattle.book_model.specs.Words.{Priced, Line, plus_first, by_line, lines_for, lines_of, Period}
+use Rattle.book_model.specs.Words.{Records, Naming, name_of, by_bytes, Rulings, price_in, members}
+use Rattle.book_model.specs.Words.{has, prices, total_of}
 use Rattle.book_model.proofs.GivenLemmas.{given-apart}
 use Rattle.book_model.proofs.SetLemmas.{members_rise}
 use Rattle.book_model.proofs.PermutedSets.{Apart, apart_from_distinct, members_permuted}

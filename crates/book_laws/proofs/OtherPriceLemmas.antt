@@ -7,18 +7,13 @@ use Rattle.std.proofs.lemmas.Bool.Decides.{nat_tests}
 use Rattle.std.proofs.lemmas.Int.{ints}
 use Rattle.std.proofs.lemmas.List.Folds.{fold-map}
 use Rattle.smf_text.specs.Day.{first_day}
-use Rattle.tariff_rules.specs.Terms.{on_every_day}
-use Rattle.tariff_rules.specs.declared.priced.Priced.{Priced}
-use Rattle.book_model.specs.declared.fault.LedgerFault.{LedgerFault}
-use Rattle.book_model.specs.declared.fault.LedgerFault.TheVariants.{Full, NoSuchPeriod}
-use Rattle.book_model.specs.declared.row.ChargeRow.{ChargeRow}
+use Rattle.book_model.specs.Words.{on_every_day, Priced, LedgerFault, Full, NoSuchPeriod, ChargeRow}
 use Rattle.book_model.specs.Words.{AcceptedTerms, AreAmong, Book, IsDay, Naming, Period, Records}
 use Rattle.book_model.specs.Words.{Rulings, Terms, charges_outcome, costs_under, day_of, flat_book}
 use Rattle.book_model.specs.Words.{has, has_begun, in_force, members, most_cost, no_event}
 use Rattle.book_model.specs.Words.{period_of, price_by, price_in, price_under, prices, rows_for}
 use Rattle.book_model.specs.Words.{rows_if_room, rows_of, same_bytes, terms_in, what_if_answer}
-use Rattle.book_model.specs.Words.{what_if_outcome}
-use Rattle.book_model.specs.Rulings.{latest}
+use Rattle.book_model.specs.Words.{what_if_outcome, latest}
 use Rattle.book_model.proofs.ListLemmas.{filter-map}
 use Rattle.book_model.proofs.SetChanges.{pick-agree}
 use Rattle.report_texts.specs.Centres.{rows_of_centre}

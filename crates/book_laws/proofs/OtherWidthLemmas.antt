@@ -4,12 +4,9 @@ use Rattle.std.proofs.Common.{Err, arith, All, Some, if◌then◌else◌, nat_lt
 use Rattle.std.proofs.lemmas.Cmp.{eq_by_cmp_equiv, nat_list_cmp_total}
 use Rattle.std.proofs.lemmas.List.Elements.{All-map}
 use Rattle.std.proofs.lemmas.Map.Views.{All-from_any}
-use Rattle.tariff_rules.specs.declared.priced.Priced.{Priced}
-use Rattle.book_model.specs.declared.fault.LedgerFault.TheVariants.{Full}
-use Rattle.book_model.specs.declared.row.ChargeRow.{ChargeRow}
-use Rattle.book_model.specs.Words.{Book, IsPriced, Naming, Period, Terms, costs_under, has, members}
-use Rattle.book_model.specs.Words.{most_cost, period_of, price_by, prices, rows_if_room, rows_of}
-use Rattle.book_model.specs.Words.{what_if_answer, what_if_outcome}
+use Rattle.book_model.specs.Words.{Priced, Full, ChargeRow, Book, IsPriced, Naming, Period, Terms}
+use Rattle.book_model.specs.Words.{costs_under, has, members, most_cost, period_of, price_by}
+use Rattle.book_model.specs.Words.{prices, rows_if_room, rows_of, what_if_answer, what_if_outcome}
 use Rattle.book_model.proofs.SumsAlike.{length-sum_by}
 use Rattle.table_model.specs.Readable.{IsReadable}
 use Rattle.table_model.proofs.PriceSums.{some_within}

@@ -6,11 +6,9 @@ use Rattle.std.specs.List.{position_or_len}
 use Rattle.std.proofs.lemmas.List.Folds.{find_at}
 use Rattle.std.proofs.lemmas.Option.{same_Some, slice_get_past}
 use Rattle.smf_text.specs.Day.{weekday_of}
-use Rattle.smf_type30.specs.Usage.{day_of, time_of}
-use Rattle.tariff_rules.specs.declared.reckoning.Reckoning.{Reckoning}
 use Rattle.tariff_rules.specs.Price.{applies_to, centre_by, has_moment, minute_of, shift_by}
-use Rattle.book_model.specs.Words.{Terms, in_force, price_by, reckoning_by, rule_number}
-use Rattle.book_model.specs.Words.{rule_numbered}
+use Rattle.book_model.specs.Words.{day_of, time_of, Reckoning, Terms, in_force, price_by}
+use Rattle.book_model.specs.Words.{reckoning_by, rule_number, rule_numbered}
 use Rattle.book_laws.specs.ReckoningLaws.{PricesAreReckoned, ReckonsPrice}
 
 -- the element in the place of the first that passes is the first that passes

@@ -7,11 +7,8 @@ use Rattle.std.proofs.Math.Bool.{or-true}
 use Rattle.std.proofs.lemmas.List.Folds.{fold-map}
 use Rattle.std.proofs.lemmas.List.Sums.{sum_by-cons, length-filter}
 use Rattle.std.proofs.lemmas.Map.Views.{tells_apart}
-use Rattle.tariff_rules.specs.declared.priced.Priced.{Priced}
-use Rattle.book_model.specs.Words.{charged_at, key_of, keys_of, row_at, rows_of, same_bytes}
-use Rattle.book_model.specs.Words.{same_key}
-use Rattle.book_model.specs.declared.row.ChargeRow.{ChargeRow}
-use Rattle.book_model.specs.declared.row.RowKey.{RowKey}
+use Rattle.book_model.specs.Words.{Priced, charged_at, key_of, keys_of, row_at, rows_of, same_bytes}
+use Rattle.book_model.specs.Words.{same_key, ChargeRow, RowKey}
 use Rattle.book_model.proofs.RowLemmas.{by_key_exact, by_key_total, same_key_is, same_key_laws}
 use Rattle.book_model.proofs.RowLemmas.{same_key_ties, keys_distinct}
 use Rattle.book_model.proofs.ListLemmas.{list_any-map, count_by-distinct}

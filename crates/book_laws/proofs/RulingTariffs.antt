@@ -12,12 +12,11 @@ use Rattle.std.proofs.lemmas.Bool.{or_parts}
 use Rattle.std.proofs.lemmas.Int.{ints}
 use Rattle.std.proofs.lemmas.List.Elements.{All-cons, All-filter, All-head, All-nil, All-tail}
 use Rattle.std.proofs.lemmas.List.Elements.{filter_passes}
-use Rattle.book_model.specs.declared.bill.BilledTariff.{BilledTariff}
-use Rattle.book_model.specs.RulingAnswers.{through_of}
-use Rattle.book_model.specs.Words.{AcceptedTerms, RulingSeen, Rulings, TariffSeen, are_rising}
-use Rattle.book_model.specs.Words.{begins_by, billed_tariff, has_begun, in_force_from, is_between}
-use Rattle.book_model.specs.Words.{is_day_of, is_through, tariff_by, tariffs_from, tariffs_in}
-use Rattle.book_model.specs.Words.{tariffs_seen, tariffs_through, terms_in}
+use Rattle.book_model.specs.Words.{BilledTariff, through_of, AcceptedTerms, RulingSeen, Rulings}
+use Rattle.book_model.specs.Words.{TariffSeen, are_rising, begins_by, billed_tariff, has_begun}
+use Rattle.book_model.specs.Words.{in_force_from, is_between, is_day_of, is_through, tariff_by}
+use Rattle.book_model.specs.Words.{tariffs_from, tariffs_in, tariffs_seen, tariffs_through}
+use Rattle.book_model.specs.Words.{terms_in}
 use Rattle.book_model.proofs.CountedDays.{close_at, through_at}
 use Rattle.book_model.proofs.LatestLemmas.{begun-last, precedes}
 use Rattle.book_model.proofs.ListLemmas.{list_any-map}

@@ -2,8 +2,7 @@
 use Rattle.std.proofs.Common.{◌≡◌, ◌∙◌, ℕ, Bool, true, false, List, [], ◌∷◌, Result, Ok, Err, refl}
 use Rattle.std.proofs.Common.{sym, ap, subst, map, All}
 use Rattle.std.proofs.lemmas.List.Elements.{All-head, All-tail}
-use Rattle.book_model.specs.declared.fault.LedgerFault.{LedgerFault}
-use Rattle.book_model.specs.Words.{front, Book, Event, after_all, Naming, Outcome}
+use Rattle.book_model.specs.Words.{LedgerFault, front, Book, Event, after_all, Naming, Outcome}
 use Rattle.book_core.specs.Calls.{Calls}
 use Rattle.book_core.specs.Ledgers.{Seen, IsOpenAt}
 use Rattle.book_core.specs.Transition.{IsTransition}

@@ -1,9 +1,8 @@
 -- The laws of runs, from those of the histories that runs make.
 use Rattle.std.proofs.Common.{◌≡◌, ◌∙◌, ℕ, List, refl, sym, ap, subst, Some, pos, ℤ, option_map}
 use Rattle.std.specs.Result.{result_ok}
-use Rattle.book_model.specs.declared.row.ChargeRow.{ChargeRow}
-use Rattle.book_model.specs.Words.{IsMadeByCalls, Book, new_book, is_undisputed, Event, book_after}
-use Rattle.book_model.specs.Words.{Outcome, Naming}
+use Rattle.book_model.specs.Words.{ChargeRow, IsMadeByCalls, Book, new_book, is_undisputed, Event}
+use Rattle.book_model.specs.Words.{book_after, Outcome, Naming}
 use Rattle.book_model.proofs.OrderLemmas.{order_is_free}
 use Rattle.book_model.proofs.RecordSets.{has_those}
 use Rattle.book_model.proofs.StepLemmas.{books_follow_history}

@@ -12,12 +12,7 @@ use Rattle.std.proofs.lemmas.List.{length-replicate}
 use Rattle.std.proofs.lemmas.List.Elements.{All-map}
 use Rattle.std.proofs.lemmas.List.Sums.{sum_by-le}
 use Rattle.smf_text.specs.Day.{day_text_of}
-use Rattle.smf_text.specs.Names.{IsName}
-use Rattle.tariff_rules.specs.declared.priced.Priced.{Priced}
-use Rattle.book_model.specs.declared.fault.LedgerFault.{LedgerFault}
-use Rattle.book_model.specs.declared.fault.LedgerFault.TheVariants.{NoSuchPeriod}
-use Rattle.book_model.specs.declared.row.ChargeRow.{ChargeRow}
-use Rattle.book_model.specs.declared.row.RowKey.{RowKey}
+use Rattle.book_model.specs.Words.{IsName, Priced, LedgerFault, NoSuchPeriod, ChargeRow, RowKey}
 use Rattle.book_model.specs.Words.{Book, Naming, IsPriced, Period, Records, charged_at, key_of}
 use Rattle.book_model.specs.Words.{AreAmong, keys_of, members, period_of, price_in, prices, row_at}
 use Rattle.book_model.specs.Words.{rows_for, rows_of}

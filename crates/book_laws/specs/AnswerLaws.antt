@@ -1,8 +1,6 @@
 -- Laws of single calls of a ledger: each has one answer, and leaves one book.
 use Rattle.std.specs.Prelude.{◌≡◌, ◌≢◌, Result, Ok, Err}
-use Rattle.book_model.specs.declared.fault.LedgerFault.{LedgerFault}
-use Rattle.book_model.specs.declared.fault.LedgerFault.TheVariants.{Memory, Store}
-use Rattle.book_model.specs.Words.{Naming, Book, after_all, Outcome}
+use Rattle.book_model.specs.Words.{LedgerFault, Memory, Store, Naming, Book, after_all, Outcome}
 use Rattle.book_core.specs.Ledgers.{Seen, IsOpenAt}
 use Rattle.book_core.specs.Calls.{IsCall, listed}
 

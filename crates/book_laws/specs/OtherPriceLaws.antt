@@ -1,12 +1,10 @@
 -- What is true of the charge rows that a period would have by another tariff.
 use Rattle.std.specs.Prelude.{◌≡◌, ◌++◌, ◌∷◌, ℕ, [], true, filter, map, sum_by, List, Some, Ok}
-use Rattle.tariff_rules.specs.Terms.{on_every_day}
-use Rattle.tariff_rules.specs.declared.priced.Priced.{Priced}
-use Rattle.book_model.specs.declared.row.ChargeRow.{ChargeRow}
-use Rattle.book_model.specs.Words.{AcceptedTerms, Book, Event, IsMadeByCalls, Naming, Period}
-use Rattle.book_model.specs.Words.{Records, Terms, book_after, charges_outcome, day_of, flat_book}
-use Rattle.book_model.specs.Words.{has, in_force, members, no_event, period_of, price_by, price_in}
-use Rattle.book_model.specs.Words.{prices, rows_if_room, same_bytes, terms_in, what_if_outcome}
+use Rattle.book_model.specs.Words.{on_every_day, Priced, ChargeRow, AcceptedTerms, Book, Event}
+use Rattle.book_model.specs.Words.{IsMadeByCalls, Naming, Period, Records, Terms, book_after}
+use Rattle.book_model.specs.Words.{charges_outcome, day_of, flat_book, has, in_force, members}
+use Rattle.book_model.specs.Words.{no_event, period_of, price_by, price_in, prices, rows_if_room}
+use Rattle.book_model.specs.Words.{same_bytes, terms_in, what_if_outcome}
 use Rattle.report_texts.specs.Centres.{rows_of_centre}
 use Rattle.table_model.specs.Readable.{IsReadable}
 use Rattle.book_laws.specs.ClosedPeriods.{IsClosed}

@@ -1,9 +1,8 @@
 -- Laws of how prices came about.
 use Rattle.std.specs.Prelude.{◌≡◌, ℕ, List, Some}
-use Rattle.tariff_rules.specs.declared.reckoning.Reckoning.{Reckoning}
 use Rattle.tariff_rules.specs.Price.{centre_by, shift_by}
-use Rattle.book_model.specs.Words.{Rulings, Terms, price_by, price_in, reckoned, reckoning_by}
-use Rattle.book_model.specs.Words.{reckoning_in, rule_numbered}
+use Rattle.book_model.specs.Words.{Reckoning, Rulings, Terms, price_by, price_in, reckoned}
+use Rattle.book_model.specs.Words.{reckoning_by, reckoning_in, rule_numbered}
 
 -- By a tariff and a record: the shift rule that is named has the shift and the percent of the price,
 -- the centre rule that is named has its centre, and the numbers come to its amount. Where no rule is

@@ -1,7 +1,7 @@
 -- Under the second rule of identity what was charged stays charged: identities only split.
 use Rattle.std.proofs.Common.{◌≡◌, ℕ, List, [], ◌∷◌, ◌++◌, refl, sym, ap, ◌∙◌, true, false}
 use Rattle.std.proofs.Common.{true≢false, Bool, cond, not, ◌||◌, ◌&&◌, Option, Some, None, length}
-use Rattle.std.specs.Prelude.{All, filter, take, ◌==◌, if◌then◌else◌, Result, Ok, Err, is_some}
+use Rattle.std.proofs.Common.{All, filter, take, ◌==◌, if◌then◌else◌, Result, Ok, Err, is_some}
 use Rattle.std.specs.List.{list_any, last_or}
 use Rattle.std.specs.Option.{option_map_or}
 use Rattle.std.proofs.Math.Bool.{and-false, or-true}
@@ -9,22 +9,15 @@ use Rattle.std.proofs.lemmas.Cmp.{nat_list_cmp_total, nat_list_eq_equiv}
 use Rattle.std.proofs.lemmas.Map.Lookups.{exact_bytes}
 use Rattle.std.proofs.lemmas.Map.Views.{tells_apart}
 use Rattle.std.proofs.Math.Seq.{take-append_seam}
-use Rattle.smf_type30.specs.Class.{IsUsage}
-use Rattle.smf_type30.specs.Usage.{identity_of, identity2_of, initiation_of}
+use Rattle.smf_type30.specs.Usage.{identity2_of}
 use Rattle.smf_type30.proofs.IdentityLength.{identity-long}
-use Rattle.book_model.specs.Charged.{share_identity, conflict, is_unrivalled, is_chosen}
-use Rattle.book_model.specs.Charged.{last_chosen, is_undisputed, charged_now}
-use Rattle.book_model.specs.declared.answer.Ruled.{Ruled}
-use Rattle.book_model.specs.declared.answer.Ruled.TheVariants.{Done, Already}
-use Rattle.book_model.specs.declared.fault.LedgerFault.{LedgerFault}
-use Rattle.book_model.specs.declared.fault.LedgerFault.TheVariants.{OldRule}
-use Rattle.book_model.specs.Books.{Book}
+use Rattle.book_model.specs.Words.{IsUsage, identity_of, initiation_of, share_identity, conflict}
+use Rattle.book_model.specs.Words.{is_unrivalled, is_chosen, last_chosen, is_undisputed}
+use Rattle.book_model.specs.Words.{charged_now, Ruled, Done, Already, LedgerFault, OldRule, Book}
+use Rattle.book_model.specs.Words.{adopt_answer, first_rule, second_rule, Records, same_bytes}
+use Rattle.book_model.specs.Words.{Rulings, identity_by, with_second_rule, members, has, IsChoiceOf}
+use Rattle.book_model.specs.Words.{AreAmong}
 use Rattle.book_model.specs.Laws.{AdoptionTakesNothing}
-use Rattle.book_model.specs.RulingAnswers.{adopt_answer, first_rule, second_rule}
-use Rattle.book_model.specs.Records.{Records, same_bytes}
-use Rattle.book_model.specs.Rulings.{Rulings, identity_by, with_second_rule}
-use Rattle.book_model.specs.Sets.{members, has}
-use Rattle.book_model.specs.Sound.{IsChoiceOf, AreAmong}
 use Rattle.book_model.proofs.ChosenLemmas.{all_chosen, chosen_held}
 use Rattle.book_model.proofs.RecordSets.{is, has_those, first_of, in_those, is_first}
 use Rattle.book_model.proofs.SetChanges.{none_passes}

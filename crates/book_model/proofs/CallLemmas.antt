@@ -1,16 +1,10 @@
 -- The calls let rulings go forward only, so what is settled keeps its price.
-use Rattle.std.proofs.Common.{◌≡◌, ℕ, List, arith, not, true, false, true≢false, Option, Some, None, Ok}
-use Rattle.std.specs.Prelude.{ℤ, ◌<ℤ◌, MatchOption}
+use Rattle.std.proofs.Common.{◌≡◌, ℕ, List, arith, not, true, false, true≢false, Option, Some, None}
+use Rattle.std.proofs.Common.{Ok, ℤ, ◌<ℤ◌, MatchOption}
 use Rattle.std.proofs.lemmas.Int.{ints}
-use Rattle.smf_type30.specs.Usage.{day_of}
-use Rattle.tariff_rules.specs.Terms.{Terms}
-use Rattle.book_model.specs.declared.answer.Ruled.TheVariants.{Done}
-use Rattle.book_model.specs.Books.{Book}
-use Rattle.book_model.specs.Charged.{is_dated_after}
-use Rattle.book_model.specs.CloseDays.{is_after}
-use Rattle.book_model.specs.Laws.{IsAfterLastClose, CallsGoForward, ClosedPricesStay}
-use Rattle.book_model.specs.Rulings.{last_close}
-use Rattle.book_model.specs.RulingAnswers.{terms_answer, close_answer}
+use Rattle.book_model.specs.Words.{day_of, Terms, Done, Book, is_dated_after, is_after}
+use Rattle.book_model.specs.Words.{IsAfterLastClose, last_close, terms_answer, close_answer}
+use Rattle.book_model.specs.Laws.{CallsGoForward, ClosedPricesStay}
 use Rattle.book_model.proofs.LatestLemmas.{later-after}
 use Rattle.book_model.proofs.PricingLemmas.{earlier_prices_stay}
 use Rattle.book_model.proofs.TestLemmas.{close_passes, tariff_passes}

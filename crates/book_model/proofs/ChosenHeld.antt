@@ -2,14 +2,10 @@
 use Rattle.std.proofs.Common.{◌≡◌, ℕ, suc, ◌≤◌, ◌<◌, List, [], ◌∷◌, length, refl, sym, ap, ◌∙◌}
 use Rattle.std.proofs.Common.{subst, true, false, arith, All, nat_le, leb-true, leb-false}
 use Rattle.std.proofs.lemmas.List.Elements.{All-nil}
-use Rattle.book_model.specs.MadeByCalls.{IsMadeByCalls}
-use Rattle.book_model.specs.Books.{Book}
-use Rattle.book_model.specs.Events.{Event, RulingGiven}
-use Rattle.book_model.specs.History.{rulings, closes, held_before}
+use Rattle.book_model.specs.Words.{IsMadeByCalls, Book, Event, RulingGiven, rulings, closes}
+use Rattle.book_model.specs.Words.{held_before, Records, Naming, Rulings, Choice, RecordChosen}
+use Rattle.book_model.specs.Words.{rulings_before, IsChoiceOf}
 use Rattle.book_model.specs.Laws.{ChosenWereHeld}
-use Rattle.book_model.specs.Records.{Records, Naming}
-use Rattle.book_model.specs.Rulings.{Rulings, Choice, RecordChosen, rulings_before}
-use Rattle.book_model.specs.Sound.{IsChoiceOf}
 use Rattle.book_model.proofs.MadeByCallsLemmas.{sound_after}
 use Rattle.book_model.proofs.HistoryLemmas.{choices_all, held_all, held_stays, ruled_stays}
 use Rattle.book_model.proofs.StepLemmas.{books_follow_history}

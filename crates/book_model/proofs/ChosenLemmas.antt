@@ -1,8 +1,8 @@
 -- Which records are chosen: a new one is not; a choice takes the place of the one before; one that
 -- is alone in its identity is chosen where it was ever chosen.
 use Rattle.std.proofs.Common.{◌≡◌, ℕ, List, [], ◌∷◌, ◌++◌, map, refl, sym, ap, ◌∙◌, true, false}
-use Rattle.std.proofs.Common.{true≢false, Bool, cond, not, ◌||◌, ◌&&◌, Option, Some, None}
-use Rattle.std.specs.Prelude.{All, filter}
+use Rattle.std.proofs.Common.{true≢false, Bool, cond, not, ◌||◌, ◌&&◌, Option, Some, None, All}
+use Rattle.std.proofs.Common.{filter}
 use Rattle.std.specs.List.{list_any, last_or}
 use Rattle.std.specs.Option.{option_map_or}
 use Rattle.std.proofs.Math.Bool.{and-false, or-true, or-false}
@@ -11,12 +11,9 @@ use Rattle.std.proofs.lemmas.List.{map-append}
 use Rattle.std.proofs.lemmas.List.Elements.{All-head, All-tail, filter-append}
 use Rattle.std.proofs.lemmas.Map.Lookups.{exact_bytes}
 use Rattle.std.proofs.lemmas.Map.Views.{tells_apart}
-use Rattle.book_model.specs.Charged.{share_identity, is_unrivalled, last_chosen, is_chosen}
-use Rattle.book_model.specs.Charged.{is_undisputed, charged_now}
-use Rattle.book_model.specs.Records.{Records, same_bytes}
-use Rattle.book_model.specs.Rulings.{Rulings, Choice, identity_by, with_choice, open_by}
-use Rattle.book_model.specs.Sets.{has, with, those}
-use Rattle.book_model.specs.Sound.{IsChoiceOf}
+use Rattle.book_model.specs.Words.{share_identity, is_unrivalled, last_chosen, is_chosen}
+use Rattle.book_model.specs.Words.{is_undisputed, charged_now, Records, same_bytes, Rulings, Choice}
+use Rattle.book_model.specs.Words.{identity_by, with_choice, open_by, has, with, those, IsChoiceOf}
 use Rattle.book_model.proofs.ChargedChanges.{share_back, share_on, do_conflict, rivalled_by}
 use Rattle.book_model.proofs.ListLemmas.{last_or-behind}
 use Rattle.book_model.proofs.RecordSets.{is, is_itself, same_records, has_with, has_those, is_first}

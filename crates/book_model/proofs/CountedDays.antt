@@ -13,18 +13,10 @@ use Rattle.std.proofs.lemmas.Int.{ints}
 use Rattle.std.proofs.lemmas.List.Folds.{list_any_at}
 use Rattle.std.proofs.lemmas.Map.Keys.{Less-from_sorted}
 use Rattle.std.proofs.lemmas.Option.{get_or_from_slice_get, slice_get-get_or, slice_get_within}
-use Rattle.smf_type30.specs.Usage.{day_of}
-use Rattle.book_model.specs.Books.{Book, all_periods, charged_of, open_period}
-use Rattle.book_model.specs.Charged.{is_dated_after, is_dated_through, is_undisputed}
-use Rattle.book_model.specs.CloseDays.{is_after, is_between, is_through}
-use Rattle.book_model.specs.Counted.{counted_of, is_counted}
-use Rattle.book_model.specs.Details.{is_dated_in}
-use Rattle.book_model.specs.Periods.{Period}
-use Rattle.book_model.specs.Records.{Naming}
-use Rattle.book_model.specs.RulingAnswers.{through_of}
-use Rattle.book_model.specs.Rulings.{Rulings}
-use Rattle.book_model.specs.Sets.{has, those}
-use Rattle.book_model.specs.Sound.{IsSound}
+use Rattle.book_model.specs.Words.{day_of, Book, all_periods, charged_of, open_period}
+use Rattle.book_model.specs.Words.{is_dated_after, is_dated_through, is_undisputed, is_after}
+use Rattle.book_model.specs.Words.{is_between, is_through, counted_of, is_counted, is_dated_in}
+use Rattle.book_model.specs.Words.{Period, Naming, through_of, Rulings, has, those, IsSound}
 use Rattle.book_model.proofs.CountedLemmas.{has_counted}
 use Rattle.book_model.proofs.RecordSets.{first_of, has_those, in_those, not_true, same_records}
 use Rattle.book_model.proofs.RecordSets.{second_of}

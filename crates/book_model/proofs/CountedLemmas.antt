@@ -1,26 +1,19 @@
 -- Which records are counted: of what is dated after the last close those that are charged, and of
 -- what is dated no later those that a closed period counts. A close changes none.
 use Rattle.std.proofs.Common.{◌≡◌, ℕ, suc, List, [], ◌∷◌, ◌++◌, refl, sym, ap, ◌∙◌, true, false}
-use Rattle.std.proofs.Common.{true≢false, Bool, not, ◌&&◌, ◌||◌, Option, Some, None, arith}
-use Rattle.std.specs.Prelude.{All, ℤ, int_lt, ◌<ℤ◌, MatchOption}
+use Rattle.std.proofs.Common.{true≢false, Bool, not, ◌&&◌, ◌||◌, Option, Some, None, arith, All, ℤ}
+use Rattle.std.proofs.Common.{int_lt, ◌<ℤ◌, MatchOption}
 use Rattle.std.specs.List.{list_any}
 use Rattle.std.proofs.Math.Bool.{and-true, or-false}
 use Rattle.std.proofs.lemmas.Bool.{false_from_ne_true}
 use Rattle.std.proofs.lemmas.Int.{ints}
 use Rattle.std.proofs.lemmas.List.Elements.{All-weaker}
 use Rattle.std.proofs.lemmas.List.Folds.{list_any-append}
-use Rattle.smf_type30.specs.Usage.{day_of}
-use Rattle.book_model.specs.Books.{Book, charged_of}
-use Rattle.book_model.specs.Charged.{charged_through, is_dated_after, is_dated_through}
-use Rattle.book_model.specs.Charged.{is_undisputed}
-use Rattle.book_model.specs.Counted.{counted_of, is_counted, is_counted_in}
-use Rattle.book_model.specs.Events.{close}
-use Rattle.book_model.specs.Laws.{IsAfterLastClose}
-use Rattle.book_model.specs.Periods.{Period, period_by}
-use Rattle.book_model.specs.Records.{Naming, Records}
-use Rattle.book_model.specs.Rulings.{last_close}
-use Rattle.book_model.specs.Sets.{has, those}
-use Rattle.book_model.specs.Sound.{AreAllDatedThrough, AreAmong, AreHeld, IsSound}
+use Rattle.book_model.specs.Words.{day_of, Book, charged_of, charged_through, is_dated_after}
+use Rattle.book_model.specs.Words.{is_dated_through, is_undisputed, counted_of, is_counted}
+use Rattle.book_model.specs.Words.{is_counted_in, close, IsAfterLastClose, Period, period_by}
+use Rattle.book_model.specs.Words.{Naming, Records, last_close, has, those, AreAllDatedThrough}
+use Rattle.book_model.specs.Words.{AreAmong, AreHeld, IsSound}
 use Rattle.book_model.proofs.ListLemmas.{last_or-behind}
 use Rattle.book_model.proofs.RecordSets.{has_those}
 use Rattle.book_model.proofs.SetChanges.{those-agree}

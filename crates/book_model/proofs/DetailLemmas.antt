@@ -13,13 +13,10 @@ use Rattle.std.proofs.lemmas.List.Kept.{IsStrictlySortedBy-filter}
 use Rattle.std.proofs.lemmas.List.Sorted.{IsPermutation-sym}
 use Rattle.std.proofs.lemmas.Map.Keys.{IsDistinct-from_sorted}
 use Rattle.std.proofs.lemmas.Map.Lookups.{exact_bytes}
-use Rattle.tariff_rules.specs.declared.priced.Priced.{Priced}
-use Rattle.book_model.specs.declared.detail.Detail.{Detail}
-use Rattle.book_model.specs.Details.{by_detail, detail_by, detail_of, details_asked, details_for}
-use Rattle.book_model.specs.Records.{Naming, Records, by_bytes, name_of, same_bytes}
-use Rattle.book_model.specs.Rows.{by_key, key_of}
-use Rattle.book_model.specs.Rulings.{Rulings, price_in}
-use Rattle.book_model.specs.Sets.{has, members, set_of, those, with}
+use Rattle.book_model.specs.Words.{Priced, Detail, by_detail, detail_by, detail_of, details_asked}
+use Rattle.book_model.specs.Words.{details_for, Naming, Records, by_bytes, name_of, same_bytes}
+use Rattle.book_model.specs.Words.{by_key, key_of, Rulings, price_in, has, members, set_of, those}
+use Rattle.book_model.specs.Words.{with}
 use Rattle.book_model.proofs.DetailOrder.{by_detail_total}
 use Rattle.book_model.proofs.FilterLemmas.{filter-filter_map}
 use Rattle.book_model.proofs.GivenLemmas.{given-apart}

@@ -11,10 +11,8 @@ use Rattle.std.proofs.lemmas.Cmp.{eq_by_cmp_equiv, nat_cmp_total, nat_list_cmp_t
 use Rattle.std.proofs.lemmas.Cmp.{then_total}
 use Rattle.std.proofs.lemmas.List.Elements.{All-contains, All-from_recursion, Contains-append_right}
 use Rattle.std.proofs.lemmas.Map.Keys.{sorted_head, sorted_tail}
-use Rattle.book_model.specs.declared.detail.Detail.{Detail}
-use Rattle.book_model.specs.Details.{by_detail, comes_after, details_asked, first_detail, is_asked}
-use Rattle.book_model.specs.Details.{next_after}
-use Rattle.book_model.specs.Rows.{key_of}
+use Rattle.book_model.specs.Words.{Detail, by_detail, comes_after, details_asked, first_detail}
+use Rattle.book_model.specs.Words.{is_asked, next_after, key_of}
 use Rattle.book_model.proofs.PermutedSets.{first_or, has_first, has_none}
 use Rattle.book_model.proofs.RowLemmas.{by_key_total}
 

@@ -11,11 +11,9 @@ use Rattle.std.proofs.lemmas.Cmp.{nat_list_cmp_total}
 use Rattle.std.proofs.lemmas.List.Kept.{IsStrictlySortedBy-filter}
 use Rattle.std.proofs.lemmas.Map.Lookups.{exact_bytes}
 use Rattle.std.proofs.lemmas.Simd.{map-map}
-use Rattle.book_model.specs.Disputes.{Disputed, dispute_at, dispute_from, disputes_in, identities}
-use Rattle.book_model.specs.Disputes.{is_from, is_in_dispute}
-use Rattle.book_model.specs.Records.{Naming, Records, by_bytes}
-use Rattle.book_model.specs.Rulings.{Rulings, identity_by}
-use Rattle.book_model.specs.Sets.{members, set_of}
+use Rattle.book_model.specs.Words.{Disputed, dispute_at, dispute_from, disputes_in, identities}
+use Rattle.book_model.specs.Words.{is_from, is_in_dispute, Naming, Records, by_bytes, Rulings}
+use Rattle.book_model.specs.Words.{identity_by, members, set_of}
 use Rattle.book_model.proofs.SetLemmas.{members_rise}
 
 -- what is below some bytes is not from them on

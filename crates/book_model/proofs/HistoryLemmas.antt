@@ -10,15 +10,13 @@ use Rattle.std.proofs.lemmas.List.{take-append-le}
 use Rattle.std.proofs.lemmas.List.Elements.{filter-append}
 use Rattle.std.proofs.Math.Seq.{take-length, take-append_seam}
 use Rattle.std.proofs.lemmas.Option.{slice_get_past}
-use Rattle.book_model.specs.Charged.{charged_now, charged_by}
-use Rattle.book_model.specs.Events.{Event, PeriodClosed, RulingGiven}
-use Rattle.book_model.specs.History.{rulings, closes, kept, before_close, day_of_close, held_before}
-use Rattle.book_model.specs.History.{charged_in}
-use Rattle.book_model.specs.Records.{Records, by_bytes}
-use Rattle.book_model.specs.Rulings.{Rulings, AcceptedTerms, Choice, rulings_before, if_before}
-use Rattle.book_model.specs.Rulings.{RecordChosen, SecondRuleAdopted, last_close, open_by}
-use Rattle.book_model.specs.Rulings.{with_choice}
-use Rattle.book_model.specs.Sets.{set_of}
+use Rattle.book_model.specs.Words.{charged_now, charged_by, Event, PeriodClosed, RulingGiven}
+use Rattle.book_model.specs.Words.{rulings, closes, day_of_close, held_before, charged_in, Records}
+use Rattle.book_model.specs.Words.{by_bytes, Rulings, AcceptedTerms, Choice, rulings_before}
+use Rattle.book_model.specs.Words.{RecordChosen, SecondRuleAdopted, last_close, open_by}
+use Rattle.book_model.specs.Words.{with_choice, set_of}
+use Rattle.book_model.specs.History.{kept, before_close}
+use Rattle.book_model.specs.Rulings.{if_before}
 use Rattle.book_model.proofs.ListLemmas.{slice_get-front, slice_get-behind, last_or-is}
 
 -- all records that are held at the end of a history

@@ -1,19 +1,15 @@
 -- Tariffs in the order of their first days: the latest that has begun is the last.
 use Rattle.std.proofs.Common.{◌≡◌, ℕ, List, [], ◌∷◌, ◌++◌, refl, sym, ap, ◌∙◌, cond, true, false}
-use Rattle.std.proofs.Common.{Bool, not, ◌&&◌, Option, Some, None}
-use Rattle.std.specs.Prelude.{ℤ, int_lt, filter, find, reverse}
-use Rattle.std.specs.Option.{option_map, option_map_or, option_or}
+use Rattle.std.proofs.Common.{Bool, not, ◌&&◌, Option, Some, None, ℤ, int_lt, filter, find, reverse}
+use Rattle.std.proofs.Common.{option_map}
+use Rattle.std.specs.Option.{option_map_or, option_or}
 use Rattle.std.specs.List.{list_all}
 use Rattle.std.proofs.lemmas.List.{reverse-append}
 use Rattle.std.proofs.lemmas.List.Folds.{find-append}
-use Rattle.smf_type30.specs.Usage.{day_of}
-use Rattle.tariff_rules.specs.Price.{price_by}
-use Rattle.tariff_rules.specs.declared.priced.Priced.{Priced}
-use Rattle.tariff_rules.specs.Terms.{Terms}
-use Rattle.book_model.specs.Rulings.{Rulings, AcceptedTerms, later_of, latest, are_rising, has_begun}
-use Rattle.book_model.specs.Rulings.{in_force, last_close, price_in, price_under, with_tariff}
-use Rattle.book_model.specs.CloseDays.{is_after}
-use Rattle.book_model.specs.RulingAnswers.{is_later}
+use Rattle.book_model.specs.Words.{day_of, price_by, Priced, Terms, Rulings, AcceptedTerms, latest}
+use Rattle.book_model.specs.Words.{are_rising, has_begun, in_force, last_close, price_in}
+use Rattle.book_model.specs.Words.{price_under, with_tariff, is_after, is_later}
+use Rattle.book_model.specs.Rulings.{later_of}
 use Rattle.book_model.proofs.RecordSets.{first_of, second_of}
 
 -- a later day is so than the first day of each tariff,

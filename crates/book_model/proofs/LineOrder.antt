@@ -11,12 +11,8 @@ use Rattle.std.proofs.lemmas.Cmp.{then_total, on_total, nat_list_cmp_total, int_
 use Rattle.std.proofs.lemmas.Cmp.{nat_list_eq_equiv}
 use Rattle.std.proofs.lemmas.List.Sorted.{IsPermutation-map}
 use Rattle.std.proofs.lemmas.Map.Keys.{IsDistinct-IsPermutation}
-use Rattle.tariff_rules.specs.declared.priced.Priced.{Priced}
-use Rattle.book_model.specs.declared.line.Line.{Line}
-use Rattle.book_model.specs.Lines.{plus_first, by_line, line_with}
-use Rattle.book_model.specs.Records.{Naming, name_of, by_bytes, same_bytes}
-use Rattle.book_model.specs.Rulings.{Rulings, price_in}
-use Rattle.book_model.specs.Sets.{set_of, members}
+use Rattle.book_model.specs.Words.{Priced, Line, plus_first, by_line, line_with, Naming, name_of}
+use Rattle.book_model.specs.Words.{by_bytes, same_bytes, Rulings, price_in, set_of, members}
 use Rattle.book_model.proofs.PermutedSets.{rising_from_sorted, sorted_members}
 
 -- the order of plus and minus is total

@@ -1,10 +1,8 @@
 -- What stands at a number of the list of rulings: the list is made of four parts, one after another.
 use Rattle.std.proofs.Common.{◌≡◌, ◌∙◌, ◌+◌, ◌<◌, ℕ, zero, suc, List, [], ◌∷◌, ◌++◌, length, Some}
 use Rattle.std.proofs.Common.{refl, ap, append_assoc, arith, ℤ, slice_get, option_map}
-use Rattle.book_model.specs.Records.{Naming}
-use Rattle.book_model.specs.Rulings.{Choice, Rulings}
-use Rattle.book_model.specs.RulingLists.{CloseSeen, adoption_seen, choice_seen, choices_seen}
-use Rattle.book_model.specs.RulingLists.{closes_seen, rulings_listed, tariffs_seen}
+use Rattle.book_model.specs.Words.{Naming, Choice, Rulings, CloseSeen, adoption_seen, choice_seen}
+use Rattle.book_model.specs.Words.{choices_seen, closes_seen, rulings_listed, tariffs_seen}
 
 -- an element of two lists, one after the other, is one of the first,
 pub slice_get-left : {X : Type 0} (xs ys : List X) (k : ℕ) → k < length xs

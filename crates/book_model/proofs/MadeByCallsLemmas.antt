@@ -2,15 +2,12 @@
 use Rattle.std.proofs.Common.{◌≡◌, List, [], ◌∷◌, refl, sym, ap, ◌∙◌, subst, true, Some, None, ℤ}
 use Rattle.std.proofs.Common.{int_lt, option_map}
 use Rattle.std.specs.List.{list_all}
-use Rattle.book_model.specs.MadeByCalls.{IsMadeByCalls}
-use Rattle.book_model.specs.Books.{Book, open_number}
-use Rattle.book_model.specs.Events.{Event, RecordKept, PeriodClosed, RulingGiven, give}
-use Rattle.book_model.specs.History.{rulings, book_after}
+use Rattle.book_model.specs.Words.{IsMadeByCalls, Book, open_number, Event, RecordKept}
+use Rattle.book_model.specs.Words.{PeriodClosed, RulingGiven, give, rulings, book_after, Naming}
+use Rattle.book_model.specs.Words.{name_of, Rulings, AcceptedTerms, are_rising, with_tariff}
+use Rattle.book_model.specs.Words.{with_close, TariffAccepted, RecordChosen, SecondRuleAdopted}
+use Rattle.book_model.specs.Words.{with_ruling, IsSound}
 use Rattle.book_model.specs.Laws.{LatestIsLast}
-use Rattle.book_model.specs.Records.{Naming, name_of}
-use Rattle.book_model.specs.Rulings.{Rulings, AcceptedTerms, are_rising, with_tariff, with_close}
-use Rattle.book_model.specs.Rulings.{TariffAccepted, RecordChosen, SecondRuleAdopted, with_ruling}
-use Rattle.book_model.specs.Sound.{IsSound}
 use Rattle.book_model.proofs.TestLemmas.{tariff_passes}
 use Rattle.book_model.proofs.LatestLemmas.{rising-behind, begun-last, later-before}
 use Rattle.book_model.proofs.SoundLemmas.{steps_stay_sound}

@@ -1,8 +1,6 @@
 -- What is past stays: no event changes a period that was closed before it.
 use Rattle.std.proofs.Common.{◌≡◌, ℕ, zero, suc, ◌≤◌, ◌<◌, List, [], ◌∷◌, ◌++◌, length, refl, arith}
-use Rattle.book_model.specs.Events.{Event}
-use Rattle.book_model.specs.History.{closes, period_after, periods}
-use Rattle.book_model.specs.Periods.{period_by}
+use Rattle.book_model.specs.Words.{Event, closes, period_after, periods, period_by}
 use Rattle.book_model.proofs.HistoryLemmas.{day_stays, charged_stays}
 
 -- no event changes a period that was closed before it

@@ -1,14 +1,13 @@
 -- Sets of records, by what they have.
-use Rattle.std.proofs.Common.{◌≡◌, ℕ, List, ◌∷◌, refl, sym, ap, ◌∙◌, true, false, true≢false, Bool, not}
-use Rattle.std.proofs.Common.{◌||◌, ◌&&◌}
+use Rattle.std.proofs.Common.{◌≡◌, ℕ, List, ◌∷◌, refl, sym, ap, ◌∙◌, true, false, true≢false, Bool}
+use Rattle.std.proofs.Common.{not, ◌||◌, ◌&&◌}
 use Rattle.std.proofs.Math.Bool.{or-true}
 use Rattle.std.specs.List.{list_any}
 use Rattle.std.specs.Ordering.{eq_by_cmp}
 use Rattle.std.proofs.lemmas.Cmp.{nat_list_cmp_total, eq_by_cmp_equiv}
 use Rattle.std.proofs.lemmas.Map.Lookups.{exact_bytes}
 use Rattle.std.proofs.lemmas.Map.Views.{tells_apart}
-use Rattle.book_model.specs.Records.{Records, by_bytes}
-use Rattle.book_model.specs.Sets.{has, with, those}
+use Rattle.book_model.specs.Words.{Records, by_bytes, has, with, those}
 use Rattle.book_model.proofs.SetLemmas.{has-with, has-those, same_set}
 
 -- the records are one

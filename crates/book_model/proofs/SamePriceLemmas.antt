@@ -1,13 +1,8 @@
 -- Rows and lines by two rulings, where they price alike what is dated no later than a close.
 use Rattle.std.proofs.Common.{◌≡◌, ℕ, List, ◌++◌, Bool, true, false, ap, Option, ℤ}
-use Rattle.book_model.specs.Charged.{is_dated_after}
-use Rattle.book_model.specs.Lines.{by_line, lines_for, lines_of}
-use Rattle.book_model.specs.Periods.{Period}
-use Rattle.book_model.specs.Records.{Records, Naming}
-use Rattle.book_model.specs.Rows.{rows_of, rows_for}
-use Rattle.book_model.specs.Rulings.{Rulings, price_in}
-use Rattle.book_model.specs.Sets.{set_of, members}
-use Rattle.book_model.specs.Sound.{AreDatedThrough, AreAllDatedThrough}
+use Rattle.book_model.specs.Words.{is_dated_after, by_line, lines_for, lines_of, Period, Records}
+use Rattle.book_model.specs.Words.{Naming, rows_of, rows_for, Rulings, price_in, set_of, members}
+use Rattle.book_model.specs.Words.{AreDatedThrough, AreAllDatedThrough}
 use Rattle.book_model.proofs.LineOrder.{line_by, line_of}
 use Rattle.book_model.proofs.SetChanges.{pick-agree}
 

@@ -8,8 +8,7 @@ use Rattle.std.proofs.lemmas.Cmp.{nat_list_cmp_total, eq_by_cmp_equiv}
 use Rattle.std.proofs.lemmas.Map.Keys.{sorted_head}
 use Rattle.std.proofs.lemmas.Map.Lookups.{exact_bytes}
 use Rattle.std.proofs.lemmas.Map.Views.{tells_apart}
-use Rattle.book_model.specs.Records.{Records, Naming, name_of, by_bytes}
-use Rattle.book_model.specs.Sets.{members, has, with, those}
+use Rattle.book_model.specs.Words.{Records, Naming, name_of, by_bytes, members, has, with, those}
 use Rattle.book_model.proofs.ListLemmas.{filter_map-map}
 use Rattle.book_model.proofs.MapLemmas.{by_tie}
 use Rattle.book_model.proofs.RecordSets.{is, is_itself, same_records, has_with, has_those, is_first}

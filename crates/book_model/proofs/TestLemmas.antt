@@ -2,26 +2,13 @@
 use Rattle.std.proofs.Common.{◌≡◌, ℕ, List, Bool, true, false, not, Option, Some, None, Result, Ok}
 use Rattle.std.proofs.Common.{Err, refl, length, if◌then◌else◌, ◌==◌, ℤ, IsSome, nat_le, eqb-true}
 use Rattle.std.specs.List.{list_any}
-use Rattle.tariff_rules.specs.Terms.{Terms}
-use Rattle.tariff_rules.specs.declared.priced.Priced.{Priced}
-use Rattle.book_model.specs.declared.answer.Accepted.{Accepted}
-use Rattle.book_model.specs.declared.answer.Accepted.TheVariants.{Kept, Known}
-use Rattle.book_model.specs.declared.answer.Ruled.{Ruled}
-use Rattle.book_model.specs.declared.answer.Ruled.TheVariants.{Done, Already}
-use Rattle.book_model.specs.declared.fault.LedgerFault.{LedgerFault}
-use Rattle.book_model.specs.declared.fault.LedgerFault.TheVariants.{DigestClash, Full, NotDisputed}
-use Rattle.book_model.specs.declared.fault.LedgerFault.TheVariants.{NotLater, TariffDate}
-use Rattle.book_model.specs.declared.fault.LedgerFault.TheVariants.{TariffExists, WrongPeriod}
-use Rattle.book_model.specs.Accept.{accept_answer, accept_priced, clashes}
-use Rattle.book_model.specs.Books.{Book, open_number}
-use Rattle.book_model.specs.Charged.{is_chosen, is_unrivalled}
-use Rattle.book_model.specs.Limits.{last_period, most_choices}
-use Rattle.book_model.specs.Records.{Naming}
-use Rattle.book_model.specs.RulingAnswers.{chosen_answer, close_answer, has_text, is_closed}
-use Rattle.book_model.specs.RulingAnswers.{is_early, is_effective, is_later, is_too_dear}
-use Rattle.book_model.specs.RulingAnswers.{terms_answer}
-use Rattle.book_model.specs.Rulings.{price_in, with_tariff}
-use Rattle.book_model.specs.Sets.{has}
+use Rattle.book_model.specs.Words.{Terms, Priced, Accepted, Kept, Known, Ruled, Done, Already}
+use Rattle.book_model.specs.Words.{LedgerFault, DigestClash, Full, NotDisputed, NotLater}
+use Rattle.book_model.specs.Words.{TariffDate, TariffExists, WrongPeriod, accept_answer}
+use Rattle.book_model.specs.Words.{accept_priced, clashes, Book, open_number, is_chosen}
+use Rattle.book_model.specs.Words.{is_unrivalled, last_period, most_choices, Naming, chosen_answer}
+use Rattle.book_model.specs.Words.{close_answer, has_text, is_closed, is_early, is_effective}
+use Rattle.book_model.specs.Words.{is_later, is_too_dear, terms_answer, price_in, with_tariff, has}
 
 -- a record that is kept: it is new, no other has its name, and there is room for its price
 pub record KeptPasses (known clash : Bool) (priced : Result Accepted LedgerFault) : Type 0 where

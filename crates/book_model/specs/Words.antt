@@ -1,30 +1,69 @@
--- The words of the standard, the tariffs and the books, from one place, for the crates above. Read
--- in the order of `specs/Lib.antt` of each crate: it says what each word means.
-pub use Rattle.smf_text.specs.Day.{IsDay, date_of, day_text_of}
+-- The words of the standard, the tariffs and the books, and the types that ledgers answer, from one
+-- place, for the crates above. Read in the order of `specs/Lib.antt` of each crate: it says what
+-- each word means.
+pub use Rattle.smf_text.specs.Day.{IsDay, date_of, day_of_text_of, day_text_of}
 pub use Rattle.smf_text.specs.PackedDate.{packed_day_of}
 pub use Rattle.smf_text.specs.Names.{IsName, is_name_character}
 pub use Rattle.smf_text.specs.CodePage.{show_text}
 pub use Rattle.smf_frames.specs.Number.{number, part}
-pub use Rattle.smf_frames.specs.Framed.{IsFramed, data_of, record_with}
+pub use Rattle.smf_frames.specs.Framed.{IsFramed, data_of, most_data, record_with}
 pub use Rattle.smf_frames.specs.Faults.{frame_number}
 pub use Rattle.smf_frames.specs.Front.{Front, prepend, front, front_from}
 pub use Rattle.smf_frames.specs.Joining.{Joining, HasTaken, broken_by, released, nothing_found}
 pub use Rattle.smf_frames.specs.Joining.{nothing_joined}
 pub use Rattle.smf_frames.specs.Feeding.{Feeds}
 pub use Rattle.smf_frames.specs.Texts.{texts}
+pub use Rattle.smf_frames.specs.declared.dump.Layout.{Layout}
+pub use Rattle.smf_frames.specs.declared.dump.Layout.TheVariants.{Bdw, Rdw}
+pub use Rattle.smf_frames.specs.declared.fault.FrameFault.{FrameFault}
 pub use Rattle.smf_type30.specs.Layout.{hundredths_per_day, identification, job_end, step_number}
 pub use Rattle.smf_type30.specs.Section.{offset_of, part_in}
 pub use Rattle.smf_type30.specs.Usage.{completion_of, day_of, identity2_length, identity2_of}
 pub use Rattle.smf_type30.specs.Usage.{identity_length, identity_of, job_id_of, job_of, program_of}
-pub use Rattle.smf_type30.specs.Usage.{initiation_of, step_of, subtype_of}
+pub use Rattle.smf_type30.specs.Usage.{ended_step_of, initiation_of, step_of, subtype_of, time_of}
 pub use Rattle.smf_type30.specs.Class.{IsUsage, class_of, type_of}
 pub use Rattle.smf_type30.specs.Damage.{damage_number}
-pub use Rattle.tariff_rules.specs.Terms.{Terms}
+pub use Rattle.smf_type30.specs.declared.record_class.Class.{Class}
+pub use Rattle.smf_type30.specs.declared.record_class.Class.TheVariants.{Usage}
+pub use Rattle.tariff_rules.specs.Faults.{tariff_number}
+pub use Rattle.tariff_rules.specs.Terms.{Terms, on_every_day}
 pub use Rattle.tariff_rules.specs.Price.{IsPriced, most_amount, price_by}
 pub use Rattle.tariff_rules.specs.Reckoning.{reckoned, reckoning_by, rule_number, rule_numbered}
 pub use Rattle.tariff_rules.specs.TariffFile.{terms_in}
 pub use Rattle.tariff_rules.specs.Letterhead.{LetterheadSeen, letterhead_in, letterhead_shown}
 pub use Rattle.tariff_rules.specs.Letterhead.{no_letterhead}
+pub use Rattle.tariff_rules.specs.declared.fault.TariffFault.{TariffFault}
+pub use Rattle.tariff_rules.specs.declared.priced.Priced.{Priced}
+pub use Rattle.tariff_rules.specs.declared.reckoning.Reckoning.{Reckoning}
+pub use Rattle.book_model.specs.declared.answer.Accepted.{Accepted}
+pub use Rattle.book_model.specs.declared.answer.Accepted.TheVariants.{Kept, Known, Unpriced}
+pub use Rattle.book_model.specs.declared.answer.Ruled.{Ruled}
+pub use Rattle.book_model.specs.declared.answer.Ruled.TheVariants.{Already, Done}
+pub use Rattle.book_model.specs.declared.bill.Bill.{Bill}
+pub use Rattle.book_model.specs.declared.bill.BilledLine.{BilledLine}
+pub use Rattle.book_model.specs.declared.bill.BilledTariff.{BilledTariff}
+pub use Rattle.book_model.specs.declared.bill.HeldBack.{HeldBack}
+pub use Rattle.book_model.specs.declared.detail.Detail.{Detail}
+pub use Rattle.book_model.specs.declared.dispute.Dispute.{Dispute}
+pub use Rattle.book_model.specs.declared.dispute.Variant.{Variant}
+pub use Rattle.book_model.specs.declared.fault.LedgerFault.{LedgerFault}
+pub use Rattle.book_model.specs.declared.fault.LedgerFault.TheVariants.{DigestClash, Full, Memory}
+pub use Rattle.book_model.specs.declared.fault.LedgerFault.TheVariants.{NewForm, NoSuchPeriod}
+pub use Rattle.book_model.specs.declared.fault.LedgerFault.TheVariants.{NoSuchRecord, NoSuchTariff}
+pub use Rattle.book_model.specs.declared.fault.LedgerFault.TheVariants.{NotBooks, NotDisputed}
+pub use Rattle.book_model.specs.declared.fault.LedgerFault.TheVariants.{NotLater, OldForm, OldRule}
+pub use Rattle.book_model.specs.declared.fault.LedgerFault.TheVariants.{RecordsDated, Reopen, Store}
+pub use Rattle.book_model.specs.declared.fault.LedgerFault.TheVariants.{TariffDate, TariffExists}
+pub use Rattle.book_model.specs.declared.fault.LedgerFault.TheVariants.{TariffRefused, WrongPeriod}
+pub use Rattle.book_model.specs.declared.line.Line.{Line}
+pub use Rattle.book_model.specs.declared.listed_ruling.ListedRuling.{ListedRuling}
+pub use Rattle.book_model.specs.declared.row.ChargeRow.{ChargeRow}
+pub use Rattle.book_model.specs.declared.row.RowKey.{RowKey}
+pub use Rattle.book_model.specs.declared.trail.Deed.{Deed}
+pub use Rattle.book_model.specs.declared.trail.Deed.TheVariants.{Added, Charged, Reversed}
+pub use Rattle.book_model.specs.declared.trail.NamedChoice.{NamedChoice}
+pub use Rattle.book_model.specs.declared.trail.Trail.{Trail}
+pub use Rattle.book_model.specs.declared.trail.Turn.{Turn}
 pub use Rattle.book_model.specs.Sets.{Set, has, members, set_of, those, with, without}
 pub use Rattle.book_model.specs.Records.{IsUsageRecord, Naming, Records, by_bytes, name_of}
 pub use Rattle.book_model.specs.Records.{same_bytes}
@@ -32,9 +71,10 @@ pub use Rattle.book_model.specs.Limits.{last_period, most_choices, most_cost, mo
 pub use Rattle.book_model.specs.CloseDays.{close_of, is_after, is_between, is_through}
 pub use Rattle.book_model.specs.Rulings.{Ruling, TariffAccepted, RecordChosen, SecondRuleAdopted}
 pub use Rattle.book_model.specs.Rulings.{Choice, Rulings, AcceptedTerms, are_rising, has_begun}
-pub use Rattle.book_model.specs.Rulings.{identity_by, in_force, last_close, no_rulings, open_by}
-pub use Rattle.book_model.specs.Rulings.{price_in, price_under, prices, with_choice, with_close}
-pub use Rattle.book_model.specs.Rulings.{with_ruling, with_second_rule, with_tariff}
+pub use Rattle.book_model.specs.Rulings.{identity_by, in_force, last_close, latest, no_rulings}
+pub use Rattle.book_model.specs.Rulings.{open_by, price_in, price_under, prices, rulings_before}
+pub use Rattle.book_model.specs.Rulings.{with_choice, with_close, with_ruling, with_second_rule}
+pub use Rattle.book_model.specs.Rulings.{with_tariff}
 pub use Rattle.book_model.specs.Charged.{charged_by, charged_now, charged_through, conflict}
 pub use Rattle.book_model.specs.Charged.{is_chosen, is_dated_after, is_dated_through, is_undisputed}
 pub use Rattle.book_model.specs.Charged.{is_unrivalled, last_chosen, share_identity}
@@ -56,7 +96,7 @@ pub use Rattle.book_model.specs.RulingAnswers.{adopt_answer, choose_answer, chos
 pub use Rattle.book_model.specs.RulingAnswers.{close_answer, first_rule, has_text, is_closed}
 pub use Rattle.book_model.specs.RulingAnswers.{is_early, is_effective, is_later, is_too_dear}
 pub use Rattle.book_model.specs.RulingAnswers.{record_named, rule_by, second_rule, tariff_answer}
-pub use Rattle.book_model.specs.RulingAnswers.{IsRule, terms_answer}
+pub use Rattle.book_model.specs.RulingAnswers.{IsRule, terms_answer, terms_ruled, through_of}
 pub use Rattle.book_model.specs.RulingLists.{HasDays, RulingSeen, TariffSeen, CloseSeen, ChoiceSeen}
 pub use Rattle.book_model.specs.RulingLists.{AdoptionSeen, ShowsDays, ruling_shown, rulings_listed}
 pub use Rattle.book_model.specs.RulingLists.{adoption_seen, choice_seen, choices_seen, closes_seen}
@@ -91,8 +131,8 @@ pub use Rattle.book_model.specs.History.{book_after, book_of, charged_in, closes
 pub use Rattle.book_model.specs.History.{held_before, period_after, periods, rulings}
 pub use Rattle.book_model.specs.MadeByCalls.{IsAnswered, IsMadeByCalls}
 pub use Rattle.book_model.specs.RecordBatches.{rulings_in, record_batches}
-pub use Rattle.book_model.specs.Sound.{AreAllDatedThrough, AreAmong, AreDatedThrough, AreHeld, IsChoiceOf}
-pub use Rattle.book_model.specs.Sound.{IsSound}
+pub use Rattle.book_model.specs.Sound.{AreAllDatedThrough, AreAmong, AreDatedThrough, AreHeld}
+pub use Rattle.book_model.specs.Sound.{IsChoiceOf, IsSound}
 pub use Rattle.book_model.specs.Laws.{IsAfterLastClose}
 pub use Rattle.book_model.specs.Answers.{Answers, IsBookCall, event_of}
 pub use Rattle.book_model.specs.Faults.{ledger_number}

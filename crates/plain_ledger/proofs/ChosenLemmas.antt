@@ -11,13 +11,11 @@ use Rattle.std.proofs.lemmas.List.{map-append}
 use Rattle.std.proofs.lemmas.List.Elements.{All-head, All-tail}
 use Rattle.std.proofs.lemmas.Map.Lookups.{exact_bytes}
 use Rattle.std.proofs.lemmas.Map.Views.{tells_apart}
-use Rattle.book_model.specs.declared.answer.Ruled.{Ruled}
-use Rattle.book_model.specs.declared.answer.Ruled.TheVariants.{Done, Already}
-use Rattle.book_model.specs.declared.fault.LedgerFault.{LedgerFault}
-use Rattle.book_model.specs.declared.fault.LedgerFault.TheVariants.{Full, NoSuchRecord, NotDisputed}
-use Rattle.book_model.specs.Words.{Book, Choice, IsBookCall, Naming, Rulings, after_any, by_bytes}
-use Rattle.book_model.specs.Words.{if_done, choose_outcome, with_choice, chosen_answer, is_chosen}
-use Rattle.book_model.specs.Words.{is_unrivalled, most_choices, open_by, record_named}
+use Rattle.book_model.specs.Words.{Ruled, Done, Already, LedgerFault, Full, NoSuchRecord}
+use Rattle.book_model.specs.Words.{NotDisputed, Book, Choice, IsBookCall, Naming, Rulings}
+use Rattle.book_model.specs.Words.{after_any, by_bytes, if_done, choose_outcome, with_choice}
+use Rattle.book_model.specs.Words.{chosen_answer, is_chosen, is_unrivalled, most_choices, open_by}
+use Rattle.book_model.specs.Words.{record_named}
 use Rattle.book_model.proofs.AnswerLemmas.{answers_itself, ruling_calls}
 use Rattle.book_model.proofs.SoundLemmas.{named_held}
 use Rattle.plain_ledger.specs.declared.chosen.ChosenRecord.{ChosenRecord}

@@ -17,9 +17,7 @@ use Rattle.std.proofs.lemmas.Simd.{map-map}
 use Rattle.book_model.specs.Words.{identity_by, by_name, variant_of, identities, records_of}
 use Rattle.book_model.specs.Words.{dispute_at, disputes_in, is_in_dispute, is_settled, Naming}
 use Rattle.book_model.specs.Words.{by_bytes, same_bytes, Rulings, set_of, members, IsDispute}
-use Rattle.book_model.specs.Words.{ShowsDispute, dispute_shown}
-use Rattle.book_model.specs.declared.dispute.Dispute.{Dispute}
-use Rattle.book_model.specs.declared.dispute.Variant.{Variant}
+use Rattle.book_model.specs.Words.{ShowsDispute, dispute_shown, Dispute, Variant}
 use Rattle.plain_ledger.specs.Plain.{Entry, entry_records, held_in, AreBooked, is_alone, variant_at}
 use Rattle.plain_ledger.specs.Plain.{dispute_among, disputes_among, entry_identity}
 use Rattle.plain_ledger.specs.Plain.{entry_has_identity, is_disputed, is_shared}

@@ -19,9 +19,8 @@ use Rattle.std.proofs.lemmas.Map.Keys.{IsDistinct-from_sorted}
 use Rattle.std.proofs.lemmas.Map.Lookups.{exact_bytes}
 use Rattle.std.proofs.lemmas.Map.Made.{is_some-lookup}
 use Rattle.std.proofs.lemmas.Simd.{map-map}
-use Rattle.tariff_rules.specs.declared.priced.Priced.{Priced}
 use Rattle.plain_ledger.specs.declared.held.HeldRecord.{HeldRecord}
-use Rattle.book_model.specs.Words.{most_held, most_cost, by_name, Naming, name_of, by_bytes}
+use Rattle.book_model.specs.Words.{Priced, most_held, most_cost, by_name, Naming, name_of, by_bytes}
 use Rattle.book_model.specs.Words.{same_bytes, Rulings, price_in, members, has, with, clashes}
 use Rattle.book_model.specs.Words.{total_of}
 use Rattle.plain_ledger.specs.Plain.{Entry, AreBooked, entry_records, held_in, record_of}

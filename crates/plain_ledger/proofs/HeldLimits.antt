@@ -10,8 +10,7 @@ use Rattle.std.proofs.lemmas.Map.Lookups.{exact_bytes}
 use Rattle.book_model.specs.Words.{IsDay, IsPriced, most_held, IsDispute, AreDisputes, Naming}
 use Rattle.book_model.specs.Words.{by_bytes, Rulings, identity_by, identity_length}
 use Rattle.book_model.specs.Words.{identity2_length, rows_of, FitSums, AreRows, set_of, members}
-use Rattle.book_model.specs.Words.{most_cost}
-use Rattle.tariff_rules.specs.declared.priced.Priced.{Priced}
+use Rattle.book_model.specs.Words.{most_cost, Priced}
 use Rattle.smf_type30.proofs.IdentityLength.{identity-long}
 use Rattle.plain_ledger.specs.declared.held.HeldRecord.{HeldRecord}
 use Rattle.plain_ledger.specs.Plain.{Entry, AreBooked, is_disputed, variant_at, dispute_among}

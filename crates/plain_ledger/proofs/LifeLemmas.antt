@@ -1,17 +1,15 @@
 -- The life of a record of a plain ledger, by the shares that it has in the periods.
-use Rattle.std.proofs.Common.{◌≡◌, ◌∙◌, ℕ, suc, ◌+◌, ◌<◌, List, [], ◌∷◌, ◌++◌, length, map, refl, sym}
-use Rattle.std.proofs.Common.{ap, Bool, Option, None, Some, take, get_or, append-nil, arith}
-use Rattle.std.proofs.Common.{length-take-le}
+use Rattle.std.proofs.Common.{◌≡◌, ◌∙◌, ℕ, suc, ◌+◌, ◌<◌, List, [], ◌∷◌, ◌++◌, length, map, refl}
+use Rattle.std.proofs.Common.{sym, ap, Bool, Option, None, Some, take, get_or, append-nil, arith}
+use Rattle.std.proofs.Common.{length-take-le, append_assoc}
 use Rattle.std.specs.BTreeMap.{is_at, get}
 use Rattle.std.specs.List.Sorted.{IsStrictlySortedBy}
 use Rattle.std.specs.Map.{keys_of}
-use Rattle.std.proofs.lemmas.List.{append_assoc, length-map, map-append, take_more}
+use Rattle.std.proofs.lemmas.List.{length-map, map-append, take_more}
 use Rattle.std.proofs.lemmas.Map.Lookups.{exact_bytes}
 use Rattle.std.proofs.lemmas.Map.Views.{tells_apart}
-use Rattle.book_model.specs.declared.trail.Deed.TheVariants as deed
-use Rattle.book_model.specs.declared.trail.Turn.{Turn}
-use Rattle.book_model.specs.Words.{Naming, Period, Rulings, by_bytes, has, life_from, life_of, turn_if}
-use Rattle.book_model.specs.Words.{turns_in}
+use Rattle.book_model.specs.Words.{Turn, Naming, Period, Rulings, by_bytes, has, life_from, life_of}
+use Rattle.book_model.specs.Words.{turn_if, turns_in}
 use Rattle.plain_ledger.specs.declared.treatment.ClosedPeriod.{ClosedPeriod}
 use Rattle.plain_ledger.specs.declared.held.HeldRecord.{HeldRecord}
 use Rattle.plain_ledger.specs.declared.period_end.PeriodEnd.{PeriodEnd}
@@ -26,6 +24,7 @@ use Rattle.plain_ledger.specs.Treatments.{treatment_closed, under_name}
 use Rattle.plain_ledger.proofs.ChosenLemmas.{found_holds}
 use Rattle.plain_ledger.proofs.HeldLemmas.{bytes_of}
 use Rattle.plain_ledger.proofs.TreatmentLemmas.{has-where, period-ends}
+use Rattle.book_model.specs.declared.trail.Deed.TheVariants as deed
 
 -- what a period did with a record, by the share that the record has in it
 by_share : (number : ℕ) (share : Option Treatment)

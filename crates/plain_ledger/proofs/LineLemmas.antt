@@ -1,10 +1,10 @@
 -- Adjustment lines of entries: one for each that a period adds or reverses.
 use Rattle.std.proofs.Common.{◌≡◌, ◌∙◌, ℕ, ◌≤◌, List, [], ◌∷◌, ◌++◌, map, refl, sym, ap, subst}
 use Rattle.std.proofs.Common.{Bool, true, false, cond, Option, Some, None, is_some, get_or, arith}
-use Rattle.std.proofs.Common.{append-nil, drop, length, take, take_all}
-use Rattle.std.specs.Prelude.{All, filter, sum_by}
-use Rattle.std.specs.List.{filter_map, cons_option, IsDistinct}
-use Rattle.std.specs.List.Sorted.{IsPermutation, IsStrictlySortedBy}
+use Rattle.std.proofs.Common.{append-nil, drop, length, take, take_all, All, filter, sum_by}
+use Rattle.std.proofs.Common.{filter_map, IsPermutation}
+use Rattle.std.specs.List.{cons_option, IsDistinct}
+use Rattle.std.specs.List.Sorted.{IsStrictlySortedBy}
 use Rattle.std.specs.Map.{keys_of}
 use Rattle.std.specs.Ordering.{eq_by_cmp}
 use Rattle.std.proofs.lemmas.Cmp.{nat_list_cmp_total}
@@ -17,8 +17,7 @@ use Rattle.std.proofs.lemmas.List.Sorted.{sum_by-IsPermutation}
 use Rattle.std.proofs.lemmas.List.Sums.{sum_by-cons}
 use Rattle.std.proofs.lemmas.Map.Keys.{IsDistinct-from_sorted}
 use Rattle.book_model.specs.Words.{IsDay, by_line, lines_for, lines_of, AreLines, Naming, by_bytes}
-use Rattle.book_model.specs.Words.{same_bytes, Rulings, set_of, members}
-use Rattle.book_model.specs.declared.line.Line.{Line}
+use Rattle.book_model.specs.Words.{same_bytes, Rulings, set_of, members, Line}
 use Rattle.book_model.proofs.ListLemmas.{filter_map-map, filter_map-defined}
 use Rattle.book_model.proofs.LineOrder.{by_line_total, distinct_lines, line_by}
 use Rattle.book_model.proofs.LineOrder.{line_of as line_of_record}

@@ -1,21 +1,18 @@
 -- What a period would have cost by another tariff, by the entries of a plain ledger.
 use Rattle.std.proofs.Common.{◌++◌, ◌∷◌, [], cond, ◌≡◌, ◌≤◌, ◌∙◌, ℕ, List, length, map, refl, sym}
 use Rattle.std.proofs.Common.{ap, subst, true, false, Bool, not, Option, Some, None, Result, Ok}
-use Rattle.std.proofs.Common.{Err, arith}
-use Rattle.std.specs.Prelude.{All, filter, nat_lt, sum_by, ok_or, if◌then◌else◌}
+use Rattle.std.proofs.Common.{Err, arith, All, filter, nat_lt, sum_by, ok_or, if◌then◌else◌}
+use Rattle.std.proofs.Common.{append_assoc}
 use Rattle.std.specs.List.Sorted.{IsStrictlySortedBy}
 use Rattle.std.specs.Map.{keys_of}
-use Rattle.std.proofs.lemmas.List.{append_assoc, length-map}
+use Rattle.std.proofs.lemmas.List.{length-map}
 use Rattle.std.proofs.lemmas.List.Filters.{length-filter_both}
 use Rattle.std.proofs.lemmas.Bool.Decides.{nat_tests}
 use Rattle.std.proofs.lemmas.Simd.{map-map}
-use Rattle.tariff_rules.specs.declared.priced.Priced.{Priced}
-use Rattle.book_model.specs.declared.fault.LedgerFault.{LedgerFault}
-use Rattle.book_model.specs.declared.fault.LedgerFault.TheVariants.{Full, NoSuchPeriod}
-use Rattle.book_model.specs.declared.row.ChargeRow.{ChargeRow}
-use Rattle.book_model.specs.Words.{AreRows, FitSums, IsPriced, Naming, Period, Rulings}
-use Rattle.book_model.specs.Words.{Terms, by_bytes, most_cost, most_held, price_by}
-use Rattle.book_model.specs.Words.{rows_if_room, rows_of, what_if_answer}
+use Rattle.book_model.specs.Words.{Priced, LedgerFault, Full, NoSuchPeriod, ChargeRow, AreRows}
+use Rattle.book_model.specs.Words.{FitSums, IsPriced, Naming, Period, Rulings, Terms, by_bytes}
+use Rattle.book_model.specs.Words.{most_cost, most_held, price_by, rows_if_room, rows_of}
+use Rattle.book_model.specs.Words.{what_if_answer}
 use Rattle.book_model.proofs.RowLemmas.{rows_if_room-alike}
 use Rattle.book_model.proofs.SumsAlike.{SumsAlike, map-alike}
 use Rattle.plain_ledger.specs.Plain.{AreBooked, Entry, record_of}

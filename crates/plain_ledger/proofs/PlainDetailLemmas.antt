@@ -11,8 +11,7 @@ use Rattle.std.proofs.lemmas.List.Elements.{All-filter, All-head, All-map, All-t
 use Rattle.std.proofs.lemmas.List.Sorted.{All-permutation, IsPermutation-sym}
 use Rattle.std.proofs.lemmas.Map.Keys.{IsDistinct-from_sorted}
 use Rattle.std.proofs.lemmas.Simd.{map-map}
-use Rattle.book_model.specs.declared.detail.Detail.{Detail}
-use Rattle.book_model.specs.Words.{IsDay, Naming, Rulings, ShowsDetail, by_bytes, by_detail}
+use Rattle.book_model.specs.Words.{Detail, IsDay, Naming, Rulings, ShowsDetail, by_bytes, by_detail}
 use Rattle.book_model.specs.Words.{detail_by, detail_of, details_for, members, same_bytes, set_of}
 use Rattle.book_model.proofs.DetailLemmas.{distinct_details}
 use Rattle.book_model.proofs.DetailOrder.{by_detail_total}

@@ -11,18 +11,12 @@ use Rattle.std.proofs.lemmas.Simd.{map-map}
 use Rattle.book_model.specs.Words.{day_of, Terms, Naming, name_of, by_bytes, Book, Rulings}
 use Rattle.book_model.specs.Words.{price_in, price_by, with_tariff, has_text, total_of}
 use Rattle.book_model.specs.Words.{is_effective, is_later, is_too_dear, tariff_answer, terms_answer}
-use Rattle.book_model.specs.Words.{most_held, most_cost}
-use Rattle.book_model.specs.RulingAnswers.{terms_ruled}
-use Rattle.tariff_rules.specs.declared.fault.TariffFault.{TariffFault}
-use Rattle.tariff_rules.specs.declared.priced.Priced.{Priced}
+use Rattle.book_model.specs.Words.{most_held, most_cost, terms_ruled, TariffFault, Priced, Ruled}
+use Rattle.book_model.specs.Words.{Done, LedgerFault, Full}
 use Rattle.plain_ledger.specs.declared.held.HeldRecord.{HeldRecord}
 use Rattle.plain_ledger.specs.Plain.{Entry, held_in, AreBooked}
 use Rattle.plain_ledger.specs.Repricing.{AreRepriced, cost_anew, price_anew}
 use Rattle.book_model.proofs.TestLemmas.{tariff_tests}
-use Rattle.book_model.specs.declared.answer.Ruled.{Ruled}
-use Rattle.book_model.specs.declared.answer.Ruled.TheVariants.{Done}
-use Rattle.book_model.specs.declared.fault.LedgerFault.{LedgerFault}
-use Rattle.book_model.specs.declared.fault.LedgerFault.TheVariants.{Full}
 use Rattle.plain_ledger.proofs.HeldLemmas.{bytes_of, each_priced, held-alike}
 use Rattle.plain_ledger.proofs.RepricingLemmas.{names_stay, records_stay}
 use Rattle.book_model.proofs.ListLemmas.{map-agree, filter_map-map, filter_map-defined}

@@ -10,13 +10,10 @@ use Rattle.std.proofs.lemmas.List.Elements.{All-map, filter-append}
 use Rattle.std.proofs.lemmas.Map.Lookups.{exact_bytes}
 use Rattle.std.proofs.lemmas.Map.Views.{tells_apart}
 use Rattle.std.proofs.lemmas.Simd.{map-map}
-use Rattle.tariff_rules.specs.declared.reckoning.Reckoning.{Reckoning}
-use Rattle.book_model.specs.declared.dispute.Variant.{Variant}
-use Rattle.book_model.specs.declared.fault.LedgerFault.TheVariants.{NoSuchRecord}
-use Rattle.book_model.specs.Words.{Book, Choice, IsDay, Naming, TrailSeen, by_bytes, choice_named}
-use Rattle.book_model.specs.Words.{choices_among, day_of, identity_by, life_of, period_on}
-use Rattle.book_model.specs.Words.{reckoning_in, record_named, share_identity, trail_by, trail_of}
-use Rattle.book_model.specs.Words.{trail_outcome}
+use Rattle.book_model.specs.Words.{Reckoning, Variant, NoSuchRecord, Book, Choice, IsDay, Naming}
+use Rattle.book_model.specs.Words.{TrailSeen, by_bytes, choice_named, choices_among, day_of}
+use Rattle.book_model.specs.Words.{identity_by, life_of, period_on, reckoning_in, record_named}
+use Rattle.book_model.specs.Words.{share_identity, trail_by, trail_of, trail_outcome}
 use Rattle.book_model.proofs.ListLemmas.{filter-map}
 use Rattle.plain_ledger.specs.declared.chosen.ChosenRecord.{ChosenRecord}
 use Rattle.plain_ledger.specs.declared.treatment.ClosedPeriod.{ClosedPeriod}

@@ -11,11 +11,10 @@ use Rattle.std.proofs.Math.Bool.{and-true, not-not}
 use Rattle.std.proofs.lemmas.Cmp.{nat_list_cmp_total, nat_list_eq_equiv}
 use Rattle.std.proofs.lemmas.List.Elements.{All-filter}
 use Rattle.std.proofs.lemmas.Map.Lookups.{exact_bytes}
-use Rattle.tariff_rules.specs.declared.priced.Priced.{Priced}
-use Rattle.book_model.specs.Words.{is_chosen, is_undisputed, is_dated_through, is_dated_after}
-use Rattle.book_model.specs.Words.{charged_by, identity_by, last_close, period_by, Records, Naming}
-use Rattle.book_model.specs.Words.{by_bytes, same_bytes, rows_for, rows_of, Rulings, price_in}
-use Rattle.book_model.specs.Words.{set_of, members, has, those, without}
+use Rattle.book_model.specs.Words.{Priced, is_chosen, is_undisputed, is_dated_through}
+use Rattle.book_model.specs.Words.{is_dated_after, charged_by, identity_by, last_close, period_by}
+use Rattle.book_model.specs.Words.{Records, Naming, by_bytes, same_bytes, rows_for, rows_of}
+use Rattle.book_model.specs.Words.{Rulings, price_in, set_of, members, has, those, without}
 use Rattle.book_model.proofs.ListLemmas.{filter-agree, filter-map, filter-filter, list_any-map}
 use Rattle.book_model.proofs.ListLemmas.{filter_map-map, filter_map-defined}
 use Rattle.book_model.proofs.RowLemmas.{rows_of-alike}

@@ -2,11 +2,7 @@
 -- one.
 use Rattle.std.specs.Prelude.{◌≡◌, ℕ, List, map, sum_by, int_lt, if◌then◌else◌, Option, Some, None}
 use Rattle.std.specs.Prelude.{Result, Ok, Err}
-use Rattle.tariff_rules.specs.declared.priced.Priced.{Priced}
-use Rattle.book_model.specs.declared.answer.Ruled.{Ruled}
-use Rattle.book_model.specs.declared.answer.Ruled.TheVariants.{Done, Already}
-use Rattle.book_model.specs.declared.fault.LedgerFault.{LedgerFault}
-use Rattle.book_model.specs.Words.{Terms, price_by}
+use Rattle.book_model.specs.Words.{Priced, Ruled, Done, Already, LedgerFault, Terms, price_by}
 use Rattle.plain_ledger.specs.declared.held.HeldRecord.{HeldRecord}
 use Rattle.plain_ledger.specs.Plain.{Entry, record_of}
 

@@ -1,14 +1,11 @@
 -- How a plain ledger keeps closed periods, and reads the open one: what a period does with each
 -- record that is held.
-use Rattle.std.specs.Prelude.{◌≡◌, Bool, true, false, not, ◌&&◌, ◌||◌, List, [], ℕ, ℤ}
-use Rattle.std.specs.Prelude.{filter, All, Option, Some, None}
-use Rattle.std.specs.BTreeMap as map
-use Rattle.std.specs.BTreeSet as set
+use Rattle.std.specs.Prelude.{◌≡◌, Bool, true, false, not, ◌&&◌, ◌||◌, List, [], ℕ, ℤ, filter, All}
+use Rattle.std.specs.Prelude.{Option, Some, None, option_and_then}
 use Rattle.std.specs.Map.{lookup}
-use Rattle.std.specs.Option.{option_map_or, option_and_then}
+use Rattle.std.specs.Option.{option_map_or}
 use Rattle.book_model.specs.Words.{set_of, Records, by_bytes, same_bytes, Period, Rulings}
-use Rattle.book_model.specs.Words.{identity_by, is_after, is_through, last_close, line_with}
-use Rattle.book_model.specs.declared.line.Line.{Line}
+use Rattle.book_model.specs.Words.{identity_by, is_after, is_through, last_close, line_with, Line}
 use Rattle.plain_ledger.specs.declared.treatment.ClosedPeriod.{ClosedPeriod}
 use Rattle.plain_ledger.specs.declared.period_end.PeriodEnd.{PeriodEnd}
 use Rattle.plain_ledger.specs.declared.held.HeldRecord.{HeldRecord}
@@ -18,6 +15,8 @@ use Rattle.plain_ledger.specs.declared.treatment.Treatment.{Treatment}
 use Rattle.plain_ledger.specs.declared.treatment.Treatment.TheVariants.{Counted, Added, Taken}
 use Rattle.plain_ledger.specs.Choices.{AreLast, record_at}
 use Rattle.plain_ledger.specs.Plain.{Entry, HasShared, entry_records, record_of, rulings_of}
+use Rattle.std.specs.BTreeMap as map
+use Rattle.std.specs.BTreeSet as set
 
 -- the names of some records
 abbrev pub Names : Type 0

@@ -7,12 +7,8 @@ use Rattle.std.proofs.lemmas.Map.Lookups.{exact_bytes}
 use Rattle.std.proofs.lemmas.Map.Views.{tells_apart}
 use Rattle.book_model.specs.Words.{data_of, record_with, IsFramed, accept_answer, accept_priced}
 use Rattle.book_model.specs.Words.{clashes, Book, charged_of, Naming, name_of, same_bytes, price_in}
-use Rattle.book_model.specs.Words.{identity_by, has}
-use Rattle.tariff_rules.specs.declared.priced.Priced.{Priced}
-use Rattle.book_model.specs.declared.answer.Accepted.{Accepted}
-use Rattle.book_model.specs.declared.answer.Accepted.TheVariants.{Known}
-use Rattle.book_model.specs.declared.fault.LedgerFault.{LedgerFault}
-use Rattle.book_model.specs.declared.fault.LedgerFault.TheVariants.{DigestClash}
+use Rattle.book_model.specs.Words.{identity_by, has, Priced, Accepted, Known, LedgerFault}
+use Rattle.book_model.specs.Words.{DigestClash}
 use Rattle.book_model.proofs.RecordSets.{is, is_itself}
 use Rattle.book_model.proofs.SetChanges.{is_back, IsUnnamed}
 use Rattle.book_model.proofs.SetLemmas.{fails_too}

@@ -10,9 +10,8 @@ use Rattle.std.proofs.lemmas.Option.{same_Some}
 use Rattle.book_model.specs.Words.{identity2_of, Book, open_number, charged_of, is_undisputed, give}
 use Rattle.book_model.specs.Words.{SecondRuleAdopted, Records, Naming, name_of, adopt_answer}
 use Rattle.book_model.specs.Words.{second_rule, Rulings, price_in, identity_by, with_second_rule}
-use Rattle.book_model.specs.Words.{last_close, open_by, members, has, IsSound, AreAmong}
-use Rattle.tariff_rules.specs.declared.priced.Priced.{Priced}
-use Rattle.book_model.specs.declared.answer.Ruled.TheVariants.{Done}
+use Rattle.book_model.specs.Words.{last_close, open_by, members, has, IsSound, AreAmong, Priced}
+use Rattle.book_model.specs.Words.{Done}
 use Rattle.book_model.proofs.AdoptedLemmas.{adoption_takes_nothing, first_adopted}
 use Rattle.book_model.proofs.FilterMapLemmas.{map-filter_map}
 use Rattle.book_model.proofs.RecordSets.{first_of, has_those, in_those}

@@ -3,9 +3,8 @@ use Rattle.std.proofs.Common.{◌≡◌, ℕ, List, [], ◌∷◌, ◌++◌, ref
 use Rattle.std.proofs.Common.{Option, Some, None, arith, ℤ, int_lt, ◌<ℤ◌, MatchOption}
 use Rattle.std.proofs.lemmas.Int.{ints}
 use Rattle.book_model.specs.Words.{Book, all_periods, close, last_close, Records, Period, period_by}
-use Rattle.book_model.specs.Words.{charged_of, charged_through, is_dated_after}
+use Rattle.book_model.specs.Words.{charged_of, charged_through, is_dated_after, is_after}
 use Rattle.book_model.proofs.ListLemmas.{last_or-behind}
-use Rattle.book_core.specs.Effects.{is_after}
 
 -- a record is current: it is dated after the last close of a book
 abbrev pub is_current : Book → List ℕ → Bool

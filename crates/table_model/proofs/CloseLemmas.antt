@@ -5,10 +5,9 @@ use Rattle.std.specs.FinMap.{from_entries}
 use Rattle.std.proofs.lemmas.Bool.{false_from_ne_true}
 use Rattle.std.proofs.lemmas.Cmp.{nat_list_cmp_total}
 use Rattle.std.proofs.lemmas.Map.Lookups.{exact_bytes}
-use Rattle.tariff_rules.specs.declared.priced.Priced.{Priced}
-use Rattle.book_model.specs.Words.{Book, open_number, charged_of, close, IsAfterLastClose, Records}
-use Rattle.book_model.specs.Words.{Naming, name_of, by_bytes, price_in, with_close, members, has}
-use Rattle.book_model.specs.Words.{IsSound}
+use Rattle.book_model.specs.Words.{Priced, Book, open_number, charged_of, close, IsAfterLastClose}
+use Rattle.book_model.specs.Words.{Records, Naming, name_of, by_bytes, price_in, with_close}
+use Rattle.book_model.specs.Words.{members, has, IsSound}
 use Rattle.book_model.proofs.CallLemmas.{calls_go_forward}
 use Rattle.book_model.proofs.FilterMapLemmas.{map-filter_map}
 use Rattle.book_model.proofs.SetChanges.{pick-agree}

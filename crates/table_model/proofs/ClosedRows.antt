@@ -7,8 +7,7 @@ use Rattle.std.proofs.lemmas.List.{map-append}
 use Rattle.book_model.specs.Words.{day_of, Book, open_number, open_period, all_periods, charged_of}
 use Rattle.book_model.specs.Words.{is_dated_through, is_dated_after, close, IsAfterLastClose}
 use Rattle.book_model.specs.Words.{Period, Naming, by_key, prices, last_close, those, IsSound}
-use Rattle.book_model.specs.declared.row.ChargeRow.{ChargeRow}
-use Rattle.book_model.specs.declared.row.RowKey.{RowKey}
+use Rattle.book_model.specs.Words.{ChargeRow, RowKey}
 use Rattle.book_model.proofs.RecordSets.{same_records, has_those}
 use Rattle.table_model.specs.MapChanges.{moved}
 use Rattle.table_model.specs.PeriodRows.{by_period, numbered}

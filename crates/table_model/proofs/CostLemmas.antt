@@ -1,7 +1,6 @@
 -- What a record costs contains its day.
 use Rattle.std.proofs.Common.{◌≡◌, ℕ, List, Some}
-use Rattle.book_model.specs.Words.{day_of, Rulings, price_in, in_force}
-use Rattle.tariff_rules.specs.declared.priced.Priced.{Priced}
+use Rattle.book_model.specs.Words.{day_of, Rulings, price_in, in_force, Priced}
 use Rattle.book_model.proofs.PricingLemmas.{priced_day}
 
 -- a price has the record's day

@@ -12,8 +12,7 @@ use Rattle.std.proofs.lemmas.List.Sorted.{IsPermutation-map, list_any-IsPermutat
 use Rattle.std.proofs.lemmas.Map.Lookups.{exact_bytes}
 use Rattle.book_model.specs.Words.{Book, Naming, Period, Records, all_periods, by_bytes, charged_of}
 use Rattle.book_model.specs.Words.{counted_of, has, is_counted, is_dated_after, is_dated_in}
-use Rattle.book_model.specs.Words.{is_dated_through, members, name_of, set_of, without}
-use Rattle.book_model.specs.RulingAnswers.{through_of}
+use Rattle.book_model.specs.Words.{is_dated_through, members, name_of, set_of, without, through_of}
 use Rattle.book_model.proofs.CountedDays.{counted_at, has_counted_of}
 use Rattle.book_model.proofs.CountedLemmas.{current_is}
 use Rattle.book_model.proofs.MapLemmas.{else_find}

@@ -10,11 +10,10 @@ use Rattle.std.proofs.lemmas.List.Sums.{count_by-le-length, length-filter}
 use Rattle.std.proofs.lemmas.Map.Lookups.{exact_bytes}
 use Rattle.std.proofs.lemmas.Option.{slice_get_within}
 use Rattle.std.proofs.lemmas.Simd.{map-map}
-use Rattle.tariff_rules.specs.declared.priced.Priced.{Priced}
-use Rattle.book_model.specs.Words.{AreAmong, Book, Naming, Period, Terms, all_periods, by_bytes}
-use Rattle.book_model.specs.Words.{charged_of, has, members, most_held, name_of, no_event, open_by}
-use Rattle.book_model.specs.Words.{open_period, period_of, price_by, price_in, rows_if_room, set_of}
-use Rattle.book_model.specs.Words.{those, what_if_answer}
+use Rattle.book_model.specs.Words.{Priced, AreAmong, Book, Naming, Period, Terms, all_periods}
+use Rattle.book_model.specs.Words.{by_bytes, charged_of, has, members, most_held, name_of, no_event}
+use Rattle.book_model.specs.Words.{open_by, open_period, period_of, price_by, price_in}
+use Rattle.book_model.specs.Words.{rows_if_room, set_of, those, what_if_answer, is_day_of}
 use Rattle.book_model.proofs.RowLemmas.{rows_if_room-alike}
 use Rattle.book_model.proofs.SetChanges.{those-agree}
 use Rattle.book_model.proofs.SetLemmas.{members-those, set_of-alike}
@@ -25,7 +24,7 @@ use Rattle.table_model.proofs.CostLemmas.{day-price}
 use Rattle.table_model.proofs.PeriodPlaces.{at_place}
 use Rattle.table_model.proofs.RowsWhere.{rows_where, those_among}
 use Rattle.table_model.specs.BookIn.{row_record}
-use Rattle.table_model.specs.CountedRead.{charged_before_lines, counted_rows, first_line, is_day_of}
+use Rattle.table_model.specs.CountedRead.{charged_before_lines, counted_rows, first_line}
 use Rattle.table_model.specs.CountedRead.{is_row_counted, row_costs}
 use Rattle.table_model.specs.ListLaws.{CountedFollows}
 use Rattle.table_model.specs.Readable.{IsReadable}

@@ -8,10 +8,8 @@ use Rattle.std.specs.FinMap.{FinMap, IsAntisymmetric, get, insert, remove, get-i
 use Rattle.std.specs.FinMap.{nat_cmp-IsAntisymmetric}
 use Rattle.std.proofs.lemmas.Cmp.{nat_list_cmp_total}
 use Rattle.std.proofs.lemmas.Map.Lookups.{exact_bytes}
-use Rattle.tariff_rules.specs.declared.priced.Priced.{Priced}
-use Rattle.book_model.specs.declared.row.ChargeRow.{ChargeRow}
-use Rattle.book_model.specs.declared.row.RowKey.{RowKey}
-use Rattle.book_model.specs.Words.{open_number, name_of, by_bytes, key_of, by_key}
+use Rattle.book_model.specs.Words.{Priced, ChargeRow, RowKey, open_number, name_of, by_bytes}
+use Rattle.book_model.specs.Words.{key_of, by_key, is_after}
 use Rattle.book_model.proofs.MapLemmas.{not_tied}
 use Rattle.book_model.proofs.RowLemmas.{by_key_total, by_key_exact}
 use Rattle.book_core.specs.declared.effects.DayChange.TheVariants.{Add, Take}
@@ -20,7 +18,7 @@ use Rattle.book_core.specs.declared.effects.LineChange.TheVariants.{DropMinus}
 use Rattle.book_core.specs.declared.effects.Member.{Member}
 use Rattle.book_core.specs.declared.effects.View.{View}
 use Rattle.book_core.specs.Effects.{charge, charge_held, charges, choice_effects, effects_by}
-use Rattle.book_core.specs.Effects.{is_after, unmarks}
+use Rattle.book_core.specs.Effects.{unmarks}
 use Rattle.table_model.specs.Differences.{TableKey, OfBook, OfChoice, OfRecord, OfDay, OfLine}
 use Rattle.table_model.specs.Differences.{SameRow, DifferInAtMost}
 use Rattle.table_model.specs.Laws.{AtMostFourDiffer, AtMostFiveDiffer}

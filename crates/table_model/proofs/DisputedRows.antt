@@ -12,11 +12,9 @@ use Rattle.std.proofs.lemmas.List.Sorted.{IsPermutation-sym, IsPermutation-trans
 use Rattle.std.proofs.lemmas.Map.Lookups.{exact_bytes}
 use Rattle.book_model.specs.Words.{variant_with, Book, charged_of, variant_of, Naming, name_of}
 use Rattle.book_model.specs.Words.{by_bytes, identity_by, set_of, members, has, IsSound, Records}
-use Rattle.book_model.specs.Words.{is_undisputed, same_bytes, share_identity}
+use Rattle.book_model.specs.Words.{is_undisputed, same_bytes, share_identity, Priced, Variant}
 use Rattle.book_model.proofs.DisputeLemmas.{disputed_is_uncharged}
 use Rattle.book_model.proofs.ListLemmas.{filter-filter}
-use Rattle.tariff_rules.specs.declared.priced.Priced.{Priced}
-use Rattle.book_model.specs.declared.dispute.Variant.{Variant}
 use Rattle.book_model.proofs.PermutedSets.{apart_from_distinct, given_permuted}
 use Rattle.book_model.proofs.RecordSets.{second_of, in_those, tests_swap}
 use Rattle.book_model.proofs.SetLemmas.{members-those}

@@ -4,15 +4,13 @@ use Rattle.std.proofs.Common.{false, Bool, not, ◌||◌, Option, Some, None, su
 use Rattle.std.proofs.Math.Bool.{or-true}
 use Rattle.std.specs.FinMap.{from_entries}
 use Rattle.std.specs.Option.{option_map_or}
-use Rattle.tariff_rules.specs.declared.priced.Priced.{Priced}
-use Rattle.book_model.specs.declared.row.ChargeRow.{ChargeRow}
-use Rattle.book_model.specs.declared.row.RowKey.{RowKey}
-use Rattle.book_model.specs.Words.{Book, open_number, new_book, is_undisputed, is_counted_in}
-use Rattle.book_model.specs.Words.{is_dated_after, Event, TariffAccepted, PeriodClosed, RecordKept}
-use Rattle.book_model.specs.Words.{RulingGiven, RecordChosen, SecondRuleAdopted, after, give, Terms}
-use Rattle.book_model.specs.Words.{charged_of, chosen_answer, book_after, Records, Naming, name_of}
-use Rattle.book_model.specs.Words.{by_bytes, by_key, row_at, no_rulings, Rulings, price_in}
-use Rattle.book_model.specs.Words.{AcceptedTerms, identity_by, last_close, members, has, those}
+use Rattle.book_model.specs.Words.{Priced, ChargeRow, RowKey, Book, open_number, new_book}
+use Rattle.book_model.specs.Words.{is_undisputed, is_counted_in, is_dated_after, Event}
+use Rattle.book_model.specs.Words.{TariffAccepted, PeriodClosed, RecordKept, RulingGiven}
+use Rattle.book_model.specs.Words.{RecordChosen, SecondRuleAdopted, after, give, Terms, charged_of}
+use Rattle.book_model.specs.Words.{chosen_answer, book_after, Records, Naming, name_of, by_bytes}
+use Rattle.book_model.specs.Words.{by_key, row_at, no_rulings, Rulings, price_in, AcceptedTerms}
+use Rattle.book_model.specs.Words.{identity_by, last_close, members, has, those}
 use Rattle.book_model.proofs.MadeByCallsLemmas.{rulings_are, sound_after}
 use Rattle.book_model.proofs.FilterLemmas.{no_length}
 use Rattle.book_model.proofs.SetChanges.{not_those}

@@ -13,10 +13,7 @@ use Rattle.book_model.specs.Words.{IsDay, IsName, IsPriced, Book, all_periods, o
 use Rattle.book_model.specs.Words.{last_period, Period, Naming, IsUsageRecord, key_of, by_key}
 use Rattle.book_model.specs.Words.{same_key, charged_at, charged_of, AcceptedTerms, AreAmong}
 use Rattle.book_model.specs.Words.{AreHeld, Choice, IsChoiceOf, most_choices, IsRule, first_rule}
-use Rattle.book_model.specs.Words.{second_rule}
-use Rattle.tariff_rules.specs.declared.priced.Priced.{Priced}
-use Rattle.book_model.specs.declared.row.ChargeRow.{ChargeRow}
-use Rattle.book_model.specs.declared.row.RowKey.{RowKey}
+use Rattle.book_model.specs.Words.{second_rule, Priced, ChargeRow, RowKey}
 use Rattle.book_model.proofs.RowLemmas.{by_key_total, by_key_exact, same_key_ties}
 use Rattle.table_model.specs.Tables.{ChoiceRow, RecordRow, never_adopted}
 use Rattle.table_model.specs.TablesOf.{tariff_entries, choice_entries, close_entries, day_entries}

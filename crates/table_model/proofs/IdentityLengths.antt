@@ -1,10 +1,9 @@
 -- The identity of a record that measures work has the length that its parts need, by each rule.
 use Rattle.std.proofs.Common.{◌≡◌, ℕ, List, Option, Some, None, length, inl, inr, ◌⊎◌}
 use Rattle.std.specs.Option.{option_map_or}
-use Rattle.smf_type30.specs.Class.{IsUsage}
-use Rattle.smf_type30.specs.Usage.{identity_of, identity2_of, identity_length, identity2_length}
 use Rattle.smf_type30.proofs.IdentityLength.{identity-long, identity2-long}
-use Rattle.book_model.specs.Words.{Rulings, identity_by}
+use Rattle.book_model.specs.Words.{IsUsage, identity_of, identity2_of, identity_length}
+use Rattle.book_model.specs.Words.{identity2_length, Rulings, identity_by}
 
 -- by the rule in force
 pub identity_by-long : (rulings : Rulings) (bytes : List ℕ) → IsUsage bytes

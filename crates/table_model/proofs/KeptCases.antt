@@ -8,8 +8,7 @@ use Rattle.std.proofs.lemmas.Cmp.{nat_list_cmp_total}
 use Rattle.std.proofs.lemmas.Map.Lookups.{exact_bytes}
 use Rattle.book_model.specs.Words.{Book, open_number, charged_of, charged_now, keep, Records}
 use Rattle.book_model.specs.Words.{Naming, name_of, price_in, identity_by, last_close, has, with}
-use Rattle.book_model.specs.Words.{IsSound, AreAmong}
-use Rattle.tariff_rules.specs.declared.priced.Priced.{Priced}
+use Rattle.book_model.specs.Words.{IsSound, AreAmong, Priced, is_after}
 use Rattle.book_model.proofs.MapLemmas.{get-inserted, insert-insert}
 use Rattle.book_model.proofs.RecordSets.{is, has_with, is_itself, in_those}
 use Rattle.book_model.proofs.SetChanges.{except, IsUnnamed, not_those}
@@ -17,8 +16,7 @@ use Rattle.book_core.specs.declared.effects.DayChange.TheVariants.{Add, Take}
 use Rattle.book_core.specs.declared.effects.LineChange.TheVariants.{AddMinus, AddPlus, DropPlus}
 use Rattle.book_core.specs.declared.effects.Effects.{Effects}
 use Rattle.book_core.specs.declared.effects.Member.{Member}
-use Rattle.book_core.specs.Effects.{charge, charge_held, charges, is_after, no_effects, unmarks}
-use Rattle.book_core.specs.Effects.{withdraw}
+use Rattle.book_core.specs.Effects.{charge, charge_held, charges, no_effects, unmarks, withdraw}
 use Rattle.table_model.specs.RowChanges.{count_where, mark_at}
 use Rattle.table_model.specs.TableChanges.{apply, charge_in, new_row, put_new}
 use Rattle.table_model.specs.Tables.{CountedTable, RecordRow, Tables}

@@ -7,9 +7,8 @@ use Rattle.std.proofs.Math.Bool.{or-false}
 use Rattle.std.proofs.lemmas.Cmp.{nat_list_cmp_total}
 use Rattle.std.proofs.lemmas.Map.Keys.{sorted_head}
 use Rattle.std.proofs.lemmas.Map.Lookups.{exact_bytes}
-use Rattle.tariff_rules.specs.declared.priced.Priced.{Priced}
-use Rattle.book_model.specs.Words.{Book, share_identity, is_chosen, keep, Naming, name_of, by_bytes}
-use Rattle.book_model.specs.Words.{same_bytes, price_in, last_close, has, those, IsSound}
+use Rattle.book_model.specs.Words.{Priced, Book, share_identity, is_chosen, keep, Naming, name_of}
+use Rattle.book_model.specs.Words.{by_bytes, same_bytes, price_in, last_close, has, those, IsSound}
 use Rattle.book_model.proofs.ChargedChanges.{charged-new, charged-alone, charged-only}
 use Rattle.book_model.proofs.ChargedChanges.{charged-stays, charged-chosen}
 use Rattle.book_model.proofs.ChosenLemmas.{new_unchosen}

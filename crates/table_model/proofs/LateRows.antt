@@ -7,11 +7,9 @@ use Rattle.std.proofs.lemmas.Int.{ints}
 use Rattle.std.proofs.lemmas.List.Folds.{fold-map}
 use Rattle.std.proofs.lemmas.List.Sorted.{sum_by-IsPermutation}
 use Rattle.std.proofs.lemmas.List.Sums.{sum_by-cons}
-use Rattle.tariff_rules.specs.declared.priced.Priced.{Priced}
-use Rattle.book_model.specs.Words.{Book, IsSound, Naming, Terms, is_later, last_close, members}
-use Rattle.book_model.specs.Words.{price_in}
+use Rattle.book_model.specs.Words.{Priced, Book, IsSound, Naming, Terms, is_later, last_close}
+use Rattle.book_model.specs.Words.{members, price_in, is_after}
 use Rattle.book_model.proofs.LatestLemmas.{later-after}
-use Rattle.book_core.specs.Effects.{is_after}
 use Rattle.table_model.specs.Tables.{RecordRow, RecordTable}
 use Rattle.table_model.specs.TablesOf.{status_of, tables_of}
 use Rattle.table_model.proofs.CountedHeld.{names_follow}

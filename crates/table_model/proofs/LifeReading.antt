@@ -7,13 +7,10 @@ use Rattle.std.proofs.Common.{length-append}
 use Rattle.std.specs.FinMap.{get}
 use Rattle.std.proofs.lemmas.Bool.{false_from_ne_true}
 use Rattle.std.proofs.lemmas.Option.{slice_get-get_or, slice_get_past}
-use Rattle.tariff_rules.specs.declared.priced.Priced.{Priced}
-use Rattle.book_model.specs.declared.trail.Deed.TheVariants.{Charged, Added, Reversed}
-use Rattle.book_model.specs.declared.trail.Turn.{Turn}
-use Rattle.book_model.specs.Words.{Book, Naming, Period, Records, all_periods, charged_of, day_of}
-use Rattle.book_model.specs.Words.{has, is_dated_after, life_from, life_of, name_of, open_by}
-use Rattle.book_model.specs.Words.{open_period, period_by, period_on, price_in, turn_if, turns_in}
-use Rattle.book_model.specs.Words.{without}
+use Rattle.book_model.specs.Words.{Priced, Charged, Added, Reversed, Turn, Book, Naming, Period}
+use Rattle.book_model.specs.Words.{Records, all_periods, charged_of, day_of, has, is_dated_after}
+use Rattle.book_model.specs.Words.{life_from, life_of, name_of, open_by, open_period, period_by}
+use Rattle.book_model.specs.Words.{period_on, price_in, turn_if, turns_in, without}
 use Rattle.book_model.proofs.MapLemmas.{else_find}
 use Rattle.book_model.proofs.RecordSets.{has_those}
 use Rattle.table_model.specs.TablesOf.{tables_of}

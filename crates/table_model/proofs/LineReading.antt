@@ -10,9 +10,7 @@ use Rattle.std.proofs.lemmas.Map.Lookups.{exact_bytes}
 use Rattle.book_model.specs.Words.{record_with, line_with, Book, all_periods, charged_of, lines_for}
 use Rattle.book_model.specs.Words.{by_line, plus_first, Period, Records, Naming, name_of, by_bytes}
 use Rattle.book_model.specs.Words.{price_in, set_of, members, has, IsSound, AreHeld, AreAmong}
-use Rattle.book_model.specs.Words.{identity_by}
-use Rattle.tariff_rules.specs.declared.priced.Priced.{Priced}
-use Rattle.book_model.specs.declared.line.Line.{Line}
+use Rattle.book_model.specs.Words.{identity_by, Priced, Line}
 use Rattle.book_model.proofs.SortedEntries.{read-entries}
 use Rattle.book_model.proofs.ListLemmas.{filter_map-map}
 use Rattle.book_model.proofs.RecordSets.{is}

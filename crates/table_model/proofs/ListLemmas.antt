@@ -4,10 +4,9 @@ use Rattle.std.proofs.Common.{Bool, not, ◌&&◌, Option, Some, None, Result, O
 use Rattle.std.proofs.Common.{◌≤◌, ◌==◌, nat_le, if◌then◌else◌, slice_get, ok_or, option_map}
 use Rattle.std.proofs.lemmas.Bool.Decides.{nat_tests}
 use Rattle.std.proofs.lemmas.Option.{slice_get-get_or, slice_get_past}
-use Rattle.book_model.specs.declared.fault.LedgerFault.{LedgerFault}
-use Rattle.book_model.specs.declared.fault.LedgerFault.TheVariants.{NoSuchPeriod}
-use Rattle.book_model.specs.Words.{Book, open_number, open_period, period_of, lines_of, no_event}
-use Rattle.book_model.specs.Words.{AreHeld, IsSound, Naming, Period, all_periods, rows_for}
+use Rattle.book_model.specs.Words.{LedgerFault, NoSuchPeriod, Book, open_number, open_period}
+use Rattle.book_model.specs.Words.{period_of, lines_of, no_event, AreHeld, IsSound, Naming, Period}
+use Rattle.book_model.specs.Words.{all_periods, rows_for}
 use Rattle.table_model.specs.PeriodLists.{rows_read, lines_read}
 use Rattle.table_model.specs.TablesOf.{tables_of}
 use Rattle.table_model.proofs.HeldPeriods.{all_held, one_of}

@@ -6,15 +6,12 @@ use Rattle.std.specs.FinMap.{contains_key, get, keys}
 use Rattle.std.specs.List.{list_any}
 use Rattle.std.proofs.lemmas.Bool.{false_from_ne_true}
 use Rattle.std.proofs.lemmas.Option.{same_Some}
-use Rattle.tariff_rules.specs.declared.priced.Priced.{Priced}
-use Rattle.book_model.specs.Words.{Book, IsSound, Naming, Rulings, Terms, day_of, has}
+use Rattle.book_model.specs.Words.{Priced, Book, IsSound, Naming, Rulings, Terms, day_of, has}
 use Rattle.book_model.specs.Words.{is_dated_after, last_close, name_of, open_number, price_by}
-use Rattle.book_model.specs.Words.{price_in, record_with, terms_answer, with_tariff}
-use Rattle.book_model.specs.declared.answer.Ruled.TheVariants.{Done}
+use Rattle.book_model.specs.Words.{price_in, record_with, terms_answer, with_tariff, Done, is_after}
 use Rattle.book_model.proofs.TestLemmas.{tariff_passes}
 use Rattle.book_model.proofs.PricingLemmas.{price_in-behind}
 use Rattle.book_model.proofs.RecordSets.{is}
-use Rattle.book_core.specs.Effects.{is_after}
 use Rattle.table_model.specs.PeriodLists.{AreFramed}
 use Rattle.table_model.specs.TableChanges.{reprice, reprice_step, walk}
 use Rattle.table_model.specs.Tables.{RecordRow, RecordTable, Tables}

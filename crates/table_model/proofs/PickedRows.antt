@@ -6,9 +6,7 @@ use Rattle.std.proofs.lemmas.Cmp.{nat_list_cmp_total}
 use Rattle.std.proofs.lemmas.Map.Lookups.{exact_bytes}
 use Rattle.std.proofs.lemmas.Map.Views.{tells_apart}
 use Rattle.book_model.specs.Words.{day_of, Records, key_of, by_key, same_key, Rulings, price_in}
-use Rattle.book_model.specs.Words.{prices, members, those}
-use Rattle.tariff_rules.specs.declared.priced.Priced.{Priced}
-use Rattle.book_model.specs.declared.row.RowKey.{RowKey}
+use Rattle.book_model.specs.Words.{prices, members, those, Priced, RowKey}
 use Rattle.book_model.proofs.RowLemmas.{same_key_ties, by_key_exact}
 use Rattle.book_model.proofs.SetLemmas.{members-those}
 use Rattle.table_model.proofs.CostLemmas.{day-price}

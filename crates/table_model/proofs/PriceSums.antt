@@ -1,16 +1,15 @@
 -- What some of the records that are held cost together.
-use Rattle.std.proofs.Common.{◌≡◌, ℕ, List, [], ◌∷◌, length, refl, sym, ap, ◌∙◌, subst, true}
-use Rattle.std.proofs.Common.{false, Bool, cond, Option, Some, None, arith}
-use Rattle.std.specs.Prelude.{◌<◌, ◌≤◌, ◌^◌, filter, sum_by, All}
-use Rattle.std.specs.List.{filter_map, cons_option}
+use Rattle.std.proofs.Common.{◌≡◌, ℕ, List, [], ◌∷◌, length, refl, sym, ap, ◌∙◌, subst, true, false}
+use Rattle.std.proofs.Common.{Bool, cond, Option, Some, None, arith, ◌<◌, ◌≤◌, ◌^◌, filter, sum_by}
+use Rattle.std.proofs.Common.{All, filter_map}
+use Rattle.std.specs.List.{cons_option}
 use Rattle.std.specs.Option.{option_map_or}
 use Rattle.std.proofs.lemmas.Cmp.{nat_list_cmp_total}
 use Rattle.std.proofs.lemmas.List.Elements.{All-nil, All-cons}
 use Rattle.std.proofs.lemmas.List.Sums.{sum_by-le, sum_by-le-sum_by}
 use Rattle.std.proofs.lemmas.Map.Lookups.{exact_bytes}
 use Rattle.book_model.specs.Words.{IsPriced, Book, most_held, Records, Naming, price_in, prices}
-use Rattle.book_model.specs.Words.{members, has, AreAmong}
-use Rattle.tariff_rules.specs.declared.priced.Priced.{Priced}
+use Rattle.book_model.specs.Words.{members, has, AreAmong, Priced}
 use Rattle.book_model.proofs.SetLemmas.{members-those}
 use Rattle.book_model.proofs.SumsAlike.{sum_by-filter, sum_by-filter_map, length-sum_by}
 use Rattle.table_model.proofs.RowsWhere.{AreMembers, first_held, members_held, others_held}

@@ -12,10 +12,8 @@ use Rattle.book_model.specs.Words.{SecondRuleAdopted, TariffAccepted, Terms, acc
 use Rattle.book_model.specs.Words.{accept_priced, after, give, choose_answer, chosen_answer, close}
 use Rattle.book_model.specs.Words.{close_answer, keep, last_close, members, most_choices, most_cost}
 use Rattle.book_model.specs.Words.{most_held, name_of, open_by, open_number, period_by, price_in}
-use Rattle.book_model.specs.Words.{record_named, terms_answer, total_of, with, with_tariff}
-use Rattle.book_model.specs.declared.answer.Accepted.TheVariants.{Kept}
-use Rattle.book_model.specs.declared.answer.Ruled.TheVariants.{Done}
-use Rattle.book_model.specs.declared.fault.LedgerFault.TheVariants.{Full}
+use Rattle.book_model.specs.Words.{record_named, terms_answer, total_of, with, with_tariff, Kept}
+use Rattle.book_model.specs.Words.{Done, Full}
 use Rattle.book_model.proofs.CallLemmas.{calls_go_forward}
 use Rattle.book_model.proofs.LatestLemmas.{later-before, rising-behind}
 use Rattle.book_model.proofs.ListLemmas.{slice_get-front}

@@ -7,9 +7,8 @@ use Rattle.std.specs.Option.{option_map_or}
 use Rattle.std.proofs.lemmas.Cmp.{nat_list_cmp_total}
 use Rattle.std.proofs.lemmas.List.Sums.{sum_by-cons}
 use Rattle.std.proofs.lemmas.Map.Lookups.{exact_bytes}
-use Rattle.tariff_rules.specs.declared.priced.Priced.{Priced}
-use Rattle.book_model.specs.Words.{total_of, Records, Naming, name_of, by_bytes, Rulings, price_in}
-use Rattle.book_model.specs.Words.{prices, members, has, with}
+use Rattle.book_model.specs.Words.{Priced, total_of, Records, Naming, name_of, by_bytes, Rulings}
+use Rattle.book_model.specs.Words.{price_in, prices, members, has, with}
 use Rattle.book_model.proofs.FilterMapLemmas.{find-insert_key, find-none}
 use Rattle.book_model.proofs.MapLemmas.{from_entries-insert}
 use Rattle.book_model.proofs.RecordSets.{is}

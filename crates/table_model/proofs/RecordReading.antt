@@ -6,9 +6,8 @@ use Rattle.std.specs.List.{AllByRecursion}
 use Rattle.std.proofs.lemmas.Cmp.{nat_list_cmp_total}
 use Rattle.std.proofs.lemmas.Map.Lookups.{exact_bytes}
 use Rattle.std.proofs.lemmas.Simd.{map-map}
-use Rattle.tariff_rules.specs.declared.priced.Priced.{Priced}
-use Rattle.book_model.specs.Words.{Book, charged_of, Naming, name_of, by_bytes, price_in, set_of}
-use Rattle.book_model.specs.Words.{members, has, those, IsSound}
+use Rattle.book_model.specs.Words.{Priced, Book, charged_of, Naming, name_of, by_bytes, price_in}
+use Rattle.book_model.specs.Words.{set_of, members, has, those, IsSound}
 use Rattle.book_model.proofs.ListLemmas.{filter-map}
 use Rattle.book_model.proofs.RecordSets.{same_records, has_those}
 use Rattle.book_model.proofs.SetLemmas.{set_of-alike}

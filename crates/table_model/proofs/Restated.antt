@@ -10,15 +10,11 @@ use Rattle.std.proofs.lemmas.Map.Lookups.{exact_bytes}
 use Rattle.std.proofs.lemmas.Map.Views.{tells_apart}
 use Rattle.book_model.specs.Words.{day_of, data_of, Book, open_number, is_dated_after, Records}
 use Rattle.book_model.specs.Words.{Naming, name_of, by_bytes, last_close, has, those, IsSound}
-use Rattle.book_model.specs.Words.{AreAmong}
-use Rattle.tariff_rules.specs.declared.priced.Priced.{Priced}
-use Rattle.book_model.specs.declared.row.ChargeRow.{ChargeRow}
-use Rattle.book_model.specs.declared.row.RowKey.{RowKey}
+use Rattle.book_model.specs.Words.{AreAmong, Priced, ChargeRow, RowKey, is_after}
 use Rattle.book_model.proofs.ListLemmas.{map-agree}
 use Rattle.book_model.proofs.MapLemmas.{else_find, find-both, insert-insert, get-inserted}
 use Rattle.book_model.proofs.RecordSets.{is, is_itself, same_records, has_those, in_those}
 use Rattle.book_model.proofs.SetChanges.{pick-agree, except, not_new, with-except, has-except}
-use Rattle.book_core.specs.Effects.{is_after}
 use Rattle.table_model.specs.PeriodRows.{numbered}
 use Rattle.table_model.proofs.RestatedRows.{line_by, line_in, is_counted, part_row, join_row}
 use Rattle.table_model.proofs.RestatedRows.{set_counted, set_line, restate}

@@ -1,11 +1,10 @@
 -- The rows of a book's records that pass a test: they are those of the records that pass another.
 use Rattle.std.proofs.Common.{◌≡◌, ℕ, suc, List, [], ◌∷◌, length, refl, sym, ap, ◌∙◌, subst, true}
-use Rattle.std.proofs.Common.{false, true≢false, Bool, ◌&&◌, ◌||◌, Option, Some, None}
-use Rattle.std.specs.Prelude.{Contains, IsSome, filter, ◌==◌}
+use Rattle.std.proofs.Common.{false, true≢false, Bool, ◌&&◌, ◌||◌, Option, Some, None, Contains}
+use Rattle.std.proofs.Common.{IsSome, filter, ◌==◌, filter_map, IsPermutation, option_map}
 use Rattle.std.specs.FinMap.{entries}
-use Rattle.std.specs.List.{list_any, filter_map, cons_option}
-use Rattle.std.specs.List.Sorted.{IsPermutation, IsStrictlySortedBy}
-use Rattle.std.specs.Option.{option_map}
+use Rattle.std.specs.List.{list_any, cons_option}
+use Rattle.std.specs.List.Sorted.{IsStrictlySortedBy}
 use Rattle.std.proofs.Math.Bool.{or-true}
 use Rattle.std.proofs.lemmas.Cmp.{nat_list_cmp_total, eq_by_cmp_equiv}
 use Rattle.std.proofs.lemmas.List.Folds.{Any-from_list_any}
@@ -14,9 +13,9 @@ use Rattle.std.proofs.lemmas.List.Sums.{length-filter}
 use Rattle.std.proofs.lemmas.Map.Keys.{sorted_tail}
 use Rattle.std.proofs.lemmas.Map.Lookups.{exact_bytes}
 use Rattle.std.proofs.lemmas.Map.Views.{list_any-from_Contains}
-use Rattle.tariff_rules.specs.declared.priced.Priced.{Priced}
-use Rattle.book_model.specs.Words.{Book, Records, Naming, name_of, by_bytes, identity_by}
-use Rattle.book_model.specs.Words.{is_unrivalled, members, has, those, same_bytes, IsSound, AreAmong}
+use Rattle.book_model.specs.Words.{Priced, Book, Records, Naming, name_of, by_bytes, identity_by}
+use Rattle.book_model.specs.Words.{is_unrivalled, members, has, those, same_bytes, IsSound}
+use Rattle.book_model.specs.Words.{AreAmong}
 use Rattle.book_model.proofs.FilterLemmas.{Apart, permuted_one, filter-filter_map}
 use Rattle.book_model.proofs.FilterLemmas.{filter-from_entries}
 use Rattle.book_model.proofs.RecordSets.{is, is_first, has_those, same_records, second_of}

@@ -6,8 +6,7 @@ use Rattle.std.specs.List.{list_any}
 use Rattle.std.proofs.lemmas.Option.{same_Some}
 use Rattle.book_model.specs.Words.{day_of, Terms, IsPriced, price_by, Book, charged_of, Naming}
 use Rattle.book_model.specs.Words.{name_of, has_text, Rulings, is_effective, is_later, is_too_dear}
-use Rattle.book_model.specs.Words.{terms_answer, most_cost, with_tariff, has, IsSound}
-use Rattle.book_model.specs.declared.answer.Ruled.TheVariants.{Done}
+use Rattle.book_model.specs.Words.{terms_answer, most_cost, with_tariff, has, IsSound, Done}
 use Rattle.book_model.proofs.LatestLemmas.{later-before, later_price}
 use Rattle.book_model.proofs.PricingLemmas.{price_in-behind}
 use Rattle.book_model.proofs.TestLemmas.{by_tests, tariff_passes}

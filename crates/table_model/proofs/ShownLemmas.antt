@@ -11,9 +11,7 @@ use Rattle.std.proofs.lemmas.List.Folds.{fold-map}
 use Rattle.std.proofs.lemmas.List.Sums.{sum_by-cons, sum_by-append}
 use Rattle.book_model.specs.Words.{IsDay, Book, most_cost, AreLines, lines_for, lines_of, Records}
 use Rattle.book_model.specs.Words.{Naming, name_of, FitSums, AreRows, AreAmong, price_in, set_of}
-use Rattle.book_model.specs.Words.{members, line_with}
-use Rattle.tariff_rules.specs.declared.priced.Priced.{Priced}
-use Rattle.book_model.specs.declared.line.Line.{Line}
+use Rattle.book_model.specs.Words.{members, line_with, Priced, Line}
 use Rattle.book_model.proofs.FilterMapLemmas.{map-filter_map}
 use Rattle.book_model.proofs.LineOrder.{by_line_total}
 use Rattle.book_model.proofs.SetLemmas.{members-empty, members-with}

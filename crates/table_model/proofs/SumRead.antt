@@ -8,8 +8,7 @@ use Rattle.std.proofs.lemmas.List.Sorted.{sum_by-IsPermutation}
 use Rattle.std.proofs.lemmas.List.Sums.{sum_by-cons}
 use Rattle.book_model.specs.Words.{day_of, Terms, price_by, total_of, Book, charged_of, Records}
 use Rattle.book_model.specs.Words.{Naming, name_of, is_later, price_in, with_tariff, identity_by}
-use Rattle.book_model.specs.Words.{members, has, IsSound}
-use Rattle.tariff_rules.specs.declared.priced.Priced.{Priced}
+use Rattle.book_model.specs.Words.{members, has, IsSound, Priced}
 use Rattle.book_model.proofs.PricingLemmas.{price_in-behind}
 use Rattle.table_model.specs.Laws.{SumIsRead}
 use Rattle.table_model.specs.PeriodLists.{AreFramed}

@@ -13,9 +13,7 @@ use Rattle.book_model.specs.Words.{day_of, Terms, price_by, total_of, Book, open
 use Rattle.book_model.specs.Words.{is_dated_after, is_undisputed, give, TariffAccepted, Records}
 use Rattle.book_model.specs.Words.{Naming, name_of, is_effective, terms_answer, Rulings}
 use Rattle.book_model.specs.Words.{AcceptedTerms, price_in, with_tariff, identity_by, last_close}
-use Rattle.book_model.specs.Words.{has, IsSound, AreAmong}
-use Rattle.tariff_rules.specs.declared.priced.Priced.{Priced}
-use Rattle.book_model.specs.declared.answer.Ruled.TheVariants.{Done}
+use Rattle.book_model.specs.Words.{has, IsSound, AreAmong, Priced, Done, is_after}
 use Rattle.book_model.proofs.CallLemmas.{calls_go_forward}
 use Rattle.book_model.proofs.PricingLemmas.{price_in-behind}
 use Rattle.book_model.proofs.RecordSets.{in_those}
@@ -27,7 +25,6 @@ use Rattle.table_model.specs.Steps.{put_tariff_row, set_sums}
 use Rattle.table_model.specs.TableChanges.{walk, reprice, reprice_step}
 use Rattle.table_model.specs.Tables.{RecordRow, Tables}
 use Rattle.table_model.specs.TablesOf.{RecordStatus, tariff_entries, tables_of, tables_at}
-use Rattle.book_core.specs.Effects.{is_after}
 use Rattle.table_model.proofs.CostLemmas.{day-price}
 use Rattle.table_model.proofs.Restated.{IsStatus, row_for, status_at}
 use Rattle.table_model.proofs.StatusSteps.{reprice-is, status-is}

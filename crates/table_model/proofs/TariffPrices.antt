@@ -2,8 +2,7 @@
 use Rattle.std.proofs.Common.{◌≡◌, ℕ, List, false, Some, Ok, int_lt}
 use Rattle.std.specs.List.{list_any}
 use Rattle.book_model.specs.Words.{day_of, Terms, price_by, Book, is_effective, terms_answer}
-use Rattle.book_model.specs.Words.{Rulings, price_in, with_tariff}
-use Rattle.book_model.specs.declared.answer.Ruled.TheVariants.{Done}
+use Rattle.book_model.specs.Words.{Rulings, price_in, with_tariff, Done}
 use Rattle.book_model.proofs.LatestLemmas.{later-before, later_price}
 use Rattle.book_model.proofs.TestLemmas.{tariff_passes}
 

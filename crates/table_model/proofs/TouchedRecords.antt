@@ -3,10 +3,9 @@ use Rattle.std.proofs.Common.{◌≡◌, ◌∙◌, ℕ, List, Bool, true, false
 use Rattle.std.proofs.Common.{is_some, refl, sym, ap, ℤ}
 use Rattle.std.specs.FinMap.{contains_key, get}
 use Rattle.std.proofs.lemmas.Bool.{false_from_ne_true}
-use Rattle.tariff_rules.specs.declared.priced.Priced.{Priced}
-use Rattle.book_core.specs.Effects.{is_after}
-use Rattle.book_model.specs.Words.{AreAmong, Book, IsSound, Naming, charged_of, has, is_dated_after}
-use Rattle.book_model.specs.Words.{is_undisputed, last_close, name_of, open_number, price_in}
+use Rattle.book_model.specs.Words.{Priced, is_after, AreAmong, Book, IsSound, Naming, charged_of}
+use Rattle.book_model.specs.Words.{has, is_dated_after, is_undisputed, last_close, name_of}
+use Rattle.book_model.specs.Words.{open_number, price_in}
 use Rattle.book_model.proofs.RecordSets.{in_those}
 use Rattle.table_model.specs.PostedLaws.{PostsFew, is_touched}
 use Rattle.table_model.specs.Tables.{RecordRow, Tables}

@@ -5,13 +5,11 @@ use Rattle.std.specs.FinMap.{get}
 use Rattle.std.proofs.lemmas.Cmp.{nat_list_eq_equiv}
 use Rattle.std.proofs.lemmas.List.Elements.{All-weaker}
 use Rattle.std.proofs.lemmas.Simd.{map-map}
-use Rattle.tariff_rules.specs.declared.priced.Priced.{Priced}
-use Rattle.tariff_rules.specs.declared.reckoning.Reckoning.{Reckoning}
-use Rattle.book_model.specs.declared.fault.LedgerFault.TheVariants.{NoSuchRecord}
-use Rattle.book_model.specs.Words.{Book, Choice, IsChoiceOf, IsSound, Naming, choice_named}
-use Rattle.book_model.specs.Words.{charged_of, choices_among, has, identity_by, name_of, no_event}
-use Rattle.book_model.specs.Words.{period_on, price_in, reckoning_in, record_named, same_bytes}
-use Rattle.book_model.specs.Words.{share_identity, trail_by, trail_of, trail_outcome}
+use Rattle.book_model.specs.Words.{Priced, Reckoning, NoSuchRecord, Book, Choice, IsChoiceOf}
+use Rattle.book_model.specs.Words.{IsSound, Naming, choice_named, charged_of, choices_among, has}
+use Rattle.book_model.specs.Words.{identity_by, name_of, no_event, period_on, price_in}
+use Rattle.book_model.specs.Words.{reckoning_in, record_named, same_bytes, share_identity, trail_by}
+use Rattle.book_model.specs.Words.{trail_of, trail_outcome}
 use Rattle.book_model.proofs.ListLemmas.{filter-agree, filter-map}
 use Rattle.book_model.proofs.SoundLemmas.{named_held}
 use Rattle.book_core.proofs.NamedLemmas.{is_some-named, its_name}

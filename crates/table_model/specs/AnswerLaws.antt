@@ -5,9 +5,7 @@ use Rattle.std.specs.FinMap.{get, keys}
 use Rattle.std.specs.List.{last_or}
 use Rattle.book_model.specs.Words.{Terms, accept_answer, Book, choose_answer, Naming, IsUsageRecord}
 use Rattle.book_model.specs.Words.{terms_answer, price_by, IsPriced, with_tariff, first_rule}
-use Rattle.book_model.specs.Words.{second_rule, identity2_length}
-use Rattle.tariff_rules.specs.declared.priced.Priced.{Priced}
-use Rattle.book_model.specs.declared.answer.Ruled.TheVariants.{Done}
+use Rattle.book_model.specs.Words.{second_rule, identity2_length, Priced, Done}
 use Rattle.book_core.specs.Effects.{effects_of}
 use Rattle.table_model.specs.RowChanges.{by_second_rule}
 use Rattle.table_model.specs.Tables.{ChoiceTable, RecordRow, RecordTable, never_adopted}

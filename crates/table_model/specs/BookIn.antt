@@ -5,8 +5,7 @@ use Rattle.std.specs.Prelude.{slice_get, filter_map, option_map, option_and_then
 use Rattle.std.specs.FinMap.{get, entries, values}
 use Rattle.book_model.specs.Words.{record_with, terms_in, Terms, Book, is_dated_after, Period}
 use Rattle.book_model.specs.Words.{Records, by_bytes, Rulings, AcceptedTerms, second_rule, set_of}
-use Rattle.book_model.specs.Words.{Choice, members, those, without}
-use Rattle.tariff_rules.specs.declared.fault.TariffFault.{TariffFault}
+use Rattle.book_model.specs.Words.{Choice, members, those, without, TariffFault}
 use Rattle.table_model.specs.PeriodRows.{rows_under}
 use Rattle.table_model.specs.Tables.{BookRow, ChoiceRow, RecordRow, RecordTable, Tables}
 

@@ -1,19 +1,16 @@
 -- Which records a period counts, and what it would have cost by another tariff, as they are read
 -- from the tables. What a closed period counted is not stored; it is told from what is charged now
 -- and from the lines of the later periods.
-use Rattle.std.specs.Prelude.{ℕ, zero, suc, ◌-◌, Bool, not, ◌&&◌, if◌then◌else◌, List}
-use Rattle.std.specs.Prelude.{map, filter, Option, None, Result, Err}
+use Rattle.std.specs.Prelude.{ℕ, zero, suc, ◌-◌, Bool, not, ◌&&◌, if◌then◌else◌, List, map, filter}
+use Rattle.std.specs.Prelude.{Option, None, Result, Err}
 use Rattle.std.specs.FinMap.{entries, get}
 use Rattle.std.specs.Option.{option_map_or, option_or}
-use Rattle.book_model.specs.declared.fault.LedgerFault.{LedgerFault}
-use Rattle.book_model.specs.declared.fault.LedgerFault.TheVariants.{NoSuchPeriod}
-use Rattle.book_model.specs.declared.row.ChargeRow.{ChargeRow}
-use Rattle.book_model.specs.Words.{Rulings, Terms, open_by, price_by, rows_if_room}
-pub use Rattle.book_model.specs.Details.{is_day_of}
-use Rattle.tariff_rules.specs.declared.priced.Priced.{Priced}
+use Rattle.book_model.specs.Words.{LedgerFault, NoSuchPeriod, ChargeRow, Rulings, Terms, open_by}
+use Rattle.book_model.specs.Words.{price_by, rows_if_room, Priced}
 use Rattle.table_model.specs.Tables.{LineTable, RecordRow, Tables}
 use Rattle.table_model.specs.BookIn.{row_record}
 use Rattle.table_model.specs.ListsRead.{is_period}
+pub use Rattle.book_model.specs.Details.{is_day_of}
 
 -- The first line that a record has in some periods, of which the first has this number, if it has
 -- one: whether it is a plus line.

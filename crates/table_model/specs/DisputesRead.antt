@@ -5,9 +5,8 @@ use Rattle.std.specs.FinMap.{entries, get}
 use Rattle.std.specs.List.{list_any}
 use Rattle.std.specs.Ordering.{ordering_then}
 use Rattle.std.specs.declared.cmp.Ordering.{Ordering}
-use Rattle.book_model.specs.Words.{record_with, Disputed, variant_with}
-use Rattle.book_model.specs.Words.{by_bytes, is_from, same_bytes, set_of, members}
-use Rattle.book_model.specs.declared.dispute.Variant.{Variant}
+use Rattle.book_model.specs.Words.{record_with, Disputed, variant_with, by_bytes, is_from}
+use Rattle.book_model.specs.Words.{same_bytes, set_of, members, Variant}
 use Rattle.table_model.specs.Tables.{RecordRow, RecordTable, Tables}
 use Rattle.table_model.specs.Views.{rows_with}
 

@@ -3,8 +3,7 @@ use Rattle.std.specs.Prelude.{◌≡◌, ℕ, true, List, [], ◌∷◌, Some, N
 use Rattle.book_model.specs.Words.{IsDay, IsPriced, terms_in, Terms, IsMadeByCalls, Book, Event}
 use Rattle.book_model.specs.Words.{RecordKept, PeriodClosed, RulingGiven, TariffAccepted}
 use Rattle.book_model.specs.Words.{book_after, Naming, IsUsageRecord, Records, Rulings, has}
-use Rattle.book_model.specs.Words.{price_in, with_tariff}
-use Rattle.tariff_rules.specs.declared.priced.Priced.{Priced}
+use Rattle.book_model.specs.Words.{price_in, with_tariff, Priced}
 
 -- A record that a call submits: it measures work, and its price is within the limits.
 pub record IsSubmitted (rulings : Rulings) (bytes : List ℕ) : Type 0 where

@@ -2,8 +2,7 @@
 -- all of them in its charge rows or among its lines.
 use Rattle.std.specs.Prelude.{◌≡◌, ℕ, ℤ, Bool, false, if◌then◌else◌, List, Option, Some}
 use Rattle.std.specs.FinMap.{contains_key, get}
-use Rattle.book_core.specs.Effects.{is_after}
-use Rattle.book_model.specs.Words.{Book, IsSound, Naming, last_close, open_number}
+use Rattle.book_model.specs.Words.{is_after, Book, IsSound, Naming, last_close, open_number}
 use Rattle.table_model.specs.Tables.{RecordRow, Tables}
 use Rattle.table_model.specs.TablesOf.{tables_of}
 

@@ -6,8 +6,7 @@ use Rattle.std.specs.Ordering.{int_cmp}
 use Rattle.book_model.specs.Words.{IsDay, IsPriced, terms_in, total_of, Book, most_held, most_cost}
 use Rattle.book_model.specs.Words.{last_period, Period, period_by, Records, Naming, IsUsageRecord}
 use Rattle.book_model.specs.Words.{AcceptedTerms, price_in, are_rising, members, has, IsSound}
-use Rattle.book_model.specs.Words.{AreDatedThrough, Choice, most_choices, open_number}
-use Rattle.tariff_rules.specs.declared.priced.Priced.{Priced}
+use Rattle.book_model.specs.Words.{AreDatedThrough, Choice, most_choices, open_number, Priced}
 use Rattle.table_model.specs.PeriodLists.{HasLines}
 use Rattle.table_model.specs.BookIn.{close_after}
 

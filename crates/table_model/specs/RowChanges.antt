@@ -2,21 +2,19 @@
 -- joins or leaves, and which a close may move; to a line; to the name of a record that the charge
 -- rows count; and to a record's row, where the record
 -- becomes charged or is so no more, costs something else, is posted, or gets another identity.
-use Rattle.std.specs.Prelude.{ℕ, ℤ, suc, ◌-◌, ◌==◌, int_lt, Bool, true, false, ◌&&◌}
-use Rattle.std.specs.Prelude.{if◌then◌else◌, List, [], Option, Some, None, unwrap_or}
+use Rattle.std.specs.Prelude.{ℕ, ℤ, suc, ◌-◌, ◌==◌, int_lt, Bool, true, false, ◌&&◌, if◌then◌else◌}
+use Rattle.std.specs.Prelude.{List, [], Option, Some, None, unwrap_or}
 use Rattle.std.specs.FinMap.{get, insert, remove}
 use Rattle.std.specs.Option.{option_map_or}
-use Rattle.tariff_rules.specs.declared.priced.Priced.{Priced}
-use Rattle.book_model.specs.declared.row.ChargeRow.{ChargeRow}
-use Rattle.book_model.specs.declared.row.RowKey.{RowKey}
-use Rattle.book_model.specs.Words.{identity2_of, key_of, record_with, row_at}
+use Rattle.book_model.specs.Words.{Priced, ChargeRow, RowKey, identity2_of, key_of, record_with}
+use Rattle.book_model.specs.Words.{row_at}
 use Rattle.book_core.specs.KeyedRows.{with_price}
 use Rattle.book_core.specs.declared.effects.DayChange.{DayChange}
 use Rattle.book_core.specs.declared.effects.DayChange.TheVariants.{Add, Take}
 use Rattle.book_core.specs.declared.effects.Effects.{Effects}
 use Rattle.book_core.specs.declared.effects.LineChange.{LineChange}
-use Rattle.book_core.specs.declared.effects.LineChange.TheVariants.{AddPlus, DropPlus}
-use Rattle.book_core.specs.declared.effects.LineChange.TheVariants.{AddMinus, DropMinus}
+use Rattle.book_core.specs.declared.effects.LineChange.TheVariants.{AddPlus, DropPlus, AddMinus}
+use Rattle.book_core.specs.declared.effects.LineChange.TheVariants.{DropMinus}
 use Rattle.table_model.specs.Tables.{CountedTable, DayTable, LineTable, RecordRow, RecordTable}
 
 -- the charge row with one price less

@@ -5,8 +5,7 @@ use Rattle.std.specs.Prelude.{[], ◌∷◌, Option}
 use Rattle.std.specs.FinMap.{get, insert, keys}
 use Rattle.std.specs.Option.{option_map_or}
 use Rattle.book_model.specs.Words.{data_of, record_with, price_by, Terms, Rulings, identity_by}
-use Rattle.book_model.specs.Words.{open_by}
-use Rattle.tariff_rules.specs.declared.priced.Priced.{Priced}
+use Rattle.book_model.specs.Words.{open_by, Priced}
 use Rattle.book_core.specs.Effects.{charge_held}
 use Rattle.book_core.specs.declared.effects.ChoiceEffects.{ChoiceEffects}
 use Rattle.book_core.specs.declared.effects.Effects.{Effects}

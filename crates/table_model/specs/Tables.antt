@@ -2,9 +2,7 @@
 use Rattle.std.specs.Prelude.{ℕ, Bool, List, Option, ℤ}
 use Rattle.std.specs.FinMap.{FinMap}
 use Rattle.std.specs.Ordering.{nat_cmp, int_cmp}
-use Rattle.tariff_rules.specs.declared.priced.Priced.{Priced}
-use Rattle.book_model.specs.declared.row.ChargeRow.{ChargeRow}
-use Rattle.book_model.specs.Words.{by_bytes, by_key}
+use Rattle.book_model.specs.Words.{Priced, ChargeRow, by_bytes, by_key}
 use Rattle.table_model.specs.PeriodRows.{by_period}
 pub use Rattle.book_model.specs.RulingAnswers.{first_rule}
 

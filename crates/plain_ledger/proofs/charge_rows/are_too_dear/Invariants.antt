@@ -1,6 +1,5 @@
 use Rattle.std.proofs.Common.{◌≡◌, ◌≤◌, take, sum_by}
-use Rattle.tariff_rules.specs.declared.priced.Priced.{Priced}
-use Rattle.book_model.specs.Words.{most_cost}
+use Rattle.book_model.specs.Words.{Priced, most_cost}
 use Rattle.plain_ledger.proofs.charge_rows.are_too_dear.Given as goal
 
 -- what the prices so far come to, which the books hold

@@ -1,8 +1,7 @@
 use Rattle.std.proofs.Common.{◌≡◌, ◌∙◌, List, length, sym, ap, subst, map, Bool, Ok, Option}
 use Rattle.std.specs.List.{IsDistinct}
-use Rattle.book_model.specs.declared.detail.Detail.{Detail}
-use Rattle.book_model.specs.Words.{Period, ShowsDetail, by_detail, details_asked, details_of}
-use Rattle.book_model.specs.Words.{members, next_after, period_of, same_bytes, set_of}
+use Rattle.book_model.specs.Words.{Detail, Period, ShowsDetail, by_detail, details_asked}
+use Rattle.book_model.specs.Words.{details_of, members, next_after, period_of, same_bytes, set_of}
 use Rattle.book_model.proofs.DetailOrder.{next_asked}
 use Rattle.plain_ledger.specs.Plain.{Entry}
 use Rattle.plain_ledger.specs.PlainBook.{book_in, naming_in}
@@ -13,8 +12,8 @@ use Rattle.plain_ledger.proofs.LineLemmas.{written_over}
 use Rattle.plain_ledger.proofs.PlainDetailLemmas.{all_dated, details_for-where, found_dated}
 use Rattle.plain_ledger.proofs.PlainDetailLemmas.{names_apart, own_details}
 use Rattle.plain_ledger.proofs.plain.PlainLedger.detail_after.Given.{Over}
-use Rattle.plain_ledger.proofs.plain.PlainLedger.detail_after.Goals as goal
 use Rattle.plain_ledger.proofs.plain.PlainLedger.detail_after.Goals.{After-next_of}
+use Rattle.plain_ledger.proofs.plain.PlainLedger.detail_after.Goals as goal
 
 pub sort_details-requires : goal.sort_details-requires
 sort_details-requires g c =
