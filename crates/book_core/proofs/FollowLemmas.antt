@@ -10,12 +10,10 @@ use Rattle.book_model.specs.Words.{IsAnswered, IsMadeByCalls, choose_answer, cho
 use Rattle.book_model.specs.Words.{record_named, adopt_answer, adopt_outcome, rule_by, second_rule}
 use Rattle.book_model.specs.Words.{TariffFault, LedgerFault, Memory, Store, Reopen, OldRule}
 use Rattle.book_model.specs.Words.{Accepted, Kept, Known, Unpriced, Ruled, Done, Already}
-use Rattle.book_model.proofs.StepLemmas.{books_follow_history}
-use Rattle.book_model.proofs.TestLemmas.{closed_open}
-use Rattle.book_core.specs.Ledgers.{Seen}
-use Rattle.book_core.specs.Transition.{Transition, NoEvent, Then, IsTransition}
-use Rattle.book_core.specs.Calls.{Makes, Calls, listed}
-use Rattle.book_core.specs.Follow.{FollowsHistory, MakesAnswered}
+use Rattle.book_model.proofs.Lemmas.{books_follow_history, closed_open}
+use Rattle.book_core.specs.Words.{Seen, Transition, NoEvent, Then, IsTransition, Makes, Calls}
+use Rattle.book_core.specs.Words.{listed, MakesAnswered}
+use Rattle.book_core.specs.Follow.{FollowsHistory}
 use Rattle.book_core.proofs.RulingLemmas.{meant_by, said_by}
 use Rattle.book_core.proofs.NamedLemmas.{its_name}
 use Rattle.book_core.proofs.TransitionLemmas.{after_all-append}

@@ -1,21 +1,18 @@
 -- Rows can be shown: their days are days, and their sums fit 64 bits.
 use Rattle.std.proofs.Common.{◌≡◌, ◌∙◌, ℕ, ◌+◌, ◌*◌, ◌^◌, ◌<◌, ◌≤◌, List, length, refl, sym, true}
 use Rattle.std.proofs.Common.{false, Bool, cond, map, arith, filter, sum_by, All, Ordering}
-use Rattle.std.specs.Cmp.{IsEquivalence, IsTotalOrder}
-use Rattle.std.specs.List.{IsDistinct}
-use Rattle.std.proofs.lemmas.Cmp.{eq_by_cmp_equiv}
-use Rattle.std.proofs.lemmas.List.Elements.{All-map, All-contains}
-use Rattle.std.proofs.lemmas.List.Folds.{fold-map}
-use Rattle.std.proofs.lemmas.List.Sums.{sum_by-le, sum_by-le-sum_by, length-filter}
-use Rattle.std.proofs.lemmas.Map.Views.{All-from_any, Contains-from_any, tells_apart}
+use Rattle.std.proofs.lemmas.List.Sums.{sum_by-le}
+use Rattle.std.proofs.lemmas.Map.Views.{All-from_any, Contains-from_any}
+use Rattle.book_model.proofs.Std.{IsEquivalence, IsTotalOrder, IsDistinct, eq_by_cmp_equiv, All-map}
+use Rattle.book_model.proofs.Std.{All-contains, fold-map, sum_by-le-sum_by, length-filter}
+use Rattle.book_model.proofs.Std.{tells_apart}
 use Rattle.book_model.specs.Words.{IsDay, IsPriced, most_held, key_of, charged_at, row_at, keys_of}
 use Rattle.book_model.specs.Words.{rows_of, FitSums, AreRows, set_of, members, most_cost, Priced}
 use Rattle.book_model.specs.Words.{ChargeRow, RowKey}
-use Rattle.book_model.proofs.RowLemmas.{by_key_total, by_key_exact, same_key_laws, keys_distinct}
-use Rattle.book_model.proofs.ListLemmas.{count_by-distinct}
-use Rattle.book_model.proofs.SetLemmas.{any_tied-members}
+use Rattle.book_model.proofs.Lemmas.{by_key_total, by_key_exact, count_by-distinct}
+use Rattle.book_model.proofs.Lemmas.{any_tied-members, sum_by-filter, length-sum_by}
+use Rattle.book_model.proofs.RowLemmas.{same_key_laws, keys_distinct}
 use Rattle.book_model.proofs.SumLemmas.{sum_by-exchange}
-use Rattle.book_model.proofs.SumsAlike.{sum_by-filter, length-sum_by}
 use Rattle.std.specs.FinMap as finite
 
 -- what holds of each element of a list holds of each member of its set

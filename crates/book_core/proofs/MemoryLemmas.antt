@@ -3,8 +3,7 @@ use Rattle.std.proofs.Common.{◌≡◌, ◌∙◌, List, refl, sym, ap, subst, 
 use Rattle.std.proofs.Common.{Some, Result, Ok, Err}
 use Rattle.book_model.specs.Words.{Answers, event_of, Book, Event, after_any, after_all, Outcome}
 use Rattle.book_model.specs.Words.{Naming, LedgerFault, Memory, Store, Reopen}
-use Rattle.book_core.specs.Calls.{Makes, IsCall, Reopens, listed}
-use Rattle.book_core.specs.Ledgers.{in_memory}
+use Rattle.book_core.specs.Words.{Makes, IsCall, Reopens, listed, in_memory}
 
 -- a book after one event or none
 pub after_listed : (event : Option Event) (book : Book) → after_any event book

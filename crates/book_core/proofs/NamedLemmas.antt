@@ -1,15 +1,11 @@
 -- The record that is held under a name: it has the name. And records in the order by name.
 use Rattle.std.proofs.Common.{◌≡◌, ◌∙◌, ◌||◌, ℕ, List, [], ◌∷◌, refl, sym, ap, Bool, true, cond}
 use Rattle.std.proofs.Common.{false, Some, is_some, find, Ordering, Less, Equal, Greater}
-use Rattle.std.specs.List.{list_any}
-use Rattle.std.proofs.lemmas.Map.Lookups.{exact_bytes}
-use Rattle.std.proofs.lemmas.Map.Views.{tells_apart}
+use Rattle.book_model.proofs.Std.{list_any, exact_bytes, tells_apart, IsTotalOrder, ordering_then}
+use Rattle.book_model.proofs.Std.{nat_list_cmp_total, then_total, on_total}
 use Rattle.book_model.specs.Words.{Naming, Records, members, name_of, record_named, same_bytes}
 use Rattle.book_model.specs.Words.{by_name, by_bytes}
-use Rattle.book_model.proofs.SetLemmas.{same_bytes-by_cmp}
-use Rattle.std.specs.Cmp.{IsTotalOrder}
-use Rattle.std.specs.Ordering.{ordering_then}
-use Rattle.std.proofs.lemmas.Cmp.{nat_list_cmp_total, then_total, on_total}
+use Rattle.book_model.proofs.Lemmas.{same_bytes-by_cmp}
 use Rattle.std.specs.FinMap as finite
 
 -- what is found in a list passes the test

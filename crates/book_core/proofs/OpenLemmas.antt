@@ -1,8 +1,7 @@
 -- Work on a ledger that is open at a book.
 use Rattle.std.proofs.Common.{◌≡◌, ◌∙◌, Bool, false, List, ap, subst}
 use Rattle.book_model.specs.Words.{Book, Event, after_all, Naming}
-use Rattle.book_core.specs.Ledgers.{Seen, MayHave, may_have, IsOpenAt}
-use Rattle.book_core.specs.Transition.{Transition, IsTransition}
+use Rattle.book_core.specs.Words.{Seen, MayHave, may_have, IsOpenAt, Transition, IsTransition}
 
 -- an open ledger is at its own book, and at no other
 pub stood_open : {naming : Naming} {start : Book} {seen : Seen} → IsOpenAt naming start seen

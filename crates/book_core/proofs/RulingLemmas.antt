@@ -2,14 +2,13 @@
 use Rattle.std.proofs.Common.{◌≡◌, ◌∙◌, ◌-◌, List, [], ◌∷◌, ◌++◌, length, refl, sym, ap, arith}
 use Rattle.std.proofs.Common.{None, slice_get, true, ◌≢◌, ℕ, Bool, false, Option, Some, Ok, Err}
 use Rattle.std.proofs.Common.{Result, if◌then◌else◌, option_map}
-use Rattle.std.specs.List.{last_or}
+use Rattle.book_model.proofs.Std.{last_or, result_ok}
 use Rattle.book_model.specs.Words.{AcceptedTerms, are_rising, is_later, Terms, Event, RulingGiven}
 use Rattle.book_model.specs.Words.{TariffAccepted, RecordChosen, TariffFault, Done, Full}
-use Rattle.book_model.proofs.LatestLemmas.{later-before, rising-behind}
+use Rattle.book_model.proofs.Lemmas.{later-before, rising-behind}
 use Rattle.book_model.proofs.ListLemmas.{last_or-is}
 use Rattle.book_core.specs.declared.rulings.Rulings.{Rulings}
-use Rattle.book_core.specs.OfficeRulings.{ruled_in}
-use Rattle.std.specs.Result.{result_ok}
+use Rattle.book_core.specs.Words.{ruled_in}
 use Rattle.book_model.proofs.TestLemmas.{by_tests}
 
 -- what is found at the end of a list is its last

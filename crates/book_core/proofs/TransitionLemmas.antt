@@ -3,9 +3,7 @@ use Rattle.std.proofs.Common.{◌≡◌, ◌∙◌, Bool, true, false, List, [],
 use Rattle.std.proofs.Common.{subst, ◌||◌, Err, ◌⊎◌}
 use Rattle.book_model.specs.Words.{LedgerFault, Memory, Store, Reopen, Book, Event, after}
 use Rattle.book_model.specs.Words.{after_all, Outcome}
-use Rattle.book_core.specs.Ledgers.{Seen}
-use Rattle.book_core.specs.Transition.{Transition, NoEvent, Then, IsTransition}
-use Rattle.book_core.specs.Calls.{Calls, listed}
+use Rattle.book_core.specs.Words.{Seen, Transition, NoEvent, Then, IsTransition, Calls, listed}
 
 -- the book after events and others
 pub after_all-append : (late early : List Event) (book : Book)

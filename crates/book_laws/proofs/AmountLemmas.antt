@@ -1,12 +1,10 @@
 -- The amounts of rows balance with what periods add and take back.
 use Rattle.std.proofs.Common.{◌≡◌, ℕ, ◌+◌, List, ap, ◌∙◌, Option, arith, sum_by, ℤ}
-use Rattle.std.specs.Option.{option_map_or}
+use Rattle.book_model.proofs.Std.{option_map_or}
 use Rattle.book_model.specs.Words.{Period, period_by, Event, book_after, Records, by_bytes}
 use Rattle.book_model.specs.Words.{rows_for, Rulings, prices, price_in, members, total_of}
 use Rattle.book_model.specs.Words.{all_periods, charged_of, AreDatedThrough}
-use Rattle.book_model.proofs.SetLemmas.{members-empty}
-use Rattle.book_model.proofs.SumLemmas.{sum_by-plus}
-use Rattle.book_model.proofs.SumsAlike.{sum_by-filter_map}
+use Rattle.book_model.proofs.Lemmas.{members-empty, sum_by-plus, sum_by-filter_map}
 use Rattle.book_laws.specs.PeriodAmounts.{rows_amount, added_cost, reversed_cost}
 use Rattle.book_laws.specs.HistoryLaws.{ConservedInSets}
 use Rattle.book_laws.proofs.PeriodLemmas.{net, all_nets}

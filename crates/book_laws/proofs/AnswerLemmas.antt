@@ -3,8 +3,7 @@ use Rattle.std.proofs.Common.{◌≡◌, ◌≢◌, ◌∙◌, false, true≢fal
 use Rattle.std.proofs.Common.{Err, ◌||◌}
 use Rattle.book_model.specs.Words.{LedgerFault, Memory, Store, Reopen, Book, Event, after_all}
 use Rattle.book_model.specs.Words.{Outcome, Naming}
-use Rattle.book_core.specs.Calls.{Makes, Calls, is_store, is_reopen}
-use Rattle.book_core.specs.Ledgers.{Seen, IsOpenAt}
+use Rattle.book_core.specs.Words.{Makes, Calls, is_store, is_reopen, Seen, IsOpenAt}
 use Rattle.office.proofs.LeavingLemmas.{Leaves, work_leaves}
 use Rattle.book_laws.specs.AnswerLaws.{IsCalled, OneAnswer, OneRefusal, OneBook}
 use Rattle.book_laws.specs.AnswerLaws.{RefusalChangesNothing}

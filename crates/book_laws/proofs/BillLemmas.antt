@@ -2,22 +2,17 @@
 use Rattle.std.proofs.Common.{◌≡◌, ℕ, ◌+◌, List, [], ◌∷◌, ◌++◌, refl, sym, ap, ◌∙◌, subst, map}
 use Rattle.std.proofs.Common.{true, Bool, not, ◌&&◌, ◌||◌, Option, Some, None, get_or, arith, All}
 use Rattle.std.proofs.Common.{filter, sum_by, pos, ◌+ℤ◌, ◌-ℤ◌}
-use Rattle.std.specs.List.{list_any}
 use Rattle.std.proofs.Math.Bool.{or-true}
-use Rattle.std.proofs.lemmas.Int.{ints}
-use Rattle.std.proofs.lemmas.List.Filters.{sum_by-filter_both}
-use Rattle.std.proofs.lemmas.List.Folds.{fold-map, list_any-append}
-use Rattle.std.proofs.lemmas.List.Sums.{sum_by-cons}
-use Rattle.std.proofs.lemmas.Option.{get_or_from_slice_get, slice_get_within}
+use Rattle.book_model.proofs.Std.{list_any, ints, sum_by-filter_both, fold-map, list_any-append}
+use Rattle.book_model.proofs.Std.{sum_by-cons, get_or_from_slice_get, slice_get_within}
 use Rattle.book_model.specs.Words.{Priced, BilledLine, Detail, Line, ChargeRow, RowKey, BillSeen}
 use Rattle.book_model.specs.Words.{Book, IsSound, Naming, Period, all_periods, bill_of, billed_line}
 use Rattle.book_model.specs.Words.{billed_lines, charged_at, details_asked, details_of}
 use Rattle.book_model.specs.Words.{details_of_centre, is_step, jobs_of, line_alone, lines_of}
 use Rattle.book_model.specs.Words.{period_of, row_at, rows_for, same_bytes, steps_of, work_rows}
-use Rattle.book_model.proofs.ListLemmas.{filter-agree, filter-filter, filter-map, list_any-map}
+use Rattle.book_model.proofs.Lemmas.{filter-agree, filter-filter, filter-map, list_any-map}
+use Rattle.book_model.proofs.Lemmas.{sum_by-plus, length-sum_by}
 use Rattle.book_model.proofs.RecordSets.{tests_swap}
-use Rattle.book_model.proofs.SumLemmas.{sum_by-plus}
-use Rattle.book_model.proofs.SumsAlike.{length-sum_by}
 use Rattle.report_texts.specs.AdjustmentLists.{charged_amount, reversed_amount}
 use Rattle.report_texts.specs.Centres.{lines_of_centre, rows_of_centre}
 use Rattle.report_texts.specs.Charges.{all_charges, centres_of, charges_of, charges_of_centre}

@@ -3,12 +3,10 @@ use Rattle.std.proofs.Common.{◌≡◌, ℕ, zero, suc, ◌<◌, List, [], ◌�
 use Rattle.std.proofs.Common.{◌∙◌, true, false, true≢false, Bool, ◌||◌, Option, Some, None, is_some}
 use Rattle.std.proofs.Common.{arith, All, ℤ, pos, if◌then◌else◌, filter_map, ok_or, option_and_then}
 use Rattle.std.proofs.Common.{option_map}
-use Rattle.std.specs.List.{cons_option, list_any}
-use Rattle.std.specs.Result.{result_ok}
 use Rattle.std.proofs.Math.Bool.{or-true}
-use Rattle.std.proofs.lemmas.List.Elements.{All-append, All-cons, All-filter, All-nil}
-use Rattle.std.proofs.lemmas.List.Sorted.{All-permutation, IsPermutation-sym}
-use Rattle.std.proofs.lemmas.Option.{slice_get-get_or}
+use Rattle.std.proofs.lemmas.List.Sorted.{All-permutation}
+use Rattle.book_model.proofs.Std.{cons_option, list_any, result_ok, All-append, All-cons}
+use Rattle.book_model.proofs.Std.{All-filter, All-nil, IsPermutation-sym, slice_get-get_or}
 use Rattle.book_model.specs.Words.{day_of, job_of, Priced, HeldBack, NoSuchPeriod, NoSuchRecord}
 use Rattle.book_model.specs.Words.{Line, Book, IsSound, Naming, Period, Records, Rulings, Terms}
 use Rattle.book_model.specs.Words.{bill_of, billed_line, billed_lines, billed_tariff, book_after}
@@ -19,10 +17,7 @@ use Rattle.book_model.specs.Words.{no_event, period_by_trail, period_of_line, pe
 use Rattle.book_model.specs.Words.{price_in, reckoning_by, record_named, same_bytes, steps_of}
 use Rattle.book_model.specs.Words.{trail_by, trail_of, work_rows}
 use Rattle.book_model.proofs.CountedDays.{through_at}
-use Rattle.book_model.proofs.LineOrder.{line_by, line_of}
-use Rattle.book_model.proofs.ListLemmas.{map-agree}
-use Rattle.book_model.proofs.MadeByCallsLemmas.{sound_after}
-use Rattle.book_model.proofs.RecordSets.{is, is_first}
+use Rattle.book_model.proofs.Lemmas.{line_by, line_of, map-agree, sound_after, is, is_first}
 use Rattle.book_model.proofs.SamePriceLemmas.{same_lines}
 use Rattle.report_texts.specs.Centres.{lines_of_centre}
 use Rattle.table_model.proofs.ListLemmas.{held_in}

@@ -3,23 +3,16 @@ use Rattle.std.proofs.Common.{◌≡◌, ◌∙◌, ℕ, suc, Bool, true, false,
 use Rattle.std.proofs.Common.{List, [], ◌∷◌, ◌++◌, reverse, Option, Some, None, Ok, ap, arith, refl}
 use Rattle.std.proofs.Common.{subst, sym, ℤ, pos, ◌+ℤ◌, Contains, filter, find, if◌then◌else◌}
 use Rattle.std.proofs.Common.{int_lt, slice_get, filter_map, option_map}
-use Rattle.std.specs.List.{cons_option, list_any}
-use Rattle.std.specs.Option.{option_map_or, option_or}
-use Rattle.std.specs.Result.{result_ok}
-use Rattle.std.proofs.lemmas.Int.{ints}
-use Rattle.std.proofs.lemmas.List.{reverse-append}
-use Rattle.std.proofs.lemmas.List.Elements.{All-contains, Contains-append_right, filter-append}
-use Rattle.std.proofs.lemmas.List.Elements.{filter_map-append}
-use Rattle.std.proofs.lemmas.List.Folds.{find-append}
+use Rattle.book_model.proofs.Std.{cons_option, list_any, option_map_or, option_or, result_ok, ints}
+use Rattle.book_model.proofs.Std.{reverse-append, All-contains, Contains-append_right}
+use Rattle.book_model.proofs.Std.{filter-append, filter_map-append, find-append}
 use Rattle.book_model.specs.Words.{BilledTariff, AcceptedTerms, RulingSeen, TariffSeen, Terms}
 use Rattle.book_model.specs.Words.{begins_by, billed_tariff, day_of, has_begun, in_force_from}
 use Rattle.book_model.specs.Words.{is_dated_after, is_dated_through, tariff_by, tariff_seen}
 use Rattle.book_model.specs.Words.{tariffs_from, tariffs_in, tariffs_seen, tariffs_through}
 use Rattle.book_model.specs.Words.{terms_in, latest}
-use Rattle.book_model.proofs.CountedDays.{close_at}
-use Rattle.book_model.proofs.LatestLemmas.{begun-last}
-use Rattle.book_model.proofs.RecordSets.{first_of, not_true, second_of}
-use Rattle.table_model.specs.Readable.{IsTexted}
+use Rattle.book_model.proofs.Lemmas.{close_at, begun-last, first_of, not_true, second_of}
+use Rattle.table_model.specs.Words.{IsTexted}
 use Rattle.table_model.proofs.DetailReading.{in_windows}
 use Rattle.table_model.proofs.PeriodPlaces.{at_place}
 use Rattle.book_laws.specs.BillLaws.{BilledTariffsPrice}

@@ -7,14 +7,11 @@ use Rattle.book_model.specs.Words.{charges_outcome, adjustments_outcome, dispute
 use Rattle.book_model.specs.Words.{periods_outcome, Naming, dispute_outcome, next_detail_outcome}
 use Rattle.book_model.specs.Words.{ruling_outcome, ruling_shown, trail_outcome, trail_shown}
 use Rattle.book_model.specs.Words.{what_if_outcome, LedgerFault, Store}
-use Rattle.book_core.specs.Calls.{Calls, listed}
-use Rattle.book_core.specs.Ledgers.{Seen, IsOpenAt}
-use Rattle.book_core.specs.Submissions.{Accepts, Takes, first_of}
-use Rattle.book_core.specs.Transition.{IsTransition}
+use Rattle.book_core.specs.Words.{Calls, listed, Seen, IsOpenAt, Accepts, Takes, first_of}
+use Rattle.book_core.specs.Words.{IsTransition, MakesAnswered}
 use Rattle.book_core.proofs.FollowLemmas.{then_answered, calls_answered, none_answered}
 use Rattle.book_core.proofs.FollowLemmas.{accept_event-answered, adopt_answered, choose_answered}
 use Rattle.book_core.proofs.FollowLemmas.{close_answered, tariff_answered}
-use Rattle.book_core.specs.Follow.{MakesAnswered}
 use Rattle.book_core.proofs.TransitionLemmas.{no_work, work_then, after_all-append}
 use Rattle.book_reports.proofs.ReadingLemmas.{IsReading}
 use Rattle.office.proofs.ChoiceLemmas.{choices_answered}

@@ -1,11 +1,10 @@
 -- What is summed over the centres.
 use Rattle.std.proofs.Common.{◌≡◌, ℕ, List, sym, ◌∙◌, subst, map, true, filter, sum_by}
-use Rattle.std.specs.List.{IsDistinct, list_any}
-use Rattle.std.proofs.lemmas.Cmp.{nat_list_cmp_total, nat_list_eq_equiv}
-use Rattle.std.proofs.lemmas.Map.Keys.{IsDistinct-from_sorted}
+use Rattle.book_model.proofs.Std.{IsDistinct, list_any, nat_list_cmp_total, nat_list_eq_equiv}
+use Rattle.book_model.proofs.Std.{IsDistinct-from_sorted}
 use Rattle.book_model.specs.Words.{by_bytes, members, same_bytes, set_of}
-use Rattle.book_model.proofs.ListLemmas.{list_any-map}
-use Rattle.book_model.proofs.SetLemmas.{any_tied-members, members_rise, same_bytes-by_cmp}
+use Rattle.book_model.proofs.Lemmas.{list_any-map, any_tied-members, members_rise}
+use Rattle.book_model.proofs.Lemmas.{same_bytes-by_cmp}
 use Rattle.book_laws.specs.CentreLaws.{CentresAddUp}
 use Rattle.book_laws.proofs.RowSums.{sum_by-keys}
 

@@ -5,23 +5,19 @@ use Rattle.std.proofs.Common.{ap, ◌∙◌, true, false, true≢false, Bool, co
 use Rattle.std.proofs.Common.{None, arith, All, ℤ, pos, ◌-ℤ◌, count_by, nat_lt, slice_get, int_cmp}
 use Rattle.std.proofs.Common.{lt-ltb}
 use Rattle.std.specs.List.Sorted.{IsStrictlySortedBy}
-use Rattle.std.specs.Option.{option_map_or}
-use Rattle.std.proofs.lemmas.Bool.{false_from_ne_true}
-use Rattle.std.proofs.lemmas.Int.{ints}
-use Rattle.std.proofs.lemmas.List.Elements.{All-weaker}
-use Rattle.std.proofs.lemmas.List.Sums.{sum_by-cons, sum_by_push}
-use Rattle.book_model.specs.Rulings.{rulings_before}
-use Rattle.book_model.specs.Words.{AreAllDatedThrough, Book, Event, IsMadeByCalls, IsSound, Naming}
-use Rattle.book_model.specs.Words.{Period, PeriodClosed, Records, Rulings, all_periods, book_after}
-use Rattle.book_model.specs.Words.{charged_by, charged_in, charged_of, charged_through, closes}
-use Rattle.book_model.specs.Words.{counted_of, day_of_close, has, held_before, is_dated_after}
-use Rattle.book_model.specs.Words.{is_dated_in, is_dated_through, is_undisputed, last_close}
-use Rattle.book_model.specs.Words.{open_number, period_after, period_by, rulings, those}
-use Rattle.book_model.proofs.CallLemmas.{calls_go_forward}
-use Rattle.book_model.proofs.CountedDays.{AreInWindows, close_at, counted_at, has_counted_of}
-use Rattle.book_model.proofs.MadeByCallsLemmas.{rulings_are, sound_after}
-use Rattle.book_model.proofs.RecordSets.{has_those, in_those, passes_those, second_of}
-use Rattle.book_model.proofs.SumsAlike.{list_any-count_by}
+use Rattle.book_model.proofs.Std.{option_map_or, false_from_ne_true, ints, All-weaker, sum_by-cons}
+use Rattle.book_model.proofs.Std.{sum_by_push}
+use Rattle.book_model.specs.Words.{rulings_before, AreAllDatedThrough, Book, Event, IsMadeByCalls}
+use Rattle.book_model.specs.Words.{IsSound, Naming, Period, PeriodClosed, Records, Rulings}
+use Rattle.book_model.specs.Words.{all_periods, book_after, charged_by, charged_in, charged_of}
+use Rattle.book_model.specs.Words.{charged_through, closes, counted_of, day_of_close, has}
+use Rattle.book_model.specs.Words.{held_before, is_dated_after, is_dated_in, is_dated_through}
+use Rattle.book_model.specs.Words.{is_undisputed, last_close, open_number, period_after, period_by}
+use Rattle.book_model.specs.Words.{rulings, those}
+use Rattle.book_model.proofs.Lemmas.{calls_go_forward, close_at, counted_at, sound_after, has_those}
+use Rattle.book_model.proofs.Lemmas.{in_those, passes_those, second_of, list_any-count_by}
+use Rattle.book_model.proofs.CountedDays.{AreInWindows, has_counted_of}
+use Rattle.book_model.proofs.MadeByCallsLemmas.{rulings_are}
 use Rattle.table_model.proofs.CloseOrder.{rise_behind}
 use Rattle.table_model.proofs.PeriodPlaces.{at_place}
 use Rattle.book_laws.specs.DetailLaws.{CountedByDay, CountedIsRead, DetailedOnce}

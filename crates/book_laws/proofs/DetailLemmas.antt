@@ -2,24 +2,19 @@
 use Rattle.std.proofs.Common.{◌≡◌, ℕ, List, [], ◌∷◌, refl, sym, ap, ◌∙◌, subst, true, false, map}
 use Rattle.std.proofs.Common.{Some, None, Bool, cond, ◌&&◌, get_or, ◌+◌, All, filter, sum_by}
 use Rattle.std.proofs.Common.{filter_map, option_map, int_eq}
-use Rattle.std.specs.List.{cons_option}
-use Rattle.std.proofs.lemmas.Cmp.{nat_list_eq_equiv}
-use Rattle.std.proofs.lemmas.List.{length-map}
-use Rattle.std.proofs.lemmas.List.Elements.{All-cons, All-head, All-map, All-nil, All-tail}
-use Rattle.std.proofs.lemmas.List.Elements.{All-weaker}
-use Rattle.std.proofs.lemmas.List.Folds.{fold-map}
+use Rattle.book_model.proofs.Std.{cons_option, nat_list_eq_equiv, length-map, All-cons, All-head}
+use Rattle.book_model.proofs.Std.{All-map, All-nil, All-tail, All-weaker, fold-map}
 use Rattle.book_model.specs.Words.{Priced, Detail, ChargeRow, RowKey, AreHeld, Naming, Records}
 use Rattle.book_model.specs.Words.{Rulings, all_periods, charged_at, detail_by, detail_of}
 use Rattle.book_model.specs.Words.{details_at, details_for, details_of, details_of_centre, has}
 use Rattle.book_model.specs.Words.{key_of, keys_of, members, name_of, price_in, prices, row_at}
 use Rattle.book_model.specs.Words.{rows_for, rows_of, same_bytes, same_key}
 use Rattle.book_model.proofs.DetailLemmas.{read_once}
-use Rattle.book_model.proofs.ListLemmas.{filter-agree, filter-filter, filter-map}
-use Rattle.book_model.proofs.RecordSets.{first_of, second_of}
-use Rattle.book_model.proofs.RowLemmas.{rows_of-alike}
-use Rattle.book_model.proofs.SumsAlike.{SumsAlike, filter-alike, length-alike, map-alike}
+use Rattle.book_model.proofs.Lemmas.{filter-agree, filter-filter, filter-map, first_of, second_of}
+use Rattle.book_model.proofs.Lemmas.{rows_of-alike, SumsAlike, filter-alike, length-alike}
+use Rattle.book_model.proofs.Lemmas.{map-alike}
 use Rattle.report_texts.specs.Centres.{rows_of_centre}
-use Rattle.table_model.specs.TablesOf.{row_key}
+use Rattle.table_model.specs.Words.{row_key}
 use Rattle.table_model.proofs.SetReading.{permuted-alike}
 use Rattle.book_laws.specs.DetailLaws.{AddUp, AreSumsOf, CentreDetailsAddUp, DetailsAddUp, IsSumOf}
 use Rattle.table_model.proofs.HeldPeriods.{all_held}

@@ -3,9 +3,8 @@
 use Rattle.std.proofs.Common.{◌≡◌, ℕ, ◌≤◌, min, max, List, [], ◌∷◌, map, refl, ap, true, false}
 use Rattle.std.proofs.Common.{true≢false, Bool, cond, ◌||◌, Option, unwrap_or, arith, All, Contains}
 use Rattle.std.proofs.Common.{fold, sum_by, if◌then◌else◌}
-use Rattle.std.specs.List.{list_any, reduce}
-use Rattle.std.proofs.lemmas.List.Elements.{All-cons, All-contains, All-head, All-nil, All-tail}
-use Rattle.std.proofs.lemmas.List.Sums.{sum_by-cons}
+use Rattle.book_model.proofs.Std.{list_any, reduce, All-cons, All-contains, All-head, All-nil}
+use Rattle.book_model.proofs.Std.{All-tail, sum_by-cons}
 use Rattle.book_model.specs.Words.{Variant, Disputed, amount_for, disputes_for, greatest_for}
 use Rattle.book_model.specs.Words.{held_back_in, is_paid_by, least_for}
 use Rattle.book_laws.specs.BillLaws.{HeldBackBounds, IsWithin}

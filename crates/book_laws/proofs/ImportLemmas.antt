@@ -1,8 +1,7 @@
 -- Imports into an open ledger.
 use Rattle.std.proofs.Common.{Ok, ap, false, sym, subst}
 use Rattle.book_model.specs.Words.{front, after_all}
-use Rattle.book_core.specs.Ledgers.{Seen, IsOpenAt}
-use Rattle.book_core.specs.Transition.{IsTransition}
+use Rattle.book_core.specs.Words.{Seen, IsOpenAt, IsTransition}
 use Rattle.book_import.specs.Dumps.{stop_after}
 use Rattle.book_import.specs.Imports.{Imports}
 use Rattle.book_import.proofs.RepeatLemmas.{is_whole}

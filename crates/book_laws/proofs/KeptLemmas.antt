@@ -1,16 +1,14 @@
 -- Kept details: the details of a period are those of its days, and they follow the book.
 use Rattle.std.proofs.Common.{◌≡◌, ℕ, List, refl, ap, ◌∙◌, true, false, Option, Some, None, ℤ, ◌<ℤ◌}
 use Rattle.std.proofs.Common.{int_lt, MatchOption, arith}
-use Rattle.std.proofs.lemmas.Int.{ints}
+use Rattle.book_model.proofs.Std.{ints}
 use Rattle.book_model.specs.Words.{day_of, Book, IsSound, Naming, book_after, charged_of}
 use Rattle.book_model.specs.Words.{counted_of, details_for, has, is_counted, is_dated_after}
 use Rattle.book_model.specs.Words.{is_dated_in, last_close, is_day_of}
-use Rattle.book_model.proofs.CallLemmas.{calls_go_forward}
+use Rattle.book_model.proofs.Lemmas.{calls_go_forward, current_is, sound_after, in_those}
 use Rattle.book_model.proofs.CountedDays.{has_counted_of}
-use Rattle.book_model.proofs.CountedLemmas.{close_leaves, current_is, settled_is}
+use Rattle.book_model.proofs.CountedLemmas.{close_leaves, settled_is}
 use Rattle.book_model.proofs.DetailLemmas.{detail_joins, details_those}
-use Rattle.book_model.proofs.MadeByCallsLemmas.{sound_after}
-use Rattle.book_model.proofs.RecordSets.{in_those}
 use Rattle.table_model.proofs.DetailReading.{dated_alike}
 use Rattle.book_laws.specs.KeptDetails.{CountedFollows, DetailsAreKept, RowsJoinAndGo}
 use Rattle.book_laws.specs.KeptDetails.{TariffsReadKept}

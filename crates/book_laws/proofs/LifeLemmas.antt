@@ -4,16 +4,14 @@ use Rattle.std.proofs.Common.{true, false, true≢false, Bool, cond, not, ◌&&�
 use Rattle.std.proofs.Common.{Some, Ok, ℤ, pos, ◌-ℤ◌, codes, count_by, sum_by, decimal, ok_or}
 use Rattle.std.proofs.Common.{option_and_then, option_map, append-nil}
 use Rattle.std.specs.Fmt.{signed_decimal}
-use Rattle.std.proofs.lemmas.List.Sums.{sum_by-append, sum_by-cons}
+use Rattle.book_model.proofs.Std.{sum_by-append, sum_by-cons}
 use Rattle.book_model.specs.Words.{Book, Event, Period, PeriodClosed, Records, AreDatedThrough}
 use Rattle.book_model.specs.Words.{all_periods, book_after, charged_of, charged_through, has}
 use Rattle.book_model.specs.Words.{is_charge, is_dated_after, last_close, life_from, life_of}
 use Rattle.book_model.specs.Words.{net_of, Naming, TrailSeen, period_by, reckoning_in, record_named}
 use Rattle.book_model.specs.Words.{trail_by, trail_of, turn_if, turns_in, without, Reckoning}
 use Rattle.book_model.specs.Words.{NoSuchRecord, Deed, Added, Charged, Reversed, Turn}
-use Rattle.book_model.proofs.RecordSets.{has_those}
-use Rattle.book_model.proofs.SoundLemmas.{none_in}
-use Rattle.book_model.proofs.SumLemmas.{sum_by-plus}
+use Rattle.book_model.proofs.Lemmas.{has_those, none_in, sum_by-plus}
 use Rattle.report_texts.specs.Columns.{newline}
 use Rattle.report_texts.specs.LifeLines.{net_line}
 use Rattle.book_reports.proofs.WritingLemmas.{same_value}

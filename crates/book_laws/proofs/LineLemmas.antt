@@ -2,24 +2,18 @@
 use Rattle.std.proofs.Common.{◌≡◌, ℕ, ◌+◌, List, [], ◌∷◌, ◌++◌, refl, sym, ap, ◌∙◌, true, false}
 use Rattle.std.proofs.Common.{Bool, ◌||◌, Option, Some, None, arith, sum_by, filter_map}
 use Rattle.std.proofs.Common.{IsPermutation, int_cmp, is_eq, Ordering, Less, Equal, Greater}
-use Rattle.std.specs.List.{list_any, cons_option, AllByRecursion}
-use Rattle.std.specs.Option.{option_map_or}
-use Rattle.std.specs.Ordering.{eq_by_cmp, ordering_then}
-use Rattle.std.proofs.lemmas.Cmp.{nat_list_cmp_total}
-use Rattle.std.proofs.lemmas.List.Folds.{list_any-append}
-use Rattle.std.proofs.lemmas.List.Sorted.{sum_by-IsPermutation}
-use Rattle.std.proofs.lemmas.List.Sums.{sum_by-append, sum_by-cons}
-use Rattle.std.proofs.lemmas.Map.Keys.{IsDistinct-from_sorted}
-use Rattle.std.proofs.lemmas.Map.Lookups.{exact_bytes}
+use Rattle.book_model.proofs.Std.{list_any, cons_option, AllByRecursion, option_map_or, eq_by_cmp}
+use Rattle.book_model.proofs.Std.{ordering_then, nat_list_cmp_total, list_any-append}
+use Rattle.book_model.proofs.Std.{sum_by-IsPermutation, sum_by-append, sum_by-cons}
+use Rattle.book_model.proofs.Std.{IsDistinct-from_sorted, exact_bytes}
 use Rattle.book_model.specs.Words.{Priced, Line, plus_first, by_line, lines_for, lines_of, Period}
 use Rattle.book_model.specs.Words.{Records, Naming, name_of, by_bytes, Rulings, price_in, members}
 use Rattle.book_model.specs.Words.{has, prices, total_of}
 use Rattle.book_model.proofs.GivenLemmas.{given-apart}
-use Rattle.book_model.proofs.SetLemmas.{members_rise}
-use Rattle.book_model.proofs.PermutedSets.{Apart, apart_from_distinct, members_permuted}
-use Rattle.book_model.proofs.LineOrder.{by_line_total, name_ties, line_by, line_of}
-use Rattle.book_model.proofs.SumsAlike.{sum_by-filter_map}
-use Rattle.book_model.proofs.RecordSets.{is}
+use Rattle.book_model.proofs.Lemmas.{members_rise, apart_from_distinct, by_line_total, line_by}
+use Rattle.book_model.proofs.Lemmas.{line_of, sum_by-filter_map, is}
+use Rattle.book_model.proofs.PermutedSets.{Apart, members_permuted}
+use Rattle.book_model.proofs.LineOrder.{name_ties}
 use Rattle.report_texts.specs.AdjustmentLists.{charged_amount, reversed_amount}
 use Rattle.book_laws.specs.PeriodAmounts.{plus_of, minus_of}
 use Rattle.book_laws.specs.PeriodLines.{both_lines}

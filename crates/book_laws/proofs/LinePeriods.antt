@@ -4,22 +4,19 @@ use Rattle.std.proofs.Common.{◌≡◌, ◌∙◌, ℕ, zero, suc, ◌+◌, ◌
 use Rattle.std.proofs.Common.{not, cond, ◌&&◌, ◌||◌, List, [], ◌∷◌, ◌++◌, length, Option, Some}
 use Rattle.std.proofs.Common.{None, ap, arith, is_some, refl, subst, sym, All, IsSome, filter}
 use Rattle.std.proofs.Common.{nat_lt, slice_get, option_map, lt-ltb, length-append}
-use Rattle.std.specs.List.{last_or, list_any}
 use Rattle.std.proofs.Math.Bool.{or-true}
-use Rattle.std.proofs.lemmas.List.Elements.{All-filter, All-map}
-use Rattle.std.proofs.lemmas.List.Folds.{list_any-append}
-use Rattle.std.proofs.lemmas.Option.{slice_get_within}
+use Rattle.book_model.proofs.Std.{last_or, list_any, All-filter, All-map, list_any-append}
+use Rattle.book_model.proofs.Std.{slice_get_within}
 use Rattle.book_model.specs.Words.{BilledLine, Line, Added, Charged, Reversed, Turn, Book, Naming}
 use Rattle.book_model.specs.Words.{Period, Records, all_periods, billed_line, charged_before, has}
 use Rattle.book_model.specs.Words.{is_dated_after, life_from, life_of, lines_of, open_period}
 use Rattle.book_model.specs.Words.{period_by, period_of_line, same_bytes, turn_if, turns_in}
-use Rattle.table_model.specs.BookIn.{close_after}
-use Rattle.table_model.specs.Readable.{IsReadable}
+use Rattle.table_model.specs.Words.{close_after, IsReadable}
 use Rattle.table_model.proofs.CountedReading.{in_added, in_counted, in_taken, its_period}
 use Rattle.table_model.proofs.CountedReading.{period_after, sets, sets_past}
 use Rattle.table_model.proofs.ListLemmas.{held_in}
 use Rattle.table_model.proofs.PeriodPlaces.{at_place}
-use Rattle.book_model.proofs.RecordSets.{second_of}
+use Rattle.book_model.proofs.Lemmas.{second_of}
 use Rattle.book_laws.specs.BillLaws.{BilledLinesHavePeriods}
 use Rattle.book_laws.specs.PeriodLines.{AreReadOnce}
 use Rattle.book_laws.proofs.BillLemmas.{of_period}

@@ -3,17 +3,15 @@ use Rattle.std.proofs.Common.{◌≡◌, ◌∙◌, ℕ, suc, ◌+◌, ◌-◌, 
 use Rattle.std.proofs.Common.{◌++◌, length, Option, None, Some, Result, Ok, refl, sym, ap, subst}
 use Rattle.std.proofs.Common.{append_assoc, arith, eqb-true, eq-eqb, length-append, ok_or}
 use Rattle.std.proofs.Common.{option_map, ◌==◌, if◌then◌else◌, pos, ◌-ℤ◌, slice_get, sum_by}
-use Rattle.std.proofs.lemmas.List.{length-map}
-use Rattle.std.proofs.lemmas.List.Sums.{sum_by-cons}
+use Rattle.book_model.proofs.Std.{length-map, sum_by-cons}
 use Rattle.book_model.specs.Words.{LedgerFault, NoSuchPeriod, Line, ChargeRow, total_of, Book}
 use Rattle.book_model.specs.Words.{open_number, open_period, all_periods, period_of, charged_of}
 use Rattle.book_model.specs.Words.{Event, after_all, book_after, book_of, lines_of, Outcome}
 use Rattle.book_model.specs.Words.{no_event, charges_outcome, adjustments_outcome, Period, Naming}
 use Rattle.book_model.specs.Words.{rows_for}
-use Rattle.book_model.proofs.MadeByCallsLemmas.{sound_after}
-use Rattle.book_model.proofs.ListLemmas.{slice_get-front, slice_get-behind}
-use Rattle.book_model.proofs.StepLemmas.{books_follow_history}
-use Rattle.book_core.specs.Ledgers.{Seen}
+use Rattle.book_model.proofs.Lemmas.{sound_after, slice_get-front, slice_get-behind}
+use Rattle.book_model.proofs.Lemmas.{books_follow_history}
+use Rattle.book_core.specs.Words.{Seen}
 use Rattle.book_laws.specs.PeriodAmounts.{plus_of, minus_of}
 use Rattle.book_laws.specs.HistoryLaws.{IsBalanced}
 use Rattle.book_laws.proofs.ReadLemmas.{conserved}

@@ -1,17 +1,16 @@
 -- A record is charged once net, or nets to nothing.
 use Rattle.std.proofs.Common.{◌≡◌, ℕ, ◌+◌, ◌≤◌, List, refl, ap, ◌∙◌, true, false, true≢false, Bool}
-use Rattle.std.proofs.Common.{is_some, not, ◌&&◌, arith}
-use Rattle.std.specs.Prelude.{ℤ, pos, Option, sum_by}
-use Rattle.std.specs.FinMap as map
-use Rattle.book_model.specs.Words.{Book, Naming, Period, period_by, is_dated_after, book_after, Records}
-use Rattle.book_model.specs.Words.{by_bytes, has, without, all_periods, charged_of, AreDatedThrough}
-use Rattle.book_model.proofs.RecordSets.{has_those}
-use Rattle.book_model.proofs.SumLemmas.{sum_by-plus}
+use Rattle.std.proofs.Common.{is_some, not, ◌&&◌, arith, ℤ, pos, Option, sum_by}
+use Rattle.book_model.specs.Words.{Book, Naming, Period, period_by, is_dated_after, book_after}
+use Rattle.book_model.specs.Words.{Records, by_bytes, has, without, all_periods, charged_of}
+use Rattle.book_model.specs.Words.{AreDatedThrough}
+use Rattle.book_model.proofs.Lemmas.{has_those, sum_by-plus}
 use Rattle.book_laws.specs.NetCounts.{one_if, times_counted, times_added, times_reversed, net_count}
 use Rattle.book_laws.specs.NetCounts.{NamesOnce}
-use Rattle.table_model.specs.Readable.{IsReadable}
+use Rattle.table_model.specs.Words.{IsReadable}
 use Rattle.book_laws.specs.HistoryLaws.{BooksChargeOnce, ChargedOnce, PostedOnce, NamedOnce}
 use Rattle.book_laws.proofs.PeriodLemmas.{net, past_nets, all_nets, all_hold, book_nets}
+use Rattle.std.specs.FinMap as map
 
 -- A record is charged before a period or not, at its end or not, and dated after the close before
 -- it or not: its row, plus line and minus line make the difference.

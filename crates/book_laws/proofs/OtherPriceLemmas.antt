@@ -3,9 +3,7 @@ use Rattle.std.proofs.Common.{◌≡◌, ℕ, List, [], ◌∷◌, map, refl, sy
 use Rattle.std.proofs.Common.{Bool, cond, not, Option, Some, None, Result, Ok, Err, arith, ℤ, ◌+◌}
 use Rattle.std.proofs.Common.{◌≤◌, ◌≤ℤ◌, filter, int_lt, nat_lt, if◌then◌else◌, slice_get, sum_by}
 use Rattle.std.proofs.Common.{filter_map, ok_or, option_map}
-use Rattle.std.proofs.lemmas.Bool.Decides.{nat_tests}
-use Rattle.std.proofs.lemmas.Int.{ints}
-use Rattle.std.proofs.lemmas.List.Folds.{fold-map}
+use Rattle.book_model.proofs.Std.{nat_tests, ints, fold-map}
 use Rattle.smf_text.specs.Day.{first_day}
 use Rattle.book_model.specs.Words.{on_every_day, Priced, LedgerFault, Full, NoSuchPeriod, ChargeRow}
 use Rattle.book_model.specs.Words.{AcceptedTerms, AreAmong, Book, IsDay, Naming, Period, Records}
@@ -14,13 +12,12 @@ use Rattle.book_model.specs.Words.{has, has_begun, in_force, members, most_cost,
 use Rattle.book_model.specs.Words.{period_of, price_by, price_in, price_under, prices, rows_for}
 use Rattle.book_model.specs.Words.{rows_if_room, rows_of, same_bytes, terms_in, what_if_answer}
 use Rattle.book_model.specs.Words.{what_if_outcome, latest}
-use Rattle.book_model.proofs.ListLemmas.{filter-map}
-use Rattle.book_model.proofs.SetChanges.{pick-agree}
+use Rattle.book_model.proofs.Lemmas.{filter-map, pick-agree}
 use Rattle.report_texts.specs.Centres.{rows_of_centre}
 use Rattle.table_model.proofs.HeldPeriods.{one_of}
 use Rattle.table_model.proofs.ListLemmas.{held_in}
 use Rattle.table_model.proofs.TableParts.{what_is}
-use Rattle.table_model.specs.Readable.{IsReadable, IsTexted}
+use Rattle.table_model.specs.Words.{IsReadable, IsTexted}
 use Rattle.table_model.proofs.PriceSums.{some_within}
 use Rattle.book_laws.specs.OtherPriceLaws.{CostsAsSaid, GivesStatement}
 use Rattle.book_laws.proofs.RowSums.{sum_by-centre_rows, sum_by-rows_of}

@@ -1,14 +1,13 @@
 -- The lines of charge rows by another tariff are as long as those of a statement.
 use Rattle.std.proofs.Common.{◌≡◌, ◌∙◌, ℕ, ◌≤◌, List, refl, sym, ap, subst, true, false, Bool, Ok}
 use Rattle.std.proofs.Common.{Err, arith, All, Some, if◌then◌else◌, nat_lt, sum_by, ltb-false}
-use Rattle.std.proofs.lemmas.Cmp.{eq_by_cmp_equiv, nat_list_cmp_total}
-use Rattle.std.proofs.lemmas.List.Elements.{All-map}
 use Rattle.std.proofs.lemmas.Map.Views.{All-from_any}
+use Rattle.book_model.proofs.Std.{eq_by_cmp_equiv, nat_list_cmp_total, All-map}
 use Rattle.book_model.specs.Words.{Priced, Full, ChargeRow, Book, IsPriced, Naming, Period, Terms}
 use Rattle.book_model.specs.Words.{costs_under, has, members, most_cost, period_of, price_by}
 use Rattle.book_model.specs.Words.{prices, rows_if_room, rows_of, what_if_answer, what_if_outcome}
-use Rattle.book_model.proofs.SumsAlike.{length-sum_by}
-use Rattle.table_model.specs.Readable.{IsReadable}
+use Rattle.book_model.proofs.Lemmas.{length-sum_by}
+use Rattle.table_model.specs.Words.{IsReadable}
 use Rattle.table_model.proofs.PriceSums.{some_within}
 use Rattle.book_laws.specs.StatementWidths.{AreAligned, WhatIfsAreAligned}
 use Rattle.book_laws.proofs.OtherPriceLemmas.{answered_rows, counted_held}

@@ -2,18 +2,16 @@
 use Rattle.std.proofs.Common.{◌≡◌, ℕ, List, [], ◌∷◌, map, refl, sym, ap, ◌∙◌, subst, true, Bool}
 use Rattle.std.proofs.Common.{cond, ◌||◌, Option, Some, None, Result, Ok, Err, arith, filter}
 use Rattle.std.proofs.Common.{sum_by, filter_map, ok_or, option_map}
-use Rattle.std.specs.List.{cons_option, list_any}
 use Rattle.std.proofs.Math.Bool.{or-true}
-use Rattle.std.proofs.lemmas.List.Sums.{sum_by-cons}
+use Rattle.book_model.proofs.Std.{cons_option, list_any, sum_by-cons}
 use Rattle.book_model.specs.Words.{Priced, LedgerFault, NoSuchPeriod, ChargeRow, RowKey, Book}
 use Rattle.book_model.specs.Words.{Naming, Period, Rulings, Terms, charged_at, charges_outcome}
 use Rattle.book_model.specs.Words.{costs_under, day_of, has, in_force, members, no_event, period_of}
 use Rattle.book_model.specs.Words.{price_by, price_in, prices, row_at, rows_for, rows_of}
 use Rattle.book_model.specs.Words.{same_bytes, what_if_answer, what_if_outcome}
-use Rattle.book_model.proofs.RecordSets.{is, is_first}
-use Rattle.book_model.proofs.SumsAlike.{length-sum_by, sum_by-filter}
+use Rattle.book_model.proofs.Lemmas.{is, is_first, length-sum_by, sum_by-filter}
 use Rattle.report_texts.specs.Centres.{rows_of_centre}
-use Rattle.table_model.specs.Readable.{IsReadable}
+use Rattle.table_model.specs.Words.{IsReadable}
 use Rattle.book_laws.specs.OtherPriceLaws.{CountSameWork, KeepsWork, NamesSameCentres, WhatIf}
 use Rattle.book_laws.proofs.ClosedLemmas.{closed_stays}
 use Rattle.book_laws.proofs.OtherPriceLemmas.{answered_rows, costs_as_said, counted_priced}

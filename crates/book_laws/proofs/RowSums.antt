@@ -1,20 +1,15 @@
 -- Charge rows sum what all prices sum to.
 use Rattle.std.proofs.Common.{◌≡◌, ℕ, ◌+◌, List, [], ◌∷◌, refl, sym, ap, ◌∙◌, true, false, Bool}
 use Rattle.std.proofs.Common.{cond, ◌||◌, map, arith, length, filter, sum_by}
-use Rattle.std.specs.Cmp.{IsEquivalence}
-use Rattle.std.specs.List.{list_any, IsDistinct}
 use Rattle.std.proofs.Math.Bool.{or-true}
-use Rattle.std.proofs.lemmas.List.Folds.{fold-map}
-use Rattle.std.proofs.lemmas.List.Sums.{sum_by-cons, length-filter}
-use Rattle.std.proofs.lemmas.Map.Views.{tells_apart}
+use Rattle.book_model.proofs.Std.{IsEquivalence, list_any, IsDistinct, fold-map, sum_by-cons}
+use Rattle.book_model.proofs.Std.{length-filter, tells_apart}
 use Rattle.book_model.specs.Words.{Priced, charged_at, key_of, keys_of, row_at, rows_of, same_bytes}
 use Rattle.book_model.specs.Words.{same_key, ChargeRow, RowKey}
-use Rattle.book_model.proofs.RowLemmas.{by_key_exact, by_key_total, same_key_is, same_key_laws}
-use Rattle.book_model.proofs.RowLemmas.{same_key_ties, keys_distinct}
-use Rattle.book_model.proofs.ListLemmas.{list_any-map, count_by-distinct}
-use Rattle.book_model.proofs.SetLemmas.{any_tied-members}
+use Rattle.book_model.proofs.Lemmas.{by_key_exact, by_key_total, same_key_ties, list_any-map}
+use Rattle.book_model.proofs.Lemmas.{count_by-distinct, any_tied-members, sum_by-filter}
+use Rattle.book_model.proofs.RowLemmas.{same_key_is, same_key_laws, keys_distinct}
 use Rattle.book_model.proofs.SumLemmas.{sum_by-exchange}
-use Rattle.book_model.proofs.SumsAlike.{sum_by-filter}
 use Rattle.report_texts.specs.Centres.{rows_of_centre}
 
 -- a number for each element of a list of one

@@ -4,24 +4,19 @@ use Rattle.std.proofs.Common.{◌≡◌, ◌∙◌, ℕ, zero, suc, ◌-◌, Boo
 use Rattle.std.proofs.Common.{[], ◌∷◌, map, reverse, Option, Some, None, unwrap_or, ap, arith, refl}
 use Rattle.std.proofs.Common.{subst, sym, ℤ, pos, ◌+ℤ◌, ◌<ℤ◌, ◌&&◌, All, IfSome, filter, find}
 use Rattle.std.proofs.Common.{if◌then◌else◌, int_lt, slice_get, filter_map, option_map, int_cmp}
-use Rattle.std.specs.List.{cons_option, list_all, list_any}
-use Rattle.std.specs.List.Sorted.{IsStrictlySortedBy}
-use Rattle.std.specs.Option.{option_map_or, option_or}
-use Rattle.std.specs.Result.{result_ok}
 use Rattle.std.proofs.lemmas.Bool.{or_parts}
-use Rattle.std.proofs.lemmas.Int.{ints}
-use Rattle.std.proofs.lemmas.List.Elements.{All-cons, All-filter, All-head, All-nil, All-tail}
-use Rattle.std.proofs.lemmas.List.Elements.{filter_passes}
+use Rattle.book_model.proofs.Std.{cons_option, list_all, list_any, IsStrictlySortedBy}
+use Rattle.book_model.proofs.Std.{option_map_or, option_or, result_ok, ints, All-cons, All-filter}
+use Rattle.book_model.proofs.Std.{All-head, All-nil, All-tail, filter_passes}
 use Rattle.book_model.specs.Words.{BilledTariff, through_of, AcceptedTerms, RulingSeen, Rulings}
 use Rattle.book_model.specs.Words.{TariffSeen, are_rising, begins_by, billed_tariff, has_begun}
 use Rattle.book_model.specs.Words.{in_force_from, is_between, is_day_of, is_through, tariff_by}
 use Rattle.book_model.specs.Words.{tariffs_from, tariffs_in, tariffs_seen, tariffs_through}
 use Rattle.book_model.specs.Words.{terms_in}
-use Rattle.book_model.proofs.CountedDays.{close_at, through_at}
-use Rattle.book_model.proofs.LatestLemmas.{begun-last, precedes}
-use Rattle.book_model.proofs.ListLemmas.{list_any-map}
-use Rattle.book_model.proofs.RecordSets.{first_of, second_of}
-use Rattle.table_model.specs.Readable.{IsTexted}
+use Rattle.book_model.proofs.Lemmas.{close_at, begun-last, list_any-map, first_of, second_of}
+use Rattle.book_model.proofs.CountedDays.{through_at}
+use Rattle.book_model.proofs.LatestLemmas.{precedes}
+use Rattle.table_model.specs.Words.{IsTexted}
 use Rattle.table_model.proofs.PeriodPlaces.{at_place}
 use Rattle.book_laws.specs.BillLaws.{BilledTariffsRule, IsInForceIn}
 use Rattle.book_laws.proofs.BilledTariffs.{found_more}

@@ -1,11 +1,9 @@
 -- Lists of requests on an open ledger.
 use Rattle.std.proofs.Common.{◌≡◌, ◌∙◌, ℕ, Bool, true, false, List, [], ◌∷◌, Result, Ok, Err, refl}
 use Rattle.std.proofs.Common.{sym, ap, subst, map, All}
-use Rattle.std.proofs.lemmas.List.Elements.{All-head, All-tail}
+use Rattle.book_model.proofs.Std.{All-head, All-tail}
 use Rattle.book_model.specs.Words.{LedgerFault, front, Book, Event, after_all, Naming, Outcome}
-use Rattle.book_core.specs.Calls.{Calls}
-use Rattle.book_core.specs.Ledgers.{Seen, IsOpenAt}
-use Rattle.book_core.specs.Transition.{IsTransition}
+use Rattle.book_core.specs.Words.{Calls, Seen, IsOpenAt, IsTransition}
 use Rattle.book_core.proofs.TransitionLemmas.{after_all-append}
 use Rattle.book_import.specs.declared.receipt.Receipt.{Receipt}
 use Rattle.book_import.specs.declared.receipt.Stop.{Stop}

@@ -1,11 +1,10 @@
 -- The laws of runs, from those of the histories that runs make.
 use Rattle.std.proofs.Common.{◌≡◌, ◌∙◌, ℕ, List, refl, sym, ap, subst, Some, pos, ℤ, option_map}
-use Rattle.std.specs.Result.{result_ok}
+use Rattle.book_model.proofs.Std.{result_ok}
 use Rattle.book_model.specs.Words.{ChargeRow, IsMadeByCalls, Book, new_book, is_undisputed, Event}
 use Rattle.book_model.specs.Words.{book_after, Outcome, Naming}
 use Rattle.book_model.proofs.OrderLemmas.{order_is_free}
-use Rattle.book_model.proofs.RecordSets.{has_those}
-use Rattle.book_model.proofs.StepLemmas.{books_follow_history}
+use Rattle.book_model.proofs.Lemmas.{has_those, books_follow_history}
 use Rattle.book_laws.specs.ClosedPeriods.{IsReadAlike}
 use Rattle.book_laws.specs.HistoryLaws.{IsBalanced}
 use Rattle.book_laws.specs.NetCounts.{one_if}

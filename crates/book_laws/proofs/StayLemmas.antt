@@ -2,20 +2,17 @@
 use Rattle.std.proofs.Common.{◌≡◌, ℕ, List, [], ◌∷◌, ◌++◌, refl, sym, ap, ◌∙◌, subst, true, false}
 use Rattle.std.proofs.Common.{true≢false, Bool, cond, Option, Some, None, suc, length, append-nil}
 use Rattle.std.proofs.Common.{ℤ, int_lt, filter, ok_or, option_map}
-use Rattle.std.specs.List.Sorted.{IsStrictlySortedBy}
-use Rattle.std.proofs.lemmas.List.Elements.{filter-append}
+use Rattle.book_model.proofs.Std.{IsStrictlySortedBy, filter-append}
 use Rattle.book_model.specs.Words.{day_of, NoSuchPeriod, AreAllDatedThrough, Book, Event}
 use Rattle.book_model.specs.Words.{IsMadeByCalls, Naming, Period, PeriodClosed, RulingGiven}
 use Rattle.book_model.specs.Words.{Rulings, TariffAccepted, book_after, is_dated_after, last_close}
 use Rattle.book_model.specs.Words.{members, no_event, open_number, period_of, period_on, price_in}
 use Rattle.book_model.specs.Words.{set_of, by_detail, detail_by, detail_of, details_asked}
 use Rattle.book_model.specs.Words.{details_for, details_of, next_after}
-use Rattle.book_model.proofs.CallLemmas.{calls_go_forward, closed_prices_stay}
+use Rattle.book_model.proofs.Lemmas.{calls_go_forward, closed_prices_stay, last_or-behind}
+use Rattle.book_model.proofs.Lemmas.{sound_after, pick-agree}
 use Rattle.book_model.proofs.DetailLemmas.{asked_rise, details_rise}
 use Rattle.book_model.proofs.DetailOrder.{next_in}
-use Rattle.book_model.proofs.ListLemmas.{last_or-behind}
-use Rattle.book_model.proofs.MadeByCallsLemmas.{sound_after}
-use Rattle.book_model.proofs.SetChanges.{pick-agree}
 use Rattle.book_model.proofs.SoundLemmas.{later_still}
 use Rattle.book_laws.proofs.ClosedLemmas.{closed_stays, found_past, past_period}
 use Rattle.book_laws.specs.ClosedPeriods.{IsClosed}

@@ -3,20 +3,17 @@ use Rattle.std.proofs.Common.{◌≡◌, ℕ, zero, suc, ◌-◌, ◌<◌, List,
 use Rattle.std.proofs.Common.{refl, sym, ap, ◌∙◌, subst, true, false, cond, not, Some, None}
 use Rattle.std.proofs.Common.{append-nil, arith, ℤ, pos, ◌+ℤ◌, ◌<ℤ◌, int_lt, filter, slice_get}
 use Rattle.std.proofs.Common.{MatchOption, if◌then◌else◌, option_map, int_cmp, length-append}
-use Rattle.std.specs.List.{last_or}
 use Rattle.std.specs.List.Sorted.{IsStrictlySortedBy}
-use Rattle.std.proofs.lemmas.Int.{ints}
-use Rattle.std.proofs.lemmas.List.Elements.{filter-append, filter_map-append}
 use Rattle.std.proofs.lemmas.Map.Keys.{Less-from_sorted}
-use Rattle.std.proofs.lemmas.Option.{get_or_from_slice_get, slice_get-get_or, slice_get_within}
+use Rattle.book_model.proofs.Std.{last_or, ints, filter-append, filter_map-append}
+use Rattle.book_model.proofs.Std.{get_or_from_slice_get, slice_get-get_or, slice_get_within}
 use Rattle.book_model.specs.Words.{AcceptedTerms, Book, Event, IsMadeByCalls, Naming, PeriodClosed}
 use Rattle.book_model.specs.Words.{RulingGiven, Rulings, RulingSeen, TariffAccepted, TariffSeen}
 use Rattle.book_model.specs.Words.{Terms, begins_by, book_after, in_force_from, tariff_seen}
 use Rattle.book_model.specs.Words.{tariffs_from, tariffs_in, tariffs_seen, tariffs_through}
-use Rattle.book_model.specs.RulingAnswers.{through_of}
-use Rattle.book_model.proofs.CallLemmas.{calls_go_forward}
-use Rattle.book_model.proofs.CountedDays.{close_at, through_at}
-use Rattle.book_model.proofs.ListLemmas.{slice_get-front}
+use Rattle.book_model.specs.Words.{through_of}
+use Rattle.book_model.proofs.Lemmas.{calls_go_forward, close_at, slice_get-front}
+use Rattle.book_model.proofs.CountedDays.{through_at}
 use Rattle.table_model.proofs.CloseOrder.{earlier as is_earlier, first_earlier}
 use Rattle.book_reports.proofs.KeptTariffLemmas.{in_force_push}
 use Rattle.book_laws.proofs.CountedLemmas.{closes_rise}

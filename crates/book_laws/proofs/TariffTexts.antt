@@ -2,13 +2,12 @@
 use Rattle.std.proofs.Common.{◌≡◌, ◌∙◌, ℕ, Bool, true, false, true≢false, List, [], ◌∷◌, ◌++◌}
 use Rattle.std.proofs.Common.{Option, Some, None, Ok, ap, refl, ◌||◌, ℤ, if◌then◌else◌, slice_get}
 use Rattle.std.proofs.Common.{filter_map, option_map, int_eq}
-use Rattle.std.specs.List.{cons_option, list_any}
 use Rattle.std.proofs.lemmas.Bool.Decides.{Decides-int_eq}
-use Rattle.std.proofs.lemmas.List.Elements.{filter_map-append}
+use Rattle.book_model.proofs.Std.{cons_option, list_any, filter_map-append}
 use Rattle.book_model.specs.Words.{Done, AcceptedTerms, Book, Event, RulingGiven, TariffAccepted}
 use Rattle.book_model.specs.Words.{TariffSeen, Terms, after, is_effective, tariff_seen}
 use Rattle.book_model.specs.Words.{tariff_text_on, tariffs_seen, terms_answer, text_on, with_tariff}
-use Rattle.book_model.proofs.TestLemmas.{tariff_passes}
+use Rattle.book_model.proofs.Lemmas.{tariff_passes}
 use Rattle.book_laws.specs.TariffLaws.{TariffTextsStay}
 
 -- what comes first stays first, whatever comes behind

@@ -2,8 +2,7 @@
 use Rattle.std.proofs.Common.{◌≡◌, ℕ, suc, ◌+◌, ◌≤◌, List, [], ◌∷◌, ◌++◌, length, refl, sym, ap}
 use Rattle.std.proofs.Common.{◌∙◌, true, false, Bool, cond, ◌&&◌, None, arith, filter, nat_lt}
 use Rattle.std.proofs.Common.{option_map, le-ltb, length-append}
-use Rattle.std.specs.List.{last_or}
-use Rattle.std.proofs.lemmas.List.Elements.{filter-append}
+use Rattle.book_model.proofs.Std.{last_or, filter-append}
 use Rattle.book_model.specs.Words.{Deed, Added, Charged, Reversed, Turn, Book, Event, IsMadeByCalls}
 use Rattle.book_model.specs.Words.{Naming, Period, PeriodClosed, book_after, charged_before}
 use Rattle.book_model.specs.Words.{charged_through, has, is_charge, last_close, life_from, life_of}

@@ -4,20 +4,16 @@ use Rattle.std.proofs.Common.{◌≡◌, ◌∙◌, ℕ, ◌+◌, ◌-◌, ◌/�
 use Rattle.std.proofs.Common.{length, map, refl, sym, subst, Option, ℤ, Some, None, Ok, Result}
 use Rattle.std.proofs.Common.{arith, length-append, All, codes, replicate, sum_by, decimal, ok_or}
 use Rattle.std.proofs.Common.{option_map}
-use Rattle.std.specs.Option.{option_map_or}
-use Rattle.std.proofs.lemmas.Bool.{and_parts}
-use Rattle.std.proofs.lemmas.Bool.Decides.{nat_tests}
 use Rattle.std.proofs.lemmas.Fmt.{length-decimal-le}
 use Rattle.std.proofs.lemmas.List.{length-replicate}
-use Rattle.std.proofs.lemmas.List.Elements.{All-map}
 use Rattle.std.proofs.lemmas.List.Sums.{sum_by-le}
+use Rattle.book_model.proofs.Std.{option_map_or, and_parts, nat_tests, All-map}
 use Rattle.smf_text.specs.Day.{day_text_of}
 use Rattle.book_model.specs.Words.{IsName, Priced, LedgerFault, NoSuchPeriod, ChargeRow, RowKey}
 use Rattle.book_model.specs.Words.{Book, Naming, IsPriced, Period, Records, charged_at, key_of}
 use Rattle.book_model.specs.Words.{AreAmong, keys_of, members, period_of, price_in, prices, row_at}
 use Rattle.book_model.specs.Words.{rows_for, rows_of}
-use Rattle.book_model.proofs.RowLemmas.{by_key_total, by_key_exact}
-use Rattle.book_model.proofs.SumsAlike.{length-sum_by, sum_by-filter_map}
+use Rattle.book_model.proofs.Lemmas.{by_key_total, by_key_exact, length-sum_by, sum_by-filter_map}
 use Rattle.book_laws.proofs.RowSums.{sum_by-rows}
 use Rattle.book_core.proofs.ListLimits.{All-members}
 use Rattle.table_model.proofs.ListLemmas.{held_in}
@@ -25,7 +21,7 @@ use Rattle.report_texts.specs.Columns.{amount_text, digits_in, left_aligned, new
 use Rattle.report_texts.specs.Columns.{seconds_text}
 use Rattle.report_texts.specs.Statements.{heading, key_columns, number_columns, row_line}
 use Rattle.report_texts.specs.Statements.{sum_columns, total_line}
-use Rattle.table_model.specs.Readable.{IsReadable}
+use Rattle.table_model.specs.Words.{IsReadable}
 use Rattle.table_model.proofs.PriceSums.{all_priced, part_within, some_within}
 use Rattle.book_laws.specs.StatementWidths.{AreAligned, StatementsAreAligned}
 

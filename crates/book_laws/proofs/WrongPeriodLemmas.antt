@@ -2,17 +2,14 @@
 use Rattle.std.proofs.Common.{◌≡◌, ℕ, ◌+◌, List, [], ◌∷◌, ◌++◌, refl, sym, ap, ◌∙◌, true, false}
 use Rattle.std.proofs.Common.{Bool, not, ◌&&◌, ◌||◌, Option, None, Some, arith, replicate, ℤ, pos}
 use Rattle.std.proofs.Common.{◌-ℤ◌}
-use Rattle.std.specs.List.{list_any}
 use Rattle.std.proofs.Math.Bool.{and-false}
-use Rattle.std.proofs.lemmas.Cmp.{nat_list_cmp_total}
-use Rattle.std.proofs.lemmas.Int.{ints}
-use Rattle.std.proofs.lemmas.Map.Lookups.{exact_bytes}
+use Rattle.book_model.proofs.Std.{list_any, nat_list_cmp_total, ints, exact_bytes}
 use Rattle.book_model.specs.Words.{day_of, Period, period_by, Book, conflict, is_undisputed}
 use Rattle.book_model.specs.Words.{is_dated_through, is_dated_after, charged_now, charged_through}
 use Rattle.book_model.specs.Words.{Event, RecordKept, PeriodClosed, book_after, Records, by_bytes}
 use Rattle.book_model.specs.Words.{Rulings, no_rulings, last_close, set_of, has, without}
-use Rattle.book_model.proofs.SetLemmas.{has-set_of, any-members}
-use Rattle.book_model.proofs.RecordSets.{is, has_those}
+use Rattle.book_model.proofs.Lemmas.{has-set_of, is, has_those}
+use Rattle.book_model.proofs.SetLemmas.{any-members}
 use Rattle.book_laws.specs.NetCounts.{one_if, net_count}
 use Rattle.book_laws.specs.WrongPeriods.{closed_periods_by, ChargedOnceBy, as_defined, no_minus}
 use Rattle.book_laws.specs.WrongPeriods.{counts_late, adds_current, WrongPeriodsFail}

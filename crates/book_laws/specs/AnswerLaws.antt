@@ -1,8 +1,7 @@
 -- Laws of single calls of a ledger: each has one answer, and leaves one book.
 use Rattle.std.specs.Prelude.{◌≡◌, ◌≢◌, Result, Ok, Err}
 use Rattle.book_model.specs.Words.{LedgerFault, Memory, Store, Naming, Book, after_all, Outcome}
-use Rattle.book_core.specs.Ledgers.{Seen, IsOpenAt}
-use Rattle.book_core.specs.Calls.{IsCall, listed}
+use Rattle.book_core.specs.Words.{Seen, IsOpenAt, IsCall, listed}
 
 -- a call of a ledger that was open with this book, on a store that is honest to the end
 pub record IsCalled {V A : Type 0} (view : V → A) (outcome : Book → Outcome A) (naming : Naming)

@@ -4,8 +4,7 @@ use Rattle.std.specs.Prelude.{◌-ℤ◌, ◌++◌}
 use Rattle.book_model.specs.Words.{Period, Book, charged_of, all_periods, is_dated_after, Event}
 use Rattle.book_model.specs.Words.{book_after, day_of_close, Naming, Rulings, has, total_of}
 use Rattle.book_model.specs.Words.{IsAnswered, IsMadeByCalls, IsSound, after}
-use Rattle.table_model.specs.FromCalls.{IsSubmittedTo}
-use Rattle.table_model.specs.Readable.{IsReadable}
+use Rattle.table_model.specs.Words.{IsSubmittedTo, IsReadable}
 use Rattle.book_laws.specs.NetCounts.{net_count, one_if, NamesOnce}
 use Rattle.book_laws.specs.PeriodLines.{AreReadOnce}
 use Rattle.book_laws.specs.ClosedPeriods.{IsClosed, IsReadAlike}

@@ -1,8 +1,7 @@
 -- The law of imports: a dump has one receipt, and leaves one book.
 use Rattle.std.specs.Prelude.{◌≡◌, Ok}
 use Rattle.book_model.specs.Words.{Naming, Book, after_all}
-use Rattle.book_core.specs.Ledgers.{Books, Seen, IsOpenAt, books}
-use Rattle.book_core.specs.Transition.{IsTransition}
+use Rattle.book_core.specs.Words.{Books, Seen, IsOpenAt, books, IsTransition}
 use Rattle.book_import.specs.declared.receipt.Receipt.{Receipt}
 use Rattle.book_import.specs.Imports.{Imports}
 use Rattle.book_import.specs.Repeats.{IsUnhindered}

@@ -1,8 +1,7 @@
 -- The law of lists of requests: each has one answer, and they leave one book.
 use Rattle.std.specs.Prelude.{◌≡◌, false, All, List, [], ◌∷◌, map, Result}
 use Rattle.book_model.specs.Words.{LedgerFault, Naming, Book, after_all}
-use Rattle.book_core.specs.Ledgers.{Books, Seen, IsOpenAt, books}
-use Rattle.book_core.specs.Transition.{IsTransition}
+use Rattle.book_core.specs.Words.{Books, Seen, IsOpenAt, books, IsTransition}
 use Rattle.office.specs.declared.request.Asked.{Asked}
 use Rattle.office.specs.declared.request.Answer.{Answer}
 use Rattle.office.specs.Outcomes.{asked_outcome, is_hindered}

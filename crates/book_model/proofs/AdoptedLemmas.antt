@@ -2,13 +2,10 @@
 use Rattle.std.proofs.Common.{◌≡◌, ℕ, List, [], ◌∷◌, ◌++◌, refl, sym, ap, ◌∙◌, true, false}
 use Rattle.std.proofs.Common.{true≢false, Bool, cond, not, ◌||◌, ◌&&◌, Option, Some, None, length}
 use Rattle.std.proofs.Common.{All, filter, take, ◌==◌, if◌then◌else◌, Result, Ok, Err, is_some}
-use Rattle.std.specs.List.{list_any, last_or}
-use Rattle.std.specs.Option.{option_map_or}
 use Rattle.std.proofs.Math.Bool.{and-false, or-true}
-use Rattle.std.proofs.lemmas.Cmp.{nat_list_cmp_total, nat_list_eq_equiv}
-use Rattle.std.proofs.lemmas.Map.Lookups.{exact_bytes}
-use Rattle.std.proofs.lemmas.Map.Views.{tells_apart}
 use Rattle.std.proofs.Math.Seq.{take-append_seam}
+use Rattle.book_model.proofs.Std.{list_any, last_or, option_map_or, nat_list_cmp_total}
+use Rattle.book_model.proofs.Std.{nat_list_eq_equiv, exact_bytes, tells_apart}
 use Rattle.smf_type30.specs.Usage.{identity2_of}
 use Rattle.smf_type30.proofs.IdentityLength.{identity-long}
 use Rattle.book_model.specs.Words.{IsUsage, identity_of, initiation_of, share_identity, conflict}

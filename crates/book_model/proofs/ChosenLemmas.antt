@@ -3,14 +3,9 @@
 use Rattle.std.proofs.Common.{◌≡◌, ℕ, List, [], ◌∷◌, ◌++◌, map, refl, sym, ap, ◌∙◌, true, false}
 use Rattle.std.proofs.Common.{true≢false, Bool, cond, not, ◌||◌, ◌&&◌, Option, Some, None, All}
 use Rattle.std.proofs.Common.{filter}
-use Rattle.std.specs.List.{list_any, last_or}
-use Rattle.std.specs.Option.{option_map_or}
 use Rattle.std.proofs.Math.Bool.{and-false, or-true, or-false}
-use Rattle.std.proofs.lemmas.Cmp.{nat_list_eq_equiv}
-use Rattle.std.proofs.lemmas.List.{map-append}
-use Rattle.std.proofs.lemmas.List.Elements.{All-head, All-tail, filter-append}
-use Rattle.std.proofs.lemmas.Map.Lookups.{exact_bytes}
-use Rattle.std.proofs.lemmas.Map.Views.{tells_apart}
+use Rattle.book_model.proofs.Std.{list_any, last_or, option_map_or, nat_list_eq_equiv, map-append}
+use Rattle.book_model.proofs.Std.{All-head, All-tail, filter-append, exact_bytes, tells_apart}
 use Rattle.book_model.specs.Words.{share_identity, is_unrivalled, last_chosen, is_chosen}
 use Rattle.book_model.specs.Words.{is_undisputed, charged_now, Records, same_bytes, Rulings, Choice}
 use Rattle.book_model.specs.Words.{identity_by, with_choice, open_by, has, with, those, IsChoiceOf}

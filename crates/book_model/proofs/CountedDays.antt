@@ -5,14 +5,11 @@ use Rattle.std.proofs.Common.{ap, ◌∙◌, subst, true, false, true≢false, B
 use Rattle.std.proofs.Common.{Option, Some, None, get_or, arith, inl, inr, ℤ, pos, ◌<ℤ◌, int_lt}
 use Rattle.std.proofs.Common.{nat_lt, slice_get, if◌then◌else◌, int_cmp, Less, ltb-true, ltb-false}
 use Rattle.std.proofs.Common.{ne_eqb, length-append}
-use Rattle.std.specs.Cmp.{both_ways, int_ranked}
-use Rattle.std.specs.List.{list_any}
-use Rattle.std.specs.List.Sorted.{IsStrictlySortedBy}
+use Rattle.std.specs.Cmp.{int_ranked}
 use Rattle.std.proofs.lemmas.Bool.{and_from}
-use Rattle.std.proofs.lemmas.Int.{ints}
-use Rattle.std.proofs.lemmas.List.Folds.{list_any_at}
 use Rattle.std.proofs.lemmas.Map.Keys.{Less-from_sorted}
-use Rattle.std.proofs.lemmas.Option.{get_or_from_slice_get, slice_get-get_or, slice_get_within}
+use Rattle.book_model.proofs.Std.{both_ways, list_any, IsStrictlySortedBy, ints, list_any_at}
+use Rattle.book_model.proofs.Std.{get_or_from_slice_get, slice_get-get_or, slice_get_within}
 use Rattle.book_model.specs.Words.{day_of, Book, all_periods, charged_of, open_period}
 use Rattle.book_model.specs.Words.{is_dated_after, is_dated_through, is_undisputed, is_after}
 use Rattle.book_model.specs.Words.{is_between, is_through, counted_of, is_counted, is_dated_in}

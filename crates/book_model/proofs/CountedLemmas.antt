@@ -3,12 +3,8 @@
 use Rattle.std.proofs.Common.{◌≡◌, ℕ, suc, List, [], ◌∷◌, ◌++◌, refl, sym, ap, ◌∙◌, true, false}
 use Rattle.std.proofs.Common.{true≢false, Bool, not, ◌&&◌, ◌||◌, Option, Some, None, arith, All, ℤ}
 use Rattle.std.proofs.Common.{int_lt, ◌<ℤ◌, MatchOption}
-use Rattle.std.specs.List.{list_any}
 use Rattle.std.proofs.Math.Bool.{and-true, or-false}
-use Rattle.std.proofs.lemmas.Bool.{false_from_ne_true}
-use Rattle.std.proofs.lemmas.Int.{ints}
-use Rattle.std.proofs.lemmas.List.Elements.{All-weaker}
-use Rattle.std.proofs.lemmas.List.Folds.{list_any-append}
+use Rattle.book_model.proofs.Std.{list_any, false_from_ne_true, ints, All-weaker, list_any-append}
 use Rattle.book_model.specs.Words.{day_of, Book, charged_of, charged_through, is_dated_after}
 use Rattle.book_model.specs.Words.{is_dated_through, is_undisputed, counted_of, is_counted}
 use Rattle.book_model.specs.Words.{is_counted_in, close, IsAfterLastClose, Period, period_by}

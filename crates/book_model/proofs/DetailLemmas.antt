@@ -4,15 +4,10 @@ use Rattle.std.proofs.Common.{◌≡◌, ℕ, List, [], ◌∷◌, refl, sym, ap
 use Rattle.std.proofs.Common.{cond, map, Option, Some, None, filter, filter_map, IsPermutation}
 use Rattle.std.proofs.Common.{IsSorted, option_map, is_eq, nat_cmp, Ordering, Less, Equal, Greater}
 use Rattle.std.specs.BTreeSet.{insert_key}
-use Rattle.std.specs.List.{cons_option, list_any, IsDistinct}
-use Rattle.std.specs.List.Sorted.{IsStrictlySortedBy}
-use Rattle.std.specs.Option.{option_map_or}
-use Rattle.std.specs.Ordering.{eq_by_cmp, ordering_then}
-use Rattle.std.proofs.lemmas.Cmp.{nat_list_cmp_total}
-use Rattle.std.proofs.lemmas.List.Kept.{IsStrictlySortedBy-filter}
-use Rattle.std.proofs.lemmas.List.Sorted.{IsPermutation-sym}
-use Rattle.std.proofs.lemmas.Map.Keys.{IsDistinct-from_sorted}
-use Rattle.std.proofs.lemmas.Map.Lookups.{exact_bytes}
+use Rattle.book_model.proofs.Std.{cons_option, list_any, IsDistinct, IsStrictlySortedBy}
+use Rattle.book_model.proofs.Std.{option_map_or, eq_by_cmp, ordering_then, nat_list_cmp_total}
+use Rattle.book_model.proofs.Std.{IsStrictlySortedBy-filter, IsPermutation-sym}
+use Rattle.book_model.proofs.Std.{IsDistinct-from_sorted, exact_bytes}
 use Rattle.book_model.specs.Words.{Priced, Detail, by_detail, detail_by, detail_of, details_asked}
 use Rattle.book_model.specs.Words.{details_for, Naming, Records, by_bytes, name_of, same_bytes}
 use Rattle.book_model.specs.Words.{by_key, key_of, Rulings, price_in, has, members, set_of, those}

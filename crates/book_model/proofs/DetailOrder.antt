@@ -3,14 +3,11 @@ use Rattle.std.proofs.Common.{◌≡◌, ℕ, zero, suc, List, [], ◌∷◌, �
 use Rattle.std.proofs.Common.{true, false, true≢false, Bool, ◌&&◌, cond, append_assoc, drop, take}
 use Rattle.std.proofs.Common.{Option, Some, None, filter, find, slice_get, Contains, is_eq, is_lt}
 use Rattle.std.proofs.Common.{Less, Equal, Greater, take-append-drop}
-use Rattle.std.specs.Cmp.{IsTotalOrder}
-use Rattle.std.specs.List.{AllByRecursion}
-use Rattle.std.specs.List.Sorted.{IsStrictlySortedBy}
-use Rattle.std.specs.Ordering.{ordering_reverse}
-use Rattle.std.proofs.lemmas.Cmp.{eq_by_cmp_equiv, nat_cmp_total, nat_list_cmp_total, on_total}
-use Rattle.std.proofs.lemmas.Cmp.{then_total}
-use Rattle.std.proofs.lemmas.List.Elements.{All-contains, All-from_recursion, Contains-append_right}
-use Rattle.std.proofs.lemmas.Map.Keys.{sorted_head, sorted_tail}
+use Rattle.book_model.proofs.Std.{IsTotalOrder, AllByRecursion, IsStrictlySortedBy}
+use Rattle.book_model.proofs.Std.{ordering_reverse, eq_by_cmp_equiv, nat_cmp_total}
+use Rattle.book_model.proofs.Std.{nat_list_cmp_total, on_total, then_total, All-contains}
+use Rattle.book_model.proofs.Std.{All-from_recursion, Contains-append_right, sorted_head}
+use Rattle.book_model.proofs.Std.{sorted_tail}
 use Rattle.book_model.specs.Words.{Detail, by_detail, comes_after, details_asked, first_detail}
 use Rattle.book_model.specs.Words.{is_asked, next_after, key_of}
 use Rattle.book_model.proofs.PermutedSets.{first_or, has_first, has_none}

@@ -3,15 +3,14 @@ use Rattle.std.proofs.Common.{◌≡◌, List, [], ◌∷◌, refl, sym, ap, ◌
 use Rattle.std.proofs.Common.{cond, Option, Some, None, T, arith, get_or, length, filter}
 use Rattle.std.proofs.Common.{filter_map, Contains, IsPermutation, is_eq, Ordering, Less, Equal}
 use Rattle.std.proofs.Common.{Greater}
-use Rattle.std.specs.Cmp.{IsTotalOrder}
-use Rattle.std.specs.FinMap.{FinMap, IsAntisymmetric, find, entries, empty, from_entries}
-use Rattle.std.specs.FinMap.{entries_sorted, get-entries, get-from_entries, entries-insert}
-use Rattle.std.specs.FinMap.{len-entries, len-empty}
-use Rattle.std.specs.FinMap.Entries.{put, by_order, is_sorted, same_entries}
-use Rattle.std.specs.List.{cons_option}
-use Rattle.std.proofs.lemmas.List.Sorted.{IsPermutation-refl, IsPermutation-cons}
-use Rattle.std.proofs.lemmas.List.Sorted.{IsPermutation-trans, IsPermutation-middle}
-use Rattle.std.proofs.lemmas.List.Sorted.{length_permutation, Contains-permutation}
+use Rattle.std.specs.FinMap.{find, entries-insert}
+use Rattle.std.specs.FinMap.Entries.{put, by_order, same_entries}
+use Rattle.std.proofs.lemmas.List.Sorted.{IsPermutation-cons, IsPermutation-middle}
+use Rattle.std.proofs.lemmas.List.Sorted.{Contains-permutation}
+use Rattle.book_model.proofs.Std.{IsTotalOrder, FinMap, IsAntisymmetric, entries, empty}
+use Rattle.book_model.proofs.Std.{from_entries, entries_sorted, get-entries, get-from_entries}
+use Rattle.book_model.proofs.Std.{len-entries, len-empty, is_sorted, cons_option}
+use Rattle.book_model.proofs.Std.{IsPermutation-refl, IsPermutation-trans, length_permutation}
 
 -- a list of no length
 pub no_length : {X : Type 0} (xs : List X) → length xs ≡ 0 → xs ≡ []

@@ -3,13 +3,10 @@ use Rattle.std.proofs.Common.{◌≡◌, List, [], ◌∷◌, map, refl, sym, ap
 use Rattle.std.proofs.Common.{Option, Some, None, filter_map, option_map, Ordering, Less, Equal}
 use Rattle.std.proofs.Common.{Greater}
 use Rattle.std.specs.BTreeSet.{insert_key}
-use Rattle.std.specs.Cmp.{IsTotalOrder}
-use Rattle.std.specs.FinMap.{IsAntisymmetric, find}
-use Rattle.std.specs.List.{list_any, cons_option}
-use Rattle.std.specs.Option.{option_map_or}
-use Rattle.std.specs.Ordering.{eq_by_cmp, match_ordering}
+use Rattle.std.specs.FinMap.{find}
 use Rattle.std.proofs.Math.Bool.{or-true}
-use Rattle.std.proofs.lemmas.Cmp.{eq_by_cmp_equiv}
+use Rattle.book_model.proofs.Std.{IsTotalOrder, IsAntisymmetric, list_any, cons_option}
+use Rattle.book_model.proofs.Std.{option_map_or, eq_by_cmp, match_ordering, eq_by_cmp_equiv}
 use Rattle.book_model.proofs.MapLemmas.{by_tie}
 
 -- what a function gives of what a partial function gives

@@ -2,15 +2,10 @@
 use Rattle.std.proofs.Common.{◌≡◌, ◌∙◌, ℕ, List, [], ◌∷◌, ◌++◌, map, Bool, true, false, not, cond}
 use Rattle.std.proofs.Common.{Some, refl, sym, ap, subst, true≢false, arith, filter, find}
 use Rattle.std.proofs.Common.{slice_get, option_map, is_lt, nat_cmp, Less, Equal, Greater, map-id}
-use Rattle.std.specs.Cmp.{nat_cmp_total, tied_itself}
-use Rattle.std.specs.List.{AllByRecursion}
 use Rattle.std.specs.List.Sorted.{IsStrictlySortedBy}
-use Rattle.std.specs.Ordering.{ordering_reverse, ordering_then}
-use Rattle.std.proofs.lemmas.Bool.Decides.{nat_tests}
-use Rattle.std.proofs.lemmas.Cmp.{nat_list_cmp_total}
-use Rattle.std.proofs.lemmas.List.Kept.{IsStrictlySortedBy-filter}
-use Rattle.std.proofs.lemmas.Map.Lookups.{exact_bytes}
-use Rattle.std.proofs.lemmas.Simd.{map-map}
+use Rattle.book_model.proofs.Std.{nat_cmp_total, tied_itself, AllByRecursion, ordering_reverse}
+use Rattle.book_model.proofs.Std.{ordering_then, nat_tests, nat_list_cmp_total}
+use Rattle.book_model.proofs.Std.{IsStrictlySortedBy-filter, exact_bytes, map-map}
 use Rattle.book_model.specs.Words.{Disputed, dispute_at, dispute_from, disputes_in, identities}
 use Rattle.book_model.specs.Words.{is_from, is_in_dispute, Naming, Records, by_bytes, Rulings}
 use Rattle.book_model.specs.Words.{identity_by, members, set_of}

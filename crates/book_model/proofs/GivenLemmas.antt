@@ -1,12 +1,9 @@
 -- Results of a partial function for distinct records: they are distinct, and which they are.
 use Rattle.std.proofs.Common.{◌≡◌, ℕ, List, [], ◌∷◌, refl, sym, ap, ◌∙◌, subst, true, false}
-use Rattle.std.proofs.Common.{true≢false, Bool, ◌||◌, Option, Some, None}
-use Rattle.std.specs.List.{list_any, filter_map, cons_option, Contains}
-use Rattle.std.specs.Option.{option_map_or}
+use Rattle.std.proofs.Common.{true≢false, Bool, ◌||◌, Option, Some, None, filter_map, Contains}
 use Rattle.std.proofs.Math.Bool.{or-true}
-use Rattle.std.proofs.lemmas.List.Elements.{Contains-append_right}
-use Rattle.std.proofs.lemmas.Map.Lookups.{exact_bytes}
-use Rattle.std.proofs.lemmas.Map.Views.{tells_apart}
+use Rattle.book_model.proofs.Std.{list_any, cons_option, option_map_or, Contains-append_right}
+use Rattle.book_model.proofs.Std.{exact_bytes, tells_apart}
 use Rattle.book_model.proofs.PermutedSets.{Apart, first_or, has_first, has_none}
 use Rattle.book_model.proofs.RecordSets.{is, is_first}
 use Rattle.book_model.proofs.SetChanges.{none_among}

@@ -4,12 +4,9 @@ use Rattle.std.proofs.Common.{◌≡◌, ℕ, zero, suc, ◌≤◌, ◌<◌, Lis
 use Rattle.std.proofs.Common.{None, refl, ap, sym, ◌∙◌, arith, Bool, ◌++◌, cond, ℤ, slice_get}
 use Rattle.std.proofs.Common.{filter, nat_le, unwrap_or, option_and_then, lt-ltb, le-ltb, le-leb}
 use Rattle.std.proofs.Common.{length-append, append-nil}
-use Rattle.std.specs.List.{last_or}
 use Rattle.std.proofs.lemmas.Bool.{lt-leb}
-use Rattle.std.proofs.lemmas.List.{take-append-le}
-use Rattle.std.proofs.lemmas.List.Elements.{filter-append}
 use Rattle.std.proofs.Math.Seq.{take-length, take-append_seam}
-use Rattle.std.proofs.lemmas.Option.{slice_get_past}
+use Rattle.book_model.proofs.Std.{last_or, take-append-le, filter-append, slice_get_past}
 use Rattle.book_model.specs.Words.{charged_now, charged_by, Event, PeriodClosed, RulingGiven}
 use Rattle.book_model.specs.Words.{rulings, closes, day_of_close, held_before, charged_in, Records}
 use Rattle.book_model.specs.Words.{by_bytes, Rulings, AcceptedTerms, Choice, rulings_before}

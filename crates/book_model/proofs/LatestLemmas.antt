@@ -2,10 +2,7 @@
 use Rattle.std.proofs.Common.{◌≡◌, ℕ, List, [], ◌∷◌, ◌++◌, refl, sym, ap, ◌∙◌, cond, true, false}
 use Rattle.std.proofs.Common.{Bool, not, ◌&&◌, Option, Some, None, ℤ, int_lt, filter, find, reverse}
 use Rattle.std.proofs.Common.{option_map}
-use Rattle.std.specs.Option.{option_map_or, option_or}
-use Rattle.std.specs.List.{list_all}
-use Rattle.std.proofs.lemmas.List.{reverse-append}
-use Rattle.std.proofs.lemmas.List.Folds.{find-append}
+use Rattle.book_model.proofs.Std.{option_map_or, option_or, list_all, reverse-append, find-append}
 use Rattle.book_model.specs.Words.{day_of, price_by, Priced, Terms, Rulings, AcceptedTerms, latest}
 use Rattle.book_model.specs.Words.{are_rising, has_begun, in_force, last_close, price_in}
 use Rattle.book_model.specs.Words.{price_under, with_tariff, is_after, is_later}

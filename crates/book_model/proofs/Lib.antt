@@ -41,3 +41,5 @@ pub mod OrderLemmas
 pub mod DetailOrder
 pub mod DetailLemmas
 pub mod CountedDays
+pub mod Std
+pub mod Lemmas

@@ -2,15 +2,13 @@
 use Rattle.std.proofs.Common.{◌≡◌, ℕ, List, [], ◌∷◌, refl, sym, ap, ◌∙◌, true, false, true≢false}
 use Rattle.std.proofs.Common.{Bool, Option, map, IsPermutation, IsSorted, option_map, int_cmp}
 use Rattle.std.proofs.Common.{is_eq, Ordering, Less, Equal, Greater}
-use Rattle.std.specs.Cmp.{IsTotalOrder}
-use Rattle.std.specs.Cmp.Lexicographic.{texts_ties}
-use Rattle.std.specs.List.{AllByRecursion, IsDistinct}
+use Rattle.std.specs.List.{IsDistinct}
 use Rattle.std.specs.List.Sorted.{IsStrictlySortedBy}
-use Rattle.std.specs.Ordering.{eq_by_cmp, ordering_then, ordering_reverse}
-use Rattle.std.proofs.lemmas.Cmp.{then_total, on_total, nat_list_cmp_total, int_cmp_total}
-use Rattle.std.proofs.lemmas.Cmp.{nat_list_eq_equiv}
-use Rattle.std.proofs.lemmas.List.Sorted.{IsPermutation-map}
 use Rattle.std.proofs.lemmas.Map.Keys.{IsDistinct-IsPermutation}
+use Rattle.book_model.proofs.Std.{IsTotalOrder, texts_ties, AllByRecursion, eq_by_cmp}
+use Rattle.book_model.proofs.Std.{ordering_then, ordering_reverse, then_total, on_total}
+use Rattle.book_model.proofs.Std.{nat_list_cmp_total, int_cmp_total, nat_list_eq_equiv}
+use Rattle.book_model.proofs.Std.{IsPermutation-map}
 use Rattle.book_model.specs.Words.{Priced, Line, plus_first, by_line, line_with, Naming, name_of}
 use Rattle.book_model.specs.Words.{by_bytes, same_bytes, Rulings, price_in, set_of, members}
 use Rattle.book_model.proofs.PermutedSets.{rising_from_sorted, sorted_members}

@@ -1,10 +1,9 @@
 -- Entries that give each key of a list a value of its own.
 use Rattle.std.proofs.Common.{◌≡◌, List, [], ◌∷◌, refl, sym, ap, subst, cond, ◌||◌, ◌&&◌, Some}
 use Rattle.std.proofs.Common.{None, map, T, is_lt, is_eq, Ordering, Less, Equal, Greater}
-use Rattle.std.specs.FinMap.Entries.{find, below_all, is_sorted}
-use Rattle.std.specs.List.{list_any}
-use Rattle.std.specs.Ordering.{eq_by_cmp}
-use Rattle.book_model.specs.Sets.{Set, members}
+use Rattle.std.specs.FinMap.Entries.{find, below_all}
+use Rattle.book_model.proofs.Std.{is_sorted, list_any, eq_by_cmp}
+use Rattle.book_model.specs.Words.{Set, members}
 use Rattle.std.specs.FinMap as fin
 
 -- each key with its value

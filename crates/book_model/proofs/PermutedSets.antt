@@ -4,20 +4,17 @@ use Rattle.std.proofs.Common.{ap, ◌∙◌, subst, true, false, true≢false, B
 use Rattle.std.proofs.Common.{Some, None, map, arith, filter, filter_map, Contains, IsPermutation}
 use Rattle.std.proofs.Common.{IsSorted, is_eq, is_lt, Ordering, Less, Equal, Greater}
 use Rattle.std.specs.BTreeSet.{insert_key}
-use Rattle.std.specs.Cmp.{IsTotalOrder}
-use Rattle.std.specs.List.{list_any, cons_option, AllByRecursion, IsDistinct}
-use Rattle.std.specs.List.Sorted.{IsStrictlySortedBy}
-use Rattle.std.specs.Ordering.{eq_by_cmp, match_ordering, ordering_reverse}
-use Rattle.std.proofs.lemmas.Cmp.{eq_by_cmp_equiv}
-use Rattle.std.proofs.lemmas.List.Elements.{All-from_recursion, All-contains, Contains-append_right}
-use Rattle.std.proofs.lemmas.List.Folds.{list_any_none}
-use Rattle.std.proofs.lemmas.List.Sorted.{IsPermutation-refl, IsPermutation-cons, IsPermutation-sym}
-use Rattle.std.proofs.lemmas.List.Sorted.{IsPermutation-trans, IsPermutation-middle}
+use Rattle.std.proofs.lemmas.List.Sorted.{IsPermutation-cons, IsPermutation-middle}
 use Rattle.std.proofs.lemmas.List.Sorted.{Contains-permutation}
-use Rattle.std.proofs.lemmas.Map.Keys.{IsDistinct-head, IsDistinct-tail, IsDistinct-cons}
-use Rattle.std.proofs.lemmas.Map.Keys.{IsDistinct-IsPermutation, sorted_head, sorted_tail}
+use Rattle.std.proofs.lemmas.Map.Keys.{IsDistinct-cons, IsDistinct-IsPermutation}
 use Rattle.std.proofs.lemmas.Map.Keys.{sorted_from_all_adjacent}
-use Rattle.book_model.specs.Sets.{set_of, members}
+use Rattle.book_model.proofs.Std.{IsTotalOrder, list_any, cons_option, AllByRecursion, IsDistinct}
+use Rattle.book_model.proofs.Std.{IsStrictlySortedBy, eq_by_cmp, match_ordering, ordering_reverse}
+use Rattle.book_model.proofs.Std.{eq_by_cmp_equiv, All-from_recursion, All-contains}
+use Rattle.book_model.proofs.Std.{Contains-append_right, list_any_none, IsPermutation-refl}
+use Rattle.book_model.proofs.Std.{IsPermutation-sym, IsPermutation-trans, IsDistinct-head}
+use Rattle.book_model.proofs.Std.{IsDistinct-tail, sorted_head, sorted_tail}
+use Rattle.book_model.specs.Words.{set_of, members}
 use Rattle.book_model.proofs.SetLemmas.{members-empty, members-with, members_rise, any_tied-members}
 use Rattle.std.proofs.lemmas.Map.Keys as keys
 

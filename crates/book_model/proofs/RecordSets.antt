@@ -2,11 +2,8 @@
 use Rattle.std.proofs.Common.{◌≡◌, ℕ, List, ◌∷◌, refl, sym, ap, ◌∙◌, true, false, true≢false, Bool}
 use Rattle.std.proofs.Common.{not, ◌||◌, ◌&&◌}
 use Rattle.std.proofs.Math.Bool.{or-true}
-use Rattle.std.specs.List.{list_any}
-use Rattle.std.specs.Ordering.{eq_by_cmp}
-use Rattle.std.proofs.lemmas.Cmp.{nat_list_cmp_total, eq_by_cmp_equiv}
-use Rattle.std.proofs.lemmas.Map.Lookups.{exact_bytes}
-use Rattle.std.proofs.lemmas.Map.Views.{tells_apart}
+use Rattle.book_model.proofs.Std.{list_any, eq_by_cmp, nat_list_cmp_total, eq_by_cmp_equiv}
+use Rattle.book_model.proofs.Std.{exact_bytes, tells_apart}
 use Rattle.book_model.specs.Words.{Records, by_bytes, has, with, those}
 use Rattle.book_model.proofs.SetLemmas.{has-with, has-those, same_set}
 

@@ -1,13 +1,9 @@
 -- Sets of records, with one record more or one less.
 use Rattle.std.proofs.Common.{◌≡◌, ℕ, List, [], ◌∷◌, refl, sym, ap, ◌∙◌, true, false, true≢false}
 use Rattle.std.proofs.Common.{Bool, not, ◌||◌, ◌&&◌, Option, map, sum_by, filter_map, is_eq, Less}
-use Rattle.std.specs.List.{AllByRecursion, list_any}
-use Rattle.std.specs.List.Sorted.{IsStrictlySortedBy}
 use Rattle.std.proofs.Math.Bool.{or-true, and-false}
-use Rattle.std.proofs.lemmas.Cmp.{nat_list_cmp_total, eq_by_cmp_equiv}
-use Rattle.std.proofs.lemmas.Map.Keys.{sorted_head}
-use Rattle.std.proofs.lemmas.Map.Lookups.{exact_bytes}
-use Rattle.std.proofs.lemmas.Map.Views.{tells_apart}
+use Rattle.book_model.proofs.Std.{AllByRecursion, list_any, IsStrictlySortedBy, nat_list_cmp_total}
+use Rattle.book_model.proofs.Std.{eq_by_cmp_equiv, sorted_head, exact_bytes, tells_apart}
 use Rattle.book_model.specs.Words.{Records, Naming, name_of, by_bytes, members, has, with, those}
 use Rattle.book_model.proofs.ListLemmas.{filter_map-map}
 use Rattle.book_model.proofs.MapLemmas.{by_tie}

@@ -3,14 +3,12 @@
 use Rattle.std.proofs.Common.{◌≡◌, List, [], ◌∷◌, refl, sym, ap, ◌∙◌, true, false, true≢false, cond}
 use Rattle.std.proofs.Common.{Option, Some, None, filter_map, is_eq, Ordering, Less, Equal, Greater}
 use Rattle.std.specs.BTreeSet.{insert_key}
-use Rattle.std.specs.Cmp.{IsTotalOrder}
-use Rattle.std.specs.FinMap.{FinMap, find, entries, empty, from_entries, get-entries}
-use Rattle.std.specs.FinMap.{get-from_entries, entries-insert, len-entries, len-empty}
+use Rattle.std.specs.FinMap.{find, entries-insert}
 use Rattle.std.specs.FinMap.Entries.{put, by_order}
-use Rattle.std.specs.List.{cons_option}
-use Rattle.std.specs.Ordering.{eq_by_cmp}
-use Rattle.std.proofs.lemmas.Cmp.{eq_by_cmp_equiv}
-use Rattle.book_model.specs.Sets.{set_of, members}
+use Rattle.book_model.proofs.Std.{IsTotalOrder, FinMap, entries, empty, from_entries, get-entries}
+use Rattle.book_model.proofs.Std.{get-from_entries, len-entries, len-empty, cons_option, eq_by_cmp}
+use Rattle.book_model.proofs.Std.{eq_by_cmp_equiv}
+use Rattle.book_model.specs.Words.{set_of, members}
 use Rattle.book_model.proofs.FilterLemmas.{Apart, no_length}
 use Rattle.book_model.proofs.InsertLemmas.{either_first}
 use Rattle.book_model.proofs.SetLemmas.{members-with}

@@ -1,12 +1,11 @@
 -- Bills: what a period charges a centre, or the whole office. Steps and the jobs that they belong
 -- to stand apart; then come the lines with the periods that they speak of, what is held back in
 -- dispute, and the tariffs of the period's days.
-use Rattle.std.specs.Prelude.{ℕ, ◌-◌, nat_lt, min, max, ℤ, pos, ◌+ℤ◌, int_lt, Bool, true, false, not}
-use Rattle.std.specs.Prelude.{◌&&◌, if◌then◌else◌, List, [], ◌∷◌, filter, length, map, sum_by}
-use Rattle.std.specs.Prelude.{Option, Some, None, is_some, unwrap_or}
-use Rattle.std.specs.List.{filter_map, last_or, list_any, reduce}
-use Rattle.std.specs.Option.{ok_or, option_and_then, option_map, option_map_or}
-use Rattle.std.specs.Result.{result_ok}
+use Rattle.std.specs.Prelude.{ℕ, ◌-◌, nat_lt, min, max, ℤ, pos, ◌+ℤ◌, int_lt, Bool, true, false}
+use Rattle.std.specs.Prelude.{not, ◌&&◌, if◌then◌else◌, List, [], ◌∷◌, filter, length, map, sum_by}
+use Rattle.std.specs.Prelude.{Option, Some, None, is_some, unwrap_or, filter_map, ok_or}
+use Rattle.std.specs.Prelude.{option_and_then, option_map}
+use Rattle.book_model.specs.Std.{last_or, list_any, reduce, option_map_or, result_ok}
 use Rattle.tariff_rules.specs.Letterhead.{LetterheadSeen, letterhead_in, letterhead_shown}
 use Rattle.tariff_rules.specs.Letterhead.{no_letterhead}
 use Rattle.tariff_rules.specs.TariffFile.{terms_in}

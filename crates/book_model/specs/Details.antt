@@ -2,9 +2,7 @@
 -- time, then by name.
 use Rattle.std.specs.Prelude.{ℕ, ℤ, ◌-◌, Bool, true, List, filter, [], ◌∷◌, find, IfSome, Option}
 use Rattle.std.specs.Prelude.{Some, None, option_map, ok_or, filter_map}
-use Rattle.std.specs.declared.cmp.Ordering.{Ordering}
-use Rattle.std.specs.Ordering.{is_lt, nat_cmp, ordering_then}
-use Rattle.std.specs.Option.{option_map_or}
+use Rattle.book_model.specs.Std.{Ordering, is_lt, nat_cmp, ordering_then, option_map_or}
 use Rattle.smf_text.specs.Day.{IsDay}
 use Rattle.smf_type30.specs.Usage.{day_of, ended_step_of, job_id_of, job_of, program_of, time_of}
 use Rattle.tariff_rules.specs.declared.priced.Priced.{Priced}

@@ -36,3 +36,4 @@ pub mod Laws
 pub mod Answers
 pub mod Faults
 pub mod Words
+pub mod Std

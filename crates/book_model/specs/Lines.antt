@@ -1,9 +1,7 @@
 -- Adjustment lines: what a period adds to closed periods and reverses, as it is read.
 use Rattle.std.specs.Prelude.{Bool, true, false, ℕ, List, ◌++◌, ◌<◌, ◌^◌, All, sum_by, Option}
 use Rattle.std.specs.Prelude.{option_map, filter_map}
-use Rattle.std.specs.declared.cmp.Ordering.{Ordering}
-use Rattle.std.specs.declared.cmp.Ordering.TheVariants.{Less, Equal, Greater}
-use Rattle.std.specs.Ordering.{int_cmp, ordering_then}
+use Rattle.book_model.specs.Std.{Ordering, Less, Equal, Greater, int_cmp, ordering_then}
 use Rattle.smf_text.specs.Day.{IsDay}
 use Rattle.smf_type30.specs.Usage.{job_of}
 use Rattle.tariff_rules.specs.declared.priced.Priced.{Priced}

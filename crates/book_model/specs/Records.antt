@@ -1,9 +1,8 @@
 -- Records, and sets of them. A record is its bytes: the descriptor that its length gives, and its
 -- data. So two records with the same data are one record.
 use Rattle.std.specs.Prelude.{ℕ, Bool, ◌==◌, List}
-use Rattle.std.specs.declared.cmp.Ordering.{Ordering}
-use Rattle.std.specs.Ordering.{nat_cmp}
-use Rattle.std.specs.Cmp.Lexicographic.{slice_cmp, pointwise}
+use Rattle.std.specs.Cmp.Lexicographic.{pointwise}
+use Rattle.book_model.specs.Std.{Ordering, nat_cmp, slice_cmp}
 use Rattle.smf_frames.specs.Framed.{IsFramed, data_of}
 use Rattle.smf_type30.specs.Class.{IsUsage}
 use Rattle.book_model.specs.Sets.{Set}

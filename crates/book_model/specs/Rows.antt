@@ -1,7 +1,6 @@
 -- Charge rows: the sums of what records cost, by day, centre and shift.
 use Rattle.std.specs.Prelude.{Bool, ◌&&◌, ◌<◌, ◌^◌, All, List, map, filter, length, sum_by}
-use Rattle.std.specs.declared.cmp.Ordering.{Ordering}
-use Rattle.std.specs.Ordering.{int_cmp, int_eq, ordering_then}
+use Rattle.book_model.specs.Std.{Ordering, int_cmp, int_eq, ordering_then}
 use Rattle.smf_text.specs.Day.{IsDay}
 use Rattle.tariff_rules.specs.declared.priced.Priced.{Priced}
 use Rattle.book_model.specs.declared.row.RowKey.{RowKey}

@@ -2,9 +2,8 @@
 -- of identity; what a record costs by them, and which work it measures.
 use Rattle.std.specs.Prelude.{ℕ, suc, ◌+◌, nat_le, Bool, true, not, ◌&&◌, if◌then◌else◌, List, []}
 use Rattle.std.specs.Prelude.{◌∷◌, ◌++◌, filter, length, take, Option, Some, None, unwrap_or, ℤ}
-use Rattle.std.specs.Prelude.{int_lt}
-use Rattle.std.specs.Option.{option_map, option_map_or, option_and_then}
-use Rattle.std.specs.List.{filter_map, last_or, list_all}
+use Rattle.std.specs.Prelude.{int_lt, option_map, option_and_then, filter_map}
+use Rattle.book_model.specs.Std.{option_map_or, last_or, list_all}
 use Rattle.tariff_rules.specs.Terms.{Terms}
 use Rattle.tariff_rules.specs.Price.{price_by}
 use Rattle.tariff_rules.specs.declared.priced.Priced.{Priced}

@@ -3,11 +3,9 @@ use Rattle.std.proofs.Common.{◌≡◌, ◌∙◌, ℕ, ◌+◌, ◌-◌, ◌�
 use Rattle.std.proofs.Common.{sym, ap, Bool, true, false, Option, Some, None, slice_get, arith, inl}
 use Rattle.std.proofs.Common.{inr, Result, Ok, Err, ◌==◌, ℤ, if◌then◌else◌, ok_or, option_map}
 use Rattle.std.specs.BTreeMap.{insert_entry}
-use Rattle.std.specs.List.Sorted.{IsStrictlySortedBy}
 use Rattle.std.specs.Map.{keys_of}
-use Rattle.std.proofs.lemmas.Bool.Decides.{nat_tests}
-use Rattle.std.proofs.lemmas.List.{map-append}
-use Rattle.std.proofs.lemmas.Option.{slice_get-map, slice_get_past, slice_get_cases}
+use Rattle.std.proofs.lemmas.Option.{slice_get-map, slice_get_cases}
+use Rattle.book_model.proofs.Std.{IsStrictlySortedBy, nat_tests, map-append, slice_get_past}
 use Rattle.book_model.specs.Words.{LedgerFault, NoSuchPeriod, Book, open_number, open_period}
 use Rattle.book_model.specs.Words.{period_of, keep, close, Period, Naming, by_bytes, Rulings}
 use Rattle.book_model.specs.Words.{are_rising, price_under, with_close}

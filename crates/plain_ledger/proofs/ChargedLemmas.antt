@@ -1,21 +1,18 @@
 -- Which entries of a plain ledger have no rival: those that are alone in their identity.
 use Rattle.std.proofs.Common.{◌≡◌, ℕ, ◌+◌, List, sym, ap, ◌∙◌, subst, true, Bool, cond, not, arith}
 use Rattle.std.proofs.Common.{get_or, count_by, All, nat_eq, nat_lt}
-use Rattle.std.specs.Cmp.Lexicographic.{bytes_decides}
-use Rattle.std.specs.List.{list_any, IsDistinct}
-use Rattle.std.specs.List.Sorted.{IsStrictlySortedBy}
 use Rattle.std.specs.Map.{keys_of}
-use Rattle.std.proofs.lemmas.Bool.Decides.{nat_tests}
-use Rattle.std.proofs.lemmas.Cmp.{nat_list_eq_equiv}
-use Rattle.std.proofs.lemmas.List.Folds.{fold-map, list_any_at}
+use Rattle.book_model.proofs.Std.{bytes_decides, list_any, IsDistinct, IsStrictlySortedBy}
+use Rattle.book_model.proofs.Std.{nat_tests, nat_list_eq_equiv, fold-map, list_any_at}
 use Rattle.book_model.specs.Words.{identity_by, share_identity, conflict, is_unrivalled, Naming}
 use Rattle.book_model.specs.Words.{by_bytes, same_bytes, Rulings}
 use Rattle.plain_ledger.specs.Plain.{Entry, entry_identity, entry_records, entry_has_identity}
 use Rattle.plain_ledger.specs.Plain.{held_in, AreBooked, is_alone}
 use Rattle.plain_ledger.proofs.HeldLemmas.{bytes_of, records_differ, held-alike}
-use Rattle.book_model.proofs.ListLemmas.{list_any-map, count_by-narrower, count_by-distinct}
-use Rattle.book_model.proofs.SetLemmas.{same_bytes-by_cmp}
-use Rattle.book_model.proofs.SumsAlike.{list_any-count_by, list_any-alike}
+use Rattle.book_model.proofs.Lemmas.{list_any-map, count_by-distinct, same_bytes-by_cmp}
+use Rattle.book_model.proofs.Lemmas.{list_any-count_by}
+use Rattle.book_model.proofs.ListLemmas.{count_by-narrower}
+use Rattle.book_model.proofs.SumsAlike.{list_any-alike}
 
 -- as many records share an entry's identity as entries have it
 count_by-treatment : (rulings : Rulings) (entries : List Entry) (entry : Entry)

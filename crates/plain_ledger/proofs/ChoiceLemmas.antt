@@ -6,21 +6,16 @@ use Rattle.std.proofs.Common.{Some, None, append-nil, filter, find, reverse, BTr
 use Rattle.std.proofs.Common.{option_map}
 use Rattle.std.specs.BTreeMap.{get, is_at}
 use Rattle.std.specs.BTreeSet.{contains}
-use Rattle.std.specs.Cmp.Lexicographic.{texts_ties}
-use Rattle.std.specs.List.{last_or}
-use Rattle.std.specs.Option.{option_map_or, option_or}
 use Rattle.std.specs.Rc.{rc_slice_items}
 use Rattle.std.specs.declared.rc.RcSlice.{RcSlice}
 use Rattle.std.proofs.Math.Bool.{and-false, or-false, or-true}
-use Rattle.std.proofs.lemmas.Cmp.{nat_list_eq_equiv}
-use Rattle.std.proofs.lemmas.List.{reverse-append, take_more}
-use Rattle.std.proofs.lemmas.List.Elements.{filter-append}
-use Rattle.std.proofs.lemmas.List.Folds.{find-append, list_any-append}
-use Rattle.std.proofs.lemmas.Simd.{map-map}
+use Rattle.book_model.proofs.Std.{texts_ties, last_or, option_map_or, option_or, nat_list_eq_equiv}
+use Rattle.book_model.proofs.Std.{reverse-append, take_more, filter-append, find-append}
+use Rattle.book_model.proofs.Std.{list_any-append, map-map}
 use Rattle.book_model.specs.Words.{by_bytes, same_bytes, identity_by, is_chosen, is_settled, Choice}
 use Rattle.book_model.specs.Words.{Rulings}
 use Rattle.book_model.proofs.LatestLemmas.{or-none}
-use Rattle.book_model.proofs.ListLemmas.{filter-map, last_or-behind, list_any-map}
+use Rattle.book_model.proofs.Lemmas.{filter-map, last_or-behind, list_any-map}
 use Rattle.plain_ledger.specs.declared.chosen.ChosenRecord.{ChosenRecord}
 use Rattle.plain_ledger.specs.declared.held.HeldRecord.{HeldRecord}
 use Rattle.plain_ledger.specs.Choices.{AreLast, ByIdentity, choice_of, is_of, last_of}

@@ -3,27 +3,23 @@ use Rattle.std.proofs.Common.{◌≡◌, ◌∙◌, ◌++◌, ℕ, List, [], ◌
 use Rattle.std.proofs.Common.{true, false, true≢false, cond, Option, Some, None, is_some, Result}
 use Rattle.std.proofs.Common.{Ok, Err, ◌≤◌, ◌<◌, subst, arith, if◌then◌else◌, All, nat_le}
 use Rattle.std.specs.BTreeMap.{is_at}
-use Rattle.std.specs.List.Sorted.{IsStrictlySortedBy}
 use Rattle.std.specs.Map.{keys_of, lookup}
 use Rattle.std.specs.Rc.{rc_slice_items}
-use Rattle.std.proofs.lemmas.Bool.Decides.{nat_tests}
-use Rattle.std.proofs.lemmas.List.{map-append}
-use Rattle.std.proofs.lemmas.List.Elements.{All-head, All-tail}
-use Rattle.std.proofs.lemmas.Map.Lookups.{exact_bytes}
-use Rattle.std.proofs.lemmas.Map.Views.{tells_apart}
+use Rattle.book_model.proofs.Std.{IsStrictlySortedBy, nat_tests, map-append, All-head, All-tail}
+use Rattle.book_model.proofs.Std.{exact_bytes, tells_apart}
 use Rattle.book_model.specs.Words.{Ruled, Done, Already, LedgerFault, Full, NoSuchRecord}
 use Rattle.book_model.specs.Words.{NotDisputed, Book, Choice, IsBookCall, Naming, Rulings}
 use Rattle.book_model.specs.Words.{after_any, by_bytes, if_done, choose_outcome, with_choice}
 use Rattle.book_model.specs.Words.{chosen_answer, is_chosen, is_unrivalled, most_choices, open_by}
 use Rattle.book_model.specs.Words.{record_named}
 use Rattle.book_model.proofs.AnswerLemmas.{answers_itself, ruling_calls}
-use Rattle.book_model.proofs.SoundLemmas.{named_held}
+use Rattle.book_model.proofs.Lemmas.{named_held}
 use Rattle.plain_ledger.specs.declared.chosen.ChosenRecord.{ChosenRecord}
 use Rattle.plain_ledger.specs.declared.treatment.ClosedPeriod.{ClosedPeriod}
 use Rattle.plain_ledger.specs.declared.held.HeldRecord.{HeldRecord}
 use Rattle.book_core.specs.declared.rulings.Rulings.{Rulings as OfficeRulings}
 use Rattle.plain_ledger.specs.Choices.{choice_of}
-use Rattle.book_core.specs.OfficeRulings.{ruled_in}
+use Rattle.book_core.specs.Words.{ruled_in}
 use Rattle.plain_ledger.specs.Plain.{AreBooked, Entry, held_in, is_alone, record_of, ruled_by}
 use Rattle.plain_ledger.specs.PlainBook.{book_with}
 use Rattle.plain_ledger.specs.Treatments.{Names, under_name}

@@ -3,17 +3,11 @@
 use Rattle.std.proofs.Common.{◌≡◌, ℕ, List, [], ◌∷◌, length, sym, ap, ◌∙◌, true, false, Bool, not}
 use Rattle.std.proofs.Common.{◌&&◌, Option, Some, cond, map, arith, get_or, count_by, filter, find}
 use Rattle.std.proofs.Common.{All, nat_eq, nat_le, nat_lt, filter_map, option_map}
-use Rattle.std.specs.List.Sorted.{IsStrictlySortedBy}
 use Rattle.std.specs.Map.{keys_of}
-use Rattle.std.proofs.lemmas.Bool.Decides.{nat_tests}
-use Rattle.std.proofs.lemmas.Cmp.{nat_list_cmp_total, nat_list_eq_equiv}
-use Rattle.std.proofs.lemmas.List.{length-map}
-use Rattle.std.proofs.lemmas.List.Elements.{All-filter, All-head, All-tail}
-use Rattle.std.proofs.lemmas.List.Folds.{list_any_at}
-use Rattle.std.proofs.lemmas.List.Kept.{IsStrictlySortedBy-filter}
-use Rattle.std.proofs.lemmas.List.Sums.{length-filter}
-use Rattle.std.proofs.lemmas.Map.Lookups.{exact_bytes}
-use Rattle.std.proofs.lemmas.Simd.{map-map}
+use Rattle.book_model.proofs.Std.{IsStrictlySortedBy, nat_tests, nat_list_cmp_total}
+use Rattle.book_model.proofs.Std.{nat_list_eq_equiv, length-map, All-filter, All-head, All-tail}
+use Rattle.book_model.proofs.Std.{list_any_at, IsStrictlySortedBy-filter, length-filter}
+use Rattle.book_model.proofs.Std.{exact_bytes, map-map}
 use Rattle.book_model.specs.Words.{identity_by, by_name, variant_of, identities, records_of}
 use Rattle.book_model.specs.Words.{dispute_at, disputes_in, is_in_dispute, is_settled, Naming}
 use Rattle.book_model.specs.Words.{by_bytes, same_bytes, Rulings, set_of, members, IsDispute}
@@ -24,10 +18,10 @@ use Rattle.plain_ledger.specs.Plain.{entry_has_identity, is_disputed, is_shared}
 use Rattle.plain_ledger.proofs.HeldLemmas.{bytes_of, records_rise, held-alike, each_priced}
 use Rattle.plain_ledger.proofs.HeldLemmas.{each_named}
 use Rattle.book_core.proofs.NamedLemmas.{by_name_total, by_name_exact}
-use Rattle.book_model.proofs.ListLemmas.{filter-map, filter-agree, filter_map-map}
-use Rattle.book_model.proofs.ListLemmas.{filter_map-defined}
-use Rattle.book_model.proofs.SetLemmas.{members-those, members-set_of, set_of-alike, those-set_of}
-use Rattle.book_model.proofs.SumsAlike.{list_any-count_by, filter-alike, map-alike}
+use Rattle.book_model.proofs.Lemmas.{filter-map, filter-agree, filter_map-map, filter_map-defined}
+use Rattle.book_model.proofs.Lemmas.{members-those, set_of-alike, list_any-count_by, filter-alike}
+use Rattle.book_model.proofs.Lemmas.{map-alike}
+use Rattle.book_model.proofs.SetLemmas.{members-set_of, those-set_of}
 
 -- two or more are some, and not one
 two_or_more : (n : ℕ) → nat_lt 0 n ≡ true → nat_le 2 n ≡ not (nat_eq n 1)

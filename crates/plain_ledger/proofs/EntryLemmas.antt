@@ -5,18 +5,14 @@ use Rattle.std.proofs.Common.{get_or, true≢false, arith, sum_by, All, filter, 
 use Rattle.std.proofs.Common.{Equal, Greater}
 use Rattle.std.specs.BTreeMap.{is_at, insert_entry}
 use Rattle.std.specs.BTreeSet.{insert_key}
-use Rattle.std.specs.Cmp.{IsEquivalence}
-use Rattle.std.specs.List.{list_any, IsDistinct}
 use Rattle.std.specs.Map.{lookup}
-use Rattle.std.specs.Ordering.{match_ordering}
 use Rattle.std.proofs.Math.Bool.{or-false, and-true, and-false}
-use Rattle.std.proofs.lemmas.List.Elements.{All-from_recursion}
-use Rattle.std.proofs.lemmas.List.Folds.{list_any_at, list_any_none}
-use Rattle.std.proofs.lemmas.Map.Keys.{IsDistinct-head, IsDistinct-tail}
 use Rattle.std.proofs.lemmas.Map.Made.{is_some-lookup}
 use Rattle.std.proofs.lemmas.Map.Views.{All-insert_key}
-use Rattle.book_model.proofs.ListLemmas.{list_any-map}
-use Rattle.book_model.proofs.SumsAlike.{SumsAlike}
+use Rattle.book_model.proofs.Std.{IsEquivalence, list_any, IsDistinct, match_ordering}
+use Rattle.book_model.proofs.Std.{All-from_recursion, list_any_at, list_any_none, IsDistinct-head}
+use Rattle.book_model.proofs.Std.{IsDistinct-tail}
+use Rattle.book_model.proofs.Lemmas.{list_any-map, SumsAlike}
 use Rattle.book_model.proofs.SetLemmas.{insert_key-alike}
 
 module _ {K X : Type 0} (R : K → K → Ordering) (k : K) (v : X) where

@@ -3,22 +3,15 @@ use Rattle.std.proofs.Common.{◌≡◌, ℕ, ◌+◌, ◌<◌, ◌≤◌, List,
 use Rattle.std.proofs.Common.{subst, true, false, Bool, ◌&&◌, Option, Some, None, map, is_some}
 use Rattle.std.proofs.Common.{arith, sum_by, All, Ordering, Less}
 use Rattle.std.specs.BTreeMap.{is_at, insert_entry}
-use Rattle.std.specs.Cmp.Lexicographic.{texts_ties, bytes_decides}
-use Rattle.std.specs.List.{list_any, AllByRecursion, IsDistinct}
 use Rattle.std.specs.List.Sorted.{IsStrictlySortedBy}
 use Rattle.std.specs.Map.{keys_of}
-use Rattle.std.specs.Option.{option_map_or}
-use Rattle.std.specs.Ordering.{eq_by_cmp, ordering_then}
 use Rattle.std.proofs.lemmas.Bool.{and_right}
-use Rattle.std.proofs.lemmas.Cmp.{nat_list_cmp_total, nat_list_eq_equiv, eq_by_cmp_equiv}
-use Rattle.std.proofs.lemmas.List.{length-map}
-use Rattle.std.proofs.lemmas.List.Elements.{All-weaker}
-use Rattle.std.proofs.lemmas.List.Folds.{fold-map}
-use Rattle.std.proofs.lemmas.List.Sums.{sum_by-cons}
-use Rattle.std.proofs.lemmas.Map.Keys.{IsDistinct-from_sorted}
-use Rattle.std.proofs.lemmas.Map.Lookups.{exact_bytes}
 use Rattle.std.proofs.lemmas.Map.Made.{is_some-lookup}
-use Rattle.std.proofs.lemmas.Simd.{map-map}
+use Rattle.book_model.proofs.Std.{texts_ties, bytes_decides, list_any, AllByRecursion, IsDistinct}
+use Rattle.book_model.proofs.Std.{option_map_or, eq_by_cmp, ordering_then, nat_list_cmp_total}
+use Rattle.book_model.proofs.Std.{nat_list_eq_equiv, eq_by_cmp_equiv, length-map, All-weaker}
+use Rattle.book_model.proofs.Std.{fold-map, sum_by-cons, IsDistinct-from_sorted, exact_bytes}
+use Rattle.book_model.proofs.Std.{map-map}
 use Rattle.plain_ledger.specs.declared.held.HeldRecord.{HeldRecord}
 use Rattle.book_model.specs.Words.{Priced, most_held, most_cost, by_name, Naming, name_of, by_bytes}
 use Rattle.book_model.specs.Words.{same_bytes, Rulings, price_in, members, has, with, clashes}
@@ -27,11 +20,11 @@ use Rattle.plain_ledger.specs.Plain.{Entry, AreBooked, entry_records, held_in, r
 use Rattle.plain_ledger.specs.Treatments.{under_name}
 use Rattle.book_core.proofs.EntryLemmas.{list_any-at_key}
 use Rattle.plain_ledger.proofs.EntryLemmas.{insert_entry-alike, All-insert_entry}
-use Rattle.book_model.proofs.ListLemmas.{agree_from_map, map-agree, list_any-map, list_any-agree}
-use Rattle.book_model.proofs.ListLemmas.{filter_map-defined, filter_map-map}
-use Rattle.book_model.proofs.SetLemmas.{has-texts, any-members, members-alike, set_of-alike}
-use Rattle.book_model.proofs.SetLemmas.{same_ties}
-use Rattle.book_model.proofs.SumsAlike.{SumsAlike, length-alike, filter_map-alike, map-alike}
+use Rattle.book_model.proofs.ListLemmas.{agree_from_map, list_any-agree}
+use Rattle.book_model.proofs.Lemmas.{map-agree, list_any-map, filter_map-defined, filter_map-map}
+use Rattle.book_model.proofs.Lemmas.{set_of-alike, SumsAlike, length-alike, filter_map-alike}
+use Rattle.book_model.proofs.Lemmas.{map-alike}
+use Rattle.book_model.proofs.SetLemmas.{has-texts, any-members, members-alike, same_ties}
 use Rattle.book_core.proofs.NamedLemmas.{by_name_total, by_name_exact}
 
 -- an entry's record

@@ -1,12 +1,8 @@
 -- What a plain ledger returns can be shown: its days are days, and its sums fit 64 bits.
 use Rattle.std.proofs.Common.{◌≡◌, ◌∙◌, ℕ, ◌+◌, ◌≤◌, List, length, refl, sym, ap, Bool, not, map}
 use Rattle.std.proofs.Common.{arith, get_or, inl, inr, ◌⊎◌, Option, Some, None, filter, sum_by, All}
-use Rattle.std.proofs.lemmas.Cmp.{nat_list_cmp_total}
-use Rattle.std.proofs.lemmas.List.{length-map}
-use Rattle.std.proofs.lemmas.List.Elements.{All-map}
-use Rattle.std.proofs.lemmas.List.Filters.{sum_by-filter_both, length-filter_both}
-use Rattle.std.proofs.lemmas.List.Folds.{fold-map}
-use Rattle.std.proofs.lemmas.Map.Lookups.{exact_bytes}
+use Rattle.book_model.proofs.Std.{nat_list_cmp_total, length-map, All-map, sum_by-filter_both}
+use Rattle.book_model.proofs.Std.{length-filter_both, fold-map, exact_bytes}
 use Rattle.book_model.specs.Words.{IsDay, IsPriced, most_held, IsDispute, AreDisputes, Naming}
 use Rattle.book_model.specs.Words.{by_bytes, Rulings, identity_by, identity_length}
 use Rattle.book_model.specs.Words.{identity2_length, rows_of, FitSums, AreRows, set_of, members}

@@ -1,26 +1,21 @@
 -- Identities of records: which are shared, and what is in dispute.
 use Rattle.std.proofs.Common.{◌≡◌, ◌++◌, not, ◌&&◌, ◌||◌, Vec, Global, ◌∙◌, ℕ, List, [], ◌∷◌, refl}
 use Rattle.std.proofs.Common.{sym, ap, true, false, Bool, cond, Option, Some, None, vec_len, get_or}
-use Rattle.std.specs.Prelude.{unwrap_or, filter, map, All}
+use Rattle.std.proofs.Common.{unwrap_or, filter, map, All, is_eq, option_map, Less, Equal, Greater}
+use Rattle.std.proofs.Common.{BTreeSet}
 use Rattle.std.specs.Map.{lookup}
-use Rattle.std.specs.Ordering.{is_eq, match_ordering, eq_by_cmp}
-use Rattle.std.specs.List.{list_any}
-use Rattle.std.specs.Option.{UnwrapsOrElse, option_map}
-use Rattle.std.specs.declared.cmp.Ordering.TheVariants.{Less, Equal, Greater}
+use Rattle.std.specs.Option.{UnwrapsOrElse}
 use Rattle.std.specs.BTreeMap.{insert_entry, is_at}
-use Rattle.std.specs.BTreeSet.{BTreeSet, contains}
-use Rattle.std.specs.Cmp.Lexicographic.{texts_ties, bytes_decides}
-use Rattle.std.proofs.lemmas.Cmp.{nat_list_cmp_total}
-use Rattle.std.proofs.lemmas.List.Elements.{filter-append}
-use Rattle.std.proofs.lemmas.List.{map-append}
-use Rattle.std.proofs.lemmas.Simd.{map-map}
+use Rattle.std.specs.BTreeSet.{contains}
 use Rattle.std.proofs.lemmas.Map.Made.{lookup-map_values}
-use Rattle.std.proofs.lemmas.Map.Lookups.{exact_bytes}
+use Rattle.book_model.proofs.Std.{match_ordering, eq_by_cmp, list_any, texts_ties, bytes_decides}
+use Rattle.book_model.proofs.Std.{nat_list_cmp_total, filter-append, map-append, map-map}
+use Rattle.book_model.proofs.Std.{exact_bytes}
 use Rattle.book_model.specs.Words.{by_bytes, Disputed, set_of, members, Rulings, is_settled}
+use Rattle.book_model.specs.Words.{Variant}
 use Rattle.plain_ledger.specs.Plain.{Entry, variant_at, group_shown, dispute_among, disputes_among}
 use Rattle.plain_ledger.specs.Plain.{entry_identity, entry_has_identity, is_disputed, HasDisputed}
 use Rattle.plain_ledger.specs.Plain.{is_lone}
-use Rattle.book_model.specs.declared.dispute.Variant.{Variant}
 use Rattle.book_core.proofs.GroupLemmas.{groups-none, groups-push, lookup-groups}
 use Rattle.plain_ledger.proofs.DisputeLemmas.{shared-not_alone}
 use Rattle.book_model.proofs.SetLemmas.{map-members_agree}

@@ -3,11 +3,9 @@ use Rattle.std.proofs.Common.{◌≡◌, ◌∙◌, ℕ, suc, ◌+◌, ◌<◌, 
 use Rattle.std.proofs.Common.{sym, ap, Bool, Option, None, Some, take, get_or, append-nil, arith}
 use Rattle.std.proofs.Common.{length-take-le, append_assoc}
 use Rattle.std.specs.BTreeMap.{is_at, get}
-use Rattle.std.specs.List.Sorted.{IsStrictlySortedBy}
 use Rattle.std.specs.Map.{keys_of}
-use Rattle.std.proofs.lemmas.List.{length-map, map-append, take_more}
-use Rattle.std.proofs.lemmas.Map.Lookups.{exact_bytes}
-use Rattle.std.proofs.lemmas.Map.Views.{tells_apart}
+use Rattle.book_model.proofs.Std.{IsStrictlySortedBy, length-map, map-append, take_more}
+use Rattle.book_model.proofs.Std.{exact_bytes, tells_apart}
 use Rattle.book_model.specs.Words.{Turn, Naming, Period, Rulings, by_bytes, has, life_from, life_of}
 use Rattle.book_model.specs.Words.{turn_if, turns_in}
 use Rattle.plain_ledger.specs.declared.treatment.ClosedPeriod.{ClosedPeriod}

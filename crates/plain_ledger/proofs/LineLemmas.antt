@@ -3,28 +3,21 @@ use Rattle.std.proofs.Common.{◌≡◌, ◌∙◌, ℕ, ◌≤◌, List, [], �
 use Rattle.std.proofs.Common.{Bool, true, false, cond, Option, Some, None, is_some, get_or, arith}
 use Rattle.std.proofs.Common.{append-nil, drop, length, take, take_all, All, filter, sum_by}
 use Rattle.std.proofs.Common.{filter_map, IsPermutation}
-use Rattle.std.specs.List.{cons_option, IsDistinct}
-use Rattle.std.specs.List.Sorted.{IsStrictlySortedBy}
 use Rattle.std.specs.Map.{keys_of}
-use Rattle.std.specs.Ordering.{eq_by_cmp}
-use Rattle.std.proofs.lemmas.Cmp.{nat_list_cmp_total}
 use Rattle.std.proofs.lemmas.List.{drop_all}
-use Rattle.std.proofs.lemmas.List.Elements.{All-nil, All-cons, All-filter}
-use Rattle.std.proofs.lemmas.List.Sorted.{IsPermutation-refl, IsPermutation-cons, IsPermutation-sym}
-use Rattle.std.proofs.lemmas.List.Sorted.{IsPermutation-trans, IsPermutation-middle}
+use Rattle.std.proofs.lemmas.List.Sorted.{IsPermutation-cons, IsPermutation-middle}
 use Rattle.std.proofs.lemmas.List.Sorted.{IsPermutation-append, All-permutation}
-use Rattle.std.proofs.lemmas.List.Sorted.{sum_by-IsPermutation}
-use Rattle.std.proofs.lemmas.List.Sums.{sum_by-cons}
-use Rattle.std.proofs.lemmas.Map.Keys.{IsDistinct-from_sorted}
+use Rattle.book_model.proofs.Std.{cons_option, IsDistinct, IsStrictlySortedBy, eq_by_cmp}
+use Rattle.book_model.proofs.Std.{nat_list_cmp_total, All-nil, All-cons, All-filter}
+use Rattle.book_model.proofs.Std.{IsPermutation-refl, IsPermutation-sym, IsPermutation-trans}
+use Rattle.book_model.proofs.Std.{sum_by-IsPermutation, sum_by-cons, IsDistinct-from_sorted}
 use Rattle.book_model.specs.Words.{IsDay, by_line, lines_for, lines_of, AreLines, Naming, by_bytes}
 use Rattle.book_model.specs.Words.{same_bytes, Rulings, set_of, members, Line}
-use Rattle.book_model.proofs.ListLemmas.{filter_map-map, filter_map-defined}
-use Rattle.book_model.proofs.LineOrder.{by_line_total, distinct_lines, line_by}
-use Rattle.book_model.proofs.LineOrder.{line_of as line_of_record}
-use Rattle.book_model.proofs.PermutedSets.{apart_from_distinct, given_permuted}
-use Rattle.book_model.proofs.PermutedSets.{IsDistinct-map_filter, members_reordered}
-use Rattle.book_model.proofs.PermutedSets.{members_of_distinct}
-use Rattle.book_model.proofs.SetLemmas.{same_bytes-by_cmp}
+use Rattle.book_model.proofs.Lemmas.{filter_map-map, filter_map-defined, by_line_total, line_by}
+use Rattle.book_model.proofs.Lemmas.{apart_from_distinct, given_permuted, members_reordered}
+use Rattle.book_model.proofs.Lemmas.{same_bytes-by_cmp}
+use Rattle.book_model.proofs.LineOrder.{distinct_lines, line_of as line_of_record}
+use Rattle.book_model.proofs.PermutedSets.{IsDistinct-map_filter, members_of_distinct}
 use Rattle.plain_ledger.specs.declared.treatment.Treatment.{Treatment}
 use Rattle.plain_ledger.specs.declared.treatment.Treatment.TheVariants.{Counted, Added, Taken}
 use Rattle.plain_ledger.specs.Plain.{Entry, entry_records, AreBooked}

@@ -1,30 +1,20 @@
 -- Names: what is under each, and what sets and maps by name say of the entries.
 use Rattle.std.proofs.Common.{◌≡◌, ◌∙◌, ℕ, List, [], ◌∷◌, ◌++◌, refl, sym, ap, subst, Bool, true}
-use Rattle.std.proofs.Common.{false, cond, Option, Some, None, get_or, map}
-use Rattle.std.proofs.lemmas.List.Elements.{All-push}
-use Rattle.std.proofs.lemmas.Option.{slice_get-get_or}
-use Rattle.book_model.proofs.ListLemmas.{map-agree}
-use Rattle.std.specs.Prelude.{All, filter}
-use Rattle.std.specs.BTreeMap as tree
+use Rattle.std.proofs.Common.{false, cond, Option, Some, None, get_or, map, All, filter}
+use Rattle.std.proofs.Common.{option_and_then}
+use Rattle.book_model.proofs.Lemmas.{map-agree, set_of-alike, filter-alike, map-alike}
 use Rattle.std.specs.BTreeMap.{is_at, insert_entry}
-use Rattle.std.specs.BTreeSet as set
-use Rattle.std.specs.List.{AllByRecursion, IsDistinct}
-use Rattle.std.specs.List.Sorted.{IsStrictlySortedBy}
 use Rattle.std.specs.Iterator.{Yields}
 use Rattle.std.specs.Map.{keys_of, lookup}
 use Rattle.std.specs.Map.Iter.{TakesFirst}
-use Rattle.std.specs.Option.{option_map_or, option_and_then, option_or}
-use Rattle.std.specs.Ordering.{eq_by_cmp}
-use Rattle.std.proofs.lemmas.Cmp.{nat_list_cmp_total, eq_by_cmp_equiv}
 use Rattle.std.proofs.lemmas.Map.Entries.{lookup_from_place}
 use Rattle.std.proofs.lemmas.Map.Iter.{rest_so_far, rest_more}
-use Rattle.std.proofs.lemmas.Map.Keys.{IsDistinct-from_sorted, IsDistinct-head, IsDistinct-tail}
-use Rattle.std.proofs.lemmas.Map.Lookups.{exact_bytes}
-use Rattle.std.proofs.lemmas.Map.Views.{tells_apart}
+use Rattle.book_model.proofs.Std.{All-push, slice_get-get_or, AllByRecursion, IsDistinct}
+use Rattle.book_model.proofs.Std.{IsStrictlySortedBy, option_map_or, option_or, eq_by_cmp}
+use Rattle.book_model.proofs.Std.{nat_list_cmp_total, eq_by_cmp_equiv, IsDistinct-from_sorted}
+use Rattle.book_model.proofs.Std.{IsDistinct-head, IsDistinct-tail, exact_bytes, tells_apart}
 use Rattle.book_model.specs.Words.{by_bytes, set_of}
 use Rattle.book_model.proofs.LatestLemmas.{or-none}
-use Rattle.book_model.proofs.SetLemmas.{set_of-alike}
-use Rattle.book_model.proofs.SumsAlike.{filter-alike, map-alike}
 use Rattle.plain_ledger.specs.declared.treatment.ClosedPeriod.{ClosedPeriod}
 use Rattle.plain_ledger.specs.declared.held.HeldRecord.{HeldRecord}
 use Rattle.plain_ledger.specs.declared.treatment.Treatment.{Treatment}
@@ -34,6 +24,8 @@ use Rattle.plain_ledger.specs.Treatments.{has_name_in, records_where, period_wit
 use Rattle.plain_ledger.specs.Treatments.{is_counted, is_added, is_taken}
 use Rattle.plain_ledger.proofs.EntryLemmas.{insert_entry-alike}
 use Rattle.plain_ledger.proofs.HeldLemmas.{bytes_of}
+use Rattle.std.specs.BTreeMap as tree
+use Rattle.std.specs.BTreeSet as set
 
 -- what is found with one more entry at the end
 lookup-behind : (test : List ℕ → Bool) (done : List Entry) (entry : Entry)

@@ -3,18 +3,15 @@ use Rattle.std.proofs.Common.{◌++◌, ◌∷◌, [], cond, ◌≡◌, ◌≤�
 use Rattle.std.proofs.Common.{ap, subst, true, false, Bool, not, Option, Some, None, Result, Ok}
 use Rattle.std.proofs.Common.{Err, arith, All, filter, nat_lt, sum_by, ok_or, if◌then◌else◌}
 use Rattle.std.proofs.Common.{append_assoc}
-use Rattle.std.specs.List.Sorted.{IsStrictlySortedBy}
 use Rattle.std.specs.Map.{keys_of}
-use Rattle.std.proofs.lemmas.List.{length-map}
-use Rattle.std.proofs.lemmas.List.Filters.{length-filter_both}
-use Rattle.std.proofs.lemmas.Bool.Decides.{nat_tests}
-use Rattle.std.proofs.lemmas.Simd.{map-map}
+use Rattle.book_model.proofs.Std.{IsStrictlySortedBy, length-map, length-filter_both, nat_tests}
+use Rattle.book_model.proofs.Std.{map-map}
 use Rattle.book_model.specs.Words.{Priced, LedgerFault, Full, NoSuchPeriod, ChargeRow, AreRows}
 use Rattle.book_model.specs.Words.{FitSums, IsPriced, Naming, Period, Rulings, Terms, by_bytes}
 use Rattle.book_model.specs.Words.{most_cost, most_held, price_by, rows_if_room, rows_of}
 use Rattle.book_model.specs.Words.{what_if_answer}
 use Rattle.book_model.proofs.RowLemmas.{rows_if_room-alike}
-use Rattle.book_model.proofs.SumsAlike.{SumsAlike, map-alike}
+use Rattle.book_model.proofs.Lemmas.{SumsAlike, map-alike}
 use Rattle.plain_ledger.specs.Plain.{AreBooked, Entry, record_of}
 use Rattle.plain_ledger.specs.Treatments.{records_where}
 use Rattle.plain_ledger.proofs.HeldLemmas.{bytes_of}

@@ -2,24 +2,18 @@
 use Rattle.std.proofs.Common.{◌≡◌, ◌∙◌, ℕ, List, [], ◌∷◌, map, sym, ap, subst, Bool, true, false}
 use Rattle.std.proofs.Common.{cond, Option, Some, get_or, All, filter, find, filter_map}
 use Rattle.std.proofs.Common.{IsPermutation, option_map}
-use Rattle.std.specs.List.{IsDistinct}
-use Rattle.std.specs.List.Sorted.{IsStrictlySortedBy}
 use Rattle.std.specs.Map.{keys_of}
-use Rattle.std.specs.Ordering.{eq_by_cmp}
-use Rattle.std.proofs.lemmas.Cmp.{nat_list_cmp_total}
-use Rattle.std.proofs.lemmas.List.Elements.{All-filter, All-head, All-map, All-tail}
-use Rattle.std.proofs.lemmas.List.Sorted.{All-permutation, IsPermutation-sym}
-use Rattle.std.proofs.lemmas.Map.Keys.{IsDistinct-from_sorted}
-use Rattle.std.proofs.lemmas.Simd.{map-map}
+use Rattle.std.proofs.lemmas.List.Sorted.{All-permutation}
+use Rattle.book_model.proofs.Std.{IsDistinct, IsStrictlySortedBy, eq_by_cmp, nat_list_cmp_total}
+use Rattle.book_model.proofs.Std.{All-filter, All-head, All-map, All-tail, IsPermutation-sym}
+use Rattle.book_model.proofs.Std.{IsDistinct-from_sorted, map-map}
 use Rattle.book_model.specs.Words.{Detail, IsDay, Naming, Rulings, ShowsDetail, by_bytes, by_detail}
 use Rattle.book_model.specs.Words.{detail_by, detail_of, details_for, members, same_bytes, set_of}
 use Rattle.book_model.proofs.DetailLemmas.{distinct_details}
-use Rattle.book_model.proofs.DetailOrder.{by_detail_total}
-use Rattle.book_model.proofs.ListLemmas.{filter_map-map, filter_map-defined}
-use Rattle.book_model.proofs.PermutedSets.{apart_from_distinct, given_permuted}
+use Rattle.book_model.proofs.Lemmas.{by_detail_total, filter_map-map, filter_map-defined}
+use Rattle.book_model.proofs.Lemmas.{apart_from_distinct, given_permuted, members_reordered}
+use Rattle.book_model.proofs.Lemmas.{same_bytes-by_cmp}
 use Rattle.book_model.proofs.PermutedSets.{IsDistinct-map_filter, members_of_distinct}
-use Rattle.book_model.proofs.PermutedSets.{members_reordered}
-use Rattle.book_model.proofs.SetLemmas.{same_bytes-by_cmp}
 use Rattle.plain_ledger.specs.Plain.{AreBooked, Entry, entry_records}
 use Rattle.plain_ledger.specs.PlainDetails.{detail_at}
 use Rattle.plain_ledger.specs.Treatments.{records_where}

@@ -5,17 +5,16 @@ use Rattle.std.proofs.Common.{false, cond, Option, Some, None, is_some, true≢f
 use Rattle.std.specs.BTreeMap.{get, is_at}
 use Rattle.std.specs.BTreeSet.{contains}
 use Rattle.std.specs.Map.Calls.{RetainsPairs}
-use Rattle.std.specs.List.{list_any}
 use Rattle.std.proofs.lemmas.Map.Made.{is_some-lookup}
-use Rattle.std.proofs.lemmas.Simd.{map-map}
+use Rattle.book_model.proofs.Std.{list_any, map-map}
 use Rattle.book_model.specs.Words.{Rulings, Terms, most_cost, by_bytes, set_of}
-use Rattle.book_model.proofs.ListLemmas.{filter-map}
+use Rattle.book_model.proofs.Lemmas.{filter-map}
 use Rattle.plain_ledger.specs.declared.treatment.ClosedPeriod.{ClosedPeriod}
 use Rattle.plain_ledger.specs.declared.held.HeldRecord.{HeldRecord}
 use Rattle.plain_ledger.specs.Plain.{Entry, entry_records, held_in, record_of}
 use Rattle.plain_ledger.specs.PlainBook.{book_with}
 use Rattle.plain_ledger.specs.Repricing.{AreRepriced, price_anew, unpriced}
-use Rattle.book_core.specs.Room.{if_room}
+use Rattle.book_core.specs.Words.{if_room}
 use Rattle.plain_ledger.specs.Treatments.{Names, AreNamed, is_counted, is_added, is_taken}
 use Rattle.plain_ledger.specs.Treatments.{has_name_in, period_with, records_where, treatment_closed}
 use Rattle.plain_ledger.specs.Treatments.{under_name}

@@ -2,12 +2,9 @@
 use Rattle.std.proofs.Common.{◌≡◌, ◌∙◌, ◌≤◌, ◌+◌, ℕ, List, sym, ap, Bool, true, false, Option, Some}
 use Rattle.std.proofs.Common.{map, Ok, Err, Result, get_or, refl, length, subst, if◌then◌else◌}
 use Rattle.std.proofs.Common.{int_lt, nat_lt, All, sum_by, ltb-false}
-use Rattle.std.specs.List.{list_all, list_any}
-use Rattle.std.specs.List.Sorted.{IsStrictlySortedBy}
 use Rattle.std.specs.Map.{keys_of}
-use Rattle.std.proofs.lemmas.List.{length-map}
-use Rattle.std.proofs.lemmas.List.Folds.{fold-map}
-use Rattle.std.proofs.lemmas.Simd.{map-map}
+use Rattle.book_model.proofs.Std.{list_all, list_any, IsStrictlySortedBy, length-map, fold-map}
+use Rattle.book_model.proofs.Std.{map-map}
 use Rattle.book_model.specs.Words.{day_of, Terms, Naming, name_of, by_bytes, Book, Rulings}
 use Rattle.book_model.specs.Words.{price_in, price_by, with_tariff, has_text, total_of}
 use Rattle.book_model.specs.Words.{is_effective, is_later, is_too_dear, tariff_answer, terms_answer}
@@ -19,10 +16,9 @@ use Rattle.plain_ledger.specs.Repricing.{AreRepriced, cost_anew, price_anew}
 use Rattle.book_model.proofs.TestLemmas.{tariff_tests}
 use Rattle.plain_ledger.proofs.HeldLemmas.{bytes_of, each_priced, held-alike}
 use Rattle.plain_ledger.proofs.RepricingLemmas.{names_stay, records_stay}
-use Rattle.book_model.proofs.ListLemmas.{map-agree, filter_map-map, filter_map-defined}
-use Rattle.book_model.proofs.PricingLemmas.{priced_day, price_in-behind}
-use Rattle.book_model.proofs.LatestLemmas.{rising-behind, later_price}
-use Rattle.book_model.proofs.SumsAlike.{filter_map-alike}
+use Rattle.book_model.proofs.Lemmas.{map-agree, filter_map-map, filter_map-defined, price_in-behind}
+use Rattle.book_model.proofs.Lemmas.{rising-behind, later_price, filter_map-alike}
+use Rattle.book_model.proofs.PricingLemmas.{priced_day}
 use Rattle.book_core.proofs.RulingLemmas.{done_by}
 
 module _ (book : Book) (text : List ℕ) (terms : Terms) where

@@ -3,22 +3,18 @@ use Rattle.std.proofs.Common.{◌≡◌, ◌∙◌, ℕ, List, [], ◌∷◌, �
 use Rattle.std.proofs.Common.{false, Option, None, Some, Err, ◌+◌, ◌<◌, length, take, get_or, cond}
 use Rattle.std.proofs.Common.{All, filter, ok_or, option_and_then, option_map}
 use Rattle.std.specs.BTreeMap.{is_at}
-use Rattle.std.specs.List.Sorted.{IsStrictlySortedBy}
 use Rattle.std.specs.Map.{keys_of}
-use Rattle.std.proofs.lemmas.List.{map-append, take_more}
-use Rattle.std.proofs.lemmas.List.Elements.{All-map, filter-append}
-use Rattle.std.proofs.lemmas.Map.Lookups.{exact_bytes}
-use Rattle.std.proofs.lemmas.Map.Views.{tells_apart}
-use Rattle.std.proofs.lemmas.Simd.{map-map}
+use Rattle.book_model.proofs.Std.{IsStrictlySortedBy, map-append, take_more, All-map, filter-append}
+use Rattle.book_model.proofs.Std.{exact_bytes, tells_apart, map-map}
 use Rattle.book_model.specs.Words.{Reckoning, Variant, NoSuchRecord, Book, Choice, IsDay, Naming}
 use Rattle.book_model.specs.Words.{TrailSeen, by_bytes, choice_named, choices_among, day_of}
 use Rattle.book_model.specs.Words.{identity_by, life_of, period_on, reckoning_in, record_named}
 use Rattle.book_model.specs.Words.{share_identity, trail_by, trail_of, trail_outcome}
-use Rattle.book_model.proofs.ListLemmas.{filter-map}
+use Rattle.book_model.proofs.Lemmas.{filter-map}
 use Rattle.plain_ledger.specs.declared.chosen.ChosenRecord.{ChosenRecord}
 use Rattle.plain_ledger.specs.declared.treatment.ClosedPeriod.{ClosedPeriod}
 use Rattle.plain_ledger.specs.declared.held.HeldRecord.{HeldRecord}
-use Rattle.book_core.specs.Calls.{LeavesOpen}
+use Rattle.book_core.specs.Words.{LeavesOpen}
 use Rattle.book_core.specs.declared.rulings.Rulings.{Rulings as OfficeRulings}
 use Rattle.book_core.proofs.OpenAnswers.{opens}
 use Rattle.plain_ledger.specs.Choices.{choice_of, is_of}

@@ -3,23 +3,18 @@ use Rattle.std.proofs.Common.{◌≡◌, ◌∙◌, ℕ, List, [], map, refl, sy
 use Rattle.std.proofs.Common.{not, ◌&&◌, ◌||◌, Option, Some, None, get_or, All, filter, sum_by, ℤ}
 use Rattle.std.proofs.Common.{int_lt, filter_map}
 use Rattle.std.specs.BTreeSet.{contains}
-use Rattle.std.specs.List.{IsDistinct}
-use Rattle.std.specs.List.Sorted.{IsStrictlySortedBy}
 use Rattle.std.specs.Map.{keys_of}
-use Rattle.std.specs.Option.{option_map_or}
 use Rattle.std.proofs.Math.Bool.{and-true, not-not}
-use Rattle.std.proofs.lemmas.Cmp.{nat_list_cmp_total, nat_list_eq_equiv}
-use Rattle.std.proofs.lemmas.List.Elements.{All-filter}
-use Rattle.std.proofs.lemmas.Map.Lookups.{exact_bytes}
+use Rattle.book_model.proofs.Std.{IsDistinct, IsStrictlySortedBy, option_map_or, nat_list_cmp_total}
+use Rattle.book_model.proofs.Std.{nat_list_eq_equiv, All-filter, exact_bytes}
 use Rattle.book_model.specs.Words.{Priced, is_chosen, is_undisputed, is_dated_through}
 use Rattle.book_model.specs.Words.{is_dated_after, charged_by, identity_by, last_close, period_by}
 use Rattle.book_model.specs.Words.{Records, Naming, by_bytes, same_bytes, rows_for, rows_of}
 use Rattle.book_model.specs.Words.{Rulings, price_in, set_of, members, has, those, without}
-use Rattle.book_model.proofs.ListLemmas.{filter-agree, filter-map, filter-filter, list_any-map}
-use Rattle.book_model.proofs.ListLemmas.{filter_map-map, filter_map-defined}
-use Rattle.book_model.proofs.RowLemmas.{rows_of-alike}
-use Rattle.book_model.proofs.SumsAlike.{SumsAlike, filter_map-alike}
-use Rattle.book_model.proofs.SetLemmas.{those-set_of, those-alike, has-texts, same_bytes-by_cmp}
+use Rattle.book_model.proofs.Lemmas.{filter-agree, filter-map, filter-filter, list_any-map}
+use Rattle.book_model.proofs.Lemmas.{filter_map-map, filter_map-defined, rows_of-alike, SumsAlike}
+use Rattle.book_model.proofs.Lemmas.{filter_map-alike, same_bytes-by_cmp}
+use Rattle.book_model.proofs.SetLemmas.{those-set_of, those-alike, has-texts}
 use Rattle.plain_ledger.specs.declared.period_end.PeriodEnd.{PeriodEnd}
 use Rattle.plain_ledger.specs.declared.treatment.Treatment.{Treatment}
 use Rattle.plain_ledger.specs.Plain.{Entry, entry_identity, entry_records, held_in, AreBooked}

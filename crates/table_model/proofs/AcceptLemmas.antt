@@ -1,26 +1,19 @@
 -- A record is answered by the rows of its name and of the book.
 use Rattle.std.proofs.Common.{◌≡◌, ℕ, List, [], ◌∷◌, refl, sym, ap, ◌∙◌, true, false, true≢false}
 use Rattle.std.proofs.Common.{Bool, Option, Some, None, Result, Ok, Err, if◌then◌else◌, ℤ}
-use Rattle.std.specs.FinMap.{get, get-from_entries}
-use Rattle.std.proofs.lemmas.Cmp.{nat_list_cmp_total}
-use Rattle.std.proofs.lemmas.Map.Lookups.{exact_bytes}
-use Rattle.std.proofs.lemmas.Map.Views.{tells_apart}
+use Rattle.book_model.proofs.Std.{get, get-from_entries, nat_list_cmp_total, exact_bytes}
+use Rattle.book_model.proofs.Std.{tells_apart}
 use Rattle.book_model.specs.Words.{data_of, record_with, IsFramed, accept_answer, accept_priced}
 use Rattle.book_model.specs.Words.{clashes, Book, charged_of, Naming, name_of, same_bytes, price_in}
 use Rattle.book_model.specs.Words.{identity_by, has, Priced, Accepted, Known, LedgerFault}
 use Rattle.book_model.specs.Words.{DigestClash}
-use Rattle.book_model.proofs.RecordSets.{is, is_itself}
-use Rattle.book_model.proofs.SetChanges.{is_back, IsUnnamed}
-use Rattle.book_model.proofs.SetLemmas.{fails_too}
-use Rattle.table_model.specs.Tables.{RecordRow, Tables}
-use Rattle.table_model.specs.TablesOf.{record_entries, tables_of}
-use Rattle.table_model.specs.Views.{has_choice, lone_members, member_at}
+use Rattle.book_model.proofs.Lemmas.{is, is_itself, is_back, IsUnnamed, fails_too}
+use Rattle.table_model.specs.Words.{RecordRow, Tables, record_entries, tables_of, has_choice}
+use Rattle.table_model.specs.Words.{lone_members, member_at, NamedRow, IsReadable}
 use Rattle.table_model.proofs.LineReading.{held_row}
 use Rattle.table_model.proofs.RecordChanges.{no_row}
 use Rattle.table_model.specs.AcceptRead.{row_answer, new_answer, accept_read, view_if_named}
 use Rattle.table_model.specs.AnswerLaws.{AcceptFollows, TwoAreEnough, ViewIsDetermined}
-use Rattle.table_model.specs.DisputesRead.{NamedRow}
-use Rattle.table_model.specs.Readable.{IsReadable}
 use Rattle.table_model.proofs.SetReading.{one_passes}
 use Rattle.table_model.proofs.Texts.{same_is}
 

@@ -2,30 +2,23 @@
 use Rattle.std.proofs.Common.{◌≡◌, inl, inr, ℕ, List, refl, sym, ap, ◌∙◌, true, false, true≢false}
 use Rattle.std.proofs.Common.{Bool, not, ◌&&◌, Option, Some, None, Ok, if◌then◌else◌, unwrap_or}
 use Rattle.std.proofs.Common.{filter_map, option_map}
-use Rattle.std.specs.FinMap.{keys, from_entries}
 use Rattle.std.proofs.Math.Bool.{and-true}
-use Rattle.std.proofs.lemmas.Cmp.{nat_list_cmp_total}
-use Rattle.std.proofs.lemmas.Map.Lookups.{exact_bytes}
-use Rattle.std.proofs.lemmas.Option.{same_Some}
+use Rattle.book_model.proofs.Std.{keys, from_entries, nat_list_cmp_total, exact_bytes, same_Some}
 use Rattle.book_model.specs.Words.{identity2_of, Book, open_number, charged_of, is_undisputed, give}
 use Rattle.book_model.specs.Words.{SecondRuleAdopted, Records, Naming, name_of, adopt_answer}
 use Rattle.book_model.specs.Words.{second_rule, Rulings, price_in, identity_by, with_second_rule}
 use Rattle.book_model.specs.Words.{last_close, open_by, members, has, IsSound, AreAmong, Priced}
 use Rattle.book_model.specs.Words.{Done}
 use Rattle.book_model.proofs.AdoptedLemmas.{adoption_takes_nothing, first_adopted}
-use Rattle.book_model.proofs.FilterMapLemmas.{map-filter_map}
-use Rattle.book_model.proofs.RecordSets.{first_of, has_those, in_those}
-use Rattle.book_model.proofs.SetChanges.{pick-agree}
-use Rattle.book_model.proofs.SoundLemmas.{steps_stay_sound}
+use Rattle.book_model.proofs.Lemmas.{map-filter_map, first_of, has_those, in_those, pick-agree}
+use Rattle.book_model.proofs.Lemmas.{steps_stay_sound}
 use Rattle.table_model.specs.Laws.{AdoptionFollows}
 use Rattle.table_model.specs.PeriodLists.{AreUsage}
 use Rattle.table_model.proofs.RestatedRows.{restate}
-use Rattle.table_model.specs.Steps.{rename_rows, set_rule}
-use Rattle.table_model.specs.RowChanges.{by_second_rule}
-use Rattle.table_model.specs.TableChanges.{walk, charge_due_step}
-use Rattle.table_model.specs.Tables.{RecordRow, BookRow, Tables}
-use Rattle.table_model.specs.TablesOf.{tables_of, tables_at, row_by, entry_by, book_row, status_by}
-use Rattle.table_model.specs.Views.{is_due_in}
+use Rattle.table_model.specs.Words.{rename_rows, by_second_rule, walk, charge_due_step, RecordRow}
+use Rattle.table_model.specs.Words.{BookRow, Tables, tables_of, tables_at, row_by, entry_by}
+use Rattle.table_model.specs.Words.{book_row, status_by, is_due_in}
+use Rattle.table_model.specs.Steps.{set_rule}
 use Rattle.table_model.proofs.DueLemmas.{due-follows}
 use Rattle.table_model.proofs.MovedLemmas.{updated-from_entries}
 use Rattle.table_model.proofs.Restated.{IsStatus, row_for, status_at}

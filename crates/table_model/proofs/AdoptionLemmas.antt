@@ -1,9 +1,8 @@
 -- Identities by the second rule, and how the row of the book determines the rule.
 use Rattle.std.proofs.Common.{ℕ, ap, Option, if◌then◌else◌, is_some, unwrap_or}
 use Rattle.book_model.specs.Words.{first_rule, second_rule}
-use Rattle.table_model.specs.Tables.{never_adopted}
+use Rattle.table_model.specs.Words.{never_adopted, row_record}
 use Rattle.table_model.specs.AnswerLaws.{AdoptionsFollow}
-use Rattle.table_model.specs.BookIn.{row_record}
 use Rattle.table_model.proofs.FitsLemmas.{numbers_fit}
 use Rattle.smf_type30.proofs.IdentityLength.{identity2-long}
 use Rattle.table_model.proofs.RulingsReading.{adopted_back}

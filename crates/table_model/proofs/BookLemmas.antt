@@ -2,17 +2,14 @@
 use Rattle.std.proofs.Common.{◌≡◌, ℕ, zero, suc, List, [], ◌∷◌, ◌++◌, length, refl, sym, ap, ◌∙◌}
 use Rattle.std.proofs.Common.{true, false, Some, arith, ◌<◌, ◌≤◌, nat_lt, slice_get, ℤ}
 use Rattle.std.proofs.Common.{length-append}
-use Rattle.std.specs.FinMap.{values}
-use Rattle.std.proofs.lemmas.Bool.Decides.{nat_tests}
+use Rattle.book_model.proofs.Std.{values, nat_tests}
 use Rattle.book_model.specs.Words.{Book, all_periods, open_period, is_dated_after, Period}
 use Rattle.book_model.specs.Words.{period_by, Records, Naming, those}
-use Rattle.book_model.proofs.ListLemmas.{slice_get-front, slice_get-behind}
+use Rattle.book_model.proofs.Lemmas.{slice_get-front, slice_get-behind}
 use Rattle.book_model.proofs.StepLemmas.{same_book}
-use Rattle.table_model.specs.Tables.{Tables}
-use Rattle.table_model.specs.TablesOf.{tables_of}
-use Rattle.table_model.specs.BookIn.{close_after, charged_before, period_in, past_in, book_in}
+use Rattle.table_model.specs.Words.{Tables, tables_of, close_after, charged_before, period_in}
+use Rattle.table_model.specs.Words.{past_in, book_in, IsReadable, chained}
 use Rattle.table_model.specs.ReadingLaws.{BookFollows, TablesDetermine}
-use Rattle.table_model.specs.Readable.{IsReadable, chained}
 use Rattle.table_model.proofs.ChoiceReading.{choices_back}
 use Rattle.table_model.proofs.LineSides.{added_back, taken_back}
 use Rattle.table_model.proofs.RecordReading.{held_back, posted_back}

@@ -3,37 +3,26 @@
 use Rattle.std.proofs.Common.{◌≡◌, ℕ, ◌+◌, ◌≤◌, List, [], ◌∷◌, map, length, refl, sym, ap, ◌∙◌}
 use Rattle.std.proofs.Common.{subst, true, false, true≢false, not, ◌&&◌, arith, Option, None, Some}
 use Rattle.std.proofs.Common.{ℤ, filter, option_map, option_and_then, nat_cmp, is_eq}
-use Rattle.std.specs.FinMap.{find, from_entries}
-use Rattle.std.specs.List.{list_any}
-use Rattle.std.specs.List.Sorted.{IsStrictlySortedBy}
-use Rattle.std.specs.Option.{option_map_or}
-use Rattle.std.proofs.lemmas.Cmp.{nat_list_cmp_total, nat_list_eq_equiv}
-use Rattle.std.proofs.lemmas.List.{length-map, map-append}
-use Rattle.std.proofs.lemmas.List.Kept.{IsStrictlySortedBy-filter}
-use Rattle.std.proofs.lemmas.Map.Keys.{sorted_head}
-use Rattle.std.proofs.lemmas.Option.{same_Some}
-use Rattle.tariff_rules.specs.declared.priced.Priced.{Priced}
-use Rattle.book_model.specs.Words.{Book, open_number, charged_of, share_identity, is_unrivalled}
-use Rattle.book_model.specs.Words.{RecordChosen, is_undisputed, charged_now, give, Records, Naming}
-use Rattle.book_model.specs.Words.{name_of, by_bytes, record_named, Choice, price_in, identity_by}
-use Rattle.book_model.specs.Words.{last_close, with_choice, open_by, has, those, IsSound, AreAmong}
-use Rattle.book_model.proofs.ChargedChanges.{share_back}
+use Rattle.std.specs.FinMap.{find}
+use Rattle.book_model.proofs.Std.{from_entries, list_any, IsStrictlySortedBy, option_map_or}
+use Rattle.book_model.proofs.Std.{nat_list_cmp_total, nat_list_eq_equiv, length-map, map-append}
+use Rattle.book_model.proofs.Std.{IsStrictlySortedBy-filter, sorted_head, same_Some}
+use Rattle.book_model.specs.Words.{Priced, Book, open_number, charged_of, share_identity}
+use Rattle.book_model.specs.Words.{is_unrivalled, RecordChosen, is_undisputed, charged_now, give}
+use Rattle.book_model.specs.Words.{Records, Naming, name_of, by_bytes, record_named, Choice}
+use Rattle.book_model.specs.Words.{price_in, identity_by, last_close, with_choice, open_by, has}
+use Rattle.book_model.specs.Words.{those, IsSound, AreAmong}
+use Rattle.book_model.proofs.Lemmas.{share_back, is, has_those, in_those, first_of, second_of}
+use Rattle.book_model.proofs.Lemmas.{is_first, is_back, members_rise, named_held}
 use Rattle.book_model.proofs.ChosenLemmas.{charged-choice, others-all, others-except}
-use Rattle.book_model.proofs.RecordSets.{is, has_those, in_those, first_of, second_of, is_first}
 use Rattle.book_model.proofs.RecordSets.{is_second}
-use Rattle.book_model.proofs.SetChanges.{is_back}
-use Rattle.book_model.proofs.SetLemmas.{members_rise}
-use Rattle.book_model.proofs.SoundLemmas.{named_held}
 use Rattle.book_model.proofs.TestLemmas.{choice_passes}
-use Rattle.book_core.specs.declared.effects.Member.{Member}
-use Rattle.book_core.specs.Effects.{withdraw, charge_held, choice_effects}
+use Rattle.book_core.specs.Words.{Member, withdraw, charge_held, choice_effects}
 use Rattle.table_model.specs.Laws.{ChoiceFollows}
-use Rattle.table_model.specs.Steps.{put_choice_row}
-use Rattle.table_model.specs.TableChanges.{apply, charge_in, put_choice}
-use Rattle.table_model.specs.Tables.{ChoiceRow, Tables}
-use Rattle.table_model.specs.TablesOf.{choice_entries, choice_row, status_by, tables_of, tables_at}
-use Rattle.table_model.specs.TablesOf.{under_numbers}
-use Rattle.table_model.specs.Views.{only_of, member_by, member_of, sharing, current_of}
+use Rattle.table_model.specs.Words.{put_choice_row, apply, charge_in, put_choice, ChoiceRow, Tables}
+use Rattle.table_model.specs.Words.{choice_entries, choice_row, status_by, tables_of, tables_at}
+use Rattle.table_model.specs.Words.{under_numbers, only_of, member_by, member_of, sharing}
+use Rattle.table_model.specs.Words.{current_of}
 use Rattle.table_model.proofs.RowsWhere.{among-filter}
 use Rattle.table_model.proofs.StatusSteps.{charge-step, withdraw-step}
 use Rattle.table_model.proofs.TableParts.{what_is}

@@ -2,36 +2,26 @@
 use Rattle.std.proofs.Common.{◌≡◌, ℕ, suc, ◌≤◌, List, [], ◌∷◌, length, refl, sym, ap, ◌∙◌, is_some}
 use Rattle.std.proofs.Common.{subst, true, false, true≢false, Bool, ◌||◌, ◌&&◌, Some, None, arith}
 use Rattle.std.proofs.Common.{filter, nat_le, slice_get, take, ◌==◌, option_map, is_eq}
-use Rattle.std.specs.FinMap.{entries, get, get-from_entries}
-use Rattle.std.specs.List.{list_any}
-use Rattle.std.specs.List.Sorted.{IsStrictlySortedBy}
 use Rattle.std.proofs.Math.Bool.{and-true}
-use Rattle.std.proofs.lemmas.Bool.Decides.{nat_tests}
-use Rattle.std.proofs.lemmas.Cmp.{nat_list_cmp_total, nat_list_eq_equiv}
-use Rattle.std.proofs.lemmas.List.Kept.{IsStrictlySortedBy-filter}
-use Rattle.std.proofs.lemmas.Map.Keys.{sorted_head}
-use Rattle.std.proofs.lemmas.Map.Lookups.{exact_bytes}
+use Rattle.book_model.proofs.Std.{entries, get, get-from_entries, list_any, IsStrictlySortedBy}
+use Rattle.book_model.proofs.Std.{nat_tests, nat_list_cmp_total, nat_list_eq_equiv}
+use Rattle.book_model.proofs.Std.{IsStrictlySortedBy-filter, sorted_head, exact_bytes}
 use Rattle.book_model.specs.Words.{Book, Naming, Records, by_bytes, charged_of, choose_answer}
 use Rattle.book_model.specs.Words.{chosen_answer, has, identity_by, is_chosen, is_undisputed}
 use Rattle.book_model.specs.Words.{is_unrivalled, members, most_choices, name_of, price_in}
 use Rattle.book_model.specs.Words.{record_named, same_bytes, share_identity}
-use Rattle.book_model.proofs.ChargedChanges.{do_conflict, rivalled_by, share_back}
+use Rattle.book_model.proofs.ChargedChanges.{do_conflict, rivalled_by}
+use Rattle.book_model.proofs.Lemmas.{share_back, filter-filter, is, is_itself, first_of, second_of}
+use Rattle.book_model.proofs.Lemmas.{has_those, in_those, is_first, passes_those, is_back}
+use Rattle.book_model.proofs.Lemmas.{fails_too, members_rise, named_held}
 use Rattle.book_model.proofs.ChosenLemmas.{one_chosen}
-use Rattle.book_model.proofs.ListLemmas.{filter-filter}
-use Rattle.book_model.proofs.RecordSets.{is, is_itself, first_of, second_of, has_those, in_those}
-use Rattle.book_model.proofs.RecordSets.{is_first, is_second, passes_those}
-use Rattle.book_model.proofs.SetChanges.{is_back}
-use Rattle.book_model.proofs.SetLemmas.{fails_too, members_rise}
-use Rattle.book_model.proofs.SoundLemmas.{named_held}
-use Rattle.table_model.specs.Tables.{Tables}
-use Rattle.table_model.specs.TablesOf.{status_of, tables_of}
-use Rattle.table_model.specs.Views.{member_at, only_of, rows_with}
+use Rattle.book_model.proofs.RecordSets.{is_second}
+use Rattle.table_model.specs.Words.{Tables, status_of, tables_of, member_at, only_of, rows_with}
+use Rattle.table_model.specs.Words.{NamedRow, IsReadable}
 use Rattle.table_model.proofs.LineReading.{held_row}
 use Rattle.table_model.proofs.RecordChanges.{no_entry}
 use Rattle.table_model.proofs.RowsWhere.{count_where, lone_where, members_held}
 use Rattle.table_model.specs.AnswerLaws.{ChoicesFollow}
-use Rattle.table_model.specs.DisputesRead.{NamedRow}
-use Rattle.table_model.specs.Readable.{IsReadable}
 use Rattle.table_model.specs.RulingsRead.{chosen_by, choose_read, choose_row}
 use Rattle.table_model.proofs.ChoiceReading.{choices_count, choices_numbered}
 use Rattle.table_model.proofs.RecordReading.{all_entries}

@@ -1,17 +1,13 @@
 -- The choices are read back from their table.
 use Rattle.std.proofs.Common.{◌≡◌, ℕ, ◌+◌, List, [], ◌∷◌, map, length, refl, sym, ap, ◌∙◌, Some}
 use Rattle.std.proofs.Common.{None, arith, All, unwrap_or, filter_map, option_map}
-use Rattle.std.specs.FinMap.{keys, values}
-use Rattle.std.specs.List.{cons_option, last_or}
-use Rattle.std.proofs.lemmas.List.{length-map}
-use Rattle.std.proofs.lemmas.List.Elements.{All-head, All-tail}
+use Rattle.book_model.proofs.Std.{keys, values, cons_option, last_or, length-map, All-head}
+use Rattle.book_model.proofs.Std.{All-tail}
 use Rattle.book_model.specs.Words.{Book, Choice, IsChoiceOf, IsSound, Naming, name_of}
-use Rattle.table_model.specs.PeriodLists.{AreFramed}
-use Rattle.table_model.specs.Tables.{ChoiceRow, RecordRow, RecordTable}
-use Rattle.table_model.specs.TablesOf.{choice_row, tables_of}
+use Rattle.table_model.specs.Words.{AreFramed, ChoiceRow, RecordRow, RecordTable, choice_row}
+use Rattle.table_model.specs.Words.{tables_of, choice_read, row_record}
 use Rattle.table_model.proofs.LineReading.{held_row}
 use Rattle.table_model.proofs.UnderNumbers.{entries-numbers, last_number, values-numbers}
-use Rattle.table_model.specs.BookIn.{choice_read, row_record}
 
 -- the table has as many rows as there are choices
 pub choices_count : (naming : Naming) (book : Book)

@@ -1,23 +1,14 @@
 -- The tables of a book after a close are those before it, changed by the close.
 use Rattle.std.proofs.Common.{◌≡◌, ℕ, List, refl, sym, ap, ◌∙◌, true, false, true≢false, Bool, not}
 use Rattle.std.proofs.Common.{◌&&◌, Option, Some, None, arith, ℤ, int_lt, if◌then◌else◌, option_map}
-use Rattle.std.specs.FinMap.{from_entries}
-use Rattle.std.proofs.lemmas.Bool.{false_from_ne_true}
-use Rattle.std.proofs.lemmas.Cmp.{nat_list_cmp_total}
-use Rattle.std.proofs.lemmas.Map.Lookups.{exact_bytes}
+use Rattle.book_model.proofs.Std.{from_entries, false_from_ne_true, nat_list_cmp_total, exact_bytes}
 use Rattle.book_model.specs.Words.{Priced, Book, open_number, charged_of, close, IsAfterLastClose}
 use Rattle.book_model.specs.Words.{Records, Naming, name_of, by_bytes, price_in, with_close}
 use Rattle.book_model.specs.Words.{members, has, IsSound}
-use Rattle.book_model.proofs.CallLemmas.{calls_go_forward}
-use Rattle.book_model.proofs.FilterMapLemmas.{map-filter_map}
-use Rattle.book_model.proofs.SetChanges.{pick-agree}
+use Rattle.book_model.proofs.Lemmas.{calls_go_forward, map-filter_map, pick-agree, closed_open}
 use Rattle.table_model.specs.Laws.{CloseFollows}
-use Rattle.table_model.specs.MapChanges.{updated}
-use Rattle.table_model.specs.Changed.{closed_at}
-use Rattle.table_model.specs.RowChanges.{post_by}
-use Rattle.table_model.specs.Tables.{RecordRow}
-use Rattle.table_model.specs.TablesOf.{record_row, record_entry, record_entries, tables_of}
-use Rattle.book_model.proofs.TestLemmas.{closed_open}
+use Rattle.table_model.specs.Words.{updated, closed_at, post_by, RecordRow, record_row}
+use Rattle.table_model.specs.Words.{record_entry, record_entries, tables_of}
 use Rattle.table_model.proofs.CloseDays.{posted_by}
 use Rattle.table_model.proofs.ClosedLines.{is_late, lines_closed}
 use Rattle.table_model.proofs.ClosedRows.{days_closed}

@@ -2,10 +2,8 @@
 use Rattle.std.proofs.Common.{◌≡◌, List, [], ◌∷◌, ◌++◌, sym, Option, Some, None, arith, refl, true}
 use Rattle.std.proofs.Common.{ℤ, ◌<ℤ◌, MatchOption, int_lt, int_cmp, Less}
 use Rattle.std.specs.Cmp.{int_cmp_is, int_ranked}
-use Rattle.std.specs.List.{AllByRecursion, last_or}
 use Rattle.std.specs.List.Sorted.{IsStrictlySortedBy}
-use Rattle.std.specs.Option.{option_map_or}
-use Rattle.std.proofs.lemmas.Int.{ints}
+use Rattle.book_model.proofs.Std.{AllByRecursion, last_or, option_map_or, ints}
 
 -- a day is later than another if it compares so
 pub earlier : (one other : ℤ) → int_cmp one other ≡ Less → one <ℤ other

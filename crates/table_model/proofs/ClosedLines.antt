@@ -1,17 +1,13 @@
 -- The lines after a close: those of the open period stay with it, and the next has none.
 use Rattle.std.proofs.Common.{◌≡◌, ℕ, List, [], ◌∷◌, ◌++◌, map, refl, sym, ap, ◌∙◌, true, false}
 use Rattle.std.proofs.Common.{Bool, not, ◌&&◌, Some, is_some, ℤ, int_lt}
-use Rattle.std.specs.FinMap.{from_entries}
-use Rattle.std.proofs.lemmas.List.{map-append}
+use Rattle.book_model.proofs.Std.{from_entries, map-append}
 use Rattle.book_model.specs.Words.{day_of, Book, open_period, all_periods, charged_of}
 use Rattle.book_model.specs.Words.{is_dated_through, close, IsAfterLastClose, Period, Records}
 use Rattle.book_model.specs.Words.{Naming, name_of, by_bytes, last_close, set_of, members, has}
 use Rattle.book_model.specs.Words.{IsSound}
-use Rattle.book_model.proofs.RecordSets.{same_records, has_those}
-use Rattle.book_model.proofs.SetChanges.{those-agree}
-use Rattle.book_model.proofs.SetLemmas.{members-empty}
-use Rattle.table_model.specs.PeriodRows.{by_period, numbered}
-use Rattle.table_model.specs.TablesOf.{line_entries, signed_names}
+use Rattle.book_model.proofs.Lemmas.{same_records, has_those, those-agree, members-empty}
+use Rattle.table_model.specs.Words.{by_period, numbered, line_entries, signed_names}
 use Rattle.table_model.proofs.CloseDays.{is_current, posted_by, ended_by, opened_by, periods_closed}
 use Rattle.table_model.proofs.CloseDays.{not_after_both}
 use Rattle.table_model.proofs.LineChanges.{has_added}

@@ -1,22 +1,15 @@
 -- A record that is kept changes at most one of the names that are counted, and a choice at most two.
-use Rattle.std.proofs.Common.{ℕ, ◌+◌, suc, List, [], ◌∷◌, length, refl, sym, ◌∙◌, subst}
-use Rattle.std.proofs.Common.{Option, Some, None, arith}
-use Rattle.std.specs.Option.{option_map_or}
-use Rattle.std.proofs.lemmas.Cmp.{nat_list_cmp_total}
-use Rattle.std.proofs.lemmas.Map.Lookups.{exact_bytes}
+use Rattle.std.proofs.Common.{ℕ, ◌+◌, suc, List, [], ◌∷◌, length, refl, sym, ◌∙◌, subst, Option}
+use Rattle.std.proofs.Common.{Some, None, arith}
+use Rattle.book_model.proofs.Std.{option_map_or, nat_list_cmp_total, exact_bytes}
 use Rattle.book_model.specs.Words.{last_close, name_of, open_number}
-use Rattle.book_core.specs.declared.effects.ChoiceEffects.{ChoiceEffects}
-use Rattle.book_core.specs.declared.effects.DayChange.{DayChange}
-use Rattle.book_core.specs.declared.effects.DayChange.TheVariants.{Add, Take}
-use Rattle.book_core.specs.declared.effects.Effects.{Effects}
-use Rattle.book_core.specs.Effects.{choice_effects, effects_of}
+use Rattle.book_core.specs.Words.{ChoiceEffects, DayChange, Add, Take, Effects, choice_effects}
+use Rattle.book_core.specs.Words.{effects_of}
 use Rattle.table_model.specs.CountedLaws.{AtMostOneNameDiffers, AtMostTwoNamesDiffer}
 use Rattle.table_model.specs.Differences.{NamesDifferInAtMost}
-use Rattle.table_model.specs.RowChanges.{count_where, uncount_where, uncounted_by}
-use Rattle.table_model.specs.TableChanges.{put_choice}
-use Rattle.table_model.specs.Tables.{CountedTable, Tables}
-use Rattle.table_model.specs.TablesOf.{tables_of}
-use Rattle.table_model.specs.Views.{current_of, view_of}
+use Rattle.table_model.specs.Words.{count_where, uncounted_by, put_choice, CountedTable, Tables}
+use Rattle.table_model.specs.Words.{tables_of, current_of, view_of}
+use Rattle.table_model.specs.RowChanges.{uncount_where}
 use Rattle.table_model.proofs.ChoiceChanges.{choice_follows, chosen_member}
 use Rattle.table_model.proofs.DifferLemmas.{get-beside, set}
 use Rattle.table_model.proofs.KeptLemmas.{kept_follows}

@@ -3,29 +3,21 @@
 use Rattle.std.proofs.Common.{◌≡◌, ℕ, zero, suc, ◌+◌, ◌-◌, ◌≤◌, List, [], ◌∷◌, length, refl, sym}
 use Rattle.std.proofs.Common.{ap, ◌∙◌, subst, true, false, true≢false, Bool, cond, not, ◌&&◌, Some}
 use Rattle.std.proofs.Common.{None, arith, map, filter, filter_map, IsPermutation}
-use Rattle.std.specs.FinMap.{entries, from_entries, get, get-from_entries, insert}
-use Rattle.std.specs.Option.{option_map_or, option_or}
-use Rattle.std.specs.Ordering.{eq_by_cmp}
-use Rattle.std.proofs.lemmas.Bool.{and_right, false_from_ne_true}
-use Rattle.std.proofs.lemmas.Cmp.{nat_list_cmp_total}
-use Rattle.std.proofs.lemmas.List.Sorted.{IsPermutation-map, list_any-IsPermutation}
-use Rattle.std.proofs.lemmas.Map.Lookups.{exact_bytes}
+use Rattle.std.proofs.lemmas.Bool.{and_right}
+use Rattle.book_model.proofs.Std.{entries, from_entries, get, get-from_entries, insert}
+use Rattle.book_model.proofs.Std.{option_map_or, option_or, eq_by_cmp, false_from_ne_true}
+use Rattle.book_model.proofs.Std.{nat_list_cmp_total, IsPermutation-map, list_any-IsPermutation}
+use Rattle.book_model.proofs.Std.{exact_bytes}
 use Rattle.book_model.specs.Words.{Book, Naming, Period, Records, all_periods, by_bytes, charged_of}
 use Rattle.book_model.specs.Words.{counted_of, has, is_counted, is_dated_after, is_dated_in}
 use Rattle.book_model.specs.Words.{is_dated_through, members, name_of, set_of, without, through_of}
-use Rattle.book_model.proofs.CountedDays.{counted_at, has_counted_of}
-use Rattle.book_model.proofs.CountedLemmas.{current_is}
-use Rattle.book_model.proofs.MapLemmas.{else_find}
-use Rattle.book_model.proofs.RecordSets.{has_those, in_those}
-use Rattle.book_model.proofs.SetChanges.{those-agree}
-use Rattle.book_model.proofs.SetLemmas.{members-those, set_of-same}
-use Rattle.table_model.specs.CountedRead.{charged_before_lines, first_line}
-use Rattle.table_model.specs.DisputesRead.{NamedRow}
-use Rattle.table_model.specs.PeriodRows.{numbered}
-use Rattle.table_model.specs.Readable.{IsReadable}
-use Rattle.table_model.specs.Tables.{CountedTable, Tables}
-use Rattle.table_model.specs.TablesOf.{line_entries, status_of, tables_of}
-use Rattle.table_model.specs.BookIn.{close_after}
+use Rattle.book_model.proofs.Lemmas.{counted_at, current_is, else_find, has_those, in_those}
+use Rattle.book_model.proofs.Lemmas.{those-agree, members-those}
+use Rattle.book_model.proofs.CountedDays.{has_counted_of}
+use Rattle.book_model.proofs.SetLemmas.{set_of-same}
+use Rattle.table_model.specs.Words.{charged_before_lines, first_line, NamedRow, numbered}
+use Rattle.table_model.specs.Words.{IsReadable, CountedTable, Tables, line_entries, status_of}
+use Rattle.table_model.specs.Words.{tables_of, close_after}
 use Rattle.table_model.proofs.CountedReading.{charged_back, find_line, in_counted, its_held}
 use Rattle.table_model.proofs.CountedReading.{its_period, last_after, period_after, sets, sets_past}
 use Rattle.table_model.proofs.CountedReading.{through_is}

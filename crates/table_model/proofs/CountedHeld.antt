@@ -2,31 +2,26 @@
 -- close those of the charged ones.
 use Rattle.std.proofs.Common.{◌≡◌, ℕ, List, refl, sym, ap, ◌∙◌, true, false, true≢false, Bool, cond}
 use Rattle.std.proofs.Common.{Option, Some, None, is_some}
-use Rattle.std.specs.FinMap.{find, get, get-from_entries, get-remove}
-use Rattle.std.specs.FinMap as fin
-use Rattle.std.proofs.lemmas.Bool.{false_from_ne_true}
-use Rattle.std.proofs.lemmas.Cmp.{nat_list_cmp_total}
-use Rattle.std.proofs.lemmas.Map.Lookups.{exact_bytes}
-use Rattle.std.proofs.lemmas.Map.Views.{tells_apart}
+use Rattle.std.specs.FinMap.{find}
+use Rattle.book_model.proofs.Std.{get, get-from_entries, get-remove, false_from_ne_true}
+use Rattle.book_model.proofs.Std.{nat_list_cmp_total, exact_bytes, tells_apart}
 use Rattle.book_model.specs.Words.{AreAmong, Book, IsSound, Naming, Records, by_bytes, charged_of}
 use Rattle.book_model.specs.Words.{has, is_dated_after, is_undisputed, last_close, members, name_of}
-use Rattle.book_model.proofs.CountedLemmas.{current_is, has_counted}
-use Rattle.book_model.proofs.FilterMapLemmas.{find-none}
-use Rattle.book_model.proofs.RecordSets.{in_those, is}
-use Rattle.book_core.specs.declared.effects.DayChange.{DayChange}
-use Rattle.book_core.specs.declared.effects.DayChange.TheVariants.{Add, Take}
-use Rattle.book_core.specs.declared.effects.Effects.{Effects}
-use Rattle.book_core.specs.Effects.{is_after}
+use Rattle.book_model.specs.Words.{is_after}
+use Rattle.book_model.proofs.Lemmas.{current_is, find-none, in_those, is}
+use Rattle.book_model.proofs.CountedLemmas.{has_counted}
+use Rattle.book_core.specs.Words.{DayChange, Add, Take, Effects}
 use Rattle.table_model.specs.CountedLaws.{NamesFollow}
-use Rattle.table_model.specs.RowChanges.{uncount_where, uncounted_by}
-use Rattle.table_model.specs.Tables.{CountedTable, RecordTable}
-use Rattle.table_model.specs.TablesOf.{counted_by, counted_names, tables_of}
+use Rattle.table_model.specs.RowChanges.{uncount_where}
+use Rattle.table_model.specs.Words.{uncounted_by, CountedTable, RecordTable, counted_by, tables_of}
+use Rattle.table_model.specs.TablesOf.{counted_names}
 use Rattle.table_model.proofs.CostLemmas.{day-price}
 use Rattle.table_model.proofs.CountedNames.{counted_among, names}
 use Rattle.table_model.proofs.HeldNames.{own_value}
 use Rattle.table_model.proofs.LineChanges.{given}
 use Rattle.table_model.proofs.LineReading.{held_row}
 use Rattle.table_model.proofs.RecordReading.{every_row}
+use Rattle.std.specs.FinMap as fin
 
 -- what is there under a test
 some_where : {V : Type 0} (v : V) (b : Bool) → is_some (cond b (Some v) None) ≡ b

@@ -2,32 +2,22 @@
 use Rattle.std.proofs.Common.{◌≡◌, ℕ, suc, ◌-◌, ◌≤◌, List, [], ◌∷◌, map, length, sym, ap, ◌∙◌}
 use Rattle.std.proofs.Common.{subst, true, Bool, ◌&&◌, Option, Some, arith, filter, filter_map}
 use Rattle.std.proofs.Common.{length-append, map-id}
-use Rattle.std.specs.FinMap.{entries}
-use Rattle.std.proofs.lemmas.Cmp.{nat_list_cmp_total}
-use Rattle.std.proofs.lemmas.List.{length-map}
-use Rattle.std.proofs.lemmas.List.Sorted.{length_permutation}
-use Rattle.std.proofs.lemmas.List.Sums.{count_by-le-length, length-filter}
-use Rattle.std.proofs.lemmas.Map.Lookups.{exact_bytes}
-use Rattle.std.proofs.lemmas.Option.{slice_get_within}
-use Rattle.std.proofs.lemmas.Simd.{map-map}
+use Rattle.book_model.proofs.Std.{entries, nat_list_cmp_total, length-map, length_permutation}
+use Rattle.book_model.proofs.Std.{count_by-le-length, length-filter, exact_bytes, slice_get_within}
+use Rattle.book_model.proofs.Std.{map-map}
 use Rattle.book_model.specs.Words.{Priced, AreAmong, Book, Naming, Period, Terms, all_periods}
 use Rattle.book_model.specs.Words.{by_bytes, charged_of, has, members, most_held, name_of, no_event}
 use Rattle.book_model.specs.Words.{open_by, open_period, period_of, price_by, price_in}
 use Rattle.book_model.specs.Words.{rows_if_room, set_of, those, what_if_answer, is_day_of}
 use Rattle.book_model.proofs.RowLemmas.{rows_if_room-alike}
-use Rattle.book_model.proofs.SetChanges.{those-agree}
-use Rattle.book_model.proofs.SetLemmas.{members-those, set_of-alike}
-use Rattle.book_model.proofs.SumsAlike.{SumsAlike, map-alike}
-use Rattle.table_model.specs.Tables.{RecordRow, Tables}
-use Rattle.table_model.specs.TablesOf.{status_of, tables_of}
+use Rattle.book_model.proofs.Lemmas.{those-agree, members-those, set_of-alike, SumsAlike, map-alike}
+use Rattle.table_model.specs.Words.{RecordRow, Tables, status_of, tables_of, row_record}
+use Rattle.table_model.specs.Words.{charged_before_lines, counted_rows, first_line, is_row_counted}
+use Rattle.table_model.specs.Words.{row_costs, IsReadable}
 use Rattle.table_model.proofs.CostLemmas.{day-price}
 use Rattle.table_model.proofs.PeriodPlaces.{at_place}
 use Rattle.table_model.proofs.RowsWhere.{rows_where, those_among}
-use Rattle.table_model.specs.BookIn.{row_record}
-use Rattle.table_model.specs.CountedRead.{charged_before_lines, counted_rows, first_line}
-use Rattle.table_model.specs.CountedRead.{is_row_counted, row_costs}
 use Rattle.table_model.specs.ListLaws.{CountedFollows}
-use Rattle.table_model.specs.Readable.{IsReadable}
 use Rattle.table_model.proofs.CountedReading.{counted_back, is_record_counted, its_period}
 use Rattle.table_model.proofs.CountedReading.{period_after}
 use Rattle.table_model.proofs.ListLemmas.{held_in, told}

@@ -3,19 +3,18 @@
 -- leaves them as they are, and so does a close. No price is looked at.
 use Rattle.std.proofs.Common.{◌≡◌, ℕ, List, refl, sym, ap, ◌∙◌, true, false, Bool, cond, ◌&&◌, ◌||◌}
 use Rattle.std.proofs.Common.{Option, Some, None, ℤ}
-use Rattle.std.specs.FinMap.{find, from_entries}
-use Rattle.std.proofs.lemmas.Cmp.{nat_list_cmp_total}
-use Rattle.std.proofs.lemmas.Map.Lookups.{exact_bytes}
+use Rattle.std.specs.FinMap.{find}
+use Rattle.book_model.proofs.Std.{from_entries, nat_list_cmp_total, exact_bytes}
 use Rattle.book_model.specs.Words.{AreAmong, Book, IsAfterLastClose, IsSound, Naming, Records}
 use Rattle.book_model.specs.Words.{by_bytes, charged_of, close, has, is_counted_in, is_dated_after}
 use Rattle.book_model.specs.Words.{keep, last_close, name_of, with}
-use Rattle.book_model.proofs.CountedLemmas.{close_leaves, counted_somewhere, current_is}
-use Rattle.book_model.proofs.CountedLemmas.{has_counted, new_uncounted, settled_is}
+use Rattle.book_model.proofs.CountedLemmas.{close_leaves, counted_somewhere, has_counted}
+use Rattle.book_model.proofs.CountedLemmas.{new_uncounted, settled_is}
+use Rattle.book_model.proofs.Lemmas.{current_is, has_those, in_those, is, except, with-except}
 use Rattle.book_model.proofs.MapLemmas.{from_entries-insert, from_entries-remove}
-use Rattle.book_model.proofs.RecordSets.{has_those, in_those, is}
-use Rattle.book_model.proofs.SetChanges.{except, those-with_out, with-except}
-use Rattle.table_model.specs.Tables.{CountedTable}
-use Rattle.table_model.specs.TablesOf.{counted_by, counted_names, periods_by}
+use Rattle.book_model.proofs.SetChanges.{those-with_out}
+use Rattle.table_model.specs.Words.{CountedTable, counted_by, periods_by}
+use Rattle.table_model.specs.TablesOf.{counted_names}
 use Rattle.table_model.proofs.HeldNames.{except-alike, twice_found, value-with}
 use Rattle.table_model.proofs.OpenChanges.{except-absent}
 use Rattle.table_model.proofs.RestatedRows.{set_counted}

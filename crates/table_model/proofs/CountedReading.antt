@@ -3,33 +3,24 @@ use Rattle.std.proofs.Common.{◌≡◌, ℕ, zero, suc, ◌+◌, ◌-◌, ◌<�
 use Rattle.std.proofs.Common.{refl, sym, ap, ◌∙◌, true, false, true≢false, Bool, cond, not, ◌&&◌}
 use Rattle.std.proofs.Common.{Option, Some, None, arith, ℤ, pos, ◌==◌, nat_le, if◌then◌else◌}
 use Rattle.std.proofs.Common.{int_lt, slice_get, int_cmp}
-use Rattle.std.specs.FinMap.{find, get, get-from_entries}
-use Rattle.std.specs.List.{last_or}
+use Rattle.std.specs.FinMap.{find}
 use Rattle.std.specs.List.Sorted.{IsStrictlySortedBy}
-use Rattle.std.specs.Option.{option_map_or, option_or}
-use Rattle.std.proofs.lemmas.Bool.{false_from_ne_true}
-use Rattle.std.proofs.lemmas.Bool.Decides.{nat_tests}
-use Rattle.std.proofs.lemmas.Cmp.{nat_list_cmp_total}
-use Rattle.std.proofs.lemmas.Int.{ints}
-use Rattle.std.proofs.lemmas.Option.{slice_get_within, slice_get-get_or}
-use Rattle.book_model.specs.RulingAnswers.{through_of}
-use Rattle.book_model.specs.Words.{AreHeld, Book, IsSound, Naming, Period, Records, all_periods}
-use Rattle.book_model.specs.Words.{by_bytes, charged_of, day_of, has, is_dated_after, Rulings}
-use Rattle.book_model.specs.Words.{name_of, open_by, open_period, period_by, without}
-use Rattle.book_model.proofs.ListLemmas.{last_or-is, slice_get-behind}
-use Rattle.book_model.proofs.MapLemmas.{else_find, find-both}
-use Rattle.book_model.proofs.RecordSets.{has_those}
-use Rattle.table_model.specs.PeriodRows.{numbered}
-use Rattle.table_model.specs.Tables.{LineTable}
-use Rattle.table_model.specs.TablesOf.{line_entries, signed_names, tables_of}
+use Rattle.book_model.proofs.Std.{get, get-from_entries, last_or, option_map_or, option_or}
+use Rattle.book_model.proofs.Std.{false_from_ne_true, nat_tests, nat_list_cmp_total, ints}
+use Rattle.book_model.proofs.Std.{slice_get_within, slice_get-get_or}
+use Rattle.book_model.specs.Words.{through_of, AreHeld, Book, IsSound, Naming, Period, Records}
+use Rattle.book_model.specs.Words.{all_periods, by_bytes, charged_of, day_of, has, is_dated_after}
+use Rattle.book_model.specs.Words.{Rulings, name_of, open_by, open_period, period_by, without}
+use Rattle.book_model.specs.Words.{is_day_of}
+use Rattle.book_model.proofs.ListLemmas.{last_or-is}
+use Rattle.book_model.proofs.Lemmas.{slice_get-behind, else_find, find-both, has_those}
+use Rattle.table_model.specs.Words.{numbered, LineTable, line_entries, signed_names, tables_of}
+use Rattle.table_model.specs.Words.{close_after, charged_before_lines, first_line, IsReadable}
 use Rattle.table_model.proofs.HeldNames.{own_value}
 use Rattle.table_model.proofs.HeldPeriods.{all_held, one_of}
 use Rattle.table_model.proofs.NumberedLemmas.{by_period_total}
 use Rattle.table_model.proofs.PeriodPlaces.{slice_get-map}
 use Rattle.table_model.proofs.PeriodReading.{find-at}
-use Rattle.table_model.specs.BookIn.{close_after}
-use Rattle.table_model.specs.CountedRead.{charged_before_lines, first_line, is_day_of}
-use Rattle.table_model.specs.Readable.{IsReadable}
 use Rattle.table_model.proofs.BookLemmas.{its_place}
 use Rattle.table_model.proofs.CloseOrder.{earlier}
 

@@ -1,20 +1,15 @@
 -- The record that a choice withdraws is read from the tables alone, and so is the chosen one.
 use Rattle.std.proofs.Common.{◌≡◌, ℕ, suc, List, [], ◌∷◌, length, refl, sym, ap, ◌∙◌, true, Bool}
 use Rattle.std.proofs.Common.{◌&&◌, Some, None, arith, filter, option_map, option_and_then}
-use Rattle.std.specs.FinMap.{entries}
-use Rattle.std.proofs.lemmas.Cmp.{nat_list_cmp_total, nat_list_eq_equiv}
-use Rattle.std.proofs.lemmas.Map.Lookups.{exact_bytes}
-use Rattle.tariff_rules.specs.declared.priced.Priced.{Priced}
-use Rattle.book_model.specs.Words.{Book, charged_of, share_identity, Records, Naming, name_of}
-use Rattle.book_model.specs.Words.{same_bytes, price_in, identity_by, members, has, IsSound}
-use Rattle.book_model.proofs.FilterLemmas.{no_length}
-use Rattle.book_model.proofs.ListLemmas.{filter-filter}
-use Rattle.book_model.proofs.SetLemmas.{members-those}
+use Rattle.book_model.proofs.Std.{entries, nat_list_cmp_total, nat_list_eq_equiv, exact_bytes}
+use Rattle.book_model.specs.Words.{Priced, Book, charged_of, share_identity, Records, Naming}
+use Rattle.book_model.specs.Words.{name_of, same_bytes, price_in, identity_by, members, has}
+use Rattle.book_model.specs.Words.{IsSound}
+use Rattle.book_model.proofs.Lemmas.{no_length, filter-filter, members-those}
 use Rattle.table_model.specs.Laws.{ChoiceReads}
-use Rattle.table_model.specs.Tables.{RecordRow, RecordTable}
-use Rattle.table_model.specs.TablesOf.{status_of, tables_of}
-use Rattle.table_model.specs.Views.{current_in, current_of, only_of, member_at, member_by}
-use Rattle.table_model.specs.Views.{member_of, sharing, member_in}
+use Rattle.table_model.specs.Words.{RecordRow, RecordTable, status_of, tables_of, current_in}
+use Rattle.table_model.specs.Words.{current_of, only_of, member_at, member_by, member_of, sharing}
+use Rattle.table_model.specs.Views.{member_in}
 use Rattle.table_model.proofs.Restated.{row-found}
 use Rattle.table_model.proofs.RowsWhere.{count_where, one_where}
 use Rattle.table_model.proofs.TableParts.{what_is}

@@ -4,8 +4,7 @@ use Rattle.std.proofs.Common.{◌≡◌, ◌∙◌, ℕ, zero, suc, ◌<◌, ◌
 use Rattle.std.proofs.Common.{ap, true, false, Bool, cond, Some, arith, ℤ, filter, int_lt}
 use Rattle.std.proofs.Common.{slice_get, int_cmp}
 use Rattle.std.specs.List.Sorted.{IsStrictlySortedBy}
-use Rattle.std.proofs.lemmas.Int.{ints}
-use Rattle.std.proofs.lemmas.List.Sums.{count_by-le-length, length-filter}
+use Rattle.book_model.proofs.Std.{ints, count_by-le-length, length-filter}
 use Rattle.table_model.proofs.CloseOrder.{earlier}
 
 module _ (day : ℤ) where

@@ -3,39 +3,27 @@ use Rattle.std.proofs.Common.{◌≡◌, ℕ, zero, suc, ◌-◌, ◌≤◌, Lis
 use Rattle.std.proofs.Common.{ap, ◌∙◌, subst, true, false, true≢false, Bool, ◌&&◌, arith, Option}
 use Rattle.std.proofs.Common.{Some, None, ℤ, filter, find, nat_le, not, slice_get, Contains}
 use Rattle.std.proofs.Common.{filter_map, IsPermutation, option_map, length-append}
-use Rattle.std.specs.FinMap.{contains_key, entries, get}
-use Rattle.std.specs.List.{cons_option}
-use Rattle.std.specs.List.Sorted.{IsStrictlySortedBy}
-use Rattle.std.specs.Option.{option_map_or}
-use Rattle.std.proofs.lemmas.Bool.Decides.{nat_tests}
-use Rattle.std.proofs.lemmas.Cmp.{nat_list_cmp_total}
-use Rattle.std.proofs.lemmas.List.Sorted.{Contains-permutation, IsPermutation-map}
-use Rattle.std.proofs.lemmas.List.Sorted.{IsPermutation-sym}
-use Rattle.std.proofs.lemmas.Map.Lookups.{exact_bytes}
-use Rattle.std.proofs.lemmas.Option.{slice_get_past, slice_get_within}
+use Rattle.std.proofs.lemmas.List.Sorted.{Contains-permutation}
+use Rattle.book_model.proofs.Std.{contains_key, entries, get, cons_option, IsStrictlySortedBy}
+use Rattle.book_model.proofs.Std.{option_map_or, nat_tests, nat_list_cmp_total, IsPermutation-map}
+use Rattle.book_model.proofs.Std.{IsPermutation-sym, exact_bytes, slice_get_past, slice_get_within}
 use Rattle.book_model.specs.Words.{Priced, Detail, AreAmong, Book, Naming, Period, Records, Rulings}
 use Rattle.book_model.specs.Words.{all_periods, by_detail, comes_after, counted_of, day_of}
 use Rattle.book_model.specs.Words.{detail_by, detail_of, details_asked, details_for, details_of}
 use Rattle.book_model.specs.Words.{has, is_asked, is_counted, is_dated_after, is_dated_in}
 use Rattle.book_model.specs.Words.{is_dated_through, members, name_of, next_after, no_event}
 use Rattle.book_model.specs.Words.{open_period, period_of, price_in, those, is_day_of}
-use Rattle.book_model.proofs.CountedDays.{AreInWindows, close_at, counted_at}
+use Rattle.book_model.proofs.CountedDays.{AreInWindows}
+use Rattle.book_model.proofs.Lemmas.{close_at, counted_at, by_detail_total, members_reordered}
+use Rattle.book_model.proofs.Lemmas.{first_of, in_those, second_of, those-agree, members-those}
 use Rattle.book_model.proofs.DetailLemmas.{details_rise, details_those, read_once}
 use Rattle.book_model.proofs.DetailLemmas.{unsorted_distinct}
-use Rattle.book_model.proofs.DetailOrder.{by_detail_total, find_both, find_least, find_none}
-use Rattle.book_model.proofs.DetailOrder.{next_asked}
+use Rattle.book_model.proofs.DetailOrder.{find_both, find_least, find_none, next_asked}
 use Rattle.book_model.proofs.GivenLemmas.{contains_given, given_contains}
-use Rattle.book_model.proofs.PermutedSets.{members_reordered}
-use Rattle.book_model.proofs.RecordSets.{first_of, in_those, second_of}
-use Rattle.book_model.proofs.SetChanges.{those-agree}
-use Rattle.book_model.proofs.SetLemmas.{members-those}
-use Rattle.table_model.specs.Tables.{RecordRow, Tables}
-use Rattle.table_model.specs.TablesOf.{status_of, tables_of}
-use Rattle.table_model.specs.BookIn.{close_after}
-use Rattle.table_model.specs.DetailsRead.{FindsLeast, IsDetail, detail_shown, details_kept}
-use Rattle.table_model.specs.DetailsRead.{details_of_days, is_sought}
+use Rattle.table_model.specs.Words.{RecordRow, Tables, status_of, tables_of, close_after}
+use Rattle.table_model.specs.Words.{FindsLeast, IsDetail, detail_shown, IsReadable}
+use Rattle.table_model.specs.DetailsRead.{details_kept, details_of_days, is_sought}
 use Rattle.table_model.specs.ListLaws.{DetailsFollow}
-use Rattle.table_model.specs.Readable.{IsReadable}
 use Rattle.table_model.proofs.CostLemmas.{day-price}
 use Rattle.table_model.proofs.CountedHeld.{names_follow}
 use Rattle.table_model.proofs.CountedReading.{in_counted, its_period, period_after, sets, sets_past}

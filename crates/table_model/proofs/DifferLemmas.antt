@@ -3,31 +3,22 @@
 use Rattle.std.proofs.Common.{◌≡◌, ◌≢◌, ℕ, zero, suc, List, [], ◌∷◌, refl, sym, ap, ◌∙◌, subst}
 use Rattle.std.proofs.Common.{true, false, Bool, cond, Option, Some, None, arith, ℤ, if◌then◌else◌}
 use Rattle.std.proofs.Common.{◌==◌, Ordering}
-use Rattle.std.specs.Cmp.{IsTotalOrder, nat_cmp_total}
-use Rattle.std.specs.FinMap.{FinMap, IsAntisymmetric, get, insert, remove, get-insert, get-remove}
-use Rattle.std.specs.FinMap.{nat_cmp-IsAntisymmetric}
-use Rattle.std.proofs.lemmas.Cmp.{nat_list_cmp_total}
-use Rattle.std.proofs.lemmas.Map.Lookups.{exact_bytes}
+use Rattle.book_model.proofs.Std.{IsTotalOrder, nat_cmp_total, FinMap, IsAntisymmetric, get, insert}
+use Rattle.book_model.proofs.Std.{remove, get-insert, get-remove, nat_cmp-IsAntisymmetric}
+use Rattle.book_model.proofs.Std.{nat_list_cmp_total, exact_bytes}
 use Rattle.book_model.specs.Words.{Priced, ChargeRow, RowKey, open_number, name_of, by_bytes}
 use Rattle.book_model.specs.Words.{key_of, by_key, is_after}
 use Rattle.book_model.proofs.MapLemmas.{not_tied}
-use Rattle.book_model.proofs.RowLemmas.{by_key_total, by_key_exact}
-use Rattle.book_core.specs.declared.effects.DayChange.TheVariants.{Add, Take}
-use Rattle.book_core.specs.declared.effects.LineChange.TheVariants.{AddPlus, DropPlus, AddMinus}
-use Rattle.book_core.specs.declared.effects.LineChange.TheVariants.{DropMinus}
-use Rattle.book_core.specs.declared.effects.Member.{Member}
-use Rattle.book_core.specs.declared.effects.View.{View}
-use Rattle.book_core.specs.Effects.{charge, charge_held, charges, choice_effects, effects_by}
-use Rattle.book_core.specs.Effects.{unmarks}
+use Rattle.book_model.proofs.Lemmas.{by_key_total, by_key_exact}
+use Rattle.book_core.specs.Words.{Add, Take, AddPlus, DropPlus, AddMinus, DropMinus, Member, View}
+use Rattle.book_core.specs.Words.{charge_held, charges, choice_effects, unmarks}
+use Rattle.book_core.specs.Effects.{charge, effects_by}
 use Rattle.table_model.specs.Differences.{TableKey, OfBook, OfChoice, OfRecord, OfDay, OfLine}
 use Rattle.table_model.specs.Differences.{SameRow, DifferInAtMost}
 use Rattle.table_model.specs.Laws.{AtMostFourDiffer, AtMostFiveDiffer}
-use Rattle.table_model.specs.RowChanges.{less_price, mark_at, take_at}
-use Rattle.table_model.specs.Steps.{put_choice_row, set_mark_row}
-use Rattle.table_model.specs.TableChanges.{apply, charge_in, put_choice}
-use Rattle.table_model.specs.Tables.{BookRow, ChoiceRow, CountedTable, RecordRow, Tables}
-use Rattle.table_model.specs.TablesOf.{tables_of}
-use Rattle.table_model.specs.Views.{current_of, view_of}
+use Rattle.table_model.specs.Words.{less_price, mark_at, take_at, put_choice_row, set_mark_row}
+use Rattle.table_model.specs.Words.{apply, charge_in, put_choice, BookRow, ChoiceRow, CountedTable}
+use Rattle.table_model.specs.Words.{RecordRow, Tables, tables_of, current_of, view_of}
 use Rattle.table_model.proofs.ChoiceChanges.{choice_follows, chosen_member}
 use Rattle.table_model.proofs.KeptLemmas.{kept_follows}
 use Rattle.table_model.proofs.KeptPrice.{kept_cost}

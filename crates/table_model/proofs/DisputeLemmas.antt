@@ -1,19 +1,17 @@
 -- The disputes are answered from the tables.
 use Rattle.std.proofs.Common.{◌≡◌, ℕ, List, [], ◌∷◌, map, length, refl, sym, ap, ◌∙◌, true, Ok}
 use Rattle.std.proofs.Common.{arith, subst, not, ◌<◌, is_eq, Less}
-use Rattle.std.specs.List.{AllByRecursion}
 use Rattle.std.specs.List.Sorted.{IsStrictlySortedBy}
-use Rattle.std.proofs.lemmas.Bool.Decides.{nat_tests}
-use Rattle.std.proofs.lemmas.List.Elements.{filter_map-append, filter_passes, recursion_from_All}
+use Rattle.book_model.proofs.Std.{AllByRecursion, nat_tests, filter_map-append, filter_passes}
+use Rattle.book_model.proofs.Std.{recursion_from_All}
 use Rattle.book_model.specs.Words.{Book, Disputed, dispute_at, disputes_in, identities}
 use Rattle.book_model.specs.Words.{is_in_dispute, is_settled, no_event, Naming, by_bytes}
 use Rattle.book_model.specs.Words.{identity_by}
-use Rattle.book_model.proofs.RecordSets.{first_of}
-use Rattle.table_model.specs.TablesOf.{status_of, tables_of}
+use Rattle.book_model.proofs.Lemmas.{first_of}
+use Rattle.table_model.specs.Words.{status_of, tables_of, NamedRow, grouped, disputes_read}
+use Rattle.table_model.specs.Words.{disputed_among, has_none_charged, IsReadable}
 use Rattle.table_model.specs.ListLaws.{DisputesFollow}
-use Rattle.table_model.specs.DisputesRead.{NamedRow, grouped, disputes_read, disputed_among}
-use Rattle.table_model.specs.DisputesRead.{has_none_charged, uncharged_among}
-use Rattle.table_model.specs.Readable.{IsReadable}
+use Rattle.table_model.specs.DisputesRead.{uncharged_among}
 use Rattle.table_model.proofs.DisputedIdentities.{disputed, disputed_rises, is_shared}
 use Rattle.table_model.proofs.DisputedRecords.{block, block_own, flat}
 use Rattle.table_model.proofs.DisputedRows.{all_shown, disputed_are, listed_entries}

@@ -1,23 +1,16 @@
 -- The identities in dispute: those of held records of which none is charged.
 use Rattle.std.proofs.Common.{◌≡◌, ℕ, ◌+◌, List, map, length, refl, sym, ap, ◌∙◌, subst, true}
 use Rattle.std.proofs.Common.{false, Bool, not, ◌&&◌, arith, filter, count_by, nat_le, nat_lt}
-use Rattle.std.specs.List.{list_any, IsDistinct}
-use Rattle.std.specs.List.Sorted.{IsStrictlySortedBy}
-use Rattle.std.specs.Ordering.{eq_by_cmp}
-use Rattle.std.proofs.lemmas.Bool.Decides.{nat_tests}
-use Rattle.std.proofs.lemmas.Cmp.{nat_list_cmp_total, nat_list_eq_equiv}
-use Rattle.std.proofs.lemmas.List.Kept.{IsStrictlySortedBy-filter}
-use Rattle.std.proofs.lemmas.List.Sums.{length-filter}
-use Rattle.std.proofs.lemmas.Map.Keys.{IsDistinct-from_sorted}
-use Rattle.std.proofs.lemmas.Map.Lookups.{exact_bytes}
+use Rattle.book_model.proofs.Std.{list_any, IsDistinct, IsStrictlySortedBy, eq_by_cmp, nat_tests}
+use Rattle.book_model.proofs.Std.{nat_list_cmp_total, nat_list_eq_equiv, IsStrictlySortedBy-filter}
+use Rattle.book_model.proofs.Std.{length-filter, IsDistinct-from_sorted, exact_bytes}
 use Rattle.book_model.specs.Words.{conflict, is_in_dispute, is_settled, is_unrivalled, charged_now}
 use Rattle.book_model.specs.Words.{by_name, identities, share_identity, Records, Naming, by_bytes}
 use Rattle.book_model.specs.Words.{same_bytes, Rulings, identity_by, Set, set_of, members, has}
-use Rattle.book_model.proofs.ListLemmas.{list_any-map}
-use Rattle.book_model.proofs.RecordSets.{is}
-use Rattle.book_model.proofs.SetLemmas.{same_bytes-by_cmp, has-texts, members_rise, members-alike}
-use Rattle.book_model.proofs.SetLemmas.{members-set_of, set_of-same, same_ties}
-use Rattle.book_model.proofs.SumsAlike.{length-alike, list_any-count_by}
+use Rattle.book_model.proofs.Lemmas.{list_any-map, is, same_bytes-by_cmp, members_rise}
+use Rattle.book_model.proofs.Lemmas.{length-alike, list_any-count_by}
+use Rattle.book_model.proofs.SetLemmas.{has-texts, members-alike, members-set_of, set_of-same}
+use Rattle.book_model.proofs.SetLemmas.{same_ties}
 use Rattle.book_core.proofs.NamedLemmas.{by_name_total, by_name_exact}
 use Rattle.table_model.proofs.DisputedRecords.{by_work, by_work_total, by_work_exact, work_ties}
 use Rattle.table_model.proofs.DisputedRecords.{block, flat, in_flat, flat_rises}

@@ -1,17 +1,14 @@
 -- The records in dispute, by identity, then name.
 use Rattle.std.proofs.Common.{◌≡◌, ℕ, List, [], ◌∷◌, ◌++◌, refl, sym, ap, ◌∙◌, true, false, Bool}
 use Rattle.std.proofs.Common.{◌&&◌, ◌||◌, filter, Ordering, Less}
-use Rattle.std.specs.Cmp.{IsTotalOrder, tied_itself}
-use Rattle.std.specs.List.{AllByRecursion, list_any}
 use Rattle.std.specs.List.Sorted.{IsStrictlySortedBy}
-use Rattle.std.specs.Ordering.{eq_by_cmp, ordering_then}
-use Rattle.std.proofs.lemmas.Cmp.{nat_list_cmp_total, then_total, on_total}
-use Rattle.std.proofs.lemmas.List.Folds.{list_any-append}
-use Rattle.std.proofs.lemmas.Map.Lookups.{exact_bytes}
+use Rattle.book_model.proofs.Std.{IsTotalOrder, tied_itself, AllByRecursion, list_any, eq_by_cmp}
+use Rattle.book_model.proofs.Std.{ordering_then, nat_list_cmp_total, then_total, on_total}
+use Rattle.book_model.proofs.Std.{list_any-append, exact_bytes}
 use Rattle.book_model.specs.Words.{by_name, records_of, Records, Naming, by_bytes, same_bytes}
 use Rattle.book_model.specs.Words.{Rulings, identity_by, set_of, members, has}
-use Rattle.book_model.proofs.RecordSets.{is, first_of}
-use Rattle.book_model.proofs.SetLemmas.{any-members, members_rise, same_ties}
+use Rattle.book_model.proofs.Lemmas.{is, first_of, members_rise}
+use Rattle.book_model.proofs.SetLemmas.{any-members, same_ties}
 use Rattle.book_core.proofs.NamedLemmas.{by_name_total, by_name_exact, same_texts, second_equal}
 use Rattle.table_model.proofs.ListOrder.{all_joined, all_so, all_texts, rise_together}
 use Rattle.table_model.proofs.SetReading.{among-filter}

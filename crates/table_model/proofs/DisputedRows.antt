@@ -2,28 +2,21 @@
 use Rattle.std.proofs.Common.{◌≡◌, ℕ, List, [], ◌∷◌, map, refl, sym, ap, ◌∙◌, subst, true, false}
 use Rattle.std.proofs.Common.{true≢false, Bool, not, ◌&&◌, filter, filter_map, IsPermutation}
 use Rattle.std.proofs.Common.{option_map, Less, Equal}
-use Rattle.std.specs.Cmp.{tied_itself}
-use Rattle.std.specs.FinMap.{entries}
-use Rattle.std.specs.List.{list_any, cons_option}
 use Rattle.std.specs.List.Sorted.{IsStrictlySortedBy}
-use Rattle.std.specs.Ordering.{eq_by_cmp}
-use Rattle.std.proofs.lemmas.Cmp.{nat_list_cmp_total, nat_list_eq_equiv}
-use Rattle.std.proofs.lemmas.List.Sorted.{IsPermutation-sym, IsPermutation-trans}
-use Rattle.std.proofs.lemmas.Map.Lookups.{exact_bytes}
+use Rattle.book_model.proofs.Std.{tied_itself, entries, list_any, cons_option, eq_by_cmp}
+use Rattle.book_model.proofs.Std.{nat_list_cmp_total, nat_list_eq_equiv, IsPermutation-sym}
+use Rattle.book_model.proofs.Std.{IsPermutation-trans, exact_bytes}
 use Rattle.book_model.specs.Words.{variant_with, Book, charged_of, variant_of, Naming, name_of}
 use Rattle.book_model.specs.Words.{by_bytes, identity_by, set_of, members, has, IsSound, Records}
 use Rattle.book_model.specs.Words.{is_undisputed, same_bytes, share_identity, Priced, Variant}
 use Rattle.book_model.proofs.DisputeLemmas.{disputed_is_uncharged}
-use Rattle.book_model.proofs.ListLemmas.{filter-filter}
-use Rattle.book_model.proofs.PermutedSets.{apart_from_distinct, given_permuted}
-use Rattle.book_model.proofs.RecordSets.{second_of, in_those, tests_swap}
-use Rattle.book_model.proofs.SetLemmas.{members-those}
-use Rattle.table_model.specs.PeriodLists.{AreFramed}
-use Rattle.table_model.specs.Tables.{RecordTable}
-use Rattle.table_model.specs.TablesOf.{status_of, tables_of}
-use Rattle.table_model.specs.Views.{rows_with}
-use Rattle.table_model.specs.DisputesRead.{NamedRow, by_identity, variant_read, disputed_among}
-use Rattle.table_model.specs.DisputesRead.{disputed_rows, has_none_charged}
+use Rattle.book_model.proofs.Lemmas.{filter-filter, apart_from_distinct, given_permuted, second_of}
+use Rattle.book_model.proofs.Lemmas.{in_those, members-those}
+use Rattle.book_model.proofs.RecordSets.{tests_swap}
+use Rattle.table_model.specs.Words.{AreFramed, RecordTable, status_of, tables_of, rows_with}
+use Rattle.table_model.specs.Words.{NamedRow, by_identity, variant_read, disputed_among}
+use Rattle.table_model.specs.Words.{has_none_charged}
+use Rattle.table_model.specs.DisputesRead.{disputed_rows}
 use Rattle.table_model.proofs.DisputedIdentities.{disputed, disputed_rises, flat_is, unsettled}
 use Rattle.table_model.proofs.DisputedIdentities.{works, works_distinct}
 use Rattle.table_model.proofs.DisputedRecords.{by_work, by_work_total, flat, in_flat, flat_rises}

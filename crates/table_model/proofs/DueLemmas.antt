@@ -1,20 +1,15 @@
 -- By the tables, a record is due to be charged if the book calls it undisputed.
 use Rattle.std.proofs.Common.{◌≡◌, ℕ, List, [], ◌∷◌, map, refl, sym, ap, ◌∙◌, true, false, Bool}
 use Rattle.std.proofs.Common.{◌||◌, Option, Some, None, filter, option_map}
-use Rattle.std.specs.List.{last_or}
-use Rattle.std.specs.Option.{option_map_or}
-use Rattle.std.proofs.lemmas.Cmp.{nat_list_eq_equiv}
-use Rattle.std.proofs.lemmas.List.Elements.{All-weaker}
+use Rattle.book_model.proofs.Std.{last_or, option_map_or, nat_list_eq_equiv, All-weaker}
 use Rattle.book_model.specs.Words.{Book, share_identity, is_chosen, last_chosen, is_undisputed}
 use Rattle.book_model.specs.Words.{Records, Naming, name_of, same_bytes, price_in, identity_by, has}
 use Rattle.book_model.specs.Words.{IsSound}
-use Rattle.book_model.proofs.ChosenLemmas.{all_chosen, chosen_held, last_passes}
-use Rattle.book_model.proofs.ListLemmas.{filter-agree, filter-map}
-use Rattle.book_model.proofs.SetChanges.{is_back}
-use Rattle.book_model.proofs.SetLemmas.{same_bytes-by_cmp}
-use Rattle.table_model.specs.Tables.{Tables}
-use Rattle.table_model.specs.TablesOf.{status_by, tables_at}
-use Rattle.table_model.specs.Views.{name_has_identity, last_named, is_due_at, is_due_in}
+use Rattle.book_model.proofs.Lemmas.{all_chosen, filter-agree, filter-map, is_back}
+use Rattle.book_model.proofs.Lemmas.{same_bytes-by_cmp}
+use Rattle.book_model.proofs.ChosenLemmas.{chosen_held, last_passes}
+use Rattle.table_model.specs.Words.{Tables, status_by, tables_at, name_has_identity, last_named}
+use Rattle.table_model.specs.Words.{is_due_at, is_due_in}
 use Rattle.table_model.proofs.Restated.{row-found}
 use Rattle.table_model.proofs.RowsWhere.{lone_where}
 use Rattle.table_model.proofs.TableParts.{what_is}

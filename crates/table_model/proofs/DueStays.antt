@@ -1,22 +1,16 @@
 -- What the walk that charges records leaves: all of their rows but the marks, and the choices; and
 -- so whether a record is due.
-use Rattle.std.proofs.Common.{◌≡◌, ◌∙◌, ℕ, List, [], ◌∷◌, ◌++◌, map, length, append-nil, Bool, true, false}
-use Rattle.std.proofs.Common.{cond, not, ◌&&◌, ◌||◌, Option, Some, None, refl, sym, ap}
-use Rattle.std.specs.Prelude.{ℤ, ◌==◌, filter, if◌then◌else◌}
-use Rattle.std.specs.FinMap.{entries, get, values}
-use Rattle.std.specs.List.{last_or}
-use Rattle.std.specs.Option.{option_map, option_map_or}
-use Rattle.std.proofs.lemmas.Cmp.{nat_list_cmp_total}
-use Rattle.std.proofs.lemmas.List.{length-map}
-use Rattle.std.proofs.lemmas.List.Elements.{filter-append}
-use Rattle.std.proofs.lemmas.Map.Lookups.{exact_bytes}
+use Rattle.std.proofs.Common.{◌≡◌, ◌∙◌, ℕ, List, [], ◌∷◌, ◌++◌, map, length, append-nil, Bool, true}
+use Rattle.std.proofs.Common.{false, cond, not, ◌&&◌, ◌||◌, Option, Some, None, refl, sym, ap, ℤ}
+use Rattle.std.proofs.Common.{◌==◌, filter, if◌then◌else◌, option_map}
+use Rattle.book_model.proofs.Std.{entries, get, values, last_or, option_map_or, nat_list_cmp_total}
+use Rattle.book_model.proofs.Std.{length-map, filter-append, exact_bytes}
 use Rattle.book_model.specs.Words.{same_bytes}
-use Rattle.book_model.proofs.ListLemmas.{filter-map, last_or-behind}
+use Rattle.book_model.proofs.Lemmas.{filter-map, last_or-behind}
 use Rattle.table_model.specs.Laws.{DueStays}
-use Rattle.table_model.specs.MapChanges.{updated}
-use Rattle.table_model.specs.TableChanges.{charge_due_step, walk}
-use Rattle.table_model.specs.Tables.{ChoiceTable, RecordRow, RecordTable, Tables}
-use Rattle.table_model.specs.Views.{name_has_identity, is_due_at, is_due_in, last_named, rows_with}
+use Rattle.table_model.specs.Words.{updated, charge_due_step, walk, ChoiceTable, RecordRow}
+use Rattle.table_model.specs.Words.{RecordTable, Tables, name_has_identity, is_due_at, is_due_in}
+use Rattle.table_model.specs.Words.{last_named, rows_with}
 use Rattle.table_model.proofs.MovedLemmas.{entries-updated, get-updated, updated-insert}
 use Rattle.table_model.proofs.RestatedRows.{restate}
 use Rattle.table_model.proofs.StatusSteps.{due-is}

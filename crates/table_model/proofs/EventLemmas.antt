@@ -2,8 +2,7 @@
 use Rattle.std.proofs.Common.{◌≡◌, ℕ, ◌+◌, List, [], ◌∷◌, ◌++◌, map, length, sym, ap, ◌∙◌, true}
 use Rattle.std.proofs.Common.{false, Bool, not, ◌||◌, Option, Some, None, subst, sum_by, filter_map}
 use Rattle.std.proofs.Math.Bool.{or-true}
-use Rattle.std.specs.FinMap.{from_entries}
-use Rattle.std.specs.Option.{option_map_or}
+use Rattle.book_model.proofs.Std.{from_entries, option_map_or}
 use Rattle.book_model.specs.Words.{Priced, ChargeRow, RowKey, Book, open_number, new_book}
 use Rattle.book_model.specs.Words.{is_undisputed, is_counted_in, is_dated_after, Event}
 use Rattle.book_model.specs.Words.{TariffAccepted, PeriodClosed, RecordKept, RulingGiven}
@@ -11,24 +10,18 @@ use Rattle.book_model.specs.Words.{RecordChosen, SecondRuleAdopted, after, give,
 use Rattle.book_model.specs.Words.{chosen_answer, book_after, Records, Naming, name_of, by_bytes}
 use Rattle.book_model.specs.Words.{by_key, row_at, no_rulings, Rulings, price_in, AcceptedTerms}
 use Rattle.book_model.specs.Words.{identity_by, last_close, members, has, those}
-use Rattle.book_model.proofs.MadeByCallsLemmas.{rulings_are, sound_after}
-use Rattle.book_model.proofs.FilterLemmas.{no_length}
+use Rattle.book_model.proofs.MadeByCallsLemmas.{rulings_are}
+use Rattle.book_model.proofs.Lemmas.{sound_after, no_length, members-empty, is, has_with, none_in}
+use Rattle.book_model.proofs.Lemmas.{named_held, tariff_passes}
 use Rattle.book_model.proofs.SetChanges.{not_those}
-use Rattle.book_model.proofs.SetLemmas.{members-empty}
-use Rattle.book_model.proofs.RecordSets.{is, has_with}
-use Rattle.book_model.proofs.SoundLemmas.{none_in, named_held}
-use Rattle.book_model.proofs.TestLemmas.{tariff_passes}
-use Rattle.book_core.specs.Effects.{choice_effects, effects_of}
-use Rattle.table_model.specs.Changed.{changed, chosen_at, kept_at, tariff_at}
-use Rattle.table_model.specs.Steps.{put_tariff_row, set_sums}
-use Rattle.table_model.specs.TablesAfter.{new_tables}
+use Rattle.book_core.specs.Words.{choice_effects, effects_of}
+use Rattle.table_model.specs.Words.{changed, kept_at, tariff_at, put_tariff_row, set_sums}
+use Rattle.table_model.specs.Words.{new_tables, under, amount_under, put_choice, put_new, walk}
+use Rattle.table_model.specs.Words.{reprice_step, RecordRow, Tables, member_at, member_by}
+use Rattle.table_model.specs.Words.{counted_by, periods_by, record_entry, record_row, row_key}
+use Rattle.table_model.specs.Words.{tables_of, tariff_entries}
+use Rattle.table_model.specs.Changed.{chosen_at}
 use Rattle.table_model.specs.Laws.{EventFollows, TablesFollow}
-use Rattle.table_model.specs.PeriodRows.{under}
-use Rattle.table_model.specs.TableChanges.{amount_under, put_choice, put_new, walk, reprice_step}
-use Rattle.table_model.specs.Tables.{RecordRow, Tables}
-use Rattle.table_model.specs.Views.{member_at, member_by}
-use Rattle.table_model.specs.TablesOf.{counted_by, periods_by, record_entry, record_row, row_key}
-use Rattle.table_model.specs.TablesOf.{tables_of, tariff_entries}
 use Rattle.table_model.proofs.AdoptChanges.{adoption_follows}
 use Rattle.table_model.proofs.ChoiceChanges.{choice_follows}
 use Rattle.table_model.proofs.CloseLemmas.{close_follows}

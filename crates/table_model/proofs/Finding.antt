@@ -2,14 +2,13 @@
 use Rattle.std.proofs.Common.{◌≡◌, ℕ, zero, suc, ◌+◌, List, [], ◌∷◌, map, refl, sym, ap, ◌∙◌, subst}
 use Rattle.std.proofs.Common.{true, Bool, cond, Option, Some, None, arith, filter, slice_get, All}
 use Rattle.std.proofs.Common.{is_eq, nat_cmp, Ordering, Less, Equal, Greater}
-use Rattle.std.specs.Cmp.{IsTotalOrder}
-use Rattle.std.specs.FinMap.{IsAntisymmetric, find, from_entries, get, get-from_entries}
-use Rattle.std.specs.FinMap.{nat_cmp-IsAntisymmetric}
-use Rattle.std.specs.List.{AllByRecursion}
-use Rattle.book_model.proofs.MapLemmas.{else_find, find-both}
-use Rattle.table_model.specs.PeriodRows.{by_period, under, numbered}
+use Rattle.std.specs.FinMap.{find}
+use Rattle.book_model.proofs.Std.{IsTotalOrder, IsAntisymmetric, from_entries, get}
+use Rattle.book_model.proofs.Std.{get-from_entries, nat_cmp-IsAntisymmetric, AllByRecursion}
+use Rattle.book_model.proofs.Std.{All-head, filter_passes}
+use Rattle.book_model.proofs.Lemmas.{else_find, find-both}
+use Rattle.table_model.specs.Words.{by_period, under, numbered}
 use Rattle.table_model.proofs.NumberedLemmas.{by_period_total, find-under}
-use Rattle.std.proofs.lemmas.List.Elements.{All-head, filter_passes}
 
 -- a row that is found is one of the list
 pub find_one : {K V : Type 0} (R : K → K → Ordering) → IsAntisymmetric R

@@ -2,30 +2,26 @@
 use Rattle.std.proofs.Common.{◌≡◌, ℕ, suc, ◌+◌, List, [], ◌∷◌, length, refl, sym, ap, ◌∙◌, subst}
 use Rattle.std.proofs.Common.{Bool, Option, Some, None, is_some, inl, inr, arith, ◌<◌, ◌≤◌}
 use Rattle.std.proofs.Common.{if◌then◌else◌, slice_get, sum_by, unwrap_or, All, ℤ, length-append}
-use Rattle.std.specs.FinMap.{find, int_cmp-IsAntisymmetric, nat_cmp-IsAntisymmetric}
-use Rattle.std.specs.Cmp.{int_cmp_total, nat_cmp_total}
-use Rattle.std.specs.List.{AllByRecursion}
-use Rattle.std.proofs.lemmas.Cmp.{nat_list_cmp_total}
-use Rattle.std.proofs.lemmas.List.Elements.{All-head, All-tail, All-filter}
-use Rattle.std.proofs.lemmas.Map.Views.{tells_apart}
-use Rattle.std.proofs.lemmas.Option.{slice_get_within}
+use Rattle.std.specs.FinMap.{find}
+use Rattle.book_model.proofs.Std.{int_cmp-IsAntisymmetric, nat_cmp-IsAntisymmetric, int_cmp_total}
+use Rattle.book_model.proofs.Std.{nat_cmp_total, AllByRecursion, nat_list_cmp_total, All-head}
+use Rattle.book_model.proofs.Std.{All-tail, All-filter, tells_apart, slice_get_within}
 use Rattle.book_model.specs.Words.{IsDay, IsName, IsPriced, Book, all_periods, open_period}
 use Rattle.book_model.specs.Words.{last_period, Period, Naming, IsUsageRecord, key_of, by_key}
 use Rattle.book_model.specs.Words.{same_key, charged_at, charged_of, AcceptedTerms, AreAmong}
 use Rattle.book_model.specs.Words.{AreHeld, Choice, IsChoiceOf, most_choices, IsRule, first_rule}
 use Rattle.book_model.specs.Words.{second_rule, Priced, ChargeRow, RowKey}
-use Rattle.book_model.proofs.RowLemmas.{by_key_total, by_key_exact, same_key_ties}
-use Rattle.table_model.specs.Tables.{ChoiceRow, RecordRow, never_adopted}
-use Rattle.table_model.specs.TablesOf.{tariff_entries, choice_entries, close_entries, day_entries}
-use Rattle.table_model.specs.TablesOf.{line_entries, record_row, tables_of}
+use Rattle.book_model.proofs.Lemmas.{by_key_total, by_key_exact, same_key_ties}
+use Rattle.table_model.specs.Words.{ChoiceRow, RecordRow, never_adopted, tariff_entries}
+use Rattle.table_model.specs.Words.{choice_entries, close_entries, day_entries, line_entries}
+use Rattle.table_model.specs.Words.{record_row, tables_of, row_record, TablesFit, IsBegun, IsTimely}
+use Rattle.table_model.specs.Words.{IsTexted, IsReadable}
 use Rattle.book_core.proofs.KeyedRowLemmas.{row_of}
 use Rattle.table_model.proofs.DayChanges.{days-found, found_at}
 use Rattle.table_model.proofs.HeldPeriods.{one_of, all_held}
 use Rattle.table_model.proofs.LineReading.{held_row}
 use Rattle.table_model.specs.AnswerLaws.{NumbersFit}
-use Rattle.table_model.specs.BookIn.{row_record}
-use Rattle.table_model.specs.Fits.{IsPeriod, RecordFits, ChoiceFits, DayFits, TablesFit}
-use Rattle.table_model.specs.Readable.{IsBegun, IsTimely, IsTexted, IsReadable}
+use Rattle.table_model.specs.Fits.{IsPeriod, RecordFits, ChoiceFits, DayFits}
 use Rattle.table_model.proofs.ChoiceReading.{choices_count}
 use Rattle.table_model.proofs.Finding.{first_passes, get_numbered, get_one}
 use Rattle.table_model.proofs.PriceSums.{part_within, FitSigned, costs, all_priced, some_within}

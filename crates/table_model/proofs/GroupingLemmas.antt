@@ -1,12 +1,11 @@
 -- Rows in groups: one more row after them, and rows of one identity before others.
 use Rattle.std.proofs.Common.{◌≡◌, ℕ, List, [], ◌∷◌, ◌++◌, map, refl, sym, ap, ◌∙◌, true, false}
 use Rattle.std.proofs.Common.{Bool, if◌then◌else◌}
-use Rattle.std.specs.List.{AllByRecursion}
-use Rattle.std.proofs.lemmas.Cmp.{nat_list_eq_equiv}
+use Rattle.book_model.proofs.Std.{AllByRecursion, nat_list_eq_equiv}
 use Rattle.book_model.specs.Words.{Disputed, same_bytes}
 use Rattle.book_core.proofs.NamedLemmas.{same_texts}
-use Rattle.table_model.specs.DisputesRead.{NamedRow, variant_read, dispute_of_one, join_first}
-use Rattle.table_model.specs.DisputesRead.{grouped, join_last}
+use Rattle.table_model.specs.Words.{NamedRow, variant_read, grouped, join_last}
+use Rattle.table_model.specs.DisputesRead.{dispute_of_one, join_first}
 
 -- two rows alone, whichever is joined to the other
 two_rows : (first last : NamedRow)

@@ -2,15 +2,14 @@
 -- what it adds.
 use Rattle.std.proofs.Common.{◌≡◌, ℕ, List, [], ◌∷◌, sym, ◌∙◌, subst, true≢false, not, Option, Some}
 use Rattle.std.proofs.Common.{ℤ, All, slice_get}
-use Rattle.std.proofs.lemmas.Bool.{false_from_ne_true}
-use Rattle.std.proofs.lemmas.List.Elements.{All-append, All-cons, All-nil}
-use Rattle.std.proofs.lemmas.Option.{get_or_from_slice_get, slice_get_within}
+use Rattle.book_model.proofs.Std.{false_from_ne_true, All-append, All-cons, All-nil}
+use Rattle.book_model.proofs.Std.{get_or_from_slice_get, slice_get_within}
 use Rattle.book_model.specs.Words.{Book, open_period, all_periods, charged_of, is_dated_after}
 use Rattle.book_model.specs.Words.{is_undisputed, Period, period_by, Records, Naming, last_close}
 use Rattle.book_model.specs.Words.{has, without, IsSound, AreHeld}
-use Rattle.book_model.proofs.RecordSets.{in_those, passes_those, not_true}
+use Rattle.book_model.proofs.Lemmas.{in_those, passes_those, not_true}
 use Rattle.book_model.proofs.SoundLemmas.{period_held}
-use Rattle.table_model.specs.PeriodLists.{IsApart, HasLines}
+use Rattle.table_model.specs.Words.{IsApart, HasLines}
 
 -- what is true of each element is true of one
 pub one_of : {X : Type 0} (P : X → Type 0) (xs : List X) (k : ℕ) (x : X) → All P xs

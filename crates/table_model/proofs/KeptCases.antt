@@ -2,25 +2,20 @@
 -- of its identity is no longer charged.
 use Rattle.std.proofs.Common.{◌≡◌, ℕ, List, refl, sym, ap, ◌∙◌, true, false, Bool, not, ◌||◌}
 use Rattle.std.proofs.Common.{Option, Some, None, ℤ, if◌then◌else◌}
-use Rattle.std.specs.FinMap.{get, insert}
 use Rattle.std.proofs.Math.Bool.{or-true}
-use Rattle.std.proofs.lemmas.Cmp.{nat_list_cmp_total}
-use Rattle.std.proofs.lemmas.Map.Lookups.{exact_bytes}
+use Rattle.book_model.proofs.Std.{get, insert, nat_list_cmp_total, exact_bytes}
 use Rattle.book_model.specs.Words.{Book, open_number, charged_of, charged_now, keep, Records}
 use Rattle.book_model.specs.Words.{Naming, name_of, price_in, identity_by, last_close, has, with}
 use Rattle.book_model.specs.Words.{IsSound, AreAmong, Priced, is_after}
-use Rattle.book_model.proofs.MapLemmas.{get-inserted, insert-insert}
-use Rattle.book_model.proofs.RecordSets.{is, has_with, is_itself, in_those}
-use Rattle.book_model.proofs.SetChanges.{except, IsUnnamed, not_those}
-use Rattle.book_core.specs.declared.effects.DayChange.TheVariants.{Add, Take}
-use Rattle.book_core.specs.declared.effects.LineChange.TheVariants.{AddMinus, AddPlus, DropPlus}
-use Rattle.book_core.specs.declared.effects.Effects.{Effects}
-use Rattle.book_core.specs.declared.effects.Member.{Member}
-use Rattle.book_core.specs.Effects.{charge, charge_held, charges, no_effects, unmarks, withdraw}
-use Rattle.table_model.specs.RowChanges.{count_where, mark_at}
-use Rattle.table_model.specs.TableChanges.{apply, charge_in, new_row, put_new}
-use Rattle.table_model.specs.Tables.{CountedTable, RecordRow, Tables}
-use Rattle.table_model.specs.TablesOf.{status_by, tables_at}
+use Rattle.book_model.proofs.Lemmas.{get-inserted, insert-insert, is, has_with, is_itself, in_those}
+use Rattle.book_model.proofs.Lemmas.{except, IsUnnamed}
+use Rattle.book_model.proofs.SetChanges.{not_those}
+use Rattle.book_core.specs.Words.{Add, Take, AddMinus, AddPlus, DropPlus, Effects, Member}
+use Rattle.book_core.specs.Words.{charge_held, charges, unmarks, withdraw}
+use Rattle.book_core.specs.Effects.{charge, no_effects}
+use Rattle.table_model.specs.Words.{count_where, mark_at, apply, charge_in, put_new, CountedTable}
+use Rattle.table_model.specs.Words.{RecordRow, Tables, status_by, tables_at}
+use Rattle.table_model.specs.TableChanges.{new_row}
 use Rattle.table_model.proofs.CountedNames.{counted_kept, names}
 use Rattle.table_model.proofs.RecordChanges.{records-with, book_row-with}
 use Rattle.table_model.proofs.Restated.{not_among}

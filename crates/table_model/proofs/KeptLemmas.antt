@@ -1,29 +1,23 @@
 -- The tables of a book with one more record are those without it, changed by its effects.
 use Rattle.std.proofs.Common.{◌≡◌, ℕ, List, [], ◌∷◌, refl, sym, ap, ◌∙◌, true, false, Bool, ◌&&◌}
 use Rattle.std.proofs.Common.{Option, Some, None, subst, ℤ, if◌then◌else◌, is_eq}
-use Rattle.std.specs.List.{list_any}
-use Rattle.std.specs.List.Sorted.{IsStrictlySortedBy}
 use Rattle.std.proofs.Math.Bool.{or-false}
-use Rattle.std.proofs.lemmas.Cmp.{nat_list_cmp_total}
-use Rattle.std.proofs.lemmas.Map.Keys.{sorted_head}
-use Rattle.std.proofs.lemmas.Map.Lookups.{exact_bytes}
+use Rattle.book_model.proofs.Std.{list_any, IsStrictlySortedBy, nat_list_cmp_total, sorted_head}
+use Rattle.book_model.proofs.Std.{exact_bytes}
 use Rattle.book_model.specs.Words.{Priced, Book, share_identity, is_chosen, keep, Naming, name_of}
 use Rattle.book_model.specs.Words.{by_bytes, same_bytes, price_in, last_close, has, those, IsSound}
 use Rattle.book_model.proofs.ChargedChanges.{charged-new, charged-alone, charged-only}
 use Rattle.book_model.proofs.ChargedChanges.{charged-stays, charged-chosen}
 use Rattle.book_model.proofs.ChosenLemmas.{new_unchosen}
-use Rattle.book_model.proofs.RecordSets.{is, has_those, first_of, second_of, is_first, is_second}
-use Rattle.book_model.proofs.SetChanges.{IsUnnamed, is_back}
-use Rattle.book_model.proofs.SetLemmas.{fails_too, members_rise, same_bytes-by_cmp}
-use Rattle.book_model.proofs.SoundLemmas.{steps_stay_sound}
+use Rattle.book_model.proofs.Lemmas.{is, has_those, first_of, second_of, is_first, IsUnnamed}
+use Rattle.book_model.proofs.Lemmas.{is_back, fails_too, members_rise, same_bytes-by_cmp}
+use Rattle.book_model.proofs.Lemmas.{steps_stay_sound, kept_passes}
+use Rattle.book_model.proofs.RecordSets.{is_second}
 use Rattle.book_core.specs.Effects.{effects_by}
 use Rattle.table_model.specs.Laws.{KeptFollows}
-use Rattle.table_model.specs.TableChanges.{put_new}
-use Rattle.table_model.specs.Tables.{Tables}
-use Rattle.table_model.specs.TablesOf.{tables_of}
-use Rattle.table_model.specs.Views.{member_by, member_of, sharing, members_of, only_by}
-use Rattle.table_model.specs.Views.{lone_members}
-use Rattle.book_model.proofs.TestLemmas.{kept_passes}
+use Rattle.table_model.specs.Words.{put_new, Tables, tables_of, member_by, member_of, sharing}
+use Rattle.table_model.specs.Words.{lone_members}
+use Rattle.table_model.specs.Views.{members_of, only_by}
 use Rattle.table_model.proofs.KeptCases.{kept-charged, kept-disputed, kept-withdrawn}
 use Rattle.table_model.proofs.TableParts.{what_is}
 use Rattle.table_model.proofs.ViewLemmas.{held_too}

@@ -1,17 +1,12 @@
 -- What the tables of a book say of the records that a later tariff may be for, and of what all cost.
 use Rattle.std.proofs.Common.{◌≡◌, ◌∙◌, ◌+◌, ℕ, List, [], ◌∷◌, true, false, refl, sym, ap, arith}
 use Rattle.std.proofs.Common.{Option, Some, None, ℤ, int_lt, sum_by, filter_map}
-use Rattle.std.specs.FinMap.{contains_key, entries, get, values}
-use Rattle.std.specs.List.{cons_option}
-use Rattle.std.proofs.lemmas.Int.{ints}
-use Rattle.std.proofs.lemmas.List.Folds.{fold-map}
-use Rattle.std.proofs.lemmas.List.Sorted.{sum_by-IsPermutation}
-use Rattle.std.proofs.lemmas.List.Sums.{sum_by-cons}
+use Rattle.book_model.proofs.Std.{contains_key, entries, get, values, cons_option, ints, fold-map}
+use Rattle.book_model.proofs.Std.{sum_by-IsPermutation, sum_by-cons}
 use Rattle.book_model.specs.Words.{Priced, Book, IsSound, Naming, Terms, is_later, last_close}
 use Rattle.book_model.specs.Words.{members, price_in, is_after}
 use Rattle.book_model.proofs.LatestLemmas.{later-after}
-use Rattle.table_model.specs.Tables.{RecordRow, RecordTable}
-use Rattle.table_model.specs.TablesOf.{status_of, tables_of}
+use Rattle.table_model.specs.Words.{RecordRow, RecordTable, status_of, tables_of}
 use Rattle.table_model.proofs.CountedHeld.{names_follow}
 use Rattle.table_model.proofs.RecordReading.{all_entries, all_permuted, entry, entry_at}
 use Rattle.table_model.proofs.RowsWhere.{AreMembers, first_entry, members_held, others_held}

@@ -4,20 +4,15 @@ use Rattle.std.proofs.Common.{◌≡◌, ◌∙◌, ℕ, zero, suc, ◌+◌, ◌
 use Rattle.std.proofs.Common.{length, refl, sym, ap, subst, true, false, true≢false, Bool, cond}
 use Rattle.std.proofs.Common.{not, ◌&&◌, Option, Some, None, arith, ℤ, pos, slice_get}
 use Rattle.std.proofs.Common.{length-append}
-use Rattle.std.specs.FinMap.{get}
-use Rattle.std.proofs.lemmas.Bool.{false_from_ne_true}
-use Rattle.std.proofs.lemmas.Option.{slice_get-get_or, slice_get_past}
+use Rattle.book_model.proofs.Std.{get, false_from_ne_true, slice_get-get_or, slice_get_past}
 use Rattle.book_model.specs.Words.{Priced, Charged, Added, Reversed, Turn, Book, Naming, Period}
 use Rattle.book_model.specs.Words.{Records, all_periods, charged_of, day_of, has, is_dated_after}
 use Rattle.book_model.specs.Words.{life_from, life_of, name_of, open_by, open_period, period_by}
 use Rattle.book_model.specs.Words.{period_on, price_in, turn_if, turns_in, without}
-use Rattle.book_model.proofs.MapLemmas.{else_find}
-use Rattle.book_model.proofs.RecordSets.{has_those}
-use Rattle.table_model.specs.TablesOf.{tables_of}
-use Rattle.table_model.specs.BookIn.{close_after}
-use Rattle.table_model.specs.CountedRead.{charged_before_lines, first_line}
-use Rattle.table_model.specs.Readable.{IsReadable}
-use Rattle.table_model.specs.TrailRead.{life_read, line_turn, line_turns}
+use Rattle.book_model.proofs.Lemmas.{else_find, has_those}
+use Rattle.table_model.specs.Words.{tables_of, close_after, charged_before_lines, first_line}
+use Rattle.table_model.specs.Words.{IsReadable, life_read, line_turns}
+use Rattle.table_model.specs.TrailRead.{line_turn}
 use Rattle.table_model.proofs.CostLemmas.{day-price}
 use Rattle.table_model.proofs.CountedReading.{charged_back, in_added, in_counted, in_taken}
 use Rattle.table_model.proofs.CountedReading.{its_period, line_there, next_early, period_after}

@@ -2,25 +2,18 @@
 use Rattle.std.proofs.Common.{◌≡◌, ℕ, List, [], ◌∷◌, ◌++◌, map, refl, ap, ◌∙◌, true, false, Bool}
 use Rattle.std.proofs.Common.{◌||◌, Some, None, append-nil, subst}
 use Rattle.std.specs.FinMap.{find}
-use Rattle.std.specs.FinMap as fin
-use Rattle.std.specs.List.{list_any}
-use Rattle.std.specs.List.Sorted.{IsStrictlySortedBy}
 use Rattle.std.proofs.Math.Bool.{or-true}
-use Rattle.std.proofs.lemmas.Cmp.{nat_list_cmp_total}
-use Rattle.std.proofs.lemmas.Map.Keys.{sorted_tail}
-use Rattle.std.proofs.lemmas.Map.Lookups.{exact_bytes}
+use Rattle.book_model.proofs.Std.{list_any, IsStrictlySortedBy, nat_list_cmp_total, sorted_tail}
+use Rattle.book_model.proofs.Std.{exact_bytes}
 use Rattle.book_model.specs.Words.{Book, Period, Naming, name_of, by_bytes, members, has, IsSound}
 use Rattle.book_model.specs.Words.{AreHeld}
-use Rattle.book_model.proofs.FilterLemmas.{Apart}
-use Rattle.book_model.proofs.FilterMapLemmas.{find-none}
-use Rattle.book_model.proofs.MapLemmas.{else_find, find-both}
-use Rattle.book_model.proofs.RecordSets.{is, is_first}
+use Rattle.book_model.proofs.Lemmas.{Apart, find-none, else_find, find-both, is, is_first}
+use Rattle.book_model.proofs.Lemmas.{members_rise}
 use Rattle.book_model.proofs.SetChanges.{not_first, not_new}
-use Rattle.book_model.proofs.SetLemmas.{members_rise}
-use Rattle.table_model.specs.PeriodLists.{IsApart}
-use Rattle.table_model.specs.TablesOf.{signed_names, line_entries}
+use Rattle.table_model.specs.Words.{IsApart, signed_names, line_entries}
 use Rattle.table_model.proofs.LineChanges.{given, no_line}
 use Rattle.table_model.proofs.OpenNames.{names_differ}
+use Rattle.std.specs.FinMap as fin
 
 module _ (naming : Naming) (book : Book) (sound : IsSound naming book) (plus : Bool)
     (others : List (List ℕ × Bool)) where

@@ -1,27 +1,20 @@
 -- The adjustment lines of a period are read back from the tables.
 use Rattle.std.proofs.Common.{◌≡◌, ℕ, List, ◌++◌, map, sym, ap, ◌∙◌, true, false, Bool, Option}
 use Rattle.std.proofs.Common.{Some, None, filter_map, option_map, int_cmp}
-use Rattle.std.specs.FinMap.{get, entries, from_entries}
-use Rattle.std.specs.Option.{option_map_or}
-use Rattle.std.specs.Ordering.{eq_by_cmp}
-use Rattle.std.proofs.lemmas.Cmp.{nat_list_cmp_total}
-use Rattle.std.proofs.lemmas.List.Elements.{filter_map-append}
-use Rattle.std.proofs.lemmas.Map.Lookups.{exact_bytes}
+use Rattle.book_model.proofs.Std.{get, entries, from_entries, option_map_or, eq_by_cmp}
+use Rattle.book_model.proofs.Std.{nat_list_cmp_total, filter_map-append, exact_bytes}
 use Rattle.book_model.specs.Words.{record_with, line_with, Book, all_periods, charged_of, lines_for}
 use Rattle.book_model.specs.Words.{by_line, plus_first, Period, Records, Naming, name_of, by_bytes}
 use Rattle.book_model.specs.Words.{price_in, set_of, members, has, IsSound, AreHeld, AreAmong}
 use Rattle.book_model.specs.Words.{identity_by, Priced, Line}
 use Rattle.book_model.proofs.SortedEntries.{read-entries}
-use Rattle.book_model.proofs.ListLemmas.{filter_map-map}
-use Rattle.book_model.proofs.RecordSets.{is}
-use Rattle.book_model.proofs.SetChanges.{pick-agree}
-use Rattle.table_model.specs.PeriodLists.{line_read, AreFramed, IsApart}
+use Rattle.book_model.proofs.Lemmas.{filter_map-map, is, pick-agree, by_line_total}
+use Rattle.table_model.specs.Words.{line_read, AreFramed, IsApart, RecordRow, RecordTable}
+use Rattle.table_model.specs.Words.{record_row, signed_names, line_entries, tables_of}
 use Rattle.table_model.specs.PeriodLaws.{LinesFollow}
-use Rattle.table_model.specs.Tables.{RecordRow, RecordTable}
-use Rattle.table_model.specs.TablesOf.{record_row, signed_names, line_entries, tables_of}
 use Rattle.table_model.proofs.HeldPeriods.{one_of, all_held, all_apart}
 use Rattle.table_model.proofs.LineNames.{lines_apart}
-use Rattle.book_model.proofs.LineOrder.{by_line_total, name_ties}
+use Rattle.book_model.proofs.LineOrder.{name_ties}
 use Rattle.table_model.proofs.PeriodPlaces.{at_place, slice_get-map}
 use Rattle.table_model.proofs.PeriodReading.{read-period}
 use Rattle.table_model.proofs.Restated.{row-found}

@@ -2,25 +2,20 @@
 use Rattle.std.proofs.Common.{◌≡◌, ℕ, suc, List, [], ◌∷◌, ◌++◌, map, refl, sym, ap, ◌∙◌, true}
 use Rattle.std.proofs.Common.{false, ◌+◌, Bool, cond, not, Option, Some, append-nil, arith, filter}
 use Rattle.std.proofs.Common.{slice_get, filter_map, option_map, map-id}
-use Rattle.std.specs.FinMap.{get, entries, from_entries}
-use Rattle.std.proofs.lemmas.Cmp.{nat_list_cmp_total}
-use Rattle.std.proofs.lemmas.List.Elements.{filter-append}
-use Rattle.std.proofs.lemmas.Map.Lookups.{exact_bytes}
+use Rattle.book_model.proofs.Std.{get, entries, from_entries, nat_list_cmp_total, filter-append}
+use Rattle.book_model.proofs.Std.{exact_bytes}
 use Rattle.book_model.specs.Words.{Book, all_periods, Period, Records, Naming, name_of, by_bytes}
 use Rattle.book_model.specs.Words.{set_of, members, has, IsSound, AreHeld, AreAmong}
 use Rattle.book_model.proofs.FilterLemmas.{filter-from_entries}
-use Rattle.book_model.proofs.ListLemmas.{filter-map, filter_map-defined, filter_map-map}
-use Rattle.book_model.proofs.SetChanges.{pick-agree}
-use Rattle.table_model.specs.PeriodRows.{rows_under}
-use Rattle.table_model.specs.PeriodLists.{HasLines, IsApart}
-use Rattle.table_model.specs.Tables.{RecordTable}
-use Rattle.table_model.specs.TablesOf.{signed_names, line_entries, tables_of}
+use Rattle.book_model.proofs.Lemmas.{filter-map, filter_map-defined, filter_map-map, pick-agree}
+use Rattle.table_model.specs.Words.{rows_under, HasLines, IsApart, RecordTable, signed_names}
+use Rattle.table_model.specs.Words.{line_entries, tables_of, row_record}
 use Rattle.table_model.proofs.HeldPeriods.{one_of, all_held, all_apart}
 use Rattle.table_model.proofs.LineNames.{lines_apart}
 use Rattle.table_model.proofs.LineReading.{held_row}
 use Rattle.table_model.proofs.PeriodPlaces.{slice_get-map}
 use Rattle.table_model.proofs.PeriodReading.{read-period}
-use Rattle.table_model.specs.BookIn.{row_record, named_by, added_in, taken_in}
+use Rattle.table_model.specs.BookIn.{named_by, added_in, taken_in}
 use Rattle.table_model.proofs.SetReading.{set-permuted, set_of-members}
 
 module _ (naming : Naming) (keeps : Bool → Bool) (plus : Bool) where

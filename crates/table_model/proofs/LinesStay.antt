@@ -1,11 +1,10 @@
 -- Each event leaves a book with lines that can be read.
 use Rattle.std.proofs.Common.{ℕ, List, [], ◌∷◌, sym, ◌∙◌, subst, true≢false, ℤ}
-use Rattle.std.proofs.lemmas.List.Elements.{All-append, All-cons, All-nil}
+use Rattle.book_model.proofs.Std.{All-append, All-cons, All-nil}
 use Rattle.book_model.specs.Words.{IsFramed, Terms, Book, new_book, flat_book, keep, close, Period}
 use Rattle.book_model.specs.Words.{last_close}
-use Rattle.book_model.proofs.RecordSets.{one_or}
-use Rattle.book_model.proofs.SoundLemmas.{none_in}
-use Rattle.table_model.specs.PeriodLists.{IsApart, HasLines}
+use Rattle.book_model.proofs.Lemmas.{one_or, none_in}
+use Rattle.table_model.specs.Words.{IsApart, HasLines}
 use Rattle.table_model.specs.PeriodLaws.{LinesStay}
 use Rattle.table_model.proofs.CloseDays.{posted_by, ended_by}
 use Rattle.table_model.proofs.HeldPeriods.{period_apart}

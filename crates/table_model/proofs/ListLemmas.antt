@@ -2,19 +2,16 @@
 use Rattle.std.proofs.Common.{◌≡◌, ℕ, ◌-◌, length, refl, sym, ap, ◌∙◌, true, false, true≢false}
 use Rattle.std.proofs.Common.{Bool, not, ◌&&◌, Option, Some, None, Result, Ok, get_or, arith, ◌<◌}
 use Rattle.std.proofs.Common.{◌≤◌, ◌==◌, nat_le, if◌then◌else◌, slice_get, ok_or, option_map}
-use Rattle.std.proofs.lemmas.Bool.Decides.{nat_tests}
-use Rattle.std.proofs.lemmas.Option.{slice_get-get_or, slice_get_past}
+use Rattle.book_model.proofs.Std.{nat_tests, slice_get-get_or, slice_get_past}
 use Rattle.book_model.specs.Words.{LedgerFault, NoSuchPeriod, Book, open_number, open_period}
 use Rattle.book_model.specs.Words.{period_of, lines_of, no_event, AreHeld, IsSound, Naming, Period}
 use Rattle.book_model.specs.Words.{all_periods, rows_for}
-use Rattle.table_model.specs.PeriodLists.{rows_read, lines_read}
-use Rattle.table_model.specs.TablesOf.{tables_of}
+use Rattle.table_model.specs.Words.{rows_read, lines_read, tables_of, is_period, of_period}
 use Rattle.table_model.proofs.HeldPeriods.{all_held, one_of}
 use Rattle.table_model.proofs.LineReading.{lines_follow}
 use Rattle.table_model.proofs.PeriodPlaces.{at_place}
 use Rattle.table_model.proofs.RowReading.{rows_follow}
 use Rattle.table_model.specs.ListLaws.{ListsFollow}
-use Rattle.table_model.specs.ListsRead.{is_period, of_period}
 use Rattle.table_model.proofs.ListedChoices.{choice_listed, rulings_listed-read}
 use Rattle.table_model.proofs.UnderNumbers.{values-numbers}
 

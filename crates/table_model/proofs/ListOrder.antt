@@ -1,11 +1,10 @@
 -- Lists in strict order, and what holds of each of their elements.
 use Rattle.std.proofs.Common.{◌≡◌, ℕ, List, [], ◌∷◌, ◌++◌, refl, ap, ◌∙◌, true, map, ◌||◌, Ordering}
 use Rattle.std.proofs.Common.{Less, Equal, Greater}
-use Rattle.std.specs.List.{AllByRecursion, list_any}
 use Rattle.std.specs.List.Sorted.{IsStrictlySortedBy}
-use Rattle.std.specs.Ordering.{ordering_then}
 use Rattle.std.proofs.Math.Bool.{or-true}
-use Rattle.book_model.proofs.RecordSets.{is, is_first}
+use Rattle.book_model.proofs.Std.{AllByRecursion, list_any, ordering_then}
+use Rattle.book_model.proofs.Lemmas.{is, is_first}
 
 module _ {X : Type 0} (P : X → Type 0) where
   -- what holds of the elements of each of two lists holds of those of both together

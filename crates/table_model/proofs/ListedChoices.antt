@@ -2,14 +2,13 @@
 use Rattle.std.proofs.Common.{◌≡◌, ◌∙◌, ◌+◌, ℕ, suc, List, [], ◌∷◌, ◌++◌, map, refl, sym, ap, arith}
 use Rattle.std.proofs.Common.{Option, Some, None, slice_get, option_map}
 use Rattle.std.proofs.lemmas.Option.{slice_get-map}
-use Rattle.std.specs.Cmp.{nat_cmp_total}
-use Rattle.std.specs.FinMap.{get, get-from_entries}
+use Rattle.book_model.proofs.Std.{nat_cmp_total, get, get-from_entries}
 use Rattle.book_model.specs.Words.{Book, Choice, Naming, RulingSeen, adoption_seen, choice_seen}
 use Rattle.book_model.specs.Words.{choices_seen, closes_seen, rulings_listed, tariffs_seen}
-use Rattle.table_model.specs.Tables.{ChoiceRow}
-use Rattle.table_model.specs.TablesOf.{choice_entries, choice_row, tables_of, under_numbers}
+use Rattle.table_model.specs.Words.{ChoiceRow, choice_entries, choice_row, tables_of, under_numbers}
+use Rattle.table_model.specs.Words.{choice_read_at}
 use Rattle.table_model.proofs.UnderNumbers.{entries-numbers, find-numbers}
-use Rattle.table_model.specs.ListsRead.{choice_read_at, choice_shown, rulings_read}
+use Rattle.table_model.specs.ListsRead.{choice_shown, rulings_read}
 
 -- the table has each choice under its number,
 pub choice_row_at : (naming : Naming) (book : Book) (place : ℕ)

@@ -3,21 +3,16 @@ use Rattle.std.proofs.Common.{◌≡◌, ℕ, suc, ◌+◌, List, [], ◌∷◌,
 use Rattle.std.proofs.Common.{true, false, true≢false, Bool, cond, ◌&&◌, Option, Some, None, arith}
 use Rattle.std.proofs.Common.{is_some, subst, ℤ, int_lt, ◌==◌, if◌then◌else◌, option_and_then}
 use Rattle.std.proofs.Common.{eqb-true, eq-eqb, length-append}
-use Rattle.std.specs.Cmp.{both_ways, IsTotalOrder, nat_cmp_total, unsigned_tied}
-use Rattle.std.specs.FinMap.{find, get, from_entries, same_map, get-from_entries, contains_key}
-use Rattle.std.specs.FinMap.{IsAntisymmetric, nat_cmp-IsAntisymmetric}
-use Rattle.std.specs.Option.{option_map_or}
-use Rattle.std.specs.Ordering.{eq_by_cmp}
-use Rattle.std.proofs.lemmas.Bool.{false_from_ne_true}
-use Rattle.std.proofs.lemmas.Cmp.{eq_by_cmp_equiv}
-use Rattle.std.proofs.lemmas.Map.Views.{tells_apart}
+use Rattle.std.specs.Cmp.{unsigned_tied}
+use Rattle.std.specs.FinMap.{find}
+use Rattle.book_model.proofs.Std.{both_ways, IsTotalOrder, nat_cmp_total, get, from_entries}
+use Rattle.book_model.proofs.Std.{same_map, get-from_entries, contains_key, IsAntisymmetric}
+use Rattle.book_model.proofs.Std.{nat_cmp-IsAntisymmetric, option_map_or, eq_by_cmp}
+use Rattle.book_model.proofs.Std.{false_from_ne_true, eq_by_cmp_equiv, tells_apart}
 use Rattle.book_model.specs.Words.{ChargeRow, RowKey, by_key}
 use Rattle.book_model.proofs.MapLemmas.{not_tied}
-use Rattle.book_model.proofs.RowLemmas.{by_key_total, by_key_exact}
-use Rattle.table_model.specs.MapChanges.{moved}
-use Rattle.table_model.specs.PeriodRows.{by_period, numbered}
-use Rattle.table_model.specs.RowChanges.{move_on}
-use Rattle.table_model.specs.Tables.{DayTable}
+use Rattle.book_model.proofs.Lemmas.{by_key_total, by_key_exact}
+use Rattle.table_model.specs.Words.{moved, by_period, numbered, move_on, DayTable}
 use Rattle.table_model.proofs.MovedLemmas.{get-moved}
 use Rattle.table_model.proofs.NumberedLemmas.{by_period_total, by_period_exact, find-last}
 use Rattle.table_model.proofs.NumberedLemmas.{is_number, numbered-nothing}

@@ -1,21 +1,17 @@
 -- Finite maps whose rows are all changed, or moved to other keys.
 use Rattle.std.proofs.Common.{◌≡◌, List, [], ◌∷◌, map, refl, sym, ap, ◌∙◌, true, false, cond, ◌||◌}
-use Rattle.std.proofs.Common.{◌&&◌, Option, Some, None, T, subst}
-use Rattle.std.specs.Cmp.{IsTotalOrder}
-use Rattle.std.specs.FinMap.{FinMap, IsAntisymmetric, find, get, from_entries, get-from_entries}
-use Rattle.std.specs.FinMap.{get-entries, entries, entries_sorted, contains_key, contains_key-keys}
-use Rattle.std.specs.FinMap.{get-insert, insert, keys, same_map}
-use Rattle.std.specs.FinMap.Entries.{below_all, is_sorted}
-use Rattle.std.specs.List.{list_any}
-use Rattle.std.specs.Option.{option_and_then, option_map, option_map_or}
-use Rattle.std.specs.Ordering.{eq_by_cmp, is_lt}
-use Rattle.std.specs.declared.cmp.Ordering.{Ordering}
+use Rattle.std.proofs.Common.{◌&&◌, Option, Some, None, T, subst, option_and_then, option_map}
+use Rattle.std.proofs.Common.{is_lt, Ordering}
+use Rattle.std.specs.FinMap.{find, contains_key-keys}
+use Rattle.std.specs.FinMap.Entries.{below_all}
 use Rattle.std.proofs.Math.Bool.{or-true}
-use Rattle.std.proofs.lemmas.Cmp.{eq_by_cmp_equiv}
-use Rattle.std.proofs.lemmas.Simd.{map-map}
-use Rattle.book_model.proofs.FilterLemmas.{entries-sorted}
-use Rattle.book_model.proofs.MapLemmas.{by_tie, from_entries-same}
-use Rattle.table_model.specs.MapChanges.{updated, moved}
+use Rattle.book_model.proofs.Std.{IsTotalOrder, FinMap, IsAntisymmetric, get, from_entries}
+use Rattle.book_model.proofs.Std.{get-from_entries, get-entries, entries, entries_sorted}
+use Rattle.book_model.proofs.Std.{contains_key, get-insert, insert, keys, same_map, is_sorted}
+use Rattle.book_model.proofs.Std.{list_any, option_map_or, eq_by_cmp, eq_by_cmp_equiv, map-map}
+use Rattle.book_model.proofs.Lemmas.{entries-sorted, by_tie}
+use Rattle.book_model.proofs.MapLemmas.{from_entries-same}
+use Rattle.table_model.specs.Words.{updated, moved}
 
 module _ {N : Type 0} {R : N → N → Ordering} (o : IsTotalOrder R) (exact : IsAntisymmetric R)
     {V : Type 0} where

@@ -3,33 +3,26 @@
 use Rattle.std.proofs.Common.{◌≡◌, ◌∙◌, ℕ, List, [], ◌∷◌, map, Bool, true, false, true≢false, cond}
 use Rattle.std.proofs.Common.{not, ◌&&◌, ◌||◌, Option, None, Some, Ok, refl, sym, ap, subst, T}
 use Rattle.std.proofs.Common.{filter, find, filter_map, IsPermutation, option_map, Less}
-use Rattle.std.specs.Cmp.{tied_itself}
-use Rattle.std.specs.FinMap.{entries, entries_sorted, get, is_sorted}
 use Rattle.std.specs.FinMap.Entries.{below_all}
-use Rattle.std.specs.List.{AllByRecursion, list_any}
 use Rattle.std.specs.List.Sorted.{IsStrictlySortedBy}
-use Rattle.std.specs.Ordering.{eq_by_cmp, ordering_then}
 use Rattle.std.proofs.Math.Bool.{or-true}
-use Rattle.std.proofs.lemmas.Cmp.{nat_list_cmp_total, nat_list_eq_equiv}
-use Rattle.std.proofs.lemmas.List.Sorted.{IsPermutation-refl, IsPermutation-sym}
-use Rattle.std.proofs.lemmas.List.Sorted.{IsPermutation-trans}
+use Rattle.book_model.proofs.Std.{tied_itself, entries, entries_sorted, get, is_sorted}
+use Rattle.book_model.proofs.Std.{AllByRecursion, list_any, eq_by_cmp, ordering_then}
+use Rattle.book_model.proofs.Std.{nat_list_cmp_total, nat_list_eq_equiv, IsPermutation-refl}
+use Rattle.book_model.proofs.Std.{IsPermutation-sym, IsPermutation-trans}
 use Rattle.book_model.specs.Words.{Book, Disputed, Naming, by_bytes, by_name, dispute_at}
 use Rattle.book_model.specs.Words.{dispute_outcome, has, identity_by, is_from, is_in_dispute}
 use Rattle.book_model.specs.Words.{members, no_event, same_bytes, set_of}
 use Rattle.book_model.proofs.DisputeLemmas.{disputed_is_uncharged}
 use Rattle.book_model.proofs.FromLemmas.{find-map, not_from}
-use Rattle.book_model.proofs.ListLemmas.{list_any-map}
-use Rattle.book_model.proofs.PermutedSets.{apart_from_distinct, given_permuted}
-use Rattle.book_model.proofs.RecordSets.{first_of, not_true, second_of}
-use Rattle.book_model.proofs.SetLemmas.{members_rise}
+use Rattle.book_model.proofs.Lemmas.{list_any-map, apart_from_distinct, given_permuted, first_of}
+use Rattle.book_model.proofs.Lemmas.{not_true, second_of, members_rise}
 use Rattle.book_core.proofs.NamedLemmas.{by_name_total, same_texts}
-use Rattle.table_model.specs.Tables.{RecordTable}
-use Rattle.table_model.specs.TablesOf.{status_of, tables_of}
-use Rattle.table_model.specs.Views.{rows_with}
+use Rattle.table_model.specs.Words.{RecordTable, status_of, tables_of, rows_with, FindsDisputed}
+use Rattle.table_model.specs.Words.{NamedRow, by_identity, has_none_charged, variant_read}
+use Rattle.table_model.specs.Words.{IsReadable}
 use Rattle.table_model.proofs.LineReading.{held_row}
-use Rattle.table_model.specs.DisputesRead.{FindsDisputed, IsDisputedFrom, NamedRow, by_identity}
-use Rattle.table_model.specs.DisputesRead.{dispute_with, has_none_charged, variant_read}
-use Rattle.table_model.specs.Readable.{IsReadable}
+use Rattle.table_model.specs.DisputesRead.{IsDisputedFrom, dispute_with}
 use Rattle.table_model.proofs.DisputedIdentities.{AreUncharged, disputed, disputed_rises}
 use Rattle.table_model.proofs.DisputedIdentities.{disputed_where, in_disputed, named_distinct}
 use Rattle.table_model.proofs.DisputedIdentities.{unsettled}

@@ -1,11 +1,8 @@
 -- Names of records that are held, and which of them the open period adds and reverses.
 use Rattle.std.proofs.Common.{◌≡◌, ℕ, List, sym, ap, ◌∙◌, true, false, true≢false, not}
-use Rattle.std.proofs.lemmas.Bool.{false_from_ne_true}
-use Rattle.std.proofs.lemmas.Map.Lookups.{exact_bytes}
-use Rattle.std.proofs.lemmas.Map.Views.{tells_apart}
+use Rattle.book_model.proofs.Std.{false_from_ne_true, exact_bytes, tells_apart}
 use Rattle.book_model.specs.Words.{Book, Records, Naming, name_of, last_close, has, those, IsSound}
-use Rattle.book_model.proofs.RecordSets.{is, is_itself, in_those}
-use Rattle.book_model.proofs.SetChanges.{IsUnnamed}
+use Rattle.book_model.proofs.Lemmas.{is, is_itself, in_those, IsUnnamed}
 use Rattle.table_model.proofs.LineChanges.{added, taken}
 
 module _ (naming : Naming) (book : Book) (sound : IsSound naming book) where

@@ -2,20 +2,13 @@
 -- others those that they had.
 use Rattle.std.proofs.Common.{◌≡◌, ◌∙◌, ℕ, List, Bool, true, false, true≢false, cond, ◌||◌, Some}
 use Rattle.std.proofs.Common.{Ok, Option, refl, sym, ap, subst, ℤ, if◌then◌else◌, int_lt, is_some}
-use Rattle.std.specs.FinMap.{contains_key, get, keys}
-use Rattle.std.specs.List.{list_any}
-use Rattle.std.proofs.lemmas.Bool.{false_from_ne_true}
-use Rattle.std.proofs.lemmas.Option.{same_Some}
+use Rattle.book_model.proofs.Std.{contains_key, get, keys, list_any, false_from_ne_true, same_Some}
 use Rattle.book_model.specs.Words.{Priced, Book, IsSound, Naming, Rulings, Terms, day_of, has}
 use Rattle.book_model.specs.Words.{is_dated_after, last_close, name_of, open_number, price_by}
 use Rattle.book_model.specs.Words.{price_in, record_with, terms_answer, with_tariff, Done, is_after}
-use Rattle.book_model.proofs.TestLemmas.{tariff_passes}
-use Rattle.book_model.proofs.PricingLemmas.{price_in-behind}
-use Rattle.book_model.proofs.RecordSets.{is}
-use Rattle.table_model.specs.PeriodLists.{AreFramed}
-use Rattle.table_model.specs.TableChanges.{reprice, reprice_step, walk}
-use Rattle.table_model.specs.Tables.{RecordRow, RecordTable, Tables}
-use Rattle.table_model.specs.TablesOf.{RecordStatus, status_of, tables_at, tables_of}
+use Rattle.book_model.proofs.Lemmas.{tariff_passes, price_in-behind, is}
+use Rattle.table_model.specs.Words.{AreFramed, reprice, reprice_step, walk, RecordRow, RecordTable}
+use Rattle.table_model.specs.Words.{Tables, RecordStatus, status_of, tables_at, tables_of}
 use Rattle.table_model.proofs.LateRows.{late_counted}
 use Rattle.table_model.proofs.Restated.{IsStatus, StatusAt, restated, row-found, row_for, status_at}
 use Rattle.table_model.proofs.Restated.{tables-alike}

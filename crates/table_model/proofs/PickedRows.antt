@@ -2,19 +2,14 @@
 use Rattle.std.proofs.Common.{◌≡◌, ℕ, List, [], ◌∷◌, refl, sym, ap, ◌∙◌, true, false, Bool, Option}
 use Rattle.std.proofs.Common.{Some, None, ◌&&◌, filter, filter_map}
 use Rattle.std.specs.FinMap.{find}
-use Rattle.std.proofs.lemmas.Cmp.{nat_list_cmp_total}
-use Rattle.std.proofs.lemmas.Map.Lookups.{exact_bytes}
-use Rattle.std.proofs.lemmas.Map.Views.{tells_apart}
+use Rattle.book_model.proofs.Std.{nat_list_cmp_total, exact_bytes, tells_apart, option_map_or}
+use Rattle.book_model.proofs.Std.{filter_agree}
 use Rattle.book_model.specs.Words.{day_of, Records, key_of, by_key, same_key, Rulings, price_in}
 use Rattle.book_model.specs.Words.{prices, members, those, Priced, RowKey}
-use Rattle.book_model.proofs.RowLemmas.{same_key_ties, by_key_exact}
-use Rattle.book_model.proofs.SetLemmas.{members-those}
+use Rattle.book_model.proofs.Lemmas.{same_key_ties, by_key_exact, members-those, filter-filter}
 use Rattle.table_model.proofs.CostLemmas.{day-price}
 use Rattle.table_model.proofs.DayChanges.{days_at, days-found, found_at}
-use Rattle.std.specs.Option.{option_map_or}
-use Rattle.std.proofs.lemmas.List.Elements.{filter_agree}
 use Rattle.book_model.proofs.FilterLemmas.{filter-filter_map}
-use Rattle.book_model.proofs.ListLemmas.{filter-filter}
 
 module _ {X Y : Type 0} (give : X → Option Y) (test : Y → Bool) where
   -- an element gives what passes

@@ -2,16 +2,11 @@
 -- each row that a close changes is among them, all rows are as the close posts them.
 use Rattle.std.proofs.Common.{◌≡◌, ◌∙◌, ℕ, List, [], ◌∷◌, ◌||◌, Bool, true, false, cond, Option}
 use Rattle.std.proofs.Common.{Some, None, refl, sym, ap, ℤ, int_lt, option_map}
-use Rattle.std.specs.FinMap.{get, get-insert, same_map}
-use Rattle.std.specs.List.{list_any}
-use Rattle.std.proofs.lemmas.Cmp.{nat_list_cmp_total}
-use Rattle.std.proofs.lemmas.Map.Lookups.{exact_bytes}
-use Rattle.book_model.proofs.MapLemmas.{by_tie}
-use Rattle.book_model.proofs.RecordSets.{is}
-use Rattle.table_model.specs.MapChanges.{updated}
-use Rattle.table_model.specs.RowChanges.{post_at, post_by}
-use Rattle.table_model.specs.Steps.{post_each, post_row, post_rows}
-use Rattle.table_model.specs.Tables.{RecordRow, RecordTable, Tables}
+use Rattle.book_model.proofs.Std.{get, get-insert, same_map, list_any, nat_list_cmp_total}
+use Rattle.book_model.proofs.Std.{exact_bytes}
+use Rattle.book_model.proofs.Lemmas.{by_tie, is}
+use Rattle.table_model.specs.Words.{updated, post_at, post_by, post_each, post_row, post_rows}
+use Rattle.table_model.specs.Words.{RecordRow, RecordTable, Tables}
 use Rattle.table_model.proofs.MovedLemmas.{get-updated, updated-insert}
 
 module _ (day : ℤ) where

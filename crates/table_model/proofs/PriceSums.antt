@@ -2,20 +2,16 @@
 use Rattle.std.proofs.Common.{◌≡◌, ℕ, List, [], ◌∷◌, length, refl, sym, ap, ◌∙◌, subst, true, false}
 use Rattle.std.proofs.Common.{Bool, cond, Option, Some, None, arith, ◌<◌, ◌≤◌, ◌^◌, filter, sum_by}
 use Rattle.std.proofs.Common.{All, filter_map}
-use Rattle.std.specs.List.{cons_option}
-use Rattle.std.specs.Option.{option_map_or}
-use Rattle.std.proofs.lemmas.Cmp.{nat_list_cmp_total}
-use Rattle.std.proofs.lemmas.List.Elements.{All-nil, All-cons}
-use Rattle.std.proofs.lemmas.List.Sums.{sum_by-le, sum_by-le-sum_by}
-use Rattle.std.proofs.lemmas.Map.Lookups.{exact_bytes}
+use Rattle.std.proofs.lemmas.List.Sums.{sum_by-le}
+use Rattle.book_model.proofs.Std.{cons_option, option_map_or, nat_list_cmp_total, All-nil, All-cons}
+use Rattle.book_model.proofs.Std.{sum_by-le-sum_by, exact_bytes}
 use Rattle.book_model.specs.Words.{IsPriced, Book, most_held, Records, Naming, price_in, prices}
 use Rattle.book_model.specs.Words.{members, has, AreAmong, Priced}
-use Rattle.book_model.proofs.SetLemmas.{members-those}
-use Rattle.book_model.proofs.SumsAlike.{sum_by-filter, sum_by-filter_map, length-sum_by}
+use Rattle.book_model.proofs.Lemmas.{members-those, sum_by-filter, sum_by-filter_map, length-sum_by}
 use Rattle.table_model.proofs.RowsWhere.{AreMembers, first_held, members_held, others_held}
 use Rattle.table_model.proofs.RowsWhere.{those_among}
 use Rattle.table_model.specs.Fits.{signed_end}
-use Rattle.table_model.specs.Readable.{IsReadable}
+use Rattle.table_model.specs.Words.{IsReadable}
 
 -- a sum over those that pass a test is within the whole
 pub part_within : {X : Type 0} (f : X → ℕ) (p : X → Bool) (xs : List X)

@@ -2,15 +2,14 @@
 use Rattle.std.proofs.Common.{◌≡◌, ◌∙◌, List, [], ◌∷◌, ap, arith, length, refl, subst, sym}
 use Rattle.std.proofs.Common.{true≢false, ◌≤◌, sum_by, filter_map}
 use Rattle.std.specs.List.Sorted.{IsStrictlySortedBy}
-use Rattle.std.proofs.lemmas.List.Elements.{All-nil}
-use Rattle.tariff_rules.specs.declared.priced.Priced.{Priced}
-use Rattle.book_model.specs.Words.{Event, IsDay, IsMadeByCalls, Naming, book_after, by_bytes}
-use Rattle.book_model.specs.Words.{members, most_cost, most_held, new_book, price_in, total_of}
-use Rattle.book_model.proofs.SetLemmas.{members-empty}
-use Rattle.book_model.proofs.SoundLemmas.{none_in, steps_stay_sound}
+use Rattle.book_model.proofs.Std.{All-nil}
+use Rattle.book_model.specs.Words.{Priced, Event, IsDay, IsMadeByCalls, Naming, book_after}
+use Rattle.book_model.specs.Words.{by_bytes, members, most_cost, most_held, new_book, price_in}
+use Rattle.book_model.specs.Words.{total_of}
+use Rattle.book_model.proofs.Lemmas.{members-empty, none_in, steps_stay_sound}
 use Rattle.table_model.specs.FromCalls.{AreSubmitted}
 use Rattle.table_model.specs.ReadingLaws.{CallsRead}
-use Rattle.table_model.specs.Readable.{IsReadable, IsTexted, IsTimely}
+use Rattle.table_model.specs.Words.{IsReadable, IsTexted, IsTimely}
 use Rattle.table_model.proofs.LinesStay.{lines_stay}
 use Rattle.table_model.proofs.ReadableStays.{readable_stays}
 

@@ -3,8 +3,7 @@ use Rattle.std.proofs.Common.{◌≡◌, ◌∙◌, ◌++◌, ◌+◌, ◌∷◌
 use Rattle.std.proofs.Common.{ap, subst, true, false, Bool, ◌||◌, Option, Some, None, Ok, Err}
 use Rattle.std.proofs.Common.{arith, ◌≤◌, ◌<◌, nat_le, nat_lt, if◌then◌else◌, All, unwrap_or, ℤ}
 use Rattle.std.proofs.Common.{ltb-false, leb-false, length-append}
-use Rattle.std.proofs.lemmas.Bool.Decides.{nat_tests}
-use Rattle.std.proofs.lemmas.List.Elements.{All-push, All-weaker}
+use Rattle.book_model.proofs.Std.{nat_tests, All-push, All-weaker}
 use Rattle.book_model.specs.Words.{AreDatedThrough, AcceptedTerms, Book, Choice, Event, IsDay}
 use Rattle.book_model.specs.Words.{IsAnswered, IsSound, IsUsageRecord, Naming, PeriodClosed}
 use Rattle.book_model.specs.Words.{RecordChosen, RecordKept, Records, Rulings, RulingGiven}
@@ -14,17 +13,14 @@ use Rattle.book_model.specs.Words.{close_answer, keep, last_close, members, most
 use Rattle.book_model.specs.Words.{most_held, name_of, open_by, open_number, period_by, price_in}
 use Rattle.book_model.specs.Words.{record_named, terms_answer, total_of, with, with_tariff, Kept}
 use Rattle.book_model.specs.Words.{Done, Full}
-use Rattle.book_model.proofs.CallLemmas.{calls_go_forward}
-use Rattle.book_model.proofs.LatestLemmas.{later-before, rising-behind}
-use Rattle.book_model.proofs.ListLemmas.{slice_get-front}
-use Rattle.book_model.proofs.RecordSets.{one_or}
-use Rattle.book_model.proofs.SoundLemmas.{steps_stay_sound}
-use Rattle.book_model.proofs.TestLemmas.{choice_passes, close_passes, closed_open, kept_passes}
-use Rattle.book_model.proofs.TestLemmas.{tariff_passes}
-use Rattle.table_model.specs.BookIn.{close_after}
-use Rattle.table_model.specs.FromCalls.{ArePriced, IsReadFrom, IsSubmitted, IsSubmittedTo}
-use Rattle.table_model.specs.Readable.{IsBegun, IsChain, IsReadable, IsTexted, IsTimely, chained}
-use Rattle.table_model.specs.Tables.{BookRow}
+use Rattle.book_model.proofs.Lemmas.{calls_go_forward, later-before, rising-behind, slice_get-front}
+use Rattle.book_model.proofs.Lemmas.{one_or, steps_stay_sound, closed_open, kept_passes}
+use Rattle.book_model.proofs.Lemmas.{tariff_passes}
+use Rattle.book_model.proofs.TestLemmas.{choice_passes, close_passes}
+use Rattle.table_model.specs.Words.{close_after, ArePriced, IsSubmittedTo, IsBegun, IsReadable}
+use Rattle.table_model.specs.Words.{IsTexted, IsTimely, chained, BookRow}
+use Rattle.table_model.specs.FromCalls.{IsReadFrom, IsSubmitted}
+use Rattle.table_model.specs.Readable.{IsChain}
 use Rattle.table_model.proofs.CloseDays.{posted_by}
 use Rattle.table_model.proofs.CloseOrder.{rise_behind}
 use Rattle.table_model.proofs.CountedReading.{last_after}

@@ -1,22 +1,17 @@
 -- What a new record changes in the table of the records, and in the row of the book.
 use Rattle.std.proofs.Common.{◌≡◌, ℕ, ◌+◌, List, length, refl, ap, ◌∙◌, true, false, Option, Some}
 use Rattle.std.proofs.Common.{None, arith, filter_map, option_map}
-use Rattle.std.specs.FinMap.{find, insert, from_entries}
-use Rattle.std.specs.List.{list_any}
-use Rattle.std.specs.Option.{option_map_or}
-use Rattle.std.proofs.lemmas.Cmp.{nat_list_cmp_total}
-use Rattle.std.proofs.lemmas.List.Sums.{sum_by-cons}
-use Rattle.std.proofs.lemmas.Map.Lookups.{exact_bytes}
+use Rattle.std.specs.FinMap.{find}
+use Rattle.book_model.proofs.Std.{insert, from_entries, list_any, option_map_or, nat_list_cmp_total}
+use Rattle.book_model.proofs.Std.{sum_by-cons, exact_bytes}
 use Rattle.book_model.specs.Words.{Priced, total_of, Records, Naming, name_of, by_bytes, Rulings}
 use Rattle.book_model.specs.Words.{price_in, prices, members, has, with}
-use Rattle.book_model.proofs.FilterMapLemmas.{find-insert_key, find-none}
+use Rattle.book_model.proofs.FilterMapLemmas.{find-insert_key}
+use Rattle.book_model.proofs.Lemmas.{find-none, is, IsUnnamed, members-with, length-alike}
 use Rattle.book_model.proofs.MapLemmas.{from_entries-insert}
-use Rattle.book_model.proofs.RecordSets.{is}
-use Rattle.book_model.proofs.SetChanges.{members_with, IsUnnamed}
-use Rattle.book_model.proofs.SetLemmas.{members-with}
-use Rattle.book_model.proofs.SumsAlike.{length-alike}
-use Rattle.table_model.specs.Tables.{RecordRow, RecordTable}
-use Rattle.table_model.specs.TablesOf.{RecordStatus, row_by, entry_by, entries_by, book_row}
+use Rattle.book_model.proofs.SetChanges.{members_with}
+use Rattle.table_model.specs.Words.{RecordRow, RecordTable, RecordStatus, row_by, entry_by}
+use Rattle.table_model.specs.Words.{entries_by, book_row}
 use Rattle.table_model.proofs.DayChanges.{prices-with}
 use Rattle.std.specs.FinMap as fin
 

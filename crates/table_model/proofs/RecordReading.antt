@@ -1,26 +1,16 @@
 -- Records are read back from their rows.
 use Rattle.std.proofs.Common.{◌≡◌, ℕ, List, [], ◌∷◌, map, refl, sym, ap, ◌∙◌, true, Bool, Option}
 use Rattle.std.proofs.Common.{Some, subst, filter, filter_map, IsPermutation}
-use Rattle.std.specs.FinMap.{entries, get}
-use Rattle.std.specs.List.{AllByRecursion}
-use Rattle.std.proofs.lemmas.Cmp.{nat_list_cmp_total}
-use Rattle.std.proofs.lemmas.Map.Lookups.{exact_bytes}
-use Rattle.std.proofs.lemmas.Simd.{map-map}
+use Rattle.book_model.proofs.Std.{entries, get, AllByRecursion, nat_list_cmp_total, exact_bytes}
+use Rattle.book_model.proofs.Std.{map-map}
 use Rattle.book_model.specs.Words.{Priced, Book, charged_of, Naming, name_of, by_bytes, price_in}
 use Rattle.book_model.specs.Words.{set_of, members, has, those, IsSound}
-use Rattle.book_model.proofs.ListLemmas.{filter-map}
-use Rattle.book_model.proofs.RecordSets.{same_records, has_those}
-use Rattle.book_model.proofs.SetLemmas.{set_of-alike}
-use Rattle.book_model.proofs.SumsAlike.{map-alike}
-use Rattle.table_model.specs.PeriodLists.{AreFramed}
-use Rattle.table_model.specs.Tables.{RecordRow}
-use Rattle.table_model.specs.TablesOf.{record_entries, record_entry, record_row, status_of}
-use Rattle.table_model.specs.TablesOf.{tables_of}
+use Rattle.book_model.proofs.Lemmas.{filter-map, same_records, has_those, set_of-alike, map-alike}
+use Rattle.table_model.specs.Words.{AreFramed, RecordRow, record_entries, record_entry, record_row}
+use Rattle.table_model.specs.Words.{status_of, tables_of, row_record, records_of_rows, NamedRow}
 use Rattle.table_model.proofs.RowsWhere.{AreMembers, all_rows, first_entry, first_held}
 use Rattle.table_model.proofs.RowsWhere.{members_held, others_held, passing_held, rows_where}
 use Rattle.table_model.proofs.RowsWhere.{those_among}
-use Rattle.table_model.specs.BookIn.{row_record, records_of_rows}
-use Rattle.table_model.specs.DisputesRead.{NamedRow}
 use Rattle.table_model.proofs.Finding.{get_one}
 use Rattle.table_model.proofs.ListOrder.{all_texts}
 use Rattle.table_model.proofs.SetReading.{permuted-alike, set_of-filter}

@@ -3,24 +3,21 @@
 use Rattle.std.proofs.Common.{◌≡◌, ℕ, List, [], ◌∷◌, ◌++◌, map, refl, sym, ap, ◌∙◌, true, false}
 use Rattle.std.proofs.Common.{true≢false, Bool, cond, not, ◌&&◌, Option, Some, None, get_or, ℤ}
 use Rattle.std.proofs.Common.{IsSome, option_map}
-use Rattle.std.specs.FinMap.{find, get, insert, from_entries}
-use Rattle.std.proofs.lemmas.Bool.{false_from_ne_true}
-use Rattle.std.proofs.lemmas.Cmp.{nat_list_cmp_total}
-use Rattle.std.proofs.lemmas.Map.Lookups.{exact_bytes}
-use Rattle.std.proofs.lemmas.Map.Views.{tells_apart}
+use Rattle.std.specs.FinMap.{find}
+use Rattle.book_model.proofs.Std.{get, insert, from_entries, false_from_ne_true, nat_list_cmp_total}
+use Rattle.book_model.proofs.Std.{exact_bytes, tells_apart}
 use Rattle.book_model.specs.Words.{day_of, data_of, Book, open_number, is_dated_after, Records}
 use Rattle.book_model.specs.Words.{Naming, name_of, by_bytes, last_close, has, those, IsSound}
 use Rattle.book_model.specs.Words.{AreAmong, Priced, ChargeRow, RowKey, is_after}
-use Rattle.book_model.proofs.ListLemmas.{map-agree}
-use Rattle.book_model.proofs.MapLemmas.{else_find, find-both, insert-insert, get-inserted}
-use Rattle.book_model.proofs.RecordSets.{is, is_itself, same_records, has_those, in_those}
-use Rattle.book_model.proofs.SetChanges.{pick-agree, except, not_new, with-except, has-except}
-use Rattle.table_model.specs.PeriodRows.{numbered}
+use Rattle.book_model.proofs.Lemmas.{map-agree, else_find, find-both, insert-insert, get-inserted}
+use Rattle.book_model.proofs.Lemmas.{is, is_itself, same_records, has_those, in_those, pick-agree}
+use Rattle.book_model.proofs.Lemmas.{except, with-except}
+use Rattle.book_model.proofs.SetChanges.{not_new, has-except}
+use Rattle.table_model.specs.Words.{numbered, LineTable, RecordRow, RecordTable, RecordStatus}
+use Rattle.table_model.specs.Words.{tables_at, row_by, entry_by, entries_by, counted_by, days_by}
+use Rattle.table_model.specs.Words.{line_entries, periods_by, signed_names}
 use Rattle.table_model.proofs.RestatedRows.{line_by, line_in, is_counted, part_row, join_row}
 use Rattle.table_model.proofs.RestatedRows.{set_counted, set_line, restate}
-use Rattle.table_model.specs.Tables.{LineTable, RecordRow, RecordTable}
-use Rattle.table_model.specs.TablesOf.{RecordStatus, tables_at, row_by, entry_by, entries_by}
-use Rattle.table_model.specs.TablesOf.{counted_by, days_by, line_entries, periods_by, signed_names}
 use Rattle.table_model.proofs.CountedNames.{names, names_restated}
 use Rattle.table_model.proofs.DayChanges.{days_at}
 use Rattle.table_model.proofs.HeldNames.{alone, except-alike, twice_found, value-with}

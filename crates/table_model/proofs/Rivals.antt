@@ -1,17 +1,13 @@
 -- Records that share their identity: how many there are, and that one with no rival is alone.
 use Rattle.std.proofs.Common.{◌≡◌, ℕ, ◌+◌, List, sym, ap, ◌∙◌, true, Bool, cond, not, ◌&&◌, arith}
 use Rattle.std.proofs.Common.{count_by, nat_lt, ◌==◌}
-use Rattle.std.proofs.lemmas.Bool.Decides.{nat_tests}
-use Rattle.std.proofs.lemmas.Cmp.{nat_list_cmp_total, nat_list_eq_equiv, eq_by_cmp_equiv}
-use Rattle.std.proofs.lemmas.Map.Keys.{IsDistinct-from_sorted}
-use Rattle.std.proofs.lemmas.Map.Lookups.{exact_bytes}
-use Rattle.std.proofs.lemmas.Map.Views.{tells_apart}
+use Rattle.book_model.proofs.Std.{nat_tests, nat_list_cmp_total, nat_list_eq_equiv, eq_by_cmp_equiv}
+use Rattle.book_model.proofs.Std.{IsDistinct-from_sorted, exact_bytes, tells_apart}
 use Rattle.book_model.specs.Words.{Records, Rulings, by_bytes, conflict, has, identity_by}
 use Rattle.book_model.specs.Words.{is_unrivalled, members, same_bytes}
-use Rattle.book_model.proofs.ListLemmas.{count_by-narrower, count_by-distinct}
-use Rattle.book_model.proofs.RecordSets.{is}
-use Rattle.book_model.proofs.SetLemmas.{members_rise, same_bytes-by_cmp}
-use Rattle.book_model.proofs.SumsAlike.{list_any-count_by}
+use Rattle.book_model.proofs.ListLemmas.{count_by-narrower}
+use Rattle.book_model.proofs.Lemmas.{count_by-distinct, is, members_rise, same_bytes-by_cmp}
+use Rattle.book_model.proofs.Lemmas.{list_any-count_by}
 use Rattle.std.specs.FinMap as fin
 
 -- one and this many more are one if there are no more

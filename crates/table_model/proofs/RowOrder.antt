@@ -1,18 +1,14 @@
 -- Rows in their order, and those among them that pass a test.
 use Rattle.std.proofs.Common.{◌≡◌, List, [], ◌∷◌, refl, sym, ap, subst, true, false, Bool, cond}
 use Rattle.std.proofs.Common.{◌&&◌, ◌||◌, Option, Some, None, filter, filter_map, IsPermutation}
-use Rattle.std.specs.Cmp.{IsTotalOrder}
-use Rattle.std.specs.List.{cons_option, list_any}
-use Rattle.std.specs.List.Sorted.{IsStrictlySortedBy}
-use Rattle.std.specs.Ordering.{eq_by_cmp}
-use Rattle.std.proofs.lemmas.Cmp.{nat_list_cmp_total, then_total, on_total}
-use Rattle.std.proofs.lemmas.List.Kept.{IsStrictlySortedBy-filter}
-use Rattle.std.proofs.lemmas.List.Sorted.{IsPermutation-sym}
-use Rattle.std.proofs.lemmas.Map.Keys.{IsDistinct-from_sorted}
+use Rattle.book_model.proofs.Std.{IsTotalOrder, cons_option, list_any, IsStrictlySortedBy}
+use Rattle.book_model.proofs.Std.{eq_by_cmp, nat_list_cmp_total, then_total, on_total}
+use Rattle.book_model.proofs.Std.{IsStrictlySortedBy-filter, IsPermutation-sym}
+use Rattle.book_model.proofs.Std.{IsDistinct-from_sorted}
 use Rattle.book_model.specs.Words.{members, set_of}
-use Rattle.book_model.proofs.PermutedSets.{apart_from_distinct, distinct_permuted, given_permuted}
-use Rattle.book_model.proofs.PermutedSets.{sorted_members}
-use Rattle.table_model.specs.DisputesRead.{NamedRow, by_identity}
+use Rattle.book_model.proofs.Lemmas.{apart_from_distinct, given_permuted}
+use Rattle.book_model.proofs.PermutedSets.{distinct_permuted, sorted_members}
+use Rattle.table_model.specs.Words.{NamedRow, by_identity}
 
 -- one of those that pass a test passes another if one passes both
 pub list_any-filter : {X : Type 0} (p q : X → Bool) (xs : List X)

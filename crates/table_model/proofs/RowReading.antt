@@ -1,11 +1,9 @@
 -- The charge rows of a period are read back from the tables.
 use Rattle.std.proofs.Common.{◌≡◌, ℕ, List, [], ◌∷◌, map, refl, ap, ◌∙◌}
 use Rattle.book_model.specs.Words.{ChargeRow, RowKey, all_periods, by_key, rows_for, prices}
-use Rattle.book_model.proofs.FilterLemmas.{entries-sorted}
-use Rattle.book_model.proofs.RowLemmas.{by_key_total, by_key_exact}
-use Rattle.table_model.specs.PeriodRows.{under}
+use Rattle.book_model.proofs.Lemmas.{entries-sorted, by_key_total, by_key_exact}
+use Rattle.table_model.specs.Words.{under, row_key, day_entries}
 use Rattle.table_model.specs.PeriodLaws.{RowsFollow}
-use Rattle.table_model.specs.TablesOf.{row_key, day_entries}
 use Rattle.table_model.proofs.DayChanges.{days-sorted}
 use Rattle.table_model.proofs.PeriodPlaces.{at_place, slice_get-map}
 use Rattle.table_model.proofs.PeriodReading.{read-period}

@@ -2,28 +2,21 @@
 use Rattle.std.proofs.Common.{◌≡◌, ℕ, suc, List, [], ◌∷◌, length, refl, sym, ap, ◌∙◌, subst, true}
 use Rattle.std.proofs.Common.{false, true≢false, Bool, ◌&&◌, ◌||◌, Option, Some, None, Contains}
 use Rattle.std.proofs.Common.{IsSome, filter, ◌==◌, filter_map, IsPermutation, option_map}
-use Rattle.std.specs.FinMap.{entries}
-use Rattle.std.specs.List.{list_any, cons_option}
-use Rattle.std.specs.List.Sorted.{IsStrictlySortedBy}
 use Rattle.std.proofs.Math.Bool.{or-true}
-use Rattle.std.proofs.lemmas.Cmp.{nat_list_cmp_total, eq_by_cmp_equiv}
 use Rattle.std.proofs.lemmas.List.Folds.{Any-from_list_any}
-use Rattle.std.proofs.lemmas.List.Sorted.{length_permutation, list_any-IsPermutation}
-use Rattle.std.proofs.lemmas.List.Sums.{length-filter}
-use Rattle.std.proofs.lemmas.Map.Keys.{sorted_tail}
-use Rattle.std.proofs.lemmas.Map.Lookups.{exact_bytes}
 use Rattle.std.proofs.lemmas.Map.Views.{list_any-from_Contains}
+use Rattle.book_model.proofs.Std.{entries, list_any, cons_option, IsStrictlySortedBy}
+use Rattle.book_model.proofs.Std.{nat_list_cmp_total, eq_by_cmp_equiv, length_permutation}
+use Rattle.book_model.proofs.Std.{list_any-IsPermutation, length-filter, sorted_tail, exact_bytes}
 use Rattle.book_model.specs.Words.{Priced, Book, Records, Naming, name_of, by_bytes, identity_by}
 use Rattle.book_model.specs.Words.{is_unrivalled, members, has, those, same_bytes, IsSound}
 use Rattle.book_model.specs.Words.{AreAmong}
-use Rattle.book_model.proofs.FilterLemmas.{Apart, permuted_one, filter-filter_map}
-use Rattle.book_model.proofs.FilterLemmas.{filter-from_entries}
-use Rattle.book_model.proofs.RecordSets.{is, is_first, has_those, same_records, second_of}
+use Rattle.book_model.proofs.Lemmas.{Apart, is, is_first, has_those, same_records, second_of}
+use Rattle.book_model.proofs.Lemmas.{fails_too, members-those, members_rise}
+use Rattle.book_model.proofs.FilterLemmas.{permuted_one, filter-filter_map, filter-from_entries}
 use Rattle.book_model.proofs.SetChanges.{not_first}
-use Rattle.book_model.proofs.SetLemmas.{fails_too, members-those, members_rise}
-use Rattle.table_model.specs.Tables.{RecordRow, RecordTable}
-use Rattle.table_model.specs.TablesOf.{RecordStatus, entry_by, row_by, status_by, tables_at}
-use Rattle.table_model.specs.Views.{rows_with}
+use Rattle.table_model.specs.Words.{RecordRow, RecordTable, RecordStatus, entry_by, row_by}
+use Rattle.table_model.specs.Words.{status_by, tables_at, rows_with}
 use Rattle.table_model.proofs.OpenNames.{names_differ}
 use Rattle.table_model.proofs.RecordChanges.{no_entry}
 use Rattle.table_model.proofs.Rivals.{having, alone_where}

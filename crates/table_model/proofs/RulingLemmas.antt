@@ -1,25 +1,18 @@
 -- A tariff is answered by what the records' rows will cost.
 use Rattle.std.proofs.Common.{◌≡◌, ℕ, List, refl, sym, ap, ◌∙◌, true, false, Bool, Some, Ok, subst}
 use Rattle.std.proofs.Common.{int_lt, nat_lt}
-use Rattle.std.specs.FinMap.{get}
-use Rattle.std.specs.List.{list_any}
-use Rattle.std.proofs.lemmas.Option.{same_Some}
+use Rattle.book_model.proofs.Std.{get, list_any, same_Some}
 use Rattle.book_model.specs.Words.{day_of, Terms, IsPriced, price_by, Book, charged_of, Naming}
 use Rattle.book_model.specs.Words.{name_of, has_text, Rulings, is_effective, is_later, is_too_dear}
 use Rattle.book_model.specs.Words.{terms_answer, most_cost, with_tariff, has, IsSound, Done}
-use Rattle.book_model.proofs.LatestLemmas.{later-before, later_price}
-use Rattle.book_model.proofs.PricingLemmas.{price_in-behind}
-use Rattle.book_model.proofs.TestLemmas.{by_tests, tariff_passes}
-use Rattle.table_model.specs.PeriodLists.{AreFramed}
-use Rattle.table_model.specs.Tables.{RecordRow}
-use Rattle.table_model.specs.TablesOf.{record_row, tables_of}
+use Rattle.book_model.proofs.Lemmas.{later-before, later_price, price_in-behind, tariff_passes}
+use Rattle.book_model.proofs.TestLemmas.{by_tests}
+use Rattle.table_model.specs.Words.{AreFramed, RecordRow, record_row, tables_of, row_record}
+use Rattle.table_model.specs.Words.{ArePriced, IsReadable}
 use Rattle.table_model.proofs.CostLemmas.{day-price}
 use Rattle.table_model.proofs.LineReading.{held_row}
 use Rattle.table_model.proofs.SumRead.{sum_is_read}
 use Rattle.table_model.specs.AnswerLaws.{TermsFollow}
-use Rattle.table_model.specs.BookIn.{row_record}
-use Rattle.table_model.specs.FromCalls.{ArePriced}
-use Rattle.table_model.specs.Readable.{IsReadable}
 use Rattle.table_model.specs.RulingsRead.{cost_too_much, terms_read}
 
 module _ (naming : Naming) (book : Book) (sound : IsSound naming book) where

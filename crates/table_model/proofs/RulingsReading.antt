@@ -2,20 +2,16 @@
 use Rattle.std.proofs.Common.{◌≡◌, ℕ, List, [], ◌∷◌, refl, sym, ap, ◌∙◌, true, Bool, T, Option}
 use Rattle.std.proofs.Common.{Some, None, arith, subst, All, ℤ, int_lt, ◌<ℤ◌, ◌==◌, if◌then◌else◌}
 use Rattle.std.proofs.Common.{is_some, unwrap_or, filter_map, option_and_then, int_cmp, is_lt, Less}
-use Rattle.std.specs.Cmp.{int_cmp_is, int_cmp_total}
-use Rattle.std.specs.FinMap.{from_entries, entries, int_cmp-IsAntisymmetric}
-use Rattle.std.specs.FinMap.Entries.{below_all, is_sorted}
-use Rattle.std.specs.List.{cons_option, list_all}
-use Rattle.std.proofs.lemmas.Int.{ints}
-use Rattle.std.proofs.lemmas.List.Elements.{All-head, All-tail}
+use Rattle.std.specs.Cmp.{int_cmp_is}
+use Rattle.std.specs.FinMap.Entries.{below_all}
+use Rattle.book_model.proofs.Std.{int_cmp_total, from_entries, entries, int_cmp-IsAntisymmetric}
+use Rattle.book_model.proofs.Std.{is_sorted, cons_option, list_all, ints, All-head, All-tail}
 use Rattle.book_model.specs.Words.{terms_in, Records, Rulings, AcceptedTerms, are_rising}
 use Rattle.book_model.specs.Words.{first_rule, second_rule}
-use Rattle.book_model.proofs.FilterLemmas.{entries-sorted}
-use Rattle.book_model.proofs.RecordSets.{first_of, second_of}
-use Rattle.table_model.specs.Tables.{never_adopted}
-use Rattle.table_model.specs.TablesOf.{book_row, tariff_entries}
-use Rattle.table_model.specs.BookIn.{adopted_read, tariff_read, tariff_saying}
-use Rattle.table_model.specs.Readable.{IsTexted}
+use Rattle.book_model.proofs.Lemmas.{entries-sorted, first_of, second_of}
+use Rattle.table_model.specs.Words.{never_adopted, book_row, tariff_entries, adopted_read}
+use Rattle.table_model.specs.Words.{tariff_read, IsTexted}
+use Rattle.table_model.specs.BookIn.{tariff_saying}
 use Rattle.table_model.proofs.UnderNumbers.{both_hold}
 
 -- a day that is before those of tariffs is below them

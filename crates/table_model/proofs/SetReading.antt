@@ -1,16 +1,14 @@
 -- Sets of records that are made from lists in any order.
 use Rattle.std.proofs.Common.{◌≡◌, ℕ, List, ◌++◌, refl, sym, ap, ◌∙◌, true, false, true≢false, Bool}
 use Rattle.std.proofs.Common.{not, ◌&&◌, ◌||◌, Option, filter, ℤ, filter_map, IsPermutation}
-use Rattle.std.proofs.lemmas.Cmp.{nat_list_cmp_total}
-use Rattle.std.proofs.lemmas.List.Folds.{list_any-append}
-use Rattle.std.proofs.lemmas.List.Sorted.{sum_by-IsPermutation}
-use Rattle.std.proofs.lemmas.Map.Lookups.{exact_bytes}
+use Rattle.book_model.proofs.Std.{nat_list_cmp_total, list_any-append, sum_by-IsPermutation}
+use Rattle.book_model.proofs.Std.{exact_bytes}
 use Rattle.book_model.specs.Words.{is_dated_after, Period, period_by, Records, by_bytes, set_of}
 use Rattle.book_model.specs.Words.{members, has, those, without, AreDatedThrough}
-use Rattle.book_model.proofs.RecordSets.{is, same_records, has_those}
-use Rattle.book_model.proofs.SetLemmas.{has-set_of, members-those, set_of-alike}
-use Rattle.book_model.proofs.SumsAlike.{SumsAlike, filter_map-alike}
-use Rattle.table_model.specs.BookIn.{union_of, charged_before}
+use Rattle.book_model.proofs.Lemmas.{is, same_records, has_those, has-set_of, members-those}
+use Rattle.book_model.proofs.Lemmas.{set_of-alike, SumsAlike, filter_map-alike}
+use Rattle.table_model.specs.BookIn.{union_of}
+use Rattle.table_model.specs.Words.{charged_before}
 use Rattle.std.specs.FinMap as fin
 pub use Rattle.table_model.proofs.RowsWhere.{among-filter, one_passes, some_passes}
 

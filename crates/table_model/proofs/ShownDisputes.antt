@@ -1,15 +1,12 @@
 -- The disputes that are answered from the tables can be shown.
 use Rattle.std.proofs.Common.{◌≡◌, ℕ, Bool, List, [], ◌∷◌, length, sym, subst, true, arith, ◌<◌}
 use Rattle.std.proofs.Common.{◌⊎◌, All}
-use Rattle.std.specs.List.{AllByRecursion}
-use Rattle.std.proofs.lemmas.Bool.Decides.{nat_tests}
-use Rattle.std.proofs.lemmas.List.Elements.{All-from_recursion, All-map, All-weaker, filter_passes}
+use Rattle.book_model.proofs.Std.{AllByRecursion, nat_tests, All-from_recursion, All-map}
+use Rattle.book_model.proofs.Std.{All-weaker, filter_passes}
 use Rattle.book_model.specs.Words.{IsDay, identity_length, identity2_length, Book, IsDispute}
 use Rattle.book_model.specs.Words.{AreDisputes, dispute_at, identities, is_in_dispute, Naming}
 use Rattle.book_model.specs.Words.{identity_by, Variant}
-use Rattle.table_model.specs.TablesOf.{tables_of}
-use Rattle.table_model.specs.DisputesRead.{NamedRow, disputes_read, variant_read}
-use Rattle.table_model.specs.Readable.{IsReadable}
+use Rattle.table_model.specs.Words.{tables_of, NamedRow, disputes_read, variant_read, IsReadable}
 use Rattle.table_model.specs.ListLaws.{ListsShow}
 use Rattle.table_model.proofs.DisputeLemmas.{disputes_are, two_or_more}
 use Rattle.table_model.proofs.NextDispute.{works_held}

@@ -3,26 +3,17 @@ use Rattle.std.proofs.Common.{◌≡◌, ℕ, ◌+◌, List, [], ◌∷◌, ◌+
 use Rattle.std.proofs.Common.{subst, true, false, Bool, Option, Some, None, arith, ◌<◌, ◌≤◌, ◌^◌}
 use Rattle.std.proofs.Common.{sum_by, All, filter_map, Ordering, Less, Equal, Greater, option_map}
 use Rattle.std.specs.BTreeSet.{insert_key}
-use Rattle.std.specs.Cmp.{IsTotalOrder}
-use Rattle.std.specs.List.{AllByRecursion}
-use Rattle.std.specs.Ordering.{match_ordering}
-use Rattle.std.proofs.lemmas.List.Elements.{All-from_recursion, recursion_from_All}
-use Rattle.std.proofs.lemmas.List.Folds.{fold-map}
-use Rattle.std.proofs.lemmas.List.Sums.{sum_by-cons, sum_by-append}
+use Rattle.book_model.proofs.Std.{IsTotalOrder, AllByRecursion, match_ordering, All-from_recursion}
+use Rattle.book_model.proofs.Std.{recursion_from_All, fold-map, sum_by-cons, sum_by-append}
 use Rattle.book_model.specs.Words.{IsDay, Book, most_cost, AreLines, lines_for, lines_of, Records}
 use Rattle.book_model.specs.Words.{Naming, name_of, FitSums, AreRows, AreAmong, price_in, set_of}
 use Rattle.book_model.specs.Words.{members, line_with, Priced, Line}
-use Rattle.book_model.proofs.FilterMapLemmas.{map-filter_map}
-use Rattle.book_model.proofs.LineOrder.{by_line_total}
-use Rattle.book_model.proofs.SetLemmas.{members-empty, members-with}
+use Rattle.book_model.proofs.Lemmas.{map-filter_map, by_line_total, members-empty, members-with}
 use Rattle.table_model.proofs.LineReading.{lines_follow}
 use Rattle.table_model.proofs.ListOrder.{all_joined, all_unmapped}
 use Rattle.book_core.proofs.ListLimits.{rows_shown}
-use Rattle.table_model.specs.PeriodLists.{rows_read, lines_read}
-use Rattle.table_model.specs.TablesOf.{tables_of}
+use Rattle.table_model.specs.Words.{rows_read, lines_read, tables_of, is_period, IsReadable}
 use Rattle.table_model.proofs.RowReading.{rows_follow}
-use Rattle.table_model.specs.ListsRead.{is_period}
-use Rattle.table_model.specs.Readable.{IsReadable}
 use Rattle.table_model.proofs.ListLemmas.{period_held}
 use Rattle.table_model.proofs.PriceSums.{costs, all_priced, some_within, within_fits}
 

@@ -1,24 +1,19 @@
 -- One record that is held becomes charged, or is no longer charged: as the table of effects says.
 use Rattle.std.proofs.Common.{◌≡◌, ℕ, List, refl, sym, ap, ◌∙◌, true, false, Bool, cond, not, ◌&&◌}
 use Rattle.std.proofs.Common.{◌||◌, Option, Some, None, ℤ, IsSome, if◌then◌else◌}
-use Rattle.std.specs.FinMap.{get, insert}
+use Rattle.book_model.proofs.Std.{get, insert}
 use Rattle.book_model.specs.Words.{Book, open_number, Records, Naming, name_of, last_close}
 use Rattle.book_model.specs.Words.{price_in, identity_by, has, with, IsSound, AreAmong, Rulings}
-use Rattle.tariff_rules.specs.declared.priced.Priced.{Priced}
-use Rattle.book_model.proofs.RecordSets.{is, has_with, has_those, in_those, is_itself, not_true}
-use Rattle.book_model.proofs.RecordSets.{one_or, second_of}
-use Rattle.book_model.proofs.SetChanges.{except, has-except}
-use Rattle.book_core.specs.declared.effects.DayChange.TheVariants.{Add, Take}
-use Rattle.book_core.specs.declared.effects.LineChange.TheVariants.{AddPlus, DropPlus, AddMinus}
-use Rattle.book_core.specs.declared.effects.LineChange.TheVariants.{DropMinus}
-use Rattle.book_core.specs.declared.effects.Member.{Member}
-use Rattle.book_core.specs.Effects.{is_after, charge_held, withdraw, charges, unmarks}
+use Rattle.book_model.specs.Words.{Priced, is_after}
+use Rattle.book_model.proofs.Lemmas.{is, has_with, has_those, in_those, is_itself, not_true, one_or}
+use Rattle.book_model.proofs.Lemmas.{second_of, except}
+use Rattle.book_model.proofs.SetChanges.{has-except}
+use Rattle.book_core.specs.Words.{Add, Take, AddPlus, DropPlus, AddMinus, DropMinus, Member}
+use Rattle.book_core.specs.Words.{charge_held, withdraw, charges, unmarks}
 use Rattle.table_model.proofs.RestatedRows.{line_by, restate, set_counted, set_line}
-use Rattle.table_model.specs.RowChanges.{add_price, take_price}
-use Rattle.table_model.specs.TableChanges.{apply, charge_due_step, charge_in, reprice}
-use Rattle.table_model.specs.Tables.{DayTable, RecordRow, Tables}
-use Rattle.table_model.specs.TablesOf.{RecordStatus, tables_at, status_by}
-use Rattle.table_model.specs.Views.{member_at}
+use Rattle.table_model.specs.Words.{add_price, take_price, apply, charge_due_step, charge_in}
+use Rattle.table_model.specs.Words.{reprice, DayTable, RecordRow, Tables, RecordStatus, tables_at}
+use Rattle.table_model.specs.Words.{status_by, member_at}
 use Rattle.table_model.proofs.CostLemmas.{day-price}
 use Rattle.table_model.proofs.Restated.{IsStatus, restated, row_for, row-found, status_at}
 

@@ -1,22 +1,15 @@
 -- What the records will cost together under a tariff is read from their rows.
 use Rattle.std.proofs.Common.{◌≡◌, ◌+◌, ℕ, List, [], ◌∷◌, refl, sym, ap, ◌∙◌, true, false, Option}
 use Rattle.std.proofs.Common.{Some, arith, sum_by, int_lt, filter_map}
-use Rattle.std.specs.FinMap.{entries}
-use Rattle.std.specs.List.{cons_option}
-use Rattle.std.proofs.lemmas.List.Folds.{fold-map}
-use Rattle.std.proofs.lemmas.List.Sorted.{sum_by-IsPermutation}
-use Rattle.std.proofs.lemmas.List.Sums.{sum_by-cons}
+use Rattle.book_model.proofs.Std.{entries, cons_option, fold-map, sum_by-IsPermutation, sum_by-cons}
 use Rattle.book_model.specs.Words.{day_of, Terms, price_by, total_of, Book, charged_of, Records}
 use Rattle.book_model.specs.Words.{Naming, name_of, is_later, price_in, with_tariff, identity_by}
 use Rattle.book_model.specs.Words.{members, has, IsSound, Priced}
-use Rattle.book_model.proofs.PricingLemmas.{price_in-behind}
+use Rattle.book_model.proofs.Lemmas.{price_in-behind, later-before, later_price}
 use Rattle.table_model.specs.Laws.{SumIsRead}
-use Rattle.table_model.specs.PeriodLists.{AreFramed}
-use Rattle.table_model.specs.TableChanges.{amount_under}
-use Rattle.table_model.specs.Tables.{RecordRow, RecordTable}
-use Rattle.table_model.specs.TablesOf.{status_of, tables_of, record_entry, row_by}
+use Rattle.table_model.specs.Words.{AreFramed, amount_under, RecordRow, RecordTable, status_of}
+use Rattle.table_model.specs.Words.{tables_of, record_entry, row_by}
 use Rattle.table_model.proofs.CostLemmas.{day-price}
-use Rattle.book_model.proofs.LatestLemmas.{later-before, later_price}
 use Rattle.table_model.proofs.RowsWhere.{AreMembers, all_rows, first_entry, first_held}
 use Rattle.table_model.proofs.RowsWhere.{members_held, others_held}
 use Rattle.std.specs.FinMap as fin

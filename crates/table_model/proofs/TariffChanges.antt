@@ -2,29 +2,19 @@
 use Rattle.std.proofs.Common.{◌≡◌, ℕ, List, [], ◌∷◌, refl, sym, ap, ◌∙◌, true, false, true≢false}
 use Rattle.std.proofs.Common.{inl, inr, cond, ◌||◌, Option, Some, None, Ok, arith, ℤ, ◌<ℤ◌, int_lt}
 use Rattle.std.proofs.Common.{MatchOption, if◌then◌else◌, int_cmp}
-use Rattle.std.specs.Cmp.{int_cmp_total}
-use Rattle.std.specs.FinMap.{find, keys, from_entries, from_entries_push, int_cmp-IsAntisymmetric}
-use Rattle.std.specs.List.{list_any}
-use Rattle.std.proofs.lemmas.Bool.{false_from_ne_true}
-use Rattle.std.proofs.lemmas.Option.{same_Some}
-use Rattle.std.proofs.lemmas.Int.{ints}
-use Rattle.std.proofs.lemmas.List.{map-append}
+use Rattle.std.specs.FinMap.{find, from_entries_push}
+use Rattle.book_model.proofs.Std.{int_cmp_total, keys, from_entries, int_cmp-IsAntisymmetric}
+use Rattle.book_model.proofs.Std.{list_any, false_from_ne_true, same_Some, ints, map-append}
 use Rattle.book_model.specs.Words.{day_of, Terms, price_by, total_of, Book, open_number, charged_of}
 use Rattle.book_model.specs.Words.{is_dated_after, is_undisputed, give, TariffAccepted, Records}
 use Rattle.book_model.specs.Words.{Naming, name_of, is_effective, terms_answer, Rulings}
 use Rattle.book_model.specs.Words.{AcceptedTerms, price_in, with_tariff, identity_by, last_close}
 use Rattle.book_model.specs.Words.{has, IsSound, AreAmong, Priced, Done, is_after}
-use Rattle.book_model.proofs.CallLemmas.{calls_go_forward}
-use Rattle.book_model.proofs.PricingLemmas.{price_in-behind}
-use Rattle.book_model.proofs.RecordSets.{in_those}
-use Rattle.book_model.proofs.SoundLemmas.{steps_stay_sound}
+use Rattle.book_model.proofs.Lemmas.{calls_go_forward, price_in-behind, in_those, steps_stay_sound}
 use Rattle.table_model.specs.Laws.{TariffFollows}
-use Rattle.table_model.specs.PeriodLists.{AreFramed}
-use Rattle.table_model.specs.Changed.{tariff_at}
-use Rattle.table_model.specs.Steps.{put_tariff_row, set_sums}
-use Rattle.table_model.specs.TableChanges.{walk, reprice, reprice_step}
-use Rattle.table_model.specs.Tables.{RecordRow, Tables}
-use Rattle.table_model.specs.TablesOf.{RecordStatus, tariff_entries, tables_of, tables_at}
+use Rattle.table_model.specs.Words.{AreFramed, tariff_at, put_tariff_row, set_sums, walk, reprice}
+use Rattle.table_model.specs.Words.{reprice_step, RecordRow, Tables, RecordStatus, tariff_entries}
+use Rattle.table_model.specs.Words.{tables_of, tables_at}
 use Rattle.table_model.proofs.CostLemmas.{day-price}
 use Rattle.table_model.proofs.Restated.{IsStatus, row_for, status_at}
 use Rattle.table_model.proofs.StatusSteps.{reprice-is, status-is}

@@ -1,10 +1,9 @@
 -- What records cost under a tariff that comes into force.
 use Rattle.std.proofs.Common.{◌≡◌, ℕ, List, false, Some, Ok, int_lt}
-use Rattle.std.specs.List.{list_any}
+use Rattle.book_model.proofs.Std.{list_any}
 use Rattle.book_model.specs.Words.{day_of, Terms, price_by, Book, is_effective, terms_answer}
 use Rattle.book_model.specs.Words.{Rulings, price_in, with_tariff, Done}
-use Rattle.book_model.proofs.LatestLemmas.{later-before, later_price}
-use Rattle.book_model.proofs.TestLemmas.{tariff_passes}
+use Rattle.book_model.proofs.Lemmas.{later-before, later_price, tariff_passes}
 
 module _ (book : Book) (text : List ℕ) (terms : Terms)
     (done : terms_answer book text terms ≡ Ok Done) where

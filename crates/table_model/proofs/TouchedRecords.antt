@@ -1,15 +1,13 @@
 -- Which records the open period touches: each other one is charged as the last close posted it.
 use Rattle.std.proofs.Common.{◌≡◌, ◌∙◌, ℕ, List, Bool, true, false, true≢false, cond, Option, Some}
 use Rattle.std.proofs.Common.{is_some, refl, sym, ap, ℤ}
-use Rattle.std.specs.FinMap.{contains_key, get}
-use Rattle.std.proofs.lemmas.Bool.{false_from_ne_true}
+use Rattle.book_model.proofs.Std.{contains_key, get, false_from_ne_true}
 use Rattle.book_model.specs.Words.{Priced, is_after, AreAmong, Book, IsSound, Naming, charged_of}
 use Rattle.book_model.specs.Words.{has, is_dated_after, is_undisputed, last_close, name_of}
 use Rattle.book_model.specs.Words.{open_number, price_in}
-use Rattle.book_model.proofs.RecordSets.{in_those}
+use Rattle.book_model.proofs.Lemmas.{in_those}
 use Rattle.table_model.specs.PostedLaws.{PostsFew, is_touched}
-use Rattle.table_model.specs.Tables.{RecordRow, Tables}
-use Rattle.table_model.specs.TablesOf.{record_row, status_of, tables_of}
+use Rattle.table_model.specs.Words.{RecordRow, Tables, record_row, status_of, tables_of}
 use Rattle.table_model.proofs.CostLemmas.{day-price}
 use Rattle.table_model.proofs.CountedHeld.{current_counted}
 use Rattle.table_model.proofs.RecordReading.{every_row}

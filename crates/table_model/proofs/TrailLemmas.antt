@@ -1,25 +1,18 @@
 -- The trail of a record is answered from the tables.
 use Rattle.std.proofs.Common.{◌≡◌, ◌∙◌, ℕ, List, map, refl, sym, ap, true, true≢false, Bool, Option}
 use Rattle.std.proofs.Common.{None, Some, is_some, filter, ok_or, option_and_then, option_map}
-use Rattle.std.specs.FinMap.{get}
-use Rattle.std.proofs.lemmas.Cmp.{nat_list_eq_equiv}
-use Rattle.std.proofs.lemmas.List.Elements.{All-weaker}
-use Rattle.std.proofs.lemmas.Simd.{map-map}
+use Rattle.book_model.proofs.Std.{get, nat_list_eq_equiv, All-weaker, map-map}
 use Rattle.book_model.specs.Words.{Priced, Reckoning, NoSuchRecord, Book, Choice, IsChoiceOf}
 use Rattle.book_model.specs.Words.{IsSound, Naming, choice_named, charged_of, choices_among, has}
 use Rattle.book_model.specs.Words.{identity_by, name_of, no_event, period_on, price_in}
 use Rattle.book_model.specs.Words.{reckoning_in, record_named, same_bytes, share_identity, trail_by}
 use Rattle.book_model.specs.Words.{trail_of, trail_outcome}
-use Rattle.book_model.proofs.ListLemmas.{filter-agree, filter-map}
-use Rattle.book_model.proofs.SoundLemmas.{named_held}
+use Rattle.book_model.proofs.Lemmas.{filter-agree, filter-map, named_held}
 use Rattle.book_core.proofs.NamedLemmas.{is_some-named, its_name}
-use Rattle.table_model.specs.Tables.{ChoiceRow, RecordRow, Tables}
-use Rattle.table_model.specs.TablesOf.{choice_row, tables_of}
-use Rattle.table_model.specs.Views.{name_has_identity}
+use Rattle.table_model.specs.Words.{ChoiceRow, RecordRow, Tables, choice_row, tables_of}
+use Rattle.table_model.specs.Words.{name_has_identity, IsReadable, choices_with, NamedRow}
 use Rattle.table_model.specs.ListLaws.{TrailsFollow}
-use Rattle.table_model.specs.Readable.{IsReadable}
-use Rattle.table_model.specs.TrailRead.{choices_with, row_choice, trail_at, trail_row}
-use Rattle.table_model.specs.DisputesRead.{NamedRow}
+use Rattle.table_model.specs.TrailRead.{row_choice, trail_at, trail_row}
 use Rattle.table_model.proofs.CostLemmas.{day-price}
 use Rattle.table_model.proofs.DueLemmas.{its_identity}
 use Rattle.table_model.proofs.LifeReading.{life_is}

@@ -3,16 +3,15 @@ use Rattle.std.proofs.Common.{◌≡◌, ℕ, suc, ◌+◌, ◌<◌, ◌≤◌, 
 use Rattle.std.proofs.Common.{ap, ◌∙◌, subst, true, false, Bool, cond, ◌&&◌, Option, Some, None, T}
 use Rattle.std.proofs.Common.{arith, zero, ◌-◌, unwrap_or, slice_get, is_lt, nat_cmp, is_eq}
 use Rattle.std.proofs.Common.{Ordering, Less, Equal, Greater}
-use Rattle.std.specs.Cmp.{nat_cmp_total, nat_cmp_is}
-use Rattle.std.specs.FinMap.{entries, find, insert, values, from_entries, from_entries_push}
-use Rattle.std.specs.FinMap.{nat_cmp-IsAntisymmetric}
-use Rattle.std.specs.FinMap.Entries.{below_all, is_sorted}
-use Rattle.std.specs.List.{last_or}
-use Rattle.book_model.proofs.FilterLemmas.{entries-sorted}
-use Rattle.table_model.specs.TablesOf.{under_numbers}
+use Rattle.std.specs.Cmp.{nat_cmp_is}
+use Rattle.std.specs.FinMap.{find, from_entries_push}
+use Rattle.std.specs.FinMap.Entries.{below_all}
+use Rattle.book_model.proofs.Std.{nat_cmp_total, entries, insert, values, from_entries}
+use Rattle.book_model.proofs.Std.{nat_cmp-IsAntisymmetric, is_sorted, last_or, nat_tests}
+use Rattle.book_model.proofs.Std.{slice_get_past}
+use Rattle.book_model.proofs.Lemmas.{entries-sorted}
+use Rattle.table_model.specs.Words.{under_numbers}
 use Rattle.table_model.proofs.MoveLemmas.{not_number}
-use Rattle.std.proofs.lemmas.Bool.Decides.{nat_tests}
-use Rattle.std.proofs.lemmas.Option.{slice_get_past}
 
 -- what is below compares as less
 pub is_less : (order : Ordering) → T (is_lt order) → order ≡ Less

@@ -1,11 +1,10 @@
 -- A view that is read from tables gives a member only if it counts one.
 use Rattle.std.proofs.Common.{◌≡◌, ℕ, suc, List, [], ◌∷◌, length, refl, true, false, Some, None}
 use Rattle.std.proofs.Common.{is_some, arith, ◌==◌, if◌then◌else◌}
-use Rattle.std.proofs.lemmas.Bool.Decides.{nat_tests}
+use Rattle.book_model.proofs.Std.{nat_tests}
 use Rattle.table_model.specs.Laws.{ViewFits}
-use Rattle.table_model.specs.Tables.{ChoiceTable, RecordRow}
-use Rattle.table_model.specs.Views.{rows_with, rows_count, only_row, member_at, has_choice}
-use Rattle.table_model.specs.Views.{lone_members}
+use Rattle.table_model.specs.Words.{ChoiceTable, RecordRow, rows_with, rows_count, only_row}
+use Rattle.table_model.specs.Words.{member_at, has_choice, lone_members}
 
 -- by the rows of the identity
 fits : (choices : ChoiceTable) (rows : List (List ℕ × RecordRow))

@@ -1,29 +1,22 @@
 -- The view of a record is read from the tables alone.
 use Rattle.std.proofs.Common.{◌≡◌, ℕ, suc, List, [], ◌∷◌, map, length, refl, sym, ap, ◌∙◌, true}
 use Rattle.std.proofs.Common.{false, Bool, ◌&&◌, Some, None, arith, All, filter, if◌then◌else◌}
-use Rattle.std.specs.FinMap.{values}
-use Rattle.std.specs.List.{list_any, last_or}
 use Rattle.std.proofs.Math.Bool.{or-false, and-true}
-use Rattle.std.proofs.lemmas.Cmp.{nat_list_cmp_total, nat_list_eq_equiv}
-use Rattle.std.proofs.lemmas.List.Elements.{All-map, All-weaker}
-use Rattle.std.proofs.lemmas.Map.Lookups.{exact_bytes}
-use Rattle.std.proofs.lemmas.Map.Views.{tells_apart}
-use Rattle.std.proofs.lemmas.Simd.{map-map}
-use Rattle.tariff_rules.specs.declared.priced.Priced.{Priced}
-use Rattle.book_model.specs.Words.{Book, share_identity, charged_of, is_chosen, Naming, name_of}
-use Rattle.book_model.specs.Words.{same_bytes, Choice, price_in, identity_by, members, has, IsSound}
-use Rattle.book_model.proofs.FilterLemmas.{no_length}
+use Rattle.book_model.proofs.Std.{values, list_any, last_or, nat_list_cmp_total, nat_list_eq_equiv}
+use Rattle.book_model.proofs.Std.{All-map, All-weaker, exact_bytes, tells_apart, map-map}
+use Rattle.book_model.specs.Words.{Priced, Book, share_identity, charged_of, is_chosen, Naming}
+use Rattle.book_model.specs.Words.{name_of, same_bytes, Choice, price_in, identity_by, members, has}
+use Rattle.book_model.specs.Words.{IsSound}
+use Rattle.book_model.proofs.Lemmas.{no_length, all_chosen, list_any-map, is, is_itself, first_of}
+use Rattle.book_model.proofs.Lemmas.{second_of, is_back, members-those, same_bytes-by_cmp}
 use Rattle.book_model.proofs.ChargedChanges.{share_on}
-use Rattle.book_model.proofs.ChosenLemmas.{all_chosen, lone_chosen}
-use Rattle.book_model.proofs.ListLemmas.{list_any-agree, list_any-map}
-use Rattle.book_model.proofs.RecordSets.{is, is_itself, first_of, second_of}
-use Rattle.book_model.proofs.SetChanges.{is_back}
-use Rattle.book_model.proofs.SetLemmas.{members-those, same_bytes-by_cmp}
+use Rattle.book_model.proofs.ChosenLemmas.{lone_chosen}
+use Rattle.book_model.proofs.ListLemmas.{list_any-agree}
 use Rattle.table_model.specs.Laws.{ViewFollows}
-use Rattle.table_model.specs.Tables.{RecordRow, ChoiceRow, ChoiceTable}
-use Rattle.table_model.specs.TablesOf.{choice_row, record_row, status_of, tables_of}
-use Rattle.table_model.specs.Views.{member_by, sharing, rows_with, member_at, has_choice}
-use Rattle.table_model.specs.Views.{rows_count, only_row, members_of, only_by, lone_members}
+use Rattle.table_model.specs.Words.{RecordRow, ChoiceRow, ChoiceTable, choice_row, record_row}
+use Rattle.table_model.specs.Words.{status_of, tables_of, member_by, sharing, rows_with, member_at}
+use Rattle.table_model.specs.Words.{has_choice, rows_count, only_row, lone_members}
+use Rattle.table_model.specs.Views.{members_of, only_by}
 use Rattle.table_model.proofs.OpenNames.{names_differ}
 use Rattle.table_model.proofs.RowsWhere.{among-filter, count_where, one_where}
 use Rattle.table_model.proofs.UnderNumbers.{values-numbers}

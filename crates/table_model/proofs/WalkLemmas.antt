@@ -1,24 +1,17 @@
 -- A walk over the rows of the records, by their names: it meets each record that is held once.
 use Rattle.std.proofs.Common.{◌≡◌, ◌⊎◌, inl, inr, ℕ, List, [], ◌∷◌, refl, sym, ap, ◌∙◌, true, false}
 use Rattle.std.proofs.Common.{Bool, cond, ◌&&◌, ◌||◌, Some, subst, IsSome}
-use Rattle.std.specs.FinMap.{get, keys, entries, entries_sorted}
-use Rattle.std.specs.List.{list_any}
-use Rattle.std.specs.List.Sorted.{IsStrictlySortedBy}
 use Rattle.std.proofs.Math.Bool.{and-true, or-true}
-use Rattle.std.proofs.lemmas.Map.Keys.{sorted_tail}
-use Rattle.std.proofs.lemmas.Map.Lookups.{exact_bytes}
-use Rattle.std.proofs.lemmas.Map.Views.{tells_apart}
-use Rattle.tariff_rules.specs.declared.priced.Priced.{Priced}
-use Rattle.book_model.specs.Words.{day_of, Book, open_number, is_dated_after, Naming, name_of}
-use Rattle.book_model.specs.Words.{by_bytes, last_close, members, has, those, IsSound, AreAmong}
-use Rattle.book_model.proofs.ListLemmas.{list_any-map}
-use Rattle.book_model.proofs.RecordSets.{is, is_first, is_itself, has_those, in_those}
-use Rattle.book_model.proofs.SetChanges.{is_back, not_first}
-use Rattle.book_model.proofs.SetLemmas.{keys_rise}
+use Rattle.book_model.proofs.Std.{get, keys, entries, entries_sorted, list_any, IsStrictlySortedBy}
+use Rattle.book_model.proofs.Std.{sorted_tail, exact_bytes, tells_apart}
+use Rattle.book_model.specs.Words.{Priced, day_of, Book, open_number, is_dated_after, Naming}
+use Rattle.book_model.specs.Words.{name_of, by_bytes, last_close, members, has, those, IsSound}
+use Rattle.book_model.specs.Words.{AreAmong}
+use Rattle.book_model.proofs.Lemmas.{list_any-map, is, is_first, is_itself, has_those, in_those}
+use Rattle.book_model.proofs.Lemmas.{is_back, keys_rise}
+use Rattle.book_model.proofs.SetChanges.{not_first}
 use Rattle.table_model.proofs.RestatedRows.{restate}
-use Rattle.table_model.specs.TableChanges.{walk}
-use Rattle.table_model.specs.Tables.{RecordRow, RecordTable, Tables}
-use Rattle.table_model.specs.TablesOf.{RecordStatus, tables_at}
+use Rattle.table_model.specs.Words.{walk, RecordRow, RecordTable, Tables, RecordStatus, tables_at}
 use Rattle.table_model.proofs.OpenNames.{names_differ}
 use Rattle.table_model.proofs.Restated.{IsStatus, StatusAt, restated, row-found, row_for, status_at}
 use Rattle.table_model.proofs.Restated.{tables-alike}

@@ -1,12 +1,11 @@
 -- What each event does to the tables, by the rulings before it.
 use Rattle.std.specs.Prelude.{ℕ, ℤ, ◌+◌, List, length, Option, sum_by}
-use Rattle.std.specs.FinMap.{get, values}
-use Rattle.std.specs.Option.{option_map_or}
-use Rattle.tariff_rules.specs.declared.priced.Priced.{Priced}
-use Rattle.book_model.specs.Words.{Event, RecordKept, PeriodClosed, RulingGiven, TariffAccepted}
-use Rattle.book_model.specs.Words.{RecordChosen, SecondRuleAdopted, Naming, name_of, Rulings, Terms}
-use Rattle.book_model.specs.Words.{price_in, identity_by, last_close, second_rule, open_by}
-use Rattle.book_core.specs.Effects.{effects_of, choice_effects}
+use Rattle.book_model.specs.Std.{get, values, option_map_or}
+use Rattle.book_model.specs.Words.{Priced, Event, RecordKept, PeriodClosed, RulingGiven}
+use Rattle.book_model.specs.Words.{TariffAccepted, RecordChosen, SecondRuleAdopted, Naming, name_of}
+use Rattle.book_model.specs.Words.{Rulings, Terms, price_in, identity_by, last_close, second_rule}
+use Rattle.book_model.specs.Words.{open_by}
+use Rattle.book_core.specs.Words.{effects_of, choice_effects}
 use Rattle.table_model.specs.Steps.{move_day_rows, post_rows, put_close_row, put_tariff_row}
 use Rattle.table_model.specs.Steps.{rename_rows, set_rule, set_sums}
 use Rattle.table_model.specs.TableChanges.{amount_under, charge_each_due, put_choice, put_new}

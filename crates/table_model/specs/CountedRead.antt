@@ -3,8 +3,7 @@
 -- and from the lines of the later periods.
 use Rattle.std.specs.Prelude.{ℕ, zero, suc, ◌-◌, Bool, not, ◌&&◌, if◌then◌else◌, List, map, filter}
 use Rattle.std.specs.Prelude.{Option, None, Result, Err}
-use Rattle.std.specs.FinMap.{entries, get}
-use Rattle.std.specs.Option.{option_map_or, option_or}
+use Rattle.book_model.specs.Std.{entries, get, option_map_or, option_or}
 use Rattle.book_model.specs.Words.{LedgerFault, NoSuchPeriod, ChargeRow, Rulings, Terms, open_by}
 use Rattle.book_model.specs.Words.{price_by, rows_if_room, Priced}
 use Rattle.table_model.specs.Tables.{LineTable, RecordRow, Tables}

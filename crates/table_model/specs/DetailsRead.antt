@@ -2,8 +2,7 @@
 -- dated on its days. No line is looked for.
 use Rattle.std.specs.Prelude.{◌≡◌, ℕ, Bool, true, false, ◌&&◌, List, map, filter, Option, Some}
 use Rattle.std.specs.Prelude.{None, Result}
-use Rattle.std.specs.FinMap.{contains_key, entries, get}
-use Rattle.std.specs.Ordering.{is_lt}
+use Rattle.book_model.specs.Std.{contains_key, entries, get, is_lt}
 use Rattle.book_model.specs.Words.{Detail, LedgerFault, Rulings, by_detail, comes_after}
 use Rattle.book_model.specs.Words.{detail_with, details_asked, is_asked, members, next_after}
 use Rattle.book_model.specs.Words.{set_of, is_day_of}

@@ -1,10 +1,7 @@
 -- The disputes, as they are answered from the tables.
 use Rattle.std.specs.Prelude.{◌≡◌, ℕ, Bool, true, false, not, if◌then◌else◌, List, [], ◌∷◌, ◌++◌}
 use Rattle.std.specs.Prelude.{filter, map, Option, None, Some}
-use Rattle.std.specs.FinMap.{entries, get}
-use Rattle.std.specs.List.{list_any}
-use Rattle.std.specs.Ordering.{ordering_then}
-use Rattle.std.specs.declared.cmp.Ordering.{Ordering}
+use Rattle.book_model.specs.Std.{entries, get, list_any, ordering_then, Ordering}
 use Rattle.book_model.specs.Words.{record_with, Disputed, variant_with, by_bytes, is_from}
 use Rattle.book_model.specs.Words.{same_bytes, set_of, members, Variant}
 use Rattle.table_model.specs.Tables.{RecordRow, RecordTable, Tables}

@@ -38,3 +38,4 @@ pub mod Fits
 pub mod ReadingLaws
 pub mod AnswerLaws
 pub mod ListLaws
+pub mod Words

@@ -1,7 +1,6 @@
 -- Changes of all rows of a finite map.
 use Rattle.std.specs.Prelude.{map}
-use Rattle.std.specs.FinMap.{FinMap, entries, from_entries}
-use Rattle.std.specs.declared.cmp.Ordering.{Ordering}
+use Rattle.book_model.specs.Std.{FinMap, entries, from_entries, Ordering}
 
 -- each row changed, under the same key
 abbrev pub updated :

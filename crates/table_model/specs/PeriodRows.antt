@@ -1,8 +1,6 @@
 -- Rows that are stored under the number of their period and a key within it.
 use Rattle.std.specs.Prelude.{ℕ, suc, ◌==◌, List, [], ◌∷◌, ◌++◌, map, filter}
-use Rattle.std.specs.FinMap.{FinMap, entries}
-use Rattle.std.specs.Ordering.{nat_cmp, ordering_then}
-use Rattle.std.specs.declared.cmp.Ordering.{Ordering}
+use Rattle.book_model.specs.Std.{FinMap, entries, nat_cmp, ordering_then, Ordering}
 
 -- by period, then by the key
 abbrev pub by_period : {K : Type 0} → (K → K → Ordering) → ℕ × K → ℕ × K → Ordering

@@ -1,8 +1,7 @@
 -- What reading a book back from its tables rests on. Books that calls made have it.
 use Rattle.std.specs.Prelude.{◌≡◌, ℕ, zero, suc, ◌≤◌, ◌<◌, true, List, [], ◌∷◌, ◌++◌, length, All}
 use Rattle.std.specs.Prelude.{Some, Ok, ℤ, IsUtf8}
-use Rattle.std.specs.List.Sorted.{IsStrictlySortedBy}
-use Rattle.std.specs.Ordering.{int_cmp}
+use Rattle.book_model.specs.Std.{IsStrictlySortedBy, int_cmp}
 use Rattle.book_model.specs.Words.{IsDay, IsPriced, terms_in, total_of, Book, most_held, most_cost}
 use Rattle.book_model.specs.Words.{last_period, Period, period_by, Records, Naming, IsUsageRecord}
 use Rattle.book_model.specs.Words.{AcceptedTerms, price_in, are_rising, members, has, IsSound}

@@ -1,14 +1,11 @@
 -- What a ledger looks at for a new record: by the book, and by the tables alone.
 use Rattle.std.specs.Prelude.{ℕ, ◌==◌, Bool, false, ◌||◌, if◌then◌else◌, List, [], ◌∷◌, map, filter}
-use Rattle.std.specs.Prelude.{length, Option, Some, None}
-use Rattle.std.specs.FinMap.{entries, values, get}
-use Rattle.std.specs.List.{last_or, list_any}
-use Rattle.std.specs.Option.{option_map, option_map_or, option_and_then}
-use Rattle.tariff_rules.specs.declared.priced.Priced.{Priced}
-use Rattle.book_model.specs.Words.{Book, charged_of, share_identity, is_chosen, Naming, name_of}
-use Rattle.book_model.specs.Words.{same_bytes, Rulings, price_in, last_close, members, those, has}
-use Rattle.book_core.specs.declared.effects.Member.{Member}
-use Rattle.book_core.specs.declared.effects.View.{View}
+use Rattle.std.specs.Prelude.{length, Option, Some, None, option_map, option_and_then}
+use Rattle.book_model.specs.Std.{entries, values, get, last_or, list_any, option_map_or}
+use Rattle.book_model.specs.Words.{Priced, Book, charged_of, share_identity, is_chosen, Naming}
+use Rattle.book_model.specs.Words.{name_of, same_bytes, Rulings, price_in, last_close, members}
+use Rattle.book_model.specs.Words.{those, has}
+use Rattle.book_core.specs.Words.{Member, View}
 use Rattle.table_model.specs.Tables.{RecordRow, RecordTable, ChoiceTable, Tables}
 
 -- the only element of a list, if it has just one

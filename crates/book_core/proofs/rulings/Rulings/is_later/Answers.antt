@@ -1,9 +1,8 @@
 use Rattle.std.proofs.Common.{◌∙◌, ◌&&◌, sym, ap, Bool, List, w32, int_lt, ℤ}
-use Rattle.std.proofs.lemmas.Int.{to_z-of_z}
-use Rattle.std.specs.List.{list_all}
+use Rattle.book_model.proofs.Std.{to_z-of_z, list_all}
 use Rattle.book_model.specs.Words.{AcceptedTerms, is_after, last_close}
-use Rattle.book_model.proofs.DayLemmas.{day_fits}
-use Rattle.book_core.specs.OfficeRulings.{ruled_in}
+use Rattle.book_model.proofs.Lemmas.{day_fits}
+use Rattle.book_core.specs.Words.{ruled_in}
 use Rattle.book_core.proofs.rulings.Rulings.is_later.Goals as goal
 
 -- the first day of each tariff is before a day

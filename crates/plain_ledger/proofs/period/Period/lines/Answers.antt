@@ -1,12 +1,10 @@
-use Rattle.std.proofs.Common.{◌≡◌, ◌∙◌, ◌++◌, [], ◌∷◌, sym, ap, map}
-use Rattle.std.specs.List.{filter_map, cons_option}
+use Rattle.std.proofs.Common.{◌≡◌, ◌∙◌, ◌++◌, [], ◌∷◌, sym, ap, map, filter_map, append-nil}
 use Rattle.std.specs.Map.Iter.{deref_pair}
-use Rattle.std.proofs.lemmas.List.{map-append, append-nil}
-use Rattle.std.proofs.lemmas.List.Elements.{filter_map-append}
+use Rattle.book_model.proofs.Std.{cons_option, map-append, filter_map-append}
 use Rattle.plain_ledger.specs.Plain.{Entry}
 use Rattle.plain_ledger.specs.Treatments.{line_at, treatment_in}
-use Rattle.plain_ledger.proofs.period.Period.lines.Goals as goal
 use Rattle.plain_ledger.proofs.period.Period.lines.Goals.{After-line}
+use Rattle.plain_ledger.proofs.period.Period.lines.Goals as goal
 
 -- the line of one more record comes after those of the others
 more : (c : After-line)

@@ -1,15 +1,14 @@
 use Rattle.std.proofs.Common.{◌≡◌, ◌∙◌, sym, ap, subst, Some, length}
-use Rattle.std.specs.List.Sorted.{IsStrictlySortedBy}
+use Rattle.book_model.proofs.Std.{IsStrictlySortedBy}
 use Rattle.book_model.specs.Words.{Rulings, by_bytes, has, with_tariff}
 use Rattle.plain_ledger.specs.Plain.{AreBooked, ruled_by, with_choices, AllPass}
 use Rattle.plain_ledger.specs.PlainBook.{book_in, book_with}
 use Rattle.plain_ledger.proofs.RepricingLemmas.{book_stays, held_stay, names_stay, still_named-anew}
-use Rattle.book_model.proofs.LatestLemmas.{later-before}
-use Rattle.book_model.proofs.TestLemmas.{tariff_passes}
+use Rattle.book_model.proofs.Lemmas.{later-before, tariff_passes}
 use Rattle.plain_ledger.proofs.TariffLemmas.{fits_anew, kept_anew}
 use Rattle.plain_ledger.proofs.plain.PlainLedger.keep_tariff.Given.{Over}
-use Rattle.plain_ledger.proofs.plain.PlainLedger.keep_tariff.Goals as goal
 use Rattle.plain_ledger.proofs.plain.PlainLedger.keep_tariff.Goals.{After-put_tariff}
+use Rattle.plain_ledger.proofs.plain.PlainLedger.keep_tariff.Goals as goal
 
 -- the rulings then
 ruled : (g : Over) (c : After-put_tariff g)

@@ -3,9 +3,7 @@ use Rattle.std.proofs.lemmas.Result.{err_from_is_err_and}
 use Rattle.book_model.specs.Words.{Accepted, Memory, accept_outcome}
 use Rattle.book_core.proofs.OpenAnswers.{accept_open}
 use Rattle.plain_ledger.specs.PlainBook.{book_in, naming_in, seen_in}
-use Rattle.book_core.specs.Submissions.{Accepts, Takes, first_of, records_in}
-use Rattle.book_core.specs.Transition.{IsTransition}
-use Rattle.book_core.specs.Calls.{Calls}
+use Rattle.book_core.specs.Words.{Accepts, Takes, first_of, records_in, IsTransition, Calls}
 use Rattle.plain_ledger.proofs.PlainCallLemmas.{plain_call, call_in_memory}
 use Rattle.book_core.proofs.SubmissionLemmas.{accepts_one, refused_one, first_is, some_in}
 use Rattle.book_core.proofs.TransitionLemmas.{work_as}

@@ -1,0 +1,21 @@
+-- The words of ledgers, from one place, for the crates above. Declares nothing.
+pub use Rattle.book_core.specs.Calls.{Calls, IsCall, LeavesOpen, Makes, Reopens, is_reopen}
+pub use Rattle.book_core.specs.Calls.{is_store, listed}
+pub use Rattle.book_core.specs.Effects.{charge_held, charges, choice_effects, effects_of, is_after}
+pub use Rattle.book_core.specs.Effects.{unmarks, withdraw}
+pub use Rattle.book_core.specs.Follow.{MakesAnswered}
+pub use Rattle.book_core.specs.Identities.{identity_in}
+pub use Rattle.book_core.specs.KeyedRows.{keyed_rows, with_price}
+pub use Rattle.book_core.specs.Ledgers.{Books, IsOpenAt, MayHave, Seen, books, in_memory, may_have}
+pub use Rattle.book_core.specs.OfficeRulings.{ruled_in}
+pub use Rattle.book_core.specs.Room.{if_room}
+pub use Rattle.book_core.specs.Submissions.{Accepts, Takes, first_of, records_in}
+pub use Rattle.book_core.specs.Transition.{IsTransition, NoEvent, Then, Transition}
+pub use Rattle.book_core.specs.declared.effects.ChoiceEffects.{ChoiceEffects}
+pub use Rattle.book_core.specs.declared.effects.DayChange.{DayChange}
+pub use Rattle.book_core.specs.declared.effects.DayChange.TheVariants.{Add, Take}
+pub use Rattle.book_core.specs.declared.effects.Effects.{Effects}
+pub use Rattle.book_core.specs.declared.effects.LineChange.TheVariants.{AddMinus, AddPlus}
+pub use Rattle.book_core.specs.declared.effects.LineChange.TheVariants.{DropMinus, DropPlus}
+pub use Rattle.book_core.specs.declared.effects.Member.{Member}
+pub use Rattle.book_core.specs.declared.effects.View.{View}
