@@ -1,7 +1,7 @@
 -- The texts about a closed period stay.
 use Rattle.std.proofs.Common.{◌≡◌, ℕ, List, ◌++◌, Option, Result, Ok, Err, refl}
 use Rattle.tariff_rules.specs.declared.fault.TariffFault.{TariffFault}
-use Rattle.book_model.specs.Words.{Event, IsMadeByCalls, Naming, Terms, book_after, terms_in}
+use Rattle.book_model.specs.Words.{Book, Event, IsMadeByCalls, Naming, Terms, book_after, terms_in}
 use Rattle.book_reports.specs.declared.report.PeriodReport.{PeriodReport}
 use Rattle.book_reports.specs.declared.report.PeriodReport.TheVariants.{AdjustmentList, Statement}
 use Rattle.book_reports.specs.declared.report.PeriodReport.TheVariants.{AdjustmentTable}
@@ -22,24 +22,24 @@ use Rattle.book_laws.proofs.ClosedLemmas.{closed_stays}
 use Rattle.book_laws.proofs.OtherWorkLemmas.{what_if}
 use Rattle.book_laws.proofs.StayLemmas.{details_stay}
 
+-- a statement, or adjustments, of a period that is read alike
+pub period_stays : (naming : Naming) (number : ℕ) (old new : Book)
+    → IsReadAlike naming number old new → (report : PeriodReport) (centre : Option (List ℕ))
+    → period_answer naming report number centre new ≡ period_answer naming report number centre old
+period_stays naming number old new alike Statement centre =
+    λ i. shown_by (period_statement centre number (alike.day i)) (alike.rows i).answer
+period_stays naming number old new alike StatementTable centre =
+    λ i. shown_by (period_statement_table centre number) (alike.rows i).answer
+period_stays naming number old new alike AdjustmentList centre =
+    λ i. shown_by (period_adjustments centre number (alike.day i)) (alike.lines i).answer
+period_stays naming number old new alike AdjustmentTable centre =
+    λ i. shown_by (period_adjustment_table centre number) (alike.lines i).answer
+
 module _ (naming : Naming) (later earlier : List Event)
     (answered : IsMadeByCalls naming (later ++ earlier)) (number : ℕ)
     (closed : IsClosed number (book_after earlier)) where
   read : IsReadAlike naming number (book_after earlier) (book_after (later ++ earlier))
   read = closed_stays naming later earlier number answered closed
-
-  -- a statement, or adjustments
-  period_stays : (report : PeriodReport) (centre : Option (List ℕ))
-      → period_answer naming report number centre (book_after (later ++ earlier))
-      ≡ period_answer naming report number centre (book_after earlier)
-  period_stays Statement centre =
-      λ i. shown_by (period_statement centre number (read.day i)) (read.rows i).answer
-  period_stays StatementTable centre =
-      λ i. shown_by (period_statement_table centre number) (read.rows i).answer
-  period_stays AdjustmentList centre =
-      λ i. shown_by (period_adjustments centre number (read.day i)) (read.lines i).answer
-  period_stays AdjustmentTable centre =
-      λ i. shown_by (period_adjustment_table centre number) (read.lines i).answer
 
   -- what the period would have cost by these terms
   form_stays : (form : StatementForm) (centre : Option (List ℕ)) (digest : List ℕ) (terms : Terms)
@@ -67,7 +67,8 @@ what_if_stays naming later earlier asked text (Ok terms) answered closed =
 pub closed_texts_stay : ClosedTextsStay
 closed_texts_stay = record {
   reports = λ naming report number centre later earlier answered closed.
-      period_stays naming later earlier answered number closed report centre;
+      period_stays naming number (book_after earlier) (book_after (later ++ earlier))
+      (closed_stays naming later earlier number answered closed) report centre;
   bills = λ naming form number centre later earlier answered closed.
       let read = closed_stays naming later earlier number answered closed in
       let bill = closed_bills_stay naming later earlier number centre answered closed in

@@ -1,25 +1,26 @@
 -- The laws of runs, from those of the histories that runs make.
-use Rattle.std.proofs.Common.{◌≡◌, ◌∙◌, ℕ, List, refl, sym, ap, subst, Some, pos, ℤ, option_map}
-use Rattle.book_model.proofs.Std.{result_ok}
-use Rattle.book_model.specs.Words.{ChargeRow, IsMadeByCalls, Book, new_book, is_undisputed, Event}
-use Rattle.book_model.specs.Words.{book_after, Outcome, Naming}
+use Rattle.std.proofs.Common.{◌≡◌, ◌∙◌, List, None, Ok, refl, sym, ap, subst, pos, ℤ}
+use Rattle.book_model.specs.Words.{IsMadeByCalls, Book, new_book, is_undisputed, Event, book_after}
+use Rattle.book_model.specs.Words.{Naming}
 use Rattle.book_model.proofs.OrderLemmas.{order_is_free}
 use Rattle.book_model.proofs.Lemmas.{has_those, books_follow_history}
 use Rattle.book_laws.specs.ClosedPeriods.{IsReadAlike}
 use Rattle.book_laws.specs.HistoryLaws.{IsBalanced}
 use Rattle.book_laws.specs.NetCounts.{one_if}
 use Rattle.book_laws.proofs.ClosedLemmas.{closed_stays}
+use Rattle.book_laws.proofs.ClosedTexts.{period_stays}
 use Rattle.book_laws.proofs.NetLemmas.{charged_once}
 use Rattle.book_laws.proofs.ReadLemmas.{conserved}
 use Rattle.book_core.proofs.TransitionLemmas.{after_all-append}
-use Rattle.book_reports.specs.BookTexts.{open_statement, dispute_text}
-use Rattle.report_texts.specs.Statements.{statement_text}
+use Rattle.book_reports.specs.BookTexts.{open_statement, report_answer}
+use Rattle.book_reports.specs.declared.report.PeriodReport.TheVariants.{Statement}
+use Rattle.book_reports.specs.declared.report.Report.TheVariants.{OfPeriod}
 use Rattle.office.proofs.RunLemmas.{runs_answered}
 use Rattle.book_laws.specs.RunLaws.{RunsMakeHistory, RunsFollowHistory, ChargesOnce, RunsChargeOnce}
 use Rattle.book_laws.specs.RunLaws.{RunsConserve, RunOrderIsFree, ClosedStatementsStay}
 use Rattle.book_laws.specs.RunLaws.{OpenStatementIsFirst}
 use Rattle.book_laws.specs.Runs.{Run, IsRunAfter, book_after_run, history_with}
-use Rattle.book_laws.specs.Statements.{statement_of, HaveSameTexts}
+use Rattle.book_laws.specs.Statements.{HaveSameTexts}
 
 -- the book that a run leaves is that of the history with it
 left_after : (history : List Event) (run : Run)
@@ -66,12 +67,11 @@ runs_conserve naming history run after =
     subst (IsBalanced naming) (sym (left_after history run))
     (conserved naming (history_with history run) (next_answered naming history run after))
 
--- equal books have equal texts
+-- equal books have equal reports
 tell_alike : (one other : Book) → one ≡ other → HaveSameTexts one other
 tell_alike one other same = record {
   book = same;
-  statements = λ number. ap (λ book. statement_of book number) same;
-  disputes = ap dispute_text same;
+  reports = λ naming report. ap (report_answer naming report) same;
 }
 
 -- the law of cuts and order
@@ -83,13 +83,6 @@ run_order_is_free naming before_one before_other one other after_one after_other
     between
     ∙ sym (left_after before_other other))
 
--- periods that are read alike have one statement
-same_statement : (naming : Naming) (number : ℕ) (old new : Book)
-    → IsReadAlike naming number old new → statement_of new number ≡ statement_of old number
-same_statement naming number old new alike =
-    let rows = ap (λ (outcome : Outcome (List ChargeRow)). result_ok outcome.answer) alike.rows in
-    λ i. option_map (statement_text number (alike.day i)) (rows i)
-
 -- the law of closed statements
 pub closed_statements_stay : ClosedStatementsStay
 closed_statements_stay naming history run number after closed =
@@ -100,13 +93,13 @@ closed_statements_stay naming history run number after closed =
     subst (IsReadAlike naming number old) (sym (left_after history run)) read in
     record {
       read = alike;
-      statement = same_statement naming number old (book_after_run history run) alike;
+      reports = period_stays naming number old (book_after_run history run) alike;
     }
 
 -- the law of the open statement
 pub open_statement_is_first : OpenStatementIsFirst
-open_statement_is_first book never =
+open_statement_is_first naming book never =
     let closed_by : List ℤ → Book = λ days.
     record book { rulings = record book.rulings { closes = days } } in
-    subst (λ days. statement_of (closed_by days) 1 ≡ Some (open_statement (closed_by days)))
-    (sym never) refl
+    subst (λ days. report_answer naming (OfPeriod Statement 1 None) (closed_by days)
+    ≡ Ok (open_statement (closed_by days))) (sym never) refl

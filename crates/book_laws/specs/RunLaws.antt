@@ -1,14 +1,16 @@
 -- The laws of runs: what any list of requests leaves behind.
-use Rattle.std.specs.Prelude.{◌≡◌, ◌&&◌, ℕ, Bool, List, [], ◌∷◌, None, Some, pos}
+use Rattle.std.specs.Prelude.{◌≡◌, ◌&&◌, ℕ, Bool, List, [], ◌∷◌, None, Ok, pos}
 use Rattle.book_model.specs.Words.{Terms, has, Naming, is_undisputed, Book, new_book, flat_book}
 use Rattle.book_model.specs.Words.{all_periods, Event, RulingGiven, TariffAccepted, book_after}
 use Rattle.book_model.specs.Words.{book_of, IsMadeByCalls, rulings_in, record_batches}
 use Rattle.book_laws.specs.NetCounts.{net_count, one_if}
 use Rattle.book_laws.specs.HistoryLaws.{IsBalanced}
 use Rattle.book_laws.specs.ClosedPeriods.{IsClosed}
-use Rattle.book_reports.specs.BookTexts.{open_statement}
+use Rattle.book_reports.specs.BookTexts.{open_statement, report_answer}
+use Rattle.book_reports.specs.declared.report.PeriodReport.TheVariants.{Statement}
+use Rattle.book_reports.specs.declared.report.Report.TheVariants.{OfPeriod}
 use Rattle.book_laws.specs.Runs.{Run, IsRunOn, IsRunAfter, book_after_run, history_with}
-use Rattle.book_laws.specs.Statements.{statement_of, HaveSameTexts, StaysClosed}
+use Rattle.book_laws.specs.Statements.{HaveSameTexts, StaysClosed}
 
 -- New books have no history, and new books under one tariff have only that tariff: any run on them
 -- is a run after it. And calls made the history that goes on with a run, so another run may follow.
@@ -51,7 +53,7 @@ RunsConserve =
 
 -- It makes no difference how records are cut into dumps, requests and runs, in which order they
 -- come between two rulings, and how often: histories with the same rulings in the same order, and
--- the same sets of records between neighbouring rulings, leave books with the same texts.
+-- the same sets of records between neighbouring rulings, leave books with the same reports.
 abbrev pub RunOrderIsFree : Type 0
 RunOrderIsFree =
     (naming : Naming) (before_one before_other : List Event) (one other : Run)
@@ -61,14 +63,15 @@ RunOrderIsFree =
     ≡ record_batches (history_with before_other other)
     → HaveSameTexts (book_after_run before_one one) (book_after_run before_other other)
 
--- A closed statement never changes: whatever requests are run after a period is closed.
+-- Closed statements and adjustments never change, whatever requests are run after the close.
 abbrev pub ClosedStatementsStay : Type 0
 ClosedStatementsStay =
     (naming : Naming) (history : List Event) (run : Run) (number : ℕ)
     → IsRunAfter naming history run → IsClosed number (book_after history)
     → StaysClosed naming number (book_after history) (book_after_run history run)
 
--- That statement is the one that is written for books that were never closed, for their one period.
+-- Of books that were never closed the statement of their one period is the one that a trial shows.
 abbrev pub OpenStatementIsFirst : Type 0
 OpenStatementIsFirst =
-    (book : Book) → book.rulings.closes ≡ [] → statement_of book 1 ≡ Some (open_statement book)
+    (naming : Naming) (book : Book) → book.rulings.closes ≡ []
+    → report_answer naming (OfPeriod Statement 1 None) book ≡ Ok (open_statement book)

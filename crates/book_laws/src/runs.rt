@@ -34,18 +34,17 @@ pub fn runs_conserve()
 {}
 
 /// However records are cut into dumps, requests and runs, repeated or reordered between two
-/// rulings: the books are the same, and so are their statements and their list of disputes.
+/// rulings: the books are the same, and so are all reports of them.
 pub fn run_order_is_free()
     ensures { RunOrderIsFree }
 {}
 
-/// A closed statement never changes, whatever requests are run after the close.
+/// Closed statements and adjustments never change, whatever requests are run after the close.
 pub fn closed_statements_stay()
     ensures { ClosedStatementsStay }
 {}
 
-/// The statement that these laws speak of is the one that is written, for books that were never
-/// closed.
+/// Of books that were never closed the statement of their one period is the one that a trial shows.
 pub fn open_statement_is_first()
     ensures { OpenStatementIsFirst }
 {}
