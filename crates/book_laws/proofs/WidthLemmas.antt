@@ -7,13 +7,13 @@ use Rattle.std.proofs.Common.{option_map}
 use Rattle.std.proofs.lemmas.Fmt.{length-decimal-le}
 use Rattle.std.proofs.lemmas.List.{length-replicate}
 use Rattle.std.proofs.lemmas.List.Sums.{sum_by-le}
-use Rattle.book_model.proofs.Std.{option_map_or, and_parts, nat_tests, All-map}
+use Rattle.book_model.proofs.Std.{and_parts, nat_tests, All-map}
 use Rattle.smf_text.specs.Day.{day_text_of}
 use Rattle.book_model.specs.Words.{IsName, Priced, LedgerFault, NoSuchPeriod, ChargeRow, RowKey}
 use Rattle.book_model.specs.Words.{Book, Naming, IsPriced, Period, Records, charged_at, key_of}
-use Rattle.book_model.specs.Words.{AreAmong, keys_of, members, period_of, price_in, prices, row_at}
+use Rattle.book_model.specs.Words.{AreAmong, keys_of, most_held, period_of, prices, row_at}
 use Rattle.book_model.specs.Words.{rows_for, rows_of}
-use Rattle.book_model.proofs.Lemmas.{by_key_total, by_key_exact, length-sum_by, sum_by-filter_map}
+use Rattle.book_model.proofs.Lemmas.{by_key_total, by_key_exact, length-sum_by}
 use Rattle.book_laws.proofs.RowSums.{sum_by-rows}
 use Rattle.book_core.proofs.ListLimits.{All-members}
 use Rattle.table_model.proofs.ListLemmas.{held_in}
@@ -22,7 +22,7 @@ use Rattle.report_texts.specs.Columns.{seconds_text}
 use Rattle.report_texts.specs.Statements.{heading, key_columns, number_columns, row_line}
 use Rattle.report_texts.specs.Statements.{sum_columns, total_line}
 use Rattle.table_model.specs.Words.{IsReadable}
-use Rattle.table_model.proofs.PriceSums.{all_priced, part_within, some_within}
+use Rattle.table_model.proofs.PriceSums.{all_priced, few_prices, part_within, some_within}
 use Rattle.book_laws.specs.StatementWidths.{AreAligned, StatementsAreAligned}
 
 -- a text that fits fills its column
@@ -224,13 +224,9 @@ module _ (naming : Naming) (book : Book) (whole : IsReadable naming book) where
   -- what all held records cost fits
   pub held_fit : FitTogether (prices book.rulings book.held)
   held_fit =
-      let all : List (List ℕ) = members book.held in
       let its : List Priced = prices book.rulings book.held in
       let each = all_priced naming book whole book.held (λ bytes there. there) in
-      let ones = length-sum_by its ∙ sum_by-filter_map (λ _. 1) (price_in book.rulings) all in
-      let most = sum_by-le (λ bytes. option_map_or (λ (one : Priced). 1) (price_in book.rulings bytes) 0)
-      1 all (λ k d within. at_most_one (price_in book.rulings _)) in
-      let few = whole.limits.held in
+      let few : length its ≤ most_held = few_prices naming book whole in
       let each_cpu : All (λ one. one.cpu ≤ 2 ^ 33) its = λ k d within. (each k d within).cpu in
       let each_excp : All (λ one. one.excp ≤ 2 ^ 32) its =
       λ k d within. let below = (each k d within).excp in omega arith in
@@ -243,10 +239,6 @@ module _ (naming : Naming) (book : Book) (whole : IsReadable naming book) where
         blocks_fit = omega arith;
         amount_fits = omega arith;
       }
-    where
-      at_most_one : (given : Option Priced) → option_map_or (λ (one : Priced). 1) given 0 ≤ 1
-      at_most_one None = omega arith
-      at_most_one (Some one) = omega arith
 
   -- so the lines are even of the rows for some of them
   some_even : (some : Records) → AreAmong some book.held → AreAligned (rows_for book.rulings some)

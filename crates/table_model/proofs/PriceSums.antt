@@ -67,7 +67,7 @@ module _ (naming : Naming) (book : Book) (whole : IsReadable naming book) where
           ] refl
 
   -- there are no more prices than records may be held
-  few_prices : length (costs book.held) ≤ most_held
+  pub few_prices : length (costs book.held) ≤ most_held
   few_prices =
       let given = given_few (price_in book.rulings) (members book.held) in
       let few = whole.limits.held in
