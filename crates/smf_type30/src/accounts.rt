@@ -1,4 +1,5 @@
-ghost use Rattle.std.specs.Prelude.{◌≡◌, ◌≤◌, length, drop, is_some, IsNone, IsSome, IfSome, option_copied};
+ghost use Rattle.std.specs.Prelude.{◌≡◌, ◌≤◌, ◌∷◌, ◌++◌, length, drop, is_some, IsNone, IsSome};
+ghost use Rattle.std.specs.Prelude.{IfSome, option_copied};
 ghost use Rattle.smf_type30.specs.Layout.{triplets_end};
 ghost use Rattle.smf_type30.specs.Section.{HasTriplet, offset_of};
 ghost use Rattle.smf_type30.specs.Accounts.{fields_in, nth_of, accounts_of, account_of};
@@ -12,6 +13,8 @@ use crate::section::{count, offset};
 pub fn split_account(text: &[u8]) -> Option<(&[u8], &[u8])>
     ensures none { IsNone result → BeginsWithNone text.now }
     ensures some { IfSome result (λ split. BeginsWith text.now split.0.now split.1.now) }
+    ensures whole { IfSome result (λ split.
+        text.now ≡ length split.0.now ∷ split.0.now ++ split.1.now) }
 {
     let (len, rest) = text.split_first()?;
     rest.split_at_checked(*len as usize)
