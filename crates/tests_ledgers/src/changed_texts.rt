@@ -4,6 +4,7 @@ use crate::answers::push_fault;
 use crate::text_writing::Writes;
 use crate::texts::{BookText, TextOf};
 use book_core::{Ledger, LedgerFault};
+use book_reports::{PeriodReport, Report};
 use std::alloc::Global;
 use std::collections::BTreeMap;
 use tests_scripts::{AnswerText, Limits};
@@ -94,7 +95,8 @@ pub(crate) fn push_changes<L: Ledger>(
     out: &mut AnswerText,
 ) {
     for period in 0..=period_after_open(ledger) {
-        let (statement, adjustments) = (BookText::Statement(period), BookText::Adjustments(period));
+        let statement = BookText::of_period(PeriodReport::Statement, period);
+        let adjustments = BookText::of_period(PeriodReport::AdjustmentList, period);
         push_changed_of(&mut shown_texts.statements, period, ledger, statement, out);
         push_changed_of(
             &mut shown_texts.adjustments,
@@ -104,6 +106,8 @@ pub(crate) fn push_changes<L: Ledger>(
             out,
         );
     }
-    push_changed(&mut shown_texts.disputes, ledger, BookText::Disputes, out);
-    push_changed(&mut shown_texts.periods, ledger, BookText::Periods, out);
+    let disputes = BookText::Report(Report::DisputeList);
+    push_changed(&mut shown_texts.disputes, ledger, disputes, out);
+    let periods = BookText::Report(Report::PeriodList);
+    push_changed(&mut shown_texts.periods, ledger, periods, out);
 }
