@@ -5,7 +5,6 @@ use crate::fields::push_field;
 use crate::joiner_calls::push_joined;
 use crate::pieces::{push_pieces, split_of};
 use crate::spelled_words::text_of;
-use crate::stream_calls::{push_reads, push_writes};
 use crate::tariffs::{
     push_entry_of, push_file, push_file_of, push_flat, push_message, push_prices,
 };
@@ -24,7 +23,7 @@ pub(crate) struct RecordLines {
     file: String,
 }
 
-/// Adds the answer to a line on texts and days, or on a sink.
+/// Adds the answer to a line on texts and days.
 fn push_of_texts(out: &mut AnswerText, ask: Ask<'_>) -> LineResult {
     match ask.verb {
         "packed" => push_packed(out, ask.words),
@@ -33,7 +32,6 @@ fn push_of_texts(out: &mut AnswerText, ask: Ask<'_>) -> LineResult {
         "date" => push_date(out, ask.words),
         "name" => push_name(out, ask.words),
         "encode" => push_encoded(out, ask.words),
-        "sink" => push_writes(out, ask.words),
         "say" => push_message(out, ask.words),
         _ => Err(LineFault::NotUnderstood),
     }
@@ -58,7 +56,6 @@ fn push_of_word(named: &Named, out: &mut AnswerText, ask: Ask<'_>) -> LineResult
     let dump = named.read_dump(parts)?;
     match ask.verb {
         "field" => push_field(out, word, &dump),
-        "source" => push_reads(out, word, &dump),
         _ => push_price(named, out, word, &dump),
     }
 }
@@ -78,7 +75,7 @@ fn push_alone(named: &Named, out: &mut AnswerText, ask: Ask<'_>) -> LineResult {
         "file" | "changed" | "repeated" => push_file_of(named, out, ask),
         "entry" => push_entry_of(named, out, ask),
         "header" | "class" | "work" => push_of_dump(named, out, ask),
-        "field" | "price" | "source" => push_of_word(named, out, ask),
+        "field" | "price" => push_of_word(named, out, ask),
         "flat" => push_flat(named, out, ask.words),
         _ => push_of_texts(out, ask),
     }

@@ -30,8 +30,6 @@
 //! | `say memory` | what is said where there is no memory for a tariff file |
 //! | `flat CPU EXCP RECORD DUMP` | the tariff of three rates, and what records cost by it |
 //! | `price NAME DUMP` | what records cost by a tariff file |
-//! | `source SIZE,.. DUMP` | each read of a source, and what is left |
-//! | `sink SIZE WRITES HEX..` | each write to a sink over a writer with these limits |
 #![tactic(auto)]
 
 mod dump_reader;
@@ -41,7 +39,6 @@ mod joiner_calls;
 mod lines;
 mod pieces;
 mod spelled_words;
-mod stream_calls;
 mod tariffs;
 mod texts;
 

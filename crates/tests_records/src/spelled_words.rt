@@ -4,7 +4,7 @@ use std::alloc::{AllocError, Global};
 use tests_scripts::{LineFault, LineResult, push_hex};
 
 /// The bytes that a word spells.
-pub(crate) fn hex_of(alloc: Global, word: &str) -> LineResult<Vec<u8>> {
+fn hex_of(alloc: Global, word: &str) -> LineResult<Vec<u8>> {
     let mut bytes = Vec::new(alloc);
     push_hex(&mut bytes, word)?;
     Ok(bytes)
