@@ -6,7 +6,7 @@ use crate::one_book::{ALWAYS_THERE, AWAY_TWICE, OneBook};
 use crate::sample::Record;
 use chargectl::{Status, command};
 use std::io;
-use std::io::{ErrorKind, Write};
+use std::io::Write;
 use std::net::{Shutdown, TcpListener, TcpStream};
 use std::test::Fail;
 use std::time::Duration;
@@ -205,42 +205,6 @@ impl Write for Clients<'_> {
     }
 }
 
-/// Clients whose server can't say a word after the first.
-static CLIENTS_OF_A_CLOSED_OUTPUT: [Client; 3] = [
-    ("GET /periods HTTP/1.1\r\n\r\n", None, Parting::Reads),
-    ("GET /periods HTTP/1.1\r\n\r\n", None, Parting::Reads),
-    ("GET /periods HTTP/1.1\r\n\r\n", None, Parting::Reads),
-];
-
-/// An output that takes the first line, and is closed from then on; and its clients, which all
-/// connect as it takes that line, and send a request each.
-#[derive(Drop)]
-struct ClosedOutput<'a> {
-    rt: &'a HostRuntime,
-    port: u16,
-    clients: Vec<TcpStream>,
-    is_closed: bool,
-}
-
-impl Write for ClosedOutput<'_> {
-    fn write(&mut self, bytes: &[u8]) -> io::Result<usize> {
-        if self.is_closed {
-            return Err(ErrorKind::BrokenPipe.into());
-        }
-        Ok(bytes.len())
-    }
-
-    /// The port was taken.
-    fn flush(&mut self) -> io::Result<()> {
-        for client in CLIENTS_OF_A_CLOSED_OUTPUT.as_slice() {
-            let stream = connected(self.rt, self.port, client)?;
-            self.clients.push(stream)?;
-        }
-        self.is_closed = true;
-        Ok(())
-    }
-}
-
 /// A port that nothing has taken.
 fn free_port(rt: &HostRuntime) -> io::Result<u16> {
     Ok(TcpListener::bind(rt, "127.0.0.1:0")?.local_addr()?.port())
@@ -302,40 +266,5 @@ fn clients_are_answered_while_the_books_are_away(rt: HostRuntime) -> Result<(), 
     let book = OneBook::new(rt.alloc(), AWAY_TWICE);
     let seen = seen_by(&rt, book, CLIENTS_OF_AWAY_BOOKS.as_slice())?;
     assert_eq!(rt; str::from_utf8(&seen)?, SEEN_OF_AWAY_BOOKS);
-    Ok(())
-}
-
-/// A client reads an answer that begins so.
-fn is_answered(rt: &HostRuntime, client: &TcpStream) -> io::Result<bool> {
-    let answer = io::read_to_string(rt.alloc(), client)?;
-    Ok(answer.as_str().starts_with("HTTP/1.1 200 OK\r\n"))
-}
-
-#[test]
-fn a_closed_output_ends_no_service(rt: HostRuntime) -> Result<(), Fail> {
-    let book = OneBook::new(rt.alloc(), ALWAYS_THERE);
-    let mut repository = book.ok_or("there is no memory for a book")?;
-    let port = free_port(&rt)?;
-    let words = serve_words(&rt, port, CLIENTS_OF_A_CLOSED_OUTPUT.as_slice().len())?;
-    let mut errors = Vec::new(rt.alloc());
-    let output = ClosedOutput {
-        rt: &rt,
-        port,
-        clients: Vec::new(rt.alloc()),
-        is_closed: false,
-    };
-    let (status, output) = command(
-        &rt,
-        &mut repository,
-        &words,
-        io::empty(),
-        output,
-        &mut errors,
-    );
-    assert!(rt; status == Status::Io);
-    assert!(rt; errors.as_slice() == b"chargectl: io\n".as_slice());
-    for client in &output.clients {
-        assert!(rt; is_answered(&rt, client)?);
-    }
     Ok(())
 }
