@@ -5,7 +5,7 @@ use std::io;
 use std::num::ParseIntError;
 
 /// Why a line is not answered.
-#[derive(Clone, Copy, Debug, PartialEq, Eq)]
+#[derive(Clone, Copy)]
 pub enum LineFault {
     /// It can't be read.
     NotUnderstood,
