@@ -15,7 +15,7 @@ use std::time::Duration;
 const READ_TIMEOUT: u64 = 5;
 
 /// What a client does when it has sent its request.
-#[derive(Clone, Copy, PartialEq, Eq)]
+#[derive(Clone, Copy)]
 enum Parting {
     /// It sends no more, and reads its answer.
     Reads,
@@ -140,7 +140,7 @@ fn connected(rt: &HostRuntime, port: u16, client: &Client) -> io::Result<TcpStre
     if let Some(record) = record {
         stream.write_all(&record.bytes())?;
     }
-    if *parting == Parting::Reads || *parting == Parting::Ends {
+    if matches!(*parting, Parting::Reads | Parting::Ends) {
         stream.shutdown(Shutdown::Write)?;
     }
     Ok(stream)
@@ -185,8 +185,8 @@ impl Clients<'_> {
         self.connected = self.connected.saturating_add(1);
         let stream = connected(self.rt, self.port, client)?;
         let (_, _, parting) = client;
-        if *parting != Parting::Leaves {
-            self.now = Some((stream, *parting == Parting::Reads));
+        if !matches!(*parting, Parting::Leaves) {
+            self.now = Some((stream, matches!(*parting, Parting::Reads)));
         }
         Ok(())
     }
