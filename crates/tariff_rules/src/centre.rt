@@ -16,7 +16,7 @@ use std::marker::Model;
 const UNASSIGNED_LETTERS: [u8; MAX_NAME] = *b"UNASSIGNED\0\0\0\0\0\0";
 
 /// The field of a record that a centre rule looks at.
-#[derive(Clone, Copy, Debug)]
+#[derive(Clone, Copy)]
 pub(crate) enum Field {
     /// An accounting field, counted from 1.
     Account(u16),
@@ -38,7 +38,7 @@ impl Field {
 
 /// What a centre pays for: the records with a field that begins with the prefix, in bytes of code
 /// page 037.
-#[derive(Debug, Drop)]
+#[derive(Drop)]
 pub(crate) struct CentreRule {
     centre: Name,
     field: Field,

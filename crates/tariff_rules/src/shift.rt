@@ -28,7 +28,7 @@ const BASE_LETTERS: [u8; MAX_NAME] = *b"BASE\0\0\0\0\0\0\0\0\0\0\0\0";
 const HUNDREDTHS_PER_MINUTE: u32 = 6000;
 
 /// A shift, and what it charges.
-#[derive(Clone, Copy, Debug)]
+#[derive(Clone, Copy)]
 pub(crate) struct Shift {
     pub(crate) name: Name,
     /// In percent of the rates.
@@ -49,7 +49,7 @@ impl Shift {
 
 /// When a shift is worked: its weekdays, Monday 1 to Sunday 7, its first minute of the day, and the
 /// first after it.
-#[derive(Debug, Drop)]
+#[derive(Drop)]
 pub(crate) struct ShiftRule {
     shift: Shift,
     days: Vec<u8>,

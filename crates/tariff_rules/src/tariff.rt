@@ -23,7 +23,7 @@ use std::alloc::Global;
 use std::marker::Model;
 
 /// A tariff: what records cost from a day on.
-#[derive(Debug, Drop)]
+#[derive(Drop)]
 pub struct Tariff {
     effective: i32,
     step: Rates,

@@ -28,7 +28,7 @@ pub const MAX_SHIFTS: usize = 64;
 pub const MAX_CENTRES: usize = 2000;
 
 /// What a tariff file says before its lists of rules.
-#[derive(Clone, Copy, Debug)]
+#[derive(Clone, Copy)]
 pub(super) struct Head {
     effective: i32,
     step: Rates,
