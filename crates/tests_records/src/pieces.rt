@@ -67,98 +67,58 @@ fn in_pieces(alloc: Global, layout: Layout, dump: &[u8], size: usize) -> Result<
     })
 }
 
-/// A dump, and what is to be made of it.
-#[derive(Drop)]
-struct ExpectedSplit {
-    layout: Layout,
-    dump: Vec<u8>,
-    whole: Split,
-}
-
 /// What a dump of parts is cut into.
 pub(crate) fn split_of(named: &Named, layout: Layout, parts: &[&str]) -> LineResult<Split> {
     let dump = named.read_dump(parts)?;
     Ok(split(named.alloc(), layout, &dump)?)
 }
 
-impl ExpectedSplit {
-    /// For the dump of some parts, what the dump of others is cut into.
-    fn of(
-        named: &Named,
-        layout: Layout,
-        parts: &[&str],
-        other: &[&str],
-    ) -> LineResult<ExpectedSplit> {
-        let whole = split_of(named, layout, other)?;
-        let dump = named.read_dump(parts)?;
-        Ok(ExpectedSplit {
-            layout,
-            dump,
-            whole,
-        })
-    }
-
-    /// A joiner makes it of pieces of this many bytes.
-    fn is_made_in(&self, alloc: Global, size: usize) -> Result<bool, AllocError> {
-        let parts = in_pieces(alloc, self.layout, &self.dump, size)?;
-        Ok(
-            parts.records == self.whole.records
-                && parts.fault == self.whole.fault
-                && parts.is_broken == self.whole.is_broken,
-        )
-    }
-}
-
-/// Sizes of pieces.
-#[derive(Drop)]
-struct Sizes {
-    /// With which a joiner makes of a dump what is expected.
-    same: Vec<usize>,
-    other: Vec<usize>,
-}
-
-impl Sizes {
-    /// Adds a size that a word spells.
-    fn add(&mut self, alloc: Global, expected: &ExpectedSplit, word: &str) -> LineResult {
-        let size = word.parse::<usize>()?;
-        let sizes = if expected.is_made_in(alloc, size)? {
-            &mut self.same
-        } else {
-            &mut self.other
-        };
-        Ok(sizes.push(size)?)
-    }
-
-    /// Adds the sizes that words spell, a comma between two.
-    fn add_all(&mut self, alloc: Global, expected: &ExpectedSplit, words: &str) -> LineResult {
-        for word in words.split(',') {
-            self.add(alloc, expected, word)?;
-        }
-        Ok(())
-    }
+/// A joiner makes this of a dump that it gets in pieces of this many bytes.
+fn is_made_in(
+    alloc: Global,
+    layout: Layout,
+    dump: &[u8],
+    whole: &Split,
+    size: usize,
+) -> Result<bool, AllocError> {
+    let parts = in_pieces(alloc, layout, dump, size)?;
+    Ok(
+        parts.records == whole.records
+            && parts.fault == whole.fault
+            && parts.is_broken == whole.is_broken,
+    )
 }
 
 /// Adds a line of sizes, if there are any.
-fn push_sizes(out: &mut AnswerText, what: &str, sizes: &[usize]) {
-    if sizes.is_empty() {
+fn push_sizes(out: &mut AnswerText, what: &str, sizes: &AnswerText) {
+    if sizes.as_bytes().is_empty() {
         return;
     }
     out.text(what);
-    for size in sizes {
-        out.value(" ", *size);
-    }
+    out.add(sizes);
     out.text("\n");
 }
 
-/// Adds the sizes of pieces with which a joiner makes what is expected, and the others.
-fn push_made(out: &mut AnswerText, expected: &ExpectedSplit, words: &str) -> LineResult {
-    let mut sizes = Sizes {
-        same: Vec::new(out.alloc()),
-        other: Vec::new(out.alloc()),
-    };
-    sizes.add_all(out.alloc(), expected, words)?;
-    push_sizes(out, "SAME IN", &sizes.same);
-    push_sizes(out, "OTHER IN", &sizes.other);
+/// Adds the sizes of pieces with which a joiner makes this of a dump, and the others.
+fn push_made(
+    out: &mut AnswerText,
+    layout: Layout,
+    dump: &[u8],
+    whole: &Split,
+    sizes: &str,
+) -> LineResult {
+    let mut same = AnswerText::new(out.alloc());
+    let mut other = AnswerText::new(out.alloc());
+    for word in sizes.split(',') {
+        let size = word.parse::<usize>()?;
+        if is_made_in(out.alloc(), layout, dump, whole, size)? {
+            same.value(" ", size);
+        } else {
+            other.value(" ", size);
+        }
+    }
+    push_sizes(out, "SAME IN", &same);
+    push_sizes(out, "OTHER IN", &other);
     Ok(())
 }
 
@@ -174,6 +134,7 @@ pub(crate) fn push_pieces(
         return Err(LineFault::NotUnderstood);
     };
     let (parts, other) = split_words(parts, ":").unwrap_or((parts, parts));
-    let expected = ExpectedSplit::of(named, layout, parts, other)?;
-    push_made(out, &expected, sizes)
+    let whole = split_of(named, layout, other)?;
+    let dump = named.read_dump(parts)?;
+    push_made(out, layout, &dump, &whole, sizes)
 }
