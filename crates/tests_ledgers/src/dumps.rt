@@ -27,8 +27,12 @@ pub(crate) fn push_split(
     out: &mut AnswerText,
 ) -> LineResult {
     let parts = split(alloc, layout, dump)?;
+    let fault = match parts.fault {
+        Some(fault) => fault.number(),
+        None => 0,
+    };
     out.value("RECORDS ", parts.records.len());
-    out.value(" FAULT ", parts.fault.map_or(0, |fault| fault.number()));
+    out.value(" FAULT ", fault);
     out.line(if parts.is_broken { " BROKEN" } else { "" });
     if with_records {
         for bytes in &parts.records {

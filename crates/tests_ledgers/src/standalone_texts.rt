@@ -72,6 +72,6 @@ impl Writes for StandaloneText<'_> {
                 return written;
             }
         };
-        Written::of(alloc, sink, answer.map(|()| Stop::End))
+        Written::of(alloc, sink, answer.and(Ok(Stop::End)))
     }
 }

@@ -4,7 +4,9 @@ use crate::names::{centre_in, name_in};
 use crate::text_writing::{Writes, Written};
 use book_core::{Ledger, Sink};
 use book_import::Stop;
-use book_reports::{DetailReport, PeriodReport, Report, StatementForm, write_details, write_report};
+use book_reports::{
+    DetailReport, PeriodReport, Report, StatementForm, write_details, write_report,
+};
 use smf_text::Name;
 use std::alloc::Global;
 use tests_scripts::{Ask, LimitedWriter, Limits, LineFault, LineResult, Named, value_of};
@@ -118,6 +120,6 @@ impl<L: Ledger> Writes for TextOf<'_, L> {
             BookText::Details(report) => write_details(alloc, ledger, *report, &mut sink),
             BookText::Report(report) => write_report(alloc, ledger, *report, &mut sink),
         };
-        Written::of(alloc, sink, answer.map(|()| Stop::End))
+        Written::of(alloc, sink, answer.and(Ok(Stop::End)))
     }
 }

@@ -8,8 +8,12 @@ use tests_scripts::AnswerText;
 /// Adds how many records a dump has, the number of the fault after them, or 0, and whether that
 /// stays whatever follows.
 pub(crate) fn push_parts(out: &mut AnswerText, parts: &Split) {
+    let fault = match parts.fault {
+        Some(fault) => fault.number(),
+        None => 0,
+    };
     out.value("RECORDS ", parts.records.len());
-    out.value(" FAULT ", parts.fault.map_or(0, |fault| fault.number()));
+    out.value(" FAULT ", fault);
     out.line(if parts.is_broken { " BROKEN" } else { "" });
 }
 
