@@ -18,8 +18,10 @@ use Rattle.book_reports.specs.StreamedAnswers.{WritesAnswer, WritesAnswerUntil, 
 use Rattle.book_reports.specs.StreamedAnswers.{WritesUntilOrRefuses}
 use Rattle.book_reports.specs.StreamedRulings.{is_hindrance, refusal_in}
 use Rattle.book_reports.specs.Writing.{WritesUntil, is_write_or_memory}
-use Rattle.book_reports.proofs.ReadingLemmas.{IsReading, goes_on, reopens_alike}
-use Rattle.book_reports.proofs.StreamingLemmas.{alike_refusal, unrefused, unrefused_hinders, was_open}
+use Rattle.book_reports.proofs.ReadingLemmas.{IsReading, reopens_alike}
+use Rattle.book_reports.proofs.ShownLemmas.{Saw, Shows}
+use Rattle.book_reports.proofs.StreamingLemmas.{alike_refusal, stays_plain, unrefused_hinders}
+use Rattle.book_reports.proofs.StreamingLemmas.{was_open}
 
 -- a fault of the ledger, as a report passes it on, is a hindrance, or that fault
 abbrev pub IsRefusedBy : {A : Type 0} → LedgerFault → Result A LedgerFault → Type 0
@@ -93,30 +95,27 @@ until_written answer old new held holds result work =
     })
     work
 
-module _ {V A : Type 0} {view : V → A} {outcome : Book → Outcome A} {old new : Seen} {value : V}
-    (reading : IsReading outcome) (call : IsCall view old new (Ok value) outcome)
+module _ {Known : Book → Type 0} {old new : Seen} (so_far : Shows old new Known)
     (answer : Naming → Book → Result (List ℕ) LedgerFault) (held holds : Option (List ℕ))
     (result : Result (Unit {0}) ReportFault)
     (plain : IfErr result (λ fault. is_write_or_memory fault ≡ true))
   where
-    -- a call answered this, and so much of the text was written
-    pub answer_written : ((book : Book) → (outcome book).answer ≡ Ok (view value)
+    -- calls were answered, and so much of the text was written
+    pub answer_written : ((book : Book) → Known book
         → (text : List ℕ) × (answer old.naming book ≡ Ok text) × WritesUntil text held holds result)
         → IsTransition old new (WritesAnswerUntil answer old.naming held holds result)
     answer_written writes =
-        work_as old new (Calls view outcome (Ok value))
-        (WritesAnswerUntil answer old.naming held holds result)
-        (λ was before events is called.
-        let it = writes before called.makes.0 in
+        work_as old new (Saw Known) (WritesAnswerUntil answer old.naming held holds result)
+        (λ was before events is saw.
+        let it = writes before saw.known in
         record {
-          none = called.makes.1 ∙ ap listed (reading before);
+          none = saw.none;
           written = subst (λ said. WritesUntilOrRefuses said held holds result) (sym it.1)
               (it.2, unrefused_hinders result plain);
-          unread = was_open was called.reopens.reopen;
-          reopens = reopens_alike (Ok value) (refusal_in result) was is
-              (unrefused value result plain) called.reopens;
+          unread = was_open was (sym saw.at_work);
+          reopens = stays_plain result was is plain saw.stays saw.at_work;
         })
-        call.work
+        so_far.work
 
 module _ {V A : Type 0} {view : V → A} {outcome : Book → Outcome A} {old new : Seen}
     (reading : IsReading outcome) (fault : LedgerFault)
@@ -144,36 +143,32 @@ module _ {V A : Type 0} {view : V → A} {outcome : Book → Outcome A} {old new
         })
         call.work
 
-module _ {V A W B : Type 0} {view : V → A} {outcome : Book → Outcome A} {show : W → B}
-    {other : Book → Outcome B} {old mid new : Seen} {value : V} (reading : IsReading outcome)
-    (first : IsCall view old mid (Ok value) outcome) (quiet : IsReading other)
+module _ {Known : Book → Type 0} {W B : Type 0} {show : W → B} {other : Book → Outcome B}
+    {old mid new : Seen} (so_far : Shows old mid Known) (quiet : IsReading other)
     (fault : LedgerFault) (next : IsCall show mid new (Err fault) other)
     (answer : Naming → Book → Result (List ℕ) LedgerFault) (held holds : Option (List ℕ))
   where
     -- calls were answered, and the next was refused: all are of one book
-    pub answer_refused : ((book : Book) → (outcome book).answer ≡ Ok (view value)
-        → IsRefusedBy fault (other book).answer
+    pub answer_refused : ((book : Book) → Known book → IsRefusedBy fault (other book).answer
         → WritesUntilOrRefuses (answer old.naming book) held holds (Err (report_fault_of fault)))
         → IsTransition old new
         (WritesAnswerUntil answer old.naming held holds (Err (report_fault_of fault)))
     answer_refused writes =
-        work_as old new
-        (Then (Calls view outcome (Ok value)) (Calls show other (Err fault)))
+        work_as old new (Then (Saw Known) (Calls show other (Err fault)))
         (WritesAnswerUntil answer old.naming held holds (Err (report_fault_of fault)))
         (λ was before events is both.
         let middle = after_all both.early before in
         let late = refused_by show (other middle) fault both.late (quiet middle) both.next.makes in
-        let early = both.first.makes.1 ∙ ap listed (reading before) in
+        let early = both.first.none in
         let same : middle ≡ before = ap (λ events. after_all events before) early in
         record {
           none = both.all ∙ ap (λ events. events ++ both.early) late.0 ∙ early;
-          written = writes before both.first.makes.0
+          written = writes before both.first.known
               (subst (λ book. IsRefusedBy fault (other book).answer) same late.1);
-          unread = was_open was both.first.reopens.reopen;
+          unread = was_open was (sym both.first.at_work);
           reopens = reopens_alike (Err fault) (refusal_in (Err (report_fault_of fault))) was is
               (alike_refusal fault)
-              (subst (λ between. Reopens (Err fault) between is)
-              (goes_on value was both.between both.first.reopens) both.next.reopens);
+              (subst (λ between. Reopens (Err fault) between is) both.first.stays
+              both.next.reopens);
         })
-        (work_then old mid new (Calls view outcome (Ok value)) (Calls show other (Err fault))
-        first.work next.work)
+        (work_then old mid new (Saw Known) (Calls show other (Err fault)) so_far.work next.work)

@@ -33,10 +33,11 @@ use Rattle.book_reports.specs.StreamedRulings.{WritesFirst}
 use Rattle.book_reports.specs.Writing.{WritesPrefix, WritesUntil, is_write_or_memory}
 use Rattle.book_reports.proofs.AnsweringLemmas.{HasBytes, IsRefusedBy, answer_refused, answer_unread}
 use Rattle.book_reports.proofs.AnsweringLemmas.{answer_written, cut_by, unwritten}
-use Rattle.book_reports.proofs.DetailReading.{HasRead, Reads, all_details, first_details, first_read}
-use Rattle.book_reports.proofs.DetailReading.{next_shown, one_more_read, read_and, reads, refused_back}
-use Rattle.book_reports.proofs.DetailReading.{shown_back}
-use Rattle.book_reports.proofs.RulingReading.{all_taken, next_taken}
+use Rattle.book_reports.proofs.DetailReading.{HasRead, Reads, all_details, first_read, next_shown}
+use Rattle.book_reports.proofs.DetailReading.{one_more_read, refused_back, shown_back}
+use Rattle.book_reports.proofs.FrontLemmas.{IsFront, front_all, front_taken}
+use Rattle.book_reports.proofs.ReadingLemmas.{by_names}
+use Rattle.book_reports.proofs.ShownLemmas.{shown}
 use Rattle.book_reports.proofs.StreamedLemmas.{is_prefix, is_short, none_written, part_written}
 use Rattle.book_reports.proofs.StreamedLemmas.{rest_until, rest_written, some_before, written_as}
 use Rattle.book_reports.proofs.StreamedLemmas.{written_of_more}
@@ -228,9 +229,8 @@ pub first_refused : (report : DetailReport) (old mid new : Seen) (through : Opti
     → IsTransition old new
     (WritesDetails report old.naming held held (Err (report_fault_of fault)))
 first_refused report old mid new through fault held day call =
-    answer_refused (λ book. refl) day (λ book. refl) fault
-    (subst (λ naming. IsCall (λ found. found) mid new (Err fault)
-    (next_detail_outcome naming report.period report.centre None)) day.work.naming call)
+    answer_refused (shown (λ book. refl) day) (λ book. refl) fault
+    (by_names (λ naming. next_detail_outcome naming report.period report.centre None) day.work.naming call)
     (detail_answer report) held held
     (λ book early said.
     unwritten (detail_answer report old.naming book) fault held (answer_some report old.naming book)
@@ -245,10 +245,9 @@ pub text_unbegun : (report : DetailReport) (old mid new : Seen) (through : Optio
     (next_detail_outcome mid.naming report.period report.centre None)
     → IsTransition old new (WritesDetails report old.naming held held (Err fault))
 text_unbegun report old mid new through next held fault plain day call =
-    answer_written (λ book. refl) (first_read report old mid new through next day call).call
+    answer_written (first_read report old mid new through next day call).shows
     (detail_answer report) held held (Err fault) plain
-    (λ book is.
-    let all = reads report old.naming book through 0 [] next is in (
+    (λ book all. (
       details_text report through all.details,
       text_answered report old.naming book through 0 [] next all,
       (0, text_some report through all.details, Appends-nil held),
@@ -290,23 +289,16 @@ module _ {report : DetailReport} {old mid : Seen} {next : Option Detail} {sums :
     {waits : List ℕ} {held had : Option (List ℕ)}
     (it : WritesSoFar report old mid next sums waits held had)
   where
-    -- what the book has
-    its_reads : (book : Book)
-        → (first_details report old.naming it.count book).answer ≡ Ok (read_and it.through it.read next)
-        → Reads report old.naming book it.through it.count it.read next
-    its_reads book is = reads report old.naming book it.through it.count it.read next is
-
     -- it went no further
     pub text_stopped : (fault : ReportFault) → is_write_or_memory fault ≡ true
         → IsTransition old mid (WritesDetails report old.naming held had (Err fault))
     text_stopped fault plain =
-        answer_written (λ book. refl) it.far.call (detail_answer report) held had (Err fault) plain
-        (λ book is.
-        let all = its_reads book is in (
+        answer_written it.far.shows (detail_answer report) held had (Err fault) plain
+        (λ book all. (
           details_text report it.through all.details,
           text_answered report old.naming book it.through it.count it.read next all,
-          cut_before report it.through all.details it.count it.read waits held had all.front it.lines
-              it.some,
+          cut_before report it.through all.details it.count it.read waits held had all.those.front
+              it.lines it.some,
         ))
 
     pub some_stopped : (fault : ReportFault) → WritesSomeDetails report held had (Err fault)
@@ -319,14 +311,12 @@ module _ {report : DetailReport} {old mid : Seen} {next : Option Detail} {sums :
         → WritesUntil (waits ++ details_end report sums) had has result
         → IsTransition old mid (WritesDetails report old.naming held has result)
     text_ended has result last plain flushed =
-        answer_written (λ book. refl) it.far.call (detail_answer report) held has result plain
-        (λ book is.
-        let all = its_reads book is in
-        let same : it.read ≡ all.details =
-        sym all.front ∙ all_taken all.details it.count (all.there ∙ last) in (
+        answer_written it.far.shows (detail_answer report) held has result plain
+        (λ book all. (
           details_text report it.through all.details,
           text_answered report old.naming book it.through it.count it.read next all,
-          subst (λ details. WritesUntil (details_text report it.through details) held has result) same
+          subst (λ details. WritesUntil (details_text report it.through details) held has result)
+              (front_all all.those last)
               (ended_until report it.through it.read waits held had has result it.lines
               (subst (λ sums. WritesUntil (waits ++ details_end report sums) had has result)
               it.summed flushed)),
@@ -354,25 +344,23 @@ module _ {report : DetailReport} {old mid : Seen} {next : Option Detail} {sums :
             (so_far report it.through more) waits left held had has
             (so_far_with report it.through it.read detail) it.lines line
 
-        more_front : (book : Book) (all : Reads report old.naming book it.through it.count it.read next)
-            → take (it.count + 1) all.details ≡ more
-        more_front book all =
-            next_taken all.details it.count detail (all.there ∙ is)
-            ∙ ap (λ front. front ++ detail ∷ []) all.front
+        more_cut : (all : List Detail) → IsFront all it.count it.read next
+            → (prefix : ℕ) × (prefix < length (details_text report it.through all))
+            × Appends held has (take prefix (details_text report it.through all))
+        more_cut all those =
+            cut_before report it.through all (it.count + 1) more left held has
+            (front_taken those is) more_lines some
 
         -- a line was not written, or not whole
         pub text_cut : (fault : ReportFault) → is_write_or_memory fault ≡ true
             → IsTransition old mid
             (WritesDetails report old.naming held has (Err fault))
         text_cut fault plain =
-            answer_written (λ book. refl) it.far.call (detail_answer report) held has (Err fault)
-            plain
-            (λ book said.
-            let all = its_reads book said in (
+            answer_written it.far.shows (detail_answer report) held has (Err fault) plain
+            (λ book all. (
               details_text report it.through all.details,
               text_answered report old.naming book it.through it.count it.read next all,
-              cut_before report it.through all.details (it.count + 1) more left held has
-                  (more_front book all) more_lines some,
+              more_cut all.details all.those,
             ))
 
         pub some_cut : (fault : ReportFault) → WritesSomeDetails report held has (Err fault)
@@ -386,18 +374,14 @@ module _ {report : DetailReport} {old mid : Seen} {next : Option Detail} {sums :
             → IsTransition old new
             (WritesDetails report old.naming held has (Err (report_fault_of fault)))
         text_refused new fault call =
-            answer_refused (λ book. refl) it.far.call (λ book. refl) fault
-            (subst (λ naming. IsCall (λ found. found) mid new (Err fault)
-            (next_detail_outcome naming report.period report.centre (Some detail)))
-            it.far.call.work.naming call)
+            answer_refused it.far.shows (λ book. refl) fault
+            (by_names (λ naming. next_detail_outcome naming report.period report.centre (Some detail)) it.far.shows.work.naming call)
             (detail_answer report) held has
-            (λ book early said.
-            let all = its_reads book early in
+            (λ book all said.
             cut_by (detail_answer report old.naming book) (details_text report it.through all.details)
             fault held has
             (text_answered report old.naming book it.through it.count it.read next all)
-            (cut_before report it.through all.details (it.count + 1) more left held has
-            (more_front book all) more_lines some)
+            (more_cut all.details all.those)
             (refused_alike report old.naming (Some detail) book fault said))
 
         -- or it goes on

@@ -15,9 +15,10 @@ use Rattle.book_reports.specs.StreamedDetails.{detail_length_outcome, details_en
 use Rattle.book_reports.specs.StreamedDetails.{details_part, details_text, sums_of, with_detail}
 use Rattle.book_reports.proofs.DetailLemmas.{so_far, so_far_with, sums_more, text_answered, whole_text}
 use Rattle.book_reports.proofs.DetailReading.{HasRead, all_details, first_read, next_shown}
-use Rattle.book_reports.proofs.DetailReading.{one_more_read, reads, refused_back}
-use Rattle.book_reports.proofs.ReadingLemmas.{fault_alike, fault_tells, read_as, read_then}
-use Rattle.book_reports.proofs.RulingReading.{all_taken}
+use Rattle.book_reports.proofs.DetailReading.{one_more_read, refused_back}
+use Rattle.book_reports.proofs.FrontLemmas.{front_all}
+use Rattle.book_reports.proofs.ReadingLemmas.{by_names, call_failed}
+use Rattle.book_reports.proofs.ShownLemmas.{answers, answers_none, refused_next, shown}
 
 -- ---- what the calls did
 
@@ -37,8 +38,7 @@ pub size_unread : (report : DetailReport) (old new : Seen) (fault : LedgerFault)
     → IsCall (λ day. day) old new (Err fault) (closed_through_outcome report.period)
     → IsCall (λ size. size) old new (Err fault) (detail_length_outcome report old.naming)
 size_unread report old new fault call =
-    read_as (λ book. refl) (λ book. refl) (fault_alike fault)
-    (λ book. fault_tells (λ day. day) (λ size. size) fault (λ never. cc)) call
+    call_failed (Err fault) refl (λ book. refl) (λ book. refl) (λ book is. cc is) call
 
 -- the first detail was refused
 pub size_refused : (report : DetailReport) (old mid new : Seen) (through : Option ℤ)
@@ -48,12 +48,9 @@ pub size_refused : (report : DetailReport) (old mid new : Seen) (through : Optio
     (next_detail_outcome mid.naming report.period report.centre None)
     → IsCall (λ size. size) old new (Err fault) (detail_length_outcome report old.naming)
 size_refused report old mid new through fault day call =
-    read_then (λ book. refl) (λ book. refl) (λ book. refl) (fault_alike fault)
-    (λ book early. fault_tells (λ found. found) (λ size. size) fault
-    (length_refused report old.naming None book fault))
-    day
-    (subst (λ naming. IsCall (λ found. found) mid new (Err fault)
-    (next_detail_outcome naming report.period report.centre None)) day.work.naming call)
+    refused_next (Err fault) refl (λ book. refl) (λ book. refl)
+    (λ book known. length_refused report old.naming None book fault) (shown (λ book. refl) day)
+    (by_names (λ naming. next_detail_outcome naming report.period report.centre None) day.work.naming call)
 
 -- memory ran out after some were read
 pub size_stopped : {report : DetailReport} {old new : Seen} {through : Option ℤ} {count : ℕ}
@@ -62,9 +59,7 @@ pub size_stopped : {report : DetailReport} {old new : Seen} {through : Option �
     → IsCall (λ size. size) old new result (detail_length_outcome report old.naming)
 size_stopped {report} {old} {new} far result is =
     subst (λ result. IsCall (λ size. size) old new result (detail_length_outcome report old.naming))
-    (sym is)
-    (read_as (λ book. refl) (λ book. refl) (record { reopen = refl; store = refl })
-    (λ book said. tt) far.call)
+    (sym is) (answers_none (λ book. refl) far.shows)
 
 -- ---- the length, detail by detail
 
@@ -112,16 +107,12 @@ module _ {report : DetailReport} {old mid : Seen} {next : Option Detail} {sums :
         → IsCall (λ size. size) old mid result (detail_length_outcome report old.naming)
     count_ended (Err fault) last whole plain = size_stopped it.far (Err fault) (ap Err plain)
     count_ended (Ok count) last whole plain =
-        read_as (λ book. refl) (λ book. refl) (record { reopen = refl; store = refl })
-        (λ book said.
-        let all = reads report old.naming book it.through it.count it.read next said in
-        let same : it.read ≡ all.details =
-        sym all.front ∙ all_taken all.details it.count (all.there ∙ last) in
-        ap (shown_by length)
+        answers count (λ book. refl)
+        (λ book all. ap (shown_by length)
         (text_answered report old.naming book it.through it.count it.read next all)
         ∙ ap Ok (sym (whole_size count whole
-        ∙ ap (λ details. length (details_text report it.through details)) same)))
-        it.far.call
+        ∙ ap (λ details. length (details_text report it.through details)) (front_all all.those last))))
+        it.far.shows
 
     -- the ledger refused the next call
     pub count_refused : (new : Seen) (last : Option Detail) (fault : LedgerFault)
@@ -129,12 +120,9 @@ module _ {report : DetailReport} {old mid : Seen} {next : Option Detail} {sums :
         (next_detail_outcome mid.naming report.period report.centre last)
         → IsCall (λ size. size) old new (Err fault) (detail_length_outcome report old.naming)
     count_refused new last fault call =
-        read_then (λ book. refl) (λ book. refl) (λ book. refl) (fault_alike fault)
-        (λ book early. fault_tells (λ found. found) (λ size. size) fault
-        (length_refused report old.naming last book fault))
-        it.far.call
-        (subst (λ naming. IsCall (λ found. found) mid new (Err fault)
-        (next_detail_outcome naming report.period report.centre last)) it.far.call.work.naming call)
+        refused_next (Err fault) refl (λ book. refl) (λ book. refl)
+        (λ book known. length_refused report old.naming last book fault) it.far.shows
+        (by_names (λ naming. next_detail_outcome naming report.period report.centre last) it.far.shows.work.naming call)
 
     -- or it goes on
     pub count_more : (detail : Detail) → next ≡ Some detail → (new : Seen) (after : Option Detail)

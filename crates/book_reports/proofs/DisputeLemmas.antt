@@ -23,8 +23,8 @@ use Rattle.book_reports.specs.StreamedDisputes.{dispute_count_outcome, disputes_
 use Rattle.book_reports.specs.StreamedDisputes.{disputes_text}
 use Rattle.book_reports.specs.StreamedRulings.{WritesFirst}
 use Rattle.book_reports.specs.Writing.{WritesPrefix, is_write_or_memory}
-use Rattle.book_reports.proofs.DisputeReading.{HasReadOf, all_of, both_parts, none_read_of}
-use Rattle.book_reports.proofs.DisputeReading.{none_more_of, one_more_of}
+use Rattle.book_reports.proofs.DisputeReading.{HasReadOf, all_of, none_more_of, none_read_of}
+use Rattle.book_reports.proofs.DisputeReading.{one_more_of}
 use Rattle.book_reports.proofs.StreamedLemmas.{is_prefix, none_written, part_written, rest_written}
 use Rattle.book_reports.proofs.StreamedLemmas.{written_as, written_of_more}
 use Rattle.book_reports.proofs.StreamingLemmas.{report_refused, report_written}
@@ -178,11 +178,9 @@ module _ {form : DisputeForm} {old mid : Seen} {total count : ℕ} {from waits :
     pub text_stopped : (fault : ReportFault) → is_write_or_memory fault ≡ true
         → IsTransition old mid (WritesDisputes form old.naming held had (Err fault))
     text_stopped fault plain =
-        report_written (λ book. refl) it.far.call (dispute_report form) held had (Err fault) plain
-        (λ book is.
-        let all = all_of old.naming book in
-        let parts = both_parts (length all) total (take count all) it.read is in
-        cut_before form all it.read total count waits held had parts.0 parts.1 it.lines)
+        report_written it.far.shows (dispute_report form) held had (Err fault) plain
+        (λ book known. cut_before form (all_of old.naming book) it.read total count waits held had
+        known.counted known.front it.lines)
 
     pub some_stopped : (fault : ReportFault) → WritesSomeDisputes form held had (Err fault)
     some_stopped fault =
@@ -196,13 +194,12 @@ module _ {form : DisputeForm} {old mid : Seen} {total count : ℕ} {from waits :
         → WritesPrefix waits had has result
         → IsTransition old mid (WritesDisputes form old.naming held has result)
     text_ended has result last plain flushed =
-        report_written (λ book. refl) it.far.call (dispute_report form) held has result plain
-        (λ book is.
+        report_written it.far.shows (dispute_report form) held has result plain
+        (λ book known.
         let all = all_of old.naming book in
-        let parts = both_parts (length all) total (take count all) it.read is in
-        let counted = parts.0 in
+        let counted = known.counted in
         let same : it.read ≡ all =
-        sym parts.1 ∙ take_all count all (omega (arith, counted, last)) in
+        sym known.front ∙ take_all count all (omega (arith, counted, last)) in
         subst (λ text. WritesPrefix text held has result)
         (ap (so_far form total) same ∙ ap (λ n. so_far form n all) (sym counted)
         ∙ whole_text form all)
@@ -226,12 +223,10 @@ module _ {form : DisputeForm} {old mid : Seen} {total count : ℕ} {from waits :
         → IsCall (option_map dispute_shown) mid new (Err fault) (dispute_outcome mid.naming from)
         → IsTransition old new (WritesDisputes form old.naming held had (Err (report_fault_of fault)))
     text_refused new fault call =
-        report_refused (λ book. refl) it.far.call
-        (λ book. dispute_from from (all_of mid.naming book)) fault call (dispute_report form) held had
-        (λ book is.
-        let all = all_of old.naming book in
-        let parts = both_parts (length all) total (take count all) it.read is in
-        cut_before form all it.read total count waits held had parts.0 parts.1 it.lines)
+        report_refused it.far.shows (λ book. dispute_from from (all_of mid.naming book)) fault call
+        (dispute_report form) held had
+        (λ book known. cut_before form (all_of old.naming book) it.read total count waits held had
+        known.counted known.front it.lines)
 
     -- the ledger found no more, though there should be
     pub text_fewer : (new : Seen)
@@ -276,12 +271,9 @@ module _ {form : DisputeForm} {old mid : Seen} {total count : ℕ} {from waits :
             pub text_cut : (fault : ReportFault) → is_write_or_memory fault ≡ true
                 → IsTransition old new (WritesDisputes form old.naming held has (Err fault))
             text_cut fault plain =
-                report_written (λ book. refl) far_more.call (dispute_report form) held has (Err fault)
-                plain (λ book is.
-                let all = all_of old.naming book in
-                let parts = both_parts (length all) total (take (count + 1) all) read_more is in
-                cut_before form all read_more total (count + 1) left held has parts.0 parts.1
-                lines_more_written)
+                report_written far_more.shows (dispute_report form) held has (Err fault) plain
+                (λ book known. cut_before form (all_of old.naming book) read_more total (count + 1)
+                left held has known.counted known.front lines_more_written)
 
             pub some_cut : (fault : ReportFault) → WritesSomeDisputes form held has (Err fault)
             some_cut fault =

@@ -1,6 +1,6 @@
 -- The disputes of a ledger, which are read one after another: all calls show one book.
 use Rattle.std.proofs.Common.{◌≡◌, ◌∙◌, ℕ, zero, suc, ◌+◌, List, [], ◌∷◌, ◌++◌, length, take, drop}
-use Rattle.std.proofs.Common.{refl, sym, ap, subst, Option, Some, None, Result, Ok, Err}
+use Rattle.std.proofs.Common.{refl, sym, ap, subst, Option, Some, None, Ok, Err}
 use Rattle.std.specs.Prelude.{slice_get, option_map}
 use Rattle.std.specs.List.Sorted.{IsStrictlySortedBy}
 use Rattle.std.proofs.lemmas.List.{take-append-drop}
@@ -14,8 +14,10 @@ use Rattle.book_model.proofs.FromLemmas.{walk_on}
 use Rattle.book_core.specs.Ledgers.{Seen}
 use Rattle.book_core.specs.Calls.{IsCall}
 use Rattle.book_reports.specs.StreamedDisputes.{dispute_count_outcome}
-use Rattle.book_reports.proofs.ReadingLemmas.{fault_alike, fault_tells, read_as, read_then}
-use Rattle.book_reports.proofs.RulingReading.{all_taken, next_taken}
+use Rattle.book_reports.proofs.FrontLemmas.{IsFront, front_all, front_taken, next_taken}
+use Rattle.book_reports.proofs.ReadingLemmas.{by_names, call_failed}
+use Rattle.book_reports.proofs.ShownLemmas.{Shows, answers, answers_none, refused_next, shown}
+use Rattle.book_reports.proofs.ShownLemmas.{shown_as, then_shown}
 use Rattle.book_reports.proofs.WritingLemmas.{same_value}
 
 -- the disputes of a book
@@ -42,36 +44,24 @@ walked naming book n from is =
     (disputes_rise naming book.rulings book.held))
     ∙ slice_dropped n all
 
--- of pairs that are answered
-pub both_parts : {X Y : Type 0} (x x' : X) (y y' : Y)
-    → ◌≡◌ {A = Result (X × Y) LedgerFault} (Ok (x, y)) (Ok (x', y')) → (x ≡ x') × (y ≡ y')
-both_parts x x' y y' is =
-    let same = same_value is in (ap (λ p. p.0) same, ap (λ p. p.1) same)
-
 -- ---- disputes in turn, with the next one
 
--- what was read of the disputes, and the next one if there is one
-abbrev pub read_and : List Disputed → Option Dispute → List Disputed × Option Disputed
-read_and read next = (read, option_map dispute_shown next)
-
--- the first disputes of a book, so many, and the next one
-abbrev pub first_disputes : Naming → ℕ → Book → Outcome (List Disputed × Option Disputed)
-first_disputes naming count book =
-    no_event (Ok (take count (all_of naming book), slice_get (all_of naming book) count))
-
--- so many were read, and the next one, as by one call that answers all of them
+-- so many of the book's disputes were read, and the next one
 pub record HasRead (old new : Seen) (count : ℕ) (read : List Disputed) (next : Option Dispute)
     : Type 0 where
-  pub call : IsCall (read_and read) old new (Ok next) (first_disputes old.naming count)
+  pub shows : Shows old new (λ book.
+      IsFront (all_of old.naming book) count read (option_map dispute_shown next))
 
 -- at first there is a next one alone, or none
 pub first_read : (old new : Seen) (next : Option Dispute)
     → IsCall (option_map dispute_shown) old new (Ok next) (dispute_outcome old.naming [])
     → HasRead old new 0 [] next
 first_read old new next call = record {
-  call = read_as (λ book. refl) (λ book. refl) (record { reopen = refl; store = refl })
-      (λ book is. ap (λ found. Ok ([], found))
-      (sym (walked old.naming book 0 [] refl) ∙ same_value is)) call;
+  shows = shown_as (λ book said. record {
+        front = refl;
+        there = sym (walked old.naming book 0 [] refl) ∙ same_value said;
+      })
+      (shown (λ book. refl) call);
 }
 
 -- and then the one after it
@@ -81,42 +71,36 @@ pub one_more_read : (old mid new : Seen) (count : ℕ) (read : List Disputed) (d
     → IsCall (option_map dispute_shown) mid new (Ok after) (dispute_outcome mid.naming from)
     → HasRead old new (count + 1) (read ++ dispute ∷ []) after
 one_more_read old mid new count read dispute next after from is from_is far call = record {
-  call = read_then (λ book. refl) (λ book. refl) (λ book. refl) (record { reopen = refl; store = refl })
-      (λ book early late.
-      let all = all_of old.naming book in
-      let parts = both_parts (take count all) read (slice_get all count)
-      (option_map dispute_shown next) early in
-      let front = next_taken all count dispute (parts.1 ∙ is)
-      ∙ ap (λ front. front ++ dispute ∷ []) parts.0 in
-      let found = sym (walked old.naming book (count + 1) from
-      (from_is ∙ sym (ap bytes_after front ∙ bytes_after-push read dispute)))
-      ∙ same_value late in
-      (λ i. Ok (front i, found i)))
-      far.call
-      (subst (λ naming. IsCall (option_map dispute_shown) mid new (Ok after)
-      (dispute_outcome naming from)) far.call.work.naming call);
+  shows = then_shown (λ book. refl)
+      (λ book known said.
+      let front = front_taken known is in
+      record {
+        front = front;
+        there = sym (walked old.naming book (count + 1) from
+            (from_is ∙ sym (ap bytes_after front ∙ bytes_after-push read dispute)))
+            ∙ same_value said;
+      })
+      far.shows (by_names (λ naming. dispute_outcome naming from) far.shows.work.naming call);
 }
 
 -- ---- disputes in turn, of which the number is known
 
--- so many disputes there are, and these are the first of them, as by one call
-abbrev pub counted_disputes : Naming → ℕ → Book → Outcome (ℕ × List Disputed)
-counted_disputes naming count book =
-    no_event (Ok (length (all_of naming book), take count (all_of naming book)))
+-- of disputes, of which there are so many, these are the first
+pub record IsCounted (all : List Disputed) (total count : ℕ) (read : List Disputed) : Type 0 where
+  pub counted : length all ≡ total
+  pub front : take count all ≡ read
 
-abbrev pub number_and : ℕ → List Disputed → Unit {0} → ℕ × List Disputed
-number_and total read done = (total, read)
-
+-- those of the book were counted, and so many were read
 pub record HasReadOf (old new : Seen) (total count : ℕ) (read : List Disputed) : Type 0 where
-  pub call : IsCall (number_and total read) old new (Ok tt) (counted_disputes old.naming count)
+  pub shows : Shows old new (λ book. IsCounted (all_of old.naming book) total count read)
 
 -- at first they were counted
 pub none_read_of : (old new : Seen) (total : ℕ)
     → IsCall (λ count. count) old new (Ok total) (dispute_count_outcome old.naming)
     → HasReadOf old new total 0 []
 none_read_of old new total call = record {
-  call = read_as (λ book. refl) (λ book. refl) (record { reopen = refl; store = refl })
-      (λ book is. ap (λ total. Ok (total, [])) (same_value is)) call;
+  shows = shown_as (λ book said. record { counted = same_value said; front = refl })
+      (shown (λ book. refl) call);
 }
 
 -- and then one more was read
@@ -125,18 +109,16 @@ pub one_more_of : (old mid new : Seen) (total count : ℕ) (read : List Disputed
     → IsCall (option_map dispute_shown) mid new (Ok (Some next)) (dispute_outcome mid.naming from)
     → HasReadOf old new total (count + 1) (read ++ dispute_shown next ∷ [])
 one_more_of old mid new total count read next from from_is far call = record {
-  call = read_then (λ book. refl) (λ book. refl) (λ book. refl) (record { reopen = refl; store = refl })
-      (λ book early late.
-      let all = all_of old.naming book in
-      let parts = both_parts (length all) total (take count all) read early in
+  shows = then_shown (λ book. refl)
+      (λ book known said.
       let there = sym (walked old.naming book count from
-      (from_is ∙ ap bytes_after (sym parts.1))) ∙ same_value late in
-      let front = next_taken all count (dispute_shown next) there
-      ∙ ap (λ front. front ++ dispute_shown next ∷ []) parts.1 in
-      (λ i. Ok (parts.0 i, front i)))
-      far.call
-      (subst (λ naming. IsCall (option_map dispute_shown) mid new (Ok (Some next))
-      (dispute_outcome naming from)) far.call.work.naming call);
+      (from_is ∙ ap bytes_after (sym known.front))) ∙ same_value said in
+      record {
+        counted = known.counted;
+        front = next_taken (all_of old.naming book) count (dispute_shown next) there
+            ∙ ap (λ front. front ++ dispute_shown next ∷ []) known.front;
+      })
+      far.shows (by_names (λ naming. dispute_outcome naming from) far.shows.work.naming call);
 }
 
 -- or none was there
@@ -145,10 +127,8 @@ pub none_more_of : (old mid new : Seen) (total count : ℕ) (read : List Dispute
     → IsCall (option_map dispute_shown) mid new (Ok None) (dispute_outcome mid.naming from)
     → HasReadOf old new total count read
 none_more_of old mid new total count read from far call = record {
-  call = read_then (λ book. refl) (λ book. refl) (λ book. refl) (record { reopen = refl; store = refl })
-      (λ book early late. early) far.call
-      (subst (λ naming. IsCall (option_map dispute_shown) mid new (Ok None)
-      (dispute_outcome naming from)) far.call.work.naming call);
+  shows = then_shown (λ book. refl) (λ book known said. known) far.shows
+      (by_names (λ naming. dispute_outcome naming from) far.shows.work.naming call);
 }
 
 -- ---- what they come to
@@ -163,20 +143,14 @@ module _ {V A : Type 0} (view : V → A) (sum : List Disputed → A) where
       → HasRead old new count read None → sum read ≡ view value
       → IsCall view old new (Ok value) (sum_of_all old.naming)
   all_summed old new count read value far summed =
-      read_as (λ book. refl) (λ book. refl) (record { reopen = refl; store = refl })
-      (λ book is.
-      let all = all_of old.naming book in
-      let parts = both_parts (take count all) read (slice_get all count) None is in
-      ap Ok (ap sum (sym (all_taken all count parts.1) ∙ parts.0) ∙ summed))
-      far.call
+      answers value (λ book. refl)
+      (λ book known. ap Ok (ap sum (sym (front_all known refl)) ∙ summed)) far.shows
 
   -- memory ran out after some were read
   pub sum_stopped : (old new : Seen) (count : ℕ) (read : List Disputed) (next : Option Dispute)
       → HasRead old new count read next
       → IsCall view old new (Err Memory) (sum_of_all old.naming)
-  sum_stopped old new count read next far =
-      read_as (λ book. refl) (λ book. refl) (record { reopen = refl; store = refl })
-      (λ book said. tt) far.call
+  sum_stopped old new count read next far = answers_none (λ book. refl) far.shows
 
   -- the ledger refused the next call
   pub sum_refused : (old mid new : Seen) (count : ℕ) (read : List Disputed) (next : Option Dispute)
@@ -184,16 +158,12 @@ module _ {V A : Type 0} (view : V → A) (sum : List Disputed → A) where
       → IsCall (option_map dispute_shown) mid new (Err fault) (dispute_outcome mid.naming from)
       → IsCall view old new (Err fault) (sum_of_all old.naming)
   sum_refused old mid new count read next from fault far call =
-      read_then (λ book. refl) (λ book. refl) (λ book. refl) (fault_alike fault)
-      (λ book early. fault_tells (option_map dispute_shown) view fault (λ never. cc))
-      far.call
-      (subst (λ naming. IsCall (option_map dispute_shown) mid new (Err fault)
-      (dispute_outcome naming from)) far.call.work.naming call)
+      refused_next (Err fault) refl (λ book. refl) (λ book. refl) (λ book known is. cc is) far.shows
+      (by_names (λ naming. dispute_outcome naming from) far.shows.work.naming call)
 
   -- or the first
   pub sum_unread : (old new : Seen) (fault : LedgerFault)
       → IsCall (option_map dispute_shown) old new (Err fault) (dispute_outcome old.naming [])
       → IsCall view old new (Err fault) (sum_of_all old.naming)
   sum_unread old new fault call =
-      read_as (λ book. refl) (λ book. refl) (fault_alike fault)
-      (λ book. fault_tells (option_map dispute_shown) view fault (λ never. cc)) call
+      call_failed (Err fault) refl (λ book. refl) (λ book. refl) (λ book is. cc is) call

@@ -27,8 +27,9 @@ use Rattle.book_reports.specs.declared.period_days.PeriodDays.{PeriodDays}
 use Rattle.book_reports.specs.BillTariffs.{HasKept, has_begun_after, kept_of, left_by, tariffs_billed}
 use Rattle.book_reports.specs.BillTariffs.{tariffs_on_outcome, tariffs_shown}
 use Rattle.book_reports.proofs.BillLineLemmas.{last_push}
-use Rattle.book_reports.proofs.ReadingLemmas.{fault_alike, fault_tells, read_as, read_then}
-use Rattle.book_reports.proofs.RulingReading.{HasRead, first_read, one_more_read, read_parts}
+use Rattle.book_reports.proofs.RulingReading.{HasRead, first_read, one_more_read}
+use Rattle.book_reports.proofs.ReadingLemmas.{by_names}
+use Rattle.book_reports.proofs.ShownLemmas.{answers, answers_none, refused_next}
 use Rattle.book_reports.proofs.TariffLemmas.{AreTariffs, IsTariff, are_tariffs, no_tariff}
 
 -- ---- one more tariff
@@ -259,31 +260,25 @@ module _ {days : PeriodDays} {old mid : Seen} {count : ℕ} {next : Option Liste
     pub keep_ended : ((day : ℤ) → option_and_then (text_on day) (option_map ruling_shown next) ≡ None)
         → IsCall tariffs_shown old mid (Ok kept) (tariffs_on_outcome days)
     keep_ended other =
-        read_as (λ book. refl) (λ book. refl) (record { reopen = refl; store = refl })
-        (λ book said.
-        let parts = read_parts (rulings_listed old.naming book.rulings) it.read count next said in
-        ap (λ tariffs. Ok (tariffs_billed (kept_of days tariffs)))
+        answers kept (λ book. refl)
+        (λ book known. ap (λ tariffs. Ok (tariffs_billed (kept_of days tariffs)))
         (sym (all_tariffs old.naming book.rulings count it.read (option_map ruling_shown next)
-        parts.0 it.are parts.1 other))
+        known.front it.are known.there other))
         ∙ ap Ok (kept_shown it.has))
-        it.far.call
+        it.far.shows
 
     -- there was no memory
     pub keep_stopped : IsCall tariffs_shown old mid (Err Memory) (tariffs_on_outcome days)
-    keep_stopped =
-        read_as (λ book. refl) (λ book. refl) (record { reopen = refl; store = refl })
-        (λ book said. tt) it.far.call
+    keep_stopped = answers_none (λ book. refl) it.far.shows
 
     -- the ledger refused the next call
     pub keep_refused : (new : Seen) (fault : LedgerFault)
         → IsCall (option_map ruling_shown) mid new (Err fault) (ruling_outcome mid.naming (count + 1))
         → IsCall tariffs_shown old new (Err fault) (tariffs_on_outcome days)
     keep_refused new fault call =
-        read_then (λ book. refl) (λ book. refl) (λ book. refl) (fault_alike fault)
-        (λ book early. fault_tells (option_map ruling_shown) tariffs_shown fault (λ is. cc is))
-        it.far.call
-        (subst (λ naming. IsCall (option_map ruling_shown) mid new (Err fault)
-        (ruling_outcome naming (count + 1))) it.far.call.work.naming call)
+        refused_next (Err fault) refl (λ book. refl) (λ book. refl) (λ book known is. cc is)
+        it.far.shows
+        (by_names (λ naming. ruling_outcome naming (count + 1)) it.far.shows.work.naming call)
 
     -- or it goes on
     pub keep_more : (new : Seen) (day : ℤ) (text : List ℕ) (after : Option ListedRuling)

@@ -2,7 +2,9 @@ pub mod NumberLemmas
 pub mod WritingLemmas
 pub mod BookLemmas
 pub mod ReadingLemmas
+pub mod ShownLemmas
 pub mod ReportLemmas
+pub mod FrontLemmas
 pub mod RulingReading
 pub mod StreamedLemmas
 pub mod StreamingLemmas
@@ -17,7 +19,6 @@ pub mod TariffLemmas
 pub mod WhatIfLemmas
 pub mod FigureLemmas
 pub mod RecordNameLemmas
-pub mod ShownLemmas
 pub mod WorkLemmas
 pub mod BillLineLemmas
 pub mod HeldLemmas

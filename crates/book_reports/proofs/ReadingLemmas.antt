@@ -6,13 +6,20 @@ use Rattle.std.specs.Result.{IsErrAnd}
 use Rattle.std.specs.declared.alloc.AllocError.{AllocError}
 use Rattle.book_model.specs.declared.fault.LedgerFault.{LedgerFault}
 use Rattle.book_model.specs.declared.fault.LedgerFault.TheVariants.{Memory, Store, Reopen}
-use Rattle.book_model.specs.Words.{Book, Event, after_all, no_event, Outcome}
+use Rattle.book_model.specs.Words.{Book, Event, Naming, after_all, no_event, Outcome}
 use Rattle.book_core.specs.Ledgers.{Seen}
 use Rattle.book_core.specs.Transition.{Then}
 use Rattle.book_core.specs.Calls.{Calls, IsCall, Makes, Reopens, listed, is_store, is_reopen}
 use Rattle.book_reports.specs.BookTexts.{IsMadeOf, closed_through, closed_through_outcome, shown_by}
 use Rattle.book_reports.proofs.WritingLemmas.{same_value}
 use Rattle.book_core.proofs.TransitionLemmas.{work_then, work_as}
+
+-- a call is one of an outcome by other names too, if they are the same
+pub by_names : {V A : Type 0} {view : V → A} {old new : Seen} {result : Result V LedgerFault}
+    {one other : Naming} (outcome : Naming → Book → Outcome A) → one ≡ other
+    → IsCall view old new result (outcome one) → IsCall view old new result (outcome other)
+by_names {view = view} {old = old} {new = new} {result = result} outcome same call =
+    subst (λ naming. IsCall view old new result (outcome naming)) same call
 
 -- what a call answers of an outcome; out of memory, a fault of the store and Reopen show nothing
 abbrev pub Tells : {V A : Type 0} → (V → A) → Result V LedgerFault → Result A LedgerFault → Type 0

@@ -25,8 +25,8 @@ use Rattle.book_reports.specs.StreamedRulings.{WritesFirst, WritesRulings, is_hi
 use Rattle.book_reports.specs.StreamedRulings.{WritesSomeRulings, text_by}
 use Rattle.book_reports.specs.Writing.{WritesPrefix, is_write_or_memory}
 use Rattle.book_reports.proofs.ReadingLemmas.{IsAlike, reopens_alike}
-use Rattle.book_reports.proofs.RulingReading.{HasRead, all_taken, first_read}
-use Rattle.book_reports.proofs.RulingReading.{next_taken, one_more_read, read_parts}
+use Rattle.book_reports.proofs.FrontLemmas.{IsFront, front_all, front_taken}
+use Rattle.book_reports.proofs.RulingReading.{HasRead, first_read, one_more_read}
 use Rattle.book_reports.proofs.StreamedLemmas.{is_prefix, none_written, part_written, rest_written}
 use Rattle.book_reports.proofs.StreamedLemmas.{written_as, written_of_more}
 use Rattle.book_reports.proofs.StreamingLemmas.{report_refused, report_unread, report_written}
@@ -76,16 +76,12 @@ module _ {old new : Seen} {count : ℕ} {read : List RulingSeen} {next : Option 
     (plain : IfErr result (λ fault. is_write_or_memory fault ≡ true))
   where
     -- rulings were read, and so much of their list was written
-    pub read_written : ((all : List RulingSeen) → take count all ≡ read
-        → slice_get all count ≡ option_map ruling_shown next
+    pub read_written : ((all : List RulingSeen) → IsFront all count read (option_map ruling_shown next)
         → WritesPrefix (ruling_list_text all) held holds result)
         → IsTransition old new (WritesRulings old.naming held holds result)
     read_written writes =
-        report_written (λ book. refl) far.call ruling_text held holds result plain
-        (λ book is.
-        let all = rulings_listed old.naming book.rulings in
-        let parts = read_parts all read count next is in
-        writes all parts.0 parts.1)
+        report_written far.shows ruling_text held holds result plain
+        (λ book known. writes (rulings_listed old.naming book.rulings) known)
 
 module _ {old new : Seen} (fault : LedgerFault)
     (call : IsCall (option_map ruling_shown) old new (Err fault) (ruling_outcome old.naming 0))
@@ -103,18 +99,14 @@ module _ {old mid new : Seen} {count : ℕ} {read : List RulingSeen} {next : Opt
     (held holds : Option (List ℕ))
   where
     -- rulings were read, and the ledger refused the next call
-    pub refused_written : ((all : List RulingSeen) → take count all ≡ read
-        → slice_get all count ≡ option_map ruling_shown next
+    pub refused_written : ((all : List RulingSeen)
+        → IsFront all count read (option_map ruling_shown next)
         → (prefix : ℕ) × Appends held holds (take prefix (ruling_list_text all)))
         → IsTransition old new (WritesRulings old.naming held holds (Err (report_fault_of fault)))
     refused_written writes =
-        report_refused (λ book. refl) far.call
-        (λ book. slice_get (rulings_listed mid.naming book.rulings) number) fault call ruling_text
-        held holds
-        (λ book is.
-        let all = rulings_listed old.naming book.rulings in
-        let parts = read_parts all read count next is in
-        writes all parts.0 parts.1)
+        report_refused far.shows (λ book. slice_get (rulings_listed mid.naming book.rulings) number)
+        fault call ruling_text held holds
+        (λ book known. writes (rulings_listed old.naming book.rulings) known)
 
 -- ---- the list, line by line
 
@@ -144,7 +136,7 @@ module _ {old mid : Seen} {count : ℕ} {next : Option ListedRuling} {waits : Li
         → IsTransition old mid (WritesRulings old.naming held had (Err fault))
     list_stopped fault plain =
         read_written it.far held had (Err fault) plain
-        (λ all front found. cut_before all count it.read waits held had front it.lines)
+        (λ all known. cut_before all count it.read waits held had known.front it.lines)
 
     pub some_stopped : (fault : ReportFault) → WritesSomeRulings held had (Err fault)
     some_stopped fault = (it.read, is_prefix (so_far it.read) waits held had it.lines)
@@ -155,9 +147,9 @@ module _ {old mid : Seen} {count : ℕ} {next : Option ListedRuling} {waits : Li
         → IsTransition old mid (WritesRulings old.naming held has result)
     list_ended has result last plain flushed =
         read_written it.far held has result plain
-        (λ all front found.
+        (λ all known.
         subst (λ text. WritesPrefix text held has result)
-        (ap so_far (sym front ∙ all_taken all count (found ∙ ap (option_map ruling_shown) last)))
+        (ap so_far (front_all known (ap (option_map ruling_shown) last)))
         (rest_written (so_far it.read) waits held had has result it.lines flushed))
 
     pub some_ended : (has : Option (List ℕ)) (result : Result (Unit {0}) ReportFault)
@@ -176,14 +168,11 @@ module _ {old mid : Seen} {count : ℕ} {next : Option ListedRuling} {waits : Li
             part_written (so_far it.read) (ruling_line (ruling_shown ruling)) (so_far more) waits left
             held had has (so_far_with it.read (ruling_shown ruling)) it.lines line
 
-        more_cut : (all : List RulingSeen) → take count all ≡ it.read
-            → slice_get all count ≡ option_map ruling_shown next
+        more_cut : (all : List RulingSeen) → IsFront all count it.read (option_map ruling_shown next)
             → (prefix : ℕ) × Appends held has (take prefix (ruling_list_text all))
-        more_cut all front found =
+        more_cut all known =
             cut_before all (count + 1) more left held has
-            (next_taken all count (ruling_shown ruling) (found ∙ ap (option_map ruling_shown) is)
-            ∙ ap (λ front. front ++ ruling_shown ruling ∷ []) front)
-            more_lines
+            (front_taken known (ap (option_map ruling_shown) is)) more_lines
 
         -- a line was not written, or not whole
         pub list_cut : (fault : ReportFault) → is_write_or_memory fault ≡ true

@@ -1,5 +1,5 @@
 -- Calls of a ledger that change nothing, one after another: they show one book, whatever book that is.
-use Rattle.std.proofs.Common.{◌≡◌, ◌∙◌, Bool, false, List, [], ◌++◌, sym, ap, subst}
+use Rattle.std.proofs.Common.{◌≡◌, ◌∙◌, Bool, false, List, [], ◌++◌, refl, sym, ap, subst}
 use Rattle.std.proofs.Common.{◌||◌, Result, Ok, Err}
 use Rattle.std.specs.Result.{IsErrAnd}
 use Rattle.std.proofs.lemmas.Result.{err_from_is_err_and}
@@ -10,7 +10,7 @@ use Rattle.book_core.specs.Ledgers.{Seen}
 use Rattle.book_core.specs.Calls.{Calls, IsCall, Reopens, listed}
 use Rattle.book_core.specs.Transition.{IsTransition, Then}
 use Rattle.book_core.proofs.TransitionLemmas.{work_as, work_then}
-use Rattle.book_reports.proofs.ReadingLemmas.{IsReading, Tells, fault_alike, fault_tells}
+use Rattle.book_reports.proofs.ReadingLemmas.{IsAlike, IsReading, Tells, fault_alike, fault_tells}
 use Rattle.book_reports.proofs.ReadingLemmas.{goes_on, made, reopens_alike, told}
 
 -- no event was made, and this is known of the book; an open ledger stays so
@@ -27,18 +27,13 @@ pub record Shows (old new : Seen) (Known : Book → Type 0) : Type 0 where
   pub stays : new.must_reopen ≡ old.must_reopen
   pub at_work : old.must_reopen ≡ false
 
--- an open ledger that stays so answered
-stays_open : {V : Type 0} (value : V) (was is : Bool) → is ≡ was → was ≡ false
-    → Reopens {V = V} (Ok value) was is
-stays_open value was is stays at_work = record {
-  reopen = sym at_work;
-  store = stays ∙ at_work ∙ ap (λ was. was || false) (sym at_work);
-}
+-- an answer of which no more is told
+abbrev pub answered : Result (Unit {0}) LedgerFault
+answered = Ok tt
 
--- the same of a lack of memory
-stays_open_lost : {V : Type 0} (was is : Bool) → is ≡ was → was ≡ false
-    → Reopens {V = V} (Err Memory) was is
-stays_open_lost was is stays at_work = record {
+-- an open ledger that stays so answered
+pub stays_open : (was is : Bool) → is ≡ was → was ≡ false → Reopens answered was is
+stays_open was is stays at_work = record {
   reopen = sym at_work;
   store = stays ∙ at_work ∙ ap (λ was. was || false) (sym at_work);
 }
@@ -123,33 +118,34 @@ both_shown none so_far call =
 
 module _ {U B : Type 0} {show : U → B} {other : Book → Outcome B} {Known : Book → Type 0}
   where
-    -- so this is answered, as by one call
+    -- so this is answered, or refused, as by one call
+    pub answers_as : {old new : Seen} (result : Result U LedgerFault) → IsAlike answered result
+        → IsReading other → ((book : Book) → Known book → Tells show result (other book).answer)
+        → Shows old new Known → IsCall show old new result other
+    answers_as {old} {new} result alike none tells so_far = record {
+      work = work_as old new (Saw Known) (Calls show other result)
+          (λ was before events is saw. record {
+            makes = made show (other before) result events (none before) saw.none
+                (tells before saw.known);
+            reopens = reopens_alike answered result was is alike
+                (stays_open was is saw.stays saw.at_work);
+          })
+          so_far.work;
+      reopens = reopens_alike answered result old.must_reopen new.must_reopen alike
+          (stays_open old.must_reopen new.must_reopen so_far.stays so_far.at_work);
+    }
+
     pub answers : {old new : Seen} (value : U) → IsReading other
         → ((book : Book) → Known book → (other book).answer ≡ Ok (show value))
         → Shows old new Known → IsCall show old new (Ok value) other
-    answers {old} {new} value none tells so_far = record {
-      work = work_as old new (Saw Known) (Calls show other (Ok value))
-          (λ was before events is saw. record {
-            makes = made show (other before) (Ok value) events (none before) saw.none
-                (tells before saw.known);
-            reopens = stays_open value was is saw.stays saw.at_work;
-          })
-          so_far.work;
-      reopens = stays_open value old.must_reopen new.must_reopen so_far.stays so_far.at_work;
-    }
+    answers value none tells so_far =
+        answers_as (Ok value) (record { reopen = refl; store = refl }) none tells so_far
 
     -- or memory ran out
     pub answers_none : {old new : Seen} → IsReading other → Shows old new Known
         → IsCall show old new (Err Memory) other
-    answers_none {old} {new} none so_far = record {
-      work = work_as old new (Saw Known) (Calls show other (Err Memory))
-          (λ was before events is saw. record {
-            makes = made show (other before) (Err Memory) events (none before) saw.none tt;
-            reopens = stays_open_lost was is saw.stays saw.at_work;
-          })
-          so_far.work;
-      reopens = stays_open_lost old.must_reopen new.must_reopen so_far.stays so_far.at_work;
-    }
+    answers_none none so_far =
+        answers_as (Err Memory) (record { reopen = refl; store = refl }) none (λ book known. tt) so_far
 
     -- or the ledger refused the next call
     pub refused_next : {V A : Type 0} {view : V → A} {outcome : Book → Outcome A} {fault : LedgerFault}

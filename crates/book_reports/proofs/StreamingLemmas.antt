@@ -7,9 +7,9 @@ use Rattle.std.specs.Io.KnownBytes.{Appends}
 use Rattle.std.proofs.KnownBytes.{Appends-nil}
 use Rattle.book_model.specs.declared.fault.LedgerFault.{LedgerFault}
 use Rattle.book_model.specs.declared.fault.LedgerFault.TheVariants as ledger
-use Rattle.book_model.specs.Words.{Book, Event, Naming, Outcome, after_all, no_event}
+use Rattle.book_model.specs.Words.{Book, Event, Naming, after_all, no_event}
 use Rattle.book_core.specs.Ledgers.{Seen}
-use Rattle.book_core.specs.Calls.{Calls, IsCall, Makes, Reopens, listed}
+use Rattle.book_core.specs.Calls.{Calls, IsCall, Makes, Reopens}
 use Rattle.book_core.specs.Transition.{IsTransition, Then}
 use Rattle.book_core.proofs.TransitionLemmas.{work_as, work_then}
 use Rattle.book_reports.specs.declared.fault.ReportFault.{ReportFault}
@@ -17,16 +17,25 @@ use Rattle.book_reports.specs.declared.fault.ReportFault.TheVariants as report
 use Rattle.book_reports.specs.Faults.{report_fault_of}
 use Rattle.book_reports.specs.StreamedRulings.{WritesReport, is_hindrance, refusal_in}
 use Rattle.book_reports.specs.Writing.{WritesPrefix, is_write_or_memory}
-use Rattle.book_reports.proofs.ReadingLemmas.{IsAlike, IsReading, goes_on, reopens_alike}
+use Rattle.book_reports.proofs.ReadingLemmas.{IsAlike, reopens_alike}
+use Rattle.book_reports.proofs.ShownLemmas.{Saw, Shows, answered, stays_open}
 
 -- a result that is no refusal of the ledger is like an answer of it
-pub unrefused : {V : Type 0} (value : V) (result : Result (Unit {0}) ReportFault)
+unrefused : (result : Result (Unit {0}) ReportFault)
     → IfErr result (λ fault. is_write_or_memory fault ≡ true)
-    → IsAlike (Ok value) (refusal_in result)
-unrefused value (Ok done) plain = record { reopen = refl; store = refl }
-unrefused value (Err report.Write) plain = record { reopen = refl; store = refl }
-unrefused value (Err report.Memory) plain = record { reopen = refl; store = refl }
-unrefused value (Err (report.Ledger fault)) plain = cc
+    → IsAlike answered (refusal_in result)
+unrefused (Ok done) plain = record { reopen = refl; store = refl }
+unrefused (Err report.Write) plain = record { reopen = refl; store = refl }
+unrefused (Err report.Memory) plain = record { reopen = refl; store = refl }
+unrefused (Err (report.Ledger fault)) plain = cc
+
+-- so an open ledger that stays so is left as by an answer
+pub stays_plain : (result : Result (Unit {0}) ReportFault) (was is : Bool)
+    → IfErr result (λ fault. is_write_or_memory fault ≡ true) → is ≡ was → was ≡ false
+    → Reopens (refusal_in result) was is
+stays_plain result was is plain stays at_work =
+    reopens_alike answered (refusal_in result) was is (unrefused result plain)
+    (stays_open was is stays at_work)
 
 pub unrefused_hinders : (result : Result (Unit {0}) ReportFault)
     → IfErr result (λ fault. is_write_or_memory fault ≡ true)
@@ -59,28 +68,25 @@ hindered_by view answer ledger.Store events (inr makes) = (makes, refl)
 hindered_by view answer ledger.Reopen events makes = (makes, refl)
 hindered_by view answer fault events makes = absurd (cc makes.0)
 
-module _ {V A : Type 0} {view : V → A} {outcome : Book → Outcome A} {old new : Seen} {value : V}
-    (reading : IsReading outcome) (call : IsCall view old new (Ok value) outcome)
+module _ {Known : Book → Type 0} {old new : Seen} (so_far : Shows old new Known)
     (text : Naming → Book → List ℕ) (held holds : Option (List ℕ))
     (result : Result (Unit {0}) ReportFault)
     (plain : IfErr result (λ fault. is_write_or_memory fault ≡ true))
   where
-    -- a call answered this, and so much of the text was written
-    pub report_written : ((book : Book) → (outcome book).answer ≡ Ok (view value)
+    -- calls were answered, and so much of the text was written
+    pub report_written : ((book : Book) → Known book
         → WritesPrefix (text old.naming book) held holds result)
         → IsTransition old new (WritesReport text old.naming held holds result)
     report_written writes =
-        work_as old new (Calls view outcome (Ok value))
-        (WritesReport text old.naming held holds result)
-        (λ was before events is called. record {
-          none = called.makes.1 ∙ ap listed (reading before);
-          written = writes before called.makes.0;
-          unread = was_open was called.reopens.reopen;
-          reopens = reopens_alike (Ok value) (refusal_in result) was is
-              (unrefused value result plain) called.reopens;
+        work_as old new (Saw Known) (WritesReport text old.naming held holds result)
+        (λ was before events is saw. record {
+          none = saw.none;
+          written = writes before saw.known;
+          unread = was_open was (sym saw.at_work);
+          reopens = stays_plain result was is plain saw.stays saw.at_work;
           hindered = unrefused_hinders result plain;
         })
-        call.work
+        so_far.work
 
 module _ {W B : Type 0} {show : W → B} {old new : Seen} (found : Book → B) (fault : LedgerFault)
     (call : IsCall show old new (Err fault) (λ book. no_event (Ok (found book))))
@@ -104,34 +110,31 @@ module _ {W B : Type 0} {show : W → B} {old new : Seen} (found : Book → B) (
         })
         call.work
 
-module _ {V A W B : Type 0} {view : V → A} {outcome : Book → Outcome A} {show : W → B}
-    {old mid new : Seen} {value : V} (reading : IsReading outcome)
-    (first : IsCall view old mid (Ok value) outcome) (found : Book → B) (fault : LedgerFault)
+module _ {Known : Book → Type 0} {W B : Type 0} {show : W → B} {old mid new : Seen}
+    (so_far : Shows old mid Known) (found : Book → B) (fault : LedgerFault)
     (next : IsCall show mid new (Err fault) (λ book. no_event (Ok (found book))))
     (text : Naming → Book → List ℕ) (held holds : Option (List ℕ))
   where
     -- calls were answered, and the next was refused
-    pub report_refused : ((book : Book) → (outcome book).answer ≡ Ok (view value)
+    pub report_refused : ((book : Book) → Known book
         → (prefix : ℕ) × Appends held holds (take prefix (text old.naming book)))
         → IsTransition old new (WritesReport text old.naming held holds (Err (report_fault_of fault)))
     report_refused writes =
         work_as old new
-        (Then (Calls view outcome (Ok value))
-        (Calls show (λ book. no_event (Ok (found book))) (Err fault)))
+        (Then (Saw Known) (Calls show (λ book. no_event (Ok (found book))) (Err fault)))
         (WritesReport text old.naming held holds (Err (report_fault_of fault)))
         (λ was before events is both.
         let late = hindered_by show (found (after_all both.early before)) fault both.late
         both.next.makes in
         record {
-          none = both.all ∙ ap (λ events. events ++ both.early) late.0 ∙ both.first.makes.1
-              ∙ ap listed (reading before);
-          written = writes before both.first.makes.0;
-          unread = was_open was both.first.reopens.reopen;
+          none = both.all ∙ ap (λ events. events ++ both.early) late.0 ∙ both.first.none;
+          written = writes before both.first.known;
+          unread = was_open was (sym both.first.at_work);
           reopens = reopens_alike (Err fault) (refusal_in (Err (report_fault_of fault))) was is
               (alike_refusal fault)
-              (subst (λ between. Reopens (Err fault) between is)
-              (goes_on value was both.between both.first.reopens) both.next.reopens);
+              (subst (λ between. Reopens (Err fault) between is) both.first.stays
+              both.next.reopens);
           hindered = late.1;
         })
-        (work_then old mid new (Calls view outcome (Ok value))
-        (Calls show (λ book. no_event (Ok (found book))) (Err fault)) first.work next.work)
+        (work_then old mid new (Saw Known)
+        (Calls show (λ book. no_event (Ok (found book))) (Err fault)) so_far.work next.work)

@@ -23,9 +23,10 @@ use Rattle.book_core.specs.Ledgers.{Seen}
 use Rattle.book_core.specs.Calls.{IsCall}
 use Rattle.book_reports.specs.declared.report.Report.TheVariants.{TariffText}
 use Rattle.book_reports.specs.BookTexts.{report_outcome}
-use Rattle.book_reports.proofs.ReadingLemmas.{fault_alike, fault_tells, read_as, read_then}
-use Rattle.book_reports.proofs.RulingReading.{HasRead, all_taken, first_read, next_taken}
-use Rattle.book_reports.proofs.RulingReading.{one_more_read, read_parts}
+use Rattle.book_reports.proofs.FrontLemmas.{all_taken, next_taken}
+use Rattle.book_reports.proofs.RulingReading.{HasRead, first_read, one_more_read}
+use Rattle.book_reports.proofs.ReadingLemmas.{by_names}
+use Rattle.book_reports.proofs.ShownLemmas.{answers, answers_as, answers_none, refused_next}
 
 -- a ruling is a tariff
 abbrev pub IsTariff : RulingSeen → Type 0
@@ -192,32 +193,27 @@ module _ {old mid : Seen} {count : ℕ} {next : Option ListedRuling} {day : ℤ}
         → IsCall (λ (text : Vec ℕ Global). text.items) old mid (Ok text)
         (report_outcome old.naming (TariffText day))
     text_found text is =
-        read_as (λ book. refl) (λ book. refl) (record { reopen = refl; store = refl })
-        (λ book said.
-        let parts = read_parts (rulings_listed old.naming book.rulings) it.read count next said in
-        ap (λ found. ok_or found ledger.NoSuchTariff)
-        (found_text day old.naming book.rulings count it.read parts.0 it.none text.items (parts.1 ∙ is)))
-        it.far.call
+        answers text (λ book. refl)
+        (λ book known. ap (λ found. ok_or found ledger.NoSuchTariff)
+        (found_text day old.naming book.rulings count it.read known.front it.none text.items
+        (known.there ∙ is)))
+        it.far.shows
 
     -- there is no further tariff
     pub text_gone : ((day : ℤ) → option_and_then (text_on day) (option_map ruling_shown next) ≡ None)
         → IsCall (λ (text : Vec ℕ Global). text.items) old mid (Err ledger.NoSuchTariff)
         (report_outcome old.naming (TariffText day))
     text_gone other =
-        read_as (λ book. refl) (λ book. refl) (record { reopen = refl; store = refl })
-        (λ book said.
-        let parts = read_parts (rulings_listed old.naming book.rulings) it.read count next said in
-        ap (λ found. ok_or found ledger.NoSuchTariff)
-        (no_more_texts day old.naming book.rulings count it.read parts.0 it.none
-        (option_map ruling_shown next) parts.1 other))
-        it.far.call
+        answers_as (Err ledger.NoSuchTariff) (record { reopen = refl; store = refl }) (λ book. refl)
+        (λ book known. ap (λ found. ok_or found ledger.NoSuchTariff)
+        (no_more_texts day old.naming book.rulings count it.read known.front it.none
+        (option_map ruling_shown next) known.there other))
+        it.far.shows
 
     -- there was no memory
     pub text_lost : IsCall (λ (text : Vec ℕ Global). text.items) old mid (Err ledger.Memory)
         (report_outcome old.naming (TariffText day))
-    text_lost =
-        read_as (λ book. refl) (λ book. refl) (record { reopen = refl; store = refl })
-        (λ book said. tt) it.far.call
+    text_lost = answers_none (λ book. refl) it.far.shows
 
     -- the ledger refused the next call
     pub text_refused : (new : Seen) (fault : LedgerFault)
@@ -225,12 +221,9 @@ module _ {old mid : Seen} {count : ℕ} {next : Option ListedRuling} {day : ℤ}
         → IsCall (λ (text : Vec ℕ Global). text.items) old new (Err fault)
         (report_outcome old.naming (TariffText day))
     text_refused new fault call =
-        read_then (λ book. refl) (λ book. refl) (λ book. refl) (fault_alike fault)
-        (λ book early. fault_tells (option_map ruling_shown) (λ (text : Vec ℕ Global). text.items) fault
-        (λ is. cc is))
-        it.far.call
-        (subst (λ naming. IsCall (option_map ruling_shown) mid new (Err fault)
-        (ruling_outcome naming (count + 1))) it.far.call.work.naming call)
+        refused_next (Err fault) refl (λ book. refl) (λ book. refl) (λ book known is. cc is)
+        it.far.shows
+        (by_names (λ naming. ruling_outcome naming (count + 1)) it.far.shows.work.naming call)
 
     -- the next one is a tariff of another day, and it goes on
     pub seek_more : (new : Seen) (begins : ℤ) (text : List ℕ) (after : Option ListedRuling)

@@ -16,7 +16,7 @@ use Rattle.book_model.specs.declared.fault.LedgerFault.{LedgerFault}
 use Rattle.book_model.specs.declared.fault.LedgerFault.TheVariants.{Memory}
 use Rattle.book_model.specs.declared.row.ChargeRow.{ChargeRow}
 use Rattle.book_model.specs.declared.row.RowKey.{RowKey}
-use Rattle.book_model.specs.Words.{AreRows, IsDay, is_step, jobs_of, next_after}
+use Rattle.book_model.specs.Words.{AreRows, Book, IsDay, Naming, is_step, jobs_of, next_after}
 use Rattle.book_model.specs.Words.{next_detail_outcome, steps_of, work_rows}
 use Rattle.book_core.specs.Calls.{IsCall}
 use Rattle.book_core.specs.Ledgers.{Seen}
@@ -29,9 +29,10 @@ use Rattle.book_reports.specs.BillWork.{AreWork, IsWorkOf, work_outcome, work_se
 use Rattle.book_reports.specs.BookTexts.{closed_through, closed_through_outcome, shown_by}
 use Rattle.book_reports.specs.WorkSums.{AreSumsOf, prices_of}
 use Rattle.book_reports.proofs.DetailReading.{HasRead, all_details, first_read, next_shown}
-use Rattle.book_reports.proofs.DetailReading.{one_more_read, reads, refused_back}
-use Rattle.book_reports.proofs.ReadingLemmas.{fault_alike, fault_tells, read_as, read_then}
-use Rattle.book_reports.proofs.RulingReading.{all_taken}
+use Rattle.book_reports.proofs.DetailReading.{one_more_read, refused_back}
+use Rattle.book_reports.proofs.FrontLemmas.{front_all}
+use Rattle.book_reports.proofs.ReadingLemmas.{by_names}
+use Rattle.book_reports.proofs.ShownLemmas.{answers, answers_none, refused_next, shown}
 
 -- ---- the rows of all
 
@@ -153,6 +154,16 @@ work_begun period centre old mid new through next work none day call = record {
   sums = none;
 }
 
+-- a refusal of the next detail is one of the rows
+none_worked : (period : ℕ) (centre : Option (List ℕ)) (naming : Naming) (last : Option Detail)
+    (book : Book) (fault : LedgerFault)
+    → (next_detail_outcome naming period centre last book).answer ≡ Err fault
+    → (work_outcome naming period centre book).answer ≡ Err fault
+none_worked period centre naming last book fault said =
+    ap (shown_by (work_seen (closed_through book period)))
+    (refused_back (next_after last) (all_details (report_on period centre) naming book) fault
+    (sym (next_shown (report_on period centre) naming last book) ∙ said))
+
 -- the first detail was refused
 pub work_unbegun : (period : ℕ) (centre : Option (List ℕ)) (old mid new : Seen) (through : Option ℤ)
     (fault : LedgerFault)
@@ -161,14 +172,9 @@ pub work_unbegun : (period : ℕ) (centre : Option (List ℕ)) (old mid new : Se
     (next_detail_outcome mid.naming period centre None)
     → IsCall work_shown old new (Err fault) (work_outcome old.naming period centre)
 work_unbegun period centre old mid new through fault day call =
-    read_then (λ book. refl) (λ book. refl) (λ book. refl) (fault_alike fault)
-    (λ book early. fault_tells (λ found. found) work_shown fault
-    (λ said. ap (shown_by (work_seen (closed_through book period)))
-    (refused_back (next_after None) (all_details (report_on period centre) old.naming book) fault
-    (sym (next_shown (report_on period centre) old.naming None book) ∙ said))))
-    day
-    (subst (λ naming. IsCall (λ found. found) mid new (Err fault)
-    (next_detail_outcome naming period centre None)) day.work.naming call)
+    refused_next (Err fault) refl (λ book. refl) (λ book. refl)
+    (λ book known. none_worked period centre old.naming None book fault) (shown (λ book. refl) day)
+    (by_names (λ naming. next_detail_outcome naming period centre None) day.work.naming call)
 
 module _ {period : ℕ} {centre : Option (List ℕ)} {old mid : Seen} {through : Option ℤ}
     {next : Option Detail} {work : WorkSums}
@@ -180,21 +186,17 @@ module _ {period : ℕ} {centre : Option (List ℕ)} {old mid : Seen} {through :
         → IsCall work_shown old mid (Ok (record { through = through; rows = rows }))
         (work_outcome old.naming period centre)
     work_ended rows last makes =
-        read_as (λ book. refl) (λ book. refl) (record { reopen = refl; store = refl })
-        (λ book said.
-        let all = reads (report_on period centre) old.naming book through it.count it.read next said in
-        let same : all.details ≡ it.read =
-        sym (all_taken all.details it.count (all.there ∙ last)) ∙ all.front in
+        answers (record { through = through; rows = rows }) (λ book. refl)
+        (λ book all.
+        let same : all.details ≡ it.read = sym (front_all all.those last) in
         ap (shown_by (work_seen (closed_through book period))) all.answered
         ∙ (λ i. Ok (work_seen (all.closed i) (same i)))
         ∙ ap Ok (work_is through it.read rows (makes it.read it.sums)))
-        it.far.call
+        it.far.shows
 
     -- there was no memory
     pub work_stopped : IsCall work_shown old mid (Err Memory) (work_outcome old.naming period centre)
-    work_stopped =
-        read_as (λ book. refl) (λ book. refl) (record { reopen = refl; store = refl })
-        (λ book said. tt) it.far.call
+    work_stopped = answers_none (λ book. refl) it.far.shows
 
     -- the ledger refused the next call
     pub work_refused : (new : Seen) (detail : Detail) (fault : LedgerFault)
@@ -202,14 +204,9 @@ module _ {period : ℕ} {centre : Option (List ℕ)} {old mid : Seen} {through :
         (next_detail_outcome mid.naming period centre (Some detail))
         → IsCall work_shown old new (Err fault) (work_outcome old.naming period centre)
     work_refused new detail fault call =
-        read_then (λ book. refl) (λ book. refl) (λ book. refl) (fault_alike fault)
-        (λ book early. fault_tells (λ found. found) work_shown fault
-        (λ said. ap (shown_by (work_seen (closed_through book period)))
-        (refused_back (next_after (Some detail)) (all_details (report_on period centre) old.naming book) fault
-        (sym (next_shown (report_on period centre) old.naming (Some detail) book) ∙ said))))
-        it.far.call
-        (subst (λ naming. IsCall (λ found. found) mid new (Err fault)
-        (next_detail_outcome naming period centre (Some detail))) it.far.call.work.naming call)
+        refused_next (Err fault) refl (λ book. refl) (λ book. refl)
+        (λ book known. none_worked period centre old.naming (Some detail) book fault) it.far.shows
+        (by_names (λ naming. next_detail_outcome naming period centre (Some detail)) it.far.shows.work.naming call)
 
     -- or it goes on
     pub work_more : (new : Seen) (detail : Detail) (after : Option Detail) (more : WorkSums)

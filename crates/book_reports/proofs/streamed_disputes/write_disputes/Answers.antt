@@ -8,6 +8,7 @@ use Rattle.book_reports.specs.Writing.{is_write_or_memory}
 use Rattle.book_reports.proofs.DisputeLemmas.{some_cut, some_ended, some_stopped, text_begun, text_cut}
 use Rattle.book_reports.proofs.DisputeLemmas.{text_ended, text_fewer, text_more, text_refused}
 use Rattle.book_reports.proofs.DisputeLemmas.{text_stopped}
+use Rattle.book_reports.proofs.ShownLemmas.{shown}
 use Rattle.book_reports.proofs.StreamedLemmas.{none_written}
 use Rattle.book_reports.proofs.StreamingLemmas.{report_unread, report_written}
 use Rattle.book_reports.proofs.streamed_disputes.write_disputes.Goals as goal
@@ -24,8 +25,8 @@ returns-in_err-count-clause-written g c =
 pub returns-then-failed-clause-written : goal.returns-then-failed-clause-written
 returns-then-failed-clause-written g c =
     let held = g.W.Write.contents (writer_of c.args.sink.now) in
-    report_written (λ book. refl) c.in_ok-count.ensures (dispute_report c.args.form) held held _ refl
-    (λ book is. (0, Appends-nil held))
+    report_written (shown (λ book. refl) c.in_ok-count.ensures) (dispute_report c.args.form) held held _
+    refl (λ book known. (0, Appends-nil held))
 
 -- the lines are begun
 pub loop-before-init : goal.loop-before-init
@@ -151,8 +152,8 @@ returns-in_err-waiting-clause-written g c =
     c.from_residual-in_err-waiting.ensures.1 in
     let held = g.W.Write.contents (writer_of c.args.sink.now) in
     rw (failed.1, failed.2)
-    (report_written (λ book. refl) c.in_ok-count.ensures (dispute_report c.args.form) held held _ refl
-    (λ book is. (0, Appends-nil held)))
+    (report_written (shown (λ book. refl) c.in_ok-count.ensures) (dispute_report c.args.form) held held _
+    refl (λ book known. (0, Appends-nil held)))
 
 pub returns-in_err-waiting-clause-some : goal.returns-in_err-waiting-clause-some
 returns-in_err-waiting-clause-some g c =

@@ -22,7 +22,7 @@ pub returns-then-failed-clause-written : goal.returns-then-failed-clause-written
 returns-then-failed-clause-written g c =
     let held = g.W.Write.contents (writer_of c.args.sink.now) in
     read_written (first_read _ _ c.in_ok-next.next c.in_ok-next.ensures.ruling) held held _ refl
-    (λ all front found. (0, Appends-nil held))
+    (λ all known. (0, Appends-nil held))
 
 pub returns-in_err-head-clause-written : goal.returns-in_err-head-clause-written
 returns-in_err-head-clause-written g c =
@@ -31,7 +31,7 @@ returns-in_err-head-clause-written g c =
     let held = g.W.Write.contents (writer_of c.args.sink.now) in
     rw (failed.1, failed.2)
     (read_written (first_read _ _ c.in_ok-next.next c.in_ok-next.ensures.ruling) held held _ refl
-    (λ all front found. (0, Appends-nil held)))
+    (λ all known. (0, Appends-nil held)))
 
 pub returns-in_err-head-clause-some : goal.returns-in_err-head-clause-some
 returns-in_err-head-clause-some g c =
