@@ -1,7 +1,6 @@
 -- Lists that are read from a ledger, and what is made from them: a reading call stands for another.
 use Rattle.std.proofs.Common.{◌≡◌, ◌∙◌, Bool, false, List, [], ◌++◌, refl, sym, ap, subst}
 use Rattle.std.proofs.Common.{◌||◌, inl, inr, None, Option, ℕ, ℤ, Result, Ok, Err}
-use Rattle.std.proofs.lemmas.Result.{err_from_is_err_and}
 use Rattle.std.specs.Result.{IsErrAnd}
 use Rattle.std.specs.declared.alloc.AllocError.{AllocError}
 use Rattle.book_model.specs.declared.fault.LedgerFault.{LedgerFault}
@@ -151,6 +150,12 @@ fault_tells view show Store refused tells = tt
 fault_tells view show Reopen refused tells = tt
 fault_tells view show fault refused tells = refused tells
 
+-- the fault that `?` passes on
+pub passed_on : {T F : Type 0} {fault : F} (result : Result T F)
+    → IsErrAnd result (λ given. given ≡ fault) → result ≡ Err fault
+passed_on (Ok value) is = absurd is
+passed_on (Err given) is = ap Err is
+
 module _ {V A U B : Type 0} {view : V → A} {show : U → B} {outcome : Book → Outcome A}
   where
     -- a call that failed stands for another that is refused alike
@@ -160,8 +165,7 @@ module _ {V A U B : Type 0} {view : V → A} {show : U → B} {outcome : Book �
         → ((book : Book) → (outcome book).answer ≡ Err fault → (other book).answer ≡ Err fault)
         → IsCall view old new (Err fault) outcome → IsCall show old new result other
     call_failed {fault = fault} result is none no_other refused call =
-        let failed = err_from_is_err_and result is in
-        rw (failed.1, failed.2)
+        rw (passed_on result is)
         (read_as none no_other (fault_alike fault) (λ book. fault_tells view show fault (refused book)) call)
 
     -- what was made of a list that was read, where it is what the definitions make of it

@@ -2,7 +2,6 @@
 use Rattle.std.proofs.Common.{◌≡◌, ◌∙◌, Bool, false, List, [], ◌++◌, refl, sym, ap, subst}
 use Rattle.std.proofs.Common.{◌||◌, Result, Ok, Err}
 use Rattle.std.specs.Result.{IsErrAnd}
-use Rattle.std.proofs.lemmas.Result.{err_from_is_err_and}
 use Rattle.book_model.specs.declared.fault.LedgerFault.{LedgerFault}
 use Rattle.book_model.specs.declared.fault.LedgerFault.TheVariants.{Memory}
 use Rattle.book_model.specs.Words.{Book, Event, Outcome, after_all}
@@ -11,7 +10,7 @@ use Rattle.book_core.specs.Calls.{Calls, IsCall, Reopens, listed}
 use Rattle.book_core.specs.Transition.{IsTransition, Then}
 use Rattle.book_core.proofs.TransitionLemmas.{work_as, work_then}
 use Rattle.book_reports.proofs.ReadingLemmas.{IsAlike, IsReading, Tells, fault_alike, fault_tells}
-use Rattle.book_reports.proofs.ReadingLemmas.{goes_on, made, reopens_alike, told}
+use Rattle.book_reports.proofs.ReadingLemmas.{goes_on, made, passed_on, reopens_alike, told}
 
 -- no event was made, and this is known of the book; an open ledger stays so
 pub record Saw (Known : Book → Type 0) (was : Bool) (before : Book) (events : List Event) (is : Bool)
@@ -157,8 +156,7 @@ module _ {U B : Type 0} {show : U → B} {other : Book → Outcome B} {Known : B
         → IsCall show old new result other
     refused_next {V = V} {view = view} {outcome = outcome} {fault = fault} {old = old} {mid = mid}
         {new = new} result is none no_other refused so_far call =
-        let failed = err_from_is_err_and result is in
-        rw (failed.1, failed.2) (record {
+        rw (passed_on result is) (record {
           work = work_as old new (Then (Saw Known) (Calls view outcome (Err fault)))
               (Calls show other (Err fault))
               (λ was before events is both.

@@ -1,7 +1,6 @@
 -- A text of two lists, which are read from one book; and what a period would have cost by another
 -- tariff.
 use Rattle.std.proofs.Common.{◌≡◌, ◌≢◌, refl, sym, ap, subst, Option, List, ℕ, ℤ, Result, Ok, Err}
-use Rattle.std.proofs.lemmas.Result.{err_from_is_err_and}
 use Rattle.std.specs.Result.{IsErrAnd}
 use Rattle.std.specs.declared.alloc.AllocError.{AllocError}
 use Rattle.sha2.specs.Sha256.{sha256}
@@ -18,7 +17,7 @@ use Rattle.book_reports.specs.BookTexts.{IsMadeOf, closed_through, closed_throug
 use Rattle.book_reports.specs.WhatIfTexts.{form_under, shown_by_both, table_under, text_under}
 use Rattle.book_reports.specs.WhatIfTexts.{what_if_by, what_if_report}
 use Rattle.book_reports.proofs.ReadingLemmas.{IsAlike, IsReading, Tells, call_failed, call_made}
-use Rattle.book_reports.proofs.ReadingLemmas.{read_as, read_then}
+use Rattle.book_reports.proofs.ReadingLemmas.{passed_on, read_as, read_then}
 use Rattle.book_reports.proofs.WritingLemmas.{same_value}
 
 -- what two answers of a book are shown as
@@ -130,7 +129,6 @@ pub text_refused : {V A U : Type 0} {view : V → A} {show : U → List ℕ} {ol
     → IsCall view old new (Ok value) outcome
     → IsCall show old new result (what_if_report asked text)
 text_refused {show = show} {value = value} asked text why result is refused none call =
-    let failed = err_from_is_err_and result is in
-    rw (failed.1, failed.2)
+    rw (passed_on result is)
     (read_as none (λ book. refl) (refusal_alike value why)
     (λ book said. refusal_tells show asked text book why refused) call)

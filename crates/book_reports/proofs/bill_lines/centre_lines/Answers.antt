@@ -1,11 +1,10 @@
 use Rattle.std.proofs.Common.{◌∙◌, Ok, Some, ap, map, refl, subst, sym}
-use Rattle.std.proofs.lemmas.Result.{err_from_is_err_and}
 use Rattle.book_model.specs.declared.bill.BilledLine.{BilledLine}
 use Rattle.book_model.specs.Words.{AreLines, billed_lines}
 use Rattle.report_texts.specs.Centres.{lines_of_centre}
 use Rattle.book_reports.specs.BookTexts.{shown_by}
 use Rattle.book_reports.proofs.BillLineLemmas.{line_known, lines_known, lines_more}
-use Rattle.book_reports.proofs.ReadingLemmas.{call_failed}
+use Rattle.book_reports.proofs.ReadingLemmas.{call_failed, passed_on}
 use Rattle.book_reports.proofs.ShownLemmas.{answers, answers_none, refused_next, shown, shown_as}
 use Rattle.book_reports.proofs.ShownLemmas.{then_shown, then_stays}
 use Rattle.book_reports.proofs.bill_lines.centre_lines.Goals as goal
@@ -40,9 +39,7 @@ returns-in_err-spoken_of-clause-lines g c =
 -- there is no memory for one more
 pub returns-in_err-push-clause-lines : goal.returns-in_err-push-clause-lines
 returns-in_err-push-clause-lines g c =
-    let failed = err_from_is_err_and c.from_residual-in_err-push.result
-    c.from_residual-in_err-push.ensures.1 in
-    rw (failed.1, failed.2)
+    rw (passed_on c.from_residual-in_err-push.result c.from_residual-in_err-push.ensures.1)
     (answers_none (λ book. refl)
     (then_stays (λ book. refl) c.loop-line.invariant.far c.in_ok-spoken_of.ensures))
 

@@ -1,10 +1,9 @@
 use Rattle.std.proofs.Common.{◌∙◌, None, Ok, ap, map, refl, subst, sym}
-use Rattle.std.proofs.lemmas.Result.{err_from_is_err_and}
 use Rattle.book_model.specs.declared.bill.BilledLine.{BilledLine}
 use Rattle.book_model.specs.Words.{AreLines, billed_lines, line_alone}
 use Rattle.book_reports.specs.BookTexts.{shown_by}
 use Rattle.book_reports.proofs.BillLineLemmas.{plain_lines}
-use Rattle.book_reports.proofs.ReadingLemmas.{call_failed, read_as}
+use Rattle.book_reports.proofs.ReadingLemmas.{call_failed, passed_on, read_as}
 use Rattle.book_reports.proofs.bill_lines.office_lines.Goals as goal
 
 pub returns-in_err-lines-clause-lines : goal.returns-in_err-lines-clause-lines
@@ -16,9 +15,7 @@ returns-in_err-lines-clause-lines g c =
 
 pub returns-in_err-billed-clause-lines : goal.returns-in_err-billed-clause-lines
 returns-in_err-billed-clause-lines g c =
-    let failed = err_from_is_err_and c.from_residual-in_err-billed.result
-    c.from_residual-in_err-billed.ensures.1 in
-    rw (failed.1, failed.2)
+    rw (passed_on c.from_residual-in_err-billed.result c.from_residual-in_err-billed.ensures.1)
     (read_as (λ book. refl) (λ book. refl) (record { reopen = refl; store = refl })
     (λ book said. tt) c.in_ok-lines.ensures.lines)
 

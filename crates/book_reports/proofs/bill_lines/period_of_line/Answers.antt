@@ -1,6 +1,6 @@
 use Rattle.std.proofs.Common.{◌∙◌, ap, sym}
-use Rattle.std.proofs.lemmas.Result.{err_from_is_err_and}
 use Rattle.book_reports.specs.BillLines.{is_unheld}
+use Rattle.book_reports.proofs.ReadingLemmas.{passed_on}
 use Rattle.book_reports.proofs.BillLineLemmas.{period_refused, period_sought, period_unheld}
 use Rattle.book_reports.proofs.bill_lines.period_of_line.Goals as goal
 
@@ -13,8 +13,7 @@ returns-then-is_unheld g c =
 
 pub returns-in_err-trail : goal.returns-in_err-trail
 returns-in_err-trail g c =
-    let failed = err_from_is_err_and c.from_residual.result c.from_residual.ensures.1 in
-    rw (failed.1, failed.2)
+    rw (passed_on c.from_residual.result c.from_residual.ensures.1)
     (period_refused (g.L.Ledger.seen c.args.ledger.now).naming c.args.number c.args.line.now
     c.in_err-trail.field-0.0
     (sym (ap is_unheld c.in_err-trail.was) ∙ sym c.is_unheld.ensures ∙ c.if-is_unheld.false)

@@ -1,9 +1,8 @@
 use Rattle.std.proofs.Common.{SFits, refl, rules, string_bytes, w32}
 use Rattle.std.proofs.lemmas.Int.{to_z-of_z}
-use Rattle.std.proofs.lemmas.Result.{err_from_is_err_and}
 use Rattle.book_reports.proofs.KeptTariffLemmas.{keep_begun, keep_ended, keep_more}
 use Rattle.book_reports.proofs.KeptTariffLemmas.{keep_refused, keep_stopped}
-use Rattle.book_reports.proofs.ReadingLemmas.{call_failed}
+use Rattle.book_reports.proofs.ReadingLemmas.{call_failed, passed_on}
 use Rattle.book_reports.proofs.bill_tariffs.tariffs_on.Goals as goal
 
 pub returns-in_err-next-clause-tariffs : goal.returns-in_err-next-clause-tariffs
@@ -26,16 +25,14 @@ returns-in_default-clause-tariffs g c =
 -- there is no memory for it
 pub returns-in_err-join-clause-tariffs : goal.returns-in_err-join-clause-tariffs
 returns-in_err-join-clause-tariffs g c =
-    let failed = err_from_is_err_and c.from_residual-in_err-join.result
-    c.from_residual-in_err-join.ensures.1 in
-    rw (failed.1, failed.2, c.in_err-join.ensures.memory) (keep_stopped c.loop-before.invariant.far)
+    let exit = c.from_residual-in_err-join in
+    rw (passed_on exit.result exit.ensures.1, c.in_err-join.ensures.memory)
+    (keep_stopped c.loop-before.invariant.far)
 
 -- the next ruling is refused
 pub returns-in_err-next-2-clause-tariffs : goal.returns-in_err-next-2-clause-tariffs
 returns-in_err-next-2-clause-tariffs g c =
-    let failed = err_from_is_err_and c.from_residual-in_err-next-2.result
-    c.from_residual-in_err-next-2.ensures.1 in
-    rw (failed.1, failed.2)
+    rw (passed_on c.from_residual-in_err-next-2.result c.from_residual-in_err-next-2.ensures.1)
     (keep_refused c.loop-before.invariant.far _ c.in_err-next-2.field-0.0
     c.in_err-next-2.ensures.ruling)
 

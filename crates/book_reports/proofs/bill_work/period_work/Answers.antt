@@ -1,6 +1,5 @@
 use Rattle.std.proofs.Common.{refl}
-use Rattle.std.proofs.lemmas.Result.{err_from_is_err_and}
-use Rattle.book_reports.proofs.ReadingLemmas.{call_failed}
+use Rattle.book_reports.proofs.ReadingLemmas.{call_failed, passed_on}
 use Rattle.book_reports.proofs.WorkLemmas.{work_begun, work_ended, work_more, work_refused}
 use Rattle.book_reports.proofs.WorkLemmas.{work_stopped, work_unbegun}
 use Rattle.book_reports.proofs.bill_work.period_work.Goals as goal
@@ -14,9 +13,7 @@ returns-in_err-through-clause-work g c =
 -- the first detail is refused
 pub returns-in_err-next-clause-work : goal.returns-in_err-next-clause-work
 returns-in_err-next-clause-work g c =
-    let failed = err_from_is_err_and c.from_residual-in_err-next.result
-    c.from_residual-in_err-next.ensures.1 in
-    rw (failed.1, failed.2)
+    rw (passed_on c.from_residual-in_err-next.result c.from_residual-in_err-next.ensures.1)
     (work_unbegun c.args.period c.args.centre.now _ _ _ c.in_ok-through.through
     c.in_err-next.field-0.0 c.in_ok-through.ensures.through c.in_err-next.ensures.detail)
 
@@ -31,9 +28,8 @@ details-init g c = record {
 -- there are no more, and no memory for their rows
 pub returns-in_err-rows-clause-work : goal.returns-in_err-rows-clause-work
 returns-in_err-rows-clause-work g c =
-    let failed = err_from_is_err_and c.from_residual-in_err-rows.result
-    c.from_residual-in_err-rows.ensures.1 in
-    rw (failed.1, failed.2) (work_stopped c.details.invariant.far)
+    rw (passed_on c.from_residual-in_err-rows.result c.from_residual-in_err-rows.ensures.1)
+    (work_stopped c.details.invariant.far)
 
 -- or these are the rows
 pub returns-in_default-clause-work : goal.returns-in_default-clause-work
@@ -43,16 +39,14 @@ returns-in_default-clause-work g c =
 -- the sums do not fit
 pub returns-in_err-add-clause-work : goal.returns-in_err-add-clause-work
 returns-in_err-add-clause-work g c =
-    let failed = err_from_is_err_and c.from_residual-in_err-add.result
-    c.from_residual-in_err-add.ensures.1 in
-    rw (failed.1, failed.2, c.in_err-add.ensures.fault) (work_stopped c.details.invariant.far)
+    let exit = c.from_residual-in_err-add in
+    rw (passed_on exit.result exit.ensures.1, c.in_err-add.ensures.fault)
+    (work_stopped c.details.invariant.far)
 
 -- the next detail is refused
 pub returns-in_err-next-2-clause-work : goal.returns-in_err-next-2-clause-work
 returns-in_err-next-2-clause-work g c =
-    let failed = err_from_is_err_and c.from_residual-in_err-next-2.result
-    c.from_residual-in_err-next-2.ensures.1 in
-    rw (failed.1, failed.2)
+    rw (passed_on c.from_residual-in_err-next-2.result c.from_residual-in_err-next-2.ensures.1)
     (work_refused c.details.invariant.far _ c.in-Some.detail c.in_err-next-2.field-0.0
     c.in_err-next-2.ensures.detail)
 

@@ -1,7 +1,7 @@
 use Rattle.std.proofs.Common.{sym}
-use Rattle.std.proofs.lemmas.Result.{err_from_is_err_and}
 use Rattle.book_model.specs.declared.bill.HeldBack.{HeldBack}
 use Rattle.book_model.specs.Words.{held_back_in}
+use Rattle.book_reports.proofs.ReadingLemmas.{passed_on}
 use Rattle.book_reports.proofs.DisputeReading.{all_summed, sum_refused, sum_stopped, sum_unread}
 use Rattle.book_reports.proofs.HeldLemmas.{held_begun, held_on}
 use Rattle.book_reports.proofs.held_back.held_in_all.Goals as goal
@@ -9,8 +9,7 @@ use Rattle.book_reports.proofs.held_back.held_in_all.Goals as goal
 -- the first call is refused
 pub returns-in_err-next : goal.returns-in_err-next
 returns-in_err-next g c =
-    let failed = err_from_is_err_and c.from_residual.result c.from_residual.ensures.1 in
-    rw (failed.1, failed.2)
+    rw (passed_on c.from_residual.result c.from_residual.ensures.1)
     (sum_unread (λ (held : HeldBack). held) (held_back_in c.args.centre.now) _ _
     c.in_err-next.field-0.0 c.in_err-next.ensures.dispute)
 
@@ -36,9 +35,7 @@ returns-in_default-with_dispute g c =
 pub returns-in_err-from : goal.returns-in_err-from
 returns-in_err-from g c =
     let it = c.disputes.invariant in
-    let failed = err_from_is_err_and c.from_residual-in_err-from.result
-    c.from_residual-in_err-from.ensures.1 in
-    rw (failed.1, failed.2)
+    rw (passed_on c.from_residual-in_err-from.result c.from_residual-in_err-from.ensures.1)
     (sum_stopped (λ (held : HeldBack). held) (held_back_in c.args.centre.now) _ _ it.count it.read
     c.disputes.next it.far)
 
@@ -46,9 +43,7 @@ returns-in_err-from g c =
 pub returns-in_err-next-2 : goal.returns-in_err-next-2
 returns-in_err-next-2 g c =
     let it = c.disputes.invariant in
-    let failed = err_from_is_err_and c.from_residual-in_err-next-2.result
-    c.from_residual-in_err-next-2.ensures.1 in
-    rw (failed.1, failed.2)
+    rw (passed_on c.from_residual-in_err-next-2.result c.from_residual-in_err-next-2.ensures.1)
     (sum_refused (λ (held : HeldBack). held) (held_back_in c.args.centre.now) _ _ _ it.count it.read
     c.disputes.next c.in_ok-from.from.items c.in_err-next-2.field-0.0 it.far
     (rw c.deref.ensures.value at c.in_err-next-2.ensures.dispute))

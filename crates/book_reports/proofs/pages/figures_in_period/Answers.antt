@@ -1,8 +1,7 @@
 use Rattle.std.proofs.Common.{refl, rules, ◌≡◌}
-use Rattle.std.proofs.lemmas.Result.{err_from_is_err_and}
 use Rattle.page_texts.specs.Figures.{figures_of, figures_seen}
 use Rattle.book_reports.proofs.PageLemmas.{figures_known}
-use Rattle.book_reports.proofs.ReadingLemmas.{call_failed}
+use Rattle.book_reports.proofs.ReadingLemmas.{call_failed, passed_on}
 use Rattle.book_reports.proofs.ShownLemmas.{answers, answers_none, both_shown, refused_next, shown}
 use Rattle.book_reports.proofs.ShownLemmas.{then_stays}
 use Rattle.book_reports.proofs.pages.figures_in_period.Goals as goal
@@ -21,9 +20,7 @@ returns-in_err-lines g c =
 -- there is no memory for what each centre costs
 pub returns-in_err-figures : goal.returns-in_err-figures
 returns-in_err-figures g c =
-    let failed = err_from_is_err_and c.from_residual-in_err-figures.result
-    c.from_residual-in_err-figures.ensures.1 in
-    rw (failed.1, failed.2)
+    rw (passed_on c.from_residual-in_err-figures.result c.from_residual-in_err-figures.ensures.1)
     (answers_none (λ book. refl)
     (then_stays (λ book. refl) (shown (λ book. refl) c.in_ok-rows.ensures.rows)
     c.in_ok-lines.ensures.lines))

@@ -1,11 +1,10 @@
 use Rattle.std.proofs.Common.{◌≡◌, ◌∙◌, ap, arith, length, map, refl, rules, ℤ, List}
-use Rattle.std.proofs.lemmas.Result.{err_from_is_err_and}
 use Rattle.page_texts.specs.Figures.{figures_seen}
 use Rattle.page_texts.specs.OfficePage.{office_page_text}
 use Rattle.report_texts.specs.Figures.{number_after}
 use Rattle.book_reports.specs.declared.figures.OpenPeriod.{OpenPeriod}
 use Rattle.book_reports.proofs.PageLemmas.{office_known, period_known}
-use Rattle.book_reports.proofs.ReadingLemmas.{call_failed}
+use Rattle.book_reports.proofs.ReadingLemmas.{call_failed, passed_on}
 use Rattle.book_reports.proofs.ShownLemmas.{answers, answers_none, refused_next, shown, shown_as}
 use Rattle.book_reports.proofs.ShownLemmas.{then_shown, then_stays}
 use Rattle.book_reports.proofs.pages.office_page_report.Goals as goal
@@ -34,9 +33,7 @@ returns-in_err-figures g c =
 -- there is no memory for one more
 pub returns-in_err-push : goal.returns-in_err-push
 returns-in_err-push g c =
-    let failed = err_from_is_err_and c.from_residual-in_err-push.result
-    c.from_residual-in_err-push.ensures.1 in
-    rw (failed.1, failed.2)
+    rw (passed_on c.from_residual-in_err-push.result c.from_residual-in_err-push.ensures.1)
     (answers_none (λ book. refl)
     (then_stays (λ book. refl) c.loop-before.invariant c.in_ok-figures.ensures))
 
@@ -52,9 +49,8 @@ loop-before-preserved g c =
 -- or for the page
 pub returns-in_err-page : goal.returns-in_err-page
 returns-in_err-page g c =
-    let failed = err_from_is_err_and c.from_residual-in_err-page.result
-    c.from_residual-in_err-page.ensures.1 in
-    rw (failed.1, failed.2) (answers_none (λ book. refl) c.loop-before.invariant)
+    rw (passed_on c.from_residual-in_err-page.result c.from_residual-in_err-page.ensures.1)
+    (answers_none (λ book. refl) c.loop-before.invariant)
 
 -- these are all
 pub returns : goal.returns

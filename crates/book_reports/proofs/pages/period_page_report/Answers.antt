@@ -1,11 +1,10 @@
 use Rattle.std.proofs.Common.{◌≡◌, ap, map, refl, rules}
-use Rattle.std.proofs.lemmas.Result.{err_from_is_err_and}
 use Rattle.book_model.specs.Words.{dispute_shown}
 use Rattle.page_texts.specs.PeriodPage.{period_page_text}
 use Rattle.book_reports.specs.Pages.{page_with}
 use Rattle.book_reports.specs.Shown.{shown_by}
 use Rattle.book_reports.proofs.PageLemmas.{page_known}
-use Rattle.book_reports.proofs.ReadingLemmas.{call_failed}
+use Rattle.book_reports.proofs.ReadingLemmas.{call_failed, passed_on}
 use Rattle.book_reports.proofs.ShownLemmas.{answers, answers_none, both_shown, refused_next, shown}
 use Rattle.book_reports.proofs.ShownLemmas.{then_stays}
 use Rattle.book_reports.proofs.pages.period_page_report.Goals as goal
@@ -44,9 +43,7 @@ returns-in_err-closes g c =
 -- there is no memory for the page
 pub returns-in_err-page : goal.returns-in_err-page
 returns-in_err-page g c =
-    let failed = err_from_is_err_and c.from_residual-in_err-page.result
-    c.from_residual-in_err-page.ensures.1 in
-    rw (failed.1, failed.2)
+    rw (passed_on c.from_residual-in_err-page.result c.from_residual-in_err-page.ensures.1)
     (answers_none (λ book. refl)
     (then_stays (λ book. refl)
     (then_stays (λ book. refl)

@@ -1,9 +1,8 @@
 use Rattle.std.proofs.Common.{◌≡◌, ◌∙◌, ◌+◌, Some, ap, ap₂, refl, rules, string_bytes, subst, sym, of_z, to_z}
 use Rattle.std.proofs.Common.{SFits, w32}
 use Rattle.std.proofs.lemmas.Int.{to_z-of_z}
-use Rattle.std.proofs.lemmas.Result.{err_from_is_err_and}
 use Rattle.book_model.specs.Words.{TariffSeen}
-use Rattle.book_reports.proofs.ReadingLemmas.{call_failed}
+use Rattle.book_reports.proofs.ReadingLemmas.{call_failed, passed_on}
 use Rattle.book_reports.proofs.TariffLemmas.{SeeksOn, seek_begun, seek_more, text_found, text_gone}
 use Rattle.book_reports.proofs.TariffLemmas.{text_lost, text_refused}
 use Rattle.book_reports.proofs.ruling_texts.tariff_text.Goals as goal
@@ -41,9 +40,7 @@ returns-then-begins-day g c =
 pub returns-in_err-next-2 : goal.returns-in_err-next-2
 returns-in_err-next-2 g c =
     let far = rw (to_z-of_z w32 c.args.day c.ranges.day) at c.loop-before.invariant in
-    let failed = err_from_is_err_and c.from_residual-in_err-next-2.result
-    c.from_residual-in_err-next-2.ensures.1 in
-    rw (failed.1, failed.2)
+    rw (passed_on c.from_residual-in_err-next-2.result c.from_residual-in_err-next-2.ensures.1)
     (text_refused far (g.L.Ledger.seen c.ruling-in-loop-before.new.self) c.in_err-next-2.field-0.0
     c.in_err-next-2.ensures.ruling)
 

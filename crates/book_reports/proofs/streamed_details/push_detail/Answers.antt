@@ -1,6 +1,6 @@
 use Rattle.std.proofs.Common.{◌++◌}
-use Rattle.std.proofs.lemmas.Result.{err_from_is_err_and}
 use Rattle.book_reports.specs.StreamedDetails.{details_part}
+use Rattle.book_reports.proofs.ReadingLemmas.{passed_on}
 use Rattle.book_reports.proofs.DetailLemmas.{part_some}
 use Rattle.book_reports.proofs.StreamedLemmas.{none_written, some_behind}
 use Rattle.book_reports.proofs.streamed_details.push_detail.Goals as goal
@@ -21,15 +21,13 @@ returns-in_default-clause-left g c =
 -- there is no memory for the line
 pub returns-in_err-part-clause-written : goal.returns-in_err-part-clause-written
 returns-in_err-part-clause-written g c =
-    let failed = err_from_is_err_and c.from_residual.result c.from_residual.ensures.1 in
-    rw failed.1 (_, none_written _ _)
+    rw (passed_on c.from_residual.result c.from_residual.ensures.1) (_, none_written _ _)
 
 pub returns-in_err-part-clause-left : goal.returns-in_err-part-clause-left
 returns-in_err-part-clause-left g c =
-    let failed = err_from_is_err_and c.from_residual.result c.from_residual.ensures.1 in
     let part = details_part c.args.report.now c.args.detail.now in
     let waits = c.args.waiting.now.items in
-    rw failed.1 (
+    rw (passed_on c.from_residual.result c.from_residual.ensures.1) (
       waits ++ part,
       some_behind waits part (part_some c.args.report.now c.args.detail.now),
       none_written _ _,

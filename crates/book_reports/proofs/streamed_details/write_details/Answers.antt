@@ -3,6 +3,7 @@ use Rattle.std.proofs.lemmas.Result.{err_from_is_err_and}
 use Rattle.std.proofs.KnownBytes.{Appends-nil}
 use Rattle.streams.specs.Sinks.{writer_of}
 use Rattle.book_reports.specs.declared.fault.ReportFault.TheVariants as report
+use Rattle.book_reports.proofs.ReadingLemmas.{passed_on}
 use Rattle.book_reports.proofs.DetailLemmas.{first_refused, none_read, some_cut, some_ended}
 use Rattle.book_reports.proofs.DetailLemmas.{some_stopped, text_begun, text_cut, text_ended}
 use Rattle.book_reports.proofs.DetailLemmas.{text_more, text_refused, text_stopped, text_unbegun}
@@ -11,31 +12,27 @@ use Rattle.book_reports.proofs.streamed_details.write_details.Goals as goal
 -- the day of the close is not answered
 pub returns-in_err-through-clause-written : goal.returns-in_err-through-clause-written
 returns-in_err-through-clause-written g c =
-    let failed = err_from_is_err_and c.from_residual.result c.from_residual.ensures.1 in
-    rw (failed.1, failed.2)
+    rw (passed_on c.from_residual.result c.from_residual.ensures.1)
     (none_read c.args.report _ _ c.in_err-through.field-0.0
     (g.W.Write.contents (writer_of c.args.sink.now)) c.in_err-through.ensures.through)
 
 pub returns-in_err-through-clause-some : goal.returns-in_err-through-clause-some
 returns-in_err-through-clause-some g c =
-    let failed = err_from_is_err_and c.from_residual.result c.from_residual.ensures.1 in
-    rw failed.1 ((None, []), (0, Appends-nil (g.W.Write.contents (writer_of c.args.sink.now))))
+    rw (passed_on c.from_residual.result c.from_residual.ensures.1)
+    ((None, []), (0, Appends-nil (g.W.Write.contents (writer_of c.args.sink.now))))
 
 -- the first detail is refused
 pub returns-in_err-next-clause-written : goal.returns-in_err-next-clause-written
 returns-in_err-next-clause-written g c =
-    let failed = err_from_is_err_and c.from_residual-in_err-next.result
-    c.from_residual-in_err-next.ensures.1 in
-    rw (failed.1, failed.2)
+    rw (passed_on c.from_residual-in_err-next.result c.from_residual-in_err-next.ensures.1)
     (first_refused c.args.report _ _ _ c.in_ok-through.through c.in_err-next.field-0.0
     (g.W.Write.contents (writer_of c.args.sink.now)) c.in_ok-through.ensures.through
     c.in_err-next.ensures.detail)
 
 pub returns-in_err-next-clause-some : goal.returns-in_err-next-clause-some
 returns-in_err-next-clause-some g c =
-    let failed = err_from_is_err_and c.from_residual-in_err-next.result
-    c.from_residual-in_err-next.ensures.1 in
-    rw failed.1 ((None, []), (0, Appends-nil (g.W.Write.contents (writer_of c.args.sink.now))))
+    rw (passed_on c.from_residual-in_err-next.result c.from_residual-in_err-next.ensures.1)
+    ((None, []), (0, Appends-nil (g.W.Write.contents (writer_of c.args.sink.now))))
 
 -- a write failed before
 pub returns-then-failed-clause-written : goal.returns-then-failed-clause-written
@@ -51,18 +48,15 @@ returns-then-failed-clause-some g c =
 -- there is no memory for what stands above
 pub returns-in_err-waiting-clause-written : goal.returns-in_err-waiting-clause-written
 returns-in_err-waiting-clause-written g c =
-    let failed = err_from_is_err_and c.from_residual-in_err-waiting.result
-    c.from_residual-in_err-waiting.ensures.1 in
-    rw (failed.1, failed.2)
+    rw (passed_on c.from_residual-in_err-waiting.result c.from_residual-in_err-waiting.ensures.1)
     (text_unbegun c.args.report _ _ _ c.in_ok-through.through c.in_ok-next.next
     (g.W.Write.contents (writer_of c.args.sink.now)) report.Memory refl
     c.in_ok-through.ensures.through c.in_ok-next.ensures.detail)
 
 pub returns-in_err-waiting-clause-some : goal.returns-in_err-waiting-clause-some
 returns-in_err-waiting-clause-some g c =
-    let failed = err_from_is_err_and c.from_residual-in_err-waiting.result
-    c.from_residual-in_err-waiting.ensures.1 in
-    rw failed.1 ((None, []), (0, Appends-nil (g.W.Write.contents (writer_of c.args.sink.now))))
+    rw (passed_on c.from_residual-in_err-waiting.result c.from_residual-in_err-waiting.ensures.1)
+    ((None, []), (0, Appends-nil (g.W.Write.contents (writer_of c.args.sink.now))))
 
 -- the details are begun
 pub details-init : goal.details-init
@@ -89,10 +83,9 @@ returns-in_default-clause-some g c =
 -- a line is not written, or not whole
 pub returns-in_err-push_detail-clause-written : goal.returns-in_err-push_detail-clause-written
 returns-in_err-push_detail-clause-written g c =
-    let failed = err_from_is_err_and c.from_residual-in_err-push_detail.result
-    c.from_residual-in_err-push_detail.ensures.1 in
     let line = c.in_err-push_detail.ensures.left in
-    rw (failed.1, failed.2)
+    let exit = c.from_residual-in_err-push_detail in
+    rw (passed_on exit.result exit.ensures.1)
     (text_cut c.details.invariant.far c.in-Some.detail c.in-Some.is line.0
     (g.W.Write.contents (writer_of c.push_detail.new.sink)) line.2 line.1
     c.in_err-push_detail.field-0.0 c.in_err-push_detail.ensures.fault)
@@ -109,9 +102,7 @@ returns-in_err-push_detail-clause-some g c =
 -- the ledger refuses the next one
 pub returns-in_err-next-2-clause-written : goal.returns-in_err-next-2-clause-written
 returns-in_err-next-2-clause-written g c =
-    let failed = err_from_is_err_and c.from_residual-in_err-next-2.result
-    c.from_residual-in_err-next-2.ensures.1 in
-    rw (failed.1, failed.2)
+    rw (passed_on c.from_residual-in_err-next-2.result c.from_residual-in_err-next-2.ensures.1)
     (text_refused c.details.invariant.far c.in-Some.detail c.in-Some.is
     c.push_detail.new.waiting.items (g.W.Write.contents (writer_of c.push_detail.new.sink))
     c.in_ok-push_detail.ensures.written c.in_ok-push_detail.ensures.left

@@ -1,7 +1,7 @@
 use Rattle.std.proofs.Common.{ℕ, ◌+◌, ◌++◌, ◌∷◌, [], ap, length, length-append, refl, ◌∙◌}
 use Rattle.std.specs.Prelude.{option_map}
-use Rattle.std.proofs.lemmas.Result.{err_from_is_err_and}
 use Rattle.book_model.specs.Words.{dispute_shown}
+use Rattle.book_reports.proofs.ReadingLemmas.{passed_on}
 use Rattle.book_reports.proofs.DisputeReading.{all_summed, first_read, one_more_read, sum_refused}
 use Rattle.book_reports.proofs.DisputeReading.{sum_stopped, sum_unread}
 use Rattle.book_reports.proofs.streamed_disputes.count_disputes.Goals as goal
@@ -9,8 +9,7 @@ use Rattle.book_reports.proofs.streamed_disputes.count_disputes.Goals as goal
 -- the first call is refused
 pub returns-in_err-next : goal.returns-in_err-next
 returns-in_err-next g c =
-    let failed = err_from_is_err_and c.from_residual.result c.from_residual.ensures.1 in
-    rw (failed.1, failed.2)
+    rw (passed_on c.from_residual.result c.from_residual.ensures.1)
     (sum_unread (λ (count : ℕ). count) length _ _ c.in_err-next.field-0.0
     c.in_err-next.ensures.dispute)
 
@@ -40,9 +39,7 @@ loop-before-preserved g c =
 pub returns-in_err-next-2 : goal.returns-in_err-next-2
 returns-in_err-next-2 g c =
     let it = c.loop-before.invariant in
-    let failed = err_from_is_err_and c.from_residual-in_err-next-2.result
-    c.from_residual-in_err-next-2.ensures.1 in
-    rw (failed.1, failed.2)
+    rw (passed_on c.from_residual-in_err-next-2.result c.from_residual-in_err-next-2.ensures.1)
     (sum_refused (λ (count : ℕ). count) length _ _ _ c.loop-before.before it.0 c.loop-before.next
     c.in_ok-from.from.items c.in_err-next-2.field-0.0 it.2
     (rw c.deref.ensures.value at c.in_err-next-2.ensures.dispute))
@@ -51,9 +48,7 @@ returns-in_err-next-2 g c =
 pub returns-in_err-from : goal.returns-in_err-from
 returns-in_err-from g c =
     let it = c.loop-before.invariant in
-    let failed = err_from_is_err_and c.from_residual-in_err-from.result
-    c.from_residual-in_err-from.ensures.1 in
-    rw (failed.1, failed.2)
+    rw (passed_on c.from_residual-in_err-from.result c.from_residual-in_err-from.ensures.1)
     (sum_stopped (λ (count : ℕ). count) length _ _ c.loop-before.before it.0 c.loop-before.next it.2)
 
 -- there are too many

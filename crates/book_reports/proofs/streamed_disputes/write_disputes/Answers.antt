@@ -5,6 +5,7 @@ use Rattle.streams.specs.Sinks.{writer_of}
 use Rattle.book_reports.specs.StreamedDisputes.{dispute_report}
 use Rattle.book_reports.specs.declared.fault.ReportFault.TheVariants as report
 use Rattle.book_reports.specs.Writing.{is_write_or_memory}
+use Rattle.book_reports.proofs.ReadingLemmas.{passed_on}
 use Rattle.book_reports.proofs.DisputeLemmas.{some_cut, some_ended, some_stopped, text_begun, text_cut}
 use Rattle.book_reports.proofs.DisputeLemmas.{text_ended, text_fewer, text_more, text_refused}
 use Rattle.book_reports.proofs.DisputeLemmas.{text_stopped}
@@ -16,8 +17,7 @@ use Rattle.book_reports.proofs.streamed_disputes.write_disputes.Goals as goal
 -- they are not counted
 pub returns-in_err-count-clause-written : goal.returns-in_err-count-clause-written
 returns-in_err-count-clause-written g c =
-    let failed = err_from_is_err_and c.from_residual.result c.from_residual.ensures.1 in
-    rw (failed.1, failed.2)
+    rw (passed_on c.from_residual.result c.from_residual.ensures.1)
     (report_unread _ c.in_err-count.field-0.0 c.in_err-count.ensures (dispute_report c.args.form)
     (g.W.Write.contents (writer_of c.args.sink.now)))
 
@@ -55,9 +55,7 @@ returns-clause-some g c =
 -- the ledger refuses
 pub returns-in_err-dispute-clause-written : goal.returns-in_err-dispute-clause-written
 returns-in_err-dispute-clause-written g c =
-    let failed = err_from_is_err_and c.from_residual-in_err-dispute.result
-    c.from_residual-in_err-dispute.ensures.1 in
-    rw (failed.1, failed.2)
+    rw (passed_on c.from_residual-in_err-dispute.result c.from_residual-in_err-dispute.ensures.1)
     (text_refused c.loop-before.invariant.far _ c.in_err-dispute.field-0.0
     (rw c.deref.ensures.value at c.in_err-dispute.ensures.dispute))
 
@@ -79,9 +77,7 @@ returns-in_default-clause-some g c = some_stopped c.loop-before.invariant.far re
 -- the lines of a dispute are not made
 pub returns-in_err-part-clause-written : goal.returns-in_err-part-clause-written
 returns-in_err-part-clause-written g c =
-    let failed = err_from_is_err_and c.from_residual-in_err-part.result
-    c.from_residual-in_err-part.ensures.1 in
-    rw (failed.1, failed.2)
+    rw (passed_on c.from_residual-in_err-part.result c.from_residual-in_err-part.ensures.1)
     (text_cut c.loop-before.invariant.far _ c.in-Some.dispute c.loop-before-test.true
     (rw (c.in-Some.is, c.deref.ensures.value) at c.in_ok-dispute.ensures.dispute) _ _ (none_written _ _) _ refl)
 
@@ -94,10 +90,9 @@ returns-in_err-part-clause-some g c =
 -- they are not written, or not whole
 pub returns-in_err-push_part-clause-written : goal.returns-in_err-push_part-clause-written
 returns-in_err-push_part-clause-written g c =
-    let failed = err_from_is_err_and c.from_residual-in_err-push_part.result
-    c.from_residual-in_err-push_part.ensures.1 in
     let wrote = rw (c.deref-in-loop-before.ensures.value, c.in_ok-part.ensures) at c.in_err-push_part.ensures.written in
-    rw (failed.1, failed.2)
+    let exit = c.from_residual-in_err-push_part in
+    rw (passed_on exit.result exit.ensures.1)
     (text_cut c.loop-before.invariant.far _ c.in-Some.dispute c.loop-before-test.true
     (rw (c.in-Some.is, c.deref.ensures.value) at c.in_ok-dispute.ensures.dispute) wrote.0
     (g.W.Write.contents (writer_of c.push_part.new.sink)) wrote.1 c.in_err-push_part.field-0.0
@@ -116,10 +111,8 @@ returns-in_err-push_part-clause-some g c =
 -- there is no memory for the bytes after it
 pub returns-in_err-from-clause-written : goal.returns-in_err-from-clause-written
 returns-in_err-from-clause-written g c =
-    let failed = err_from_is_err_and c.from_residual-in_err-from.result
-    c.from_residual-in_err-from.ensures.1 in
     let wrote = rw (c.deref-in-loop-before.ensures.value, c.in_ok-part.ensures) at c.in_ok-push_part.ensures.written in
-    rw (failed.1, failed.2)
+    rw (passed_on c.from_residual-in_err-from.result c.from_residual-in_err-from.ensures.1)
     (text_cut c.loop-before.invariant.far _ c.in-Some.dispute c.loop-before-test.true
     (rw (c.in-Some.is, c.deref.ensures.value) at c.in_ok-dispute.ensures.dispute) c.push_part.new.waiting.items
     (g.W.Write.contents (writer_of c.push_part.new.sink)) wrote _ refl)
@@ -148,15 +141,12 @@ loop-before-preserved g c = record {
 -- there is no memory for what stands above them
 pub returns-in_err-waiting-clause-written : goal.returns-in_err-waiting-clause-written
 returns-in_err-waiting-clause-written g c =
-    let failed = err_from_is_err_and c.from_residual-in_err-waiting.result
-    c.from_residual-in_err-waiting.ensures.1 in
     let held = g.W.Write.contents (writer_of c.args.sink.now) in
-    rw (failed.1, failed.2)
+    rw (passed_on c.from_residual-in_err-waiting.result c.from_residual-in_err-waiting.ensures.1)
     (report_written (shown (λ book. refl) c.in_ok-count.ensures) (dispute_report c.args.form) held held _
     refl (λ book known. (0, Appends-nil held)))
 
 pub returns-in_err-waiting-clause-some : goal.returns-in_err-waiting-clause-some
 returns-in_err-waiting-clause-some g c =
-    let failed = err_from_is_err_and c.from_residual-in_err-waiting.result
-    c.from_residual-in_err-waiting.ensures.1 in
-    rw failed.1 ([], (0, Appends-nil (g.W.Write.contents (writer_of c.args.sink.now))))
+    rw (passed_on c.from_residual-in_err-waiting.result c.from_residual-in_err-waiting.ensures.1)
+    ([], (0, Appends-nil (g.W.Write.contents (writer_of c.args.sink.now))))

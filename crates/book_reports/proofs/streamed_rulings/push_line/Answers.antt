@@ -1,12 +1,11 @@
-use Rattle.std.proofs.lemmas.Result.{err_from_is_err_and}
+use Rattle.book_reports.proofs.ReadingLemmas.{passed_on}
 use Rattle.book_reports.proofs.StreamedLemmas.{none_written}
 use Rattle.book_reports.proofs.streamed_rulings.push_line.Goals as goal
 
 -- there is no memory for the line
 pub returns-in_err-line-clause-written : goal.returns-in_err-line-clause-written
 returns-in_err-line-clause-written g c =
-    let failed = err_from_is_err_and c.from_residual.result c.from_residual.ensures.1 in
-    rw failed.1 (_, none_written _ _)
+    rw (passed_on c.from_residual.result c.from_residual.ensures.1) (_, none_written _ _)
 
 -- it waits, or was not written
 pub returns-clause-written : goal.returns-clause-written

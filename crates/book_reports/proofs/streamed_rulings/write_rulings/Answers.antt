@@ -5,6 +5,7 @@ use Rattle.streams.specs.Sinks.{writer_of}
 use Rattle.report_texts.specs.RulingLists.{ruling_list_head}
 use Rattle.book_reports.specs.declared.fault.ReportFault.TheVariants as report
 use Rattle.book_reports.specs.Writing.{is_write_or_memory}
+use Rattle.book_reports.proofs.ReadingLemmas.{passed_on}
 use Rattle.book_reports.proofs.RulingLemmas.{list_begun, list_cut, list_ended, list_more}
 use Rattle.book_reports.proofs.RulingLemmas.{list_refused, list_stopped, none_read, read_written}
 use Rattle.book_reports.proofs.RulingLemmas.{some_cut, some_ended, some_stopped}
@@ -13,8 +14,7 @@ use Rattle.book_reports.proofs.streamed_rulings.write_rulings.Goals as goal
 
 pub returns-in_err-next-clause-written : goal.returns-in_err-next-clause-written
 returns-in_err-next-clause-written g c =
-    let failed = err_from_is_err_and c.from_residual.result c.from_residual.ensures.1 in
-    rw (failed.1, failed.2)
+    rw (passed_on c.from_residual.result c.from_residual.ensures.1)
     (none_read c.in_err-next.field-0.0 c.in_err-next.ensures.ruling
     (g.W.Write.contents (writer_of c.args.sink.now)))
 
@@ -26,18 +26,15 @@ returns-then-failed-clause-written g c =
 
 pub returns-in_err-head-clause-written : goal.returns-in_err-head-clause-written
 returns-in_err-head-clause-written g c =
-    let failed = err_from_is_err_and c.from_residual-in_err-head.result
-    c.from_residual-in_err-head.ensures.1 in
     let held = g.W.Write.contents (writer_of c.args.sink.now) in
-    rw (failed.1, failed.2)
+    rw (passed_on c.from_residual-in_err-head.result c.from_residual-in_err-head.ensures.1)
     (read_written (first_read _ _ c.in_ok-next.next c.in_ok-next.ensures.ruling) held held _ refl
     (λ all known. (0, Appends-nil held)))
 
 pub returns-in_err-head-clause-some : goal.returns-in_err-head-clause-some
 returns-in_err-head-clause-some g c =
-    let failed = err_from_is_err_and c.from_residual-in_err-head.result
-    c.from_residual-in_err-head.ensures.1 in
-    rw failed.1 ([], (0, Appends-nil (g.W.Write.contents (writer_of c.args.sink.now))))
+    rw (passed_on c.from_residual-in_err-head.result c.from_residual-in_err-head.ensures.1)
+    ([], (0, Appends-nil (g.W.Write.contents (writer_of c.args.sink.now))))
 
 pub loop-before-init : goal.loop-before-init
 loop-before-init g c = record {
@@ -64,10 +61,9 @@ returns-in_default-clause-some g c =
 
 pub returns-in_err-push_line-clause-written : goal.returns-in_err-push_line-clause-written
 returns-in_err-push_line-clause-written g c =
-    let failed = err_from_is_err_and c.from_residual-in_err-push_line.result
-    c.from_residual-in_err-push_line.ensures.1 in
     let line = c.in_err-push_line.ensures.written in
-    rw (failed.1, failed.2)
+    let exit = c.from_residual-in_err-push_line in
+    rw (passed_on exit.result exit.ensures.1)
     (list_cut c.loop-before.invariant.far c.in-Some.ruling c.in-Some.is line.0
     (g.W.Write.contents (writer_of c.push_line.new.sink)) line.1
     c.in_err-push_line.field-0.0 c.in_err-push_line.ensures.fault)
@@ -83,9 +79,7 @@ returns-in_err-push_line-clause-some g c =
 
 pub returns-in_err-next-2-clause-written : goal.returns-in_err-next-2-clause-written
 returns-in_err-next-2-clause-written g c =
-    let failed = err_from_is_err_and c.from_residual-in_err-next-2.result
-    c.from_residual-in_err-next-2.ensures.1 in
-    rw (failed.1, failed.2)
+    rw (passed_on c.from_residual-in_err-next-2.result c.from_residual-in_err-next-2.ensures.1)
     (list_refused c.loop-before.invariant.far c.in-Some.ruling c.in-Some.is
     c.push_line.new.waiting.items (g.W.Write.contents (writer_of c.push_line.new.sink))
     c.in_ok-push_line.ensures.written (g.L.Ledger.seen c.ruling-in-loop-before.new.self)
