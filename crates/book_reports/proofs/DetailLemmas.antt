@@ -230,7 +230,8 @@ pub first_refused : (report : DetailReport) (old mid new : Seen) (through : Opti
     (WritesDetails report old.naming held held (Err (report_fault_of fault)))
 first_refused report old mid new through fault held day call =
     answer_refused (shown (λ book. refl) day) (λ book. refl) fault
-    (by_names (λ naming. next_detail_outcome naming report.period report.centre None) day.work.naming call)
+    (by_names (λ naming. next_detail_outcome naming report.period report.centre None)
+    day.work.naming call)
     (detail_answer report) held held
     (λ book early said.
     unwritten (detail_answer report old.naming book) fault held (answer_some report old.naming book)
@@ -375,7 +376,8 @@ module _ {report : DetailReport} {old mid : Seen} {next : Option Detail} {sums :
             (WritesDetails report old.naming held has (Err (report_fault_of fault)))
         text_refused new fault call =
             answer_refused it.far.shows (λ book. refl) fault
-            (by_names (λ naming. next_detail_outcome naming report.period report.centre (Some detail)) it.far.shows.work.naming call)
+            (by_names (λ naming. next_detail_outcome naming report.period report.centre (Some detail))
+            it.far.shows.work.naming call)
             (detail_answer report) held has
             (λ book all said.
             cut_by (detail_answer report old.naming book) (details_text report it.through all.details)

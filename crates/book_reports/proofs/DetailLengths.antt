@@ -50,7 +50,8 @@ pub size_refused : (report : DetailReport) (old mid new : Seen) (through : Optio
 size_refused report old mid new through fault day call =
     refused_next (Err fault) refl (λ book. refl) (λ book. refl)
     (λ book known. length_refused report old.naming None book fault) (shown (λ book. refl) day)
-    (by_names (λ naming. next_detail_outcome naming report.period report.centre None) day.work.naming call)
+    (by_names (λ naming. next_detail_outcome naming report.period report.centre None)
+    day.work.naming call)
 
 -- memory ran out after some were read
 pub size_stopped : {report : DetailReport} {old new : Seen} {through : Option ℤ} {count : ℕ}
@@ -122,7 +123,8 @@ module _ {report : DetailReport} {old mid : Seen} {next : Option Detail} {sums :
     count_refused new last fault call =
         refused_next (Err fault) refl (λ book. refl) (λ book. refl)
         (λ book known. length_refused report old.naming last book fault) it.far.shows
-        (by_names (λ naming. next_detail_outcome naming report.period report.centre last) it.far.shows.work.naming call)
+        (by_names (λ naming. next_detail_outcome naming report.period report.centre last)
+        it.far.shows.work.naming call)
 
     -- or it goes on
     pub count_more : (detail : Detail) → next ≡ Some detail → (new : Seen) (after : Option Detail)

@@ -104,7 +104,8 @@ first_read report old mid new through next day call = record {
         those = record { front = refl; there = sym (walked it.0 0 rising) ∙ it.2 };
       })
       (shown (λ book. refl) day)
-      (by_names (λ naming. next_detail_outcome naming report.period report.centre None) day.work.naming call);
+      (by_names (λ naming. next_detail_outcome naming report.period report.centre None)
+      day.work.naming call);
 }
 
 -- and then the one after it
@@ -135,5 +136,6 @@ one_more_read report old mid new through count read detail next after is far cal
         };
       })
       far.shows
-      (by_names (λ naming. next_detail_outcome naming report.period report.centre (Some detail)) far.shows.work.naming call);
+      (by_names (λ naming. next_detail_outcome naming report.period report.centre (Some detail))
+      far.shows.work.naming call);
 }

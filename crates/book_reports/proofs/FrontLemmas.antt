@@ -22,10 +22,10 @@ pub all_taken : {X : Type 0} (xs : List X) (i : ℕ) → slice_get xs i ≡ None
 all_taken xs i none = take_all i xs (past_end xs i none)
 
 -- so many elements of a list were read, and that is the next one, if there is one
-pub record IsFront {X : Type 0} (all : List X) (count : ℕ) (read : List X) (next : Option X) : Type 0
-  where
-    pub front : take count all ≡ read
-    pub there : slice_get all count ≡ next
+pub record IsFront {X : Type 0} (all : List X) (count : ℕ) (read : List X) (next : Option X)
+    : Type 0 where
+  pub front : take count all ≡ read
+  pub there : slice_get all count ≡ next
 
 -- with the next one
 pub front_taken : {X : Type 0} {all read : List X} {count : ℕ} {x : X} {next : Option X}

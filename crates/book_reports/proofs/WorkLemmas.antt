@@ -186,7 +186,7 @@ module _ {period : ℕ} {centre : Option (List ℕ)} {old mid : Seen} {through :
         → IsCall work_shown old mid (Ok (record { through = through; rows = rows }))
         (work_outcome old.naming period centre)
     work_ended rows last makes =
-        answers (record { through = through; rows = rows }) (λ book. refl)
+        answers _ (λ book. refl)
         (λ book all.
         let same : all.details ≡ it.read = sym (front_all all.those last) in
         ap (shown_by (work_seen (closed_through book period))) all.answered
@@ -206,7 +206,8 @@ module _ {period : ℕ} {centre : Option (List ℕ)} {old mid : Seen} {through :
     work_refused new detail fault call =
         refused_next (Err fault) refl (λ book. refl) (λ book. refl)
         (λ book known. none_worked period centre old.naming (Some detail) book fault) it.far.shows
-        (by_names (λ naming. next_detail_outcome naming period centre (Some detail)) it.far.shows.work.naming call)
+        (by_names (λ naming. next_detail_outcome naming period centre (Some detail))
+        it.far.shows.work.naming call)
 
     -- or it goes on
     pub work_more : (new : Seen) (detail : Detail) (after : Option Detail) (more : WorkSums)

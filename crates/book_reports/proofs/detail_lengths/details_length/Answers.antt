@@ -43,8 +43,8 @@ returns-in_default g c =
 -- a line is not counted
 pub returns-in_err-count_detail : goal.returns-in_err-count_detail
 returns-in_err-count_detail g c =
-    let exit = c.from_residual-in_err-count_detail in
-    rw (passed_on exit.result exit.ensures.1)
+    rw (passed_on c.from_residual-in_err-count_detail.result
+    c.from_residual-in_err-count_detail.ensures.1)
     (size_stopped c.details.invariant.far.far _ (ap Err c.in_err-count_detail.ensures.fault))
 
 -- the ledger refuses the next one

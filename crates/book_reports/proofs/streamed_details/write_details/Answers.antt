@@ -84,8 +84,8 @@ returns-in_default-clause-some g c =
 pub returns-in_err-push_detail-clause-written : goal.returns-in_err-push_detail-clause-written
 returns-in_err-push_detail-clause-written g c =
     let line = c.in_err-push_detail.ensures.left in
-    let exit = c.from_residual-in_err-push_detail in
-    rw (passed_on exit.result exit.ensures.1)
+    rw (passed_on c.from_residual-in_err-push_detail.result
+    c.from_residual-in_err-push_detail.ensures.1)
     (text_cut c.details.invariant.far c.in-Some.detail c.in-Some.is line.0
     (g.W.Write.contents (writer_of c.push_detail.new.sink)) line.2 line.1
     c.in_err-push_detail.field-0.0 c.in_err-push_detail.ensures.fault)

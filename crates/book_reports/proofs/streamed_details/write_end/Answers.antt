@@ -17,14 +17,14 @@ returns-in_err-end-clause-until g c some =
 pub returns-in_err-extend_from_slice-clause-written :
     goal.returns-in_err-extend_from_slice-clause-written
 returns-in_err-extend_from_slice-clause-written g c =
-    let exit = c.from_residual-in_err-extend_from_slice in
-    rw (passed_on exit.result exit.ensures.1)
+    rw (passed_on c.from_residual-in_err-extend_from_slice.result
+    c.from_residual-in_err-extend_from_slice.ensures.1)
     (0, Appends-nil (g.W.Write.contents (writer_of c.args.sink.now)))
 
 pub returns-in_err-extend_from_slice-clause-until : goal.returns-in_err-extend_from_slice-clause-until
 returns-in_err-extend_from_slice-clause-until g c some =
-    let exit = c.from_residual-in_err-extend_from_slice in
-    rw (passed_on exit.result exit.ensures.1) (
+    rw (passed_on c.from_residual-in_err-extend_from_slice.result
+    c.from_residual-in_err-extend_from_slice.ensures.1) (
       0,
       some_before c.args.waiting.now.items (details_end c.args.report.now c.args.sums) some,
       Appends-nil (g.W.Write.contents (writer_of c.args.sink.now)),

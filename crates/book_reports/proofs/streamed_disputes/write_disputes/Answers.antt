@@ -91,8 +91,8 @@ returns-in_err-part-clause-some g c =
 pub returns-in_err-push_part-clause-written : goal.returns-in_err-push_part-clause-written
 returns-in_err-push_part-clause-written g c =
     let wrote = rw (c.deref-in-loop-before.ensures.value, c.in_ok-part.ensures) at c.in_err-push_part.ensures.written in
-    let exit = c.from_residual-in_err-push_part in
-    rw (passed_on exit.result exit.ensures.1)
+    rw (passed_on c.from_residual-in_err-push_part.result
+    c.from_residual-in_err-push_part.ensures.1)
     (text_cut c.loop-before.invariant.far _ c.in-Some.dispute c.loop-before-test.true
     (rw (c.in-Some.is, c.deref.ensures.value) at c.in_ok-dispute.ensures.dispute) wrote.0
     (g.W.Write.contents (writer_of c.push_part.new.sink)) wrote.1 c.in_err-push_part.field-0.0

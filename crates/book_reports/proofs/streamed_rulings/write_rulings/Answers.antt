@@ -62,8 +62,8 @@ returns-in_default-clause-some g c =
 pub returns-in_err-push_line-clause-written : goal.returns-in_err-push_line-clause-written
 returns-in_err-push_line-clause-written g c =
     let line = c.in_err-push_line.ensures.written in
-    let exit = c.from_residual-in_err-push_line in
-    rw (passed_on exit.result exit.ensures.1)
+    rw (passed_on c.from_residual-in_err-push_line.result
+    c.from_residual-in_err-push_line.ensures.1)
     (list_cut c.loop-before.invariant.far c.in-Some.ruling c.in-Some.is line.0
     (g.W.Write.contents (writer_of c.push_line.new.sink)) line.1
     c.in_err-push_line.field-0.0 c.in_err-push_line.ensures.fault)

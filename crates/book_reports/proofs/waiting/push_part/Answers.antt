@@ -24,16 +24,16 @@ pub returns-in_err-extend_from_slice-clause-written :
 returns-in_err-extend_from_slice-clause-written g c =
     let rest = c.flush_much.new.waiting.items in
     let part = c.args.part.now in
-    let exit = c.from_residual-in_err-extend_from_slice in
-    rw (passed_on exit.result exit.ensures.1)
+    rw (passed_on c.from_residual-in_err-extend_from_slice.result
+    c.from_residual-in_err-extend_from_slice.ensures.1)
     (rest ++ part, written_of_more _ rest part _ _ c.in_ok-flush_much.ensures.written)
 
 pub returns-in_err-extend_from_slice-clause-left : goal.returns-in_err-extend_from_slice-clause-left
 returns-in_err-extend_from_slice-clause-left g c some =
     let rest = c.flush_much.new.waiting.items in
     let part = c.args.part.now in
-    let exit = c.from_residual-in_err-extend_from_slice in
-    rw (passed_on exit.result exit.ensures.1) (
+    rw (passed_on c.from_residual-in_err-extend_from_slice.result
+    c.from_residual-in_err-extend_from_slice.ensures.1) (
       rest ++ part,
       some_behind rest part some,
       written_of_more _ rest part _ _ c.in_ok-flush_much.ensures.written,
