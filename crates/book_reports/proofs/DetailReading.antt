@@ -21,10 +21,10 @@ use Rattle.book_reports.proofs.ShownLemmas.{Shows, shown, then_shown}
 use Rattle.book_reports.proofs.WritingLemmas.{same_value}
 
 -- what is shown of an answer was answered
-pub shown_back : {A B : Type 0} (show : A → B) (answer : Result A LedgerFault) (shown : B)
-    → shown_by show answer ≡ Ok shown → (given : A) × (answer ≡ Ok given) × (show given ≡ shown)
-shown_back show (Ok given) shown is = (given, refl, same_value is)
-shown_back show (Err fault) shown is = cc
+pub shown_back : {A B : Type 0} (show : A → B) (answer : Result A LedgerFault) (seen : B)
+    → shown_by show answer ≡ Ok seen → (given : A) × (answer ≡ Ok given) × (show given ≡ seen)
+shown_back show (Ok given) seen is = (given, refl, same_value is)
+shown_back show (Err fault) seen is = cc
 
 -- and what is refused was refused
 pub refused_back : {A B : Type 0} (show : A → B) (answer : Result A LedgerFault)
