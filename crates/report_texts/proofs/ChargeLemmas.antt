@@ -61,7 +61,7 @@ each_fits bill is =
     (λ k d within. centre_fits (get_or centres k d) bill.steps bill.jobs lines (bill_fits bill is))
 
 -- one more name joins the others in its place
-one_more : (names : List (List ℕ)) (name : List ℕ)
+pub one_more : (names : List (List ℕ)) (name : List ℕ)
     → members (set_of by_bytes (names ++ name ∷ []))
     ≡ insert_key by_bytes (members (set_of by_bytes names)) name
 one_more names name =
