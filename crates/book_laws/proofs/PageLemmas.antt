@@ -11,12 +11,11 @@ use Rattle.book_model.specs.declared.fault.LedgerFault.TheVariants.{NoSuchPeriod
 use Rattle.book_model.specs.declared.line.Line.{Line}
 use Rattle.book_model.specs.declared.row.ChargeRow.{ChargeRow}
 use Rattle.book_model.specs.Words.{Book, Naming, Period, disputes_in, lines_of, open_by, open_period}
-use Rattle.book_model.specs.Words.{last_period, period_of, rows_for}
+use Rattle.book_model.specs.Words.{close_of, last_period, period_of, rows_for}
 use Rattle.report_texts.specs.AdjustmentLists.{adjustment_line, adjustment_list_text, sum_line}
 use Rattle.report_texts.specs.Figures.{period_open}
 use Rattle.report_texts.specs.Periods.{title_line}
 use Rattle.report_texts.specs.Statements.{heading, row_line, statement_text, total_line}
-use Rattle.page_texts.specs.Closes.{close_of}
 use Rattle.page_texts.specs.Figures.{FiguresSeen, figures_of}
 use Rattle.page_texts.specs.Frame.{page_start, table_end}
 use Rattle.page_texts.specs.OfficePage.{cost_part, last_first, office_foot, office_head, office_row}

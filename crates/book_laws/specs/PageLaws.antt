@@ -2,12 +2,12 @@
 -- the one that the books have open.
 use Rattle.std.specs.Prelude.{◌≡◌, ℕ, ◌≤◌, List, [], ◌++◌, codes, Some, None, Result, Ok}
 use Rattle.book_model.specs.declared.fault.LedgerFault.{LedgerFault}
-use Rattle.book_model.specs.Words.{Book, Naming, Period, lines_of, open_number, period_of, rows_for}
+use Rattle.book_model.specs.Words.{Book, Naming, Period, close_of, lines_of, open_number, period_of}
+use Rattle.book_model.specs.Words.{rows_for}
 use Rattle.report_texts.specs.AdjustmentLists.{action_columns, signed_column}
 use Rattle.report_texts.specs.Columns.{newline}
 use Rattle.report_texts.specs.Figures.{period_open}
 use Rattle.report_texts.specs.Statements.{key_columns, number_columns}
-use Rattle.page_texts.specs.Closes.{close_of}
 use Rattle.page_texts.specs.Figures.{FiguresSeen, figures_of}
 use Rattle.page_texts.specs.OfficePage.{office_row}
 use Rattle.page_texts.specs.PeriodHead.{period_head, period_title}

@@ -1,7 +1,6 @@
 -- The closes between which a period lies, as a ledger answers them by a call that is no event.
 use Rattle.std.specs.Prelude.{ℕ, ℤ, ◌-◌, List, Ok}
-use Rattle.book_model.specs.Words.{Book, Outcome, no_event}
-use Rattle.page_texts.specs.Closes.{close_of}
+use Rattle.book_model.specs.Words.{Book, Outcome, close_of, no_event}
 use Rattle.book_reports.specs.declared.period_days.PeriodDays.{PeriodDays}
 
 -- by the days of all closes, that of the period before, and the period's own

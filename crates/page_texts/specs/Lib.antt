@@ -1,8 +1,7 @@
--- Read in this order: the pieces of a page, the figures of a period and its days, bars, what every
--- page begins and ends with, the page of the office, and that of a period by its parts.
+-- Read in this order: the pieces of a page, the figures of a period, bars, what every page begins and
+-- ends with, the page of the office, and that of a period by its parts.
 pub mod Markup
 pub mod Figures
-pub mod Closes
 pub mod Bars
 pub mod Frame
 pub mod OfficePage

@@ -3,12 +3,11 @@ use Rattle.std.specs.Prelude.{ℕ, ◌+◌, ◌-◌, ◌%◌, nat_le, ℤ, if◌
 use Rattle.std.specs.Prelude.{List, [], ◌∷◌, ◌++◌, codes, flat_map, length, map, take}
 use Rattle.std.specs.Fmt.{decimal}
 use Rattle.std.specs.List.{concat}
-use Rattle.book_model.specs.Words.{by_bytes, members, set_of}
+use Rattle.book_model.specs.Words.{by_bytes, close_of, members, set_of}
 use Rattle.report_texts.specs.Columns.{amount_text}
 use Rattle.report_texts.specs.Periods.{head_text}
 use Rattle.html_text.specs.Escaping.{escaped}
 use Rattle.page_texts.specs.Bars.{bars_from, greatest, most_colours, picture}
-use Rattle.page_texts.specs.Closes.{close_of}
 use Rattle.page_texts.specs.Figures.{FiguresSeen, owed_text}
 use Rattle.page_texts.specs.Frame.{page_start, table_end}
 use Rattle.page_texts.specs.Markup.{period_link, table_row}

@@ -3,8 +3,7 @@
 use Rattle.std.specs.Prelude.{ℕ, ℤ, ◌-◌, List, ◌++◌}
 use Rattle.book_model.specs.declared.line.Line.{Line}
 use Rattle.book_model.specs.declared.row.ChargeRow.{ChargeRow}
-use Rattle.book_model.specs.Words.{Disputed}
-use Rattle.page_texts.specs.Closes.{close_of}
+use Rattle.book_model.specs.Words.{Disputed, close_of}
 use Rattle.page_texts.specs.Figures.{figures_of}
 use Rattle.page_texts.specs.Frame.{page_start}
 use Rattle.page_texts.specs.PeriodHead.{period_foot, period_head, period_title}

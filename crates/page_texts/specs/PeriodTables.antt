@@ -6,13 +6,12 @@ use Rattle.std.specs.List.{concat, list_any}
 use Rattle.book_model.specs.declared.dispute.Variant.{Variant}
 use Rattle.book_model.specs.declared.line.Line.{Line}
 use Rattle.book_model.specs.declared.row.ChargeRow.{ChargeRow}
-use Rattle.book_model.specs.Words.{Disputed, day_text_of, show_text}
+use Rattle.book_model.specs.Words.{Disputed, day_text_of, is_between, show_text}
 use Rattle.report_texts.specs.AdjustmentLists.{charged_amount, reversed_amount, signed_text}
 use Rattle.report_texts.specs.AdjustmentLists.{word_of}
 use Rattle.report_texts.specs.Columns.{amount_text, seconds_text}
 use Rattle.report_texts.specs.DisputeLists.{completion_text, identity_line}
 use Rattle.html_text.specs.Escaping.{escaped}
-use Rattle.page_texts.specs.Closes.{is_between}
 use Rattle.page_texts.specs.Frame.{table_end, table_foot}
 use Rattle.page_texts.specs.Markup.{record_link, table_row}
 

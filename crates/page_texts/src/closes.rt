@@ -2,8 +2,8 @@
 
 ghost use Rattle.std.specs.Prelude.{◌≡◌, All};
 ghost use Rattle.std.specs.Option.{ForSome};
+ghost use Rattle.book_model.specs.CloseDays as spec;
 ghost use Rattle.book_model.specs.Words.{IsDay};
-ghost use Rattle.page_texts.specs.Closes as spec;
 
 use book_core::{is_after, is_through};
 

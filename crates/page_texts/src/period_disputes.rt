@@ -3,9 +3,8 @@
 ghost use Rattle.std.specs.Prelude.{◌≡◌, ◌⊎◌, ◌++◌, All, IfOk, OnOk, flat_map, length, map, string_bytes};
 ghost use Rattle.std.specs.List.{list_any};
 ghost use Rattle.book_model.specs.Words.{AreDisputes, IsDay, IsDispute, dispute_shown};
-ghost use Rattle.book_model.specs.Words.{identity2_length, identity_length};
+ghost use Rattle.book_model.specs.Words.{identity2_length, identity_length, is_between};
 ghost use Rattle.report_texts.specs.DisputeLists as lists;
-ghost use Rattle.page_texts.specs.Closes.{is_between};
 ghost use Rattle.page_texts.specs.PeriodTables as spec;
 
 use crate::amounts::money;

@@ -1,6 +1,6 @@
 use Rattle.std.proofs.Common.{◌∙◌, ◌++◌, ℕ, List, ap, arith}
 use Rattle.std.specs.String.{string_bytes}
-use Rattle.page_texts.specs.Closes.{close_of}
+use Rattle.book_model.specs.Words.{close_of}
 use Rattle.page_texts.specs.Figures.{FiguresSeen, figures_seen}
 use Rattle.page_texts.specs.OfficePage.{office_row}
 use Rattle.page_texts.proofs.PageLemmas.{row_before}

@@ -1,6 +1,6 @@
 use Rattle.std.proofs.Common.{◌≡◌, ◌≤◌, ◌++◌, drop, length, map}
 use Rattle.std.specs.String.{string_bytes}
-use Rattle.page_texts.specs.Closes.{close_of}
+use Rattle.book_model.specs.Words.{close_of}
 use Rattle.page_texts.specs.Figures.{figures_seen}
 use Rattle.page_texts.specs.OfficePage.{last_first, office_row}
 use Rattle.page_texts.proofs.office.push_office_rows.Given as goal
