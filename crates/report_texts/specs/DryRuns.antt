@@ -10,6 +10,7 @@ use Rattle.book_model.specs.Words.{Book, IsDay, Naming, Outcome, after_any, day_
 use Rattle.report_texts.specs.Columns.{newline, left_aligned, right_aligned, amount_text}
 use Rattle.report_texts.specs.AdjustmentLists.{signed_text}
 use Rattle.report_texts.specs.Figures.{figures, period_open}
+use Rattle.report_texts.specs.RulingLists.{close_words}
 use Rattle.report_texts.specs.declared.dry_runs.TriedRuling.{TriedRuling}
 use Rattle.report_texts.specs.declared.dry_runs.TriedRuling.TheVariants.{Tariff, Close, Choose, Adopt}
 use Rattle.report_texts.specs.declared.figures.Figures.{Figures}
@@ -24,8 +25,7 @@ NamesDay Adopt = Unit {0}
 -- a ruling: a tariff by its first day, a close by its period and its day, a choice by the record's name
 unfoldable pub ruling_words : TriedRuling → List ℕ
 ruling_words (Tariff first) = codes "TARIFF " ++ day_text_of first
-ruling_words (Close period through) =
-    codes "CLOSE " ++ decimal period ++ codes " " ++ day_text_of through
+ruling_words (Close period through) = close_words period through
 ruling_words (Choose name) = codes "CHOOSE " ++ encode_lower name
 ruling_words Adopt = codes "ADOPT"
 

@@ -1,6 +1,6 @@
 -- Lists of rulings: the tariffs, the closes, the choices and the adoption of the second rule, a line
 -- for each. A tariff is shown by the SHA-256 of its file and by how many bytes that has.
-use Rattle.std.specs.Prelude.{ℕ, List, ◌++◌, codes, flat_map, length}
+use Rattle.std.specs.Prelude.{ℕ, ℤ, List, ◌++◌, codes, flat_map, length}
 use Rattle.std.specs.Fmt.{decimal}
 use Rattle.hex.specs.Hex.{encode_lower}
 use Rattle.sha2.specs.Sha256.{sha256}
@@ -16,12 +16,16 @@ file_columns text = encode_lower (sha256 text) ++ codes " " ++ decimal (length t
 unfoldable pub period_column : ℕ → List ℕ
 period_column period = codes "PERIOD " ++ decimal period
 
+-- a close, by its period and its day
+unfoldable pub close_words : ℕ → ℤ → List ℕ
+close_words period through =
+    codes "CLOSE " ++ decimal period ++ codes " " ++ day_text_of through
+
 -- the line of a ruling
 unfoldable pub ruling_line : RulingSeen → List ℕ
 ruling_line (TariffSeen day text) =
     codes "TARIFF " ++ day_text_of day ++ codes " " ++ file_columns text ++ newline
-ruling_line (CloseSeen period through) =
-    codes "CLOSE " ++ decimal period ++ codes " " ++ day_text_of through ++ newline
+ruling_line (CloseSeen period through) = close_words period through ++ newline
 ruling_line (ChoiceSeen number period name) =
     codes "CHOICE " ++ decimal number ++ codes " " ++ period_column period
     ++ codes " " ++ encode_lower name ++ newline

@@ -8,6 +8,7 @@ use crate::adjustment_lists::signed_text;
 use crate::columns::{amount_text, push_left_aligned, push_number, push_right_aligned};
 use crate::figures::Figures;
 use crate::parts::{push_day, push_name};
+use crate::ruling_lists::push_close_words;
 use book_model::Ruled;
 use std::alloc::{AllocError, Global};
 
@@ -24,19 +25,6 @@ pub enum TriedRuling {
     Adopt,
 }
 
-/// Appends a close, by its period and its day.
-#[tactic(auto, unfolding(crate::specs::DryRuns::ruling_words))]
-fn push_close(alloc: Global, out: &mut String, period: u16, through: i32) -> Result<(), AllocError>
-    requires { NamesDay (TriedRuling.Close period through) }
-    ensures { OnOk result (string_bytes out.new
-        ≡ string_bytes out.old ++ spec.ruling_words (TriedRuling.Close period through)) }
-{
-    out.push_str("CLOSE ")?;
-    push_number(out, u64::from(period))?;
-    out.push(' ')?;
-    push_day(alloc, out, through)
-}
-
 /// Appends a ruling.
 #[tactic(auto, unfolding(crate::specs::DryRuns::ruling_words))]
 fn push_ruling(alloc: Global, out: &mut String, ruling: TriedRuling) -> Result<(), AllocError>
@@ -49,7 +37,7 @@ fn push_ruling(alloc: Global, out: &mut String, ruling: TriedRuling) -> Result<(
             out.push_str("TARIFF ")?;
             push_day(alloc, out, first)
         }
-        TriedRuling::Close { period, through } => push_close(alloc, out, period, through),
+        TriedRuling::Close { period, through } => push_close_words(alloc, out, period, through),
         TriedRuling::Choose(name) => {
             out.push_str("CHOOSE ")?;
             push_name(alloc, out, &name)

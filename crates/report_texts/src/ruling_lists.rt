@@ -54,6 +54,24 @@ fn push_tariff(alloc: Global, out: &mut String, day: i32, text: &str) -> Result<
     out.push('\n')
 }
 
+/// Appends a close, by its period and its day.
+#[tactic(auto, unfolding(crate::specs::RulingLists::close_words))]
+pub(crate) fn push_close_words(
+    alloc: Global,
+    out: &mut String,
+    period: u16,
+    through: i32,
+) -> Result<(), AllocError>
+    requires { IsDay through }
+    ensures { OnOk result (string_bytes out.new
+        ≡ string_bytes out.old ++ spec.close_words period through) }
+{
+    out.push_str("CLOSE ")?;
+    push_number(out, u64::from(period))?;
+    out.push(' ')?;
+    push_day(alloc, out, through)
+}
+
 /// Appends the line of a close.
 #[tactic(auto, unfolding(crate::specs::RulingLists::ruling_line))]
 fn push_close(alloc: Global, out: &mut String, period: u16, through: i32) -> Result<(), AllocError>
@@ -61,10 +79,7 @@ fn push_close(alloc: Global, out: &mut String, period: u16, through: i32) -> Res
     ensures { OnOk result (string_bytes out.new
         ≡ string_bytes out.old ++ spec.ruling_line (CloseSeen period through)) }
 {
-    out.push_str("CLOSE ")?;
-    push_number(out, u64::from(period))?;
-    out.push(' ')?;
-    push_day(alloc, out, through)?;
+    push_close_words(alloc, out, period, through)?;
     out.push('\n')
 }
 
