@@ -132,16 +132,6 @@ pub fn row_sums(rows: &[ChargeRow]) -> (u64, u64, u64, u64)
     (count, cpu, blocks, amount)
 }
 
-/// Appends the columns of numbers, for the sums of rows.
-fn push_sums(alloc: Global, out: &mut String, rows: &[ChargeRow]) -> Result<(), AllocError>
-    requires { AreRows rows.now }
-    ensures { OnOk result (string_bytes out.new
-        ≡ string_bytes out.old ++ spec.sum_columns rows.now) }
-{
-    let (count, cpu, blocks, amount) = row_sums(rows);
-    push_numbers(alloc, out, count, cpu, blocks, amount)
-}
-
 /// Appends a line below the rows: a word, and the sums of some rows.
 pub(crate) fn push_sums_line(
     alloc: Global,
@@ -153,8 +143,9 @@ pub(crate) fn push_sums_line(
     ensures { OnOk result (string_bytes out.new
         ≡ string_bytes out.old ++ spec.sums_line word.now rows.now) }
 {
+    let (count, cpu, blocks, amount) = row_sums(rows);
     push_key(out, word, "", "")?;
-    push_sums(alloc, out, rows)
+    push_numbers(alloc, out, count, cpu, blocks, amount)
 }
 
 /// Appends the lines of rows: the one above them, their own, and the one of their sums.
