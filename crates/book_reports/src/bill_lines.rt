@@ -8,21 +8,11 @@ ghost use Rattle.book_core.specs.Calls.{IsCall};
 ghost use Rattle.book_reports.specs.BillLines as spec;
 ghost use Rattle.book_reports.specs.BillLines.{AreBilled};
 
-use book_core::{Deed, Ledger, LedgerFault, Line, Trail, Turn};
+use book_core::{Ledger, LedgerFault, Line, Trail, Turn};
 use book_model::BilledLine;
-use report_texts::keep_lines;
+use report_texts::{is_charge, keep_lines};
 use smf_text::Name;
 use std::alloc::{AllocError, Global};
-
-/// A record is charged by it; else a charge is reversed.
-fn is_charge(deed: Deed) -> bool
-    ensures { result ≡ words.is_charge deed }
-{
-    match deed {
-        Deed::Charged | Deed::Added => true,
-        Deed::Reversed => false,
-    }
-}
 
 /// The period of the last charge before a period, after one more turn of a life.
 fn with_turn(last: Option<u16>, number: u16, turn: &Turn) -> Option<u16>

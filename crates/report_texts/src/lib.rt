@@ -48,6 +48,7 @@ pub use dispute_lists::{dispute_list_head, dispute_list_text, push_dispute, push
 pub use dispute_tables::{dispute_rows, dispute_table, dispute_table_head};
 pub use dry_runs::{TriedRuling, dry_run_text};
 pub use figures::{Figures, figures_of, record_count, record_count_from};
+pub use life_lines::is_charge;
 pub use office_bills::office_bill_text;
 pub use period_lists::period_list_text;
 pub use record_texts::record_text;

@@ -48,7 +48,7 @@ fn push_turns(out: &mut String, life: &[Turn]) -> Result<(), AllocError>
 }
 
 /// The record is charged by it; else a charge is reversed.
-fn is_charge(deed: Deed) -> bool
+pub fn is_charge(deed: Deed) -> bool
     ensures { result ≡ lives.is_charge deed }
 {
     match deed {
