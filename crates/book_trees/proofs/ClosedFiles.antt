@@ -19,15 +19,15 @@ use Rattle.sqlite_trees.proofs.Doubt.{clean_of, no_doubt}
 use Rattle.sqlite_wal.specs.Reads.{AreClean, are_clean}
 use Rattle.sqlite_wal.specs.Reads.{IsClean as IsCleanFile}
 use Rattle.sqlite_wal.specs.Recovery.{Image}
-use Rattle.book_trees.proofs.EachLeft.{left_by}
+use Rattle.book_trees.proofs.EachLeft.{left_by, rows_by}
 use Rattle.book_trees.proofs.FileParts.{clean_is, faults_are, left_by_files, named}
-use Rattle.book_trees.proofs.UnusedLogs.{short_alone}
+use Rattle.book_trees.proofs.UnusedLogs.{rows_alone, short_alone}
 use Rattle.book_trees.specs.Closing.{HasSchema, HaveFailed, IsStuckFor, IsWithoutLog}
-use Rattle.book_trees.specs.Closing.{LeavesLog, MayBeFound}
+use Rattle.book_trees.specs.Closing.{LeavesLog, LeavesRows, MayBeFound}
 use Rattle.book_trees.specs.declared.closing.LogLeft.{LogLeft}
 use Rattle.book_trees.specs.declared.closing.LogLeft.TheVariants.{Short, Emptied, Kept, Unmoved}
-use Rattle.book_trees.specs.LedgerFiles.{HoldsTables, shortest_log, trees_held}
-use Rattle.book_trees.specs.LedgerFiles.{without_log}
+use Rattle.book_trees.specs.LedgerFiles.{HoldsFile, HoldsTables, rows_held, shortest_log}
+use Rattle.book_trees.specs.LedgerFiles.{trees_held, without_log}
 use Rattle.book_trees.specs.Refusals.{faults_in, MayLeave}
 
 -- both are true
@@ -104,30 +104,52 @@ module _ {D : Type 0} {g : Ghosts D} (store end : FileStore D g) (given : Files 
           (log_crash image.log may.1.0, may.1.1),
         ))
 
-    module _ {wanted : List Wanted} (tables : HasSchema wanted end) where
-      left_whole : (image : Image) → MayLeave g last image
-          → ∥ ((held : HoldsTables wanted image) × recovers store (trees_held held)) ∥₁
-      left_whole image may =
-          ∥∥₁_map (left_by end tables.schema (λ _. tables.size) tables.unaltered image
-          (left_by_last image may))
-          λ found. (found.0, outcomes (trees_held found.0) found.1)
+    -- What files hold has trees, which they have without a short log, too; and what a stop may leave
+    -- of the store holds such trees as it counts.
+    module _ (Held : Image → Type 0) (trees : (image : Image) → Held image → Trees)
+        (without : (image : Image) → length image.log < shortest_log → (held : Held image)
+        → (alone : Held (without_log image)) × (trees (without_log image) alone ≡ trees image held))
+        (each : (image : Image) → (state end).may_leave image
+        → ∥ ((held : Held image) × recovers end (trees image held)) ∥₁)
+      where
+        left_whole : (image : Image) → MayLeave g last image
+            → ∥ ((held : Held image) × recovers store (trees image held)) ∥₁
+        left_whole image may =
+            ∥∥₁_map (each image (left_by_last image may))
+            λ found. (found.0, outcomes (trees image found.0) found.1)
 
-      left_alone : (image : Image) → IsWithoutLog g last image
-          → ∥ ((held : HoldsTables wanted image) × recovers store (trees_held held)) ∥₁
-      left_alone image alone =
-          let whole : Image = record { log = g.seen log; db = image.db } in
-          let same : without_log whole ≡ image =
-          ap (λ (log : List ℕ). record { log = log; db = image.db }) (sym alone.gone) in
-          ∥∥₁_map (left_whole whole (alone.clean, (stays log, alone.file))) λ found.
-          subst (λ (image : Image). (held : HoldsTables wanted image) × recovers store (trees_held held))
-          same (let held = short_alone whole alone.short found.0 in
-          (held.0, subst (recovers store) (sym held.1) found.1))
+        left_alone : (image : Image) → IsWithoutLog g last image
+            → ∥ ((held : Held image) × recovers store (trees image held)) ∥₁
+        left_alone image alone =
+            let whole : Image = record { log = g.seen log; db = image.db } in
+            let same : without_log whole ≡ image =
+            ap (λ (log : List ℕ). record { log = log; db = image.db }) (sym alone.gone) in
+            ∥∥₁_map (left_whole whole (alone.clean, (stays log, alone.file))) λ found.
+            subst (λ (image : Image). (held : Held image) × recovers store (trees image held)) same
+            (let held = without whole alone.short found.0 in
+            (held.0, subst (recovers store) (sym held.1) found.1))
 
-      -- so whatever may be found holds what the store counts
-      pub found_whole : (image : Image) → MayBeFound g last image
-          → ∥ ((held : HoldsTables wanted image) × recovers store (trees_held held)) ∥₁
-      found_whole image (inl may) = left_whole image may
-      found_whole image (inr alone) = left_alone image alone
+        -- so whatever may be found holds what the store counts
+        found_so : (image : Image) → MayBeFound g last image
+            → ∥ ((held : Held image) × recovers store (trees image held)) ∥₁
+        found_so image (inl may) = left_whole image may
+        found_so image (inr alone) = left_alone image alone
+
+    -- the tables of the store, where it is seen which they are
+    pub found_whole : {wanted : List Wanted} → HasSchema wanted end → (image : Image)
+        → MayBeFound g last image
+        → ∥ ((held : HoldsTables wanted image) × recovers store (trees_held held)) ∥₁
+    found_whole {wanted} tables =
+        found_so (HoldsTables wanted)
+        (λ (image : Image) (held : HoldsTables wanted image). trees_held held)
+        (λ image short held. short_alone {wanted = wanted} image short held)
+        (left_by end tables.schema (λ _. tables.size) tables.unaltered)
+
+    -- and their rows, whether or not it is seen
+    pub found_rows : LeavesRows g store last
+    found_rows =
+        found_so HoldsFile (λ (image : Image) (held : HoldsFile image). rows_held held) rows_alone
+        (rows_by end)
 
     -- what is left of the log, by what became of its pages
     pub log_leaves : (moved : Result (Unit {0}) StoreError)

@@ -14,7 +14,23 @@ use Rattle.sqlite_store.specs.declared.store.FileStore.{FileStore}
 use Rattle.sqlite_trees.specs.Tree.{Trees}
 use Rattle.sqlite_wal.specs.Recovery.{Image}
 use Rattle.book_trees.proofs.FileParts.{clean_if_left}
-use Rattle.book_trees.specs.LedgerFiles.{page_size, HoldsTables, trees_held}
+use Rattle.book_trees.specs.LedgerFiles.{page_size, HoldsFile, HoldsTables, rows_held, trees_held}
+
+-- what a stop may leave of any store is a sound file, whose rows it counts among its outcomes
+pub rows_by : {D : Type 0} {g : Ghosts D} (it : FileStore D g) (image : Image)
+    → (state it).may_leave image → ∥ ((file : HoldsFile image) × recovers it (rows_held file)) ∥₁
+rows_by it image may =
+    ∥∥₁_elim (every_image it image may) ∥∥₁_prop λ all.
+    ∥∥₁_map all.2 λ file. (
+      record {
+        size = (state it).page_size;
+        schema = schema_in it all.0;
+        pages = all.0;
+        found = all.1;
+        file = file;
+      },
+      all.3,
+    )
 
 module _ {wanted : List Wanted} {D : Type 0} {g : Ghosts D} (it : FileStore D g)
     (schema : schema_of it ≡ wanted)

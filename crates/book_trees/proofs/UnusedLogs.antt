@@ -4,6 +4,7 @@ use Rattle.std.proofs.Common.{Err, Ok, Result, refl, subst, sym, true≢false, �
 use Rattle.std.specs.Prelude.{IfOk}
 use Rattle.sqlite_wal.proofs.FileLemmas.{pages_without_frames}
 use Rattle.sqlite_wal.proofs.RecoveryLemmas.{replays_once}
+use Rattle.sqlite_pool.specs.Stored.{stored_size, Recovers}
 use Rattle.sqlite_store.specs.declared.catalog.Wanted.{Wanted}
 use Rattle.sqlite_wal.specs.Opening.{RefusesLog}
 use Rattle.sqlite_wal.specs.Outcome as wal
@@ -12,7 +13,7 @@ use Rattle.sqlite_wal.specs.Recovery.{Image, Pages, Replays, pages_after}
 use Rattle.sqlite_wal.specs.declared.error.Error.{Error}
 use Rattle.sqlite_wal.specs.declared.error.Error.TheVariants.{Corrupt}
 use Rattle.book_trees.specs.LedgerFiles.{page_size, shortest_log, without_log}
-use Rattle.book_trees.specs.LedgerFiles.{HoldsAlone, HoldsTables, trees_held}
+use Rattle.book_trees.specs.LedgerFiles.{HoldsAlone, HoldsFile, HoldsTables, rows_held, trees_held}
 use Rattle.book_trees.specs.Refusals.{probe_answer, HasCause}
 
 -- the file alone stands for the same pages
@@ -28,32 +29,50 @@ recovers_alone size image pages none found =
           ∙ ap (λ k. pages_after size image.log image.db k) (sym same) ∙ found.gives;
     }
 
+-- also as they are used
+pages_alone : (size : ℕ) (image : Image) (pages : Pages) → Replays (stored_size size) image.log 0
+    → Recovers size image pages → Recovers size (without_log image) pages
+pages_alone size image pages none found = record {
+  stored = found.stored;
+  found = recovers_alone (stored_size size) image found.stored none found.found;
+  whole = found.whole;
+  sealed = found.sealed;
+  shows = found.shows;
+  present = found.present;
+}
+
 -- and holds the same tables
 pub unused_alone : {wanted : List Wanted} (image : Image) → Replays page_size image.log 0
     → (held : HoldsTables wanted image)
     → (alone : HoldsTables wanted (without_log image)) × (trees_held alone ≡ trees_held held)
-unused_alone image none held =
-    let found = held.found in (
-      record {
-        pages = held.pages;
-        found = record {
-          stored = found.stored;
-          found = recovers_alone _ image found.stored none found.found;
-          whole = found.whole;
-          sealed = found.sealed;
-          shows = found.shows;
-          present = found.present;
-        };
-        file = held.file;
-      },
-      refl,
-    )
+unused_alone image none held = (
+  record {
+    pages = held.pages;
+    found = pages_alone page_size image held.pages none held.found;
+    file = held.file;
+  },
+  refl,
+)
 
 -- so it does where the log is too short for a page
 pub short_alone : {wanted : List Wanted} (image : Image) → length image.log < shortest_log
     → (held : HoldsTables wanted image)
     → (alone : HoldsTables wanted (without_log image)) × (trees_held alone ≡ trees_held held)
 short_alone image short held = unused_alone image (inl (inl short, refl)) held
+
+-- and the same rows, whatever tables they are of
+pub rows_alone : (image : Image) → length image.log < shortest_log → (held : HoldsFile image)
+    → (alone : HoldsFile (without_log image)) × (rows_held alone ≡ rows_held held)
+rows_alone image short held = (
+  record {
+    size = held.size;
+    schema = held.schema;
+    pages = held.pages;
+    found = pages_alone held.size image held.pages (inl (inl short, refl)) held.found;
+    file = held.file;
+  },
+  refl,
+)
 
 -- so where recovery is said to take nothing of it the file alone holds the same tables
 pub passed_alone : {E : Type 0} (Clean : Type 0) (log read : List ℕ) (result : Result Bool E)

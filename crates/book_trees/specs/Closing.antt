@@ -12,7 +12,7 @@ use Rattle.sqlite_trees.specs.declared.error.StoreError.TheVariants.{OutOfMemory
 use Rattle.sqlite_trees.specs.declared.error.StoreError.TheVariants.{Full, Broken, Unstorable}
 use Rattle.sqlite_wal.specs.Reads.{AreClean}
 use Rattle.sqlite_wal.specs.Recovery.{Image}
-use Rattle.book_trees.specs.LedgerFiles.{page_size, shortest_log}
+use Rattle.book_trees.specs.LedgerFiles.{page_size, rows_held, shortest_log, HoldsFile}
 use Rattle.book_trees.specs.Refusals.{faults_in, MayLeave}
 use Rattle.book_trees.specs.declared.closing.Closed.{Closed}
 use Rattle.book_trees.specs.declared.closing.LogLeft.{LogLeft}
@@ -47,6 +47,13 @@ module _ {D : Type 0} (g : Ghosts D) where
   -- as a crash may leave the two, or with the log deleted
   abbrev pub MayBeFound : Files D → Image → Type 0
   MayBeFound files image = MayLeave g files image ⊎ IsWithoutLog files image
+
+  -- Whatever tables the files list, and whether or not they are seen to hold books: they are a sound
+  -- file, whose rows are some that an open might have found before.
+  abbrev pub LeavesRows : FileStore D g → Files D → Type 0
+  LeavesRows old files =
+      (image : Image) → MayBeFound files image
+      → ∥ ((file : HoldsFile image) × store.recovers old (rows_held file)) ∥₁
 
   -- the store that was closed last, whose log was then asked for its length
   pub record IsClosed (end : FileStore D g) (files : Files D) : Type 0 where

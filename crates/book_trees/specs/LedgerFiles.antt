@@ -39,6 +39,18 @@ HoldsFirstBooks = HoldsTables first_schema
 abbrev pub trees_held : {schema : List Wanted} {image : Image} → HoldsTables schema image → Trees
 trees_held {schema} held = file_trees page_size schema held.pages
 
+-- the files recover to a sound file of some tables, whatever these are called, in pages of some size
+pub record HoldsFile (image : Image) : Type 0 where
+  pub size : ℕ
+  pub schema : List Wanted
+  pub pages : PageMap
+  pub found : Recovers size image pages
+  pub file : IsFile size schema pages
+
+-- the rows of its tables
+abbrev pub rows_held : {image : Image} → HoldsFile image → Trees
+rows_held held = file_trees held.size held.schema held.pages
+
 -- a database that was begun, and has no table yet
 pub record HoldsNone (image : Image) : Type 0 where
   pub pages : PageMap

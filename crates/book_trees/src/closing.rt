@@ -11,7 +11,7 @@ ghost use Rattle.sqlite_trees.specs.View.{doubt, IsClean};
 ghost use Rattle.sqlite_wal.specs.Reads.{AreClean, IsClean as IsCleanFile};
 ghost use Rattle.sqlite_wal.specs.Recovery.{Image};
 ghost use Rattle.book_trees.specs.Closing.{HasSchema, HaveFailed, IsStuckFor, LeavesLog};
-ghost use Rattle.book_trees.specs.Closing.{MayBeFound};
+ghost use Rattle.book_trees.specs.Closing.{LeavesRows, MayBeFound};
 ghost use Rattle.book_trees.specs.LedgerFiles.{page_size, shortest_log, HoldsAlone, HoldsBooks};
 ghost use Rattle.book_trees.specs.LedgerFiles.{HoldsFirstBooks, HoldsTables, trees_held};
 ghost use Rattle.book_trees.specs.Schema.{books_schema};
@@ -90,6 +90,8 @@ pub fn close_books<D: Disk>(store: FileStore<D>) -> Closed<D>
         → IsTrue (state store).is_clean }
     ensures left { IsTrue result.is_kept → (image : Image) → MayBeFound D.Disk result.files image
         → ∥ ((held : HoldsBooks image) × recovers store (trees_held held)) ∥₁ }
+    // So it is with their rows, also where no memory was left to see which tables the files have.
+    ensures rows { LeavesRows D.Disk store result.files }
     // A log that is not short holds no page, or a call failed as its pages were moved.
     ensures log { LeavesLog D.Disk store result.files result.log }
     // No fault of the store is forgotten.
@@ -104,6 +106,7 @@ pub fn close_first<D: Disk>(store: FileStore<D>) -> Closed<D>
         → IsTrue (state store).is_clean }
     ensures left { IsTrue result.is_kept → (image : Image) → MayBeFound D.Disk result.files image
         → ∥ ((held : HoldsFirstBooks image) × recovers store (trees_held held)) ∥₁ }
+    ensures rows { LeavesRows D.Disk store result.files }
     ensures log { LeavesLog D.Disk store result.files result.log }
     ensures counts { MoreFaults 0 (faults store) → HaveFailed D.Disk result.files }
 {
@@ -117,6 +120,7 @@ fn close_moved<D: Disk>(store: FileStore<D>, objects: &[Object<'_>]) -> Closed<D
     ensures left { IsTrue result.is_kept → (image : Image) → MayBeFound D.Disk result.files image
         → ∥ ((held : HoldsTables (map wanted_of objects.now) image)
         × recovers store (trees_held held)) ∥₁ }
+    ensures rows { LeavesRows D.Disk store result.files }
     ensures log { LeavesLog D.Disk store result.files result.log }
     ensures counts { MoreFaults 0 (faults store) → HaveFailed D.Disk result.files }
 {
@@ -155,6 +159,7 @@ pub fn close_unchanged<D: Disk>(store: FileStore<D>) -> Closed<D>
         → IsTrue (state store).is_clean }
     ensures left { IsTrue result.is_kept → (image : Image) → MayBeFound D.Disk result.files image
         → ∥ ((held : HoldsBooks image) × recovers store (trees_held held)) ∥₁ }
+    ensures rows { LeavesRows D.Disk store result.files }
 {
     close_over(store, &books_objects())
 }
@@ -169,6 +174,7 @@ fn close_over<D: Disk>(store: FileStore<D>, objects: &[Object<'_>]) -> Closed<D>
     ensures left { IsTrue result.is_kept → (image : Image) → MayBeFound D.Disk result.files image
         → ∥ ((held : HoldsTables (map wanted_of objects.now) image)
         × recovers store (trees_held held)) ∥₁ }
+    ensures rows { LeavesRows D.Disk store result.files }
 {
     let is_kept = is_seen(&store, objects);
     let files = store.close();

@@ -1,4 +1,5 @@
-use Rattle.book_trees.proofs.ClosedFiles.{files_failed, found_whole, log_leaves, store_clean}
+use Rattle.book_trees.proofs.ClosedFiles.{files_failed, found_rows, found_whole, log_leaves}
+use Rattle.book_trees.proofs.ClosedFiles.{store_clean}
 use Rattle.book_trees.proofs.closing.close_moved.Goals as goal
 
 pub returns-clause-honest : goal.returns-clause-honest
@@ -25,6 +26,13 @@ returns-clause-left g c kept =
     c.checkpoint_log-moved.ensures.outcomes c.checkpoint_log-moved.ensures.clean
     c.close_over-closed.ensures.files c.log_left-closed.ensures.clean c.log_left-closed.ensures.crash
     (c.close_over-closed.ensures.kept kept)
+
+pub returns-clause-rows : goal.returns-clause-rows
+returns-clause-rows g c =
+    found_rows c.args.store c.checkpoint_log-moved.new.store
+    c.close_over-closed.result.files c.log_left-closed.new.log g.met.D.Disk.seen_may_stay
+    c.checkpoint_log-moved.ensures.outcomes c.checkpoint_log-moved.ensures.clean
+    c.close_over-closed.ensures.files c.log_left-closed.ensures.clean c.log_left-closed.ensures.crash
 
 pub returns-clause-counts : goal.returns-clause-counts
 returns-clause-counts g c =
