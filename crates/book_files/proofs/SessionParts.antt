@@ -24,9 +24,10 @@ use Rattle.book_core.specs.Follow.{MakesAnswered}
 use Rattle.book_core.specs.Transition.{Transition, NoEvent}
 use Rattle.book_trees.proofs.ClosedFiles.{both_true, first_true, second_true}
 use Rattle.book_trees.specs.Copies.{AreOnlyRead}
-use Rattle.book_trees.specs.Closing.{IsShort, IsWithoutLog, LeavesLog, MayBeFound}
+use Rattle.book_trees.specs.Closing.{IsShort, IsWithoutLog, LeavesLog, LeavesRows, MayBeFound}
 use Rattle.book_trees.specs.declared.closing.Closed.{Closed}
-use Rattle.book_trees.specs.LedgerFiles.{HoldsBooks, HoldsTables, page_size, trees_held, without_log}
+use Rattle.book_trees.specs.LedgerFiles.{HoldsBooks, HoldsTables, page_size, rows_held, trees_held}
+use Rattle.book_trees.specs.LedgerFiles.{without_log}
 use Rattle.book_trees.specs.Refusals.{IsAsFound, MayLeave}
 use Rattle.book_trees.specs.Schema.{books_schema}
 use Rattle.book_trees.proofs.UnusedLogs.{short_alone}
@@ -36,7 +37,7 @@ use Rattle.book_restarts.specs.FileBooks.{HoldsBook, LeavesBook}
 use Rattle.book_restarts.specs.FileBooks.{GoesOn, StandsAt, done_by, file_names}
 use Rattle.book_restarts.proofs.SessionLemmas.{book_goes_on, still_held}
 use Rattle.book_files.specs.Sessions.{IsFileAlone, MayFollow, WereOnlyRead}
-use Rattle.book_files.specs.Stores.{CloseLeaves, CloseTriesToMoveLog}
+use Rattle.book_files.specs.Stores.{CloseLeaves, CloseLeavesRows, CloseTriesToMoveLog}
 use Rattle.book_files.specs.declared.session.Ended.{Ended}
 use Rattle.book_files.specs.declared.session.Ended.TheVariants.{Refused}
 use Rattle.book_files.specs.declared.session.Ended.TheVariants as ended
@@ -58,6 +59,17 @@ pub close_leaves : {D : Type 0} (g : Ghosts D) (store : FileStore D g) (closed :
 close_leaves g store closed So honest left each = λ kept image may.
     let clean = no_doubt _ (honest (found_clean g closed.files image may)) in
     ∥∥₁_map (left kept image may) λ found. (found.0, each clean (trees_held found.0) found.1)
+
+-- so do their rows, whether or not they are seen to be those of books
+pub close_rows : {D : Type 0} (g : Ghosts D) (store : FileStore D g) (closed : Closed D)
+    (So : Trees → Type 0)
+    → (AreClean g closed.files.log closed.files.db → IsTrue (state store).is_clean)
+    → LeavesRows g store closed.files
+    → (IsClean (view store) → (trees : Trees) → recovers store trees → So trees)
+    → CloseLeavesRows g closed So
+close_rows g store closed So honest left each = λ image may.
+    let clean = no_doubt _ (honest (found_clean g closed.files image may)) in
+    ∥∥₁_map (left image may) λ found. (found.0, each clean (rows_held found.0) found.1)
 
 -- pages of a log that were to be moved are not said to have been left
 pub to_be_moved : {D : Type 0} (g : Ghosts D) (store : FileStore D g) (closed : Closed D)
@@ -93,6 +105,15 @@ opened_stands names book first store ready found held kept = λ clean. record {
   kept = subst (IsStoredIn names book) (sym (found (clean_of _ clean) held)) kept;
 }
 
+-- so is what is left of a book, where the files held one
+pub left_of_book : {D : Type 0} {g : Ghosts D} {Left : Type 0} (names : Naming) (book : Book)
+    (first : Image) (store : FileStore D g) → IsReady store
+    → (IsTrue (state store).is_clean → (held : HoldsBooks first) → (view store).trees ≡ trees_held held)
+    → HoldsBook names book first → (StandsAt names book (view store) → ∥ Left ∥₁) → ∥ Left ∥₁
+left_of_book names book first store ready found held left =
+    ∥∥₁_elim held ∥∥₁_prop λ kept.
+    left (opened_stands names book first store ready found kept.0 kept.1)
+
 -- what is done in a visit is answered, where its work is
 pub done_answered : {A F : Type 0} (work : A → Transition) (names : Naming)
     → ((answer : A) → MakesAnswered names (work answer)) → (result : Result A F)
@@ -110,8 +131,7 @@ pub session_goes_on : {D : Type 0} {g : Ghosts D} (names : Naming) (Made : Trans
     → GoesOn names Made first image
 session_goes_on names Made first image store ready found answers each =
     book_goes_on names Made first image answers λ book held.
-    ∥∥₁_elim held ∥∥₁_prop λ kept.
-    each book (opened_stands names book first store ready found kept.0 kept.1)
+    left_of_book names book first store ready found held (each book)
 
 -- without a log that held nothing, files hold the same
 tables_alone : {wanted : List Wanted} {D : Type 0} (g : Ghosts D) (Kept : Trees → Type 0)

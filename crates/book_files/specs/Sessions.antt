@@ -4,9 +4,11 @@ use Rattle.sqlite_disk.specs.declared.Disk.{Ghosts}
 use Rattle.sqlite_disk.specs.declared.files.Files.{Files}
 use Rattle.sqlite_wal.specs.Reads.{AreClean}
 use Rattle.sqlite_wal.specs.Recovery.{Image}
-use Rattle.book_restarts.specs.FileBooks.{GoesOn, file_names}
+use Rattle.book_model.specs.Words.{Book}
+use Rattle.book_restarts.specs.FileBooks.{GoesOn, HoldsBook, LeavesTrees, file_names}
 use Rattle.book_core.specs.Transition.{NoEvent, Transition}
 use Rattle.book_trees.specs.Closing.{MayBeFound}
+use Rattle.book_trees.specs.LedgerFiles.{HoldsFile, rows_held}
 use Rattle.book_trees.specs.Refusals.{IsAsFound, MayLeave}
 use Rattle.book_trees.specs.declared.closing.LogLeft.TheVariants.{Short, Unmoved}
 use Rattle.book_files.specs.declared.copies.Copied.{Copied}
@@ -25,6 +27,16 @@ MayFollow g (Refused None) image = ⊥
 abbrev pub FilesGoOn : {D : Type 0} (g : Ghosts D) → Transition → Image → Ended D → Type 0
 FilesGoOn g Made found ended =
     (image : Image) → MayFollow g ended image → GoesOn file_names Made found image
+
+-- Files that were closed are a sound file of some tables, whether or not they are seen to be those of
+-- books: whatever may be found of it has the rows of the book that this session found, gone on with
+-- what was made in it.
+abbrev pub RowsGoOn : {D : Type 0} (g : Ghosts D) → Transition → Image → Ended D → Type 0
+RowsGoOn g Made found (Closed closed) =
+    (image : Image) → MayBeFound g closed.files image
+    → (book : Book) → HoldsBook file_names book found
+    → ∥ ((file : HoldsFile image) × LeavesTrees file_names Made book (rows_held file)) ∥₁
+RowsGoOn g Made found (Refused files) = ⊤
 
 -- Files that were not opened are as they were found, or stand for the same pages, whatever they hold.
 abbrev pub AreAsFound : {D : Type 0} (g : Ghosts D) → Image → Ended D → Type 0

@@ -9,7 +9,7 @@ use Rattle.book_core.specs.Transition.{Transition}
 use Rattle.book_trees.specs.Closing.{MayBeFound}
 use Rattle.book_trees.specs.declared.closing.Closed.{Closed}
 use Rattle.book_trees.specs.declared.closing.LogLeft.TheVariants.{Unmoved}
-use Rattle.book_trees.specs.LedgerFiles.{HoldsBooks, trees_held}
+use Rattle.book_trees.specs.LedgerFiles.{HoldsBooks, HoldsFile, rows_held, trees_held}
 use Rattle.tree_tables.specs.States.{State, HasCleanDisk}
 use Rattle.table_ledger.specs.Commits.{IsAtRest}
 use Rattle.table_ledger.specs.Ready.{IsStoredIn}
@@ -24,6 +24,12 @@ StopLeaves left So = HasCleanDisk left → (trees : Trees) → left.may_leave tr
 abbrev pub CloseLeaves : {D : Type 0} (g : Ghosts D) → Closed D → (Image → Type 0) → Type 0
 CloseLeaves g closed So =
     IsTrue closed.is_kept → (image : Image) → MayBeFound g closed.files image → So image
+
+-- they are a sound file of some tables, whose rows are so, whether or not they are known to hold books
+abbrev pub CloseLeavesRows : {D : Type 0} (g : Ghosts D) → Closed D → (Trees → Type 0) → Type 0
+CloseLeavesRows g closed So =
+    (image : Image) → MayBeFound g closed.files image
+    → ∥ ((file : HoldsFile image) × So (rows_held file)) ∥₁
 
 -- the pages of the log of closed files were to be moved into the other file
 abbrev pub CloseTriesToMoveLog : {D : Type 0} → Closed D → Type 0
@@ -44,6 +50,12 @@ abbrev pub CloseGoesOn : {D : Type 0} (g : Ghosts D) → Transition → View →
 CloseGoesOn g Made found closed =
     (book : Book) → StandsAt file_names book found
     → CloseLeaves g closed (λ image. ∥ LeavesBook file_names Made book image ∥₁)
+
+-- and so do their rows
+abbrev pub CloseRowsGoOn : {D : Type 0} (g : Ghosts D) → Transition → View → Closed D → Type 0
+CloseRowsGoOn g Made found closed =
+    (book : Book) → StandsAt file_names book found
+    → CloseLeavesRows g closed (LeavesTrees file_names Made book)
 
 -- a stop leaves the book at which a store stood
 abbrev pub StopKeepsBook : View → State → Type 0

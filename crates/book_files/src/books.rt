@@ -16,7 +16,7 @@ ghost use Rattle.book_files.specs.Causes.{HasFaultCause, IsResumed, IsUnvisitedF
 ghost use Rattle.book_files.specs.Faults.{store_fault};
 ghost use Rattle.book_files.specs.Stores.{CloseGoesOn, CloseKeepsBook, CloseKeepsLog};
 ghost use Rattle.book_files.specs.Stores.{CloseKeepsTrees, CloseLeaves, CloseLeavesNew};
-ghost use Rattle.book_files.specs.Stores.{CloseTriesToMoveLog};
+ghost use Rattle.book_files.specs.Stores.{CloseRowsGoOn, CloseTriesToMoveLog};
 ghost use Rattle.book_files.specs.Stores.{StopGoesOn, StopKeepsBook, StopKeepsTrees, StopLeaves};
 ghost use Rattle.book_files.specs.Stores.{StopLeavesNew};
 ghost use Rattle.book_files.specs.Unused.{SaysUnused, are_unused, unused_by};
@@ -189,6 +189,8 @@ pub(crate) fn visit_and_close<D: Disk, V: Visit>(
 ) -> (Result<V::Answer, RepositoryFault>, Closed<D>)
     requires { HasShapes (view store) }
     ensures left { CloseGoesOn D.Disk
+        (done_by (V.Visit.work file_names visit.old visit.new) result.0) (view store) result.1 }
+    ensures rows { CloseRowsGoOn D.Disk
         (done_by (V.Visit.work file_names visit.old visit.new) result.0) (view store) result.1 }
     ensures short { IsShort D.Disk result.1 }
     ensures moves { CloseTriesToMoveLog result.1 }

@@ -14,7 +14,8 @@ ghost use Rattle.book_files.specs.Causes.{IsToldOfThis, WhyNotUpgraded, WhyNotVi
 ghost use Rattle.book_files.specs.Faults.{first_answer, resume_fault};
 ghost use Rattle.book_files.specs.NewBooks.{MayBeMade, NewBooksMade};
 ghost use Rattle.book_files.specs.Sessions.{AreAsFound, AreInHand, FileAloneGoesOn, FilesGoOn};
-ghost use Rattle.book_files.specs.Sessions.{KeepsLog, MayFollow, OpenOnly, TriesToMoveLog};
+ghost use Rattle.book_files.specs.Sessions.{KeepsLog, MayFollow, OpenOnly, RowsGoOn};
+ghost use Rattle.book_files.specs.Sessions.{TriesToMoveLog};
 ghost use Rattle.book_files.specs.Upgrades.{FilesBroughtOver, HoldsWhatIsTold, TellsThisForm};
 ghost use Rattle.book_files.specs.Upgrades.{upgrade_answer};
 ghost use Rattle.book_restarts.specs.FileBooks.{HoldsHistory, done_by, file_names};
@@ -66,6 +67,10 @@ pub fn visit_at<S: LeftByLedger, V: Visit>(
     visit: &mut V,
 ) -> (Result<V::Answer, RepositoryFault>, Ended<FileFrom<S>>)
     ensures history { FilesGoOn ⟦<FileFrom<S> as Disk>⟧
+        (done_by (V.Visit.work file_names visit.old visit.new) result.0) (image_at S.Start) result.1 }
+
+    // Their rows do so also where no memory was left to see that they are those of books.
+    ensures rows { RowsGoOn ⟦<FileFrom<S> as Disk>⟧
         (done_by (V.Visit.work file_names visit.old visit.new) result.0) (image_at S.Start) result.1 }
 
     // Where the log is left short, the file alone, without any log, holds all of that.

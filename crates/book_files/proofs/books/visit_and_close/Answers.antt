@@ -9,7 +9,7 @@ use Rattle.book_restarts.specs.FileBooks.{LeavesTrees, done_by, file_names}
 use Rattle.tree_tables.specs.Holds.{has_book}
 use Rattle.book_files.specs.Causes.{ShowsOurs}
 use Rattle.book_files.proofs.Causes.{cause_so, err_so, ok_so, since_none}
-use Rattle.book_files.proofs.SessionParts.{close_leaves, to_be_moved}
+use Rattle.book_files.proofs.SessionParts.{close_leaves, close_rows, to_be_moved}
 use Rattle.book_files.proofs.books.visit_and_close.Goals as goal
 
 pub returns-clause-left : goal.returns-clause-left
@@ -20,6 +20,14 @@ returns-clause-left g c = λ book stands kept image may.
     ∥∥₁_map (close_leaves g.D.Disk visited.result.1 closed.result (LeavesTrees file_names Made book)
     closed.ensures.honest closed.ensures.left (visited.ensures.left book stands) kept image may)
     λ found. held_leaves file_names Made book image found.0 found.1
+
+pub returns-clause-rows : goal.returns-clause-rows
+returns-clause-rows g c = λ book stands.
+    let visited = c.visit_in-answer in
+    let closed = c.close_books in
+    let Made = done_by (g.V.Visit.work file_names c.args.visit.now visited.new.visit) visited.result.0 in
+    close_rows g.D.Disk visited.result.1 closed.result (LeavesTrees file_names Made book)
+    closed.ensures.honest closed.ensures.rows (visited.ensures.left book stands)
 
 pub returns-clause-clean : goal.returns-clause-clean
 returns-clause-clean g c = λ clean.

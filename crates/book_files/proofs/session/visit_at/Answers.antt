@@ -9,7 +9,7 @@ use Rattle.book_files.specs.Sessions.{FilesGoOn}
 use Rattle.book_files.specs.declared.session.Ended.TheVariants.{Closed}
 use Rattle.book_files.proofs.Causes.{err_so, ok_so, told_by_row, visited_cause}
 use Rattle.book_files.proofs.SessionParts.{alone_follows, done_answered, found_clean}
-use Rattle.book_files.proofs.SessionParts.{refused_goes_on, session_goes_on}
+use Rattle.book_files.proofs.SessionParts.{left_of_book, refused_goes_on, session_goes_on}
 use Rattle.book_files.proofs.session.visit_at.Goals as goal
 
 pub returns-in-Ok : goal.returns-in-Ok
@@ -29,6 +29,8 @@ returns-in-Ok g c =
     (λ book stands. visited.ensures.left book stands may.0 image may.1)) in
     record {
       history = gone_on;
+      rows = λ image may book held. left_of_book file_names book first store opened.ready
+          opened.found held (λ stands. visited.ensures.rows book stands image may);
       alone = λ image alone.
           gone_on image (alone_follows disk visited.result.1 image visited.ensures.short alone);
       moves = visited.ensures.moves;
