@@ -1,5 +1,5 @@
 -- What a session leaves of files, part by part.
-use Rattle.std.proofs.Common.{◌≡◌, IsTrue, List, ◌++◌, ℕ, sym, ap, subst, inl, inr}
+use Rattle.std.proofs.Common.{◌≡◌, ◌∙◌, IsTrue, List, ◌++◌, ℕ, sym, ap, subst, inl, inr}
 use Rattle.std.proofs.Common.{Bool, true, false, Option, None, Some, Result, Ok, Err}
 use Rattle.std.proofs.Math.Logic.{∥∥₁_elim, ∥∥₁_map, ∥∥₁_prop}
 use Rattle.std.specs.Prelude.{if◌then◌else◌, IfOk, IfSome, MatchResult}
@@ -26,8 +26,8 @@ use Rattle.book_trees.proofs.ClosedFiles.{both_true, first_true, second_true}
 use Rattle.book_trees.specs.Copies.{AreOnlyRead}
 use Rattle.book_trees.specs.Closing.{IsShort, IsWithoutLog, LeavesLog, LeavesRows, MayBeFound}
 use Rattle.book_trees.specs.declared.closing.Closed.{Closed}
-use Rattle.book_trees.specs.LedgerFiles.{HoldsBooks, HoldsTables, page_size, rows_held, trees_held}
-use Rattle.book_trees.specs.LedgerFiles.{without_log}
+use Rattle.book_trees.specs.LedgerFiles.{HoldsBooks, HoldsFile, HoldsTables, page_size, rows_held}
+use Rattle.book_trees.specs.LedgerFiles.{trees_held, without_log}
 use Rattle.book_trees.specs.Refusals.{IsAsFound, MayLeave}
 use Rattle.book_trees.specs.Schema.{books_schema}
 use Rattle.book_trees.proofs.UnusedLogs.{short_alone}
@@ -113,6 +113,17 @@ pub left_of_book : {D : Type 0} {g : Ghosts D} {Left : Type 0} (names : Naming) 
 left_of_book names book first store ready found held left =
     ∥∥₁_elim held ∥∥₁_prop λ kept.
     left (opened_stands names book first store ready found kept.0 kept.1)
+
+-- rows that are left as the store had them are those that the files held
+pub rows_as_found : {D : Type 0} {g : Ghosts D} (first image : Image) (store : FileStore D g)
+    → IsReady store
+    → (IsTrue (state store).is_clean → (held : HoldsBooks first) → (view store).trees ≡ trees_held held)
+    → IsTrue (state store).is_clean → (held : HoldsBooks first)
+    → ((IsClean (view store) → IsAtRest (view store))
+    → ∥ ((file : HoldsFile image) × (rows_held file ≡ (view store).trees)) ∥₁)
+    → ∥ ((file : HoldsFile image) × (rows_held file ≡ trees_held held)) ∥₁
+rows_as_found first image store ready found clean held same =
+    ∥∥₁_map (same (opened_rests store ready)) λ left. (left.0, left.1 ∙ found clean held)
 
 -- what is done in a visit is answered, where its work is
 pub done_answered : {A F : Type 0} (work : A → Transition) (names : Naming)

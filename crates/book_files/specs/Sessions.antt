@@ -8,7 +8,7 @@ use Rattle.book_model.specs.Words.{Book}
 use Rattle.book_restarts.specs.FileBooks.{GoesOn, HoldsBook, LeavesTrees, file_names}
 use Rattle.book_core.specs.Transition.{NoEvent, Transition}
 use Rattle.book_trees.specs.Closing.{MayBeFound}
-use Rattle.book_trees.specs.LedgerFiles.{HoldsFile, rows_held}
+use Rattle.book_trees.specs.LedgerFiles.{HoldsBooks, HoldsFile, rows_held, trees_held}
 use Rattle.book_trees.specs.Refusals.{IsAsFound, MayLeave}
 use Rattle.book_trees.specs.declared.closing.LogLeft.TheVariants.{Short, Unmoved}
 use Rattle.book_files.specs.declared.copies.Copied.{Copied}
@@ -37,6 +37,15 @@ RowsGoOn g Made found (Closed closed) =
     → (book : Book) → HoldsBook file_names book found
     → ∥ ((file : HoldsFile image) × LeavesTrees file_names Made book (rows_held file)) ∥₁
 RowsGoOn g Made found (Refused files) = ⊤
+
+-- Whatever rows the tables of books in the files had, files that were closed are a sound file that has
+-- them and lists those tables, whether or not they are seen to be those of books, and also where no book
+-- can be read back from them.
+abbrev pub KeepRows : {D : Type 0} (g : Ghosts D) → Image → Ended D → Type 0
+KeepRows g found (Closed closed) =
+    (image : Image) → MayBeFound g closed.files image → (held : HoldsBooks found)
+    → ∥ ((file : HoldsFile image) × (rows_held file ≡ trees_held held)) ∥₁
+KeepRows g found (Refused files) = ⊤
 
 -- Files that were not opened are as they were found, or stand for the same pages, whatever they hold.
 abbrev pub AreAsFound : {D : Type 0} (g : Ghosts D) → Image → Ended D → Type 0

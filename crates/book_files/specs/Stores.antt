@@ -79,6 +79,11 @@ CloseKeepsTrees g found closed =
     (IsClean found → IsAtRest found)
     → CloseLeaves g closed (λ image. ∥ ((held : HoldsBooks image) × (trees_held held ≡ found.trees)) ∥₁)
 
+-- and so do their rows
+abbrev pub CloseKeepsRows : {D : Type 0} (g : Ghosts D) → View → Closed D → Type 0
+CloseKeepsRows g found closed =
+    (IsClean found → IsAtRest found) → CloseLeavesRows g closed (λ trees. trees ≡ found.trees)
+
 -- Of a store that had no row a stop leaves new books; or, where they were not made, its tables as they
 -- were.
 abbrev pub StopLeavesNew : {A F : Type 0} → View → Result A F → State → Type 0

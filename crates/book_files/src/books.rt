@@ -15,8 +15,8 @@ ghost use Rattle.book_files.specs.Audits.{FindsWrongBy};
 ghost use Rattle.book_files.specs.Causes.{HasFaultCause, IsResumed, IsUnvisitedFor};
 ghost use Rattle.book_files.specs.Faults.{store_fault};
 ghost use Rattle.book_files.specs.Stores.{CloseGoesOn, CloseKeepsBook, CloseKeepsLog};
-ghost use Rattle.book_files.specs.Stores.{CloseKeepsTrees, CloseLeaves, CloseLeavesNew};
-ghost use Rattle.book_files.specs.Stores.{CloseRowsGoOn, CloseTriesToMoveLog};
+ghost use Rattle.book_files.specs.Stores.{CloseKeepsRows, CloseKeepsTrees, CloseLeaves};
+ghost use Rattle.book_files.specs.Stores.{CloseLeavesNew, CloseRowsGoOn, CloseTriesToMoveLog};
 ghost use Rattle.book_files.specs.Stores.{StopGoesOn, StopKeepsBook, StopKeepsTrees, StopLeaves};
 ghost use Rattle.book_files.specs.Stores.{StopLeavesNew};
 ghost use Rattle.book_files.specs.Unused.{SaysUnused, are_unused, unused_by};
@@ -53,6 +53,10 @@ pub fn visit_in<S: Store, V: Visit>(
     requires { IsClean (S.Store.view store) → HasShapes (S.Store.view store) }
     ensures left { StopGoesOn (done_by (V.Visit.work file_names visit.old visit.new) result.0)
         (S.Store.view store) (state S.Store result.1) }
+
+    // What is not visited stays as it was, also where no book can be read back from it.
+    ensures same { IfErr result.0 (λ fault.
+        StopKeepsTrees (S.Store.view store) (state S.Store result.1)) }
     ensures clean { IsClean (S.Store.view result.1) → IsClean (S.Store.view store) }
     ensures came { MatchResult result.0 (V.Visit.comes visit.old visit.new)
         (λ _. visit.new ≡ visit.old) }
@@ -192,6 +196,7 @@ pub(crate) fn visit_and_close<D: Disk, V: Visit>(
         (done_by (V.Visit.work file_names visit.old visit.new) result.0) (view store) result.1 }
     ensures rows { CloseRowsGoOn D.Disk
         (done_by (V.Visit.work file_names visit.old visit.new) result.0) (view store) result.1 }
+    ensures same { IfErr result.0 (λ fault. CloseKeepsRows D.Disk (view store) result.1) }
     ensures short { IsShort D.Disk result.1 }
     ensures moves { CloseTriesToMoveLog result.1 }
     ensures clean { AreClean D.Disk result.1.files.log result.1.files.db → IsClean (view store) }
@@ -339,6 +344,7 @@ pub(crate) fn audit_and_close<D: Disk, W: Watch>(
 ) -> (Result<Audited, RepositoryFault>, Closed<D>)
     requires { HasShapes (view store) }
     ensures same { CloseKeepsTrees D.Disk (view store) result.1 }
+    ensures rows { CloseKeepsRows D.Disk (view store) result.1 }
     ensures log { CloseKeepsLog result.1 }
     ensures book { IfOk result.0 (λ audited. (counts : Counts) → audited ≡ Audited.Sound counts
         → AreClean D.Disk result.1.files.log result.1.files.db

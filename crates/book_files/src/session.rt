@@ -14,7 +14,7 @@ ghost use Rattle.book_files.specs.Causes.{IsToldOfThis, WhyNotUpgraded, WhyNotVi
 ghost use Rattle.book_files.specs.Faults.{first_answer, resume_fault};
 ghost use Rattle.book_files.specs.NewBooks.{MayBeMade, NewBooksMade};
 ghost use Rattle.book_files.specs.Sessions.{AreAsFound, AreInHand, FileAloneGoesOn, FilesGoOn};
-ghost use Rattle.book_files.specs.Sessions.{KeepsLog, MayFollow, OpenOnly, RowsGoOn};
+ghost use Rattle.book_files.specs.Sessions.{KeepRows, KeepsLog, MayFollow, OpenOnly, RowsGoOn};
 ghost use Rattle.book_files.specs.Sessions.{TriesToMoveLog};
 ghost use Rattle.book_files.specs.Upgrades.{FilesBroughtOver, HoldsWhatIsTold, TellsThisForm};
 ghost use Rattle.book_files.specs.Upgrades.{upgrade_answer};
@@ -72,6 +72,10 @@ pub fn visit_at<S: LeftByLedger, V: Visit>(
     // Their rows do so also where no memory was left to see that they are those of books.
     ensures rows { RowsGoOn ⟦<FileFrom<S> as Disk>⟧
         (done_by (V.Visit.work file_names visit.old visit.new) result.0) (image_at S.Start) result.1 }
+
+    // What is not visited has the rows that it had, also where no book can be read back from them.
+    ensures same { IfErr result.0 (λ fault.
+        KeepRows ⟦<FileFrom<S> as Disk>⟧ (image_at S.Start) result.1) }
 
     // Where the log is left short, the file alone, without any log, holds all of that.
     ensures alone { FileAloneGoesOn ⟦<FileFrom<S> as Disk>⟧
@@ -201,6 +205,9 @@ pub fn audit_at<S: Start, W: Watch>(
     // The trees of books stay as they were, also where no book can be read back from them.
     ensures same { (image : Image) → MayFollow ⟦<FileFrom<S> as Disk>⟧ result.1 image
         → HoldSameTrees (image_at S.Start) image }
+
+    // So do their rows, also where no memory was left to see that they are those of books.
+    ensures rows { KeepRows ⟦<FileFrom<S> as Disk>⟧ (image_at S.Start) result.1 }
     ensures log { KeepsLog result.1 }
 
     // Files that are called sound hold a book, whoever wrote them, and the counts are its own. Any

@@ -4,7 +4,7 @@ use Rattle.sqlite_trees.proofs.Doubt.{no_doubt}
 use Rattle.sqlite_trees.specs.Tree.{Trees}
 use Rattle.book_trees.proofs.ClosedFiles.{files_failed}
 use Rattle.book_files.proofs.Causes.{ok_so, since_none}
-use Rattle.book_files.proofs.SessionParts.{close_leaves}
+use Rattle.book_files.proofs.SessionParts.{close_leaves, close_rows}
 use Rattle.book_files.proofs.books.audit_and_close.Goals as goal
 
 pub returns : goal.returns
@@ -18,6 +18,10 @@ returns g c =
           close_leaves g.D.Disk store closed.result
           (λ (trees : Trees). trees ≡ (view c.args.store).trees) closed.ensures.honest
           closed.ensures.left (audited.ensures.same rests);
+      rows = λ rests.
+          close_rows g.D.Disk store closed.result
+          (λ (trees : Trees). trees ≡ (view c.args.store).trees) closed.ensures.honest
+          closed.ensures.rows (audited.ensures.same rests);
       log = closed.ensures.log;
       book = ok_so audited.result.0 audited.ensures.book (λ told book counts is honest.
           book counts is (no_doubt _ (closed.ensures.honest honest)));

@@ -3,6 +3,7 @@ use Rattle.std.proofs.Math.Logic.{∥∥₁_map}
 use Rattle.sqlite_disk.specs.Disk.{MoreFaults}
 use Rattle.sqlite_store.specs.FileStore.{faults, view}
 use Rattle.sqlite_trees.proofs.Doubt.{no_doubt}
+use Rattle.sqlite_trees.specs.Tree.{Trees}
 use Rattle.book_trees.specs.Closing.{HaveFailed}
 use Rattle.book_restarts.proofs.SessionLemmas.{held_leaves}
 use Rattle.book_restarts.specs.FileBooks.{LeavesTrees, done_by, file_names}
@@ -28,6 +29,15 @@ returns-clause-rows g c = λ book stands.
     let Made = done_by (g.V.Visit.work file_names c.args.visit.now visited.new.visit) visited.result.0 in
     close_rows g.D.Disk visited.result.1 closed.result (LeavesTrees file_names Made book)
     closed.ensures.honest closed.ensures.rows (visited.ensures.left book stands)
+
+pub returns-clause-same : goal.returns-clause-same
+returns-clause-same g c =
+    let visited = c.visit_in-answer in
+    let closed = c.close_books in
+    err_so visited.result.0 visited.ensures.same (λ fault same rests.
+    close_rows g.D.Disk visited.result.1 closed.result
+    (λ (trees : Trees). trees ≡ (view c.args.store).trees) closed.ensures.honest closed.ensures.rows
+    (same rests))
 
 pub returns-clause-clean : goal.returns-clause-clean
 returns-clause-clean g c = λ clean.

@@ -1,4 +1,4 @@
-use Rattle.std.proofs.Common.{◌≡◌, false, subst}
+use Rattle.std.proofs.Common.{◌≡◌, ◌∙◌, false, inl, inr, subst, sym}
 use Rattle.sqlite_disk.specs.Disk.{MoreFaults}
 use Rattle.sqlite_trees.specs.Tree.{Trees}
 use Rattle.sqlite_trees.specs.View.{IsClean}
@@ -28,6 +28,16 @@ returns-in-Ok-clause-left g c = λ book stands clean trees left.
     (λ (trees : Trees). g.met.S.Store.settled after.tables.store trees) _ file_names
     (g.V.Visit.work file_names c.args.visit.now c.visit-answer.new.self c.visit-answer.result) book opened work still trees
     (subst (λ store. g.S.Store.recovers store trees) same left)
+
+-- nothing is written where there is no answer
+pub returns-in-Err-clause-same : goal.returns-in-Err-clause-same
+returns-in-Err-clause-same g c = λ rests clean trees left.
+    let survives = c.in-Err.ensures.crash_refused in
+    let rest = rests (clean_before _ _ survives.clean clean) in
+    elim (survives.crash clean trees left) [
+      | inl was ↦ g.met.S.Store.settled c.args.store trees rest.is_open was ∙ sym rest.settled
+      | inr never ↦ absurd never
+    ]
 
 pub returns-in-Err-clause-cause : goal.returns-in-Err-clause-cause
 returns-in-Err-clause-cause g c = λ clean.

@@ -19,7 +19,7 @@ use Rattle.book_files.specs.declared.session.Ended.TheVariants.{Refused}
 use Rattle.book_files.proofs.AuditParts.{audited_same, looked_in_hand, looked_listed, never_unsound}
 use Rattle.book_files.proofs.AuditParts.{own_trees, refused_same, same_goes_on}
 use Rattle.book_files.proofs.Causes.{ok_each, ok_so}
-use Rattle.book_files.proofs.SessionParts.{found_clean}
+use Rattle.book_files.proofs.SessionParts.{found_clean, rows_as_found}
 use Rattle.book_files.proofs.session.audit_at.Goals as goal
 
 pub returns-in-Ok-clause-same : goal.returns-in-Ok-clause-same
@@ -36,6 +36,15 @@ returns-in-Err-clause-same g c = λ image may.
     refused_same (modelled.ghosts the_row g.row.S host.ghosts host.dict g.S.Start g.S.Start-dict
     g.S.Destruct-dict) (λ file. inl refl) (image_at g.S.Start) c.in-Err.files c.in-Err.ensures.kept
     image may
+
+pub returns-in-Ok-clause-rows : goal.returns-in-Ok-clause-rows
+returns-in-Ok-clause-rows g c = λ image may held.
+    let audited = c.audit_and_close-audited in
+    let disk = modelled.ghosts the_row g.row.S host.ghosts host.dict g.S.Start g.S.Start-dict
+    g.S.Destruct-dict in
+    rows_as_found (image_at g.S.Start) image c.in-Ok.store c.in-Ok.ensures.ready c.in-Ok.ensures.found
+    (clean_of _ (audited.ensures.clean (found_clean disk audited.result.1.files image may))) held
+    (λ rests. audited.ensures.rows rests image may)
 
 pub returns-in-Ok-clause-history : goal.returns-in-Ok-clause-history
 returns-in-Ok-clause-history g c = λ image may.

@@ -9,7 +9,8 @@ use Rattle.book_files.specs.Sessions.{FilesGoOn}
 use Rattle.book_files.specs.declared.session.Ended.TheVariants.{Closed}
 use Rattle.book_files.proofs.Causes.{err_so, ok_so, told_by_row, visited_cause}
 use Rattle.book_files.proofs.SessionParts.{alone_follows, done_answered, found_clean}
-use Rattle.book_files.proofs.SessionParts.{left_of_book, refused_goes_on, session_goes_on}
+use Rattle.book_files.proofs.SessionParts.{left_of_book, refused_goes_on, rows_as_found}
+use Rattle.book_files.proofs.SessionParts.{session_goes_on}
 use Rattle.book_files.proofs.session.visit_at.Goals as goal
 
 pub returns-in-Ok : goal.returns-in-Ok
@@ -31,6 +32,10 @@ returns-in-Ok g c =
       history = gone_on;
       rows = λ image may book held. left_of_book file_names book first store opened.ready
           opened.found held (λ stands. visited.ensures.rows book stands image may);
+      same = err_so visited.result.0 visited.ensures.same (λ fault same image may held.
+          rows_as_found first image store opened.ready opened.found (clean_of _
+          (visited.ensures.clean (found_clean disk visited.result.1.files image may))) held
+          (λ rests. same rests image may));
       alone = λ image alone.
           gone_on image (alone_follows disk visited.result.1 image visited.ensures.short alone);
       moves = visited.ensures.moves;
