@@ -10,8 +10,8 @@ use Rattle.book_audit.specs.declared.audited.Audited.TheVariants.{Sound, Unsound
 
 pub unknown_audited : (book : List ℕ) (naming : Naming) (answer : Result Audited RepositoryFault)
     → IsAudited book (unknown naming) answer
-unknown_audited book naming (Ok (Sound counts)) = λ history held. absurd held
-unknown_audited book naming (Ok (Unsound finding)) = tt
+unknown_audited book naming (Ok (Sound counts)) = (λ text said. tt, λ history held. absurd held)
+unknown_audited book naming (Ok (Unsound finding)) = λ text said. tt
 unknown_audited book naming (Err fault) = tt
 
 pub unknown_copied : (book copy : List ℕ) (naming : Naming) (answer : Result Audited RepositoryFault)
@@ -20,17 +20,20 @@ unknown_copied book copy naming (Ok (Sound counts)) = record {
   kept = unknown_untouched copy naming;
   name = unknown_name {A = Audited} copy naming (Ok (Sound counts));
   copied = λ free. absurd free;
+  told = λ text said. tt;
   why = tt;
 }
 unknown_copied book copy naming (Ok (Unsound finding)) = record {
   kept = unknown_untouched copy naming;
   name = unknown_name {A = Audited} copy naming (Ok (Unsound finding));
   copied = λ free. absurd free;
+  told = λ text said. tt;
   why = tt;
 }
 unknown_copied book copy naming (Err fault) = record {
   kept = unknown_untouched copy naming;
   name = unknown_name {A = Audited} copy naming (Err fault);
   copied = λ free. absurd free;
+  told = tt;
   why = inl tt;
 }

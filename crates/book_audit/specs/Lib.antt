@@ -1,7 +1,7 @@
 -- The trees and what is looked up in them; the rule of identity; what the data of a record say;
 -- which record of an identity was chosen last; how a record is charged and posted; trees that are
--- sound; how much a book has; trees that hold a book, and that hold one which calls made; what an
--- audit says, and books that were copied; what is printed of a finding, and of an audit.
+-- sound; how much a book has; trees that hold a book, and that hold one which calls made; what is
+-- printed of a finding, and of an audit; what an audit says, and books that were copied.
 pub mod Trees
 pub mod Walks
 pub mod Rulings
@@ -22,6 +22,6 @@ pub mod Own
 pub mod Looks
 pub mod OwnChoices
 pub mod OwnRecords
-pub mod Copies
 pub mod Findings
 pub mod Texts
+pub mod Copies

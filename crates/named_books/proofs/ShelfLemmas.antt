@@ -36,6 +36,7 @@ same_shelf shelf = record {
   free = λ book free. free;
   refuses = λ book fault refused. refused;
   upgrades = λ book told may. may;
+  audits = λ book text may. may;
 }
 
 -- work, seen as other work

@@ -9,9 +9,9 @@ use Rattle.named_books.specs.declared.repository.Upgraded.{Upgraded}
 
 -- What is known of the books that are kept somewhere: how they name records; which history the books
 -- of a name hold, as the next opening finds them; that there is nothing under a name; whether a log
--- beside the books of a name holds a part of them; and why a call on a name may be refused, and what
--- an upgrade of it may tell. Only a call shows these two, so a clause can say that nothing else is
--- told.
+-- beside the books of a name holds a part of them; and why a call on a name may be refused, what an
+-- upgrade of it may tell, and which text an audit of it may have. Only a call shows these three, so a
+-- clause can say that nothing else is told.
 pub record Shelf : Type 1 where
   pub naming : Naming
   pub holds : List ℕ → List Event → Type 0
@@ -19,6 +19,7 @@ pub record Shelf : Type 1 where
   pub has_log : List ℕ → Bool → Type 0
   pub refuses : List ℕ → RepositoryFault → Type 0
   pub upgrades : List ℕ → Upgraded → Type 0
+  pub audits : List ℕ → List ℕ → Type 0
 
 -- where they are kept in files nothing is known, whatever the files hold
 abbrev pub unknown : Naming → Shelf
@@ -29,10 +30,11 @@ unknown naming = record {
   has_log = λ book is. Unit {0};
   refuses = λ book fault. Unit {0};
   upgrades = λ book told. Unit {0};
+  audits = λ book text. Unit {0};
 }
 
 -- The same is known of books: they are where they were, a name that was free is free, a call is refused
--- for no other reasons, and an upgrade tells nothing else.
+-- for no other reasons, an upgrade tells nothing else, and an audit has no other text.
 pub record IsSameShelf (old new : Shelf) : Type 0 where
   pub naming : new.naming ≡ old.naming
   pub holds : (book : List ℕ) (history : List Event) → old.holds book history → new.holds book history
@@ -40,6 +42,7 @@ pub record IsSameShelf (old new : Shelf) : Type 0 where
   pub refuses : (book : List ℕ) (fault : RepositoryFault) → new.refuses book fault
       → old.refuses book fault
   pub upgrades : (book : List ℕ) (told : Upgraded) → new.upgrades book told → old.upgrades book told
+  pub audits : (book text : List ℕ) → new.audits book text → old.audits book text
 
 -- Work on books that were opened anew, whatever was before, and whatever is left to be opened again.
 pub record OpenedAnew (Made : Transition) (was : Bool) (before : Book) (events : List Event) (is : Bool)
