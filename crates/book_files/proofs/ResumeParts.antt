@@ -1,10 +1,11 @@
 -- New books are continued: a look whether anything was submitted to them, and what is left.
 use Rattle.std.proofs.Common.{◌≡◌, ◌∙◌, Bool, true, false, List, Option, None, Some, Result, Ok}
-use Rattle.std.proofs.Common.{Err, length, ap, is_some, subst, sym, true≢false}
+use Rattle.std.proofs.Common.{Err, IsTrue, length, ap, inl, inr, is_some, subst, sym, true≢false}
 use Rattle.std.proofs.lemmas.List.{length-map}
 use Rattle.std.proofs.Math.Logic.{∥∥₁_elim}
 use Rattle.std.specs.Prelude.{IfErr, IfOk, ⊤}
 use Rattle.std.specs.Option.{option_map}
+use Rattle.sqlite_trees.specs.Tree.{Trees}
 use Rattle.sqlite_trees.specs.View.{View, IsClean}
 use Rattle.sqlite_trees.specs.declared.error.StoreError.{StoreError}
 use Rattle.book_model.specs.Words.{Book, Naming}
@@ -17,7 +18,7 @@ use Rattle.tree_tables.proofs.Looking.{looks_also, was_clean}
 use Rattle.tree_tables.proofs.TheBook.{book_absent, book_held}
 use Rattle.tree_tables.specs.Answers.{FindsBook, ListsCloses, ListsTariffs}
 use Rattle.tree_tables.specs.Holds.{has_book}
-use Rattle.tree_tables.specs.States.{State, HasCleanDisk}
+use Rattle.tree_tables.specs.States.{State, HasCleanDisk, Survives}
 use Rattle.tree_tables.specs.Steps.{Looks, Sees}
 use Rattle.tree_tables.specs.Stored.{book_entry, close_entry, tariff_of}
 use Rattle.tree_tables.specs.declared.book_row.StoredBook.{StoredBook}
@@ -26,6 +27,7 @@ use Rattle.tree_tables.specs.declared.tariff_rows.StoredTariff.{StoredTariff}
 use Rattle.book_restarts.specs.FileBooks.{RestsAt, StandsAt, file_names}
 use Rattle.book_files.specs.Causes.{HasFaultCause, IsResumed}
 use Rattle.book_files.specs.NewBooks.{IsEmpty}
+use Rattle.book_files.specs.Stores.{StopKeepsTrees}
 use Rattle.book_files.specs.Unused.{SaysUnused, are_unused, unused_by}
 
 -- what the row and the two lists say
@@ -53,6 +55,17 @@ looks_unused {found = found} {tariffs = tariffs} {Texts = Texts} book texts days
     looks_also (looks_also {Both = λ tables (found : Option StoredBook). FindsBook tables found
     × Texts tables tariffs} {third = found} book texts (λ tables finds lists. (finds, lists))) days
     (λ tables known lists. says tables known.0 known.1 lists)
+
+-- a store to which nothing was written leaves the trees that it had
+pub unwritten_stays : (old new : State)
+    → ((trees : Trees) → IsTrue old.view.is_open → old.may_leave trees → trees ≡ old.view.committed)
+    → Survives old new (λ trees. ⊥) → StopKeepsTrees old.view new
+unwritten_stays old new settled survives = λ rests clean trees left.
+    let rest = rests (was_clean survives clean) in
+    elim (survives.crash clean trees left) [
+      | inl was ↦ settled trees rest.is_open was ∙ sym rest.settled
+      | inr never ↦ absurd never
+    ]
 
 -- a row that was looked for is that of the book
 pub row_of_book : (names : Naming) (book : Book) (view : View) → RestsAt names book view
@@ -106,7 +119,12 @@ module _ (old new : State) (found : Result (Option Bool) StoreError)
         never_there old.view (empty (was_clean looks.survives clean))
         (told_row (Some unused) is clean)
 
-    -- and where there is none, it stood at no book
+    -- and where there is none, it is not there
+    pub told_absent : {X : Type 0} → found ≡ Ok None → has_book old.view.trees ≡ true
+        → HasCleanDisk new → X
+    told_absent is there clean = absurd (true≢false (sym there ∙ sym (told_row None is clean)))
+
+    -- so the store stood at no book
     pub told_gone : {X : Type 0} → found ≡ Ok None → (book : Book)
         → StandsAt file_names book old.view → HasCleanDisk new → X
     told_gone is book stands clean =

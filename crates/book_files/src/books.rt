@@ -157,7 +157,8 @@ fn fault_of(error: StoreError) -> RepositoryFault
 }
 
 /// Continues new books that were stopped while they were made, with or without their row. Books to
-/// which anything was submitted belong to somebody: nothing is written to them.
+/// which anything was submitted belong to somebody. Nothing is written where the row is there, also
+/// where no book can be read back.
 fn resume_in<S: Alter>(alloc: Global, store: S) -> (Result<(), RepositoryFault>, S)
     requires { IsClean (S.Store.view store) → HasShapes (S.Store.view store) }
     ensures held { StopKeepsBook (S.Store.view store) (state S.Store result.1) }
@@ -165,6 +166,8 @@ fn resume_in<S: Alter>(alloc: Global, store: S) -> (Result<(), RepositoryFault>,
         → IsClean (S.Store.view result.1)
         → IsResumed (are_unused (tables_of file_names book)) result.0 }
     ensures left { StopLeavesNew (S.Store.view store) result.0 (state S.Store result.1) }
+    ensures there { has_book (S.Store.view store).trees ≡ true
+        → StopKeepsTrees (S.Store.view store) (state S.Store result.1) }
     ensures clean { IsClean (S.Store.view result.1) → IsClean (S.Store.view store) }
     ensures cause { IfErr result.0 (λ fault. IsClean (S.Store.view result.1)
         → HasFaultCause ⊥ (has_book (S.Store.view store).trees ≡ true) ⊤ fault) }
@@ -243,6 +246,8 @@ pub(crate) fn resume_and_close<D: Disk>(
         → AreClean D.Disk result.1.files.log result.1.files.db
         → IsResumed (are_unused (tables_of file_names book)) result.0 }
     ensures left { CloseLeavesNew D.Disk (view store) result.0 result.1 }
+    ensures rows { has_book (view store).trees ≡ true
+        → CloseKeepsRows D.Disk (view store) result.1 }
     ensures moves { CloseTriesToMoveLog result.1 }
     ensures clean { AreClean D.Disk result.1.files.log result.1.files.db → IsClean (view store) }
     ensures cause { IfErr result.0 (λ fault.

@@ -8,7 +8,7 @@ ghost use Rattle.book_model.specs.Words.{Event};
 ghost use Rattle.book_core.specs.Transition.{NoEvent};
 ghost use Rattle.book_audit.specs.declared.audited.Counts.{Counts};
 ghost use Rattle.book_files.specs.Audits.{HoldCounted, HoldSameTrees, WhyUnsound};
-ghost use Rattle.book_files.specs.Causes.{FollowOnlyVisited, WhyNotAudited};
+ghost use Rattle.book_files.specs.Causes.{FollowOnlyVisited, HaveBookRow, WhyNotAudited};
 ghost use Rattle.book_files.specs.Causes.{WhyNotContinued, WhyNotMade};
 ghost use Rattle.book_files.specs.Causes.{IsToldOfThis, WhyNotUpgraded, WhyNotVisited};
 ghost use Rattle.book_files.specs.Faults.{first_answer, resume_fault};
@@ -165,6 +165,11 @@ pub fn resume_at<S: LeftByLedger>(
     start: S,
 ) -> (Result<(), RepositoryFault>, Ended<FileFrom<S>>)
     ensures history { FilesGoOn ⟦<FileFrom<S> as Disk>⟧ NoEvent (image_at S.Start) result.1 }
+
+    // Where the row of a book is there all rows stay, also where no book can be read back from them,
+    // or no memory was left to see that they are those of books.
+    ensures rows { HaveBookRow (image_at S.Start)
+        → KeepRows ⟦<FileFrom<S> as Disk>⟧ (image_at S.Start) result.1 }
     ensures unopened { AreAsFound ⟦<FileFrom<S> as Disk>⟧ (image_at S.Start) result.1 }
     ensures only { OpenOnly ⟦<FileFrom<S> as Disk>⟧ (ListsBooks (image_at S.Start)) result.1 }
     ensures none { (image : Image) → MayFollow ⟦<FileFrom<S> as Disk>⟧ result.1 image

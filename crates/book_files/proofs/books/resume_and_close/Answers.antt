@@ -1,3 +1,4 @@
+use Rattle.std.proofs.Common.{◌≡◌}
 use Rattle.sqlite_store.specs.FileStore.{view}
 use Rattle.sqlite_trees.proofs.Doubt.{no_doubt}
 use Rattle.sqlite_trees.specs.Tree.{Trees}
@@ -5,7 +6,7 @@ use Rattle.book_restarts.specs.FileBooks.{file_names}
 use Rattle.table_ledger.specs.Ready.{IsStoredIn}
 use Rattle.book_files.specs.NewBooks.{LeavesNew}
 use Rattle.book_files.proofs.Causes.{err_so}
-use Rattle.book_files.proofs.SessionParts.{close_leaves, to_be_moved}
+use Rattle.book_files.proofs.SessionParts.{close_leaves, close_rows, to_be_moved}
 use Rattle.book_files.proofs.books.resume_and_close.Goals as goal
 
 pub returns-clause-held : goal.returns-clause-held
@@ -24,6 +25,13 @@ returns-clause-left g c = λ empty.
     close_leaves g.D.Disk made.result.1 c.close_books.result
     (λ (trees : Trees). LeavesNew file_names (view c.args.store) made.result.0 trees)
     c.close_books.ensures.honest c.close_books.ensures.left (made.ensures.left empty)
+
+pub returns-clause-rows : goal.returns-clause-rows
+returns-clause-rows g c = λ there rests.
+    let made = c.resume_in-made in
+    close_rows g.D.Disk made.result.1 c.close_books.result
+    (λ (trees : Trees). trees ≡ (view c.args.store).trees) c.close_books.ensures.honest
+    c.close_books.ensures.rows (made.ensures.there there rests)
 
 pub returns-clause-clean : goal.returns-clause-clean
 returns-clause-clean g c = λ clean.

@@ -1,6 +1,8 @@
 use Rattle.std.proofs.Common.{◌∙◌, Ok, Some, ap, false, true}
+use Rattle.sqlite_trees.specs.Tree.{Trees}
 use Rattle.tree_tables.specs.States.{state}
-use Rattle.book_files.proofs.ResumeParts.{told_filled, told_gone, told_resumed}
+use Rattle.book_files.proofs.ResumeParts.{told_absent, told_filled, told_gone, told_resumed}
+use Rattle.book_files.proofs.ResumeParts.{unwritten_stays}
 use Rattle.book_files.proofs.books.resume_in.Goals as goal
 
 pub returns-in_default-clause-held : goal.returns-in_default-clause-held
@@ -15,6 +17,31 @@ returns-in_default-clause-told g c = λ book stands clean.
     let looked = c.look_for_new-found in
     told_gone (state g.S.Store c.args.store) (state g.S.Store looked.result.1) looked.result.0
     looked.ensures.looks looked.ensures.row (c.in-Ok.is ∙ ap Ok c.in_default.is) book stands
+    (c.make_in.ensures.clean clean)
+
+pub returns-in-Err-clause-there : goal.returns-in-Err-clause-there
+returns-in-Err-clause-there g c = λ there.
+    let looked = c.look_for_new-found in
+    unwritten_stays (state g.S.Store c.args.store) (state g.S.Store looked.result.1)
+    (λ (trees : Trees). g.met.S.Store.settled c.args.store trees) looked.ensures.looks.survives
+
+pub returns-then-is_new-clause-there : goal.returns-then-is_new-clause-there
+returns-then-is_new-clause-there g c = λ there.
+    let looked = c.look_for_new-found in
+    unwritten_stays (state g.S.Store c.args.store) (state g.S.Store looked.result.1)
+    (λ (trees : Trees). g.met.S.Store.settled c.args.store trees) looked.ensures.looks.survives
+
+pub returns-else-is_new-clause-there : goal.returns-else-is_new-clause-there
+returns-else-is_new-clause-there g c = λ there.
+    let looked = c.look_for_new-found in
+    unwritten_stays (state g.S.Store c.args.store) (state g.S.Store looked.result.1)
+    (λ (trees : Trees). g.met.S.Store.settled c.args.store trees) looked.ensures.looks.survives
+
+pub returns-in_default-clause-there : goal.returns-in_default-clause-there
+returns-in_default-clause-there g c = λ there rests clean trees left.
+    let looked = c.look_for_new-found in
+    told_absent (state g.S.Store c.args.store) (state g.S.Store looked.result.1) looked.result.0
+    looked.ensures.looks looked.ensures.row (c.in-Ok.is ∙ ap Ok c.in_default.is) there
     (c.make_in.ensures.clean clean)
 
 pub returns-then-is_new-clause-told : goal.returns-then-is_new-clause-told

@@ -1,4 +1,4 @@
-use Rattle.std.proofs.Common.{◌≡◌, ◌∙◌, false, inl, inr, subst, sym}
+use Rattle.std.proofs.Common.{◌≡◌, false, subst}
 use Rattle.sqlite_disk.specs.Disk.{MoreFaults}
 use Rattle.sqlite_trees.specs.Tree.{Trees}
 use Rattle.sqlite_trees.specs.View.{IsClean}
@@ -9,6 +9,7 @@ use Rattle.tree_tables.specs.Holds.{has_book}
 use Rattle.tree_tables.specs.States.{state}
 use Rattle.book_files.specs.Causes.{ShowsOurs}
 use Rattle.book_files.proofs.Causes.{opened_cause, ours_failed}
+use Rattle.book_files.proofs.ResumeParts.{unwritten_stays}
 use Rattle.book_files.proofs.books.visit_in.Goals as goal
 
 pub returns-in-Ok-clause-left : goal.returns-in-Ok-clause-left
@@ -29,15 +30,10 @@ returns-in-Ok-clause-left g c = λ book stands clean trees left.
     (g.V.Visit.work file_names c.args.visit.now c.visit-answer.new.self c.visit-answer.result) book opened work still trees
     (subst (λ store. g.S.Store.recovers store trees) same left)
 
--- nothing is written where there is no answer
 pub returns-in-Err-clause-same : goal.returns-in-Err-clause-same
-returns-in-Err-clause-same g c = λ rests clean trees left.
-    let survives = c.in-Err.ensures.crash_refused in
-    let rest = rests (clean_before _ _ survives.clean clean) in
-    elim (survives.crash clean trees left) [
-      | inl was ↦ g.met.S.Store.settled c.args.store trees rest.is_open was ∙ sym rest.settled
-      | inr never ↦ absurd never
-    ]
+returns-in-Err-clause-same g c =
+    unwritten_stays (state g.S.Store c.args.store) (state g.S.Store c.in-Err.store)
+    (λ (trees : Trees). g.met.S.Store.settled c.args.store trees) c.in-Err.ensures.crash_refused
 
 pub returns-in-Err-clause-cause : goal.returns-in-Err-clause-cause
 returns-in-Err-clause-cause g c = λ clean.

@@ -1,10 +1,11 @@
-use Rattle.std.proofs.Common.{◌≡◌, inl, refl, subst, true}
+use Rattle.std.proofs.Common.{◌≡◌, inl, refl, subst, sym, true}
 use Rattle.std.specs.Prelude.{⊤}
 use Rattle.sqlite_disk.specs.contracts.modelled.ModelledDisk.TheImpl as modelled
 use Rattle.sqlite_std_file.specs.contracts.host.Host.{the_row}
 use Rattle.sqlite_std_file.specs.contracts.host.HostCalls.TheImpl as host
 use Rattle.sqlite_store.specs.FileStore.{view}
 use Rattle.sqlite_trees.proofs.Doubt.{clean_of}
+use Rattle.sqlite_trees.specs.Tree.{Trees}
 use Rattle.sqlite_wal.specs.Files.{image_at}
 use Rattle.sqlite_wal.specs.Reads.{AreClean}
 use Rattle.book_model.specs.Words.{book_after, new_book}
@@ -19,7 +20,7 @@ use Rattle.book_files.proofs.Causes.{cause_so, err_so, told_by_row}
 use Rattle.book_files.proofs.NewParts.{refused_still, resumed_at}
 use Rattle.book_files.proofs.ResumeParts.{resumed_unused, why_unresumed}
 use Rattle.book_files.proofs.SessionParts.{found_clean, held_goes_on, opened_stands}
-use Rattle.book_files.proofs.SessionParts.{refused_goes_on}
+use Rattle.book_files.proofs.SessionParts.{refused_goes_on, rows_as_found}
 use Rattle.book_files.proofs.UnusedBooks.{new_unused, none_resumed}
 use Rattle.book_files.proofs.session.resume_at.Goals as goal
 
@@ -64,6 +65,20 @@ returns-in-Ok-clause-cause g c =
     (λ kept clean. subst (λ unused. IsResumed unused resumed.result.0) (new_unused file_names)
     (resumed.ensures.told new_book
     (opened_stands file_names new_book first store opened.ready opened.found kept.0 kept.1) clean))
+
+pub returns-in-Ok-clause-rows : goal.returns-in-Ok-clause-rows
+returns-in-Ok-clause-rows g c = λ row image may held.
+    let resumed = c.resume_and_close-made in
+    let disk = modelled.ghosts the_row g.row.S host.ghosts host.dict g.S.Start g.S.Start-dict
+    g.S.Destruct-dict in
+    let store = c.in-Ok.store in
+    let opened = c.in-Ok.ensures in
+    let clean = clean_of _ (resumed.ensures.clean
+    (found_clean disk resumed.result.1.files image may)) in
+    let there : has_book (view store).trees ≡ true =
+    subst (λ (trees : Trees). has_book trees ≡ true) (sym (opened.found clean held)) (row held) in
+    rows_as_found (image_at g.S.Start) image store opened.ready opened.found clean held
+    (λ rests. resumed.ensures.rows there rests image may)
 
 pub returns-in-Ok-clause-only : goal.returns-in-Ok-clause-only
 returns-in-Ok-clause-only g c = λ clean.
