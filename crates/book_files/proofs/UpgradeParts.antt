@@ -33,7 +33,8 @@ use Rattle.book_trees.proofs.FirstTrees.{more_listed}
 use Rattle.book_trees.specs.FirstForm.{AddsDetails, HasFirstTrees, HoldsFirstForm, IsFirstRefusedFor}
 use Rattle.book_trees.specs.FirstForm.{IsUnopenedFirst, ListMore}
 use Rattle.book_trees.specs.Forms.{HoldNoNewer, IsSaid}
-use Rattle.book_trees.specs.LedgerFiles.{HoldsBooks, HoldsFirstBooks, trees_held}
+use Rattle.book_trees.specs.LedgerFiles.{HoldsBooks, HoldsFile, HoldsFirstBooks, rows_held}
+use Rattle.book_trees.specs.LedgerFiles.{trees_held}
 use Rattle.book_trees.specs.Refusals.{IsAsFound, MayLeave}
 use Rattle.book_trees.specs.Schema.{first_schema}
 use Rattle.book_trees.specs.StoreView.{ListsBooks}
@@ -42,7 +43,7 @@ use Rattle.book_trees.specs.declared.first_form.FirstFault.{FirstFault}
 use Rattle.book_trees.specs.declared.first_form.FirstFault.TheVariants as fault
 use Rattle.book_files.specs.Faults.{first_answer}
 use Rattle.book_files.specs.Sessions.{MayFollow}
-use Rattle.book_files.specs.Upgrades.{BringsOver, HoldsFirstHistory, HoldsUpgraded}
+use Rattle.book_files.specs.Upgrades.{BringsOver, HoldsFirstBook, HoldsFirstHistory, HoldsUpgraded}
 use Rattle.book_files.specs.Upgrades.{HoldsWhatIsTold}
 use Rattle.book_files.specs.Upgrades.{IsBroughtOver, LeavesUpgraded, MayBringOver}
 use Rattle.book_files.specs.Upgrades.{RestsBroughtOver, TellsThisForm, upgrade_answer}
@@ -207,6 +208,28 @@ brings_over names history first image store ready found held (Err why) each =
       | inl first ↦ inl (record { answered = held.answered; held = first })
       | inr brought ↦ inr (record { answered = held.answered; held = brought })
     ]
+
+-- what is left of trees is left of them by what is told
+told_upgraded : (names : Naming) (book : Book) (result : Result (Unit {0}) RepositoryFault)
+    (trees : Trees) → LeavesUpgraded names book result trees
+    → LeavesUpgraded names book (upgrade_answer result) trees
+told_upgraded names book (Ok done) trees left = left
+told_upgraded names book (Err why) trees left = left
+
+-- and so it is of the rows of the files
+pub rows_brought_over : {D : Type 0} {g : Ghosts D} (names : Naming) (book : Book)
+    (first image : Image) (store : FileStore D g) → IsReady store
+    → (IsTrue (state store).is_clean → (held : HoldsFirstBooks first)
+    → (view store).trees ≡ trees_held held)
+    → HoldsFirstBook names book first → (result : Result (Unit {0}) RepositoryFault)
+    → (StandsAtFirst names book (view store)
+    → ∥ ((file : HoldsFile image) × LeavesUpgraded names book result (rows_held file)) ∥₁)
+    → ∥ ((file : HoldsFile image)
+    × LeavesUpgraded names book (upgrade_answer result) (rows_held file)) ∥₁
+rows_brought_over names book first image store ready found held result each =
+    ∥∥₁_elim held ∥∥₁_prop λ kept.
+    ∥∥₁_map (each (first_stands names book first store ready found kept.0 kept.1))
+    λ left. (left.0, told_upgraded names book result (rows_held left.0) left.1)
 
 -- ---- files that were refused
 

@@ -8,14 +8,16 @@ use Rattle.sqlite_trees.specs.View.{View}
 use Rattle.sqlite_wal.specs.Recovery.{Image}
 use Rattle.book_model.specs.Words.{Book, Event, Naming, book_after, IsMadeByCalls}
 use Rattle.tree_tables.specs.Forms.{this_form}
+use Rattle.book_trees.specs.Closing.{MayBeFound}
 use Rattle.book_trees.specs.FirstForm.{ListMore}
 use Rattle.book_trees.specs.Forms.{HoldNoNewer}
-use Rattle.book_trees.specs.LedgerFiles.{HoldsFirstBooks, trees_held}
+use Rattle.book_trees.specs.LedgerFiles.{HoldsFile, HoldsFirstBooks, rows_held, trees_held}
 use Rattle.book_trees.specs.Schema.{first_schema}
 use Rattle.book_trees.specs.StoreView.{ListsBooks}
 use Rattle.book_restarts.specs.FileBooks.{HoldsBook, HoldsHistory, RestsAt, file_names}
 use Rattle.book_files.specs.Sessions.{MayFollow}
 use Rattle.book_files.specs.declared.session.Ended.{Ended}
+use Rattle.book_files.specs.declared.session.Ended.TheVariants.{Closed, Refused}
 use Rattle.table_ledger.specs.FirstForm.{IsStoredInFirst, RestsAtFirst}
 use Rattle.table_ledger.specs.Ready.{IsStoredIn}
 use Rattle.named_books.specs.declared.repository.RepositoryFault.{RepositoryFault}
@@ -96,3 +98,14 @@ abbrev pub FilesBroughtOver : {D : Type 0} (g : Ghosts D) → Image → Result U
 FilesBroughtOver g found told ended =
     (image : Image) → MayFollow g ended image → (history : List Event)
     → HoldsFirstHistory file_names history found → BringsOver file_names history told image
+
+-- Files that were closed are a sound file of some tables, whether or not they are seen to be those of
+-- books: whatever may be found of it has the rows of the book that they held in the first form, in this
+-- one; or, where it was not brought over, in one of the two.
+abbrev pub RowsBroughtOver : {D : Type 0} (g : Ghosts D) → Image → Result Upgraded RepositoryFault
+    → Ended D → Type 0
+RowsBroughtOver g found told (Closed closed) =
+    (image : Image) → MayBeFound g closed.files image
+    → (book : Book) → HoldsFirstBook file_names book found
+    → ∥ ((file : HoldsFile image) × LeavesUpgraded file_names book told (rows_held file)) ∥₁
+RowsBroughtOver g found told (Refused files) = ⊤

@@ -16,7 +16,8 @@ ghost use Rattle.book_files.specs.Causes.{HasFaultCause, IsResumed, IsUnvisitedF
 ghost use Rattle.book_files.specs.Faults.{store_fault};
 ghost use Rattle.book_files.specs.Stores.{CloseGoesOn, CloseKeepsBook, CloseKeepsLog};
 ghost use Rattle.book_files.specs.Stores.{CloseKeepsRows, CloseKeepsTrees, CloseLeaves};
-ghost use Rattle.book_files.specs.Stores.{CloseLeavesNew, CloseRowsGoOn, CloseTriesToMoveLog};
+ghost use Rattle.book_files.specs.Stores.{CloseLeavesNew, CloseLeavesRows, CloseRowsGoOn};
+ghost use Rattle.book_files.specs.Stores.{CloseTriesToMoveLog};
 ghost use Rattle.book_files.specs.Stores.{StopGoesOn, StopKeepsBook, StopKeepsTrees, StopLeaves};
 ghost use Rattle.book_files.specs.Stores.{StopLeavesNew};
 ghost use Rattle.book_files.specs.Unused.{SaysUnused, are_unused, unused_by};
@@ -306,6 +307,8 @@ pub(crate) fn upgrade_and_close<D: Disk>(
     requires { IsClean (view store) → HasFirstTrees (view store) }
     ensures left { (book : Book) → StandsAtFirst file_names book (view store)
         → CloseLeaves D.Disk result.1 (HoldsUpgraded file_names book result.0) }
+    ensures rows { (book : Book) → StandsAtFirst file_names book (view store)
+        → CloseLeavesRows D.Disk result.1 (LeavesUpgraded file_names book result.0) }
     ensures moves { CloseTriesToMoveLog result.1 }
     ensures clean { AreClean D.Disk result.1.files.log result.1.files.db → IsClean (view store) }
     ensures cause { IfErr result.0 (λ fault.

@@ -16,8 +16,8 @@ ghost use Rattle.book_files.specs.NewBooks.{MayBeMade, NewBooksMade};
 ghost use Rattle.book_files.specs.Sessions.{AreAsFound, AreInHand, FileAloneGoesOn, FilesGoOn};
 ghost use Rattle.book_files.specs.Sessions.{KeepRows, KeepsLog, MayFollow, OpenOnly, RowsGoOn};
 ghost use Rattle.book_files.specs.Sessions.{TriesToMoveLog};
-ghost use Rattle.book_files.specs.Upgrades.{FilesBroughtOver, HoldsWhatIsTold, TellsThisForm};
-ghost use Rattle.book_files.specs.Upgrades.{upgrade_answer};
+ghost use Rattle.book_files.specs.Upgrades.{FilesBroughtOver, HoldsWhatIsTold, RowsBroughtOver};
+ghost use Rattle.book_files.specs.Upgrades.{TellsThisForm, upgrade_answer};
 ghost use Rattle.book_restarts.specs.FileBooks.{HoldsHistory, done_by, file_names};
 ghost use Rattle.book_trees.specs.FirstForm.{HoldsFirstForm};
 ghost use Rattle.book_trees.specs.LedgerFiles.{HoldsBooks, HoldsEmptyBooks, HoldsFirstBooks};
@@ -275,6 +275,9 @@ pub fn upgrade_at<S: Start>(
 ) -> (Result<Upgraded, RepositoryFault>, Ended<FileFrom<S>>)
     ensures history { HoldsFirstForm (image_at S.Start)
         → FilesBroughtOver ⟦<FileFrom<S> as Disk>⟧ (image_at S.Start) result.0 result.1 }
+
+    // So do their rows, also where no memory was left to see that they are those of books.
+    ensures rows { RowsBroughtOver ⟦<FileFrom<S> as Disk>⟧ (image_at S.Start) result.0 result.1 }
     ensures moves { TriesToMoveLog result.1 }
     ensures unopened { AreAsFound ⟦<FileFrom<S> as Disk>⟧ (image_at S.Start) result.1 }
     ensures only { OpenOnly ⟦<FileFrom<S> as Disk>⟧ (HoldsFirstBooks (image_at S.Start))

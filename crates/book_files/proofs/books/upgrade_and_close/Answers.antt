@@ -1,6 +1,7 @@
 use Rattle.sqlite_trees.proofs.Doubt.{no_doubt}
 use Rattle.book_restarts.specs.FileBooks.{file_names}
-use Rattle.book_files.proofs.SessionParts.{found_clean, to_be_moved}
+use Rattle.book_files.specs.Upgrades.{LeavesUpgraded}
+use Rattle.book_files.proofs.SessionParts.{close_rows, found_clean, to_be_moved}
 use Rattle.book_files.proofs.Causes.{err_so}
 use Rattle.book_files.proofs.UpgradeParts.{brought_holds, unbrought_holds}
 use Rattle.book_files.proofs.books.upgrade_and_close.Goals as goal
@@ -13,6 +14,12 @@ returns-in-Ok-clause-left g c = λ book stands kept image may.
     brought_holds file_names book c.upgrade_in-upgraded.result.0 image c.upgrade_in-upgraded.result.1
     (λ trees left. c.upgrade_in-upgraded.ensures.left book stands clean trees left) tt c.in-Ok.is
     (c.close_books.ensures.left kept image may)
+
+pub returns-in-Ok-clause-rows : goal.returns-in-Ok-clause-rows
+returns-in-Ok-clause-rows g c = λ book stands.
+    close_rows g.D.Disk c.upgrade_in-upgraded.result.1 c.close_books.result
+    (LeavesUpgraded file_names book c.upgrade_in-upgraded.result.0) c.close_books.ensures.honest
+    c.close_books.ensures.rows (c.upgrade_in-upgraded.ensures.left book stands)
 
 pub returns-in-Ok-clause-clean : goal.returns-in-Ok-clause-clean
 returns-in-Ok-clause-clean g c clean =
@@ -27,6 +34,12 @@ returns-in-Err-clause-left g c = λ book stands kept image may.
     c.upgrade_in-upgraded.result.1
     (λ trees left. c.upgrade_in-upgraded.ensures.left book stands clean trees left) _ c.in-Err.is
     (c.close_first.ensures.left kept image may)
+
+pub returns-in-Err-clause-rows : goal.returns-in-Err-clause-rows
+returns-in-Err-clause-rows g c = λ book stands.
+    close_rows g.D.Disk c.upgrade_in-upgraded.result.1 c.close_first.result
+    (LeavesUpgraded file_names book c.upgrade_in-upgraded.result.0) c.close_first.ensures.honest
+    c.close_first.ensures.rows (c.upgrade_in-upgraded.ensures.left book stands)
 
 pub returns-in-Err-clause-clean : goal.returns-in-Err-clause-clean
 returns-in-Err-clause-clean g c clean =

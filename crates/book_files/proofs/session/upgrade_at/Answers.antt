@@ -1,6 +1,6 @@
 use Rattle.std.proofs.Common.{◌≡◌, false, inl, refl, subst, sym}
 use Rattle.std.proofs.Math.Logic.{∥∥₁_elim, ∥∥₁_prop}
-use Rattle.std.specs.Prelude.{IfErr, IfOk, IsOk, IsSome, ⊤}
+use Rattle.std.specs.Prelude.{IfErr, IfOk, IsOk, IsSome, Result, ⊤}
 use Rattle.sqlite_disk.specs.contracts.modelled.ModelledDisk.TheImpl as modelled
 use Rattle.sqlite_std_file.specs.contracts.host.Host.{the_row}
 use Rattle.sqlite_std_file.specs.contracts.host.HostCalls.TheImpl as host
@@ -12,16 +12,20 @@ use Rattle.book_model.specs.Words.{book_after}
 use Rattle.book_restarts.proofs.SessionLemmas.{still_held}
 use Rattle.book_restarts.specs.FileBooks.{file_names}
 use Rattle.book_trees.specs.FirstForm.{HoldsFirstForm}
+use Rattle.book_trees.specs.LedgerFiles.{HoldsFile, rows_held}
 use Rattle.book_trees.specs.Refusals.{AreFull}
+use Rattle.named_books.specs.declared.repository.RepositoryFault.{RepositoryFault}
+use Rattle.named_books.specs.declared.repository.Upgraded.{Upgraded}
 use Rattle.tree_tables.specs.Holds.{has_book}
 use Rattle.book_files.specs.Causes.{HasFaultCause, HaveNoFirstRow, IsToldOfThis, WhyNotUpgraded}
 use Rattle.book_files.specs.Sessions.{MayFollow}
-use Rattle.book_files.specs.Upgrades.{BringsOver, HoldsWhatIsTold, TellsThisForm}
+use Rattle.book_files.specs.Upgrades.{BringsOver, HoldsWhatIsTold, LeavesUpgraded, TellsThisForm}
 use Rattle.book_files.specs.declared.session.Ended.TheVariants.{Closed, Refused}
 use Rattle.book_files.proofs.Causes.{cause_so, err_so, first_cause, opened_not_this, refused_this}
 use Rattle.book_files.proofs.SessionParts.{found_clean, refused_goes_on}
 use Rattle.book_files.proofs.UpgradeParts.{brings_over, first_in_hand, first_tells, opened_tells}
-use Rattle.book_files.proofs.UpgradeParts.{refused_brings, refused_tells, tells_form, told_why}
+use Rattle.book_files.proofs.UpgradeParts.{refused_brings, refused_tells, rows_brought_over}
+use Rattle.book_files.proofs.UpgradeParts.{tells_form, told_why}
 use Rattle.book_files.proofs.session.upgrade_at.Goals as goal
 
 pub returns-in-Ok-clause-history : goal.returns-in-Ok-clause-history
@@ -42,6 +46,16 @@ returns-in-Ok-clause-kept g c = λ image may.
     (found_clean disk upgraded.result.1.files image may.1)) in
     still_held file_names (image_at g.S.Start) image (λ book held.
     ∥∥₁_elim held ∥∥₁_prop λ kept. absurd (c.in-Ok.ensures.older clean kept.0))
+
+pub returns-in-Ok-clause-rows : goal.returns-in-Ok-clause-rows
+returns-in-Ok-clause-rows g c = λ image may book held.
+    let upgraded = c.upgrade_and_close-upgraded in
+    subst (λ (told : Result Upgraded RepositoryFault).
+    ∥ ((file : HoldsFile image) × LeavesUpgraded file_names book told (rows_held file)) ∥₁)
+    (sym c.told_upgraded.ensures)
+    (rows_brought_over file_names book (image_at g.S.Start) image c.in-Ok.store c.in-Ok.ensures.ready
+    c.in-Ok.ensures.found held upgraded.result.0
+    (λ stands. upgraded.ensures.rows book stands image may))
 
 pub returns-in-Ok-clause-only : goal.returns-in-Ok-clause-only
 returns-in-Ok-clause-only g c = λ clean.
