@@ -18,7 +18,7 @@ use Rattle.book_trees.specs.Schema.{books_schema}
 use Rattle.tree_tables.specs.Holds.{has_book}
 use Rattle.book_restarts.specs.FileBooks.{HoldsBook, RestsAt, file_names}
 use Rattle.book_files.specs.NewBooks.{IsEmpty}
-use Rattle.book_files.specs.Sessions.{MayFollow}
+use Rattle.book_files.specs.Sessions.{AreHonest, MayFollow, files_in_hand}
 use Rattle.book_files.specs.declared.copies.CopyFault.{CopyFault}
 use Rattle.book_files.specs.declared.copies.CopyFault.TheVariants as copies
 use Rattle.book_files.specs.declared.session.Ended.{Ended}
@@ -54,9 +54,10 @@ HaveBookRow found = (held : HoldsBooks found) → has_book (trees_held held) ≡
 abbrev pub MayBeVisited : Image → Type 0
 MayBeVisited found = HaveBookRow found × HoldNoNewer books_schema found
 
--- the next session may find books in the files only where those that were found might be visited
-abbrev pub FollowOnlyVisited : {D : Type 0} (g : Ghosts D) → Image → Ended D → Type 0
-FollowOnlyVisited g found ended = (image : Image) → MayFollow g ended image → MayBeVisited found
+-- where no disk lied, the files that are in hand were found with the row of their book, and did not say
+-- that they are of a newer form
+abbrev pub MightBeVisited : {D : Type 0} (g : Ghosts D) → Image → Ended D → Type 0
+MightBeVisited g found ended = AreHonest g (files_in_hand ended) → MayBeVisited found
 
 -- whatever books the files hold, the row is there; and they hold no new books
 abbrev pub HaveUsedBook : Image → Type 0

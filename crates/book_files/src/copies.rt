@@ -3,7 +3,7 @@
 ghost use Rattle.std.specs.Prelude.{◌≡◌, IfErr, IfOk, IfSome, IsOk, IsSome, MatchResult};
 ghost use Rattle.sqlite_wal.specs.Files.{image_at};
 ghost use Rattle.book_core.specs.Transition.{NoEvent};
-ghost use Rattle.book_files.specs.Causes.{FollowOnlyVisited, WhyNotCopied};
+ghost use Rattle.book_files.specs.Causes.{MightBeVisited, WhyNotCopied};
 ghost use Rattle.book_files.specs.Faults.{not_copied, tried_answer};
 ghost use Rattle.book_files.specs.Sessions.{AreHonest, AreInHand, CopyAloneGoesOn, CopyGoesOn};
 ghost use Rattle.book_files.specs.Sessions.{OpenOnly, TriesToMoveLog, WereOnlyRead};
@@ -65,7 +65,7 @@ pub fn visit_copy_at<S: Start, T: Start, V: Visit>(
     // are of a newer form.
     ensures there { IfOk result.answer (λ answer.
         AreHonest ⟦<FileFrom<S> as Disk>⟧ result.original
-        → FollowOnlyVisited ⟦<FileFrom<T> as Disk>⟧ (image_at S.Start) result.copy) }
+        → MightBeVisited ⟦<FileFrom<T> as Disk>⟧ (image_at S.Start) result.copy) }
 
     // Nor of files that hold no books.
     ensures books { IfOk result.answer (λ answer.
@@ -130,7 +130,7 @@ pub fn copy_at<S: Start, T: Start>(
     ensures moves { TriesToMoveLog result.copy }
     ensures there { IfOk result.answer (λ copied.
         AreHonest ⟦<FileFrom<S> as Disk>⟧ result.original
-        → FollowOnlyVisited ⟦<FileFrom<T> as Disk>⟧ (image_at S.Start) result.copy) }
+        → MightBeVisited ⟦<FileFrom<T> as Disk>⟧ (image_at S.Start) result.copy) }
     ensures books { IfOk result.answer (λ copied.
         AreHonest ⟦<FileFrom<S> as Disk>⟧ result.original
         → OpenOnly ⟦<FileFrom<T> as Disk>⟧ (HoldsBooks (image_at S.Start)) result.copy) }

@@ -8,7 +8,7 @@ ghost use Rattle.book_model.specs.Words.{Event};
 ghost use Rattle.book_core.specs.Transition.{NoEvent};
 ghost use Rattle.book_audit.specs.declared.audited.Counts.{Counts};
 ghost use Rattle.book_files.specs.Audits.{HoldCounted, HoldSameTrees, WhyUnsound};
-ghost use Rattle.book_files.specs.Causes.{FollowOnlyVisited, HaveBookRow, WhyNotAudited};
+ghost use Rattle.book_files.specs.Causes.{HaveBookRow, MightBeVisited, WhyNotAudited};
 ghost use Rattle.book_files.specs.Causes.{WhyNotContinued, WhyNotMade};
 ghost use Rattle.book_files.specs.Causes.{IsToldOfThis, WhyNotUpgraded, WhyNotVisited};
 ghost use Rattle.book_files.specs.Faults.{first_answer, resume_fault};
@@ -98,7 +98,7 @@ pub fn visit_at<S: LeftByLedger, V: Visit>(
     // any that say that they are of a newer form. A fault of the store is told of what a ledger left
     // only where a call on the files failed, or met a limit.
     ensures there { IfOk result.0 (λ answer.
-        FollowOnlyVisited ⟦<FileFrom<S> as Disk>⟧ (image_at S.Start) result.1) }
+        MightBeVisited ⟦<FileFrom<S> as Disk>⟧ (image_at S.Start) result.1) }
     ensures cause { IfErr result.0
         (WhyNotVisited ⟦<FileFrom<S> as Disk>⟧ (image_at S.Start) result.1) }
 {

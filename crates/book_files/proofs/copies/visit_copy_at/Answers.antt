@@ -11,13 +11,13 @@ use Rattle.book_restarts.specs.FileBooks.{done_by, file_names}
 use Rattle.book_trees.specs.Forms.{HoldNoNewer}
 use Rattle.book_trees.specs.LedgerFiles.{HoldsBooks, trees_held}
 use Rattle.book_trees.specs.Schema.{books_schema}
-use Rattle.book_files.specs.Causes.{FollowOnlyVisited, WhyNotCopied}
+use Rattle.book_files.specs.Causes.{MightBeVisited, WhyNotCopied}
 use Rattle.book_files.specs.Sessions.{AreHonest, FilesGoOn, OpenOnly}
 use Rattle.book_files.specs.declared.copies.CopyFault.TheVariants as copies
 use Rattle.book_files.specs.declared.session.Ended.TheVariants.{Closed, Refused}
 use Rattle.book_files.proofs.Causes.{mapped_err, mapped_ok, ok_so, told_by_row, uncopied_cause}
 use Rattle.book_files.proofs.Causes.{visited_cause}
-use Rattle.book_files.proofs.SessionParts.{alone_follows, done_answered, found_clean}
+use Rattle.book_files.proofs.SessionParts.{alone_follows, done_answered}
 use Rattle.book_files.proofs.SessionParts.{session_goes_on, were_only_read, where_answered}
 use Rattle.book_files.proofs.copies.visit_copy_at.Goals as goal
 
@@ -63,10 +63,9 @@ returns-in-Ok-copy_to-clause-there g c =
     let first = image_at g.S.Start in
     let store = c.in-Ok-copy_to.store in
     mapped_ok (λ answer. AreHonest one (Some c.copy_to.new.from)
-    → FollowOnlyVisited two first (Closed visited.result.1))
+    → MightBeVisited two first (Closed visited.result.1))
     copies.Refused visited.result.0 c.map_err.result c.map_err.ensures.cases
-    (ok_so visited.result.0 visited.ensures.there (λ answer there honest image may.
-    let honest_too = found_clean two visited.result.1.files image may.1 in
+    (ok_so visited.result.0 visited.ensures.there (λ answer there honest honest_too.
     let clean = visited.ensures.clean honest_too in (
       told_by_row file_names first store c.in-Ok-copy_to.ensures.ready
           (λ sound. subst (λ (i : Image). (held : HoldsBooks i) → (view store).trees ≡ trees_held held)

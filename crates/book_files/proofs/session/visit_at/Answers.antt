@@ -43,8 +43,7 @@ returns-in-Ok g c =
       only = λ clean. ∣ (opened.read (clean_of _ (visited.ensures.clean clean))).lists ∣₁;
       came = visited.ensures.came;
       in_hand = λ answered. tt;
-      there = ok_so visited.result.0 visited.ensures.there (λ answer there image may.
-          let honest = found_clean disk visited.result.1.files image may.1 in
+      there = ok_so visited.result.0 visited.ensures.there (λ answer there honest.
           let clean = visited.ensures.clean honest in (
             told_by_row file_names first store opened.ready opened.found clean true (there honest),
             opened.form (clean_of _ clean),
