@@ -1,9 +1,9 @@
 //! New books are made under a second name, and get their own once they are whole: a stop at any
 //! moment leaves whole books under that name, or nothing.
 
-ghost use Rattle.std.specs.Prelude.{◌≡◌};
+ghost use Rattle.std.specs.Prelude.{◌≡◌, IsOk, IsSome};
 ghost use Rattle.book_files.specs.Releases.{seen_answer};
-ghost use Rattle.book_files.specs.Sessions.{files_in_hand};
+ghost use Rattle.book_files.specs.Sessions.{AreInHand, files_in_hand};
 
 use crate::log::{Log, is_there, sync_folder};
 use crate::names::is_log_name;
@@ -93,11 +93,11 @@ impl Files<'_> {
         }
     }
 
-    /// Makes new books in a file that is empty, or that a stop left while they were made.
-    fn make_in(
-        &self,
-        begun: &str,
-    ) -> (Result<(), RepositoryFault>, Option<Pair<FileFrom<Unknown>>>) {
+    /// Makes new books in a file that is empty, or that a stop left while they were made. Where they
+    /// are made their files are in hand.
+    fn make_in(&self, begun: &str) -> (Result<(), RepositoryFault>, Option<Pair<FileFrom<Unknown>>>)
+        ensures { IsOk result.0 → IsSome result.1 }
+    {
         let seed = match self.seed() {
             Ok(seed) => seed,
             Err(fault) => return (Err(fault), None),
@@ -138,8 +138,10 @@ fn in_hand<D: Disk + Drop>(
     made: Result<(), RepositoryFault>,
     ended: Ended<D>,
 ) -> (Result<(), RepositoryFault>, Option<Pair<D>>)
+    requires { IsOk made → AreInHand ended }
     ensures told { result.0 ≡ seen_answer (RepositoryFault.Ledger LedgerFault.Memory) made ended }
     ensures files { result.1 ≡ files_in_hand ended }
+    ensures held { IsOk result.0 → IsSome result.1 }
 {
     match ended {
         Ended::Refused(files) => (made, files),
