@@ -63,6 +63,11 @@ abbrev pub AreInHand : {D : Type 0} → Ended D → Type 0
 AreInHand (Closed closed) = ⊤
 AreInHand (Refused files) = IsSome files
 
+-- the files were opened, and closed again
+abbrev pub AreOpened : {D : Type 0} → Ended D → Type 0
+AreOpened (Closed closed) = ⊤
+AreOpened (Refused files) = ⊥
+
 -- those that are in hand
 abbrev pub files_in_hand : {D : Type 0} → Ended D → Option (Files D)
 files_in_hand (Closed closed) = Some closed.files

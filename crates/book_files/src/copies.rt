@@ -5,7 +5,7 @@ ghost use Rattle.sqlite_wal.specs.Files.{image_at};
 ghost use Rattle.book_core.specs.Transition.{NoEvent};
 ghost use Rattle.book_files.specs.Causes.{MightBeVisited, WhyNotCopied};
 ghost use Rattle.book_files.specs.Faults.{not_copied, tried_answer};
-ghost use Rattle.book_files.specs.Sessions.{AreHonest, AreInHand, CopyAloneGoesOn, CopyGoesOn};
+ghost use Rattle.book_files.specs.Sessions.{AreHonest, AreOpened, CopyAloneGoesOn, CopyGoesOn};
 ghost use Rattle.book_files.specs.Sessions.{OpenOnly, TriesToMoveLog, WereOnlyRead};
 ghost use Rattle.book_restarts.specs.FileBooks.{file_names};
 ghost use Rattle.book_trees.specs.LedgerFiles.{HoldsBooks};
@@ -76,7 +76,7 @@ pub fn visit_copy_at<S: Start, T: Start, V: Visit>(
     ensures original { IfSome result.original
         (WereOnlyRead ⟦<FileFrom<S> as Disk>⟧ (image_at S.Start)) }
     ensures in_hand { IsOk result.answer → IsSome result.original }
-    ensures copied { IsOk result.answer → AreInHand result.copy }
+    ensures copied { IsOk result.answer → AreOpened result.copy }
     ensures came { MatchResult result.answer (V.Visit.comes visit.old visit.new)
         (λ _. visit.new ≡ visit.old) }
 
@@ -137,7 +137,7 @@ pub fn copy_at<S: Start, T: Start>(
     ensures original { IfSome result.original
         (WereOnlyRead ⟦<FileFrom<S> as Disk>⟧ (image_at S.Start)) }
     ensures in_hand { IsOk result.answer → IsSome result.original }
-    ensures copied { IsOk result.answer → AreInHand result.copy }
+    ensures copied { IsOk result.answer → AreOpened result.copy }
     ensures cause { IfErr result.answer (WhyNotCopied ⟦<FileFrom<S> as Disk>⟧
         ⟦<FileFrom<T> as Disk>⟧ (image_at S.Start) result.original result.copy) }
 {

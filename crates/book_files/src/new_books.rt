@@ -3,7 +3,7 @@
 
 ghost use Rattle.std.specs.Prelude.{◌≡◌, IsOk, IsSome};
 ghost use Rattle.book_files.specs.Releases.{seen_answer};
-ghost use Rattle.book_files.specs.Sessions.{AreInHand, files_in_hand};
+ghost use Rattle.book_files.specs.Sessions.{AreOpened, files_in_hand};
 
 use crate::log::{Log, is_there, sync_folder};
 use crate::names::is_log_name;
@@ -138,7 +138,7 @@ fn in_hand<D: Disk + Drop>(
     made: Result<(), RepositoryFault>,
     ended: Ended<D>,
 ) -> (Result<(), RepositoryFault>, Option<Pair<D>>)
-    requires { IsOk made → AreInHand ended }
+    requires { IsOk made → AreOpened ended }
     ensures told { result.0 ≡ seen_answer (RepositoryFault.Ledger LedgerFault.Memory) made ended }
     ensures files { result.1 ≡ files_in_hand ended }
     ensures held { IsOk result.0 → IsSome result.1 }

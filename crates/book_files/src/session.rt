@@ -13,9 +13,9 @@ ghost use Rattle.book_files.specs.Causes.{WhyNotContinued, WhyNotMade};
 ghost use Rattle.book_files.specs.Causes.{IsToldOfThis, WhyNotUpgraded, WhyNotVisited};
 ghost use Rattle.book_files.specs.Faults.{first_answer, resume_fault};
 ghost use Rattle.book_files.specs.NewBooks.{MayBeMade, NewBooksMade};
-ghost use Rattle.book_files.specs.Sessions.{AreAsFound, AreInHand, FileAloneGoesOn, FilesGoOn};
-ghost use Rattle.book_files.specs.Sessions.{KeepRows, KeepsLog, MayFollow, OpenOnly, RowsGoOn};
-ghost use Rattle.book_files.specs.Sessions.{TriesToMoveLog};
+ghost use Rattle.book_files.specs.Sessions.{AreAsFound, AreInHand, AreOpened, FileAloneGoesOn};
+ghost use Rattle.book_files.specs.Sessions.{FilesGoOn, KeepRows, KeepsLog, MayFollow, OpenOnly};
+ghost use Rattle.book_files.specs.Sessions.{RowsGoOn, TriesToMoveLog};
 ghost use Rattle.book_files.specs.Upgrades.{FilesBroughtOver, HoldsWhatIsTold, RowsBroughtOver};
 ghost use Rattle.book_files.specs.Upgrades.{TellsThisForm, upgrade_answer};
 ghost use Rattle.book_restarts.specs.FileBooks.{HoldsHistory, done_by, file_names};
@@ -90,8 +90,8 @@ pub fn visit_at<S: LeftByLedger, V: Visit>(
     ensures came { MatchResult result.0 (V.Visit.comes visit.old visit.new)
         (λ _. visit.new ≡ visit.old) }
 
-    // An answer is given only with the files in hand, of which the other clauses speak.
-    ensures in_hand { IsOk result.0 → AreInHand result.1 }
+    // An answer is given only of files that were opened.
+    ensures in_hand { IsOk result.0 → AreOpened result.1 }
 
     // There are books exactly where their row is there: that there are none is answered only of
     // files that hold none of this form, or not their row, and without it none are visited, nor are
@@ -127,7 +127,7 @@ pub fn make_at<S: Start>(
     // In files that hold something no books are made, and nothing is written.
     ensures new { IfOk result.0 (λ made. (image : Image)
         → MayBeMade ⟦<FileFrom<S> as Disk>⟧ result.1 image → ∥ HoldsNothing (image_at S.Start) ∥₁) }
-    ensures in_hand { IsOk result.0 → AreInHand result.1 }
+    ensures in_hand { IsOk result.0 → AreOpened result.1 }
     ensures moves { TriesToMoveLog result.1 }
     ensures unopened { (¬ HoldsNothing (image_at S.Start))
         → AreAsFound ⟦<FileFrom<S> as Disk>⟧ (image_at S.Start) result.1 }
@@ -177,7 +177,7 @@ pub fn resume_at<S: LeftByLedger>(
         → IfOk result.0 (λ made. history ≡ []) }
     ensures made { HoldsEmptyBooks (image_at S.Start)
         → NewBooksMade ⟦<FileFrom<S> as Disk>⟧ result.0 result.1 }
-    ensures in_hand { IsOk result.0 → AreInHand result.1 }
+    ensures in_hand { IsOk result.0 → AreOpened result.1 }
     ensures moves { TriesToMoveLog result.1 }
 
     // That books are there is answered of files that hold none of ours, or books that are not new.
