@@ -2,7 +2,6 @@ use Rattle.std.proofs.Common.{◌≡◌, ◌∙◌, [], ℕ, List, ap, length, r
 use Rattle.std.specs.BTreeMap.{values}
 use Rattle.sqlite_trees.specs.Tree.{Trees}
 use Rattle.sqlite_trees.specs.View.{IsClean}
-use Rattle.sqlite_trees.specs.declared.store.Store.{Ghosts}
 use Rattle.book_model.specs.Words.{rows_of}
 use Rattle.book_model.specs.declared.row.ChargeRow.{ChargeRow}
 use Rattle.book_model.specs.declared.row.RowKey.{RowKey}
@@ -14,7 +13,6 @@ use Rattle.book_audit.specs.Details.{AreDetails}
 use Rattle.book_audit.specs.Entries.{AreCounted}
 use Rattle.book_audit.specs.Lines.{AreLines}
 use Rattle.book_audit.specs.Records.{AreRecords, counted_prices}
-use Rattle.book_audit.specs.SoundTrees.{AreRuled}
 use Rattle.book_audit.specs.Walks.{AreRising}
 use Rattle.book_audit.specs.declared.finding.Tree.TheVariants.{Days, Identities, Marks}
 use Rattle.book_audit.specs.declared.rulings.Rulings.{Rulings}
@@ -92,18 +90,7 @@ returns-clause-sound g c clean =
 pub returns-clause-book : goal.returns-clause-book
 returns-clause-book g c clean = of_book _ _ (returns-clause-sound g c clean)
 
--- ---- books that calls made
-
-module _ {S : Type 0} (ghosts : Ghosts S) (rulings : Rulings) where
-  -- rulings that were read are those of the trees after more looks
-  ruled_on : (start mid new : S) → OnlyLooks ghosts start mid → OnlyLooks ghosts mid new
-      → (IsClean (ghosts.view mid) → AreRuled (ghosts.view start).trees rulings)
-      → IsClean (ghosts.view new) → AreRuled (ghosts.view new).trees rulings
-  ruled_on start mid new before after ruled clean =
-      subst (λ (all : Trees). AreRuled all rulings)
-      (sym (trees_stay ghosts start new (looks_on ghosts start mid new before after) clean))
-      (ruled (look_back ghosts mid new after clean))
-
+-- the charge rows of books that calls made are those that are due
 pub returns-in_err-rows-clause-own : goal.returns-in_err-rows-clause-own
 returns-in_err-rows-clause-own g c =
     let zero = c.args.trees.now.store in
