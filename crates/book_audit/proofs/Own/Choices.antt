@@ -60,6 +60,23 @@ record IsBehind (n : ℕ) (before : List ChoiceRow) (number : ℕ) (row : Choice
   is : choice_row sha_names one ≡ row
   numbered : number ≡ n + length some
 
+-- so it is with one choice more before them
+behind_more : (n : ℕ) (first : ChoiceRow) (before : List ChoiceRow) (number : ℕ) (row : ChoiceRow)
+    (choice : Choice) (choices : List Choice) → choice_row sha_names choice ≡ first
+    → IsBehind (suc n) before number row choices
+    → IsBehind n (first ∷ before) number row (choice ∷ choices)
+behind_more n first before number row choice choices same its =
+    let numbered = its.numbered in
+    record {
+      some = choice ∷ its.some;
+      one = its.one;
+      later = its.later;
+      parts = ap (λ (cs : List Choice). choice ∷ cs) its.parts;
+      are = ap₂ (λ (r : ChoiceRow) (rs : List ChoiceRow). r ∷ rs) same its.are;
+      is = its.is;
+      numbered = omega (arith, numbered);
+    }
+
 behind : (n : ℕ) (before : List ChoiceRow) (number : ℕ) (row : ChoiceRow) (more : List Row)
     (choices : List Choice)
     → map choice_columns (under_numbers n (map (choice_row sha_names) choices))
@@ -87,18 +104,9 @@ behind n (first ∷ before) number row more (choice ∷ choices) same =
     let rest : map choice_columns (under_numbers (suc n) (map (choice_row sha_names) choices))
     ≡ map choice_columns (under_numbers (suc n) before) ++ choice_columns (number, row) ∷ more =
     (let e = same in cc) in
-    let its = behind (suc n) before number row more choices rest in
-    let numbered = its.numbered in
-    record {
-      some = choice ∷ its.some;
-      one = its.one;
-      later = its.later;
-      parts = ap (λ (cs : List Choice). choice ∷ cs) its.parts;
-      are = ap₂ (λ (r : ChoiceRow) (rs : List ChoiceRow). r ∷ rs)
-          (same_choice n n (choice_row sha_names choice) first one).1 its.are;
-      is = its.is;
-      numbered = omega (arith, numbered);
-    }
+    behind_more n first before number row choice choices
+    (same_choice n n (choice_row sha_names choice) first one).1
+    (behind (suc n) before number row more choices rest)
 
 -- the period of the last of some choices, or of one before them
 abbrev pub since_from : ℕ → List ChoiceRow → ℕ
