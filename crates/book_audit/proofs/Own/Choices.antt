@@ -159,16 +159,14 @@ module _ (trees : Trees) (own : AreOwn trees) where
   own_choice_rows =
       own.holds.choices ∙ ap (map choice_columns) (entries-numbers (map (choice_row sha_names) choices))
 
-  -- a choice that is read is the next one of the book
-  pub own_next_choice : (rule : IdentityRule) (open_period : ℕ)
+  -- a choice behind others is the next one of the book
+  next_behind : (rule : IdentityRule) (open_period : ℕ)
       → AreItsRulings rule open_period own.book → (chosen : Chosen) (made : List Made) (choice : Read)
-      (more : List Row) → trees 8 ≡ made_rows made ++ choice_columns (entry_of choice) ∷ more
+      → IsBehind 1 (said made) choice.number (row_of choice) choices
       → chosen.count ≡ length made → chosen.since ≡ since_from 1 (said made)
       → IsNextIn own.book rule open_period chosen choice
-  own_next_choice rule open_period ruled chosen made choice more read count since =
+  next_behind rule open_period ruled chosen made choice its count since =
       let whole = own.readable in
-      let its = behind 1 (said made) choice.number (row_of choice) more choices
-      (sym own_choice_rows ∙ read) in
       let one : Choice = its.one in
       let period : one.period ≡ choice.period = ap (λ (r : ChoiceRow). r.period) its.is in
       let timely : IsTimely own.book one =
@@ -212,6 +210,17 @@ module _ (trees : Trees) (own : AreOwn trees) where
         later = omega (arith, later, since, period);
         begun = omega (arith, begun, open_is, period);
       }
+
+  -- and so is one that is read
+  pub own_next_choice : (rule : IdentityRule) (open_period : ℕ)
+      → AreItsRulings rule open_period own.book → (chosen : Chosen) (made : List Made) (choice : Read)
+      (more : List Row) → trees 8 ≡ made_rows made ++ choice_columns (entry_of choice) ∷ more
+      → chosen.count ≡ length made → chosen.since ≡ since_from 1 (said made)
+      → IsNextIn own.book rule open_period chosen choice
+  own_next_choice rule open_period ruled chosen made choice more read count since =
+      next_behind rule open_period ruled chosen made choice
+      (behind 1 (said made) choice.number (row_of choice) more choices (sym own_choice_rows ∙ read))
+      count since
 
 -- each row can be read
 choice_rows_fit : (n : ℕ) (choices : List Choice) → n + length choices ≤ 1 + most_choices
