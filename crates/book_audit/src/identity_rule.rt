@@ -17,7 +17,7 @@ const NEVER_ADOPTED: u64 = 0;
 const LAST_PERIOD: u64 = 9_999;
 
 /// The rule of identity that is in force.
-#[derive(Clone, Copy, Debug, PartialEq, Eq)]
+#[derive(Clone, Copy)]
 pub(crate) enum IdentityRule {
     /// The one under which books begin.
     First,
