@@ -1,7 +1,7 @@
 use crate::finding::Finding;
 
 /// How many rows sound books have.
-#[derive(Clone, Copy, Debug, PartialEq, Eq)]
+#[derive(Clone, Copy)]
 pub struct Counts {
     pub records: u64,
     pub tariffs: u64,

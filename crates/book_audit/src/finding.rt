@@ -13,7 +13,7 @@ use sqlite_trees::store::Shape;
 use tree_tables::DayKey;
 
 /// A tree of books.
-#[derive(Clone, Copy, Debug, PartialEq, Eq)]
+#[derive(Clone, Copy)]
 pub enum Tree {
     Book,
     Tariffs,
@@ -138,7 +138,7 @@ pub enum Place {
 }
 
 /// What is wrong there.
-#[derive(Clone, Copy, Debug, PartialEq, Eq)]
+#[derive(Clone, Copy)]
 pub enum Wrong {
     /// The pages are not those of the sorted trees of books.
     Pages,
