@@ -5,10 +5,11 @@ ghost use Rattle.sha2.specs.Sha256.{sha256};
 ghost use Rattle.smf_frames.specs.Framed.{most_data};
 ghost use Rattle.smf_type30.specs.Class.{IsUsage};
 ghost use Rattle.tariff_rules.specs.Price.{IsPriced};
+ghost use Rattle.book_model.specs.declared.fault.LedgerFault.TheVariants.{Memory};
 ghost use Rattle.book_audit.specs.Data.{stored_bytes, price_of};
 ghost use Rattle.book_audit.specs.OwnRecords.{SaysData};
 ghost use Rattle.book_audit.specs.Rules.{identity_under};
-ghost use Rattle.book_audit.specs.declared.finding.Finding.{Finding as Found};
+ghost use Rattle.book_audit.specs.declared.stop.Stop.TheVariants.{Fault};
 
 use crate::finding::{Place, Wrong};
 use crate::rulings::Rulings;
@@ -89,8 +90,7 @@ pub(crate) fn check_data(
     ensures price { OnOk result (price_of rulings.now.tariffs.items (stored_bytes stored.now)
         ≡ Some stored.now.priced) }
     ensures priced { OnOk result (IsPriced stored.now.priced) }
-    ensures own { IfErr result (λ stop. (finding : Found) → stop ≡ Stop.Unsound finding
-        → ¬ SaysData rulings.now stored.now) }
+    ensures own { IfErr result (λ stop. stop ≢ Fault Memory → ¬ SaysData rulings.now stored.now) }
 {
     match wrong_by_data(alloc, rulings, stored)? {
         Some(wrong) => Err(unsound(Place::Record(stored.name), wrong)),

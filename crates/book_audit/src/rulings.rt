@@ -11,7 +11,7 @@ ghost use Rattle.tree_tables.specs.Columns.{book_columns, closed_columns, tariff
 ghost use Rattle.tree_tables.specs.Fits.{BookFits, CloseFits, HasCount, TariffFits};
 ghost use Rattle.tree_tables.specs.Stored.{close_entry, tariff_of};
 ghost use Rattle.book_audit.specs.Looks.{Tells};
-ghost use Rattle.book_audit.specs.Own.{FindsNothing, IsOwnStop};
+ghost use Rattle.book_audit.specs.Own.{IsOwnStop};
 ghost use Rattle.book_audit.specs.Rules.{rule_of};
 ghost use Rattle.book_audit.specs.Rulings.{AreClosed, AreTariffs, HasOneRow, IsBookRow, IsNextClose};
 
@@ -122,7 +122,7 @@ fn parsed(alloc: Global, stored: &StoredTariff) -> Result<Tariff, Stop>
     ensures valid { IfOk result (λ tariff. IsDay tariff.effective) }
     ensures own { IfErr result (λ stop. (terms : Terms)
         → terms_in (string_bytes stored.now.body) ≡ Ok terms
-        → terms.effective ≡ stored.now.day → FindsNothing stop) }
+        → terms.effective ≡ stored.now.day → stop ≡ Stop.Fault LedgerFault.Memory) }
 {
     let tariff = match Tariff::parse(alloc, &stored.body) {
         Ok(tariff) => tariff,
@@ -149,7 +149,7 @@ pub(crate) fn read_tariffs<S: Store>(
     let tree = Tree::Tariffs;
     let mut walk = Walk::over(alloc, tree);
     let mut tariffs = Vec::new(alloc);
-    'tariffs: for _ in 0..MOST_ROWS {
+    'tariffs: for _count in 0..MOST_ROWS {
         if !walk.next(trees)? {
             return Ok(tariffs);
         }
@@ -202,7 +202,7 @@ pub(crate) fn read_closes<S: Store>(alloc: Global, trees: &mut Trees<S>) -> Resu
     let tree = Tree::Closes;
     let mut walk = Walk::over(alloc, tree);
     let mut days = Vec::new(alloc);
-    'closes: for _ in 0..MOST_ROWS {
+    'closes: for _count in 0..MOST_ROWS {
         if !walk.next(trees)? {
             return Ok(days);
         }

@@ -1,7 +1,6 @@
 //! Why an audit stops early.
 
 ghost use Rattle.std.specs.Prelude.{◌≡◌};
-ghost use Rattle.book_audit.specs.declared.finding.Finding.{Finding as Found};
 
 use crate::finding::{Finding, Place, Tree, Wrong};
 use book_model::LedgerFault;
@@ -25,7 +24,8 @@ pub(crate) fn unsound(place: Place, wrong: Wrong) -> Stop {
 /// What an error of the store at a tree stands for. A damaged page, and a row that is not of its
 /// table, are unsound; what the disk refuses says nothing about the books.
 pub(crate) fn met(tree: Tree, error: StoreError) -> Stop
-    ensures { (finding : Found) → result ≡ Stop.Unsound finding → error ≡ StoreError.Corrupt }
+    ensures memory { error ≡ StoreError.OutOfMemory → result ≡ Stop.Fault LedgerFault.Memory }
+    ensures broken { error ≡ StoreError.Broken → result ≡ Stop.Fault LedgerFault.Store }
 {
     match error {
         StoreError::OutOfMemory => Stop::Fault(LedgerFault::Memory),

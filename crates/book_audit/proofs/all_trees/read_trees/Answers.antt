@@ -2,6 +2,7 @@ use Rattle.std.proofs.Common.{◌≡◌, ◌∙◌, [], ℕ, List, ap, length, r
 use Rattle.std.specs.BTreeMap.{values}
 use Rattle.sqlite_trees.specs.Tree.{Trees}
 use Rattle.sqlite_trees.specs.View.{IsClean}
+use Rattle.sqlite_trees.specs.declared.store.Store.{Ghosts}
 use Rattle.book_model.specs.Words.{rows_of}
 use Rattle.book_model.specs.declared.row.ChargeRow.{ChargeRow}
 use Rattle.book_model.specs.declared.row.RowKey.{RowKey}
@@ -13,6 +14,7 @@ use Rattle.book_audit.specs.Details.{AreDetails}
 use Rattle.book_audit.specs.Entries.{AreCounted}
 use Rattle.book_audit.specs.Lines.{AreLines}
 use Rattle.book_audit.specs.Records.{AreRecords, counted_prices}
+use Rattle.book_audit.specs.SoundTrees.{AreRuled}
 use Rattle.book_audit.specs.Walks.{AreRising}
 use Rattle.book_audit.specs.declared.finding.Tree.TheVariants.{Days, Identities, Marks}
 use Rattle.book_audit.specs.declared.rulings.Rulings.{Rulings}
@@ -90,7 +92,75 @@ returns-clause-sound g c clean =
 pub returns-clause-book : goal.returns-clause-book
 returns-clause-book g c clean = of_book _ _ (returns-clause-sound g c clean)
 
--- the charge rows of books that calls made are those that are due
+-- ---- books that calls made
+
+module _ {S : Type 0} (ghosts : Ghosts S) (rulings : Rulings) where
+  -- rulings that were read are those of the trees after looks
+  ruled_on : (start mid : S) → OnlyLooks ghosts start mid → AreRuled (ghosts.view start).trees rulings
+      → IsClean (ghosts.view mid) → AreRuled (ghosts.view mid).trees rulings
+  ruled_on start mid same ruled clean =
+      subst (λ (all : Trees). AreRuled all rulings) (sym (trees_stay ghosts start mid same clean)) ruled
+
+pub returns-in_err-held-clause-own : goal.returns-in_err-held-clause-own
+returns-in_err-held-clause-own g c =
+    let zero = c.args.trees.now.store in
+    let one = c.read_rulings.new.trees.store in
+    let two = c.check_records.new.trees.store in
+    let first : OnlyLooks g.S.Store zero one = c.in_ok-rulings.ensures.same in
+    let stop = c.in_err-held.field-0.0 in
+    stop_passed g.S.Store zero two stop c.from_residual-in_err-held.result
+    c.from_residual-in_err-held.ensures.1
+    (stop_on g.S.Store zero one two stop first c.read_rulings.ensures.quiet
+    c.check_records.ensures.quiet (c.in_err-held.ensures.own (λ at. (
+      ruled_on g.S.Store c.in_ok-rulings.rulings zero one first (c.in_ok-rulings.ensures.ruled at) at,
+      c.new-places.ensures,
+    ))))
+
+pub returns-in_err-lines-clause-own : goal.returns-in_err-lines-clause-own
+returns-in_err-lines-clause-own g c =
+    let zero = c.args.trees.now.store in
+    let one = c.read_rulings.new.trees.store in
+    let two = c.check_records.new.trees.store in
+    let three = c.check_lines.new.trees.store in
+    let second : OnlyLooks g.S.Store one two = c.in_ok-held.ensures.same in
+    let to_two : OnlyLooks g.S.Store zero two =
+    looks_on g.S.Store zero one two c.in_ok-rulings.ensures.same second in
+    let stop = c.in_err-lines.field-0.0 in
+    stop_passed g.S.Store zero three stop c.from_residual-in_err-lines.result
+    c.from_residual-in_err-lines.ensures.1
+    (stop_on g.S.Store zero two three stop to_two
+    (quiet_both g.S.Store c.read_rulings.ensures.quiet c.check_records.ensures.quiet)
+    c.check_lines.ensures.quiet (c.in_err-lines.ensures.own (λ at.
+    ruled_on g.S.Store c.in_ok-rulings.rulings zero two to_two
+    (c.in_ok-rulings.ensures.ruled (look_back g.S.Store one two second at)) at)))
+
+pub returns-in_err-check_details-clause-own : goal.returns-in_err-check_details-clause-own
+returns-in_err-check_details-clause-own g c =
+    let zero = c.args.trees.now.store in
+    let one = c.read_rulings.new.trees.store in
+    let two = c.check_records.new.trees.store in
+    let three = c.check_lines.new.trees.store in
+    let four = c.check_rows.new.trees.store in
+    let five = c.check_details.new.trees.store in
+    let second : OnlyLooks g.S.Store one two = c.in_ok-held.ensures.same in
+    let third : OnlyLooks g.S.Store two three = c.in_ok-lines.ensures.same in
+    let fourth : OnlyLooks g.S.Store three four = c.in_ok-rows.ensures.same in
+    let to_two : OnlyLooks g.S.Store zero two =
+    looks_on g.S.Store zero one two c.in_ok-rulings.ensures.same second in
+    let to_three : OnlyLooks g.S.Store zero three = looks_on g.S.Store zero two three to_two third in
+    let to_four : OnlyLooks g.S.Store zero four = looks_on g.S.Store zero three four to_three fourth in
+    let stop = c.in_err-check_details.field-0.0 in
+    stop_passed g.S.Store zero five stop c.from_residual-in_err-check_details.result
+    c.from_residual-in_err-check_details.ensures.1
+    (stop_on g.S.Store zero four five stop to_four
+    (quiet_both g.S.Store (quiet_both g.S.Store (quiet_both g.S.Store c.read_rulings.ensures.quiet
+    c.check_records.ensures.quiet) c.check_lines.ensures.quiet) c.check_rows.ensures.quiet)
+    c.check_details.ensures.quiet (c.in_err-check_details.ensures.own (λ at.
+    ruled_on g.S.Store c.in_ok-rulings.rulings zero four to_four
+    (c.in_ok-rulings.ensures.ruled (look_back g.S.Store one two second
+    (look_back g.S.Store two three third (look_back g.S.Store three four fourth at)))) at)))
+
+-- and the charge rows are those that are due
 pub returns-in_err-rows-clause-own : goal.returns-in_err-rows-clause-own
 returns-in_err-rows-clause-own g c =
     let zero = c.args.trees.now.store in
@@ -109,7 +179,7 @@ returns-in_err-rows-clause-own g c =
     let none : c.new-places.result.rows.entries ≡ [] = c.new-places.ensures ∙ keyed_rows-none in
     stop_passed g.S.Store zero four c.in_err-rows.field-0.0 c.from_residual-in_err-rows.result
     c.from_residual-in_err-rows.ensures.1
-    (λ finding is clean own.
+    (λ whole other clean own.
     let at_three : IsClean (g.S.Store.view three) =
     clean_before g.S.Store c.check_rows.ensures.quiet clean in
     let at_two : IsClean (g.S.Store.view two) = look_back g.S.Store two three third at_three in
@@ -132,4 +202,4 @@ returns-in_err-rows-clause-own g c =
     (sym (trees_stay g.S.Store zero three to_three at))
     (subst (λ (sums : List ChargeRow). AreDueRows rulings.closes.items sums
     ((g.S.Store.view zero).trees 4)) (sym counted) due)))
-    finding is clean own)
+    whole other clean own)

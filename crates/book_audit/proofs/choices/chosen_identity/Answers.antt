@@ -10,12 +10,37 @@ use Rattle.tree_rows.proofs.Calls.{clean_before}
 use Rattle.book_audit.specs.Rules.{may_split}
 use Rattle.book_audit.specs.Trees.{FindsTwo}
 use Rattle.book_audit.proofs.Own.Choices.{chosen_held, chosen_shares}
+use Rattle.book_audit.proofs.Own.Stops.{met_cause, met_own, passed_with, stop_on}
 use Rattle.book_audit.proofs.Walks.Steps.{trees_stay}
 use Rattle.book_audit.proofs.choices.chosen_identity.Goals as goal
 
+-- look-ups fail for a cause
+pub returns-in_err-identity-clause-own : goal.returns-in_err-identity-clause-own
+returns-in_err-identity-clause-own g c =
+    let start = c.args.trees.now.store in
+    let new = c.identity_of.new.self.store in
+    let stop = c.in_err-identity.field-0.0 in
+    passed_with g.S.Store start new stop _ c.from_residual.ensures.1 (λ given.
+    met_own g.S.Store start new c.identity_of.result c.map_err.result stop
+    (λ error stop stands. search rules) (λ error stop stands. search rules)
+    c.map_err.ensures.cases c.in_err-identity.was c.identity_of.ensures.own)
+
+pub returns-in_err-is_shared-clause-own : goal.returns-in_err-is_shared-clause-own
+returns-in_err-is_shared-clause-own g c =
+    let start = c.args.trees.now.store in
+    let one = c.identity_of.new.self.store in
+    let new = c.is_shared.new.self.store in
+    let stop = c.in_err-is_shared.field-0.0 in
+    let first : OnlyLooks g.S.Store start one = search rules in
+    passed_with g.S.Store start new stop _ c.from_residual-in_err-is_shared.ensures.1 (λ given.
+    stop_on g.S.Store start one new stop first c.identity_of.ensures.quiet c.is_shared.ensures.quiet
+    (met_cause g.S.Store one new c.is_shared.result c.map_err-2.result stop
+    (λ error stop stands. search rules) (λ error stop stands. search rules)
+    c.map_err-2.ensures.cases c.in_err-is_shared.was c.is_shared.ensures.cause))
+
 -- the record of a choice is held
 pub returns-in_default-clause-own : goal.returns-in_default-clause-own
-returns-in_default-clause-own g c given finding said clean own =
+returns-in_default-clause-own g c given whole other clean own =
     let start = c.args.trees.now.store in
     let trees : Trees = (g.S.Store.view start).trees in
     let choice = c.args.choice.now in
@@ -28,7 +53,7 @@ returns-in_default-clause-own g c given finding said clean own =
 
 -- and is not alone in its identity, unless it was parted from the others
 pub returns-then-not-may_be_chosen-clause-own : goal.returns-then-not-may_be_chosen-clause-own
-returns-then-not-may_be_chosen-clause-own g c given finding said clean own =
+returns-then-not-may_be_chosen-clause-own g c given whole other clean own =
     let start = c.args.trees.now.store in
     let one = c.identity_of.new.self.store in
     let trees : Trees = (g.S.Store.view start).trees in

@@ -21,7 +21,8 @@ use Rattle.book_audit.proofs.Rows.Choices.{made_pushed, none_made, rows_pushed}
 use Rattle.book_audit.proofs.Own.Choices.{own_choices_few, own_choices_fit, own_next_choice}
 use Rattle.book_audit.proofs.Own.Choices.{since_from, since_pushed}
 use Rattle.book_audit.proofs.Own.Entries.{choice_names_many}
-use Rattle.book_audit.proofs.Own.Stops.{each_err, err_passed, err_said, stop_on}
+use Rattle.book_audit.proofs.Own.Stops.{each_err, err_passed, err_said, passed_with, stop_on}
+use Rattle.book_audit.proofs.Own.Stops.{stop_walked}
 use Rattle.book_audit.proofs.Rows.Columns.{long_numbers}
 use Rattle.book_audit.proofs.Walks.Steps.{its_place, its_row, look_back, looks_on, no_look}
 use Rattle.book_audit.proofs.Walks.Steps.{read_all, read_on, trees_stay}
@@ -91,6 +92,17 @@ choices-preserved g c =
 
 -- ---- a choice of books that calls made is not refused
 
+pub returns-in_err-next-clause-own : goal.returns-in_err-next-clause-own
+returns-in_err-next-clause-own g c =
+    let start = c.args.trees.now.store in
+    let next = c.next.new.trees.store in
+    let so_far = c.choices.invariant in
+    let stop = c.in_err-next.field-0.0 in
+    passed_with g.S.Store start next stop _ c.from_residual.ensures.1 (λ given.
+    stop_walked g.S.Store start c.choices.trees.store next Choices c.choices.walk stop so_far.tree
+    so_far.same so_far.quiet c.next.ensures.quiet c.in_err-next.ensures.own
+    (λ back. (made_rows (so_far.read back).0, (so_far.read back).1)))
+
 pub returns-in_err-check_entries-clause-own : goal.returns-in_err-check_entries-clause-own
 returns-in_err-check_entries-clause-own g c =
     let start = c.args.trees.now.store in
@@ -128,7 +140,7 @@ returns-in_err-choice-clause-own g c =
     let next = c.next.new.trees.store in
     let so_far = c.choices.invariant in
     let row : Row = c.next.new.self.row in
-    each_err _ c.from_residual-in_err-choice.result (λ stop given finding is clean own.
+    each_err _ c.from_residual-in_err-choice.result (λ stop given whole other clean own.
     let fits : ChoiceFits row =
     its_row g.S.Store start mid next Choices c.choices.walk c.next.new.self c.in_ok-next.field-0
     so_far.tree so_far.same c.in_ok-next.ensures.same c.in_ok-next.ensures.next
@@ -169,7 +181,7 @@ returns-in_err-check_choice-clause-own g c =
 
 -- and there are no more than can be made
 pub returns-clause-own : goal.returns-clause-own
-returns-clause-own g c given finding is clean own =
+returns-clause-own g c given whole other clean own =
     let start = c.args.trees.now.store in
     let mid = c.choices.trees.store in
     let so_far = c.choices.invariant in

@@ -11,7 +11,7 @@ use Rattle.book_audit.specs.Walks.{HasWalked}
 use Rattle.book_audit.specs.declared.finding.Tree.TheVariants.{Days}
 use Rattle.book_audit.proofs.Rows.Columns.{one_day}
 use Rattle.book_audit.proofs.Own.Days.{no_fewer, no_further, own_days_fit, row_next}
-use Rattle.book_audit.proofs.Own.Stops.{err_said, never_with}
+use Rattle.book_audit.proofs.Own.Stops.{err_said, never_with, passed_with, stop_walked}
 use Rattle.book_audit.proofs.Rows.Records.{due_pushed}
 use Rattle.book_audit.proofs.Walks.Steps.{its_place, its_row, look_back, looks_on, no_look}
 use Rattle.book_audit.proofs.Walks.Steps.{read_all, read_on}
@@ -54,9 +54,35 @@ rows-preserved g c =
           (λ back. (done, so_far.walked back)) clean c.if-not-branch.false);
     }
 
+-- the rows of own books are all read,
+pub returns-in_err-next-clause-own : goal.returns-in_err-next-clause-own
+returns-in_err-next-clause-own g c =
+    let start = c.args.trees.now.store in
+    let next = c.next.new.trees.store in
+    let so_far = c.rows.invariant in
+    let stop = c.in_err-next.field-0.0 in
+    let done : List Row =
+    first_due c.args.rulings.now.closes.items c.args.due.now c.rows.next-index in
+    passed_with g.S.Store start next stop _ c.from_residual.ensures.1 (λ known.
+    stop_walked g.S.Store start c.rows.trees.store next Days c.rows.walk stop so_far.tree so_far.same
+    so_far.quiet c.next.ensures.quiet c.in_err-next.ensures.own (λ back. (done, so_far.walked back)))
+
+pub returns-in_err-next-2-clause-own : goal.returns-in_err-next-2-clause-own
+returns-in_err-next-2-clause-own g c =
+    let start = c.args.trees.now.store in
+    let next = c.next-2.new.trees.store in
+    let so_far = c.rows.invariant in
+    let stop = c.in_err-next-2.field-0.0 in
+    let done : List Row =
+    first_due c.args.rulings.now.closes.items c.args.due.now c.rows.next-index in
+    passed_with g.S.Store start next stop _ c.from_residual-in_err-next-2.ensures.1 (λ known.
+    stop_walked g.S.Store start c.rows.trees.store next Days c.rows.walk stop so_far.tree so_far.same
+    so_far.quiet c.next-2.ensures.quiet c.in_err-next-2.ensures.own
+    (λ back. (done, so_far.walked back)))
+
 -- are no fewer than are due,
 pub returns-then-not-branch-clause-own : goal.returns-then-not-branch-clause-own
-returns-then-not-branch-clause-own g c known finding said clean own =
+returns-then-not-branch-clause-own g c known whole other clean own =
     let start = c.args.trees.now.store in
     let mid = c.rows.trees.store in
     let next = c.next.new.trees.store in
@@ -95,7 +121,7 @@ returns-in_err-row-clause-own g c =
 
 -- each the next that is due,
 pub returns-then-not-is_due-clause-own : goal.returns-then-not-is_due-clause-own
-returns-then-not-is_due-clause-own g c known finding said clean own =
+returns-then-not-is_due-clause-own g c known whole other clean own =
     let start = c.args.trees.now.store in
     let mid = c.rows.trees.store in
     let next = c.next.new.trees.store in
@@ -141,7 +167,7 @@ returns-in_err-row-2-clause-own g c =
     c.rows-test.false (sym all ∙ place.1))
 
 pub returns-then-branch-clause-own : goal.returns-then-branch-clause-own
-returns-then-branch-clause-own g c known finding said clean own =
+returns-then-branch-clause-own g c known whole other clean own =
     let start = c.args.trees.now.store in
     let mid = c.rows.trees.store in
     let next = c.next-2.new.trees.store in

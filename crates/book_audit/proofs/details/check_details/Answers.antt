@@ -1,6 +1,7 @@
-use Rattle.std.proofs.Common.{◌≡◌, ◌∙◌, ◌++◌, ◌∷◌, [], ℤ, List, map, ap, rules, subst, sym}
+use Rattle.std.proofs.Common.{◌≡◌, ◌∙◌, ◌++◌, ◌∷◌, [], ℤ, List, map, ap, arith, length, length-append}
+use Rattle.std.proofs.Common.{refl, rules, subst, sym}
 use Rattle.std.specs.Prelude.{is_ok}
-use Rattle.std.proofs.lemmas.List.{map-append}
+use Rattle.std.proofs.lemmas.List.{length-map, map-append}
 use Rattle.sqlite_trees.specs.Tree.{Trees}
 use Rattle.sqlite_trees.specs.View.{IsClean}
 use Rattle.sqlite_trees.proofs.ListLemmas.{all-append}
@@ -20,6 +21,7 @@ use Rattle.book_audit.proofs.Walks.Steps.{its_row, look_back, looks_on, no_look,
 use Rattle.book_audit.proofs.Walks.Steps.{trees_stay}
 use Rattle.book_audit.proofs.Own.Details.{IsShownOf, shown_had, shown_of, shown_row_fits}
 use Rattle.book_audit.proofs.Own.Stops.{err_said, never_with, passed_with, stop_on, stop_walked}
+use Rattle.book_audit.proofs.Own.Stops.{walk_ends}
 use Rattle.book_audit.proofs.Own.Tables.{own_tables}
 use Rattle.book_audit.proofs.details.check_details.Goals as goal
 
@@ -36,6 +38,7 @@ rows-init g c = record {
     [],
     c.over-walk.ensures.start ((g.S.Store.view c.args.trees.now.store).trees 10),
     tt,
+    refl,
   );
 }
 
@@ -61,6 +64,8 @@ rows-preserved g c =
       read = λ clean.
           let after : IsClean (g.S.Store.view next) = look_back g.S.Store next new checks clean in
           let read = so_far.read (look_back g.S.Store mid next looks after) in
+          let so_many : c.rows.count ≡ length read.0 = read.3 in
+          let long = length-append read.0 (shown ∷ []) in
           let counted : ShowsCounted (g.S.Store.view start).trees closes shown =
           subst (λ (all : Trees). ShowsCounted all closes shown)
           (trees_stay g.S.Store start next both after) (c.in_ok-check_shown.ensures.counted clean) in (
@@ -74,6 +79,7 @@ rows-preserved g c =
                 c.if-not-branch.false),
             all-append (ShowsCounted (g.S.Store.view start).trees closes) read.0 (shown ∷ []) read.2
                 (counted, tt),
+            omega (arith, so_many, long),
           );
     }
 
@@ -140,3 +146,11 @@ returns-in_err-check_shown-clause-own g c =
           c.if-not-branch.false (IsShownOf tables) (shown_of (g.S.Store.view start).trees tables
           (subst (λ (all : Trees). Holds all tables) stay holds)))),
     ))))
+
+-- and no tree is so long that it is not walked over
+pub returns-clause-own : goal.returns-clause-own
+returns-clause-own g c known whole other clean own =
+    let read = c.rows.invariant.read clean in
+    let long = length-map read.0 shown_row in
+    absurd (walk_ends (g.S.Store.view c.args.trees.now.store) c.endless.result whole c.endless.ensures
+    10 (map shown_row read.0) _ read.1.left (omega (arith, long, read.3, c.rows-test.false)))

@@ -15,7 +15,8 @@ use Rattle.tree_tables.specs.UsageData.{IsUsageData}
 use Rattle.book_audit.specs.Records.{detail_key, spot_of}
 use Rattle.book_audit.specs.declared.finding.DetailKey.{DetailKey}
 use Rattle.book_audit.proofs.Own.Details.{counted_usage, detail_found}
-use Rattle.book_audit.proofs.Own.Stops.{err_fits, met_memory, never_with, passed_with, said_ok}
+use Rattle.book_audit.proofs.Own.Stops.{err_fits, met_cause, met_memory, never_with, passed_with}
+use Rattle.book_audit.proofs.Own.Stops.{said_ok}
 use Rattle.book_audit.proofs.Walks.Steps.{look_back}
 use Rattle.book_audit.proofs.details.check_has_detail.Goals as goal
 
@@ -29,12 +30,12 @@ returns-in_err-map_err-clause-own g c =
     let refused : is_ok c.put_data.result ≡ false =
     sym c.map_err.ensures.variant ∙ ap is_ok c.in_err-map_err.was in
     passed_with g.S.Store start start stop c.from_residual.result c.from_residual.ensures.1
-    (λ known finding said clean own.
+    (λ known whole other clean own.
     let memory = err_fits (λ (error : StoreError). error ≡ OutOfMemory) c.put_data.result
     c.put_data.ensures.taken
     (subst IsUsageData (sym c.deref.ensures.value) (counted_usage trees entry (known clean))) in
-    absurd (met_memory c.put_data.result c.map_err.result stop (λ error stop stands. search rules)
-    c.map_err.ensures.cases c.in_err-map_err.was refused memory finding said))
+    absurd (other (met_memory c.put_data.result c.map_err.result stop
+    (λ error stop stands. search rules) c.map_err.ensures.cases c.in_err-map_err.was refused memory)))
 
 pub returns-in_err-usage-clause-own : goal.returns-in_err-usage-clause-own
 returns-in_err-usage-clause-own g c =
@@ -50,9 +51,19 @@ returns-in_err-usage-clause-own g c =
     let there = c.usage_in.ensures.usage.1 usage in
     absurd (search rules))
 
--- and it has a row of details
+-- and it has a row of details, or the look-up fails for a cause
+pub returns-in_err-found-clause-own : goal.returns-in_err-found-clause-own
+returns-in_err-found-clause-own g c =
+    let start = c.args.trees.now.store in
+    let new = c.has_detail.new.self.store in
+    let stop = c.in_err-found.field-0.0 in
+    passed_with g.S.Store start new stop _ c.from_residual-in_err-found.ensures.1 (λ known.
+    met_cause g.S.Store start new c.has_detail.result c.map_err-3.result stop
+    (λ error stop stands. search rules) (λ error stop stands. search rules)
+    c.map_err-3.ensures.cases c.in_err-found.was c.has_detail.ensures.cause)
+
 pub returns-else-found-clause-own : goal.returns-else-found-clause-own
-returns-else-found-clause-own g c premise finding is clean =
+returns-else-found-clause-own g c premise whole other clean =
     let start = c.args.trees.now.store in
     let new = c.has_detail.new.self.store in
     let trees : Trees = (g.S.Store.view start).trees in

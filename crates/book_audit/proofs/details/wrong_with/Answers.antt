@@ -21,7 +21,7 @@ use Rattle.book_audit.specs.Own.{IsOwnStop}
 use Rattle.book_audit.specs.OwnRecords.{AreOwnOf, IsCountedIn}
 use Rattle.book_audit.proofs.Held.Looks.{record_looked}
 use Rattle.book_audit.proofs.Own.Details.{own_row, own_shown_at, own_usage}
-use Rattle.book_audit.proofs.Own.Stops.{each_err, err_fits, met_memory, said_ok, stop_on}
+use Rattle.book_audit.proofs.Own.Stops.{each_err, err_fits, met_memory, met_own, said_ok, stop_on}
 use Rattle.book_audit.proofs.Own.Stops.{stop_passed}
 use Rattle.book_audit.proofs.Own.Tables.{own_tables}
 use Rattle.book_audit.proofs.Walks.Steps.{look_back, trees_stay}
@@ -69,6 +69,17 @@ returns-in_default-clause-other g c clean own ruled is =
     not_none its.0 (sym its.1
     ∙ record_looked trees (own_tables trees own) own.holds shown.name row false (finds clean))
 
+-- or the look-up fails for a cause,
+pub returns-in_err-record-clause-own : goal.returns-in_err-record-clause-own
+returns-in_err-record-clause-own g c =
+    let start = c.args.trees.now.store in
+    let new = c.record_of.new.self.store in
+    let stop = c.in_err-record.field-0.0 in
+    stop_passed g.S.Store start new stop c.from_residual.result c.from_residual.ensures.1
+    (met_own g.S.Store start new c.record_of.result c.map_err.result stop
+    (λ error stop stands. search rules) (λ error stop stands. search rules)
+    c.map_err.ensures.cases c.in_err-record.was c.record_of.ensures.own)
+
 -- whose data are those of usage,
 pub returns-in_err-map_err-clause-own : goal.returns-in_err-map_err-clause-own
 returns-in_err-map_err-clause-own g c =
@@ -82,13 +93,13 @@ returns-in_err-map_err-clause-own g c =
     let refused : is_ok c.put_data.result ≡ false =
     sym c.map_err-2.ensures.variant ∙ ap is_ok c.in_err-map_err.was in
     stop_passed g.S.Store start new stop c.from_residual-in_err-map_err.result
-    c.from_residual-in_err-map_err.ensures.1 (λ finding said clean own.
+    c.from_residual-in_err-map_err.ensures.1 (λ whole other clean own.
     let memory = err_fits (λ (error : StoreError). error ≡ OutOfMemory) c.put_data.result
     c.put_data.ensures.taken
     (subst IsUsageData (sym c.deref.ensures.value)
     (own_usage trees own c.args.shown.now.name (stored_entry stored) (held clean))) in
-    absurd (met_memory c.put_data.result c.map_err-2.result stop (λ error stop stands. search rules)
-    c.map_err-2.ensures.cases c.in_err-map_err.was refused memory finding said))
+    absurd (other (met_memory c.put_data.result c.map_err-2.result stop
+    (λ error stop stands. search rules) c.map_err-2.ensures.cases c.in_err-map_err.was refused memory)))
 
 pub returns-in_err-usage-clause-own : goal.returns-in_err-usage-clause-own
 returns-in_err-usage-clause-own g c =
@@ -100,7 +111,7 @@ returns-in_err-usage-clause-own g c =
     (record_columns (stored_entry stored)) true = search rules in
     let refused : is_ok c.usage_in.result ≡ false =
     sym c.map_err-3.ensures.variant ∙ ap is_ok c.in_err-usage.was in
-    each_err (IsOwnStop g.S.Store start new) _ (λ stop finding said clean own.
+    each_err (IsOwnStop g.S.Store start new) _ (λ stop whole other clean own.
     let bytes : c.deref-2.result.now ≡ record_with stored.data_bytes.items = search rules in
     let usage : IsUsage c.deref-2.result.now = subst IsUsage (sym bytes)
     (own_usage trees own c.args.shown.now.name (stored_entry stored) (held clean)).usage in

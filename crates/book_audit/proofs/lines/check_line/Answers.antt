@@ -11,6 +11,7 @@ use Rattle.tree_tables.specs.Columns.{record_columns}
 use Rattle.tree_tables.specs.Stored.{stored_entry}
 use Rattle.book_audit.specs.Lines.{line_entry}
 use Rattle.book_audit.proofs.Own.Records.{own_line_found, own_line_late}
+use Rattle.book_audit.proofs.Own.Stops.{met_own, passed_with}
 use Rattle.book_audit.proofs.Walks.Steps.{look_back}
 use Rattle.book_audit.proofs.lines.check_line.Goals.{then-line-own-via-else-line-own+then-open_period-line}
 use Rattle.book_audit.proofs.lines.check_line.Goals.{then-line-own-via-then-line-own}
@@ -32,9 +33,20 @@ returns-clause-late g c clean =
       begun = begun;
     }
 
+-- a look-up fails for a cause
+pub returns-in_err-record-clause-own : goal.returns-in_err-record-clause-own
+returns-in_err-record-clause-own g c =
+    let start = c.args.trees.now.store in
+    let new = c.record_of.new.self.store in
+    let stop = c.in_err-record.field-0.0 in
+    passed_with g.S.Store start new stop _ c.from_residual.ensures.1 (λ known.
+    met_own g.S.Store start new c.record_of.result c.map_err.result stop
+    (λ error stop stands. search rules) (λ error stop stands. search rules)
+    c.map_err.ensures.cases c.in_err-record.was c.record_of.ensures.own)
+
 -- a line of own books names a record that is held,
 pub returns-in_default-clause-own : goal.returns-in_default-clause-own
-returns-in_default-clause-own g c premise finding is clean own =
+returns-in_default-clause-own g c premise whole other clean own =
     let start = c.args.trees.now.store in
     let new = c.record_of.new.self.store in
     let trees : Trees = (g.S.Store.view start).trees in
@@ -48,7 +60,7 @@ returns-in_default-clause-own g c premise finding is clean own =
 
 -- and is in a period after that of its day
 pub returns-then-line-own-clause-own : goal.returns-then-line-own-clause-own
-returns-then-line-own-clause-own g c premise finding is clean own =
+returns-then-line-own-clause-own g c premise whole other clean own =
     let start = c.args.trees.now.store in
     let new = c.record_of.new.self.store in
     let trees : Trees = (g.S.Store.view start).trees in

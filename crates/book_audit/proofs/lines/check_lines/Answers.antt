@@ -1,6 +1,6 @@
 use Rattle.std.proofs.Common.{◌≡◌, ◌∙◌, ◌++◌, ◌∷◌, [], ℕ, ℤ, Bool, List, length, map, ap, arith}
 use Rattle.std.proofs.Common.{length-append, refl, rules, subst, sym, is_ok}
-use Rattle.std.proofs.lemmas.List.{map-append}
+use Rattle.std.proofs.lemmas.List.{length-map, map-append}
 use Rattle.sqlite_trees.specs.Tree.{Trees}
 use Rattle.sqlite_trees.specs.View.{IsClean}
 use Rattle.sqlite_trees.proofs.ListLemmas.{all-append}
@@ -18,7 +18,8 @@ use Rattle.book_audit.specs.SoundTrees.{AreRuled}
 use Rattle.book_audit.proofs.Walks.Steps.{its_row, look_back, looks_on, no_look, read_on}
 use Rattle.book_audit.proofs.Walks.Steps.{trees_stay}
 use Rattle.book_audit.proofs.Own.Records.{IsLineOf, line_had, line_row_fits, lines_of}
-use Rattle.book_audit.proofs.Own.Stops.{err_said, never_with, passed_with, stop_on}
+use Rattle.book_audit.proofs.Own.Stops.{err_said, never_with, passed_with, stop_on, stop_walked}
+use Rattle.book_audit.proofs.Own.Stops.{walk_ends}
 use Rattle.book_audit.proofs.Own.Tables.{own_tables}
 use Rattle.book_audit.proofs.lines.check_lines.Goals as goal
 
@@ -76,6 +77,18 @@ lines-preserved g c =
           );
     }
 
+-- the rows of own books are all read,
+pub returns-in_err-next-clause-own : goal.returns-in_err-next-clause-own
+returns-in_err-next-clause-own g c =
+    let start = c.args.trees.now.store in
+    let next = c.next.new.trees.store in
+    let so_far = c.lines.invariant in
+    let stop = c.in_err-next.field-0.0 in
+    passed_with g.S.Store start next stop _ c.from_residual.ensures.1 (λ known.
+    stop_walked g.S.Store start c.lines.trees.store next Lines c.lines.walk stop so_far.tree so_far.same
+    so_far.quiet c.next.ensures.quiet c.in_err-next.ensures.own
+    (λ back. let read = so_far.read back in (map line_columns read.0, read.1)))
+
 -- are those of lines,
 pub returns-in_err-line-clause-own : goal.returns-in_err-line-clause-own
 returns-in_err-line-clause-own g c =
@@ -123,3 +136,11 @@ returns-in_err-check_line-clause-own g c =
           c.if-not-branch.false (IsLineOf tables) (lines_of (g.S.Store.view start).trees tables
           (subst (λ (all : Trees). Holds all tables) stay holds)))),
     ))))
+
+-- and no tree is so long that it is not walked over
+pub returns-clause-own : goal.returns-clause-own
+returns-clause-own g c known whole other clean own =
+    let read = c.lines.invariant.read clean in
+    let long = length-map read.0 line_columns in
+    absurd (walk_ends (g.S.Store.view c.args.trees.now.store) c.endless.result whole c.endless.ensures
+    5 (map line_columns read.0) _ read.1.left (omega (arith, long, read.2, c.lines-test.false)))

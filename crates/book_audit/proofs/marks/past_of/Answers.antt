@@ -17,6 +17,7 @@ use Rattle.tree_tables.specs.Columns.{flag}
 use Rattle.book_audit.specs.Records.{GoesBack, IsLine, Turns}
 use Rattle.book_audit.specs.Records.Turns.{Stays, Turned}
 use Rattle.book_audit.proofs.Held.Looks.{line_looked, went_back}
+use Rattle.book_audit.proofs.Own.Stops.{met_own, stop_on, stop_passed}
 use Rattle.book_audit.proofs.Walks.Steps.{look_back, looks_on, trees_stay}
 use Rattle.book_audit.proofs.marks.past_of.Goals.{in-Some+else-plus-now, in_default}
 use Rattle.book_audit.proofs.marks.past_of.Goals as goal
@@ -87,6 +88,20 @@ loop-back-preserved g c =
           c.args.charged c.loop-back.now c.match-line.now line
           (so_far.back (look_back g.S.Store mid new looks clean)) (is clean) turns;
     }
+
+-- a look-up fails for a cause
+pub returns-in_err-line-clause-own : goal.returns-in_err-line-clause-own
+returns-in_err-line-clause-own g c =
+    let start = c.args.trees.now.store in
+    let mid = c.loop-back.trees.store in
+    let new = c.line_of.new.self.store in
+    let so_far = c.loop-back.invariant in
+    let stop = c.in_err-line.field-0.0 in
+    stop_passed g.S.Store start new stop c.from_residual.result c.from_residual.ensures.1
+    (stop_on g.S.Store start mid new stop so_far.same so_far.quiet c.line_of.ensures.quiet
+    (met_own g.S.Store mid new c.line_of.result c.map_err.result stop
+    (λ error stop stands. search rules) (λ error stop stands. search rules)
+    c.map_err.ensures.cases c.in_err-line.was c.line_of.ensures.own))
 
 -- a line that is in turn says what is charged
 pub returns-then-plus-now-clause-other : goal.returns-then-plus-now-clause-other

@@ -5,6 +5,7 @@ use Rattle.sqlite_value.specs.Order.{Row}
 use Rattle.sqlite_value.specs.declared.value.Value.TheVariants.{Blob, Int}
 use Rattle.tree_rows.specs.Calls.{OnlyLooks}
 use Rattle.tree_rows.specs.Rows.{Finds}
+use Rattle.tree_rows.proofs.Calls.{quiet_both}
 use Rattle.tree_tables.specs.Columns.{flag}
 use Rattle.tree_tables.specs.Stored.{stored_entry}
 use Rattle.book_audit.specs.Choices.{is_last}
@@ -13,6 +14,7 @@ use Rattle.book_audit.specs.Trees.{FindsTwo}
 use Rattle.book_audit.specs.declared.choices.Chosen.{Chosen}
 use Rattle.book_audit.proofs.Held.Looks.{identity_found, mark_found}
 use Rattle.book_audit.proofs.Own.Records.{own_due}
+use Rattle.book_audit.proofs.Own.Stops.{met_cause, stop_on, stop_passed}
 use Rattle.book_audit.proofs.Own.Tables.{own_tables}
 use Rattle.book_audit.proofs.Walks.Steps.{look_back, looks_on, trees_stay}
 use Rattle.book_audit.proofs.marks.wrong_by_trees.Goals as goal
@@ -67,6 +69,49 @@ returns-clause-charged g c clean none =
           (look_back g.S.Store two three third clean)) (looked clean);
       is = search rules;
     }
+
+-- look-ups fail for a cause
+pub returns-in_err-map_err-clause-own : goal.returns-in_err-map_err-clause-own
+returns-in_err-map_err-clause-own g c =
+    let zero = c.args.trees.now.store in
+    let one = c.has_identity.new.self.store in
+    let stop = c.in_err-map_err.field-0.0 in
+    stop_passed g.S.Store zero one stop c.from_residual.result c.from_residual.ensures.1
+    (met_cause g.S.Store zero one c.has_identity.result c.map_err.result stop
+    (λ error stop stands. search rules) (λ error stop stands. search rules)
+    c.map_err.ensures.cases c.in_err-map_err.was c.has_identity.ensures.cause)
+
+pub returns-in_err-map_err-2-clause-own : goal.returns-in_err-map_err-2-clause-own
+returns-in_err-map_err-2-clause-own g c =
+    let zero = c.args.trees.now.store in
+    let one = c.has_identity.new.self.store in
+    let two = c.has_mark.new.self.store in
+    let stop = c.in_err-map_err-2.field-0.0 in
+    let first : OnlyLooks g.S.Store zero one = search rules in
+    stop_passed g.S.Store zero two stop c.from_residual-in_err-map_err-2.result
+    c.from_residual-in_err-map_err-2.ensures.1
+    (stop_on g.S.Store zero one two stop first c.has_identity.ensures.quiet c.has_mark.ensures.quiet
+    (met_cause g.S.Store one two c.has_mark.result c.map_err-2.result stop
+    (λ error stop stands. search rules) (λ error stop stands. search rules)
+    c.map_err-2.ensures.cases c.in_err-map_err-2.was c.has_mark.ensures.cause))
+
+pub returns-in_err-is_shared-clause-own : goal.returns-in_err-is_shared-clause-own
+returns-in_err-is_shared-clause-own g c =
+    let zero = c.args.trees.now.store in
+    let one = c.has_identity.new.self.store in
+    let two = c.has_mark.new.self.store in
+    let three = c.is_shared.new.self.store in
+    let stop = c.in_err-is_shared.field-0.0 in
+    let first : OnlyLooks g.S.Store zero one = search rules in
+    let second : OnlyLooks g.S.Store one two = search rules in
+    stop_passed g.S.Store zero three stop c.from_residual-in_err-is_shared.result
+    c.from_residual-in_err-is_shared.ensures.1
+    (stop_on g.S.Store zero two three stop (looks_on g.S.Store zero one two first second)
+    (quiet_both g.S.Store c.has_identity.ensures.quiet c.has_mark.ensures.quiet)
+    c.is_shared.ensures.quiet
+    (met_cause g.S.Store two three c.is_shared.result c.map_err-3.result stop
+    (λ error stop stands. search rules) (λ error stop stands. search rules)
+    c.map_err-3.ensures.cases c.in_err-is_shared.was c.is_shared.ensures.cause))
 
 -- a record of own books is found by its identity,
 pub returns-then-not-branch-clause-other : goal.returns-then-not-branch-clause-other

@@ -15,8 +15,15 @@ pub returns-in_err-check_data-clause-own : goal.returns-in_err-check_data-clause
 returns-in_err-check_data-clause-own g c =
     let start = c.args.trees.now.store in
     passed_with g.S.Store start start c.in_err-check_data.field-0.0 _ c.from_residual.ensures.1
-    (λ known finding said clean own. absurd (c.in_err-check_data.ensures.own finding said
+    (λ known whole other clean own. absurd (c.in_err-check_data.ensures.own other
     (own_data (g.S.Store.view start).trees c.args.rulings.now c.args.stored.now (known clean).0)))
+
+-- so are its marks
+pub returns-in_err-counted-clause-own : goal.returns-in_err-counted-clause-own
+returns-in_err-counted-clause-own g c =
+    passed_with g.S.Store c.args.trees.now.store c.check_marks.new.trees.store
+    c.in_err-counted.field-0.0 _ c.from_residual-in_err-counted.ensures.1
+    (λ known. c.in_err-counted.ensures.own (λ clean. (known clean).0))
 
 -- and its details
 pub returns-in_err-check_has_detail-clause-own : goal.returns-in_err-check_has_detail-clause-own

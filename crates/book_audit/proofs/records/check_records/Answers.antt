@@ -83,7 +83,7 @@ module _ {S : Type 0} (ghosts : Ghosts S) (start mid next new : S) (first : Only
 
 -- and the row of the book says how many they are, and what they cost
 pub returns-then-held-rulings-clause-own : goal.returns-then-held-rulings-clause-own
-returns-then-held-rulings-clause-own g c known finding said clean own =
+returns-then-held-rulings-clause-own g c known whole other clean own =
     let same : c.in_ok-held.held.records ≡ c.args.rulings.now.held =
     same_count g.S.Store c.args.trees.now.store c.read_records.new.trees.store
     c.check_entries.new.trees.store c.check_entries-2.new.trees.store c.in_ok-held.ensures.same
@@ -92,7 +92,7 @@ returns-then-held-rulings-clause-own g c known finding said clean own =
     absurd (search rules)
 
 pub returns-then-held-rulings-2-clause-own : goal.returns-then-held-rulings-2-clause-own
-returns-then-held-rulings-2-clause-own g c known finding said clean own =
+returns-then-held-rulings-2-clause-own g c known whole other clean own =
     let same : c.in_ok-held.held.amount ≡ c.args.rulings.now.amount =
     same_amount g.S.Store c.args.trees.now.store c.read_records.new.trees.store
     c.check_entries.new.trees.store c.check_entries-2.new.trees.store c.in_ok-held.ensures.same

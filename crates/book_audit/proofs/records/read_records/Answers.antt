@@ -130,7 +130,7 @@ returns-in_err-check_record-clause-own g c =
     let rows : Told → Row = λ (one : Told). record_columns one.0 in
     let trees : Trees = (g.S.Store.view start).trees in
     passed_with g.S.Store start new stop _ c.from_residual-in_err-check_record.ensures.1
-    (λ known finding said clean own.
+    (λ known whole other clean own.
     stop_on g.S.Store start next new stop both
     (quiet_both g.S.Store so_far.quiet c.next.ensures.quiet) c.check_record.ensures.quiet
     (c.in_err-check_record.ensures.own (λ back.
@@ -162,7 +162,7 @@ returns-in_err-check_record-clause-own g c =
             (λ (one : Told). IsPriced one.0.1.priced) (λ one right. right.priced) read.0 read.2.right)
             priced.priced,
       ),
-    ))) finding said clean own)
+    ))) whole other clean own)
 
 -- its rows are those of records,
 pub returns-in_err-record-clause-own : goal.returns-in_err-record-clause-own
@@ -177,7 +177,7 @@ returns-in_err-record-clause-own g c =
     let refused : is_ok c.record_in.result ≡ false =
     sym c.map_err.ensures.variant ∙ ap is_ok c.in_err-record.was in
     passed_with g.S.Store start _ stop _ c.from_residual-in_err-record.ensures.1
-    (λ known finding said clean own.
+    (λ known whole other clean own.
     let trees : Trees = (g.S.Store.view start).trees in
     let tables : Tables = own_tables trees own in
     let is = its_row g.S.Store start mid next Records c.records.walk c.next.new.self
@@ -186,12 +186,12 @@ returns-in_err-record-clause-own g c =
     c.if-not-branch.false (IsRecordOf tables) (records_of trees tables own.holds) in
     let memory = err_fits (λ (error : StoreError). error ≡ OutOfMemory) c.record_in.result
     c.record_in.ensures.taken (subst RecordFits (sym c.row.ensures) (record_row_fits trees own row is)) in
-    absurd (met_memory c.record_in.result c.map_err.result stop (λ error stop stands. search rules)
-    c.map_err.ensures.cases c.in_err-record.was refused memory finding said))
+    absurd (other (met_memory c.record_in.result c.map_err.result stop
+    (λ error stop stands. search rules) c.map_err.ensures.cases c.in_err-record.was refused memory)))
 
 -- which cost no more together than books may hold,
 pub returns-then-record-gt-MAX_COST-clause-own : goal.returns-then-record-gt-MAX_COST-clause-own
-returns-then-record-gt-MAX_COST-clause-own g c known finding said clean own =
+returns-then-record-gt-MAX_COST-clause-own g c known whole other clean own =
     let start = c.args.trees.now.store in
     let mid = c.records.trees.store in
     let next = c.next.new.trees.store in
@@ -224,7 +224,7 @@ returns-then-record-gt-MAX_COST-clause-own g c known finding said clean own =
 
 -- and are no more
 pub returns-clause-own : goal.returns-clause-own
-returns-clause-own g c known finding said clean own =
+returns-clause-own g c known whole other clean own =
     let start = c.args.trees.now.store in
     let so_far = c.records.invariant in
     let trees : Trees = (g.S.Store.view start).trees in

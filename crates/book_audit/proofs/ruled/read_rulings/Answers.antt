@@ -69,7 +69,7 @@ closes_read ghosts start mid new before call days read clean own =
 
 -- the closes of books that calls made are no more than can be
 pub returns-then-len-gt-MAX_CLOSES-clause-own : goal.returns-then-len-gt-MAX_CLOSES-clause-own
-returns-then-len-gt-MAX_CLOSES-clause-own g c finding is clean own =
+returns-then-len-gt-MAX_CLOSES-clause-own g c whole other clean own =
     let start = c.args.trees.now.store in
     let two = c.read_tariffs.new.trees.store in
     let days : List ℤ = c.in_ok-closes.closes.items in
@@ -85,7 +85,7 @@ returns-then-len-gt-MAX_CLOSES-clause-own g c finding is clean own =
 
 -- and an adoption is not still to come
 pub returns-then-not-is_by-clause-own : goal.returns-then-not-is_by-clause-own
-returns-then-not-is_by-clause-own g c finding is clean own =
+returns-then-not-is_by-clause-own g c whole other clean own =
     let start = c.args.trees.now.store in
     let one = c.read_book.new.trees.store in
     let two = c.read_tariffs.new.trees.store in
@@ -141,3 +141,29 @@ returns-in_err-chosen-clause-own g c =
     (c.in_ok-book.ensures.book at_one)
     (subst (λ (all : Trees). AreClosed (all 2) days) (trees_stay g.S.Store start two to_two at_two)
     (c.in_ok-closes.ensures.closed at_three)) (ap (λ n. n + 1) many)))))
+
+-- the tariffs and the closes, after what was read before
+pub returns-in_err-tariffs-clause-own : goal.returns-in_err-tariffs-clause-own
+returns-in_err-tariffs-clause-own g c =
+    let start = c.args.trees.now.store in
+    let one = c.read_book.new.trees.store in
+    let two = c.read_tariffs.new.trees.store in
+    let stop = c.in_err-tariffs.field-0.0 in
+    stop_passed g.S.Store start two stop c.from_residual-in_err-tariffs.result
+    c.from_residual-in_err-tariffs.ensures.1
+    (stop_on g.S.Store start one two stop c.in_ok-book.ensures.same c.read_book.ensures.quiet
+    c.read_tariffs.ensures.quiet c.in_err-tariffs.ensures.own)
+
+pub returns-in_err-closes-clause-own : goal.returns-in_err-closes-clause-own
+returns-in_err-closes-clause-own g c =
+    let start = c.args.trees.now.store in
+    let one = c.read_book.new.trees.store in
+    let two = c.read_tariffs.new.trees.store in
+    let three = c.read_closes.new.trees.store in
+    let stop = c.in_err-closes.field-0.0 in
+    stop_passed g.S.Store start three stop c.from_residual-in_err-closes.result
+    c.from_residual-in_err-closes.ensures.1
+    (stop_on g.S.Store start two three stop
+    (looks_on g.S.Store start one two c.in_ok-book.ensures.same c.in_ok-tariffs.ensures.same)
+    (quiet_both g.S.Store c.read_book.ensures.quiet c.read_tariffs.ensures.quiet)
+    c.read_closes.ensures.quiet c.in_err-closes.ensures.own)

@@ -50,6 +50,19 @@ returns-in_err-next-clause-own g c =
     c.over-walk.ensures.tree (no_look g.S.Store start) still c.next.ensures.quiet
     c.in_err-next.ensures.own (λ back. ([], c.over-walk.ensures.start rows)))
 
+-- which is there,
+pub returns-then-not-branch-clause-own : goal.returns-then-not-branch-clause-own
+returns-then-not-branch-clause-own g c whole other clean own =
+    let start = c.args.trees.now.store in
+    let next = c.next.new.trees.store in
+    let rows : List Row = (g.S.Store.view start).trees 0 in
+    let none : rows ≡ [] =
+    read_all g.S.Store start start next Book c.over-walk.result c.next.new.self c.in_ok-next.field-0
+    c.over-walk.ensures.tree (no_look g.S.Store start) c.in_ok-next.ensures.same
+    c.in_ok-next.ensures.next (λ back. ([], c.over-walk.ensures.start rows)) clean
+    c.if-not-branch.true in
+    absurd (let e = sym none ∙ own.holds.book in cc)
+
 pub returns-in_err-book-clause-own : goal.returns-in_err-book-clause-own
 returns-in_err-book-clause-own g c =
     let start = c.args.trees.now.store in
@@ -57,7 +70,7 @@ returns-in_err-book-clause-own g c =
     let row : Row = c.next.new.self.row in
     let rows : List Row = (g.S.Store.view start).trees 0 in
     each_err (IsOwnStop g.S.Store start next) c.from_residual-in_err-book.result
-    (λ stop finding said clean own.
+    (λ stop whole other clean own.
     let place = its_place g.S.Store start start next Book c.over-walk.result c.next.new.self
     c.in_ok-next.field-0 c.over-walk.ensures.tree (no_look g.S.Store start)
     c.in_ok-next.ensures.same c.in_ok-next.ensures.next
@@ -69,7 +82,7 @@ returns-in_err-book-clause-own g c =
     absurd (refused.1 fits.0 fits.1))
 
 pub returns-in_default-clause-own : goal.returns-in_default-clause-own
-returns-in_default-clause-own g c finding said clean own =
+returns-in_default-clause-own g c whole other clean own =
     let start = c.args.trees.now.store in
     let next = c.next.new.trees.store in
     let row : Row = c.next.new.self.row in
@@ -106,7 +119,7 @@ returns-in_err-next-2-clause-own g c =
     )))
 
 pub returns-then-branch-clause-own : goal.returns-then-branch-clause-own
-returns-then-branch-clause-own g c finding said clean own =
+returns-then-branch-clause-own g c whole other clean own =
     let start = c.args.trees.now.store in
     let next = c.next.new.trees.store in
     let last = c.next-2.new.trees.store in

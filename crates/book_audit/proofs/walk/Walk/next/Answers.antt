@@ -7,7 +7,7 @@ use Rattle.tree_rows.proofs.Calls.{clean_before}
 use Rattle.tree_tables.specs.Walks.{rows_past}
 use Rattle.book_audit.specs.Trees.{tree_number}
 use Rattle.book_audit.specs.Walks.{HasWalked, key_in, width}
-use Rattle.book_audit.proofs.Own.Stops.{own_walk}
+use Rattle.book_audit.proofs.Own.Stops.{met_cause, own_walk, passed_with}
 use Rattle.book_audit.proofs.Held.Walks.{next_after, next_wide}
 use Rattle.book_audit.proofs.Walks.Keys.{walk_step}
 use Rattle.book_audit.proofs.walk.Walk.next.Goals.{else-not-is_empty-via-else-not-is_empty}
@@ -31,8 +31,19 @@ returns-clause-next g c clean done so_far =
     subst (λ next. HasWalked tree next rows (done ++ row ∷ [])) (sym took)
     (walk_step tree key row rows done so_far there long after)
 
+-- a row that could not be read has a cause
+pub returns-in_err-there-clause-own : goal.returns-in_err-there-clause-own
+returns-in_err-there-clause-own g c =
+    let start = c.args.trees.now.store in
+    let new = c.row_past.new.self.store in
+    let stop = c.in_err-there.field-0.0 in
+    passed_with g.S.Store start new stop _ c.from_residual.ensures.1 (λ walked.
+    met_cause g.S.Store start new c.row_past.result c.map_err.result stop
+    (λ error stop stands. search rules) (λ error stop stands. search rules)
+    c.map_err.ensures.cases c.in_err-there.was c.row_past.ensures.cause)
+
 pub returns-then-len-columns-clause-own : goal.returns-then-len-columns-clause-own
-returns-then-len-columns-clause-own g c walked finding is clean own =
+returns-then-len-columns-clause-own g c walked whole other clean own =
     let tree = c.args.self.now.tree in
     let key : Row = c.args.self.now.key in
     let row : Row = c.row_past.new.row in
@@ -45,7 +56,7 @@ returns-then-len-columns-clause-own g c walked finding is clean own =
     absurd (omega (arith, wide))
 
 pub returns-then-not-is_gt-clause-own : goal.returns-then-not-is_gt-clause-own
-returns-then-not-is_gt-clause-own g c walked finding is clean own =
+returns-then-not-is_gt-clause-own g c walked whole other clean own =
     let tree = c.args.self.now.tree in
     let key : Row = c.args.self.now.key in
     let row : Row = c.row_past.new.row in
