@@ -21,7 +21,7 @@ use book_reports::{
     DetailReport, ReportFault, receipt_line_text, write_bytes, write_details, write_text,
 };
 use std::alloc::Global;
-use std::io::Write;
+use streams::Writer;
 
 /// The status that the stop of an import has.
 fn import_status(stop: Stop) -> Status
@@ -35,7 +35,7 @@ fn import_status(stop: Stop) -> Status
 }
 
 /// Writes the lines of the head, and then the body.
-fn send_reply<W: Write + Drop>(
+fn send_reply<W: Writer + Drop>(
     sink: &mut Sink<W>,
     status: Status,
     kind: BodyKind,
@@ -60,7 +60,7 @@ fn send_reply<W: Write + Drop>(
 }
 
 /// Writes a refusal, whose body is its own status.
-fn send_refusal<W: Write + Drop>(
+fn send_refusal<W: Writer + Drop>(
     sink: &mut Sink<W>,
     notice: Option<Notice>,
     status: Status,
@@ -82,7 +82,7 @@ fn send_refusal<W: Write + Drop>(
 }
 
 /// Writes an answer.
-pub fn send<W: Write + Drop>(sink: &mut Sink<W>, answer: &Answer) -> Served
+pub fn send<W: Writer + Drop>(sink: &mut Sink<W>, answer: &Answer) -> Served
     requires { has_failed sink.old ≡ false }
 
     // The writer has the answer, or, where a write failed, a prefix of it that is not the whole.
@@ -126,7 +126,7 @@ fn served_as(told: Result<(), ReportFault>) -> Served
 
 /// Writes the text of details while they are read, behind a head that announces so many bytes. So a
 /// client sees whether the text came whole.
-pub fn send_details<L: Ledger, W: Write + Drop>(
+pub fn send_details<L: Ledger, W: Writer + Drop>(
     alloc: Global,
     ledger: &mut L,
     details: DetailReport,

@@ -19,12 +19,11 @@ use crate::served::{Served, Unanswered};
 use book_core::{Ledger, Sink, Source};
 use book_reports::DetailReport;
 use std::alloc::Global;
-use std::io::Write;
-use streams::Reader;
+use streams::{Reader, Writer};
 
 /// Serves details: gathers their text and sends it, or sends a long one while it is read. Where the
 /// books have none, that is answered.
-pub fn serve_details<L: Ledger, W: Write + Drop>(
+pub fn serve_details<L: Ledger, W: Writer + Drop>(
     alloc: Global,
     ledger: &mut L,
     details: DetailReport,
@@ -45,7 +44,7 @@ pub fn serve_details<L: Ledger, W: Write + Drop>(
 /// Serves one request: reads it, does what it asks of the books, and writes the answer. Bytes after
 /// the request are not looked at. What a request did stays done where its answer can't be written.
 /// Details are read twice: to announce how many bytes their text has, and to gather or to send it.
-pub fn serve_one<R: Reader + Drop, W: Write + Drop, L: Ledger>(
+pub fn serve_one<R: Reader + Drop, W: Writer + Drop, L: Ledger>(
     alloc: Global,
     source: &mut Source<R>,
     sink: &mut Sink<W>,

@@ -13,12 +13,12 @@ use crate::stop::{dump_end, reading_end};
 use book_core::{Ledger, LedgerFault, Source};
 use smf_frames::{Joiner, Layout};
 use std::alloc::Global;
-use std::io::Read;
+use streams::Reader;
 
 /// Reads a dump to its end, in at most so many reads, and submits its records to the books in
 /// order: those that one read completed together, before the next read. If it stops before the end,
 /// nothing more is read. At most two pieces and two records of the dump are held at a time.
-pub fn import<R: Read + Drop, L: Ledger>(
+pub fn import<R: Reader + Drop, L: Ledger>(
     alloc: Global,
     source: &mut Source<R>,
     layout: Layout,

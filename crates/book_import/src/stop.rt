@@ -7,10 +7,10 @@ ghost use Rattle.book_import.specs.Receipts.{is_stop_of_books};
 use crate::receipt::Stop;
 use book_core::Source;
 use smf_frames::Joiner;
-use std::io::Read;
+use streams::Reader;
 
 /// What cut the reading of a source short, if anything did.
-pub(crate) fn cut<R: Read + Drop>(source: &Source<R>) -> Option<Stop>
+pub(crate) fn cut<R: Reader + Drop>(source: &Source<R>) -> Option<Stop>
     ensures cut { result ≡ cut_of source.now }
     ensures other { IfSome result (λ stop. is_stop_of_books stop ≡ false) }
 {
@@ -37,7 +37,7 @@ pub(crate) fn dump_end(joiner: &Joiner) -> Stop
 
 /// The stop after the last record of what a joiner took from a source that is read no further. If
 /// something cut the reading short, that is the stop, and not what is undone for lack of more.
-pub fn reading_end<R: Read + Drop>(source: &Source<R>, joiner: &Joiner) -> Stop
+pub fn reading_end<R: Reader + Drop>(source: &Source<R>, joiner: &Joiner) -> Stop
     ensures stop { (text : List ℕ) → HasTaken text joiner.now → result
         ≡ unwrap_or (cut_of source.now) (frame_stop (front joiner.now.layout text).fault) }
     ensures other { is_stop_of_books result ≡ false }

@@ -6,13 +6,13 @@ ghost use Rattle.streams.specs.Sinks.{writer_of, has_failed};
 
 use crate::ReportFault;
 use book_core::Sink;
-use std::io::Write;
+use streams::Writer;
 
 /// Writes the bytes of a text, in as many writes as the writer needs. After a write that failed,
 /// or that took nothing, there are no more: the writer has a prefix of the text, and not the
 /// whole.
 #[tactic(auto, using(crate::proofs::WritingLemmas::taken_more))]
-pub fn write_bytes<W: Write + Drop>(sink: &mut Sink<W>, bytes: &[u8]) -> Result<(), ReportFault>
+pub fn write_bytes<W: Writer + Drop>(sink: &mut Sink<W>, bytes: &[u8]) -> Result<(), ReportFault>
     requires { has_failed sink.old ≡ false }
     ensures whole { OnOk result (Appends
         (W.contents (writer_of sink.old)) (W.contents (writer_of sink.new)) bytes.now
@@ -35,7 +35,7 @@ pub fn write_bytes<W: Write + Drop>(sink: &mut Sink<W>, bytes: &[u8]) -> Result<
 }
 
 /// Writes a text, as its bytes are written.
-pub fn write_text<W: Write + Drop>(sink: &mut Sink<W>, text: &str) -> Result<(), ReportFault>
+pub fn write_text<W: Writer + Drop>(sink: &mut Sink<W>, text: &str) -> Result<(), ReportFault>
     requires { has_failed sink.old ≡ false }
     ensures whole { OnOk result (Appends
         (W.contents (writer_of sink.old)) (W.contents (writer_of sink.new)) text.now

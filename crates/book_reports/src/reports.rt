@@ -19,10 +19,10 @@ use crate::report::{PeriodReport, Report};
 use book_core::{Ledger, LedgerFault, Sink};
 use book_import::Receipt;
 use std::alloc::Global;
-use std::io::Write;
+use streams::Writer;
 
 /// Writes the receipt line.
-pub fn receipt_line<W: Write + Drop>(
+pub fn receipt_line<W: Writer + Drop>(
     receipt: &Receipt,
     sink: &mut Sink<W>,
 ) -> Result<(), ReportFault>
@@ -36,7 +36,7 @@ pub fn receipt_line<W: Write + Drop>(
 }
 
 /// Writes what the books answered.
-fn pass_on<W: Write + Drop>(
+fn pass_on<W: Writer + Drop>(
     answer: Result<Vec<u8>, LedgerFault>,
     sink: &mut Sink<W>,
 ) -> Result<(), ReportFault>
@@ -52,7 +52,7 @@ fn pass_on<W: Write + Drop>(
 }
 
 /// Writes a report.
-pub fn write_report<L: Ledger, W: Write + Drop>(
+pub fn write_report<L: Ledger, W: Writer + Drop>(
     alloc: Global,
     ledger: &mut L,
     report: Report,
@@ -67,7 +67,7 @@ pub fn write_report<L: Ledger, W: Write + Drop>(
 }
 
 /// Writes the statement of a period.
-pub fn statement<L: Ledger, W: Write + Drop>(
+pub fn statement<L: Ledger, W: Writer + Drop>(
     alloc: Global,
     ledger: &mut L,
     period: u16,
@@ -87,7 +87,7 @@ pub fn statement<L: Ledger, W: Write + Drop>(
 }
 
 /// Writes the disputes.
-pub fn dispute_list<L: Ledger, W: Write + Drop>(
+pub fn dispute_list<L: Ledger, W: Writer + Drop>(
     alloc: Global,
     ledger: &mut L,
     sink: &mut Sink<W>,

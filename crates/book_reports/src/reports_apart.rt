@@ -13,10 +13,10 @@ use crate::report::{PeriodReport, Report};
 use crate::reports::write_report;
 use book_core::{Ledger, Sink};
 use std::alloc::Global;
-use std::io::Write;
+use streams::Writer;
 
 /// Writes the statement of a period as a table of comma-separated values.
-pub fn statement_csv<L: Ledger, W: Write + Drop>(
+pub fn statement_csv<L: Ledger, W: Writer + Drop>(
     alloc: Global,
     ledger: &mut L,
     period: u16,
@@ -36,7 +36,7 @@ pub fn statement_csv<L: Ledger, W: Write + Drop>(
 }
 
 /// Writes the adjustments of a period.
-pub fn adjustment_list<L: Ledger, W: Write + Drop>(
+pub fn adjustment_list<L: Ledger, W: Writer + Drop>(
     alloc: Global,
     ledger: &mut L,
     period: u16,
@@ -56,7 +56,7 @@ pub fn adjustment_list<L: Ledger, W: Write + Drop>(
 }
 
 /// Writes the list of periods.
-pub fn period_list<L: Ledger, W: Write + Drop>(
+pub fn period_list<L: Ledger, W: Writer + Drop>(
     alloc: Global,
     ledger: &mut L,
     sink: &mut Sink<W>,

@@ -21,7 +21,7 @@ use book_core::{Detail, Ledger, LedgerFault, Sink};
 use report_texts::{detail_head, detail_row, detail_table_head, detail_total, push_detail_line};
 use smf_text::Name;
 use std::alloc::{AllocError, Global};
-use std::io::Write;
+use streams::Writer;
 
 /// Which details are asked for, and how they are shown.
 #[derive(Clone, Copy, Debug, PartialEq, Eq)]
@@ -128,7 +128,7 @@ pub(crate) fn end_of(
 }
 
 /// Counts one more detail, and adds its line to what waits, of which it writes some.
-fn push_detail<W: Write + Drop>(
+fn push_detail<W: Writer + Drop>(
     alloc: Global,
     report: &DetailReport,
     detail: &Detail,
@@ -159,7 +159,7 @@ fn push_detail<W: Write + Drop>(
 }
 
 /// Adds what stands below the details to what waits, and writes it all.
-fn write_end<W: Write + Drop>(
+fn write_end<W: Writer + Drop>(
     alloc: Global,
     report: &DetailReport,
     sums: Sums,
@@ -197,7 +197,7 @@ pub(crate) fn detail_after<L: Ledger>(
 /// a prefix of their text that is not the whole. The first detail is asked for before anything
 /// else, so that a period that is not there is refused before any byte; nobody changes the books
 /// meanwhile. Nothing is written after a write that failed.
-pub fn write_details<L: Ledger, W: Write + Drop>(
+pub fn write_details<L: Ledger, W: Writer + Drop>(
     alloc: Global,
     ledger: &mut L,
     report: DetailReport,

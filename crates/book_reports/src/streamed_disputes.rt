@@ -17,7 +17,7 @@ use crate::waiting::{flush, push_part};
 use book_core::{Dispute, Ledger, LedgerFault, Sink};
 use report_texts::{dispute_list_head, dispute_rows, dispute_table_head, push_dispute};
 use std::alloc::{AllocError, Global};
-use std::io::Write;
+use streams::Writer;
 
 /// How the disputes are written.
 #[derive(Clone, Copy, Debug, PartialEq, Eq)]
@@ -90,7 +90,7 @@ pub(crate) fn count_disputes<L: Ledger>(ledger: &mut L) -> Result<u64, LedgerFau
 /// Writes the disputes: all of them, or a prefix before a fault. They are counted first, since their
 /// number stands above the list, so what the ledger refuses comes before any byte; nobody changes
 /// the books meanwhile. Nothing is written after a write that failed.
-pub fn write_disputes<L: Ledger, W: Write + Drop>(
+pub fn write_disputes<L: Ledger, W: Writer + Drop>(
     alloc: Global,
     ledger: &mut L,
     form: DisputeForm,

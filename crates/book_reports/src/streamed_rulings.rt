@@ -16,7 +16,7 @@ use crate::waiting::{flush, push_part};
 use book_core::{Ledger, ListedRuling, Sink};
 use report_texts::{push_ruling_line, ruling_list_head};
 use std::alloc::{AllocError, Global};
-use std::io::Write;
+use streams::Writer;
 
 /// More rulings than any books have.
 pub(crate) const MOST_RULINGS: u64 = 1 << 32;
@@ -32,7 +32,7 @@ fn line_of(alloc: Global, ruling: &ListedRuling) -> Result<Vec<u8>, AllocError>
 }
 
 /// Adds the line of a ruling to what waits, which is written before where it is much.
-fn push_line<W: Write + Drop>(
+fn push_line<W: Writer + Drop>(
     alloc: Global,
     waiting: &mut Vec<u8>,
     ruling: &ListedRuling,
@@ -53,7 +53,7 @@ fn push_line<W: Write + Drop>(
 /// Writes the list of rulings: the whole of it, or a prefix before a fault. The ledger is asked for
 /// the first ruling before anything else, so that what it refuses comes before any byte. Nothing is
 /// written after a write that failed.
-pub fn write_rulings<L: Ledger, W: Write + Drop>(
+pub fn write_rulings<L: Ledger, W: Writer + Drop>(
     alloc: Global,
     ledger: &mut L,
     sink: &mut Sink<W>,

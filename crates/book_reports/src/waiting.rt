@@ -9,13 +9,13 @@ ghost use Rattle.book_reports.specs.Writing.{is_write_or_memory};
 use crate::fault::ReportFault;
 use crate::output::write_bytes;
 use book_core::Sink;
-use std::io::Write;
+use streams::Writer;
 
 /// How many bytes wait to be written, at most, before those of one more part.
 const MOST_WAITING: usize = 65_536;
 
 /// Writes what waits.
-pub(crate) fn flush<W: Write + Drop>(
+pub(crate) fn flush<W: Writer + Drop>(
     waiting: &mut Vec<u8>,
     sink: &mut Sink<W>,
 ) -> Result<(), ReportFault>
@@ -34,7 +34,10 @@ pub(crate) fn flush<W: Write + Drop>(
 }
 
 /// Writes what waits, where it is much.
-fn flush_much<W: Write + Drop>(waiting: &mut Vec<u8>, sink: &mut Sink<W>) -> Result<(), ReportFault>
+fn flush_much<W: Writer + Drop>(
+    waiting: &mut Vec<u8>,
+    sink: &mut Sink<W>,
+) -> Result<(), ReportFault>
     requires { has_failed sink.old ≡ false }
     ensures written { WritesAllBut waiting.old.items waiting.new.items
         (W.contents (writer_of sink.old)) (W.contents (writer_of sink.new)) result }
@@ -49,7 +52,7 @@ fn flush_much<W: Write + Drop>(waiting: &mut Vec<u8>, sink: &mut Sink<W>) -> Res
 
 /// Adds a part to what waits. Where much waits, that is written before: so of a text whose parts
 /// are not empty something waits until its end.
-pub(crate) fn push_part<W: Write + Drop>(
+pub(crate) fn push_part<W: Writer + Drop>(
     waiting: &mut Vec<u8>,
     part: &[u8],
     sink: &mut Sink<W>,

@@ -24,6 +24,7 @@ use named_books::{Opened, Repository, RepositoryFault, Visit};
 use office::StatementForm;
 use std::alloc::Global;
 use std::io::Write;
+use streams::Writer;
 
 /// A list that is written so.
 #[derive(Clone, Copy, Debug, PartialEq, Eq)]
@@ -58,14 +59,14 @@ fn list_of(words: ListWords<'_>) -> Option<StreamedList>
 
 /// The list on its way to the output.
 #[derive(Drop)]
-struct Listing<O: Write + Drop> {
+struct Listing<O: Writer + Drop> {
     alloc: Global,
     list: StreamedList,
     sink: Sink<O>,
 }
 
 /// Writes the list of any books.
-fn write_of<L: Ledger, O: Write + Drop>(
+fn write_of<L: Ledger, O: Writer + Drop>(
     alloc: Global,
     books: &mut L,
     list: StreamedList,
@@ -86,7 +87,7 @@ fn write_of<L: Ledger, O: Write + Drop>(
     }
 }
 
-impl<O: Write + Drop> Visit for Listing<O> {
+impl<O: Writer + Drop> Visit for Listing<O> {
     ghost use Rattle.streams.specs.Sinks.{writer_of};
     ghost use Rattle.book_reports.specs.StreamedAnswers.{WritesAnswer};
     ghost use Rattle.chargectl.specs.StreamedLists.{WritesSomeOf, list_answer, listing_answered};
@@ -108,7 +109,7 @@ impl<O: Write + Drop> Visit for Listing<O> {
 }
 
 /// Writes a list of the books of a name.
-fn write_list<S: Repository, O: Write + Drop>(
+fn write_list<S: Repository, O: Writer + Drop>(
     rt: &HostRuntime,
     repository: &mut S,
     book: &str,
@@ -139,7 +140,7 @@ fn write_list<S: Repository, O: Write + Drop>(
 }
 
 /// Writes the list that words ask for.
-pub(crate) fn list<S: Repository, O: Write + Drop>(
+pub(crate) fn list<S: Repository, O: Writer + Drop>(
     rt: &HostRuntime,
     repository: &mut S,
     book: &str,

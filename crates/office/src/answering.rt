@@ -11,7 +11,7 @@ use crate::request::Answer;
 use book_core::{Ruled, Sink};
 use book_reports::{ReportFault, receipt_line_text, write_bytes, write_text};
 use std::alloc::{AllocError, Global};
-use std::io::Write;
+use streams::Writer;
 
 /// The line of an answer to a ruling.
 fn ruled_line(ruled: Ruled) -> &'static str
@@ -35,7 +35,10 @@ pub fn answer_lines(alloc: Global, answers: &[Ruled]) -> Result<Vec<u8>, AllocEr
 }
 
 /// Writes the text of an answer. For a refusal nothing is to be written.
-pub fn write_answer<W: Write + Drop>(answer: &Answer, sink: &mut Sink<W>) -> Result<(), ReportFault>
+pub fn write_answer<W: Writer + Drop>(
+    answer: &Answer,
+    sink: &mut Sink<W>,
+) -> Result<(), ReportFault>
     requires { has_failed sink.old ≡ false }
     ensures { WritesText (answer_text (response_of answer.now)) (output W.contents sink.old sink.new) result }
 {

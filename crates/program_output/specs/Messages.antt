@@ -1,5 +1,5 @@
 -- What the program says on standard error: each line in its very bytes, and that it was said.
-use Rattle.std.specs.Prelude.{◌≡◌, ◌<◌, ◌≤◌, true, ℕ, List, [], ◌∷◌, ◌++◌, length, take, drop, codes}
+use Rattle.std.specs.Prelude.{◌≡◌, ◌<◌, ◌≤◌, ℕ, List, [], ◌∷◌, ◌++◌, length, take, drop, codes}
 use Rattle.std.specs.Prelude.{Option, Result}
 use Rattle.std.specs.Fmt.{decimal}
 use Rattle.std.specs.declared.io.Error.{Error}
@@ -10,7 +10,7 @@ use Rattle.smf_frames.specs.Faults.{frame_number}
 use Rattle.tariff_rules.specs.declared.fault.TariffFault.{TariffFault}
 use Rattle.tariff_rules.specs.declared.fault.TariffFault.TheVariants as tariff
 use Rattle.tariff_rules.specs.Faults.{tariff_number, key_text}
-use Rattle.streams.specs.AnswerFlags.{is_failed_write}
+use Rattle.streams.specs.Failures.{FailsToWrite}
 use Rattle.book_model.specs.declared.fault.LedgerFault.{LedgerFault}
 use Rattle.book_model.specs.declared.fault.LedgerFault.TheVariants as ledger
 use Rattle.book_model.specs.Faults.{ledger_number}
@@ -102,13 +102,6 @@ stop_lines (Frame fault) = line_of (fault_text (codes "frame") (frame_number fau
 stop_lines Read = io_line ∷ []
 stop_lines ReadLimit = io_line ∷ []
 stop_lines (Ledger fault) = ledger_line fault ∷ []
-
--- a write of these bytes failed, or took none of them
-pub record FailsToWrite {E : Type 0} (may_answer : E → List ℕ → Result ℕ Error → E → Type 0)
-    (bytes : List ℕ) (old new : E) : Type 0 where
-  pub answer : Result ℕ Error
-  pub made : may_answer old bytes answer new
-  pub failed : is_failed_write answer (length bytes) ≡ true
 
 -- So many of these bytes were handed to a writer: all of them, unless a write of the rest failed.
 pub record IsHanded {E : Type 0} (contents : E → Option (List ℕ))

@@ -22,11 +22,11 @@ use book_import::{PIECE, Stop, read_piece, reading_end};
 use book_reports::ReportFault;
 use smf_frames::{FrameFault, Joiner, Layout};
 use std::alloc::Global;
-use std::io::{Read, Write};
+use streams::{Reader, Writer};
 
 /// Adds the lines of the records that a piece completes. Gives the fault of a descriptor, where one
 /// comes.
-fn list_records<W: Write + Drop>(
+fn list_records<W: Writer + Drop>(
     joiner: &mut Joiner,
     piece: &[u8],
     listing: &mut Listing,
@@ -65,7 +65,7 @@ fn list_records<W: Write + Drop>(
 
 /// Writes the lines of the records that a piece completes. Gives the fault of a descriptor, where
 /// one comes.
-fn list_piece<W: Write + Drop>(
+fn list_piece<W: Writer + Drop>(
     joiner: &mut Joiner,
     piece: &[u8],
     listing: &mut Listing,
@@ -95,7 +95,7 @@ fn list_piece<W: Write + Drop>(
 /// written before the next one is read; it holds a piece, a record, and the lines that are written
 /// at once. After a fault at a descriptor, or a write that failed, nothing more is read. After a
 /// fault the writer has a prefix of the list.
-pub fn check_list<R: Read + Drop, W: Write + Drop>(
+pub fn check_list<R: Reader + Drop, W: Writer + Drop>(
     alloc: Global,
     source: &mut Source<R>,
     layout: Layout,

@@ -3,7 +3,8 @@
 
 ghost use Rattle.std.specs.Prelude.{◌≡◌, ◌<◌, ◌≤◌, [], ◌∷◌, length, take};
 ghost use Rattle.std.specs.Io.KnownBytes.{Appends};
-ghost use Rattle.program_output.specs.Messages.{AreSaid, FailsToWrite, IsHanded, line_at, line_of};
+ghost use Rattle.streams.specs.Failures.{FailsToWrite};
+ghost use Rattle.program_output.specs.Messages.{AreSaid, IsHanded, line_at, line_of};
 
 use arrayvec::ArrayString;
 use itoa::Buffer;

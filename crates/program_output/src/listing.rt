@@ -12,7 +12,7 @@ use book_core::Sink;
 use book_import::Stop;
 use book_reports::{ReportFault, push_last_line, push_record_line, write_text};
 use std::alloc::{AllocError, Global};
-use std::io::Write;
+use streams::Writer;
 
 /// How many bytes are written at once, at most.
 const MOST_WRITTEN: usize = 65_536;
@@ -40,7 +40,7 @@ impl Listing {
     }
 
     /// Writes what waits.
-    pub(crate) fn flush<W: Write + Drop>(&mut self, sink: &mut Sink<W>) -> Result<(), ReportFault>
+    pub(crate) fn flush<W: Writer + Drop>(&mut self, sink: &mut Sink<W>) -> Result<(), ReportFault>
         requires unwritten { has_failed sink.old ≡ false }
         requires short { length (waiting self.old) ≤ most_written }
         ensures written { WritesPrefix (waiting self.old)
@@ -57,7 +57,7 @@ impl Listing {
 
     /// Adds the line of the next record. Where there is no room for a further line, what waits is
     /// written.
-    pub(crate) fn push_line<W: Write + Drop>(
+    pub(crate) fn push_line<W: Writer + Drop>(
         &mut self,
         bytes: &[u8],
         sink: &mut Sink<W>,
@@ -82,7 +82,7 @@ impl Listing {
     }
 
     /// Adds the last line, and writes what waits.
-    pub(crate) fn end<W: Write + Drop>(
+    pub(crate) fn end<W: Writer + Drop>(
         &mut self,
         stop: Stop,
         sink: &mut Sink<W>,

@@ -14,13 +14,13 @@ use book_reports::{ReportFault, dispute_list, receipt_line, statement};
 use plain_ledger::PlainLedger;
 use smf_frames::Layout;
 use std::alloc::Global;
-use std::io::{Read, Write};
+use streams::{Reader, Writer};
 use tariff_rules::Tariff;
 
 /// Imports a dump into new books under one tariff, and writes the receipt line, the statement of
 /// their one period and their disputes, whatever stopped the import. Where memory runs out the
 /// texts before that are written; a failed write leaves a prefix of its text.
-pub fn trial<R: Read + Drop, W: Write + Drop>(
+pub fn trial<R: Reader + Drop, W: Writer + Drop>(
     alloc: Global,
     source: &mut Source<R>,
     layout: Layout,

@@ -1,7 +1,8 @@
-ghost use Rattle.std.specs.Prelude.{◌≡◌, ◌+◌, ◌<◌, ◌^◌, false, length};
+ghost use Rattle.std.specs.Prelude.{◌≡◌, ◌+◌, ◌<◌, ◌^◌, false, length, true};
 ghost use Rattle.std.specs.Io.{ReadsAtMost};
 ghost use Rattle.std.specs.Io.KnownBytes.{ReadConsumes};
 ghost use Rattle.streams.specs.AnswerFlags.{is_failed_read, is_end, NothingUnread, at_end_once};
+ghost use Rattle.streams.specs.Failures.{HasFailedToRead};
 
 use crate::reader::Reader;
 use std::io;
@@ -14,6 +15,8 @@ pub struct Source<R: Reader + Drop> {
     failed: bool,
     ended: bool,
     ghost at_end: { NothingUnread ended (R.remaining inner) } by { Prim.hlevel at_end_once },
+    // Where one is said to have failed, one did, and nothing was read after it.
+    ghost cause: { failed ≡ true → ∥ HasFailedToRead R.may_answer inner ∥₁ },
 }
 
 impl<R: Reader + Drop> Source<R> {
@@ -41,9 +44,10 @@ impl<R: Reader + Drop> Source<R> {
         self.asked
     }
 
-    /// A read failed.
+    /// A read failed. That is shown by one that did, and left the reader so.
     pub fn failed(&self) -> bool
-        ensures { result ≡ has_failed self.now }
+        ensures failed { result ≡ has_failed self.now }
+        ensures cause { result ≡ true → ∥ HasFailedToRead R.may_answer (reader_of self.now) ∥₁ }
     {
         self.failed
     }

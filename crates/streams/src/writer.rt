@@ -1,7 +1,7 @@
-ghost use Rattle.std.specs.Prelude.{ℕ, List, Result};
+ghost use Rattle.std.specs.Prelude.{ℕ, Err, IfErr, List, [], Result};
 ghost use Rattle.std.specs.declared.io.Error.{Error};
 ghost use Rattle.std.specs.Io.{WritesAtMost};
-ghost use Rattle.std.specs.Io.KnownBytes.{WriteAppends};
+ghost use Rattle.std.specs.Io.KnownBytes.{Keeps, WriteAppends};
 
 use std::io;
 use std::io::Write;
@@ -19,6 +19,12 @@ pub trait Writer: Write {
         ensures bytes { WriteAppends
             (Self.contents self.old) (Self.contents self.new) result bytes.now }
         ensures answer { may_answer self.old bytes.now result self.new };
+
+    /// Sees to it that what was written has left the writer. A failure is answered as that of a
+    /// write of no bytes may be.
+    fn let_go(&mut self) -> io::Result<()>
+        ensures bytes { Keeps (Self.contents self.old) (Self.contents self.new) }
+        ensures failed { IfErr result (λ error. may_answer self.old [] (Err error) self.new) };
 }
 
 /// Of one write to any writer as much is known as std says.
@@ -30,5 +36,9 @@ impl<W: Write> Writer for W {
 
     fn hand(&mut self, bytes: &[u8]) -> io::Result<usize> {
         self.write(bytes)
+    }
+
+    fn let_go(&mut self) -> io::Result<()> {
+        self.flush()
     }
 }

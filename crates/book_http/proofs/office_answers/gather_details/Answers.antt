@@ -18,5 +18,5 @@ returns g c =
     (c.answer_of.ensures
     ∙ ap (λ kind. office_reply kind (response_by c.gathered.result)) c.form_kind-kind.ensures
     ∙ ap (office_reply (form_kind details.form))
-    (c.gathered.ensures ∙ ap (λ taken. gathered told taken.items) c.into_inner.ensures))
+    (c.gathered.ensures ∙ ap (λ taken. gathered told taken.items) c.into_inner.ensures.writer))
     c.write_details-told.ensures.written

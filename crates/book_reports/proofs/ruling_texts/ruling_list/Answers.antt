@@ -14,7 +14,7 @@ returns g c =
     let none : Some (writer_of c.new-sink.result).items ≡ Some [] =
     ap (λ vec. Some vec.items) c.new-sink.ensures.writer ∙ ap Some c.new.ensures.items in
     let whole : Some (writer_of c.write_rulings-told.new.sink).items ≡ Some c.into_inner.result.items =
-    ap (λ vec. Some vec.items) (sym c.into_inner.ensures) in
+    ap (λ vec. Some vec.items) (sym c.into_inner.ensures.writer) in
     rw c.written.ensures
     (list_in_memory c.into_inner.result told
     (subst (λ holds. IsTransition old new (Made (Some []) holds)) whole

@@ -1,11 +1,11 @@
-use Rattle.std.proofs.Common.{ap}
+use Rattle.std.proofs.Common.{◌∙◌, ap}
 use Rattle.streams.specs.Sinks.{writer_of}
 use Rattle.book_core.specs.Transition.{IsTransition}
 use Rattle.book_http.specs.declared.requested.Requested.TheVariants as requested
 use Rattle.book_http.specs.Replies.{reply_of}
 use Rattle.book_http.proofs.ServeLemmas.{refuses}
 use Rattle.book_http.proofs.StreamLemmas.{sized_sent}
-use Rattle.chargectl.specs.ClientRequests.{StreamsAnswer}
+use Rattle.chargectl.specs.ClientRequests.{StreamsAnswer, is_streamed}
 use Rattle.chargectl.proofs.ClientLemmas.{details_open}
 use Rattle.chargectl.proofs.FirstByteLemmas.{written_so}
 use Rattle.chargectl.proofs.client_requests.ask_open.Goals as goal
@@ -28,8 +28,16 @@ returns-in-Ok-clause-done g c =
     (written_so
     (λ held holds. IsTransition old new
     (StreamsAnswer old.naming (requested.Details c.in-Details.details) held holds sent.result))
-    _ _ _ _ (ap contents c.new-sink.ensures.writer) (ap contents c.into_inner.ensures)
+    _ _ _ _ (ap contents c.new-sink.ensures.writer) (ap contents c.into_inner.ensures.writer)
     (details_open old new c.in-Details.details c.in-Ok.size held holds sent.result
     c.in-Ok.ensures.long
     (sized_sent old (seen c.ask_details.new.ledger) new c.in-Details.details c.in-Ok.size
     held holds sent.result c.in-Ok.ensures.asked sent.ensures.sent)))
+
+pub returns-in-Ok-clause-came : goal.returns-in-Ok-clause-came
+returns-in-Ok-clause-came g c =
+    let sent = c.send_details-what.ensures in
+    record {
+      sends = (ap is_streamed c.in-Details.is, sent.answered);
+      failed = λ told. c.into_inner.ensures.cause (sent.failed ∙ told);
+    }

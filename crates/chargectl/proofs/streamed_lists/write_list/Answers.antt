@@ -19,10 +19,11 @@ returns g c =
     let holds = contents c.flushed.new.output in
     let told = c.open-answer.result.answer in
     let kept : Keeps has holds =
-    subst (λ output. Keeps (contents output) holds) c.into_inner-output.ensures c.flushed.ensures.kept in
+    subst (λ output. Keeps (contents output) holds) c.into_inner-output.ensures.writer
+    c.flushed.ensures.kept in
     let still : IsErr (list_end told) → holds ≡ has =
     λ bad. ap contents (c.flushed.ensures.same (subst (λ came. IsErr came) (sym c.list_end.ensures) bad)
-    ∙ c.into_inner-output.ensures) in
+    ∙ c.into_inner-output.ensures.writer) in
     subst (λ held. ListsBy list book old new held holds (Ok (record {
       came = c.flushed.result;
       has_log = c.open-answer.result.has_log;
