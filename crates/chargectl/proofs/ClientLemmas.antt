@@ -29,9 +29,9 @@ use Rattle.named_books.specs.Shelves.{ComesBy, IsDoneTo, IsOpened, IsUntouched, 
 use Rattle.named_books.proofs.ShelfLemmas.{done_as, untouched}
 use Rattle.chargectl.specs.declared.client_requests.Told.{Told}
 use Rattle.chargectl.specs.declared.client_requests.Told.TheVariants as tells
-use Rattle.chargectl.specs.ClientRequests.{AsksOpen, EndsBy, EndsUnseen, IsAnsweredFrom, IsReplied}
-use Rattle.chargectl.specs.ClientRequests.{IsServedByReads, IsServedFrom, SendsOpen, StreamsAnswer}
-use Rattle.chargectl.specs.ClientRequests.{away_reply, is_streamed}
+use Rattle.chargectl.specs.ClientRequests.{AsksOpen, ComesOpen, EndsBy, EndsUnseen, FailsBefore}
+use Rattle.chargectl.specs.ClientRequests.{IsAnsweredFrom, IsReplied, IsServedByReads, IsServedFrom}
+use Rattle.chargectl.specs.ClientRequests.{SendsOpen, StreamsAnswer, away_reply, is_streamed}
 use Rattle.chargectl.specs.Serving.{AnswersSome, Fits, Replies, ServesOne, is_answered}
 
 -- ---- what is sent
@@ -68,15 +68,21 @@ settled book place answer held holds what sent = record {
   ends = sent;
 }
 
--- so much was sent by a visit, or nothing, where there was none
-pub sent_open : (request : Requested) (held shown : Option (List ℕ)) (Same : Type 0)
-    (told : Result Told RepositoryFault) → (Same → shown ≡ held)
-    → ComesBy (SendsOpen request held shown) Same told
-    → ComesBy (SendsOpen request held shown) (shown ≡ held) told
-sent_open request held shown Same (Ok answer) still came = came
-sent_open request held shown Same (Err shelf.Unseen) still (inl came) = inl came
-sent_open request held shown Same (Err shelf.Unseen) still (inr same) = inr (still same)
-sent_open request held shown Same (Err why) still same = still same
+module _ (request : Requested) (held shown : Option (List ℕ)) (Failed Same : Type 0) where
+  -- so much was sent by a visit, or nothing, where there was none
+  pub sent_open : (told : Result Told RepositoryFault) → (Same → shown ≡ held)
+      → ComesBy (ComesOpen request held shown Failed) Same told
+      → ComesBy (SendsOpen request held shown) (shown ≡ held) told
+  sent_open (Ok answer) still came = came.sends
+  sent_open (Err shelf.Unseen) still (inl came) = inl (came.0, came.1.sends)
+  sent_open (Err shelf.Unseen) still (inr same) = inr (still same)
+  sent_open (Err why) still same = still same
+
+  -- and a write of that failed, where it is told
+  pub failed_open : (told : Result Told RepositoryFault)
+      → ComesBy (ComesOpen request held shown Failed) Same told → FailsBefore Failed told
+  failed_open (Ok answer) came = came.failed
+  failed_open (Err why) same = tt
 
 -- what was answered was served
 pub served_from : {S : Type 0} (seen : S → Shelf) (old new : S) (book taken : List ℕ) (ended : Bool)

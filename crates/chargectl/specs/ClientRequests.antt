@@ -15,6 +15,7 @@ use Rattle.book_http.specs.Reads.{bytes_read, ended_after, failed_after}
 use Rattle.book_http.specs.Replies.{Reply, busy, refusal, reply_of}
 use Rattle.book_http.specs.Requested.{AnswersRequest, IsAsking, request_seen}
 use Rattle.book_http.specs.Served.{IsSent, IsSentAsRead, is_read_fault, is_unanswered}
+use Rattle.book_http.specs.Served.{is_write_fault}
 use Rattle.book_http.proofs.LawLemmas.{wanted_answered}
 use Rattle.named_books.specs.declared.repository.RepositoryFault.{RepositoryFault}
 use Rattle.named_books.specs.declared.repository.RepositoryFault.TheVariants as shelf
@@ -54,6 +55,22 @@ abbrev pub SendsOpen : Requested → Option (List ℕ) → Option (List ℕ) →
 SendsOpen request held holds (tells.Due answer) = holds ≡ held
 SendsOpen request held holds (tells.Sent what) =
     (is_streamed request ≡ true) × (is_unanswered what ≡ false)
+
+-- that a write of them failed is told where one did
+abbrev pub FailsOpen : Type 0 → Told → Type 0
+FailsOpen Failed (tells.Due answer) = Unit {0}
+FailsOpen Failed (tells.Sent what) = is_write_fault what ≡ true → Failed
+
+-- so it is with what came of the books, which are closed again
+abbrev pub FailsBefore : Type 0 → Result Told RepositoryFault → Type 0
+FailsBefore Failed (Ok told) = FailsOpen Failed told
+FailsBefore Failed (Err why) = Unit {0}
+
+-- what was sent while they were open, and where that failed
+pub record ComesOpen (request : Requested) (held holds : Option (List ℕ)) (Failed : Type 0)
+    (told : Told) : Type 0 where
+  pub sends : SendsOpen request held holds told
+  pub failed : FailsOpen Failed told
 
 -- it makes events that the books answered
 pub open_answered : (naming : Naming) (request : Requested) (held holds : Option (List ℕ))

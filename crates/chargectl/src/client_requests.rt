@@ -3,14 +3,15 @@
 //! read, where their text is longer than a body may be.
 
 ghost use Rattle.std.specs.Prelude.{◌≡◌, ◌≤◌, ◌^◌, Err, false, true};
+ghost use Rattle.streams.specs.Failures.{HasFailed};
 ghost use Rattle.streams.specs.Sources.{has_ended, has_failed, reads_of};
 ghost use Rattle.book_core.specs.Transition.{IsTransition};
 ghost use Rattle.book_http.specs.Reads.{ReadsRequest};
 ghost use Rattle.book_http.specs.Replies.{reply_of};
-ghost use Rattle.book_http.specs.Served.{IsSent, is_read_fault, is_unanswered};
+ghost use Rattle.book_http.specs.Served.{IsSent, is_read_fault, is_unanswered, is_write_fault};
 ghost use Rattle.chargectl.specs.ClientRequests as spec;
-ghost use Rattle.chargectl.specs.ClientRequests.{AsksOpen, EndsBy, IsAnsweredFrom, IsServedFrom};
-ghost use Rattle.chargectl.specs.ClientRequests.{LeavesLog, SendsOpen};
+ghost use Rattle.chargectl.specs.ClientRequests.{AsksOpen, ComesOpen, EndsBy, FailsBefore};
+ghost use Rattle.chargectl.specs.ClientRequests.{IsAnsweredFrom, IsServedFrom, LeavesLog};
 
 use crate::port::Peer;
 use book_core::{Ledger, Sink, Source};
@@ -50,15 +51,17 @@ struct OpenRequest<W: Peer + Drop> {
 }
 
 impl<W: Peer + Drop> Visit for OpenRequest<W> {
-    ghost use Rattle.chargectl.specs.ClientRequests.{AsksOpen, SendsOpen, open_answered};
+    ghost use Rattle.streams.specs.Failures.{HasFailed};
+    ghost use Rattle.chargectl.specs.ClientRequests.{AsksOpen, ComesOpen, open_answered};
 
     type Answer = Told;
 
     ghost work = { λ naming it after told. AsksOpen naming it.request
         (W.contents it.writer) (W.contents after.writer) told };
 
-    ghost comes = { λ it after told. SendsOpen it.request
-        (W.contents it.writer) (W.contents after.writer) told };
+    ghost comes = { λ it after told. ComesOpen it.request
+        (W.contents it.writer) (W.contents after.writer)
+        (∥ HasFailed W.Writer.may_answer after.writer ∥₁) told };
 
     ghost answered = { λ naming it after told. open_answered naming it.request
         (W.contents it.writer) (W.contents after.writer) told };
@@ -86,7 +89,8 @@ fn ask_open<L: Ledger, W: Peer + Drop>(
     ensures done { IsTransition (L.seen books.old) (L.seen books.new)
         (AsksOpen (L.seen books.old).naming request
         (W.contents writer) (W.contents result.1) result.0) }
-    ensures came { SendsOpen request (W.contents writer) (W.contents result.1) result.0 }
+    ensures came { ComesOpen request (W.contents writer) (W.contents result.1)
+        (∥ HasFailed W.Writer.may_answer result.1 ∥₁) result.0 }
 {
     match request {
         Requested::Settled(settled) => (Told::Due(settled), writer),
@@ -120,6 +124,7 @@ fn is_streamed(request: &Requested) -> bool
 fn send_to<W: Peer + Drop>(writer: W, answer: &Answer) -> (Served, W)
     ensures sent { IsSent (reply_of answer.now) (W.contents writer) (W.contents result.1) result.0 }
     ensures answered { is_unanswered result.0 ≡ false }
+    ensures write { is_write_fault result.0 ≡ true → ∥ HasFailed W.Writer.may_answer result.1 ∥₁ }
 {
     let mut sink = Sink::new(writer);
     let what = send(&mut sink, answer);
@@ -132,7 +137,9 @@ fn end_request<W: Peer + Drop>(
     told: Result<Told, RepositoryFault>,
     writer: W,
 ) -> (Served, W)
-    ensures { EndsBy streamed told (W.contents writer) (W.contents result.1) result.0 }
+    requires { FailsBefore (∥ HasFailed W.Writer.may_answer writer ∥₁) told }
+    ensures ends { EndsBy streamed told (W.contents writer) (W.contents result.1) result.0 }
+    ensures write { is_write_fault result.0 ≡ true → ∥ HasFailed W.Writer.may_answer result.1 ∥₁ }
 {
     match told {
         Ok(Told::Due(answer)) => send_to(writer, &answer),
@@ -143,7 +150,8 @@ fn end_request<W: Peer + Drop>(
 
 /// Answers a client that the books were in the way of, unless it may have an answer already.
 fn send_away<W: Peer + Drop>(streamed: bool, fault: RepositoryFault, writer: W) -> (Served, W)
-    ensures { EndsBy streamed (Err fault) (W.contents writer) (W.contents result.1) result.0 }
+    ensures ends { EndsBy streamed (Err fault) (W.contents writer) (W.contents result.1) result.0 }
+    ensures write { is_write_fault result.0 ≡ true → ∥ HasFailed W.Writer.may_answer result.1 ∥₁ }
 {
     match fault {
         RepositoryFault::Unseen => {
@@ -171,6 +179,8 @@ fn answer_from_books<W: Peer + Drop, S: Repository>(
     ensures from { IsAnsweredFrom book.now (S.shelf repository.old) (S.shelf repository.new) request
         (W.contents writer) (W.contents result.1) result.0.served }
     ensures answered { is_unanswered result.0.served ≡ false }
+    ensures write { is_write_fault result.0.served ≡ true
+        → ∥ HasFailed W.Writer.may_answer result.1 ∥₁ }
     ensures log { LeavesLog S.shelf book.now repository.old repository.new result.0.log }
 {
     let streamed = is_streamed(&request);
@@ -212,8 +222,11 @@ pub fn serve_request<R: Reader + Drop, W: Peer + Drop, S: Repository>(
     ensures unwritten { is_unanswered result.0.served ≡ true → result.1 ≡ writer }
     ensures log { LeavesLog S.shelf book.now repository.old repository.new result.0.log }
 
-    // That reading failed is said where a read did, and nowhere else.
+    // That reading failed is said where a read did, and nowhere else; that writing did, only where
+    // a write failed.
     ensures read { has_failed source.new ≡ is_read_fault result.0.served }
+    ensures write { is_write_fault result.0.served ≡ true
+        → ∥ HasFailed W.Writer.may_answer result.1 ∥₁ }
 {
     match read_request(alloc, source) {
         Ok(Requested::Settled(answer)) => {

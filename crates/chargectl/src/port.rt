@@ -1,7 +1,8 @@
 //! Where connections come from.
 
 ghost use Rattle.std.specs.Prelude.{◌≡◌, true};
-ghost use Rattle.book_http.specs.Served.{is_unanswered};
+ghost use Rattle.streams.specs.Failures.{HasFailed};
+ghost use Rattle.book_http.specs.Served.{is_unanswered, is_write_fault};
 ghost use Rattle.chargectl.specs.ClientRequests.{IsServedByReads};
 ghost use Rattle.chargectl.specs.Serving.{Attends, IsLoopback, is_answered};
 
@@ -12,9 +13,8 @@ use book_http::Served;
 use named_books::Repository;
 use std::alloc::Global;
 use std::io;
-use std::io::Write;
 use std::net::{IpAddr, Ipv4Addr, SocketAddr, TcpListener, TcpStream};
-use streams::Reader;
+use streams::{Reader, Writer};
 
 /// A given number of connections, one after the other: those to a port, or any others.
 pub trait Connections {
@@ -49,9 +49,9 @@ pub trait Connections {
 }
 
 /// One client, whose connection ends in bounded time. Each copy of it is the same connection, so one
-/// can be read while another is written. It is a `Reader`, so that a clause can say which reads were
-/// made of it.
-pub trait Peer: Reader + Write + Copy {
+/// can be read while another is written. It is a `Reader` and a `Writer`, so that a clause can say
+/// which reads were made of it, and that a write to it failed.
+pub trait Peer: Reader + Writer + Copy {
     ghost use Rattle.std.specs.Prelude.{Bool, ◌≡◌, true};
 
     /// What it still sends was read, so that it can read its answer.
@@ -152,13 +152,17 @@ pub fn answer_peer<P: Peer + Drop, S: Repository>(
 
     // It is answered by what reads of it gave, each of which was due; and the books are not opened
     // for a request that asks nothing of them.
-    ensures reads { IsServedByReads P.may_answer S.shelf repository.old repository.new book.now
-        peer (P.contents peer) (P.contents result.1) result.0.served }
+    ensures reads { IsServedByReads P.Reader.may_answer S.shelf repository.old repository.new
+        book.now peer (P.contents peer) (P.contents result.1) result.0.served }
 
     // Nor are they for a client that is not answered, and nothing is written to it.
     ensures closed { is_unanswered result.0.served ≡ true → repository.new ≡ repository.old }
     ensures unwritten { is_unanswered result.0.served ≡ true
         → P.contents result.1 ≡ P.contents peer }
+
+    // That writing failed is told only where a write failed, and none was made after it.
+    ensures write { is_write_fault result.0.served ≡ true
+        → ∥ HasFailed P.Writer.may_answer result.1 ∥₁ }
     ensures drained { is_answered result.0.served ≡ true → P.is_drained result.1 ≡ true }
 {
     let mut source = Source::new(peer);

@@ -1,6 +1,7 @@
-use Rattle.std.proofs.Common.{◌∙◌, ap, refl}
+use Rattle.std.proofs.Common.{◌∙◌, ap, refl, sym, true≢false}
 use Rattle.streams.specs.Sources.{has_ended}
 use Rattle.book_http.specs.Reads.{bytes_read}
+use Rattle.book_http.specs.Served.{is_write_fault}
 use Rattle.chargectl.proofs.ClientLemmas.{by_reads, served_one, status_of}
 use Rattle.chargectl.proofs.port.answer_peer.Goals as goal
 
@@ -57,3 +58,8 @@ pub returns-in_default-clause-drained : goal.returns-in_default-clause-drained
 returns-in_default-clause-drained g c = λ answered.
     let status = status_of c.serve_request-peer.result.0.served answered in
     absurd (c.in_default.not-Answered status.0 status.1)
+
+-- an answer that was written did not fail
+pub returns-in-Answered-clause-write : goal.returns-in-Answered-clause-write
+returns-in-Answered-clause-write g c = λ told.
+    absurd (true≢false (sym told ∙ ap is_write_fault c.in-Answered.is))
