@@ -64,6 +64,7 @@ settled book place answer held holds what sent = record {
   shown = held;
   done = done_as book NoEvent (RefusesRequest (reply_of answer) (reply_of answer)) place place
       (λ before events is none. record { none = none; replied = refl }) (untouched book place);
+  there = λ asks. absurd (true≢false (sym asks));
   early = refl;
   ends = sent;
 }

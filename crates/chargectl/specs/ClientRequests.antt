@@ -19,7 +19,7 @@ use Rattle.book_http.specs.Served.{is_write_fault}
 use Rattle.book_http.proofs.LawLemmas.{wanted_answered}
 use Rattle.named_books.specs.declared.repository.RepositoryFault.{RepositoryFault}
 use Rattle.named_books.specs.declared.repository.RepositoryFault.TheVariants as shelf
-use Rattle.named_books.specs.Shelves.{Shelf, ComesBy, IsOpened}
+use Rattle.named_books.specs.Shelves.{Shelf, ComesBy, IsOpened, IsThere}
 use Rattle.chargectl.specs.declared.client_requests.Told.{Told}
 use Rattle.chargectl.specs.declared.client_requests.Told.TheVariants as tells
 
@@ -100,12 +100,14 @@ EndsBy streamed (Err shelf.Unseen) shown holds what = EndsUnseen streamed shown 
 EndsBy streamed (Err why) shown holds what = IsSent (away_reply why) shown holds what
 
 -- The books were opened for a request that had come whole, asked once, and closed; or they were in the
--- way. So much was shown to the client by then: nothing but long details. The answer followed.
+-- way. One that asks them something is answered only of books that are there. So much was shown to the
+-- client by then: nothing but long details. The answer followed.
 pub record IsAnsweredFrom (book : List ℕ) (old new : Shelf) (request : Requested)
     (held holds : Option (List ℕ)) (what : Served) : Type 0 where
   pub told : Result Told RepositoryFault
   pub shown : Option (List ℕ)
   pub done : IsOpened (AsksOpen old.naming request held shown) book old new told
+  pub there : asks_books request ≡ true → IsThere book old new told
   pub early : ComesBy (SendsOpen request held shown) (shown ≡ held) told
   pub ends : EndsBy (is_streamed request) told shown holds what
 

@@ -25,6 +25,7 @@ returns-clause-from g c =
       told = told;
       shown = shown;
       done = opened.ensures.opened;
+      there = λ asks. opened.ensures.there;
       early = sent_open c.args.request held shown (∥ HasFailed g.W.Writer.may_answer writer ∥₁) _
           told (λ same. ap (λ visit. contents visit.writer) same) opened.ensures.came;
       ends = subst
