@@ -77,15 +77,19 @@ text_read had first start bytes result empty cut came is short none =
     (subst (λ first. IfSome first (λ given. bytes ≡ given)) cut
     (subst (λ start. IfSome first (λ given. bytes ≡ start ++ given)) empty came)) is short none
   where
+    fits : (text : String Global) → string_bytes text ≡ bytes → length bytes ≤ most_text
+        → length (string_bytes text) ≤ most_text
+    fits text is short = subst (λ own. length own ≤ most_text) (sym is) short
+
     go : (had : Option (List ℕ)) (result : Result (String Global) CommandFault)
         → IfSome (option_map (take (most_text + 1)) had) (λ given. bytes ≡ given)
         → IfOk result (λ text. string_bytes text ≡ bytes) → OnOk result (length bytes ≤ most_text)
         → IfErr result (IsNoText bytes) → IsTextOf had result
-    go None (Ok text) given is short none = tt
+    go None (Ok text) given is short none = (fits text is short, tt)
     go (Some all) (Ok text) given is short none =
         let few : length all ≤ most_text =
         omega (arith, length-take (most_text + 1) all, ap length given, short) in
-        (is ∙ given ∙ take_all (most_text + 1) all (omega arith), few)
+        (fits text is short, is ∙ given ∙ take_all (most_text + 1) all (omega arith))
     go None (Err why) given is short none = inr (bytes, none, tt)
     go (Some all) (Err why) given is short none = inr (bytes, none, given)
 

@@ -163,12 +163,12 @@ IsNoText bytes why =
     ((why ≡ fault.Ledger (ledger.TariffRefused TooMany)) × (most_text < length bytes))
     ⊎ ((why ≡ fault.Ledger (ledger.TariffRefused Syntax)) × ¬ (IsUtf8 bytes))
 
--- The text of a tariff, from a reader that had these bytes, where that is known: all of them. Or why there
--- is none: the reader failed; or what it gave is no such text, and it gave all, or one byte more than such
--- a text may have.
+-- The text of a tariff, no longer than such a text may be, from a reader that had these bytes, where that
+-- is known: all of them. Or why there is none: the reader failed; or what it gave is no such text, and it
+-- gave all, or one byte more than such a text may have.
 abbrev pub IsTextOf : Option (List ℕ) → Result (String Global) CommandFault → Type 0
-IsTextOf had (Ok text) =
-    IfSome had (λ all. (string_bytes text ≡ all) × (length all ≤ most_text))
+IsTextOf had (Ok text) = (length (string_bytes text) ≤ most_text)
+    × IfSome had (λ all. string_bytes text ≡ all)
 IsTextOf had (Err why) = IsFileFault why ⊎ ((bytes : List ℕ) × IsNoText bytes why
     × IfSome had (λ all. bytes ≡ take (most_text + 1) all))
 

@@ -11,7 +11,7 @@ use std::fs;
 use std::io::Read;
 use tariff_rules::{MAX_TEXT, TariffFault};
 
-/// The text of a tariff file. No contract says what the file holds.
+/// The text of a tariff file. No contract says what the file holds; but the text is not too long.
 pub(crate) fn tariff_text(rt: &HostRuntime, file: &str) -> Result<String, CommandFault>
     ensures { IsTextOf None result }
 {
