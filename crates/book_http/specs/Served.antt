@@ -1,6 +1,6 @@
 -- What became of one request, however its bytes came.
 use Rattle.std.specs.Prelude.{◌≡◌, ◌⊎◌, ◌<◌, ℕ, Bool, true, false, List, [], ◌++◌, length, take}
-use Rattle.std.specs.Prelude.{Option, Result, Ok, Err}
+use Rattle.std.specs.Prelude.{Option, None, Result, Ok, Err}
 use Rattle.std.specs.Io.KnownBytes.{Appends}
 use Rattle.httparse.specs.Grammar.{RequestHead}
 use Rattle.streams.specs.InputOutput.{Output}
@@ -12,7 +12,8 @@ use Rattle.book_core.specs.Follow.{FollowsHistory}
 use Rattle.book_reports.specs.declared.fault.ReportFault.{ReportFault}
 use Rattle.book_reports.specs.declared.fault.ReportFault.TheVariants.{Write}
 use Rattle.book_reports.specs.declared.streamed_details.DetailReport.{DetailReport}
-use Rattle.book_reports.specs.StreamedDetails.{detail_answer, detail_length_outcome}
+use Rattle.book_reports.specs.StreamedDetails.{WritesSomeDetails, detail_answer}
+use Rattle.book_reports.specs.StreamedDetails.{detail_length_outcome}
 use Rattle.book_http.specs.declared.answer.Answer.{Answer}
 use Rattle.book_http.specs.declared.asked.Asked.TheVariants as asks
 use Rattle.book_http.specs.declared.served.Served.{Served}
@@ -22,6 +23,7 @@ use Rattle.book_http.specs.declared.served.Unanswered.{Unanswered}
 use Rattle.book_http.specs.declared.served.Unanswered.TheVariants.{Failed}
 use Rattle.book_http.specs.declared.status.Status.TheVariants.{Done}
 use Rattle.book_http.specs.Answer.{Answers, AnswersDetails, form_kind, most_gathered}
+use Rattle.book_http.specs.AnswerHead.{answer_head}
 use Rattle.book_http.specs.Asked.{asked}
 use Rattle.book_http.specs.Head.{HasHead}
 use Rattle.book_http.specs.Replies.{Reply, reply_bytes, reply_of, success}
@@ -84,6 +86,31 @@ abbrev pub served_as : Result (Unit {0}) ReportFault → Served
 served_as (Ok done) = Answered (status_code Done)
 served_as (Err Write) = WriteFault
 served_as (Err fault) = Cut
+
+-- the head of details that announces so many bytes
+abbrev pub sized_head : DetailReport → ℕ → List ℕ
+sized_head wanted size = answer_head Done (form_kind wanted.form) None size
+
+-- a write of a head failed: a prefix of it was written that is not the whole
+pub record CutsHead (head : List ℕ) (held holds : Option (List ℕ)) (served : Served) : Type 0 where
+  pub told : served ≡ WriteFault
+  pub count : ℕ
+  pub short : count < length head
+  pub grown : Appends held holds (take count head)
+
+-- behind a head the text of some details was written, or a prefix of one
+pub record WritesBehind (wanted : DetailReport) (head : List ℕ) (held holds : Option (List ℕ))
+    (served : Served) : Type 0 where
+  pub between : Option (List ℕ)
+  pub headed : Appends held between head
+  pub came : Result (Unit {0}) ReportFault
+  pub some : WritesSomeDetails wanted between holds came
+  pub told : served ≡ served_as came
+
+-- so it is, whatever the books are, and however long the text is
+abbrev pub SendsSome : DetailReport → ℕ → Option (List ℕ) → Option (List ℕ) → Served → Type 0
+SendsSome wanted size held holds served = CutsHead (sized_head wanted size) held holds served
+    ⊎ WritesBehind wanted (sized_head wanted size) held holds served
 
 -- The text of details was sent behind a head that announces so many bytes, if it has so many. That is
 -- no event, and books that did not fail in it stay open.

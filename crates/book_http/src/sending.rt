@@ -7,7 +7,8 @@ ghost use Rattle.book_core.specs.Transition.{IsTransition};
 ghost use Rattle.book_http.specs.Replies.{refusal_with, reply_of};
 ghost use Rattle.book_http.specs.Replies as spec;
 ghost use Rattle.book_http.specs.Served as outcomes;
-ghost use Rattle.book_http.specs.Served.{IsSent, SendsDetails, is_unanswered, is_write_fault};
+ghost use Rattle.book_http.specs.Served.{IsSent, SendsDetails, SendsSome, is_unanswered};
+ghost use Rattle.book_http.specs.Served.{is_write_fault};
 
 use crate::answer::Answer;
 use crate::answer_head::{BodyKind, answer_head, status_body};
@@ -137,6 +138,11 @@ pub fn send_details<L: Ledger, W: Writer + Drop>(
     ensures sent { IsTransition (L.seen ledger.old) (L.seen ledger.new)
         (SendsDetails details size (L.seen ledger.old).naming
         (W.contents (writer_of sink.old)) (W.contents (writer_of sink.new)) result) }
+
+    // Also where the books have no such period, or their text is of another length, nothing is
+    // written but this head and some details.
+    ensures some { SendsSome details size
+        (W.contents (writer_of sink.old)) (W.contents (writer_of sink.new)) result }
     ensures failed { has_failed sink.new ≡ is_write_fault result }
     ensures answered { is_unanswered result ≡ false }
 {
