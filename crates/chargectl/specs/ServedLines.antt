@@ -5,7 +5,8 @@ use Rattle.streams.specs.InputOutput.{WriterSeen}
 use Rattle.chargectl.specs.declared.served_lines.ServedLines.{ServedLines}
 
 -- what is seen of an output: the bytes that it holds, where it shows them; and that a write failed
-abbrev pub seen_of : {O : Type 0} → (O → Option (List ℕ)) → ServedLines O → WriterSeen
+abbrev pub seen_of : {O : Type 0} {answers : _} {bytes : _} → (O → Option (List ℕ))
+    → ServedLines O answers bytes → WriterSeen
 seen_of contents lines =
     record { holds = contents lines.output; has_failed = lines.has_failed }
 

@@ -1,30 +1,47 @@
 //! A text on its way to standard output.
 
+ghost use Rattle.std.specs.Prelude.{◌≡◌, OnErr, false, true};
+ghost use Rattle.streams.specs.Failures.{HasFailed};
 ghost use Rattle.chargectl.specs.Faults.{IsPrinted};
+ghost use Rattle.chargectl.specs.ServedLines.{GainsBy};
 
 use crate::command_fault::CommandFault;
 use book_reports::ReportFault;
 use program_output::hand_all;
-use std::io::Write;
+use streams::Writer;
 
 /// Writes a text, so that it has left the program. Where that fails the output has a prefix of it.
-pub(crate) fn print_text<O: Write>(text: &str, output: &mut O) -> Result<(), CommandFault>
+pub(crate) fn print_text<O: Writer>(text: &str, output: &mut O) -> Result<(), CommandFault>
     ensures { IsPrinted text.now (O.contents output.old) (O.contents output.new) result }
 {
     print_bytes(text.as_bytes(), output)
 }
 
 /// Writes bytes, as a text is written.
-pub(crate) fn print_bytes<O: Write>(bytes: &[u8], output: &mut O) -> Result<(), CommandFault>
-    ensures { IsPrinted bytes.now (O.contents output.old) (O.contents output.new) result }
+fn print_bytes<O: Writer>(bytes: &[u8], output: &mut O) -> Result<(), CommandFault>
+    ensures printed { IsPrinted bytes.now (O.contents output.old) (O.contents output.new) result }
+
+    // Only a write or a flush that failed is called a failure, and nothing was written after it.
+    ensures failed { OnErr result (∥ HasFailed O.may_answer output.new ∥₁) }
 {
     let written = hand_all(output, bytes);
     let size = bytes.len();
     if written < size {
         return Err(CommandFault::Report(ReportFault::Write));
     }
-    match output.flush() {
+    match output.let_go() {
         Ok(()) => Ok(()),
         Err(error) => Err(CommandFault::from(error)),
+    }
+}
+
+/// Writes bytes, and says whether a write failed, or took nothing: then there are no more.
+pub(crate) fn fails_to_write<O: Writer>(output: &mut O, bytes: &[u8]) -> bool
+    ensures gains { GainsBy false result (O.contents output.old) (O.contents output.new) bytes.now }
+    ensures failed { result ≡ true → ∥ HasFailed O.may_answer output.new ∥₁ }
+{
+    match print_bytes(bytes, output) {
+        Ok(()) => false,
+        Err(_) => true,
     }
 }

@@ -17,8 +17,8 @@ use book_reports::ReportFault;
 use itoa::Buffer;
 use named_books::{Look, Opened, Repository, RepositoryFault};
 use std::io;
-use std::io::Write;
 use std::net::TcpListener;
+use streams::Writer;
 
 /// Room for the line of an answer.
 type Line = ArrayString<16>;
@@ -26,7 +26,7 @@ type Line = ArrayString<16>;
 /// Answers a given number of connections, one after the other, and says what became of each. That the
 /// books can't be opened is told before the port is taken; from then on they are open only while they
 /// are asked. A line that can't be written keeps nobody from being answered: that is told at the end.
-pub(crate) fn serve<S: Repository, O: Write + Drop>(
+pub(crate) fn serve<S: Repository, O: Writer + Drop>(
     rt: &HostRuntime,
     repository: &mut S,
     book: &str,
@@ -93,7 +93,7 @@ fn ended(came: Result<(), CommandFault>, has_log: bool) -> Ended
 }
 
 /// Says that connections to a port are answered from now on, and answers them.
-fn serve_here<S: Repository, O: Write + Drop>(
+fn serve_here<S: Repository, O: Writer + Drop>(
     rt: &HostRuntime,
     listener: &TcpListener,
     requests: u32,
@@ -128,7 +128,7 @@ fn serve_here<S: Repository, O: Write + Drop>(
 /// line that can't be written is lost, and so are those after it; the connections are answered all
 /// the same. An error means that a connection did not come; what was asked of the books till then is
 /// done. Whether a log is left beside them is handed on.
-pub fn serve_each<C: Connections, S: Repository, O: Write + Drop>(
+pub fn serve_each<C: Connections, S: Repository, O: Writer + Drop>(
     connections: &mut C,
     repository: &mut S,
     book: &str,
@@ -159,14 +159,14 @@ pub fn serve_each<C: Connections, S: Repository, O: Write + Drop>(
 }
 
 /// Says that connections are answered from now on.
-fn say_ready<O: Write + Drop>(lines: &mut ServedLines<O>)
+fn say_ready<O: Writer + Drop>(lines: &mut ServedLines<O>)
     ensures { Gains (seen_of O.contents lines.old) (seen_of O.contents lines.new) ready }
 {
     lines.write("READY\n");
 }
 
 /// Says what became of a connection, at once.
-fn say_served<O: Write + Drop>(lines: &mut ServedLines<O>, served: Served)
+fn say_served<O: Writer + Drop>(lines: &mut ServedLines<O>, served: Served)
     ensures { Gains (seen_of O.contents lines.old) (seen_of O.contents lines.new)
         (line_of served) }
 {

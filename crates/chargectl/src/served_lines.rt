@@ -1,20 +1,24 @@
 //! The lines of a service on their way to the output. A client is answered whether or not somebody
 //! reads what is said of it: a closed output ends no service.
 
-ghost use Rattle.std.specs.Prelude.{◌≡◌, false};
-ghost use Rattle.chargectl.specs.ServedLines.{Gains, GainsBy, seen_of, unfailed};
+ghost use Rattle.std.specs.Prelude.{◌≡◌, true};
+ghost use Rattle.streams.specs.Failures.{HasFailed};
 
-use crate::printed_text::print_bytes;
-use std::io::Write;
+use crate::printed_text::fails_to_write;
+use streams::Writer;
 
 /// An output that takes lines up to the first write that fails.
 #[derive(Drop)]
-pub struct ServedLines<O: Write + Drop> {
+pub struct ServedLines<O: Writer + Drop> {
     output: O,
     has_failed: bool,
+    // Where one is said to have failed, one did, and nothing was written after it.
+    ghost cause: { has_failed ≡ true → ∥ HasFailed O.may_answer output ∥₁ },
 }
 
-impl<O: Write + Drop> ServedLines<O> {
+impl<O: Writer + Drop> ServedLines<O> {
+    ghost use Rattle.chargectl.specs.ServedLines.{Gains, seen_of, unfailed};
+
     /// Over an output to which no write has failed.
     pub fn new(output: O) -> ServedLines<O>
         ensures { seen_of O.contents result ≡ unfailed (O.contents output) }
@@ -34,7 +38,11 @@ impl<O: Write + Drop> ServedLines<O> {
 
     /// The output, as the lines left it.
     pub fn into_inner(self) -> O
-        ensures { O.contents result ≡ (seen_of O.contents self).holds }
+        ensures holds { O.contents result ≡ (seen_of O.contents self).holds }
+
+        // That a write failed is shown by one that did, or by a flush, which left the output so.
+        ensures cause { (seen_of O.contents self).has_failed ≡ true
+            → ∥ HasFailed O.may_answer result ∥₁ }
     {
         self.output
     }
@@ -47,16 +55,7 @@ impl<O: Write + Drop> ServedLines<O> {
         if self.has_failed {
             return;
         }
-        self.has_failed = fails_to_write(&mut self.output, line.as_bytes());
-    }
-}
-
-/// Writes bytes, and says whether a write failed, or took nothing: then there are no more.
-fn fails_to_write<O: Write>(output: &mut O, bytes: &[u8]) -> bool
-    ensures { GainsBy false result (O.contents output.old) (O.contents output.new) bytes.now }
-{
-    match print_bytes(bytes, output) {
-        Ok(()) => false,
-        Err(_) => true,
+        let failed = fails_to_write(&mut self.output, line.as_bytes());
+        self.has_failed = failed;
     }
 }

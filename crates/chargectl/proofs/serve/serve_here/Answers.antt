@@ -14,7 +14,7 @@ returns-in-Ok g c =
     (contents c.into_inner.result) (seen c.new-lines.result) (seen c.say_ready.new.lines)
     (seen each.new.lines) c.has_failed.result c.ended.result each.result.1 c.new-lines.ensures
     c.say_ready.ensures c.over-port.ensures (rw c.in-Ok.is at each.ensures.all)
-    (rw c.in-Ok.is at each.ensures.served) c.into_inner.ensures c.has_failed.ensures
+    (rw c.in-Ok.is at each.ensures.served) c.into_inner.ensures.holds c.has_failed.ensures
     (rw c.told_end-came.ensures at c.ended.ensures) each.ensures.log
 
 pub returns-in-Err : goal.returns-in-Err
@@ -26,6 +26,6 @@ returns-in-Err g c =
     each.new.repository c.args.requests c.over-port.result.left _ (contents c.args.output)
     (contents c.into_inner-in-Err.result) (seen c.new-lines.result) (seen c.say_ready.new.lines)
     (seen each.new.lines) c.ended-in-Err.result c.from-fault.result each.result.1
-    c.new-lines.ensures c.say_ready.ensures c.into_inner-in-Err.ensures c.ended-in-Err.ensures
+    c.new-lines.ensures c.say_ready.ensures c.into_inner-in-Err.ensures.holds c.ended-in-Err.ensures
     (inr (error_kind c.in-Err.error, c.from-fault.ensures)) (rw c.in-Err.is at each.ensures.served)
     each.ensures.log
