@@ -120,7 +120,8 @@ pub fn check_list<R: Reader + Drop, W: Writer + Drop>(
     ensures asked { sources.reads_of source.new ≤ sources.reads_of source.old + reads }
 
     // A fault is a failed write, or a lack of memory; Write is answered only where a write failed.
-    // No books are asked, so none stop the list or refuse it.
+    // That one did is shown by the sink, as that a read did is by the source (`cause`). No books are
+    // asked, so none stop the list or refuse it.
     ensures failed { has_failed sink.new ≡ is_write_fault result }
     ensures fault { IfErr result (λ fault. is_write_or_memory fault ≡ true) }
     ensures stop { IfOk result (λ stop. is_stop_of_books stop ≡ false) }

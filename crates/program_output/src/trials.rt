@@ -46,6 +46,7 @@ pub fn trial<R: Reader + Drop, W: Writer + Drop>(
     ensures asked { sources.reads_of source.new ≤ sources.reads_of source.old + reads }
 
     // A fault is a failed write, or a lack of memory; Write is answered only where a write failed.
+    // That one did is shown by the sink, as that a read did is by the source (`cause`).
     ensures failed { has_failed sink.new ≡ is_write_fault result }
     ensures fault { IfErr result (λ fault. is_write_or_memory fault ≡ true) }
 {
