@@ -233,13 +233,12 @@ impl<S: Store> TreeTables<S> {
     }
 
     /// A charge row that was found at its place in the period goes.
-    pub fn drop_day(&mut self, found: &DayRow) -> Result<(), StoreError>
+    pub fn drop_day(&mut self, day: &DayRow) -> Result<(), StoreError>
         ensures does { Does result (state_of self.old) (state_of self.new)
-            (λ tables. FindsDay found.now.period (row_key found.now.row) tables
-            (Some found.now.row))
-            (step.drop_day_row found.now.period (row_key found.now.row)) }
+            (λ tables. FindsDay day.now.period (row_key day.now.row) tables (Some day.now.row))
+            (step.drop_day_row day.now.period (row_key day.now.row)) }
     {
-        stored_row(&mut self.before, u32::from(found.period), &found.row)?;
+        stored_row(&mut self.before, u32::from(day.period), &day.row)?;
         remove_row(&mut self.store, DAYS, &self.before)
     }
 

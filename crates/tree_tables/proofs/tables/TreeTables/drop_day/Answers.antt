@@ -6,6 +6,6 @@ pub returns : goal.returns
 returns g c = record {
   does = does_alone g.S.Store c.remove_row.result c.remove_row.ensures.quiet
       c.remove_row.ensures.kept c.remove_row.ensures.done
-      (λ clean gone. day_gone c.args.found.now.period c.args.found.now.row gone
+      (λ clean gone. day_gone c.args.day.now.period c.args.day.now.row gone
       (rw c.from.ensures at c.in_ok-stored_row.ensures));
 }
