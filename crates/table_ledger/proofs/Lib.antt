@@ -31,6 +31,7 @@ mod LateCosts
 mod NameSums
 mod LatePrices
 mod NewEntries
+mod NamedRivals
 mod AcceptTries
 mod ListReadings
 mod LineReadings

@@ -10,7 +10,6 @@ use Rattle.std.specs.Ordering.{eq_by_cmp, is_lt, nat_cmp, ordering_then}
 use Rattle.std.specs.declared.cmp.Ordering.{Ordering}
 use Rattle.std.specs.declared.cmp.Ordering.TheVariants.{Less, Equal, Greater}
 use Rattle.std.proofs.lemmas.List.{length-map, take-map}
-use Rattle.std.proofs.lemmas.List.Elements.{All-from_recursion, All-take, recursion_from_All}
 use Rattle.std.proofs.lemmas.List.Sums.{count_by-le-length, length-filter}
 use Rattle.std.proofs.lemmas.Map.Views.{tells_apart}
 use Rattle.sqlite_trees.proofs.ListLemmas.{map-map}
@@ -34,7 +33,7 @@ use Rattle.tree_rows.proofs.Maps.{prefix_of}
 use Rattle.tree_rows.proofs.PartIndexes.{part_in_order}
 use Rattle.tree_rows.proofs.Runs.{run_named}
 use Rattle.tree_tables.specs.Answers.{FindsNamed, FindsUncharged, IsNextUncharged, IsUnchargedFrom}
-use Rattle.tree_tables.specs.Answers.{FindsSharing, ListsSharing}
+use Rattle.tree_tables.specs.Answers.{ListsSharing, NamesSharing}
 use Rattle.tree_tables.specs.Columns.{flag, identity_columns, uncharged_part}
 use Rattle.tree_tables.specs.Fits.{AllNamed, EndsInName, MarkFits, RecordsFit}
 use Rattle.tree_tables.specs.Holds.{identity_index, identity_key, mark_key, marks}
@@ -184,7 +183,15 @@ module _ (from : List ℕ) where
       uncharged_read None says = past_all says
       uncharged_read (Some identity) says = is_next identity.items says.0 says.1
 
--- ---- all records of an identity
+-- ---- the records of an identity
+
+-- the names of the first two are as many as these
+pub sharing_counted : (identity : List ℕ) (tables : Tables) (names : List FoundName)
+    → NamesSharing identity tables names
+    → length names ≡ length (take 2 (rows_with identity tables.records))
+sharing_counted identity tables names named =
+    sym (length-map names (λ (one : FoundName). one.name)) ∙ ap length named
+    ∙ length-map (take 2 (rows_with identity tables.records)) (λ (e : Entry). e.0)
 
 module _ (tables : Tables) (identity : List ℕ) (part : Row) (part_is : part ≡ Blob identity ∷ []) where
   -- the records that have it
@@ -236,31 +243,12 @@ module _ (tables : Tables) (identity : List ℕ) (part : Row) (part_is : part �
       ∙ entries_named tables.records sharing sharing_had
 
   -- the names of the first two are read
-  two_names : (names : List FoundName)
+  pub two_names : (names : List FoundName)
       → EndIn (take 2 (run_of part (identity_rows tables.records))) names
       → names_of names ≡ map (λ (e : Entry). e.0) (take 2 sharing)
   two_names names ends =
       names_read found_by (λ e. e.0) (λ e. refl) (take 2 sharing) names
       (subst (λ some. EndIn some names) (ap (take 2) sharing_run ∙ take-map found_by 2 sharing) ends)
-
-  -- so they are as many,
-  pub sharing_counted : (names : List FoundName)
-      → EndIn (take 2 (run_of part (identity_rows tables.records))) names
-      → length names ≡ length (take 2 sharing)
-  sharing_counted names ends =
-      sym (length-map names (λ (one : FoundName). one.name)) ∙ ap length (two_names names ends)
-      ∙ length-map (take 2 sharing) (λ (e : Entry). e.0)
-
-  -- and the records of the names are the first two
-  pub sharing_found : (names : List FoundName) (found : List StoredRecord)
-      → EndIn (take 2 (run_of part (identity_rows tables.records))) names
-      → FindsNamed names tables found → FindsSharing identity tables found
-  sharing_found names found ends all =
-      let two = take 2 sharing in
-      named_found names tables found all
-      ∙ ap (flat_map (at_name tables.records)) (two_names names ends)
-      ∙ entries_named tables.records two (recursion_from_All Had two (All-take Had 2 sharing
-      (All-from_recursion Had sharing sharing_had)))
 
   module _ (fit : RecordsFit tables) where
     -- rows of records that are there end in names

@@ -49,10 +49,11 @@ abbrev pub FindsNamed : List FoundName → Tables → List StoredRecord → Type
 FindsNamed names tables found =
     AllZip (λ named stored. FindsRecord named.name tables (Some stored)) names found
 
--- the first two of the records that have an identity, by name
-abbrev pub FindsSharing : List ℕ → Tables → List StoredRecord → Type 0
-FindsSharing identity tables found =
-    map stored_entry found ≡ take 2 (rows_with identity tables.records)
+-- the names of the first two of the records that have an identity, in their order
+abbrev pub NamesSharing : List ℕ → Tables → List FoundName → Type 0
+NamesSharing identity tables names =
+    map (λ (one : FoundName). one.name) names
+    ≡ map (λ (entry : List ℕ × RecordRow). entry.0) (take 2 (rows_with identity tables.records))
 
 -- how many they are
 abbrev pub CountsSharing : List ℕ → Tables → ℕ → Type 0

@@ -16,8 +16,9 @@ use tree_rows::ReadRow;
 
 /// The name of a record, which ends the row that finds it.
 #[derive(Clone, Copy, Drop)]
-pub(crate) struct FoundName {
-    pub(crate) name: [u8; 32],
+pub struct FoundName {
+    /// The name of the record's data.
+    pub name: [u8; 32],
 }
 
 impl ReadRow for FoundName {
@@ -40,7 +41,7 @@ impl<S: Store> TreeTables<S> {
     ghost use Rattle.tree_tables.specs.Steps.{FailsByStore, Looks};
 
     /// The record of a name that a row says. Where there is none, the file is damaged.
-    pub(crate) fn record_named(
+    pub fn record_named(
         &mut self,
         alloc: Global,
         name: &[u8],

@@ -42,6 +42,7 @@ pub use detail_changes::{DetailScratch, count_in};
 pub use detail_fill::{closes_in, lines_in, next_record_in, start_records};
 pub use detail_rows::{DetailStart, read_detail};
 pub use forms::THIS_FORM;
+pub use found_names::FoundName;
 pub use late_records::LateRecord;
 pub use line_rows::{LineKey, StoredLine};
 pub use memory::trees_in_memory;

@@ -139,8 +139,8 @@ fn marked_row(row: &mut Row, before: &Row, mark: bool) -> Result<(), StoreError>
 impl<S: Store> TreeTables<S> {
     ghost use Rattle.std.specs.Prelude.{false, true};
     ghost use Rattle.table_model.specs.Steps as step;
-    ghost use Rattle.tree_tables.specs.Answers.{CountsSharing, FindsRecord, FindsSharing};
-    ghost use Rattle.tree_tables.specs.Answers.{ListsUncharged};
+    ghost use Rattle.tree_tables.specs.Answers.{CountsSharing, FindsRecord, ListsUncharged};
+    ghost use Rattle.tree_tables.specs.Answers.{NamesSharing};
     ghost use Rattle.tree_tables.specs.States.{state_of};
     ghost use Rattle.tree_tables.specs.Fits.{NamedFits, RecordsFit};
     ghost use Rattle.tree_tables.specs.Steps.{Always, Does, FailsByStore, Looks};
@@ -165,43 +165,33 @@ impl<S: Store> TreeTables<S> {
         Ok(Some(read_record(&self.row, alloc)?))
     }
 
-    /// The first two of the records that have an identity, by name: more are not looked at, however
-    /// many there are.
-    pub fn find_sharing(
+    /// The names of the first two of the records that have an identity, in their order: more are
+    /// not looked at, however many there are, and no record is read.
+    pub fn names_sharing(
         &mut self,
         alloc: Global,
         identity: &[u8],
-    ) -> Result<Vec<StoredRecord>, StoreError>
+    ) -> Result<Vec<FoundName>, StoreError>
         ensures looks { Looks result (state_of self.old) (state_of self.new)
-            (λ tables found. FindsSharing identity.now tables found.items) }
+            (λ tables names. NamesSharing identity.now tables names.items) }
     {
         bytes_key(&mut self.key, identity)?;
-        let names = list_first(
+        list_first(
             &mut self.store,
             IDENTITIES,
             &self.key,
             &mut self.row,
             alloc,
             MOST_SHARING,
-        )?;
-        self.read_named(alloc, &names)
+        )
     }
 
-    /// How many records have an identity, counted to two: the rows that find them are read, and no
-    /// record is.
+    /// How many records have an identity, counted to two: no record is read.
     pub fn count_sharing(&mut self, alloc: Global, identity: &[u8]) -> Result<usize, StoreError>
         ensures looks { Looks result (state_of self.old) (state_of self.new)
             (CountsSharing identity.now) }
     {
-        bytes_key(&mut self.key, identity)?;
-        let names: Vec<FoundName> = list_first(
-            &mut self.store,
-            IDENTITIES,
-            &self.key,
-            &mut self.row,
-            alloc,
-            MOST_SHARING,
-        )?;
+        let names = self.names_sharing(alloc, identity)?;
         Ok(names.len())
     }
 
