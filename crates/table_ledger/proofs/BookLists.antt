@@ -43,19 +43,19 @@ abbrev read_one : StoredLine → Option RecordRow → List Line → List Line
 read_one one found lines =
     cons_option (option_map (λ (row : RecordRow). line_with one (one.name, row)) found) lines
 
-module _ (period : ℕ) (records : RecordTable) where
+module _ (records : RecordTable) where
   -- a name is before those of the lines that are read, if it is before those of all of them,
   read_below : (name : List ℕ) (stored : List StoredLine)
       → AllByRecursion (λ other. by_bytes name other ≡ Less)
       (map (λ (one : StoredLine). one.name) stored)
       → AllByRecursion (λ other. by_bytes name other ≡ Less)
-      (map (λ (line : Line). line.name) (lines_stored period records stored))
+      (map (λ (line : Line). line.name) (lines_stored records stored))
   read_below name [] below = tt
   read_below name (one ∷ stored) below =
       let rest = read_below name stored below.1 in
       elim (get records one.name) as (λ found. AllByRecursion (λ other. by_bytes name other ≡ Less)
       (map (λ (line : Line). line.name)
-      (read_one one found (lines_stored period records stored)))) [
+      (read_one one found (lines_stored records stored)))) [
         | None ↦ rest
         | Some row ↦ (below.0, rest)
       ]
@@ -63,13 +63,13 @@ module _ (period : ℕ) (records : RecordTable) where
   -- so they rise
   read_rise : (stored : List StoredLine)
       → IsStrictlySortedBy by_bytes (map (λ (one : StoredLine). one.name) stored)
-      → NamesRise (lines_stored period records stored)
+      → NamesRise (lines_stored records stored)
   unfolding IsStrictlySortedBy
   read_rise [] rise = tt
   read_rise (one ∷ stored) rise =
       let rest = read_rise stored rise.1 in
       elim (get records one.name) as (λ found. NamesRise
-      (read_one one found (lines_stored period records stored))) [
+      (read_one one found (lines_stored records stored))) [
         | None ↦ rest
         | Some row ↦ (read_below one.name stored rise.0, rest)
       ]
@@ -115,7 +115,7 @@ module _ {naming : Naming} {summary : Summary} {view : View} {book : Book}
   module _ (number : ℕ) (is : is_period number (ruled_in summary.rulings) ≡ true)
       (stored : List StoredLine) (lines : List Line)
       (lists : ListsLines number (tables_of naming book) stored)
-      (read : lines ≡ lines_stored number (tables_of naming book).records stored) where
+      (read : lines ≡ lines_stored (tables_of naming book).records stored) where
     -- the names of the lines that are read rise
     pub own_rise : NamesRise lines
     own_rise =
@@ -127,7 +127,7 @@ module _ {naming : Naming} {summary : Summary} {view : View} {book : Book}
         ∙ map-map (λ (named : List ℕ × Bool). named.0)
         (λ (row : (ℕ × List ℕ) × Bool). (row.0.1, row.1)) rows in
         subst NamesRise (sym read)
-        (read_rise number (tables_of naming book).records stored
+        (read_rise (tables_of naming book).records stored
         (subst (IsStrictlySortedBy by_bytes) (sym names)
         (lines_rise naming book whole number (there_is number is))))
 

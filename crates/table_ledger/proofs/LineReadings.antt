@@ -1,6 +1,6 @@
 -- Adjustment lines as they are found in the tables.
 use Rattle.std.proofs.Common.{◌≡◌, ◌∙◌, ℕ, Bool, List, [], ◌∷◌, ◌++◌, ◌+◌, ◌<◌, length, take}
-use Rattle.std.proofs.Common.{slice_index_or, Option, Some, None, option_map, refl, sym, ap}
+use Rattle.std.proofs.Common.{slice_index_or, Option, Some, None, option_map, sym, ap}
 use Rattle.std.specs.FinMap.{get}
 use Rattle.std.specs.List.{cons_option, filter_map}
 use Rattle.std.proofs.lemmas.List.{take_more}
@@ -27,13 +27,6 @@ line_with stored row = record {
   priced = row.1.priced;
 }
 
--- what is said of a row may be said of it with its name
-named_first : {A : Type 0} (make : NamedRow → A) (name : List ℕ) (found : Option RecordRow)
-    → option_map (λ row. make (name, row)) found
-    ≡ option_map make (option_map (λ row. (name, row)) found)
-named_first make name None = refl
-named_first make name (Some row) = refl
-
 -- a record that was found is there
 pub found_there : (name : List ℕ) (tables : Tables) (held : StoredRecord)
     → FindsRecord name tables (Some held)
@@ -46,28 +39,17 @@ found_there name tables held finds = by (get tables.records name) finds
     by None is = absurd (let e = is in cc)
     by (Some row) is = sym (ap (option_map (λ (entry : NamedRow). entry.1)) is)
 
--- The line that is stored, by the record that was found.
-pub line_found : (period : ℕ) (stored : StoredLine) (tables : Tables)
-    (found is : Option StoredRecord) → found ≡ is → FindsRecord stored.name tables found
-    → option_map (line_with stored) (option_map stored_entry is)
-    ≡ line_stored period tables.records stored
-line_found period stored tables found is same finds =
-    ap (λ (one : Option StoredRecord). option_map (line_with stored) (option_map stored_entry one))
-    (sym same)
-    ∙ ap (option_map (line_with stored)) finds
-    ∙ sym (named_first (line_with stored) stored.name (get tables.records stored.name))
-
 -- The lines that are read after one more stored line.
-pub line_more : (period : ℕ) (records : RecordTable) (stored : List StoredLine) (at : ℕ)
+pub line_more : (records : RecordTable) (stored : List StoredLine) (at : ℕ)
     (any one : StoredLine) (olds news : List Line) (line : Option Line) → at < length stored
     → one ≡ slice_index_or stored at any → news ≡ olds ++ cons_option line []
-    → olds ≡ lines_stored period records (take at stored) → line ≡ line_stored period records one
-    → news ≡ lines_stored period records (take (at + 1) stored)
-line_more period records stored at any one olds news line within is more before said =
-    let reads = filter_map (line_stored period records) in
+    → olds ≡ lines_stored records (take at stored) → line ≡ line_stored records one
+    → news ≡ lines_stored records (take (at + 1) stored)
+line_more records stored at any one olds news line within is more before said =
+    let reads = filter_map (line_stored records) in
     more
     ∙ (λ i. before i ++ cons_option (said i) [])
-    ∙ sym (filter_map-append (line_stored period records) (take at stored) (one ∷ []))
+    ∙ sym (filter_map-append (line_stored records) (take at stored) (one ∷ []))
     ∙ ap (λ (last : StoredLine). reads (take at stored ++ last ∷ [])) is
     ∙ ap reads (sym (take_more stored at any within))
 
@@ -78,7 +60,7 @@ line_named records named = line_read records ((0, named.0), named.1)
 -- The lines are read if the stored lines are those of the period.
 pub lines_listed : (period : ℕ) (tables : Tables) (stored : List StoredLine)
     (lines sorted : List Line) → ListsLines period tables stored
-    → lines ≡ lines_stored period tables.records stored
+    → lines ≡ lines_stored tables.records stored
     → sorted ≡ members (set_of by_line lines) → lines_read period tables ≡ sorted
 lines_listed period tables stored lines sorted lists read made =
     let named = line_named tables.records in

@@ -1,5 +1,5 @@
 -- Adjustment lines that are read from the tables.
-use Rattle.std.specs.Prelude.{ℕ, List, Option, map}
+use Rattle.std.specs.Prelude.{List, Option, map}
 use Rattle.std.specs.List.{filter_map}
 use Rattle.std.specs.List.Sorted.{IsStrictlySortedBy}
 use Rattle.book_model.specs.Words.{by_bytes}
@@ -8,13 +8,13 @@ use Rattle.table_model.specs.PeriodLists.{line_read}
 use Rattle.table_model.specs.Tables.{RecordTable}
 use Rattle.tree_tables.specs.declared.line_rows.StoredLine.{StoredLine}
 
--- a stored line of a period, with what the row of its record says
-abbrev pub line_stored : ℕ → RecordTable → StoredLine → Option Line
-line_stored period records stored = line_read records ((period, stored.name), stored.plus)
+-- a stored line, of whichever period, with what the row of its record says
+abbrev pub line_stored : RecordTable → StoredLine → Option Line
+line_stored records stored = line_read records ((0, stored.name), stored.plus)
 
 -- those for which there are records
-abbrev pub lines_stored : ℕ → RecordTable → List StoredLine → List Line
-lines_stored period records = filter_map (line_stored period records)
+abbrev pub lines_stored : RecordTable → List StoredLine → List Line
+lines_stored records = filter_map (line_stored records)
 
 -- the names of lines rise
 abbrev pub NamesRise : List Line → Type 0

@@ -7,61 +7,35 @@ ghost use Rattle.tree_tables.specs.States.{state_of};
 ghost use Rattle.book_model.specs.Words.{IsDay, AreLines, by_line, adjustments_outcome, Naming};
 ghost use Rattle.book_model.specs.Words.{by_bytes, same_bytes, members, set_of};
 ghost use Rattle.tree_tables.specs.Steps.{FailsByStore, Looks};
-ghost use Rattle.table_ledger.specs.LineReads.{NamesRise, line_stored, lines_stored};
+ghost use Rattle.table_ledger.specs.LineReads.{NamesRise, lines_stored};
 ghost use Rattle.table_ledger.specs.RecordReads.{CanBeRead, HasWideNames};
 ghost use Rattle.table_ledger.specs.Attempts.{TriesItsOwn};
 ghost use Rattle.table_ledger.specs.Stages.{AttemptsOne};
 
 use crate::days::is_day;
 use crate::summary::Summary;
-use book_core::{LedgerFault, Line, copied, sort_lines};
-use smf_type30::Type30;
+use book_core::{LedgerFault, Line, sort_lines};
 use sqlite_trees::error::StoreError;
 use sqlite_trees::store::Store;
 use std::alloc::Global;
-use tree_tables::{StoredLine, TreeTables, usage_bytes};
+use tree_tables::{StoredLine, TreeTables};
 
 /// The first number that signed 64-bit integers do not hold.
 const SIGNED_END: u64 = 1 << 63;
-
-/// A line that is stored, if a record has its name.
-fn read_line<S: Store>(
-    tables: &mut TreeTables<S>,
-    alloc: Global,
-    period: u16,
-    stored: &StoredLine,
-) -> Result<Option<Line>, StoreError>
-    ensures looks { Looks result (state_of tables.old) (state_of tables.new)
-        (λ tables line. line ≡ line_stored period tables.records stored.now) }
-    ensures cause { FailsByStore result (state_of tables.old) (state_of tables.new) CanBeRead }
-{
-    let Some(held) = tables.find_record(alloc, &stored.name)? else {
-        return Ok(None);
-    };
-    let bytes = usage_bytes(alloc, &held.data_bytes)?;
-    let usage = Type30::of_usage(&bytes);
-    Ok(Some(Line {
-        plus: stored.plus,
-        name: stored.name,
-        job: copied(usage.job()),
-        priced: held.priced,
-    }))
-}
 
 /// Lines that are stored, each if a record has its name.
 fn read_lines<S: Store>(
     tables: &mut TreeTables<S>,
     alloc: Global,
-    period: u16,
     found: &[StoredLine],
 ) -> Result<Vec<Line>, StoreError>
     ensures looks { Looks result (state_of tables.old) (state_of tables.new)
-        (λ tables lines. lines.items ≡ lines_stored period tables.records found.now) }
+        (λ tables lines. lines.items ≡ lines_stored tables.records found.now) }
     ensures cause { FailsByStore result (state_of tables.old) (state_of tables.new) CanBeRead }
 {
     let mut lines = Vec::new(alloc);
     for stored in found {
-        if let Some(line) = read_line(tables, alloc, period, stored)? {
+        if let Some(line) = tables.read_line(stored)? {
             lines.push(line)?;
         }
     }
@@ -154,7 +128,7 @@ pub(crate) fn try_adjustments<S: Store>(
         return Ok(Err(LedgerFault::NoSuchPeriod));
     }
     let found = tables.list_lines(alloc, period)?;
-    let lines = read_lines(tables, alloc, period, &found)?;
+    let lines = read_lines(tables, alloc, &found)?;
     let Some(sorted) = sorted(lines) else {
         return Err(StoreError::Corrupt);
     };

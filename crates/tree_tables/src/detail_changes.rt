@@ -35,7 +35,7 @@ pub struct DetailScratch {
     /// The row that is made.
     row: Row,
     /// The record, of which its fields are read.
-    bytes: Vec<u8>,
+    pub(crate) bytes: Vec<u8>,
 }
 
 impl DetailScratch {

@@ -1,16 +1,24 @@
 //! Adjustment lines by period and name.
 
-ghost use Rattle.std.specs.Prelude.{◌≡◌, ◌∷◌, [], IfErr, OnOk, pos};
+ghost use Rattle.std.specs.Prelude.{◌≡◌, ◌∷◌, [], ℕ, IfErr, IfOk, List, OnOk, pos};
 ghost use Rattle.sqlite_value.specs.declared.value.Value.TheVariants.{Blob, Int};
-ghost use Rattle.tree_tables.specs.Columns.{line_columns};
-ghost use Rattle.tree_tables.specs.Fits.{LineFits};
+ghost use Rattle.book_model.specs.Words.{line_with, record_with};
+ghost use Rattle.table_model.specs.Tables.{RecordRow};
+ghost use Rattle.tree_tables.specs.Columns.{line_columns, record_columns};
+ghost use Rattle.tree_tables.specs.Fits.{LineFits, RecordFits};
 ghost use Rattle.tree_tables.specs.Stored.{SaysLine};
+ghost use Rattle.tree_tables.specs.UsageData.{IsUsageData};
 
 use crate::column_values::{hash_at, mark_at};
 use crate::columns::{LINE_NAME, LINE_PLUS};
-use crate::keys::{number_key, period_key};
+use crate::keys::{bytes_key, number_key, period_key};
+use crate::stored_record::{data_of, read_price};
+use crate::stored_usage::put_usage;
 use crate::tables::TreeTables;
-use crate::trees::LINES;
+use crate::trees::{LINES, RECORDS};
+use book_core::copied;
+use book_model::Line;
+use smf_type30::Type30;
 use sqlite_trees::error::StoreError;
 use sqlite_trees::store::Store;
 use sqlite_value::row::Row;
@@ -55,6 +63,27 @@ fn line_row(row: &mut Row, spot: &LineKey<'_>, plus: bool) -> Result<(), StoreEr
     Ok(())
 }
 
+/// The line that a stored line makes with the row of its record, which is put together in `bytes`.
+fn line_of(row: &Row, bytes: &mut Vec<u8>, stored: &StoredLine) -> Result<Line, StoreError>
+    ensures read { IfOk result (λ line. (entry : List ℕ × RecordRow)
+        → row.now ≡ record_columns entry → line ≡ line_with stored.now.plus stored.now.name
+        (record_with entry.1.data_bytes) entry.1.priced) }
+    ensures taken { IfErr result (λ error. (entry : List ℕ × RecordRow)
+        → row.now ≡ record_columns entry → RecordFits row.now → IsUsageData entry.1.data_bytes
+        → error ≡ StoreError.OutOfMemory) }
+{
+    let data = data_of(row)?;
+    put_usage(bytes, data)?;
+    let priced = read_price(row)?;
+    let usage = Type30::of_usage(bytes.as_slice());
+    Ok(Line {
+        plus: stored.plus,
+        name: stored.name,
+        job: copied(usage.job()),
+        priced,
+    })
+}
+
 impl ReadRow for StoredLine {
     ghost says = { SaysLine };
 
@@ -74,6 +103,8 @@ impl<S: Store> TreeTables<S> {
     ghost use Rattle.tree_tables.specs.States.{state_of};
     ghost use Rattle.tree_tables.specs.Fits.{LinesFit};
     ghost use Rattle.tree_tables.specs.Steps.{Always, Does, FailsByStore, Looks};
+    ghost use Rattle.table_model.specs.PeriodLists.{line_read};
+    ghost use Rattle.tree_tables.specs.UsageData.{EachReads};
 
     /// A line is kept under its period and the name of its record: it adds the record, or reverses
     /// it.
@@ -127,5 +158,22 @@ impl<S: Store> TreeTables<S> {
     {
         period_key(&mut self.key, period)?;
         list_run(&mut self.store, LINES, &self.key, &mut self.row, alloc)
+    }
+
+    /// The line that a stored line makes with the record of its name, if there is one: neither the
+    /// identity nor the data of the record is copied out of its row.
+    #[tactic(auto, using(crate::proofs::Looking::caused_memory))]
+    pub fn read_line(&mut self, stored: &StoredLine) -> Result<Option<Line>, StoreError>
+        ensures looks { Looks result (state_of self.old) (state_of self.new)
+            (λ tables line.
+            line ≡ line_read tables.records ((0, stored.now.name), stored.now.plus)) }
+        ensures cause { FailsByStore result (state_of self.old) (state_of self.new) EachReads }
+    {
+        bytes_key(&mut self.key, &stored.name)?;
+        if !find_row(&mut self.store, RECORDS, &self.key, &mut self.before)? {
+            return Ok(None);
+        }
+        let line = line_of(&self.before, &mut self.scratch.bytes, stored)?;
+        Ok(Some(line))
     }
 }

@@ -57,6 +57,19 @@ pub fn usage_in(bytes: &[u8]) -> Result<Type30<'_>, StoreError>
     }
 }
 
+/// Writes the usage record with that data over `bytes`. Data that are those of no usage record are
+/// an ill-formed row.
+pub(crate) fn put_usage(bytes: &mut Vec<u8>, data_bytes: &[u8]) -> Result<(), StoreError>
+    ensures bytes { OnOk result (bytes.new.items ≡ framed.record_with data_bytes.now) }
+    ensures usage { OnOk result (IsUsage bytes.new.items) }
+    ensures taken { IfErr result (λ error. IsUsageData data_bytes.now
+        → error ≡ StoreError.OutOfMemory) }
+{
+    put_data(bytes, data_bytes)?;
+    usage_in(bytes.as_slice())?;
+    Ok(())
+}
+
 /// The usage record with that data. Data that are those of no usage record are an ill-formed row.
 pub fn usage_bytes(alloc: Global, data_bytes: &[u8]) -> Result<Vec<u8>, StoreError>
     ensures bytes { IfOk result (λ made. made.items ≡ framed.record_with data_bytes.now) }
@@ -65,7 +78,6 @@ pub fn usage_bytes(alloc: Global, data_bytes: &[u8]) -> Result<Vec<u8>, StoreErr
         → error ≡ StoreError.OutOfMemory) }
 {
     let mut bytes = Vec::new(alloc);
-    put_data(&mut bytes, data_bytes)?;
-    usage_in(&bytes)?;
+    put_usage(&mut bytes, data_bytes)?;
     Ok(bytes)
 }

@@ -42,7 +42,7 @@ loop-stored-preserved g c =
       saw = saw_so (saw_then c.loop-stored.invariant.saw
           (saw_found c.in_ok-line.ensures.looks))
           (λ tables known.
-          line_more c.args.period tables.records c.args.found.now c.loop-stored.stored-index
+          line_more tables.records c.args.found.now c.loop-stored.stored-index
           any (slice_index_or c.args.found.now c.loop-stored.stored-index any) olds
           c.match-branch-2.lines.items line c.loop-stored-test.true
           refl more known.0 known.1);
@@ -52,14 +52,16 @@ pub returns-clause-looks : goal.returns-clause-looks
 returns-clause-looks g c =
     looks_known c.loop-stored.invariant.saw (λ tables known.
     known
-    ∙ ap (λ (some : List StoredLine). lines_stored c.args.period tables.records some)
+    ∙ ap (λ (some : List StoredLine). lines_stored tables.records some)
     (take_all c.loop-stored.stored-index c.args.found.now c.loop-stored-test.false))
 
 -- why a line was not read, after the others
 pub returns-in_err-line-clause-cause : goal.returns-in_err-line-clause-cause
 returns-in_err-line-clause-cause g c =
     fails_after_look _ c.from_residual.ensures.1 c.loop-stored.invariant.saw
-    c.in_err-line.ensures.looks c.in_err-line.ensures.cause
+    c.in_err-line.ensures.looks (λ clean tables holds read.
+    c.in_err-line.ensures.cause clean tables holds
+    (record { each = read.fit.each; usage = read.usage }))
 
 -- for the list only memory may run out
 pub returns-in_err-push-clause-cause : goal.returns-in_err-push-clause-cause

@@ -8,5 +8,5 @@ use Rattle.table_ledger.proofs.adjustments.read_lines.Given as goal
 abbrev pub invariant-loop-stored : goal.invariant-loop-stored
 invariant-loop-stored g l = record {
   saw : Saw (state g.S.Store l.initial.tables.store) (state g.S.Store l.tables.store) (λ tables.
-      l.lines.items ≡ lines_stored l.period tables.records (take l.stored-index l.found));
+      l.lines.items ≡ lines_stored tables.records (take l.stored-index l.found));
 }

@@ -26,7 +26,7 @@ returns-clause-tries g c = λ naming.
     (λ tables known.
     lines_listed number tables c.in_ok-found.found.items c.in_ok-lines.lines.items
     c.in-Some.sorted.items known.0
-    (known.1 ∙ ap (λ (some : List StoredLine). lines_stored number tables.records some)
+    (known.1 ∙ ap (λ (some : List StoredLine). lines_stored tables.records some)
     c.deref.ensures.value)
     c.in-Some.ensures.sorted)
 
@@ -53,7 +53,7 @@ returns-in_default-clause-own g c = λ naming wide clean book ready.
     let saw = saw_then (saw_found c.in_ok-found.ensures.looks)
     (saw_found c.in_ok-lines.ensures.looks) in
     let known = (saw.seen clean).known (tables_of naming book) ready.kept.holds in
-    let read = known.1 ∙ ap (λ (some : List StoredLine). lines_stored number
+    let read = known.1 ∙ ap (λ (some : List StoredLine). lines_stored
     (tables_of naming book).records some) c.deref.ensures.value in
     let rise = own_rise ready number there c.in_ok-found.found.items c.in_ok-lines.lines.items
     known.0 read in
