@@ -54,6 +54,12 @@ pub caused_memory : (old new : State) (error : StoreError) → error ≡ OutOfMe
 caused_memory old new error is =
     caused_by_memory old.view (MoreFaults old.faults new.faults) error is
 
+-- what is said of an error where the disk is clean may be said of the error alone
+pub err_when : {A Clean : Type 0} (Said : StoreError → Type 0) (result : Result A StoreError)
+    → (Clean → IfErr result Said) → IfErr result (λ error. Clean → Said error)
+err_when Said (Ok answer) said = tt
+err_when Said (Err error) said = said
+
 -- what is said of an error may be said in other words
 pub err_so : {A : Type 0} {One Other : StoreError → Type 0} (result : Result A StoreError)
     → IfErr result One → ((error : StoreError) → One error → Other error) → IfErr result Other

@@ -167,6 +167,7 @@ impl<S: Store> TreeTables<S> {
 
     /// The names of the first two of the records that have an identity, in their order: more are
     /// not looked at, however many there are, and no record is read.
+    #[tactic(auto, using(crate::proofs::Looking::caused_memory))]
     pub fn names_sharing(
         &mut self,
         alloc: Global,
@@ -174,6 +175,7 @@ impl<S: Store> TreeTables<S> {
     ) -> Result<Vec<FoundName>, StoreError>
         ensures looks { Looks result (state_of self.old) (state_of self.new)
             (λ tables names. NamesSharing identity.now tables names.items) }
+        ensures cause { FailsByStore result (state_of self.old) (state_of self.new) RecordsFit }
     {
         bytes_key(&mut self.key, identity)?;
         list_first(
@@ -190,6 +192,7 @@ impl<S: Store> TreeTables<S> {
     pub fn count_sharing(&mut self, alloc: Global, identity: &[u8]) -> Result<usize, StoreError>
         ensures looks { Looks result (state_of self.old) (state_of self.new)
             (CountsSharing identity.now) }
+        ensures cause { FailsByStore result (state_of self.old) (state_of self.new) RecordsFit }
     {
         let names = self.names_sharing(alloc, identity)?;
         Ok(names.len())

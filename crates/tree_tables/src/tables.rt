@@ -26,12 +26,13 @@ pub struct TreeTables<S: Store> {
 }
 
 impl<S: Store> TreeTables<S> {
-    ghost use Rattle.std.specs.Prelude.{◌≡◌, OnErr, OnOk};
+    ghost use Rattle.std.specs.Prelude.{◌≡◌, IfErr, OnErr, OnOk};
     ghost use Rattle.sqlite_trees.specs.View.{Commits, IsClean};
     ghost use Rattle.tree_rows.specs.Calls.{IsSorted};
     ghost use Rattle.tree_tables.specs.Holds.{HasShapes};
     ghost use Rattle.tree_tables.specs.States.{Survives, state_of};
-    ghost use Rattle.tree_tables.specs.Steps.{FailsToRead, IsUndone, MayCommit, ReadsTree};
+    ghost use Rattle.tree_tables.specs.Steps.{FailsToRead, IsCaused, IsUndone, MayCommit};
+    ghost use Rattle.tree_tables.specs.Steps.{ReadsTree};
 
     /// The tables in a store that has their trees.
     pub fn over(alloc: Global, store: S) -> TreeTables<S>
@@ -77,6 +78,10 @@ impl<S: Store> TreeTables<S> {
             → Commits (S.Store.view self.old.store) (S.Store.view self.new.store)) }
         ensures refused { OnErr result (IsClean (S.Store.view self.new.store)
             → IsUndone (S.Store.view self.old.store) (S.Store.view self.new.store)) }
+
+        // One that fails has a cause in the store.
+        ensures cause { IfErr result (λ error. IsClean (S.Store.view self.new.store)
+            → IsCaused (state_of self.old) (state_of self.new) error) }
         ensures survives { Survives (state_of self.old) (state_of self.new)
             (MayCommit (S.Store.view self.old.store)) }
     {

@@ -7,9 +7,9 @@ use Rattle.tree_tables.proofs.line_rows.line_of.Goals as goal
 -- its fields are those of the row
 pub returns-clause-read : goal.returns-clause-read
 returns-clause-read c = λ entry is.
-    let data = c.in_ok-data.ensures.read entry is in
+    let held = c.in_ok-data.ensures.read entry is in
     let bytes = c.of_usage-usage.ensures ∙ c.as_slice.ensures.value
-    ∙ c.in_ok-put_usage.ensures.bytes ∙ ap record_with data in
+    ∙ c.in_ok-put_usage.ensures.bytes ∙ ap record_with held in
     let job = c.copied.ensures ∙ c.job.ensures.value ∙ ap job_of bytes in
     let cost = c.in_ok-priced.ensures.read entry is in
     λ i. record {
