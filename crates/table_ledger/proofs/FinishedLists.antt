@@ -18,7 +18,7 @@ use Rattle.table_ledger.proofs.OwnBooks.{cause_told}
 use Rattle.table_ledger.proofs.SurvivalLemmas.{clean_before}
 
 -- two faults that are answered are equal
-same_fault : {V : Type 0} (result : Result V LedgerFault) (one other : LedgerFault)
+pub same_fault : {V : Type 0} (result : Result V LedgerFault) (one other : LedgerFault)
     → result ≡ Err one → result ≡ Err other → one ≡ other
 same_fault result one other is too =
     let both : Err one ≡ Err other = sym is ∙ too in cc

@@ -54,6 +54,7 @@ mod BookRows
 mod BookLists
 mod RulingReads
 mod FinishedLists
+mod IdleCalls
 mod TraceLemmas
 mod ChosenOrder
 mod TrailTries

@@ -24,6 +24,7 @@ use Rattle.table_model.specs.TablesOf.{tables_of}
 use Rattle.table_model.proofs.LateRows.{amount_is_read, late_counted}
 use Rattle.table_model.proofs.RulingLemmas.{terms_follow}
 use Rattle.table_model.specs.Readable.{IsReadable}
+use Rattle.table_ledger.specs.IdleCalls.{NeedsNoPrices}
 use Rattle.table_ledger.specs.Repricing.{CanBeSummed, CostUnder, CountsRecords, TakesTariff}
 use Rattle.table_ledger.specs.Stages.{IsAt}
 use Rattle.table_ledger.specs.declared.summary.Summary.{Summary}
@@ -98,6 +99,18 @@ module _ (summary : Summary) (text : List ℕ) (terms : Terms) where
       -- so it is Full if there is no room
       pub tariff_full : Found None → (tariff_outcome text book).answer ≡ Err Full
       tariff_full known = decided true (no_room cost (known can_be).cost)
+
+      -- so what the records cost is needed
+      pub tariff_moves : NeedsNoPrices text book → ⊥
+      tariff_moves idle = by much refl
+        where
+          by : (found : Bool) → much ≡ found → ⊥
+          by true is = idle.1 (decided true is)
+          by false is =
+              let is_done = decided false is in
+              let made : Some (RulingGiven (TariffAccepted (Some text) terms)) ≡ None =
+              sym (ap (if_done (said_by text (terms_in text))) is_done ∙ ap (said_by text) said)
+              ∙ idle.0 in cc
 
       -- A tariff that is answered Done is an event.
       pub tariff_is_event : (amount : ℕ) → Found (Some amount) → IsUtf8 text

@@ -65,17 +65,28 @@ impl<S: Store, N: Naming + Drop> Ledger for TableLedger<S, N> {
     ghost use Rattle.book_model.specs.Words.{ShowsDetail, next_detail_outcome};
     ghost use Rattle.book_model.specs.Words.{ShowsDispute, dispute_outcome, what_if_outcome};
     ghost use Rattle.book_model.specs.Words.{IsTrail, trail_outcome, trail_shown};
+    ghost use Rattle.book_model.specs.Words.{adopt_outcome, choose_outcome, close_outcome};
+    ghost use Rattle.book_model.specs.Words.{tariff_outcome};
     ghost use Rattle.book_core.specs.Calls.{IsCall};
     ghost use Rattle.book_core.specs.Submissions.{Takes, records_in};
     ghost use Rattle.book_core.specs.Transition.{IsTransition};
     ghost use Rattle.table_ledger.specs.Attempts.{IsNoRecord, IsWhatIfRefusal};
+    ghost use Rattle.table_ledger.specs.IdleCalls.{FailsByDisk, LeavesBook, NeedsNoPrices};
     ghost use Rattle.table_ledger.specs.Loaded.{FailsAsItsOwn, FailsBut};
     ghost use Rattle.table_ledger.specs.LedgerState.{seen_in, ledger_state};
     ghost use Rattle.table_ledger.specs.ReadyBooks.{settled_on};
 
     ghost seen = { seen_in N.name_of };
 
-    fn tariff(&mut self, text: &str) -> Result<Ruled, LedgerFault> {
+    fn tariff(&mut self, text: &str) -> Result<Ruled, LedgerFault>
+        ensures call { IsCall (λ ruled. ruled) (seen_in N.name_of self.old)
+            (seen_in N.name_of self.new) result (tariff_outcome text.now) }
+
+        // One that is in force already, or is refused for another reason than what the records
+        // would cost under it, is answered by a fault of the store only if the disk fails.
+        ensures own { FailsByDisk (NeedsNoPrices text.now) result (ledger_state N.name_of self.old)
+            (ledger_state N.name_of self.new) }
+    {
         if self.must_reopen {
             return Err(LedgerFault::Reopen);
         }
@@ -83,7 +94,15 @@ impl<S: Store, N: Naming + Drop> Ledger for TableLedger<S, N> {
         finish(&mut self.tables, &mut self.must_reopen, tried)
     }
 
-    fn close(&mut self, period: u16, through: i32) -> Result<Ruled, LedgerFault> {
+    fn close(&mut self, period: u16, through: i32) -> Result<Ruled, LedgerFault>
+        requires { IsDay through }
+        ensures call { IsCall (λ ruled. ruled) (seen_in N.name_of self.old)
+            (seen_in N.name_of self.new) result (close_outcome period through) }
+
+        // One that is refused, or was made already, is such a fault only if the disk fails.
+        ensures own { FailsByDisk (LeavesBook (close_outcome period through)) result
+            (ledger_state N.name_of self.old) (ledger_state N.name_of self.new) }
+    {
         if self.must_reopen {
             return Err(LedgerFault::Reopen);
         }
@@ -96,7 +115,13 @@ impl<S: Store, N: Naming + Drop> Ledger for TableLedger<S, N> {
         finish(&mut self.tables, &mut self.must_reopen, tried)
     }
 
-    fn choose(&mut self, name: [u8; 32]) -> Result<Ruled, LedgerFault> {
+    fn choose(&mut self, name: [u8; 32]) -> Result<Ruled, LedgerFault>
+        ensures call { IsCall (λ ruled. ruled) (seen_in N.name_of self.old)
+            (seen_in N.name_of self.new) result
+            (choose_outcome (N.name_of self.old.naming) name) }
+        ensures own { FailsByDisk (LeavesBook (choose_outcome (N.name_of self.old.naming) name))
+            result (ledger_state N.name_of self.old) (ledger_state N.name_of self.new) }
+    {
         if self.must_reopen {
             return Err(LedgerFault::Reopen);
         }
@@ -104,7 +129,12 @@ impl<S: Store, N: Naming + Drop> Ledger for TableLedger<S, N> {
         finish(&mut self.tables, &mut self.must_reopen, tried)
     }
 
-    fn adopt_identity(&mut self, rule: u8) -> Result<Ruled, LedgerFault> {
+    fn adopt_identity(&mut self, rule: u8) -> Result<Ruled, LedgerFault>
+        ensures call { IsCall (λ ruled. ruled) (seen_in N.name_of self.old)
+            (seen_in N.name_of self.new) result (adopt_outcome rule) }
+        ensures own { FailsByDisk (LeavesBook (adopt_outcome rule)) result
+            (ledger_state N.name_of self.old) (ledger_state N.name_of self.new) }
+    {
         if self.must_reopen {
             return Err(LedgerFault::Reopen);
         }
