@@ -1,19 +1,23 @@
 -- The sums in the row of the book, which are written once, after the records that change them.
-use Rattle.std.proofs.Common.{◌≡◌, ℕ, List, Result, Ok, Err, refl, sym, subst}
+use Rattle.std.proofs.Common.{◌≡◌, ◌∙◌, ℕ, List, [], Result, Ok, Err, inl, inr, ap, refl, sym}
+use Rattle.std.proofs.Common.{subst}
 use Rattle.std.specs.Prelude.{IsErr}
 use Rattle.sqlite_trees.specs.View.{View}
 use Rattle.sqlite_trees.specs.declared.error.StoreError.{StoreError}
 use Rattle.book_model.specs.declared.fault.LedgerFault.{LedgerFault}
-use Rattle.book_model.specs.Words.{Book, Event, Naming}
+use Rattle.book_core.specs.Calls.{listed}
+use Rattle.book_model.specs.Words.{Book, Event, Naming, Outcome, after_all}
 use Rattle.table_model.specs.Steps.{set_sums}
 use Rattle.table_model.specs.Tables.{Tables}
 use Rattle.table_model.specs.TablesOf.{tables_of}
 use Rattle.tree_tables.specs.Holds.{Holds}
-use Rattle.tree_tables.specs.States.{State}
+use Rattle.tree_tables.specs.States.{HasCleanDisk, State}
 use Rattle.tree_tables.specs.Steps.{Changes, Does}
 use Rattle.tree_tables.proofs.Looking.{kept_last, only_both}
+use Rattle.table_ledger.specs.IdleCalls.{LeavesBook}
 use Rattle.table_ledger.specs.Premises.{HaveSums}
-use Rattle.table_ledger.specs.Stages.{IsAt, IsAtAs, StagesBy}
+use Rattle.table_ledger.specs.Ready.{Remembers}
+use Rattle.table_ledger.specs.Stages.{IsAt, IsAtAs, LeavesOne, StagesBy}
 use Rattle.table_ledger.specs.declared.summary.Summary.{Summary}
 use Rattle.table_ledger.proofs.Remembered.{remembers_as}
 use Rattle.table_ledger.proofs.StageLemmas.{unstaged}
@@ -58,6 +62,24 @@ sums_written {naming = naming} {is = is} {middle = middle} {new = new} {book = b
   };
   remembers = at.remembers;
 }
+
+-- where a call leaves the book as it is, the sums that are remembered stay
+pub sums_stay : {V A : Type 0} {Made : Result V LedgerFault → Book → List Event → Type 0}
+    {outcome : Book → Outcome A} {naming : Naming} {was is : Summary} {old middle : State}
+    {answer : Result V LedgerFault}
+    → StagesBy (set_sums was.held was.total) (λ answer. answer) Made (LeavesOne outcome) naming was
+    (λ summary. summary ≡ is) old middle (Ok answer)
+    → HasCleanDisk middle → (book : Book) → IsAt naming was old.view book → LeavesBook outcome book
+    → (is.held ≡ was.held) × (is.total ≡ was.total)
+sums_stay {is = is} stages clean book at idle =
+    let staged = stages.found clean book (sums_remembered at) in
+    let none : staged.events ≡ [] = elim staged.leaves [
+      | inl none ↦ none
+      | inr event ↦ event ∙ ap listed idle
+    ] in
+    let same : Remembers is book =
+    subst (λ events. Remembers is (after_all events book)) none (staged.remembers is refl) in
+    (same.held ∙ sym at.remembers.held, same.total ∙ sym at.remembers.total)
 
 -- ---- what is staged before the sums are written
 

@@ -10,9 +10,11 @@ ghost use Rattle.book_core.specs.Submissions.{records_in};
 ghost use Rattle.table_model.specs.Steps.{count_where_row, set_sums};
 ghost use Rattle.tree_tables.specs.Steps.{Does};
 ghost use Rattle.tree_tables.specs.Stored.{IsFree, IsUncounted, new_entry};
+ghost use Rattle.table_ledger.specs.IdleCalls.{FailsIdle, LeavesBook};
 ghost use Rattle.table_ledger.specs.Premises.{AreRemembered};
-ghost use Rattle.table_ledger.specs.Stages.{AttemptsMany, AttemptsOne, KeepsRulings, Stages};
-ghost use Rattle.table_ledger.specs.Stages.{StagesFirst, StagesMany, StagesRecord, staged_at};
+ghost use Rattle.table_ledger.specs.Stages.{AttemptsMany, AttemptsOne, KeepsRulings};
+ghost use Rattle.table_ledger.specs.Stages.{Stages, StagesFirst, StagesMany};
+ghost use Rattle.table_ledger.specs.Stages.{StagesRecord, staged_at};
 
 use crate::commits::{commit_written, write_effects, write_sums};
 use crate::disputes::IDENTITY_LENGTH;
@@ -115,6 +117,8 @@ fn stage_one<S: Store, N: Naming>(
     requires usage { IsUsageRecord bytes.now }
     ensures stages { StagesRecord (N.name_of naming.now) bytes.now summary.old summary.new
         (state_of tables.old) (state_of tables.new) result }
+    ensures own { FailsIdle (LeavesBook (accept_outcome (N.name_of naming.now) bytes.now))
+        (N.name_of naming.now) summary.old (state_of tables.old) (state_of tables.new) result }
     ensures ruled { KeepsRulings summary.old summary.new }
 {
     let name = name_of(naming, bytes);
@@ -147,6 +151,8 @@ fn stage_record<S: Store, N: Naming>(
     ensures stages { Stages (λ accepted. accepted) (N.name_of naming.now) summary.old summary.new
         (state_of tables.old) (state_of tables.new)
         (accept_outcome (N.name_of naming.now) bytes.now) result }
+    ensures own { FailsIdle (LeavesBook (accept_outcome (N.name_of naming.now) bytes.now))
+        (N.name_of naming.now) summary.old (state_of tables.old) (state_of tables.new) result }
     ensures ruled { KeepsRulings summary.old summary.new }
 {
     let (held, total) = (summary.held, summary.total);
@@ -252,6 +258,8 @@ pub(crate) fn try_accept<S: Store, N: Naming>(
     ensures tries { AttemptsOne (λ accepted. accepted) (N.name_of naming.now) summary.old
         summary.new (state_of tables.old) (state_of tables.new)
         (accept_outcome (N.name_of naming.now) bytes.now) result }
+    ensures own { FailsIdle (LeavesBook (accept_outcome (N.name_of naming.now) bytes.now))
+        (N.name_of naming.now) summary.old (state_of tables.old) (state_of tables.new) result }
 {
     let held = summary.held;
     let total = summary.total;

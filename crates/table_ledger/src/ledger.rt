@@ -65,8 +65,8 @@ impl<S: Store, N: Naming + Drop> Ledger for TableLedger<S, N> {
     ghost use Rattle.book_model.specs.Words.{ShowsDetail, next_detail_outcome};
     ghost use Rattle.book_model.specs.Words.{ShowsDispute, dispute_outcome, what_if_outcome};
     ghost use Rattle.book_model.specs.Words.{IsTrail, trail_outcome, trail_shown};
-    ghost use Rattle.book_model.specs.Words.{adopt_outcome, choose_outcome, close_outcome};
-    ghost use Rattle.book_model.specs.Words.{tariff_outcome};
+    ghost use Rattle.book_model.specs.Words.{accept_outcome, adopt_outcome, choose_outcome};
+    ghost use Rattle.book_model.specs.Words.{close_outcome, tariff_outcome};
     ghost use Rattle.book_core.specs.Calls.{IsCall};
     ghost use Rattle.book_core.specs.Submissions.{Takes, records_in};
     ghost use Rattle.book_core.specs.Transition.{IsTransition};
@@ -142,7 +142,17 @@ impl<S: Store, N: Naming + Drop> Ledger for TableLedger<S, N> {
         finish(&mut self.tables, &mut self.must_reopen, tried)
     }
 
-    fn accept(&mut self, bytes: &[u8]) -> Result<Accepted, LedgerFault> {
+    fn accept(&mut self, bytes: &[u8]) -> Result<Accepted, LedgerFault>
+        requires { IsUsageRecord bytes.now }
+        ensures call { IsCall (λ accepted. accepted) (seen_in N.name_of self.old)
+            (seen_in N.name_of self.new) result
+            (accept_outcome (N.name_of self.old.naming) bytes.now) }
+
+        // A record that is not kept is answered by a fault of the store only if the disk fails.
+        ensures own { FailsByDisk
+            (LeavesBook (accept_outcome (N.name_of self.old.naming) bytes.now)) result
+            (ledger_state N.name_of self.old) (ledger_state N.name_of self.new) }
+    {
         if self.must_reopen {
             return Err(LedgerFault::Reopen);
         }
