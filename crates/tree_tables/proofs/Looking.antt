@@ -4,10 +4,11 @@ use Rattle.std.proofs.Common.{ap, subst, true≢false, arith}
 use Rattle.std.specs.Prelude.{IfErr, IsErr, IsErrAnd, IfOk, OnErr, OnOk}
 use Rattle.sqlite_disk.specs.Disk.{MoreFaults}
 use Rattle.sqlite_trees.specs.Tree.{Trees}
-use Rattle.sqlite_trees.specs.View.{View, IsClean, IsFailure, KeepsCommitted, OnlyWrites}
+use Rattle.sqlite_trees.specs.View.{View, HasCause, IsClean, IsFailure, KeepsCommitted, OnlyWrites}
 use Rattle.sqlite_value.specs.Order.{Row}
 use Rattle.sqlite_trees.specs.declared.error.StoreError.{StoreError}
-use Rattle.sqlite_trees.specs.declared.error.StoreError.TheVariants.{OutOfMemory}
+use Rattle.sqlite_trees.specs.declared.error.StoreError.TheVariants.{Broken, Corrupt, Full, Io}
+use Rattle.sqlite_trees.specs.declared.error.StoreError.TheVariants.{OutOfMemory, Unstorable}
 use Rattle.sqlite_trees.specs.declared.store.Store.{Ghosts}
 use Rattle.table_model.specs.Tables.{Tables}
 use Rattle.tree_rows.specs.Rows.{Finds, IsUnchanged, Rewrites}
@@ -59,6 +60,23 @@ pub err_when : {A Clean : Type 0} (Said : StoreError → Type 0) (result : Resul
     → (Clean → IfErr result Said) → IfErr result (λ error. Clean → Said error)
 err_when Said (Ok answer) said = tt
 err_when Said (Err error) said = said
+
+-- a row that can be stored is refused for a cause of the store alone
+stored_caused : (old : View) (fault Refused : Type 0) (e : StoreError) → (Refused → ⊥)
+    → HasCause old fault Refused e → HasCause old fault ⊥ e
+stored_caused old fault Refused OutOfMemory can cause = cause
+stored_caused old fault Refused Io can cause = cause
+stored_caused old fault Refused Corrupt can cause = cause
+stored_caused old fault Refused Full can cause = cause
+stored_caused old fault Refused Broken can cause = cause
+stored_caused old fault Refused Unstorable can cause = can cause
+
+pub err_stored : {A Clean When : Type 0} (old : View) (fault Refused : Type 0)
+    (result : Result A StoreError) → (Clean → IfErr result (HasCause old fault Refused))
+    → (When → Refused → ⊥) → IfErr result (λ error. Clean → When → HasCause old fault ⊥ error)
+err_stored old fault Refused (Ok answer) cause can = tt
+err_stored old fault Refused (Err error) cause can =
+    λ clean when. stored_caused old fault Refused error (can when) (cause clean)
 
 -- what is said of an error may be said in other words
 pub err_so : {A : Type 0} {One Other : StoreError → Type 0} (result : Result A StoreError)

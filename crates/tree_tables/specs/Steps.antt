@@ -96,6 +96,10 @@ pub record Makes {T : Type 0} (result : Result T StoreError) (old new : State) :
       × (HasNoRows old.view.trees → Holds new.view.trees new_tables))
   pub refused : HasCleanDisk new → OnErr result (KeepsCommitted old.view new.view)
 
+-- no column of a tree has the type REAL, which whole numbers cannot be stored under
+abbrev pub HasNoReals : View → ℕ → Type 0
+HasNoReals view tree = view.reals tree ≡ 0
+
 -- the last commit stays, as long as the store is open
 pub record KeepsLastCommit (old new : View) : Type 0 where
   pub was_open : IsTrue new.is_open → IsTrue old.is_open

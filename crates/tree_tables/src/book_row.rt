@@ -58,7 +58,8 @@ fn book_row(row: &mut Row, book: &StoredBook) -> Result<(), StoreError>
     requires adopted { book.now.adopted < 2 ^ 63 }
     requires held { book.now.held < 2 ^ 63 }
     requires amount { book.now.amount < 2 ^ 63 }
-    ensures { OnOk result (row.new ≡ book_columns (book_entry book.now)) }
+    ensures made { OnOk result (row.new ≡ book_columns (book_entry book.now)) }
+    ensures memory { IfErr result (λ error. error ≡ StoreError.OutOfMemory) }
 {
     make_row(
         row,
@@ -121,13 +122,13 @@ fn with_rule(book: &StoredBook, rule: u64, period: u16) -> StoredBook
 }
 
 impl<S: Store> TreeTables<S> {
-    ghost use Rattle.std.specs.Prelude.{◌≡◌, ◌<◌, ◌^◌, is_some, IfOk};
+    ghost use Rattle.std.specs.Prelude.{◌≡◌, ◌<◌, ◌^◌, is_some, IfErr, IfOk};
     ghost use Rattle.table_model.specs.Steps as step;
     ghost use Rattle.tree_tables.specs.Answers.{FindsBook};
     ghost use Rattle.tree_tables.specs.Holds.{has_book};
     ghost use Rattle.tree_tables.specs.States.{HasCleanDisk, state_of};
     ghost use Rattle.tree_tables.specs.Steps.{Always, Does, FailsByStore, FailsWithoutBook, Looks};
-    ghost use Rattle.tree_tables.specs.Steps.{Makes};
+    ghost use Rattle.tree_tables.specs.Steps.{HasNoReals, IsCaused, Makes};
 
     /// The row of the book, if it is there.
     #[tactic(auto, using(crate::proofs::Looking::caused_memory))]
@@ -148,8 +149,14 @@ impl<S: Store> TreeTables<S> {
     }
 
     /// The row of new books joins trees that have no rows.
+    #[tactic(auto, using(crate::proofs::Looking::caused_memory))]
     pub fn make_book(&mut self) -> Result<(), StoreError>
         ensures makes { Makes result (state_of self.old) (state_of self.new) }
+
+        // Where no column is made for real numbers, it can be stored.
+        ensures cause { IfErr result (λ error. HasCleanDisk (state_of self.new)
+            → HasNoReals (state_of self.old).view 0
+            → IsCaused (state_of self.old) (state_of self.new) error) }
     {
         let book = StoredBook {
             rule: FIRST_RULE,

@@ -213,7 +213,8 @@ pub fn name_at(row: &Row, at: usize) -> Result<Name, StoreError>
 
 /// Values join a row.
 pub(crate) fn push_all(row: &mut Row, values: &[ValueRef<'_>]) -> Result<(), StoreError>
-    ensures { OnOk result (row.new ≡ row.old ++ map owned values.now) }
+    ensures made { OnOk result (row.new ≡ row.old ++ map owned values.now) }
+    ensures memory { IfErr result (λ error. error ≡ StoreError.OutOfMemory) }
 {
     for value in values {
         row.push(*value)?;
@@ -223,7 +224,8 @@ pub(crate) fn push_all(row: &mut Row, values: &[ValueRef<'_>]) -> Result<(), Sto
 
 /// Makes a row of values.
 pub(crate) fn make_row(row: &mut Row, values: &[ValueRef<'_>]) -> Result<(), StoreError>
-    ensures { OnOk result (row.new ≡ map owned values.now) }
+    ensures made { OnOk result (row.new ≡ map owned values.now) }
+    ensures memory { IfErr result (λ error. error ≡ StoreError.OutOfMemory) }
 {
     row.clear();
     push_all(row, values)

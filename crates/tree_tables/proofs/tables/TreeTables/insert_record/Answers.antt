@@ -23,10 +23,10 @@ returns g c = record {
       let before = clean_before ghosts c.add_row-3.ensures.quiet clean in
       let entry = new_entry c.args.kept.now in
       let mark_is : c.make_row-2.new.row ≡ mark_columns (mark_key entry, tt) =
-      c.in_ok-make_row-2.ensures
+      c.in_ok-make_row-2.ensures.made
       ∙ ap (λ value. value ∷ Blob entry.1.identity ∷ Blob entry.0 ∷ []) c.mark_value.ensures in
       record_added entry.0 entry.1
       (c.in_ok-add_row.ensures.done (clean_before ghosts second before))
       (c.in_ok-add_row-2.ensures.done before) rewritten c.in_ok-record_row.ensures
-      c.in_ok-make_row.ensures mark_is holds new);
+      c.in_ok-make_row.ensures.made mark_is holds new);
 }

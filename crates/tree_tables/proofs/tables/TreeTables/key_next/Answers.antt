@@ -13,7 +13,7 @@ returns-then-branch-clause-keys g c clean =
     keys_kept old (g.S.Store.view c.find_row.new.store) c.args.last.now c.first_past.new.row
     (unchanged_both old first (c.in_ok-find_row.ensures.same clean)) c.make_row.new.row
     (rw c.if-not-branch.false at (c.in_ok-first_past.ensures.found before))
-    (c.in_ok-make_row.ensures ∙ (λ i. c.get.ensures i ∷ c.get-2.ensures i ∷ []))
+    (c.in_ok-make_row.ensures.made ∙ (λ i. c.get.ensures i ∷ c.get-2.ensures i ∷ []))
     c.in_ok-column_key.ensures
     (found_before old 3 first (c.in_ok-find_row.ensures.found clean))
     c.if-not-branch-2.false
@@ -29,7 +29,7 @@ returns-clause-keys g c clean =
     keys_one old (g.S.Store.view c.find_row.new.store) c.args.last.now c.first_past.new.row
     (unchanged_both old first (c.in_ok-find_row.ensures.same after)) c.make_row.new.row
     (rw c.if-not-branch.false at (c.in_ok-first_past.ensures.found before))
-    (c.in_ok-make_row.ensures ∙ (λ i. c.get.ensures i ∷ c.get-2.ensures i ∷ []))
+    (c.in_ok-make_row.ensures.made ∙ (λ i. c.get.ensures i ∷ c.get-2.ensures i ∷ []))
     c.in_ok-column_key.ensures
     (found_before old 3 first (c.in_ok-find_row.ensures.found after))
     c.if-not-branch-2.false (g.S.Store.view c.key_record.new.self.store)

@@ -14,7 +14,7 @@ returns g c =
           c.in_ok-number_key.ensures.made c.change_row.ensures.quiet c.change_row.ensures.kept
           c.change_row.ensures.done c.in_ok-read_book.ensures.rule
           c.in_ok-read_book.ensures.adopted c.in_ok-read_book.ensures.held
-          c.in_ok-read_book.ensures.amount c.in_ok-book_row.ensures
+          c.in_ok-read_book.ensures.amount c.in_ok-book_row.ensures.made
           (λ book is i. record {
             rule = made.rule i;
             adopted = made.adopted i;
