@@ -48,6 +48,7 @@ mod DetailCosts
 mod PostedDetails
 mod DetailsRead
 mod OpenLemmas
+mod MakingBooks
 mod LoadLemmas
 mod OwnBooks
 mod BookRows
