@@ -38,16 +38,16 @@ moves_book is idle = let made : Some is.event ≡ None = sym is.is ∙ idle in c
 
 -- a look that fails after others has a cause in the store
 pub idle_failed : {T B : Type 0} {naming : Naming} {was : Summary} {old middle new : State}
-    {Idle : Book → Type 0} {Known When : Tables → Type 0} {Answers : Tables → B → Type 0}
-    {error : StoreError} (result : Result T StoreError)
+    {Known When : Tables → Type 0} {Answers : Tables → B → Type 0} {error : StoreError}
+    (Idle : Book → Type 0) (result : Result T StoreError)
     → IsErrAnd result (λ other. other ≡ error) → Saw old middle Known
     → Looks {A = B} (Err error) middle new Answers
     → (HasCleanDisk new → (tables : Tables) → Holds middle.view.trees tables → When tables
     → IsCaused middle new error)
     → ((book : Book) → IsAt naming was old.view book → When (tables_of naming book))
     → FailsIdle Idle naming was old new result
-idle_failed (Ok answer) is saw looks cause when = tt
-idle_failed {T = T} {naming = naming} {When = When} {Answers = Answers} (Err other) is saw looks cause when =
+idle_failed Idle (Ok answer) is saw looks cause when = tt
+idle_failed {T = T} {naming = naming} {When = When} {Answers = Answers} Idle (Err other) is saw looks cause when =
     λ clean book at idle. fails_after_look {A = T} {When = When} {Answers = Answers} (Err other)
     is saw looks cause clean (tables_of naming book) at.kept.holds (when book at)
 
@@ -55,20 +55,20 @@ idle_failed {T = T} {naming = naming} {When = When} {Answers = Answers} (Err oth
 pub idle_uncommitted : {S V T : Type 0} {answered : T → Result V LedgerFault}
     {Made : Result V LedgerFault → Book → List Event → Type 0}
     {Leaves : Book → List Event → Type 0} {naming : Naming} {was : Summary}
-    {Is : Summary → Type 0} {first : State} {Idle : Book → Type 0} {error : StoreError}
-    (ghosts : Ghosts S) {middle last : S} (written : Result T StoreError)
+    {Is : Summary → Type 0} {first : State} {error : StoreError} (ghosts : Ghosts S)
+    {middle last : S} (Idle : Book → Type 0) (written : Result T StoreError)
     → StagesBy (λ tables. tables) answered Made Leaves naming was Is first (state ghosts middle)
     written
     → FailsIdle Idle naming was first (state ghosts middle) written
     → CommitsWritten ghosts written (Err error) middle last
     → HasCleanDisk (state ghosts last) → (book : Book) → IsAt naming was first.view book → Idle book
     → IsCaused first (state ghosts last) error
-idle_uncommitted {first = first} {error = error} ghosts {middle} {last} (Ok value) stages fails commits clean book at idle =
+idle_uncommitted {first = first} {error = error} ghosts {middle} {last} Idle (Ok value) stages fails commits clean book at idle =
     let staged = stages.found (clean_before commits.survives clean) book at in
     caused_since first.view (ghosts.view middle) first.faults (ghosts.faults middle)
     (ghosts.faults last) error (ap (λ (v : View). v.is_broken) staged.only) stages.survives.counts
     (commits.cause clean)
-idle_uncommitted {S = S} {first = first} {error = error} ghosts {middle} {last} (Err stopped) stages fails commits clean book at idle =
+idle_uncommitted {S = S} {first = first} {error = error} ghosts {middle} {last} Idle (Err stopped) stages fails commits clean book at idle =
     let before : HasCleanDisk (state ghosts middle) = clean_before commits.survives clean in
     subst (λ (store : S). IsCaused first (state ghosts store) error) (sym commits.left.1)
     (subst (IsCaused first (state ghosts middle)) (sym commits.passed) (fails before book at idle))
@@ -77,7 +77,7 @@ idle_uncommitted {S = S} {first = first} {error = error} ghosts {middle} {last} 
 pub idle_settled : {S V : Type 0} {Made : Result V LedgerFault → Book → List Event → Type 0}
     {Leaves : Book → List Event → Type 0} {naming : Naming} {was is : Summary} {middle last : S}
     {before flag : Bool} {tried : Result (Result V LedgerFault) StoreError}
-    {result : Result V LedgerFault} {Idle : Book → Type 0} (ghosts : Ghosts S) (first : S)
+    {result : Result V LedgerFault} (Idle : Book → Type 0) (ghosts : Ghosts S) (first : S)
     → before ≡ false → Finishes ghosts middle last before flag tried result
     → AttemptsBy Made Leaves naming was is (state ghosts first) (state ghosts middle) tried
     → FailsIdle Idle naming was (state ghosts first) (state ghosts middle) tried
@@ -87,10 +87,10 @@ pub idle_settled : {S V : Type 0} {Made : Result V LedgerFault → Book → List
     → (ghosts.view last).is_broken ≡ false)
     → FailsByDisk Idle result (state_on ghosts naming first before was)
     (state_on ghosts naming last flag is)
-idle_settled {tried = Ok answer} ghosts first is_open settles tries fails served mended =
+idle_settled {tried = Ok answer} Idle ghosts first is_open settles tries fails served mended =
     λ blamed clean books idle.
     absurd (true≢false (sym blamed ∙ ap is_store settles.ends.0 ∙ tries.plain.stored))
-idle_settled {middle = middle} {last = last} {tried = Err error} {result = result} {Idle = Idle} ghosts first is_open settles tries fails served mended =
+idle_settled {middle = middle} {last = last} {tried = Err error} {result = result} Idle ghosts first is_open settles tries fails served mended =
     λ blamed clean books idle.
     elim settles.ends [
       | inl wanting ↦ absurd (true≢false (sym blamed ∙ ap is_store wanting.0))

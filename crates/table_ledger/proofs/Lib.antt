@@ -56,6 +56,7 @@ mod BookLists
 mod RulingReads
 mod FinishedLists
 mod IdleCalls
+mod IdleRecords
 mod TraceLemmas
 mod ChosenOrder
 mod TrailTries

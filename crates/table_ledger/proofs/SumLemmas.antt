@@ -65,13 +65,13 @@ sums_written {naming = naming} {is = is} {middle = middle} {new = new} {book = b
 
 -- where a call leaves the book as it is, the sums that are remembered stay
 pub sums_stay : {V A : Type 0} {Made : Result V LedgerFault → Book → List Event → Type 0}
-    {outcome : Book → Outcome A} {naming : Naming} {was is : Summary} {old middle : State}
-    {answer : Result V LedgerFault}
+    {naming : Naming} {was is : Summary} {old middle : State} {answer : Result V LedgerFault}
+    (outcome : Book → Outcome A)
     → StagesBy (set_sums was.held was.total) (λ answer. answer) Made (LeavesOne outcome) naming was
     (λ summary. summary ≡ is) old middle (Ok answer)
     → HasCleanDisk middle → (book : Book) → IsAt naming was old.view book → LeavesBook outcome book
     → (is.held ≡ was.held) × (is.total ≡ was.total)
-sums_stay {is = is} stages clean book at idle =
+sums_stay {is = is} outcome stages clean book at idle =
     let staged = stages.found clean book (sums_remembered at) in
     let none : staged.events ≡ [] = elim staged.leaves [
       | inl none ↦ none

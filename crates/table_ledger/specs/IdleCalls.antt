@@ -1,9 +1,10 @@
 -- Calls that leave the book as it is: only the disk is to blame where they are not answered.
-use Rattle.std.specs.Prelude.{◌≡◌, ◌≢◌, ℕ, true, List, None, Result, Err, IfErr}
+use Rattle.std.specs.Prelude.{◌≡◌, ◌≢◌, ℕ, All, true, List, None, Result, Err, IfErr, Vec}
+use Rattle.std.specs.Global.{Global}
 use Rattle.sqlite_disk.specs.Disk.{MoreFaults}
 use Rattle.sqlite_trees.specs.declared.error.StoreError.{StoreError}
 use Rattle.book_core.specs.Calls.{is_store}
-use Rattle.book_model.specs.Words.{Book, Naming, Outcome, tariff_outcome}
+use Rattle.book_model.specs.Words.{Book, Naming, Outcome, accept_outcome, tariff_outcome}
 use Rattle.book_model.specs.declared.fault.LedgerFault.{LedgerFault}
 use Rattle.book_model.specs.declared.fault.LedgerFault.TheVariants.{Full}
 use Rattle.tree_tables.specs.States.{HasCleanDisk, State}
@@ -20,6 +21,11 @@ LeavesBook outcome book = (outcome book).event ≡ None
 abbrev pub NeedsNoPrices : List ℕ → Book → Type 0
 NeedsNoPrices text book =
     LeavesBook (tariff_outcome text) book × ((tariff_outcome text book).answer ≢ Err Full)
+
+-- none of some records is kept
+abbrev pub LeavesEach : Naming → List (Vec ℕ Global) → Book → Type 0
+LeavesEach naming records book =
+    All (λ (one : Vec ℕ Global). LeavesBook (accept_outcome naming one.items) book) records
 
 -- where the book is such a one, what is staged, or tried, fails for a cause of the store alone
 abbrev pub FailsIdle : {T : Type 0} → (Book → Type 0) → Naming → Summary → State → State

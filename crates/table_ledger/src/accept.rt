@@ -10,11 +10,11 @@ ghost use Rattle.book_core.specs.Submissions.{records_in};
 ghost use Rattle.table_model.specs.Steps.{count_where_row, set_sums};
 ghost use Rattle.tree_tables.specs.Steps.{Does};
 ghost use Rattle.tree_tables.specs.Stored.{IsFree, IsUncounted, new_entry};
-ghost use Rattle.table_ledger.specs.IdleCalls.{FailsIdle, LeavesBook};
+ghost use Rattle.table_ledger.specs.IdleCalls.{FailsIdle, LeavesBook, LeavesEach};
 ghost use Rattle.table_ledger.specs.Premises.{AreRemembered};
 ghost use Rattle.table_ledger.specs.Stages.{AttemptsMany, AttemptsOne, KeepsRulings};
-ghost use Rattle.table_ledger.specs.Stages.{Stages, StagesFirst, StagesMany};
-ghost use Rattle.table_ledger.specs.Stages.{StagesRecord, staged_at};
+ghost use Rattle.table_ledger.specs.Stages.{Stages, StagesFirst};
+ghost use Rattle.table_ledger.specs.Stages.{StagesMany, StagesRecord, staged_at};
 
 use crate::commits::{commit_written, write_effects, write_sums};
 use crate::disputes::IDENTITY_LENGTH;
@@ -176,6 +176,8 @@ fn stage_each<S: Store, N: Naming>(
     ensures stages { StagesMany (set_sums summary.old.held summary.old.total) (N.name_of naming.now)
         (records_in records.now) summary.old summary.new (state_of tables.old) (state_of tables.new)
         answers.new.items result }
+    ensures own { FailsIdle (LeavesEach (N.name_of naming.now) records.now) (N.name_of naming.now)
+        summary.old (state_of tables.old) (state_of tables.new) result }
     ensures ruled { KeepsRulings summary.old summary.new }
     ensures all { IfOk result (λ told. told ≡ Ok tt
         → length answers.new.items ≡ length records.now) }
@@ -202,6 +204,8 @@ fn stage_many<S: Store, N: Naming>(
     requires usage { All (λ one. IsUsageRecord one.items) records.now }
     ensures stages { StagesFirst (N.name_of naming.now) (records_in records.now) summary.old
         summary.new (state_of tables.old) (state_of tables.new) result }
+    ensures own { FailsIdle (LeavesEach (N.name_of naming.now) records.now) (N.name_of naming.now)
+        summary.old (state_of tables.old) (state_of tables.new) result }
     ensures ruled { KeepsRulings summary.old summary.new }
     ensures some { IfOk result (λ answer. IfOk answer (λ answers. 0 < length answers.items)) }
 {
@@ -230,6 +234,8 @@ pub(crate) fn try_accept_many<S: Store, N: Naming>(
     requires usage { All (λ one. IsUsageRecord one.items) records.now }
     ensures tries { AttemptsMany (N.name_of naming.now) (records_in records.now) summary.old
         summary.new (state_of tables.old) (state_of tables.new) result }
+    ensures own { FailsIdle (LeavesEach (N.name_of naming.now) records.now) (N.name_of naming.now)
+        summary.old (state_of tables.old) (state_of tables.new) result }
     ensures some { IfOk result (λ answer. IfOk answer (λ answers. 0 < length answers.items)) }
 {
     let held = summary.held;

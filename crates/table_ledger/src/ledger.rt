@@ -71,7 +71,8 @@ impl<S: Store, N: Naming + Drop> Ledger for TableLedger<S, N> {
     ghost use Rattle.book_core.specs.Submissions.{Takes, records_in};
     ghost use Rattle.book_core.specs.Transition.{IsTransition};
     ghost use Rattle.table_ledger.specs.Attempts.{IsNoRecord, IsWhatIfRefusal};
-    ghost use Rattle.table_ledger.specs.IdleCalls.{FailsByDisk, LeavesBook, NeedsNoPrices};
+    ghost use Rattle.table_ledger.specs.IdleCalls.{FailsByDisk, LeavesBook, LeavesEach};
+    ghost use Rattle.table_ledger.specs.IdleCalls.{NeedsNoPrices};
     ghost use Rattle.table_ledger.specs.Loaded.{FailsAsItsOwn, FailsBut};
     ghost use Rattle.table_ledger.specs.LedgerState.{seen_in, ledger_state};
     ghost use Rattle.table_ledger.specs.ReadyBooks.{settled_on};
@@ -177,6 +178,8 @@ impl<S: Store, N: Naming + Drop> Ledger for TableLedger<S, N> {
         ensures few { IsTransition (seen_in N.name_of self.old) (seen_in N.name_of self.new)
             (Takes (N.name_of self.old.naming) (records_in (take most_in_commit records.now))
             result) }
+        ensures own { FailsByDisk (LeavesEach (N.name_of self.old.naming) records.now) result
+            (ledger_state N.name_of self.old) (ledger_state N.name_of self.new) }
     {
         if self.must_reopen {
             return Err(LedgerFault::Reopen);

@@ -3,6 +3,8 @@ use Rattle.table_model.specs.TablesOf.{tables_of}
 use Rattle.tree_tables.proofs.Looking.{any_err}
 use Rattle.table_ledger.proofs.AcceptTries.{accept_moves, price_is, saw_as, stage_full, stage_kept}
 use Rattle.table_ledger.proofs.AcceptTries.{stage_known, stage_unpriced}
+use Rattle.book_model.specs.Words.{accept_outcome}
+use Rattle.table_ledger.specs.IdleCalls.{LeavesBook}
 use Rattle.table_ledger.proofs.BookRows.{can_be_read}
 use Rattle.table_ledger.proofs.IdleCalls.{idle_failed}
 use Rattle.table_ledger.proofs.StageLemmas.{stage_undone}
@@ -15,7 +17,8 @@ use Rattle.table_ledger.proofs.accept.stage_one.Goals as goal
 pub returns-in_err-stored-clause-own : goal.returns-in_err-stored-clause-own
 returns-in_err-stored-clause-own g c =
     let naming = c.args.naming.now in
-    idle_failed _ c.from_residual.ensures.1 saw_none c.in_err-stored.ensures.looks
+    idle_failed (LeavesBook (accept_outcome (g.N.Naming.name_of naming) c.args.bytes.now)) _
+    c.from_residual.ensures.1 saw_none c.in_err-stored.ensures.looks
     c.in_err-stored.ensures.cause
     (λ book at. (can_be_read (g.N.Naming.name_of naming) book at.kept.readable
     (g.met.N.Naming.wide naming)).fit.each c.name_of-name.result)

@@ -1,3 +1,4 @@
+use Rattle.book_model.specs.Words.{accept_outcome}
 use Rattle.tree_tables.proofs.Looking.{any_err, err_on}
 use Rattle.table_ledger.proofs.SumLemmas.{sums_refused, sums_staged, sums_stay, sums_unreached}
 use Rattle.table_ledger.proofs.SurvivalLemmas.{clean_before}
@@ -25,7 +26,8 @@ pub returns-in_err-write_sums-clause-own : goal.returns-in_err-write_sums-clause
 returns-in_err-write_sums-clause-own g c =
     let was = c.args.summary.now in
     any_err c.from_residual-in_err-write_sums.result (λ error clean book at idle.
-    let same = sums_stay (c.in_ok-answer.ensures.stages was.held was.total)
+    let same = sums_stay (accept_outcome (g.N.Naming.name_of c.args.naming.now) c.args.bytes.now)
+    (c.in_ok-answer.ensures.stages was.held was.total)
     (clean_before c.in_err-write_sums.ensures.does.survives clean) book at idle in
     absurd (c.in_err-write_sums.ensures.other same.0 same.1))
 

@@ -17,5 +17,5 @@ returns-in-Err-clause-tries g c =
 -- why it was not committed
 pub returns-in-Err-clause-own : goal.returns-in-Err-clause-own
 returns-in-Err-clause-own g c =
-    idle_uncommitted g.S.Store _ c.stage_record-staged.ensures.stages
+    idle_uncommitted g.S.Store _ _ c.stage_record-staged.ensures.stages
     c.stage_record-staged.ensures.own c.in-Err.ensures

@@ -1,6 +1,6 @@
 use Rattle.std.proofs.Common.{◌∙◌, ap, refl, sym}
 use Rattle.std.specs.Prelude.{nat_le, ◌==◌}
-use Rattle.book_model.specs.Words.{if_done, most_choices, record_named}
+use Rattle.book_model.specs.Words.{choose_outcome, if_done, most_choices, record_named}
 use Rattle.book_core.proofs.RulingLemmas.{meant_by}
 use Rattle.tree_tables.proofs.Looking.{any_err}
 use Rattle.table_ledger.proofs.AcceptTries.{saw_as}
@@ -9,6 +9,7 @@ use Rattle.table_ledger.proofs.Answering.{ruled_other}
 use Rattle.table_ledger.proofs.BookRows.{can_be_read}
 use Rattle.table_ledger.proofs.ChoiceTries.{choice_plain, choose_none, choose_staged, choose_told}
 use Rattle.table_ledger.proofs.ChoiceTries.{saw_shared, tests_move}
+use Rattle.table_ledger.specs.IdleCalls.{LeavesBook}
 use Rattle.table_ledger.proofs.CommitLemmas.{committed, uncommitted}
 use Rattle.table_ledger.proofs.IdleCalls.{idle_failed}
 use Rattle.table_ledger.proofs.SurvivalLemmas.{clean_before}
@@ -18,7 +19,7 @@ use Rattle.table_ledger.proofs.choices.try_choose.Goals as goal
 -- the record of the name fits, if there is one
 pub returns-in_err-stored-clause-own : goal.returns-in_err-stored-clause-own
 returns-in_err-stored-clause-own g c = λ naming wide.
-    idle_failed _ c.from_residual.ensures.1 saw_none c.in_err-stored.ensures.looks
+    idle_failed (LeavesBook (choose_outcome naming c.args.name)) _ c.from_residual.ensures.1 saw_none c.in_err-stored.ensures.looks
     c.in_err-stored.ensures.cause
     (λ book at. (can_be_read naming book at.kept.readable wide).fit.each c.args.name)
 
@@ -34,7 +35,7 @@ returns-in_default-clause-tries g c = λ naming.
 -- all records fit
 pub returns-in_err-sharing-clause-own : goal.returns-in_err-sharing-clause-own
 returns-in_err-sharing-clause-own g c = λ naming wide.
-    idle_failed _ c.from_residual-in_err-sharing.ensures.1
+    idle_failed (LeavesBook (choose_outcome naming c.args.name)) _ c.from_residual-in_err-sharing.ensures.1
     (saw_found c.in_ok-stored.ensures.looks) c.in_err-sharing.ensures.looks
     c.in_err-sharing.ensures.cause
     (λ book at. (can_be_read naming book at.kept.readable wide).fit)

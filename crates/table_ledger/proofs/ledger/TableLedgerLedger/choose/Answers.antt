@@ -1,4 +1,6 @@
 use Rattle.std.proofs.Common.{sym, true≢false}
+use Rattle.book_model.specs.Words.{choose_outcome}
+use Rattle.table_ledger.specs.IdleCalls.{LeavesBook}
 use Rattle.table_ledger.specs.LedgerState.{ledger_state}
 use Rattle.table_ledger.proofs.IdleCalls.{idle_settled}
 use Rattle.table_ledger.proofs.OneCall.{call_reopen, call_settled}
@@ -20,7 +22,8 @@ returns-clause-call g c =
 -- that the store failed is the disk's fault
 pub returns-clause-own : goal.returns-clause-own
 returns-clause-own g c =
-    idle_settled g.S.Store c.args.self.now.tables.store c.if-self.false c.finish.ensures.settles
+    idle_settled (LeavesBook (choose_outcome (g.N.Naming.name_of c.args.self.now.naming) c.args.name))
+    g.S.Store c.args.self.now.tables.store c.if-self.false c.finish.ensures.settles
     (c.try_choose-tried.ensures.tries _)
     (c.try_choose-tried.ensures.own _ (g.met.N.Naming.wide c.args.self.now.naming))
     c.finish.ensures.served c.finish.ensures.mended

@@ -1,4 +1,6 @@
 use Rattle.std.proofs.Common.{sym, true≢false}
+use Rattle.book_model.specs.Words.{close_outcome}
+use Rattle.table_ledger.specs.IdleCalls.{LeavesBook}
 use Rattle.table_ledger.specs.LedgerState.{ledger_state}
 use Rattle.table_ledger.proofs.IdleCalls.{idle_settled}
 use Rattle.table_ledger.proofs.OneCall.{call_reopen, call_settled}
@@ -27,5 +29,6 @@ returns-clause-own g c =
     let day = day_kept c.args.through c.requires in
     let tries = rw day at c.try_close-tried.ensures.tries names in
     let own = rw day at c.try_close-tried.ensures.own names in
-    idle_settled g.S.Store c.args.self.now.tables.store c.if-self.false c.finish.ensures.settles
+    idle_settled (LeavesBook (close_outcome c.args.period c.args.through))
+    g.S.Store c.args.self.now.tables.store c.if-self.false c.finish.ensures.settles
     tries own c.finish.ensures.served c.finish.ensures.mended

@@ -1,4 +1,5 @@
 use Rattle.std.proofs.Common.{sym, true≢false}
+use Rattle.table_ledger.specs.IdleCalls.{NeedsNoPrices}
 use Rattle.table_ledger.specs.LedgerState.{ledger_state}
 use Rattle.table_ledger.proofs.IdleCalls.{idle_settled}
 use Rattle.table_ledger.proofs.OneCall.{call_reopen, call_settled}
@@ -20,6 +21,7 @@ returns-clause-call g c =
 -- that the store failed is the disk's fault
 pub returns-clause-own : goal.returns-clause-own
 returns-clause-own g c =
-    idle_settled g.S.Store c.args.self.now.tables.store c.if-self.false c.finish.ensures.settles
+    idle_settled (NeedsNoPrices c.args.text.now)
+    g.S.Store c.args.self.now.tables.store c.if-self.false c.finish.ensures.settles
     (c.try_tariff-tried.ensures.tries _) (c.try_tariff-tried.ensures.own _) c.finish.ensures.served
     c.finish.ensures.mended
