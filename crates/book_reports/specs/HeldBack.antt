@@ -22,7 +22,7 @@ with_amounts held least greatest = record {
   greatest = held.greatest + greatest;
 }
 
--- 64 bits hold that
+-- 64 bits hold what is held back then
 pub record FitsAmounts (held : HeldBack) (least_more greatest_more : ℕ) : Type 0 where
   pub disputes : held.disputes + 1 < 2 ^ 64
   pub least : held.least + least_more < 2 ^ 64

@@ -67,7 +67,7 @@ with_detail sums detail = record {
   amount = sums.amount + detail.priced.amount;
 }
 
--- 64 bits hold that
+-- 64 bits hold each sum then
 pub record FitsDetail (sums : Sums) (detail : Detail) : Type 0 where
   pub count : sums.count + 1 < 2 ^ 64
   pub cpu : sums.cpu + detail.priced.cpu < 2 ^ 64
