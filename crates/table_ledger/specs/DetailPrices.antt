@@ -19,7 +19,7 @@ use Rattle.table_ledger.specs.RecordReads.{CanBeRead}
 use Rattle.table_ledger.specs.declared.detail_prices.DetailPrice.{DetailPrice}
 use Rattle.table_ledger.specs.declared.details.Sought.{Sought}
 
--- the record of a name costs this by a tariff
+-- the record of a name, if there is one, costs this by a tariff
 abbrev pub CostsNamed : Terms → List ℕ → Tables → Priced → Type 0
 CostsNamed terms name tables priced =
     (row : RecordRow) → get tables.records name ≡ Some row
@@ -37,7 +37,7 @@ pub record IsNextPriced (terms : Terms) (sought : Sought) (tables : Tables) (nex
   pub least : IsLeastDetail (seeks sought) tables next.detail
   pub price : CostsNamed terms next.detail.name tables next.priced
 
--- that one, if there is one
+-- so much is found of the first detail that is sought, if there is one
 abbrev pub FindsPriced : Terms → Sought → Tables → Option DetailPrice → Type 0
 FindsPriced terms sought tables None = FindsLeast (seeks sought) tables None
 FindsPriced terms sought tables (Some next) = IsNextPriced terms sought tables next
@@ -47,7 +47,7 @@ abbrev pub is_kept : Option ℤ → Option ℤ → Tables → NamedRow → Bool
 is_kept close through tables entry =
     contains_key tables.counted entry.0 && is_between close through entry.1.priced.day
 
--- the charge rows of these records, each by a tariff
+-- the charge rows of these records, each of them by a tariff
 abbrev pub FindsRowsOfDays : Terms → Option ℤ → Option ℤ → Tables
     → Option (Vec ChargeRow Global) → Type 0
 FindsRowsOfDays terms close through tables found =
@@ -61,14 +61,14 @@ KeepsCounted number rulings tables =
     → is_row_counted number rulings tables.lines (name, row)
     ≡ is_kept (through_of (number - 1) rulings) (through_of number rulings) tables (name, row)
 
--- then these are the charge rows of what it counts, each by a tariff
+-- where it does, these are the charge rows of what it counts, each record by a tariff
 abbrev pub FindsRowsCounted : ℕ → Rulings → Terms → Tables → Option (Vec ChargeRow Global)
     → Type 0
 FindsRowsCounted number rulings terms tables found =
     KeepsCounted number rulings tables
     → AreRowsOf (row_costs terms (counted_rows number rulings tables)) found
 
--- all that is read for them can be
+-- all that is read for the charge rows of a period can be read
 pub record CanBeTried (number : ℕ) (rulings : Rulings) (tables : Tables) : Type 0 where
   pub days : DaysFit number tables
   pub lines : AllLinesFit rulings tables
