@@ -78,8 +78,8 @@ pub trait Repository {
     /// What is known of them.
     ghost shelf: { Self → Shelf };
 
-    /// Succeeds where there is something with that name. A fault comes where there is not, or where
-    /// it is not seen whether there is.
+    /// Succeeds only where there is something with that name. A fault comes where there is nothing,
+    /// or where it is not seen whether there is.
     fn expect(&self, book: &str) -> Result<(), RepositoryFault>
         ensures found { OnOk result ((shelf self.now).is_free book.now → ⊥) }
         ensures refused { IfErr result ((shelf self.now).refuses book.now) };
