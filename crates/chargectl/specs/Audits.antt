@@ -33,7 +33,8 @@ EndsAudit (Ok (Unsound finding)) held holds came = EndsUnsound finding held hold
     ⊎ ((holds ≡ held) × (came ≡ Err (fault.Ledger ledger.Memory)))
 EndsAudit (Err fault) held holds came = (holds ≡ held) × (came ≡ Err (shelf_fault fault))
 
--- This was done where books were audited with this answer, if there are any, and whether their log is left.
+-- Books were audited, if there are any, with this answer, of which this is so; and whether their log is
+-- left.
 pub record Audits (IsDone : Result Audited RepositoryFault → Type 0) (book : List ℕ) (old new : Shelf)
     (held holds : Option (List ℕ)) (ended : Ended) : Type 0 where
   pub audited : Result Audited RepositoryFault

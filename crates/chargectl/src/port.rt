@@ -25,8 +25,8 @@ pub trait Connections {
     /// How many are left to be answered.
     ghost left: { Self → ℕ };
 
-    /// The next one may come, this may become of it, and leave such connections. Only a wait shows
-    /// it, so a clause can say that what is told of a connection became of one.
+    /// The next one may come, this may become of it, and such connections may be left. Only a wait
+    /// shows it, so a clause can say that what is told of a connection became of one.
     ghost may_come: { Coming Self };
 
     /// The next one may not come, for this reason, and leave such connections. Only a wait shows it, so
