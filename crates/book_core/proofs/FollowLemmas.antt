@@ -2,14 +2,19 @@
 use Rattle.std.proofs.Common.{◌≡◌, ◌∙◌, ℕ, Bool, true, false, List, [], ◌++◌, refl, sym, ap, subst}
 use Rattle.std.proofs.Common.{Result, Ok, Err, ◌⊎◌, inl, inr, append_assoc, eqb-true, ℤ, ◌==◌}
 use Rattle.std.proofs.Common.{if◌then◌else◌, IfSome, Option, Some, None}
+use Rattle.book_model.specs.declared.answer.Accepted.{Accepted}
+use Rattle.book_model.specs.declared.answer.Accepted.TheVariants.{Kept, Known, Unpriced}
+use Rattle.book_model.specs.declared.answer.Ruled.{Ruled}
+use Rattle.book_model.specs.declared.answer.Ruled.TheVariants.{Done, Already}
+use Rattle.book_model.specs.declared.fault.LedgerFault.{LedgerFault}
+use Rattle.book_model.specs.declared.fault.LedgerFault.TheVariants.{Memory, Store, Reopen, OldRule}
 use Rattle.book_model.specs.Words.{Terms, terms_in, Naming, Book, new_book, Event, PeriodClosed}
 use Rattle.book_model.specs.Words.{RulingGiven, SecondRuleAdopted, after_all, accept_answer}
 use Rattle.book_model.specs.Words.{tariff_answer, close_answer, Outcome, accept_event, if_done}
 use Rattle.book_model.specs.Words.{ruled_as, tariff_outcome, close_outcome, book_after, book_of}
 use Rattle.book_model.specs.Words.{IsAnswered, IsMadeByCalls, choose_answer, choose_outcome}
 use Rattle.book_model.specs.Words.{record_named, adopt_answer, adopt_outcome, rule_by, second_rule}
-use Rattle.book_model.specs.Words.{TariffFault, LedgerFault, Memory, Store, Reopen, OldRule}
-use Rattle.book_model.specs.Words.{Accepted, Kept, Known, Unpriced, Ruled, Done, Already}
+use Rattle.book_model.specs.Words.{TariffFault}
 use Rattle.book_model.proofs.Lemmas.{books_follow_history, closed_open}
 use Rattle.book_core.specs.Words.{Seen, Transition, NoEvent, Then, IsTransition, Makes, Calls}
 use Rattle.book_core.specs.Words.{listed, MakesAnswered}

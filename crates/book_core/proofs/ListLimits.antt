@@ -6,9 +6,10 @@ use Rattle.std.proofs.lemmas.Map.Views.{All-from_any, Contains-from_any}
 use Rattle.book_model.proofs.Std.{IsEquivalence, IsTotalOrder, IsDistinct, eq_by_cmp_equiv, All-map}
 use Rattle.book_model.proofs.Std.{All-contains, fold-map, sum_by-le-sum_by, length-filter}
 use Rattle.book_model.proofs.Std.{tells_apart}
+use Rattle.book_model.specs.declared.row.ChargeRow.{ChargeRow}
+use Rattle.book_model.specs.declared.row.RowKey.{RowKey}
 use Rattle.book_model.specs.Words.{IsDay, IsPriced, most_held, key_of, charged_at, row_at, keys_of}
 use Rattle.book_model.specs.Words.{rows_of, FitSums, AreRows, set_of, members, most_cost, Priced}
-use Rattle.book_model.specs.Words.{ChargeRow, RowKey}
 use Rattle.book_model.proofs.Lemmas.{by_key_total, by_key_exact, count_by-distinct}
 use Rattle.book_model.proofs.Lemmas.{any_tied-members, sum_by-filter, length-sum_by}
 use Rattle.book_model.proofs.RowLemmas.{same_key_laws, keys_distinct}

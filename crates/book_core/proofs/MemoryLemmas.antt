@@ -1,8 +1,10 @@
 -- What a call of a ledger in memory says: no store fails, and nothing is left to open.
 use Rattle.std.proofs.Common.{◌≡◌, ◌∙◌, List, refl, sym, ap, subst, false, true≢false, Option, None}
 use Rattle.std.proofs.Common.{Some, Result, Ok, Err}
+use Rattle.book_model.specs.declared.fault.LedgerFault.{LedgerFault}
+use Rattle.book_model.specs.declared.fault.LedgerFault.TheVariants.{Memory, Store, Reopen}
 use Rattle.book_model.specs.Words.{Answers, event_of, Book, Event, after_any, after_all, Outcome}
-use Rattle.book_model.specs.Words.{Naming, LedgerFault, Memory, Store, Reopen}
+use Rattle.book_model.specs.Words.{Naming}
 use Rattle.book_core.specs.Words.{Makes, IsCall, Reopens, listed, in_memory}
 
 -- a book after one event or none

@@ -4,14 +4,15 @@ use Rattle.std.proofs.Common.{◌≡◌, ℕ, List, refl, Bool, true, false, not
 use Rattle.std.proofs.Common.{Result, Ok, Err, length, ℤ, ◌==◌, if◌then◌else◌, ok_or, nat_le}
 use Rattle.std.proofs.Common.{nat_lt, sum_by}
 use Rattle.std.specs.List.{list_any}
-use Rattle.book_model.specs.Words.{TariffFault, Priced, LedgerFault, NoSuchPeriod, terms_ruled}
-use Rattle.book_model.specs.Words.{Book, Naming, Period, Rulings, Terms, accept_answer}
-use Rattle.book_model.specs.Words.{accept_priced, adopt_answer, chosen_answer, clashes}
-use Rattle.book_model.specs.Words.{close_answer, costs_under, has, has_text, is_chosen, is_closed}
-use Rattle.book_model.specs.Words.{is_early, is_effective, is_full, is_later, is_too_dear}
-use Rattle.book_model.specs.Words.{is_unrivalled, last_period, most_choices, most_cost, open_by}
-use Rattle.book_model.specs.Words.{price_in, rule_by, second_rule, tariff_answer, what_if_answer}
-use Rattle.book_model.specs.Words.{with_tariff}
+use Rattle.book_model.specs.declared.fault.LedgerFault.{LedgerFault}
+use Rattle.book_model.specs.declared.fault.LedgerFault.TheVariants.{NoSuchPeriod}
+use Rattle.book_model.specs.Words.{TariffFault, Priced, terms_ruled, Book, Naming, Period, Rulings}
+use Rattle.book_model.specs.Words.{Terms, accept_answer, accept_priced, adopt_answer, chosen_answer}
+use Rattle.book_model.specs.Words.{clashes, close_answer, costs_under, has, has_text, is_chosen}
+use Rattle.book_model.specs.Words.{is_closed, is_early, is_effective, is_full, is_later}
+use Rattle.book_model.specs.Words.{is_too_dear, is_unrivalled, last_period, most_choices, most_cost}
+use Rattle.book_model.specs.Words.{open_by, price_in, rule_by, second_rule, tariff_answer}
+use Rattle.book_model.specs.Words.{what_if_answer, with_tariff}
 use Rattle.book_core.specs.Calls.{LeavesOpen, is_reopen, is_store}
 
 -- an answer leaves books open

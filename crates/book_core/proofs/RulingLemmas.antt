@@ -3,8 +3,10 @@ use Rattle.std.proofs.Common.{◌≡◌, ◌∙◌, ◌-◌, List, [], ◌∷◌
 use Rattle.std.proofs.Common.{None, slice_get, true, ◌≢◌, ℕ, Bool, false, Option, Some, Ok, Err}
 use Rattle.std.proofs.Common.{Result, if◌then◌else◌, option_map}
 use Rattle.book_model.proofs.Std.{last_or, result_ok}
+use Rattle.book_model.specs.declared.answer.Ruled.TheVariants.{Done}
+use Rattle.book_model.specs.declared.fault.LedgerFault.TheVariants.{Full}
 use Rattle.book_model.specs.Words.{AcceptedTerms, are_rising, is_later, Terms, Event, RulingGiven}
-use Rattle.book_model.specs.Words.{TariffAccepted, RecordChosen, TariffFault, Done, Full}
+use Rattle.book_model.specs.Words.{TariffAccepted, RecordChosen, TariffFault}
 use Rattle.book_model.proofs.Lemmas.{later-before, rising-behind}
 use Rattle.book_model.proofs.ListLemmas.{last_or-is}
 use Rattle.book_core.specs.declared.rulings.Rulings.{Rulings}

@@ -3,8 +3,11 @@ use Rattle.std.proofs.Common.{◌≡◌, ◌∙◌, ◌<◌, ℕ, Bool, true, fa
 use Rattle.std.proofs.Common.{refl, sym, ap, subst, Result, Ok, Err, ◌⊎◌, inl, inr, Vec, Global}
 use Rattle.std.proofs.Common.{arith, drop, get_or, take, ◌||◌, true≢false, take-append-drop}
 use Rattle.std.proofs.lemmas.List.{map-append}
-use Rattle.book_model.specs.Words.{Accepted, LedgerFault, Store, Book, Event, Naming}
-use Rattle.book_model.specs.Words.{accept_outcome, accept_answer, accept_event, after_all}
+use Rattle.book_model.specs.declared.answer.Accepted.{Accepted}
+use Rattle.book_model.specs.declared.fault.LedgerFault.{LedgerFault}
+use Rattle.book_model.specs.declared.fault.LedgerFault.TheVariants.{Store}
+use Rattle.book_model.specs.Words.{Book, Event, Naming, accept_outcome, accept_answer, accept_event}
+use Rattle.book_model.specs.Words.{after_all}
 use Rattle.book_core.specs.Calls.{Calls, listed}
 use Rattle.book_core.specs.Submissions.{Accepts, KeepsFirst, Takes, first_of, records_in}
 use Rattle.book_core.proofs.ThenLemmas.{nothing_more}

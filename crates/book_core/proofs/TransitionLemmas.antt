@@ -1,8 +1,9 @@
 -- Work on a ledger, part by part.
 use Rattle.std.proofs.Common.{◌≡◌, ◌∙◌, Bool, true, false, List, [], ◌∷◌, ◌++◌, refl, sym, ap}
 use Rattle.std.proofs.Common.{subst, ◌||◌, Err, ◌⊎◌}
-use Rattle.book_model.specs.Words.{LedgerFault, Memory, Store, Reopen, Book, Event, after}
-use Rattle.book_model.specs.Words.{after_all, Outcome}
+use Rattle.book_model.specs.declared.fault.LedgerFault.{LedgerFault}
+use Rattle.book_model.specs.declared.fault.LedgerFault.TheVariants.{Memory, Store, Reopen}
+use Rattle.book_model.specs.Words.{Book, Event, after, after_all, Outcome}
 use Rattle.book_core.specs.Words.{Seen, Transition, NoEvent, Then, IsTransition, Calls, listed}
 
 -- the book after events and others

@@ -1,6 +1,8 @@
 -- Charge rows while they are summed up, one price at a time.
 use Rattle.std.specs.Prelude.{◌+◌, List, map}
-use Rattle.book_model.specs.Words.{Priced, keys_of, row_at, ChargeRow, RowKey}
+use Rattle.book_model.specs.declared.row.ChargeRow.{ChargeRow}
+use Rattle.book_model.specs.declared.row.RowKey.{RowKey}
+use Rattle.book_model.specs.Words.{Priced, keys_of, row_at}
 
 -- the rows of some prices, each under its key
 abbrev pub keyed_rows : List Priced → List (RowKey × ChargeRow)

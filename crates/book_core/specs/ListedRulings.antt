@@ -2,8 +2,9 @@
 -- apart from its choices.
 use Rattle.std.specs.Prelude.{◌≡◌, ◌<◌, ◌+◌, ℕ, List, Option, Result, Ok, Err, length, slice_get}
 use Rattle.std.specs.Prelude.{option_map}
-use Rattle.book_model.specs.Words.{ListedRuling, Choice, Naming, Rulings, RulingSeen, ShowsDays}
-use Rattle.book_model.specs.Words.{choice_seen, ruling_shown, rulings_listed}
+use Rattle.book_model.specs.declared.listed_ruling.ListedRuling.{ListedRuling}
+use Rattle.book_model.specs.Words.{Choice, Naming, Rulings, RulingSeen, ShowsDays, choice_seen}
+use Rattle.book_model.specs.Words.{ruling_shown, rulings_listed}
 use Rattle.book_core.specs.declared.listed_rulings.ListedAt.{ListedAt}
 use Rattle.book_core.specs.declared.listed_rulings.ListedAt.TheVariants.{Other}
 use Rattle.book_core.specs.declared.listed_rulings.ListedAt.TheVariants as listed

@@ -1,8 +1,10 @@
 -- Records that are submitted together, and what one change of the books takes of them.
 use Rattle.std.specs.Prelude.{◌≡◌, Bool, false, true, ℕ, List, [], ◌∷◌, map, Result, Ok, Err, Vec}
 use Rattle.std.specs.Global.{Global}
-use Rattle.book_model.specs.Words.{Accepted, LedgerFault, Store, Book, Event, Naming}
-use Rattle.book_model.specs.Words.{accept_outcome}
+use Rattle.book_model.specs.declared.answer.Accepted.{Accepted}
+use Rattle.book_model.specs.declared.fault.LedgerFault.{LedgerFault}
+use Rattle.book_model.specs.declared.fault.LedgerFault.TheVariants.{Store}
+use Rattle.book_model.specs.Words.{Book, Event, Naming, accept_outcome}
 use Rattle.book_core.specs.Transition.{Transition, NoEvent, Then}
 use Rattle.book_core.specs.Calls.{Calls}
 

@@ -11,11 +11,3 @@ pub use Rattle.book_core.specs.OfficeRulings.{ruled_in}
 pub use Rattle.book_core.specs.Room.{if_room}
 pub use Rattle.book_core.specs.Submissions.{Accepts, Takes, first_of, records_in}
 pub use Rattle.book_core.specs.Transition.{IsTransition, NoEvent, Then, Transition}
-pub use Rattle.book_core.specs.declared.effects.ChoiceEffects.{ChoiceEffects}
-pub use Rattle.book_core.specs.declared.effects.DayChange.{DayChange}
-pub use Rattle.book_core.specs.declared.effects.DayChange.TheVariants.{Add, Take}
-pub use Rattle.book_core.specs.declared.effects.Effects.{Effects}
-pub use Rattle.book_core.specs.declared.effects.LineChange.TheVariants.{AddMinus, AddPlus}
-pub use Rattle.book_core.specs.declared.effects.LineChange.TheVariants.{DropMinus, DropPlus}
-pub use Rattle.book_core.specs.declared.effects.Member.{Member}
-pub use Rattle.book_core.specs.declared.effects.View.{View}

@@ -1,8 +1,9 @@
 -- One call of an open ledger.
 use Rattle.std.proofs.Common.{◌≡◌, ◌≢◌, ◌∙◌, false, true≢false, List, [], refl, ap, subst, Result}
 use Rattle.std.proofs.Common.{Err, ◌||◌}
-use Rattle.book_model.specs.Words.{LedgerFault, Memory, Store, Reopen, Book, Event, after_all}
-use Rattle.book_model.specs.Words.{Outcome, Naming}
+use Rattle.book_model.specs.declared.fault.LedgerFault.{LedgerFault}
+use Rattle.book_model.specs.declared.fault.LedgerFault.TheVariants.{Memory, Store, Reopen}
+use Rattle.book_model.specs.Words.{Book, Event, after_all, Outcome, Naming}
 use Rattle.book_core.specs.Words.{Makes, Calls, is_store, is_reopen, Seen, IsOpenAt}
 use Rattle.office.proofs.LeavingLemmas.{Leaves, work_leaves}
 use Rattle.book_laws.specs.AnswerLaws.{IsCalled, OneAnswer, OneRefusal, OneBook}

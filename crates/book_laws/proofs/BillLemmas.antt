@@ -5,11 +5,16 @@ use Rattle.std.proofs.Common.{filter, sum_by, pos, ◌+ℤ◌, ◌-ℤ◌}
 use Rattle.std.proofs.Math.Bool.{or-true}
 use Rattle.book_model.proofs.Std.{list_any, ints, sum_by-filter_both, fold-map, list_any-append}
 use Rattle.book_model.proofs.Std.{sum_by-cons, get_or_from_slice_get, slice_get_within}
-use Rattle.book_model.specs.Words.{Priced, BilledLine, Detail, Line, ChargeRow, RowKey, BillSeen}
-use Rattle.book_model.specs.Words.{Book, IsSound, Naming, Period, all_periods, bill_of, billed_line}
-use Rattle.book_model.specs.Words.{billed_lines, charged_at, details_asked, details_of}
-use Rattle.book_model.specs.Words.{details_of_centre, is_step, jobs_of, line_alone, lines_of}
-use Rattle.book_model.specs.Words.{period_of, row_at, rows_for, same_bytes, steps_of, work_rows}
+use Rattle.book_model.specs.declared.bill.BilledLine.{BilledLine}
+use Rattle.book_model.specs.declared.detail.Detail.{Detail}
+use Rattle.book_model.specs.declared.line.Line.{Line}
+use Rattle.book_model.specs.declared.row.ChargeRow.{ChargeRow}
+use Rattle.book_model.specs.declared.row.RowKey.{RowKey}
+use Rattle.book_model.specs.Words.{Priced, BillSeen, Book, IsSound, Naming, Period, all_periods}
+use Rattle.book_model.specs.Words.{bill_of, billed_line, billed_lines, charged_at, details_asked}
+use Rattle.book_model.specs.Words.{details_of, details_of_centre, is_step, jobs_of, line_alone}
+use Rattle.book_model.specs.Words.{lines_of, period_of, row_at, rows_for, same_bytes, steps_of}
+use Rattle.book_model.specs.Words.{work_rows}
 use Rattle.book_model.proofs.Lemmas.{filter-agree, filter-filter, filter-map, list_any-map}
 use Rattle.book_model.proofs.Lemmas.{sum_by-plus, length-sum_by}
 use Rattle.book_model.proofs.RecordSets.{tests_swap}

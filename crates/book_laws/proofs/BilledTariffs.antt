@@ -6,11 +6,11 @@ use Rattle.std.proofs.Common.{int_lt, slice_get, filter_map, option_map}
 use Rattle.book_model.proofs.Std.{cons_option, list_any, option_map_or, option_or, result_ok, ints}
 use Rattle.book_model.proofs.Std.{reverse-append, All-contains, Contains-append_right}
 use Rattle.book_model.proofs.Std.{filter-append, filter_map-append, find-append}
-use Rattle.book_model.specs.Words.{BilledTariff, AcceptedTerms, RulingSeen, TariffSeen, Terms}
-use Rattle.book_model.specs.Words.{begins_by, billed_tariff, day_of, has_begun, in_force_from}
-use Rattle.book_model.specs.Words.{is_dated_after, is_dated_through, tariff_by, tariff_seen}
-use Rattle.book_model.specs.Words.{tariffs_from, tariffs_in, tariffs_seen, tariffs_through}
-use Rattle.book_model.specs.Words.{terms_in, latest}
+use Rattle.book_model.specs.declared.bill.BilledTariff.{BilledTariff}
+use Rattle.book_model.specs.Words.{AcceptedTerms, RulingSeen, TariffSeen, Terms, begins_by}
+use Rattle.book_model.specs.Words.{billed_tariff, day_of, has_begun, in_force_from, is_dated_after}
+use Rattle.book_model.specs.Words.{is_dated_through, tariff_by, tariff_seen, tariffs_from}
+use Rattle.book_model.specs.Words.{tariffs_in, tariffs_seen, tariffs_through, terms_in, latest}
 use Rattle.book_model.proofs.Lemmas.{close_at, begun-last, first_of, not_true, second_of}
 use Rattle.table_model.specs.Words.{IsTexted}
 use Rattle.table_model.proofs.DetailReading.{in_windows}

@@ -1,12 +1,14 @@
 -- Calls on one ledger, one after another: their work, and the events that they make.
 use Rattle.std.proofs.Common.{false, ℕ, List, [], ◌∷◌, ◌++◌, Result, Ok, Err, map, refl, sym, subst}
 use Rattle.std.proofs.Common.{Vec, Global, option_map}
-use Rattle.book_model.specs.Words.{Accepted, accept_answer, IsMadeByCalls, Book, new_book}
-use Rattle.book_model.specs.Words.{dispute_shown, book_after, Outcome, accept_outcome}
-use Rattle.book_model.specs.Words.{charges_outcome, adjustments_outcome, disputes_outcome}
-use Rattle.book_model.specs.Words.{periods_outcome, Naming, dispute_outcome, next_detail_outcome}
-use Rattle.book_model.specs.Words.{ruling_outcome, ruling_shown, trail_outcome, trail_shown}
-use Rattle.book_model.specs.Words.{what_if_outcome, LedgerFault, Store}
+use Rattle.book_model.specs.declared.answer.Accepted.{Accepted}
+use Rattle.book_model.specs.declared.fault.LedgerFault.{LedgerFault}
+use Rattle.book_model.specs.declared.fault.LedgerFault.TheVariants.{Store}
+use Rattle.book_model.specs.Words.{accept_answer, IsMadeByCalls, Book, new_book, dispute_shown}
+use Rattle.book_model.specs.Words.{book_after, Outcome, accept_outcome, charges_outcome}
+use Rattle.book_model.specs.Words.{adjustments_outcome, disputes_outcome, periods_outcome, Naming}
+use Rattle.book_model.specs.Words.{dispute_outcome, next_detail_outcome, ruling_outcome}
+use Rattle.book_model.specs.Words.{ruling_shown, trail_outcome, trail_shown, what_if_outcome}
 use Rattle.book_core.specs.Words.{Calls, listed, Seen, IsOpenAt, Accepts, Takes, first_of}
 use Rattle.book_core.specs.Words.{IsTransition, MakesAnswered}
 use Rattle.book_core.proofs.FollowLemmas.{then_answered, calls_answered, none_answered}

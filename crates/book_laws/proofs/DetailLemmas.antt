@@ -4,11 +4,14 @@ use Rattle.std.proofs.Common.{Some, None, Bool, cond, ◌&&◌, get_or, ◌+◌,
 use Rattle.std.proofs.Common.{filter_map, option_map, int_eq}
 use Rattle.book_model.proofs.Std.{cons_option, nat_list_eq_equiv, length-map, All-cons, All-head}
 use Rattle.book_model.proofs.Std.{All-map, All-nil, All-tail, All-weaker, fold-map}
-use Rattle.book_model.specs.Words.{Priced, Detail, ChargeRow, RowKey, AreHeld, Naming, Records}
-use Rattle.book_model.specs.Words.{Rulings, all_periods, charged_at, detail_by, detail_of}
-use Rattle.book_model.specs.Words.{details_at, details_for, details_of, details_of_centre, has}
-use Rattle.book_model.specs.Words.{key_of, keys_of, members, name_of, price_in, prices, row_at}
-use Rattle.book_model.specs.Words.{rows_for, rows_of, same_bytes, same_key}
+use Rattle.book_model.specs.declared.detail.Detail.{Detail}
+use Rattle.book_model.specs.declared.row.ChargeRow.{ChargeRow}
+use Rattle.book_model.specs.declared.row.RowKey.{RowKey}
+use Rattle.book_model.specs.Words.{Priced, AreHeld, Naming, Records, Rulings, all_periods}
+use Rattle.book_model.specs.Words.{charged_at, detail_by, detail_of, details_at, details_for}
+use Rattle.book_model.specs.Words.{details_of, details_of_centre, has, key_of, keys_of, members}
+use Rattle.book_model.specs.Words.{name_of, price_in, prices, row_at, rows_for, rows_of, same_bytes}
+use Rattle.book_model.specs.Words.{same_key}
 use Rattle.book_model.proofs.DetailLemmas.{read_once}
 use Rattle.book_model.proofs.Lemmas.{filter-agree, filter-filter, filter-map, first_of, second_of}
 use Rattle.book_model.proofs.Lemmas.{rows_of-alike, SumsAlike, filter-alike, length-alike}

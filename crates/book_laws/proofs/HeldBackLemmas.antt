@@ -5,8 +5,9 @@ use Rattle.std.proofs.Common.{true≢false, Bool, cond, ◌||◌, Option, unwrap
 use Rattle.std.proofs.Common.{fold, sum_by, if◌then◌else◌}
 use Rattle.book_model.proofs.Std.{list_any, reduce, All-cons, All-contains, All-head, All-nil}
 use Rattle.book_model.proofs.Std.{All-tail, sum_by-cons}
-use Rattle.book_model.specs.Words.{Variant, Disputed, amount_for, disputes_for, greatest_for}
-use Rattle.book_model.specs.Words.{held_back_in, is_paid_by, least_for}
+use Rattle.book_model.specs.declared.dispute.Variant.{Variant}
+use Rattle.book_model.specs.Words.{Disputed, amount_for, disputes_for, greatest_for, held_back_in}
+use Rattle.book_model.specs.Words.{is_paid_by, least_for}
 use Rattle.book_laws.specs.BillLaws.{HeldBackBounds, IsWithin}
 
 -- the least of some numbers is none of them or less,

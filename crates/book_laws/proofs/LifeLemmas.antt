@@ -5,12 +5,15 @@ use Rattle.std.proofs.Common.{Some, Ok, ℤ, pos, ◌-ℤ◌, codes, count_by, s
 use Rattle.std.proofs.Common.{option_and_then, option_map, append-nil}
 use Rattle.std.specs.Fmt.{signed_decimal}
 use Rattle.book_model.proofs.Std.{sum_by-append, sum_by-cons}
+use Rattle.book_model.specs.declared.fault.LedgerFault.TheVariants.{NoSuchRecord}
+use Rattle.book_model.specs.declared.trail.Deed.{Deed}
+use Rattle.book_model.specs.declared.trail.Deed.TheVariants.{Added, Charged, Reversed}
+use Rattle.book_model.specs.declared.trail.Turn.{Turn}
 use Rattle.book_model.specs.Words.{Book, Event, Period, PeriodClosed, Records, AreDatedThrough}
 use Rattle.book_model.specs.Words.{all_periods, book_after, charged_of, charged_through, has}
 use Rattle.book_model.specs.Words.{is_charge, is_dated_after, last_close, life_from, life_of}
 use Rattle.book_model.specs.Words.{net_of, Naming, TrailSeen, period_by, reckoning_in, record_named}
 use Rattle.book_model.specs.Words.{trail_by, trail_of, turn_if, turns_in, without, Reckoning}
-use Rattle.book_model.specs.Words.{NoSuchRecord, Deed, Added, Charged, Reversed, Turn}
 use Rattle.book_model.proofs.Lemmas.{has_those, none_in, sum_by-plus}
 use Rattle.report_texts.specs.Columns.{newline}
 use Rattle.report_texts.specs.LifeLines.{net_line}

@@ -6,7 +6,8 @@ use Rattle.book_model.proofs.Std.{list_any, cons_option, AllByRecursion, option_
 use Rattle.book_model.proofs.Std.{ordering_then, nat_list_cmp_total, list_any-append}
 use Rattle.book_model.proofs.Std.{sum_by-IsPermutation, sum_by-append, sum_by-cons}
 use Rattle.book_model.proofs.Std.{IsDistinct-from_sorted, exact_bytes}
-use Rattle.book_model.specs.Words.{Priced, Line, plus_first, by_line, lines_for, lines_of, Period}
+use Rattle.book_model.specs.declared.line.Line.{Line}
+use Rattle.book_model.specs.Words.{Priced, plus_first, by_line, lines_for, lines_of, Period}
 use Rattle.book_model.specs.Words.{Records, Naming, name_of, by_bytes, Rulings, price_in, members}
 use Rattle.book_model.specs.Words.{has, prices, total_of}
 use Rattle.book_model.proofs.GivenLemmas.{given-apart}

@@ -7,10 +7,14 @@ use Rattle.std.proofs.Common.{nat_lt, slice_get, option_map, lt-ltb, length-appe
 use Rattle.std.proofs.Math.Bool.{or-true}
 use Rattle.book_model.proofs.Std.{last_or, list_any, All-filter, All-map, list_any-append}
 use Rattle.book_model.proofs.Std.{slice_get_within}
-use Rattle.book_model.specs.Words.{BilledLine, Line, Added, Charged, Reversed, Turn, Book, Naming}
-use Rattle.book_model.specs.Words.{Period, Records, all_periods, billed_line, charged_before, has}
-use Rattle.book_model.specs.Words.{is_dated_after, life_from, life_of, lines_of, open_period}
-use Rattle.book_model.specs.Words.{period_by, period_of_line, same_bytes, turn_if, turns_in}
+use Rattle.book_model.specs.declared.bill.BilledLine.{BilledLine}
+use Rattle.book_model.specs.declared.line.Line.{Line}
+use Rattle.book_model.specs.declared.trail.Deed.TheVariants.{Added, Charged, Reversed}
+use Rattle.book_model.specs.declared.trail.Turn.{Turn}
+use Rattle.book_model.specs.Words.{Book, Naming, Period, Records, all_periods, billed_line}
+use Rattle.book_model.specs.Words.{charged_before, has, is_dated_after, life_from, life_of}
+use Rattle.book_model.specs.Words.{lines_of, open_period, period_by, period_of_line, same_bytes}
+use Rattle.book_model.specs.Words.{turn_if, turns_in}
 use Rattle.table_model.specs.Words.{close_after, IsReadable}
 use Rattle.table_model.proofs.CountedReading.{in_added, in_counted, in_taken, its_period}
 use Rattle.table_model.proofs.CountedReading.{period_after, sets, sets_past}

@@ -5,13 +5,15 @@ use Rattle.std.proofs.Common.{◌≤◌, ◌≤ℤ◌, filter, int_lt, nat_lt, i
 use Rattle.std.proofs.Common.{filter_map, ok_or, option_map}
 use Rattle.book_model.proofs.Std.{nat_tests, ints, fold-map}
 use Rattle.smf_text.specs.Day.{first_day}
-use Rattle.book_model.specs.Words.{on_every_day, Priced, LedgerFault, Full, NoSuchPeriod, ChargeRow}
-use Rattle.book_model.specs.Words.{AcceptedTerms, AreAmong, Book, IsDay, Naming, Period, Records}
-use Rattle.book_model.specs.Words.{Rulings, Terms, charges_outcome, costs_under, day_of, flat_book}
-use Rattle.book_model.specs.Words.{has, has_begun, in_force, members, most_cost, no_event}
-use Rattle.book_model.specs.Words.{period_of, price_by, price_in, price_under, prices, rows_for}
-use Rattle.book_model.specs.Words.{rows_if_room, rows_of, same_bytes, terms_in, what_if_answer}
-use Rattle.book_model.specs.Words.{what_if_outcome, latest}
+use Rattle.book_model.specs.declared.fault.LedgerFault.{LedgerFault}
+use Rattle.book_model.specs.declared.fault.LedgerFault.TheVariants.{Full, NoSuchPeriod}
+use Rattle.book_model.specs.declared.row.ChargeRow.{ChargeRow}
+use Rattle.book_model.specs.Words.{on_every_day, Priced, AcceptedTerms, AreAmong, Book, IsDay}
+use Rattle.book_model.specs.Words.{Naming, Period, Records, Rulings, Terms, charges_outcome}
+use Rattle.book_model.specs.Words.{costs_under, day_of, flat_book, has, has_begun, in_force}
+use Rattle.book_model.specs.Words.{members, most_cost, no_event, period_of, price_by, price_in}
+use Rattle.book_model.specs.Words.{price_under, prices, rows_for, rows_if_room, rows_of, same_bytes}
+use Rattle.book_model.specs.Words.{terms_in, what_if_answer, what_if_outcome, latest}
 use Rattle.book_model.proofs.Lemmas.{filter-map, pick-agree}
 use Rattle.report_texts.specs.Centres.{rows_of_centre}
 use Rattle.table_model.proofs.HeldPeriods.{one_of}

@@ -3,9 +3,11 @@ use Rattle.std.proofs.Common.{◌≡◌, ◌∙◌, ℕ, ◌≤◌, List, refl, 
 use Rattle.std.proofs.Common.{Err, arith, All, Some, if◌then◌else◌, nat_lt, sum_by, ltb-false}
 use Rattle.std.proofs.lemmas.Map.Views.{All-from_any}
 use Rattle.book_model.proofs.Std.{eq_by_cmp_equiv, nat_list_cmp_total, All-map}
-use Rattle.book_model.specs.Words.{Priced, Full, ChargeRow, Book, IsPriced, Naming, Period, Terms}
-use Rattle.book_model.specs.Words.{costs_under, has, members, most_cost, period_of, price_by}
-use Rattle.book_model.specs.Words.{prices, rows_if_room, rows_of, what_if_answer, what_if_outcome}
+use Rattle.book_model.specs.declared.fault.LedgerFault.TheVariants.{Full}
+use Rattle.book_model.specs.declared.row.ChargeRow.{ChargeRow}
+use Rattle.book_model.specs.Words.{Priced, Book, IsPriced, Naming, Period, Terms, costs_under, has}
+use Rattle.book_model.specs.Words.{members, most_cost, period_of, price_by, prices, rows_if_room}
+use Rattle.book_model.specs.Words.{rows_of, what_if_answer, what_if_outcome}
 use Rattle.book_model.proofs.Lemmas.{length-sum_by}
 use Rattle.table_model.specs.Words.{IsReadable}
 use Rattle.table_model.proofs.PriceSums.{some_within}

@@ -1,7 +1,8 @@
 -- Reports of an open ledger.
 use Rattle.std.proofs.Common.{◌≡◌, ◌≢◌, List, refl, sym, ap, subst, Result, Ok, Err, ℕ}
 use Rattle.streams.specs.InputOutput.{Output}
-use Rattle.book_model.specs.Words.{LedgerFault, Book, Naming}
+use Rattle.book_model.specs.declared.fault.LedgerFault.{LedgerFault}
+use Rattle.book_model.specs.Words.{Book, Naming}
 use Rattle.book_core.specs.Words.{IsCall, Books, Seen, books}
 use Rattle.book_reports.specs.declared.fault.ReportFault.{ReportFault}
 use Rattle.book_reports.specs.declared.fault.ReportFault.TheVariants.{Write, Memory, Ledger}

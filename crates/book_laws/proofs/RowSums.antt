@@ -4,8 +4,10 @@ use Rattle.std.proofs.Common.{cond, ◌||◌, map, arith, length, filter, sum_by
 use Rattle.std.proofs.Math.Bool.{or-true}
 use Rattle.book_model.proofs.Std.{IsEquivalence, list_any, IsDistinct, fold-map, sum_by-cons}
 use Rattle.book_model.proofs.Std.{length-filter, tells_apart}
+use Rattle.book_model.specs.declared.row.ChargeRow.{ChargeRow}
+use Rattle.book_model.specs.declared.row.RowKey.{RowKey}
 use Rattle.book_model.specs.Words.{Priced, charged_at, key_of, keys_of, row_at, rows_of, same_bytes}
-use Rattle.book_model.specs.Words.{same_key, ChargeRow, RowKey}
+use Rattle.book_model.specs.Words.{same_key}
 use Rattle.book_model.proofs.Lemmas.{by_key_exact, by_key_total, same_key_ties, list_any-map}
 use Rattle.book_model.proofs.Lemmas.{count_by-distinct, any_tied-members, sum_by-filter}
 use Rattle.book_model.proofs.RowLemmas.{same_key_is, same_key_laws, keys_distinct}

@@ -8,11 +8,11 @@ use Rattle.std.proofs.lemmas.Bool.{or_parts}
 use Rattle.book_model.proofs.Std.{cons_option, list_all, list_any, IsStrictlySortedBy}
 use Rattle.book_model.proofs.Std.{option_map_or, option_or, result_ok, ints, All-cons, All-filter}
 use Rattle.book_model.proofs.Std.{All-head, All-nil, All-tail, filter_passes}
-use Rattle.book_model.specs.Words.{BilledTariff, through_of, AcceptedTerms, RulingSeen, Rulings}
-use Rattle.book_model.specs.Words.{TariffSeen, are_rising, begins_by, billed_tariff, has_begun}
-use Rattle.book_model.specs.Words.{in_force_from, is_between, is_day_of, is_through, tariff_by}
-use Rattle.book_model.specs.Words.{tariffs_from, tariffs_in, tariffs_seen, tariffs_through}
-use Rattle.book_model.specs.Words.{terms_in}
+use Rattle.book_model.specs.declared.bill.BilledTariff.{BilledTariff}
+use Rattle.book_model.specs.Words.{through_of, AcceptedTerms, RulingSeen, Rulings, TariffSeen}
+use Rattle.book_model.specs.Words.{are_rising, begins_by, billed_tariff, has_begun, in_force_from}
+use Rattle.book_model.specs.Words.{is_between, is_day_of, is_through, tariff_by, tariffs_from}
+use Rattle.book_model.specs.Words.{tariffs_in, tariffs_seen, tariffs_through, terms_in}
 use Rattle.book_model.proofs.Lemmas.{close_at, begun-last, list_any-map, first_of, second_of}
 use Rattle.book_model.proofs.CountedDays.{through_at}
 use Rattle.book_model.proofs.LatestLemmas.{precedes}

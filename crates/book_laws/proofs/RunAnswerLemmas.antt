@@ -2,7 +2,8 @@
 use Rattle.std.proofs.Common.{◌≡◌, ◌∙◌, ℕ, Bool, true, false, List, [], ◌∷◌, Result, Ok, Err, refl}
 use Rattle.std.proofs.Common.{sym, ap, subst, map, All}
 use Rattle.book_model.proofs.Std.{All-head, All-tail}
-use Rattle.book_model.specs.Words.{LedgerFault, front, Book, Event, after_all, Naming, Outcome}
+use Rattle.book_model.specs.declared.fault.LedgerFault.{LedgerFault}
+use Rattle.book_model.specs.Words.{front, Book, Event, after_all, Naming, Outcome}
 use Rattle.book_core.specs.Words.{Calls, Seen, IsOpenAt, IsTransition}
 use Rattle.book_core.proofs.TransitionLemmas.{after_all-append}
 use Rattle.book_import.specs.declared.receipt.Receipt.{Receipt}

@@ -3,12 +3,13 @@ use Rattle.std.proofs.Common.{◌≡◌, ℕ, List, [], ◌∷◌, ◌++◌, ref
 use Rattle.std.proofs.Common.{true≢false, Bool, cond, Option, Some, None, suc, length, append-nil}
 use Rattle.std.proofs.Common.{ℤ, int_lt, filter, ok_or, option_map}
 use Rattle.book_model.proofs.Std.{IsStrictlySortedBy, filter-append}
-use Rattle.book_model.specs.Words.{day_of, NoSuchPeriod, AreAllDatedThrough, Book, Event}
-use Rattle.book_model.specs.Words.{IsMadeByCalls, Naming, Period, PeriodClosed, RulingGiven}
-use Rattle.book_model.specs.Words.{Rulings, TariffAccepted, book_after, is_dated_after, last_close}
-use Rattle.book_model.specs.Words.{members, no_event, open_number, period_of, period_on, price_in}
-use Rattle.book_model.specs.Words.{set_of, by_detail, detail_by, detail_of, details_asked}
-use Rattle.book_model.specs.Words.{details_for, details_of, next_after}
+use Rattle.book_model.specs.declared.fault.LedgerFault.TheVariants.{NoSuchPeriod}
+use Rattle.book_model.specs.Words.{day_of, AreAllDatedThrough, Book, Event, IsMadeByCalls, Naming}
+use Rattle.book_model.specs.Words.{Period, PeriodClosed, RulingGiven, Rulings, TariffAccepted}
+use Rattle.book_model.specs.Words.{book_after, is_dated_after, last_close, members, no_event}
+use Rattle.book_model.specs.Words.{open_number, period_of, period_on, price_in, set_of, by_detail}
+use Rattle.book_model.specs.Words.{detail_by, detail_of, details_asked, details_for, details_of}
+use Rattle.book_model.specs.Words.{next_after}
 use Rattle.book_model.proofs.Lemmas.{calls_go_forward, closed_prices_stay, last_or-behind}
 use Rattle.book_model.proofs.Lemmas.{sound_after, pick-agree}
 use Rattle.book_model.proofs.DetailLemmas.{asked_rise, details_rise}

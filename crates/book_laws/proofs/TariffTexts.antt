@@ -4,7 +4,8 @@ use Rattle.std.proofs.Common.{Option, Some, None, Ok, ap, refl, ◌||◌, ℤ, i
 use Rattle.std.proofs.Common.{filter_map, option_map, int_eq}
 use Rattle.std.proofs.lemmas.Bool.Decides.{Decides-int_eq}
 use Rattle.book_model.proofs.Std.{cons_option, list_any, filter_map-append}
-use Rattle.book_model.specs.Words.{Done, AcceptedTerms, Book, Event, RulingGiven, TariffAccepted}
+use Rattle.book_model.specs.declared.answer.Ruled.TheVariants.{Done}
+use Rattle.book_model.specs.Words.{AcceptedTerms, Book, Event, RulingGiven, TariffAccepted}
 use Rattle.book_model.specs.Words.{TariffSeen, Terms, after, is_effective, tariff_seen}
 use Rattle.book_model.specs.Words.{tariff_text_on, tariffs_seen, terms_answer, text_on, with_tariff}
 use Rattle.book_model.proofs.Lemmas.{tariff_passes}

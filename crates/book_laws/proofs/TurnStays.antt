@@ -3,10 +3,13 @@ use Rattle.std.proofs.Common.{◌≡◌, ℕ, suc, ◌+◌, ◌≤◌, List, [],
 use Rattle.std.proofs.Common.{◌∙◌, true, false, Bool, cond, ◌&&◌, None, arith, filter, nat_lt}
 use Rattle.std.proofs.Common.{option_map, le-ltb, length-append}
 use Rattle.book_model.proofs.Std.{last_or, filter-append}
-use Rattle.book_model.specs.Words.{Deed, Added, Charged, Reversed, Turn, Book, Event, IsMadeByCalls}
-use Rattle.book_model.specs.Words.{Naming, Period, PeriodClosed, book_after, charged_before}
-use Rattle.book_model.specs.Words.{charged_through, has, is_charge, last_close, life_from, life_of}
-use Rattle.book_model.specs.Words.{open_period, period_by, turn_if, turns_in}
+use Rattle.book_model.specs.declared.trail.Deed.{Deed}
+use Rattle.book_model.specs.declared.trail.Deed.TheVariants.{Added, Charged, Reversed}
+use Rattle.book_model.specs.declared.trail.Turn.{Turn}
+use Rattle.book_model.specs.Words.{Book, Event, IsMadeByCalls, Naming, Period, PeriodClosed}
+use Rattle.book_model.specs.Words.{book_after, charged_before, charged_through, has, is_charge}
+use Rattle.book_model.specs.Words.{last_close, life_from, life_of, open_period, period_by, turn_if}
+use Rattle.book_model.specs.Words.{turns_in}
 
 -- a charge in a period before that of the number
 abbrev pub is_before : ℕ → Turn → Bool

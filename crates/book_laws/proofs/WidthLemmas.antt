@@ -9,10 +9,13 @@ use Rattle.std.proofs.lemmas.List.{length-replicate}
 use Rattle.std.proofs.lemmas.List.Sums.{sum_by-le}
 use Rattle.book_model.proofs.Std.{and_parts, nat_tests, All-map}
 use Rattle.smf_text.specs.Day.{day_text_of}
-use Rattle.book_model.specs.Words.{IsName, Priced, LedgerFault, NoSuchPeriod, ChargeRow, RowKey}
-use Rattle.book_model.specs.Words.{Book, Naming, IsPriced, Period, Records, charged_at, key_of}
-use Rattle.book_model.specs.Words.{AreAmong, keys_of, most_held, period_of, prices, row_at}
-use Rattle.book_model.specs.Words.{rows_for, rows_of}
+use Rattle.book_model.specs.declared.fault.LedgerFault.{LedgerFault}
+use Rattle.book_model.specs.declared.fault.LedgerFault.TheVariants.{NoSuchPeriod}
+use Rattle.book_model.specs.declared.row.ChargeRow.{ChargeRow}
+use Rattle.book_model.specs.declared.row.RowKey.{RowKey}
+use Rattle.book_model.specs.Words.{IsName, Priced, Book, Naming, IsPriced, Period, Records}
+use Rattle.book_model.specs.Words.{charged_at, key_of, AreAmong, keys_of, most_held, period_of}
+use Rattle.book_model.specs.Words.{prices, row_at, rows_for, rows_of}
 use Rattle.book_model.proofs.Lemmas.{by_key_total, by_key_exact, length-sum_by}
 use Rattle.book_laws.proofs.RowSums.{sum_by-rows}
 use Rattle.book_core.proofs.ListLimits.{All-members}

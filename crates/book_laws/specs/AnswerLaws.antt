@@ -1,6 +1,8 @@
 -- Laws of single calls of a ledger: each has one answer, and leaves one book.
 use Rattle.std.specs.Prelude.{◌≡◌, ◌≢◌, Result, Ok, Err}
-use Rattle.book_model.specs.Words.{LedgerFault, Memory, Store, Naming, Book, after_all, Outcome}
+use Rattle.book_model.specs.declared.fault.LedgerFault.{LedgerFault}
+use Rattle.book_model.specs.declared.fault.LedgerFault.TheVariants.{Memory, Store}
+use Rattle.book_model.specs.Words.{Naming, Book, after_all, Outcome}
 use Rattle.book_core.specs.Words.{Seen, IsOpenAt, IsCall, listed}
 
 -- a call of a ledger that was open with this book, on a store that is honest to the end

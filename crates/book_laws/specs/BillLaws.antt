@@ -4,11 +4,15 @@
 -- that are taken one of each dispute, and the bill of a closed period stays.
 use Rattle.std.specs.Prelude.{◌≡◌, ℕ, ◌+◌, ◌≤◌, ℤ, pos, ◌+ℤ◌, ◌-ℤ◌, List, [], ◌∷◌, ◌++◌, map}
 use Rattle.std.specs.Prelude.{sum_by, All, Contains, IsSome, Option, Some, None, true}
-use Rattle.book_model.specs.Words.{BilledTariff, HeldBack, Variant, Line, ChargeRow, BillSeen, Book}
-use Rattle.book_model.specs.Words.{Disputed, Event, IsMadeByCalls, IsSound, Naming, Period, Rulings}
-use Rattle.book_model.specs.Words.{Terms, amount_for, bill_of, bill_outcome, book_after, day_of}
-use Rattle.book_model.specs.Words.{has, held_back_in, in_force, is_day_of, lines_of, period_of}
-use Rattle.book_model.specs.Words.{rows_for, tariff_by}
+use Rattle.book_model.specs.declared.bill.BilledTariff.{BilledTariff}
+use Rattle.book_model.specs.declared.bill.HeldBack.{HeldBack}
+use Rattle.book_model.specs.declared.dispute.Variant.{Variant}
+use Rattle.book_model.specs.declared.line.Line.{Line}
+use Rattle.book_model.specs.declared.row.ChargeRow.{ChargeRow}
+use Rattle.book_model.specs.Words.{BillSeen, Book, Disputed, Event, IsMadeByCalls, IsSound, Naming}
+use Rattle.book_model.specs.Words.{Period, Rulings, Terms, amount_for, bill_of, bill_outcome}
+use Rattle.book_model.specs.Words.{book_after, day_of, has, held_back_in, in_force, is_day_of}
+use Rattle.book_model.specs.Words.{lines_of, period_of, rows_for, tariff_by}
 use Rattle.report_texts.specs.Centres.{lines_of_centre, rows_of_centre}
 use Rattle.report_texts.specs.Charges.{all_charges, centres_of, charges_of_centre, plain_lines}
 use Rattle.report_texts.specs.declared.charges.Charges.{Charges}

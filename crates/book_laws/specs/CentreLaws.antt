@@ -1,6 +1,8 @@
 -- Laws of the reports on single centres.
 use Rattle.std.specs.Prelude.{◌≡◌, ℕ, List, map, sum_by}
-use Rattle.book_model.specs.Words.{Line, ChargeRow, by_bytes, members, set_of}
+use Rattle.book_model.specs.declared.line.Line.{Line}
+use Rattle.book_model.specs.declared.row.ChargeRow.{ChargeRow}
+use Rattle.book_model.specs.Words.{by_bytes, members, set_of}
 use Rattle.report_texts.specs.Centres.{lines_of_centre, rows_of_centre}
 use Rattle.page_texts.specs.Figures.{centres_of}
 

@@ -1,7 +1,8 @@
 -- The law of the texts about a closed period that never change. Its page is none of them: it shows
 -- what is in dispute now.
 use Rattle.std.specs.Prelude.{◌≡◌, ℕ, List, ◌++◌, Option, Result}
-use Rattle.book_model.specs.Words.{LedgerFault, Book, Event, IsMadeByCalls, Naming, book_after}
+use Rattle.book_model.specs.declared.fault.LedgerFault.{LedgerFault}
+use Rattle.book_model.specs.Words.{Book, Event, IsMadeByCalls, Naming, book_after}
 use Rattle.book_reports.specs.declared.report.PeriodReport.{PeriodReport}
 use Rattle.book_reports.specs.declared.report.Report.TheVariants.{Bill, OfPeriod}
 use Rattle.book_reports.specs.declared.streamed_details.DetailReport.{DetailReport}

@@ -1,9 +1,11 @@
 -- The laws of details: they add up to charge rows, and each record stands in those of one period.
 use Rattle.std.specs.Prelude.{◌≡◌, ℕ, ◌+◌, ◌≤◌, List, All, Some, length, map, sum_by}
-use Rattle.book_model.specs.Words.{Detail, ChargeRow, Book, Event, IsMadeByCalls, IsSound, Naming}
-use Rattle.book_model.specs.Words.{Period, all_periods, book_after, charged_of, counted_of}
-use Rattle.book_model.specs.Words.{details_at, details_of, details_of_centre, has, is_dated_in}
-use Rattle.book_model.specs.Words.{period_of, rows_for, rows_of, those}
+use Rattle.book_model.specs.declared.detail.Detail.{Detail}
+use Rattle.book_model.specs.declared.row.ChargeRow.{ChargeRow}
+use Rattle.book_model.specs.Words.{Book, Event, IsMadeByCalls, IsSound, Naming, Period, all_periods}
+use Rattle.book_model.specs.Words.{book_after, charged_of, counted_of, details_at, details_of}
+use Rattle.book_model.specs.Words.{details_of_centre, has, is_dated_in, period_of, rows_for}
+use Rattle.book_model.specs.Words.{rows_of, those}
 use Rattle.report_texts.specs.Centres.{rows_of_centre}
 use Rattle.table_model.specs.TablesOf.{row_key}
 use Rattle.book_laws.specs.NetCounts.{one_if, times_added, times_counted, times_reversed}

@@ -2,11 +2,13 @@
 -- records by day, centre, shift, time and name, with all that a line of details shows.
 use Rattle.std.specs.Prelude.{◌≡◌, ℕ, true, false, List, filter, Some, Ok, ℤ, int_lt}
 use Rattle.std.specs.BTreeSet.{insert_key}
-use Rattle.book_model.specs.Words.{day_of, Done, Detail, Book, Event, IsMadeByCalls, IsSound}
-use Rattle.book_model.specs.Words.{Naming, Period, Rulings, Terms, Records, book_after, by_detail}
-use Rattle.book_model.specs.Words.{charged_of, close, close_answer, counted_of, detail_of}
-use Rattle.book_model.specs.Words.{details_for, details_of, has, is_counted_in, is_dated_after}
-use Rattle.book_model.specs.Words.{last_close, name_of, period_of, terms_answer, with, is_day_of}
+use Rattle.book_model.specs.declared.answer.Ruled.TheVariants.{Done}
+use Rattle.book_model.specs.declared.detail.Detail.{Detail}
+use Rattle.book_model.specs.Words.{day_of, Book, Event, IsMadeByCalls, IsSound, Naming, Period}
+use Rattle.book_model.specs.Words.{Rulings, Terms, Records, book_after, by_detail, charged_of}
+use Rattle.book_model.specs.Words.{close, close_answer, counted_of, detail_of, details_for}
+use Rattle.book_model.specs.Words.{details_of, has, is_counted_in, is_dated_after, last_close}
+use Rattle.book_model.specs.Words.{name_of, period_of, terms_answer, with, is_day_of}
 
 -- the rows that are kept
 abbrev pub kept_details : Naming → Book → List Detail

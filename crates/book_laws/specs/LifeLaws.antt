@@ -2,7 +2,8 @@
 -- charge net.
 use Rattle.std.specs.Prelude.{◌≡◌, ℕ, Bool, false, not, List, [], ◌∷◌, ◌++◌, codes, pos, Ok}
 use Rattle.std.specs.Prelude.{decimal}
-use Rattle.book_model.specs.Words.{Turn, Book, Event, Naming, TrailSeen, all_periods, book_after}
+use Rattle.book_model.specs.declared.trail.Turn.{Turn}
+use Rattle.book_model.specs.Words.{Book, Event, Naming, TrailSeen, all_periods, book_after}
 use Rattle.book_model.specs.Words.{charged_of, has, is_charge, life_of, net_of, trail_outcome}
 use Rattle.report_texts.specs.Columns.{newline}
 use Rattle.report_texts.specs.LifeLines.{net_line}

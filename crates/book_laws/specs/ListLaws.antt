@@ -2,8 +2,10 @@
 use Rattle.std.specs.Prelude.{◌≡◌, ◌+◌, ◌-ℤ◌, ℕ, suc, pos, List, [], ◌∷◌, length, map, sum_by, Ok}
 use Rattle.std.specs.Prelude.{Vec}
 use Rattle.std.specs.Global.{Global}
-use Rattle.book_model.specs.Words.{Line, ChargeRow, total_of, IsMadeByCalls, Book, charged_of}
-use Rattle.book_model.specs.Words.{open_number, Event, book_after, book_of, Naming}
+use Rattle.book_model.specs.declared.line.Line.{Line}
+use Rattle.book_model.specs.declared.row.ChargeRow.{ChargeRow}
+use Rattle.book_model.specs.Words.{total_of, IsMadeByCalls, Book, charged_of, open_number, Event}
+use Rattle.book_model.specs.Words.{book_after, book_of, Naming}
 use Rattle.book_core.specs.Ledgers.{Seen, IsOpenAt}
 use Rattle.book_laws.specs.PeriodAmounts.{plus_of, minus_of}
 use Rattle.office.specs.Laws.{IsStillOpen}

@@ -1,10 +1,11 @@
 -- What is true of the charge rows that a period would have by another tariff.
 use Rattle.std.specs.Prelude.{◌≡◌, ◌++◌, ◌∷◌, ℕ, [], true, filter, map, sum_by, List, Some, Ok}
-use Rattle.book_model.specs.Words.{on_every_day, Priced, ChargeRow, AcceptedTerms, Book, Event}
-use Rattle.book_model.specs.Words.{IsMadeByCalls, Naming, Period, Records, Terms, book_after}
-use Rattle.book_model.specs.Words.{charges_outcome, day_of, flat_book, has, in_force, members}
-use Rattle.book_model.specs.Words.{no_event, period_of, price_by, price_in, prices, rows_if_room}
-use Rattle.book_model.specs.Words.{same_bytes, terms_in, what_if_outcome}
+use Rattle.book_model.specs.declared.row.ChargeRow.{ChargeRow}
+use Rattle.book_model.specs.Words.{on_every_day, Priced, AcceptedTerms, Book, Event, IsMadeByCalls}
+use Rattle.book_model.specs.Words.{Naming, Period, Records, Terms, book_after, charges_outcome}
+use Rattle.book_model.specs.Words.{day_of, flat_book, has, in_force, members, no_event, period_of}
+use Rattle.book_model.specs.Words.{price_by, price_in, prices, rows_if_room, same_bytes, terms_in}
+use Rattle.book_model.specs.Words.{what_if_outcome}
 use Rattle.report_texts.specs.Centres.{rows_of_centre}
 use Rattle.table_model.specs.Readable.{IsReadable}
 use Rattle.book_laws.specs.ClosedPeriods.{IsClosed}

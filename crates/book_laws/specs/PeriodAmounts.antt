@@ -1,6 +1,7 @@
 -- What the rows and lines of periods amount to, at the prices of some rulings.
 use Rattle.std.specs.Prelude.{ℕ, List, sum_by}
-use Rattle.book_model.specs.Words.{Period, lines_of, Naming, rows_for, Rulings, total_of, Line}
+use Rattle.book_model.specs.declared.line.Line.{Line}
+use Rattle.book_model.specs.Words.{Period, lines_of, Naming, rows_for, Rulings, total_of}
 use Rattle.report_texts.specs.AdjustmentLists.{charged_amount, reversed_amount}
 
 -- the charge rows of all the periods

@@ -2,7 +2,9 @@
 use Rattle.std.specs.Prelude.{◌≡◌, ◌≢◌, ◌<◌, ℕ, List, length, take, Result, Ok, Err}
 use Rattle.std.specs.Io.KnownBytes.{Appends}
 use Rattle.streams.specs.InputOutput.{Output}
-use Rattle.book_model.specs.Words.{LedgerFault, Store, Naming, Book}
+use Rattle.book_model.specs.declared.fault.LedgerFault.{LedgerFault}
+use Rattle.book_model.specs.declared.fault.LedgerFault.TheVariants.{Store}
+use Rattle.book_model.specs.Words.{Naming, Book}
 use Rattle.book_core.specs.Ledgers.{Books, Seen, IsOpenAt, books}
 use Rattle.book_reports.specs.declared.fault.ReportFault.{ReportFault}
 use Rattle.book_reports.specs.declared.fault.ReportFault.TheVariants.{Write, Ledger}

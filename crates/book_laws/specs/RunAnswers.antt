@@ -1,6 +1,7 @@
 -- The law of lists of requests: each has one answer, and they leave one book.
 use Rattle.std.specs.Prelude.{◌≡◌, false, All, List, [], ◌∷◌, map, Result}
-use Rattle.book_model.specs.Words.{LedgerFault, Naming, Book, after_all}
+use Rattle.book_model.specs.declared.fault.LedgerFault.{LedgerFault}
+use Rattle.book_model.specs.Words.{Naming, Book, after_all}
 use Rattle.book_core.specs.Words.{Books, Seen, IsOpenAt, books, IsTransition}
 use Rattle.office.specs.declared.request.Asked.{Asked}
 use Rattle.office.specs.declared.request.Answer.{Answer}

@@ -1,7 +1,8 @@
 -- How wide the lines of a statement are.
 use Rattle.std.specs.Prelude.{◌≡◌, ℕ, true, All, List, length, Some, Ok}
+use Rattle.book_model.specs.declared.row.ChargeRow.{ChargeRow}
 use Rattle.book_model.specs.Words.{Book, IsPriced, Naming, Period, Terms, charges_outcome, has}
-use Rattle.book_model.specs.Words.{period_of, price_by, what_if_outcome, ChargeRow}
+use Rattle.book_model.specs.Words.{period_of, price_by, what_if_outcome}
 use Rattle.report_texts.specs.Statements.{heading, row_line, total_line}
 use Rattle.table_model.specs.Readable.{IsReadable}
 

@@ -1,6 +1,7 @@
 -- The law of tariff files: each is written back as it was submitted.
 use Rattle.std.specs.Prelude.{◌≡◌, ℕ, ℤ, List, Some, Ok}
-use Rattle.book_model.specs.Words.{Done, Book, Event, Terms, after, tariff_text_on, terms_answer}
+use Rattle.book_model.specs.declared.answer.Ruled.TheVariants.{Done}
+use Rattle.book_model.specs.Words.{Book, Event, Terms, after, tariff_text_on, terms_answer}
 use Rattle.book_model.specs.Words.{with_tariff}
 
 -- Once the text of a tariff is accepted, it is the one of the tariff's first day; and whatever event

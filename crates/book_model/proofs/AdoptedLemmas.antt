@@ -8,12 +8,15 @@ use Rattle.book_model.proofs.Std.{list_any, last_or, option_map_or, nat_list_cmp
 use Rattle.book_model.proofs.Std.{nat_list_eq_equiv, exact_bytes, tells_apart}
 use Rattle.smf_type30.specs.Usage.{identity2_of}
 use Rattle.smf_type30.proofs.IdentityLength.{identity-long}
+use Rattle.book_model.specs.declared.answer.Ruled.{Ruled}
+use Rattle.book_model.specs.declared.answer.Ruled.TheVariants.{Done, Already}
+use Rattle.book_model.specs.declared.fault.LedgerFault.{LedgerFault}
+use Rattle.book_model.specs.declared.fault.LedgerFault.TheVariants.{OldRule}
 use Rattle.book_model.specs.Words.{IsUsage, identity_of, initiation_of, share_identity, conflict}
 use Rattle.book_model.specs.Words.{is_unrivalled, is_chosen, last_chosen, is_undisputed}
-use Rattle.book_model.specs.Words.{charged_now, Ruled, Done, Already, LedgerFault, OldRule, Book}
-use Rattle.book_model.specs.Words.{adopt_answer, first_rule, second_rule, Records, same_bytes}
-use Rattle.book_model.specs.Words.{Rulings, identity_by, with_second_rule, members, has, IsChoiceOf}
-use Rattle.book_model.specs.Words.{AreAmong}
+use Rattle.book_model.specs.Words.{charged_now, Book, adopt_answer, first_rule, second_rule}
+use Rattle.book_model.specs.Words.{Records, same_bytes, Rulings, identity_by, with_second_rule}
+use Rattle.book_model.specs.Words.{members, has, IsChoiceOf, AreAmong}
 use Rattle.book_model.specs.Laws.{AdoptionTakesNothing}
 use Rattle.book_model.proofs.ChosenLemmas.{all_chosen, chosen_held}
 use Rattle.book_model.proofs.RecordSets.{is, has_those, first_of, in_those, is_first}

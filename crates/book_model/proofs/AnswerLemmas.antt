@@ -1,8 +1,11 @@
 -- Answers of a ledger, where memory may run out.
 use Rattle.std.proofs.Common.{◌≡◌, ℕ, List, Result, Ok, Err, Option, None, refl, sym, ap, ◌∙◌}
-use Rattle.book_model.specs.Words.{LedgerFault, Memory, Accepted, Ruled, accept_answer, Answers}
-use Rattle.book_model.specs.Words.{IsBookCall, Book, Event, after_any, Outcome, accept_event}
-use Rattle.book_model.specs.Words.{accept_outcome, if_done, Naming}
+use Rattle.book_model.specs.declared.answer.Accepted.{Accepted}
+use Rattle.book_model.specs.declared.answer.Ruled.{Ruled}
+use Rattle.book_model.specs.declared.fault.LedgerFault.{LedgerFault}
+use Rattle.book_model.specs.declared.fault.LedgerFault.TheVariants.{Memory}
+use Rattle.book_model.specs.Words.{accept_answer, Answers, IsBookCall, Book, Event, after_any}
+use Rattle.book_model.specs.Words.{Outcome, accept_event, accept_outcome, if_done, Naming}
 
 -- what is answered as it is
 pub answers_itself : {A : Type 0} (result answer : Result A LedgerFault) → answer ≡ result

@@ -2,8 +2,9 @@
 use Rattle.std.proofs.Common.{◌≡◌, ℕ, List, arith, not, true, false, true≢false, Option, Some, None}
 use Rattle.std.proofs.Common.{Ok, ℤ, ◌<ℤ◌, MatchOption}
 use Rattle.std.proofs.lemmas.Int.{ints}
-use Rattle.book_model.specs.Words.{day_of, Terms, Done, Book, is_dated_after, is_after}
-use Rattle.book_model.specs.Words.{IsAfterLastClose, last_close, terms_answer, close_answer}
+use Rattle.book_model.specs.declared.answer.Ruled.TheVariants.{Done}
+use Rattle.book_model.specs.Words.{day_of, Terms, Book, is_dated_after, is_after, IsAfterLastClose}
+use Rattle.book_model.specs.Words.{last_close, terms_answer, close_answer}
 use Rattle.book_model.specs.Laws.{CallsGoForward, ClosedPricesStay}
 use Rattle.book_model.proofs.LatestLemmas.{later-after}
 use Rattle.book_model.proofs.PricingLemmas.{earlier_prices_stay}

@@ -8,7 +8,8 @@ use Rattle.book_model.proofs.Std.{cons_option, list_any, IsDistinct, IsStrictlyS
 use Rattle.book_model.proofs.Std.{option_map_or, eq_by_cmp, ordering_then, nat_list_cmp_total}
 use Rattle.book_model.proofs.Std.{IsStrictlySortedBy-filter, IsPermutation-sym}
 use Rattle.book_model.proofs.Std.{IsDistinct-from_sorted, exact_bytes}
-use Rattle.book_model.specs.Words.{Priced, Detail, by_detail, detail_by, detail_of, details_asked}
+use Rattle.book_model.specs.declared.detail.Detail.{Detail}
+use Rattle.book_model.specs.Words.{Priced, by_detail, detail_by, detail_of, details_asked}
 use Rattle.book_model.specs.Words.{details_for, Naming, Records, by_bytes, name_of, same_bytes}
 use Rattle.book_model.specs.Words.{by_key, key_of, Rulings, price_in, has, members, set_of, those}
 use Rattle.book_model.specs.Words.{with}

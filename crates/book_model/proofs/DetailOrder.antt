@@ -8,8 +8,9 @@ use Rattle.book_model.proofs.Std.{ordering_reverse, eq_by_cmp_equiv, nat_cmp_tot
 use Rattle.book_model.proofs.Std.{nat_list_cmp_total, on_total, then_total, All-contains}
 use Rattle.book_model.proofs.Std.{All-from_recursion, Contains-append_right, sorted_head}
 use Rattle.book_model.proofs.Std.{sorted_tail}
-use Rattle.book_model.specs.Words.{Detail, by_detail, comes_after, details_asked, first_detail}
-use Rattle.book_model.specs.Words.{is_asked, next_after, key_of}
+use Rattle.book_model.specs.declared.detail.Detail.{Detail}
+use Rattle.book_model.specs.Words.{by_detail, comes_after, details_asked, first_detail, is_asked}
+use Rattle.book_model.specs.Words.{next_after, key_of}
 use Rattle.book_model.proofs.PermutedSets.{first_or, has_first, has_none}
 use Rattle.book_model.proofs.RowLemmas.{by_key_total}
 

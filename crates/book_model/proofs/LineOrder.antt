@@ -9,7 +9,8 @@ use Rattle.book_model.proofs.Std.{IsTotalOrder, texts_ties, AllByRecursion, eq_b
 use Rattle.book_model.proofs.Std.{ordering_then, ordering_reverse, then_total, on_total}
 use Rattle.book_model.proofs.Std.{nat_list_cmp_total, int_cmp_total, nat_list_eq_equiv}
 use Rattle.book_model.proofs.Std.{IsPermutation-map}
-use Rattle.book_model.specs.Words.{Priced, Line, plus_first, by_line, line_with, Naming, name_of}
+use Rattle.book_model.specs.declared.line.Line.{Line}
+use Rattle.book_model.specs.Words.{Priced, plus_first, by_line, line_with, Naming, name_of}
 use Rattle.book_model.specs.Words.{by_bytes, same_bytes, Rulings, price_in, set_of, members}
 use Rattle.book_model.proofs.PermutedSets.{rising_from_sorted, sorted_members}
 

@@ -2,13 +2,19 @@
 use Rattle.std.proofs.Common.{◌≡◌, ℕ, List, Bool, true, false, not, Option, Some, None, Result, Ok}
 use Rattle.std.proofs.Common.{Err, refl, length, if◌then◌else◌, ◌==◌, ℤ, IsSome, nat_le, eqb-true}
 use Rattle.std.specs.List.{list_any}
-use Rattle.book_model.specs.Words.{Terms, Priced, Accepted, Kept, Known, Ruled, Done, Already}
-use Rattle.book_model.specs.Words.{LedgerFault, DigestClash, Full, NotDisputed, NotLater}
-use Rattle.book_model.specs.Words.{TariffDate, TariffExists, WrongPeriod, accept_answer}
-use Rattle.book_model.specs.Words.{accept_priced, clashes, Book, open_number, is_chosen}
-use Rattle.book_model.specs.Words.{is_unrivalled, last_period, most_choices, Naming, chosen_answer}
-use Rattle.book_model.specs.Words.{close_answer, has_text, is_closed, is_early, is_effective}
-use Rattle.book_model.specs.Words.{is_later, is_too_dear, terms_answer, price_in, with_tariff, has}
+use Rattle.book_model.specs.declared.answer.Accepted.{Accepted}
+use Rattle.book_model.specs.declared.answer.Accepted.TheVariants.{Kept, Known}
+use Rattle.book_model.specs.declared.answer.Ruled.{Ruled}
+use Rattle.book_model.specs.declared.answer.Ruled.TheVariants.{Done, Already}
+use Rattle.book_model.specs.declared.fault.LedgerFault.{LedgerFault}
+use Rattle.book_model.specs.declared.fault.LedgerFault.TheVariants.{DigestClash, Full, NotDisputed}
+use Rattle.book_model.specs.declared.fault.LedgerFault.TheVariants.{NotLater, TariffDate}
+use Rattle.book_model.specs.declared.fault.LedgerFault.TheVariants.{TariffExists, WrongPeriod}
+use Rattle.book_model.specs.Words.{Terms, Priced, accept_answer, accept_priced, clashes, Book}
+use Rattle.book_model.specs.Words.{open_number, is_chosen, is_unrivalled, last_period, most_choices}
+use Rattle.book_model.specs.Words.{Naming, chosen_answer, close_answer, has_text, is_closed}
+use Rattle.book_model.specs.Words.{is_early, is_effective, is_later, is_too_dear, terms_answer}
+use Rattle.book_model.specs.Words.{price_in, with_tariff, has}
 
 -- a record that is kept: it is new, no other has its name, and there is room for its price
 pub record KeptPasses (known clash : Bool) (priced : Result Accepted LedgerFault) : Type 0 where

@@ -1,6 +1,6 @@
--- The words of the standard, the tariffs and the books, and the types that ledgers answer, from one
--- place, for the crates above. Read in the order of `specs/Lib.antt` of each crate: it says what
--- each word means.
+-- The words of the standard, the tariffs and the books, from one place, for the crates above, but for
+-- the types of this crate, which only their own modules export. Read in the order of `specs/Lib.antt`
+-- of each crate: it says what each word means.
 pub use Rattle.smf_text.specs.Day.{IsDay, date_of, day_of_text_of, day_text_of}
 pub use Rattle.smf_text.specs.PackedDate.{packed_day_of}
 pub use Rattle.smf_text.specs.Names.{IsName, is_name_character}
@@ -35,35 +35,6 @@ pub use Rattle.tariff_rules.specs.Letterhead.{no_letterhead}
 pub use Rattle.tariff_rules.specs.declared.fault.TariffFault.{TariffFault}
 pub use Rattle.tariff_rules.specs.declared.priced.Priced.{Priced}
 pub use Rattle.tariff_rules.specs.declared.reckoning.Reckoning.{Reckoning}
-pub use Rattle.book_model.specs.declared.answer.Accepted.{Accepted}
-pub use Rattle.book_model.specs.declared.answer.Accepted.TheVariants.{Kept, Known, Unpriced}
-pub use Rattle.book_model.specs.declared.answer.Ruled.{Ruled}
-pub use Rattle.book_model.specs.declared.answer.Ruled.TheVariants.{Already, Done}
-pub use Rattle.book_model.specs.declared.bill.Bill.{Bill}
-pub use Rattle.book_model.specs.declared.bill.BilledLine.{BilledLine}
-pub use Rattle.book_model.specs.declared.bill.BilledTariff.{BilledTariff}
-pub use Rattle.book_model.specs.declared.bill.HeldBack.{HeldBack}
-pub use Rattle.book_model.specs.declared.detail.Detail.{Detail}
-pub use Rattle.book_model.specs.declared.dispute.Dispute.{Dispute}
-pub use Rattle.book_model.specs.declared.dispute.Variant.{Variant}
-pub use Rattle.book_model.specs.declared.fault.LedgerFault.{LedgerFault}
-pub use Rattle.book_model.specs.declared.fault.LedgerFault.TheVariants.{DigestClash, Full, Memory}
-pub use Rattle.book_model.specs.declared.fault.LedgerFault.TheVariants.{NewForm, NoSuchPeriod}
-pub use Rattle.book_model.specs.declared.fault.LedgerFault.TheVariants.{NoSuchRecord, NoSuchTariff}
-pub use Rattle.book_model.specs.declared.fault.LedgerFault.TheVariants.{NotBooks, NotDisputed}
-pub use Rattle.book_model.specs.declared.fault.LedgerFault.TheVariants.{NotLater, OldForm, OldRule}
-pub use Rattle.book_model.specs.declared.fault.LedgerFault.TheVariants.{RecordsDated, Reopen, Store}
-pub use Rattle.book_model.specs.declared.fault.LedgerFault.TheVariants.{TariffDate, TariffExists}
-pub use Rattle.book_model.specs.declared.fault.LedgerFault.TheVariants.{TariffRefused, WrongPeriod}
-pub use Rattle.book_model.specs.declared.line.Line.{Line}
-pub use Rattle.book_model.specs.declared.listed_ruling.ListedRuling.{ListedRuling}
-pub use Rattle.book_model.specs.declared.row.ChargeRow.{ChargeRow}
-pub use Rattle.book_model.specs.declared.row.RowKey.{RowKey}
-pub use Rattle.book_model.specs.declared.trail.Deed.{Deed}
-pub use Rattle.book_model.specs.declared.trail.Deed.TheVariants.{Added, Charged, Reversed}
-pub use Rattle.book_model.specs.declared.trail.NamedChoice.{NamedChoice}
-pub use Rattle.book_model.specs.declared.trail.Trail.{Trail}
-pub use Rattle.book_model.specs.declared.trail.Turn.{Turn}
 pub use Rattle.book_model.specs.Sets.{Set, has, members, set_of, those, with, without}
 pub use Rattle.book_model.specs.Records.{IsUsageRecord, Naming, Records, by_bytes, name_of}
 pub use Rattle.book_model.specs.Records.{same_bytes}

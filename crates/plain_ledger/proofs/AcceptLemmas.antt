@@ -6,9 +6,11 @@ use Rattle.std.proofs.lemmas.Bool.{or_parts}
 use Rattle.std.specs.BTreeMap.{insert_entry}
 use Rattle.std.specs.List.Sorted.{IsStrictlySortedBy}
 use Rattle.std.specs.Map.{keys_of}
+use Rattle.book_model.specs.declared.answer.Accepted.TheVariants.{Kept, Known}
+use Rattle.book_model.specs.declared.fault.LedgerFault.TheVariants.{Full, DigestClash}
 use Rattle.book_model.specs.Words.{Priced, Book, new_book, most_held, most_cost, Naming, name_of}
 use Rattle.book_model.specs.Words.{by_bytes, same_bytes, Rulings, price_in, has, is_full, clashes}
-use Rattle.book_model.specs.Words.{accept_priced, accept_answer, Kept, Known, Full, DigestClash}
+use Rattle.book_model.specs.Words.{accept_priced, accept_answer}
 use Rattle.plain_ledger.specs.declared.held.HeldRecord.{HeldRecord}
 use Rattle.plain_ledger.specs.Plain.{Entry, AreBooked, held_in, record_of}
 use Rattle.plain_ledger.specs.Treatments.{under_name}

@@ -6,9 +6,10 @@ use Rattle.std.specs.BTreeMap.{insert_entry}
 use Rattle.std.specs.Map.{keys_of}
 use Rattle.std.proofs.lemmas.Option.{slice_get-map, slice_get_cases}
 use Rattle.book_model.proofs.Std.{IsStrictlySortedBy, nat_tests, map-append, slice_get_past}
-use Rattle.book_model.specs.Words.{LedgerFault, NoSuchPeriod, Book, open_number, open_period}
-use Rattle.book_model.specs.Words.{period_of, keep, close, Period, Naming, by_bytes, Rulings}
-use Rattle.book_model.specs.Words.{are_rising, price_under, with_close}
+use Rattle.book_model.specs.declared.fault.LedgerFault.{LedgerFault}
+use Rattle.book_model.specs.declared.fault.LedgerFault.TheVariants.{NoSuchPeriod}
+use Rattle.book_model.specs.Words.{Book, open_number, open_period, period_of, keep, close, Period}
+use Rattle.book_model.specs.Words.{Naming, by_bytes, Rulings, are_rising, price_under, with_close}
 use Rattle.plain_ledger.specs.declared.treatment.ClosedPeriod.{ClosedPeriod}
 use Rattle.plain_ledger.specs.declared.period_end.PeriodEnd.{PeriodEnd}
 use Rattle.plain_ledger.specs.declared.held.HeldRecord.{HeldRecord}

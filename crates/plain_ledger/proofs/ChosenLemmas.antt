@@ -7,11 +7,13 @@ use Rattle.std.specs.Map.{keys_of, lookup}
 use Rattle.std.specs.Rc.{rc_slice_items}
 use Rattle.book_model.proofs.Std.{IsStrictlySortedBy, nat_tests, map-append, All-head, All-tail}
 use Rattle.book_model.proofs.Std.{exact_bytes, tells_apart}
-use Rattle.book_model.specs.Words.{Ruled, Done, Already, LedgerFault, Full, NoSuchRecord}
-use Rattle.book_model.specs.Words.{NotDisputed, Book, Choice, IsBookCall, Naming, Rulings}
-use Rattle.book_model.specs.Words.{after_any, by_bytes, if_done, choose_outcome, with_choice}
-use Rattle.book_model.specs.Words.{chosen_answer, is_chosen, is_unrivalled, most_choices, open_by}
-use Rattle.book_model.specs.Words.{record_named}
+use Rattle.book_model.specs.declared.answer.Ruled.{Ruled}
+use Rattle.book_model.specs.declared.answer.Ruled.TheVariants.{Done, Already}
+use Rattle.book_model.specs.declared.fault.LedgerFault.{LedgerFault}
+use Rattle.book_model.specs.declared.fault.LedgerFault.TheVariants.{Full, NoSuchRecord, NotDisputed}
+use Rattle.book_model.specs.Words.{Book, Choice, IsBookCall, Naming, Rulings, after_any, by_bytes}
+use Rattle.book_model.specs.Words.{if_done, choose_outcome, with_choice, chosen_answer, is_chosen}
+use Rattle.book_model.specs.Words.{is_unrivalled, most_choices, open_by, record_named}
 use Rattle.book_model.proofs.AnswerLemmas.{answers_itself, ruling_calls}
 use Rattle.book_model.proofs.Lemmas.{named_held}
 use Rattle.plain_ledger.specs.declared.chosen.ChosenRecord.{ChosenRecord}

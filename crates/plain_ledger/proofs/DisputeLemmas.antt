@@ -8,10 +8,12 @@ use Rattle.book_model.proofs.Std.{IsStrictlySortedBy, nat_tests, nat_list_cmp_to
 use Rattle.book_model.proofs.Std.{nat_list_eq_equiv, length-map, All-filter, All-head, All-tail}
 use Rattle.book_model.proofs.Std.{list_any_at, IsStrictlySortedBy-filter, length-filter}
 use Rattle.book_model.proofs.Std.{exact_bytes, map-map}
+use Rattle.book_model.specs.declared.dispute.Dispute.{Dispute}
+use Rattle.book_model.specs.declared.dispute.Variant.{Variant}
 use Rattle.book_model.specs.Words.{identity_by, by_name, variant_of, identities, records_of}
 use Rattle.book_model.specs.Words.{dispute_at, disputes_in, is_in_dispute, is_settled, Naming}
 use Rattle.book_model.specs.Words.{by_bytes, same_bytes, Rulings, set_of, members, IsDispute}
-use Rattle.book_model.specs.Words.{ShowsDispute, dispute_shown, Dispute, Variant}
+use Rattle.book_model.specs.Words.{ShowsDispute, dispute_shown}
 use Rattle.plain_ledger.specs.Plain.{Entry, entry_records, held_in, AreBooked, is_alone, variant_at}
 use Rattle.plain_ledger.specs.Plain.{dispute_among, disputes_among, entry_identity}
 use Rattle.plain_ledger.specs.Plain.{entry_has_identity, is_disputed, is_shared}

@@ -11,8 +11,8 @@ use Rattle.std.proofs.lemmas.Map.Made.{lookup-map_values}
 use Rattle.book_model.proofs.Std.{match_ordering, eq_by_cmp, list_any, texts_ties, bytes_decides}
 use Rattle.book_model.proofs.Std.{nat_list_cmp_total, filter-append, map-append, map-map}
 use Rattle.book_model.proofs.Std.{exact_bytes}
+use Rattle.book_model.specs.declared.dispute.Variant.{Variant}
 use Rattle.book_model.specs.Words.{by_bytes, Disputed, set_of, members, Rulings, is_settled}
-use Rattle.book_model.specs.Words.{Variant}
 use Rattle.plain_ledger.specs.Plain.{Entry, variant_at, group_shown, dispute_among, disputes_among}
 use Rattle.plain_ledger.specs.Plain.{entry_identity, entry_has_identity, is_disputed, HasDisputed}
 use Rattle.plain_ledger.specs.Plain.{is_lone}

@@ -6,7 +6,8 @@ use Rattle.std.specs.BTreeMap.{is_at, get}
 use Rattle.std.specs.Map.{keys_of}
 use Rattle.book_model.proofs.Std.{IsStrictlySortedBy, length-map, map-append, take_more}
 use Rattle.book_model.proofs.Std.{exact_bytes, tells_apart}
-use Rattle.book_model.specs.Words.{Turn, Naming, Period, Rulings, by_bytes, has, life_from, life_of}
+use Rattle.book_model.specs.declared.trail.Turn.{Turn}
+use Rattle.book_model.specs.Words.{Naming, Period, Rulings, by_bytes, has, life_from, life_of}
 use Rattle.book_model.specs.Words.{turn_if, turns_in}
 use Rattle.plain_ledger.specs.declared.treatment.ClosedPeriod.{ClosedPeriod}
 use Rattle.plain_ledger.specs.declared.held.HeldRecord.{HeldRecord}

@@ -11,8 +11,9 @@ use Rattle.book_model.proofs.Std.{cons_option, IsDistinct, IsStrictlySortedBy, e
 use Rattle.book_model.proofs.Std.{nat_list_cmp_total, All-nil, All-cons, All-filter}
 use Rattle.book_model.proofs.Std.{IsPermutation-refl, IsPermutation-sym, IsPermutation-trans}
 use Rattle.book_model.proofs.Std.{sum_by-IsPermutation, sum_by-cons, IsDistinct-from_sorted}
+use Rattle.book_model.specs.declared.line.Line.{Line}
 use Rattle.book_model.specs.Words.{IsDay, by_line, lines_for, lines_of, AreLines, Naming, by_bytes}
-use Rattle.book_model.specs.Words.{same_bytes, Rulings, set_of, members, Line}
+use Rattle.book_model.specs.Words.{same_bytes, Rulings, set_of, members}
 use Rattle.book_model.proofs.Lemmas.{filter_map-map, filter_map-defined, by_line_total, line_by}
 use Rattle.book_model.proofs.Lemmas.{apart_from_distinct, given_permuted, members_reordered}
 use Rattle.book_model.proofs.Lemmas.{same_bytes-by_cmp}

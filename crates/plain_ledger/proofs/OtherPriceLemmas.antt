@@ -6,10 +6,12 @@ use Rattle.std.proofs.Common.{append_assoc}
 use Rattle.std.specs.Map.{keys_of}
 use Rattle.book_model.proofs.Std.{IsStrictlySortedBy, length-map, length-filter_both, nat_tests}
 use Rattle.book_model.proofs.Std.{map-map}
-use Rattle.book_model.specs.Words.{Priced, LedgerFault, Full, NoSuchPeriod, ChargeRow, AreRows}
-use Rattle.book_model.specs.Words.{FitSums, IsPriced, Naming, Period, Rulings, Terms, by_bytes}
-use Rattle.book_model.specs.Words.{most_cost, most_held, price_by, rows_if_room, rows_of}
-use Rattle.book_model.specs.Words.{what_if_answer}
+use Rattle.book_model.specs.declared.fault.LedgerFault.{LedgerFault}
+use Rattle.book_model.specs.declared.fault.LedgerFault.TheVariants.{Full, NoSuchPeriod}
+use Rattle.book_model.specs.declared.row.ChargeRow.{ChargeRow}
+use Rattle.book_model.specs.Words.{Priced, AreRows, FitSums, IsPriced, Naming, Period, Rulings}
+use Rattle.book_model.specs.Words.{Terms, by_bytes, most_cost, most_held, price_by, rows_if_room}
+use Rattle.book_model.specs.Words.{rows_of, what_if_answer}
 use Rattle.book_model.proofs.RowLemmas.{rows_if_room-alike}
 use Rattle.book_model.proofs.Lemmas.{SumsAlike, map-alike}
 use Rattle.plain_ledger.specs.Plain.{AreBooked, Entry, record_of}

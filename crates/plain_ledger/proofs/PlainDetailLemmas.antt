@@ -7,7 +7,8 @@ use Rattle.std.proofs.lemmas.List.Sorted.{All-permutation}
 use Rattle.book_model.proofs.Std.{IsDistinct, IsStrictlySortedBy, eq_by_cmp, nat_list_cmp_total}
 use Rattle.book_model.proofs.Std.{All-filter, All-head, All-map, All-tail, IsPermutation-sym}
 use Rattle.book_model.proofs.Std.{IsDistinct-from_sorted, map-map}
-use Rattle.book_model.specs.Words.{Detail, IsDay, Naming, Rulings, ShowsDetail, by_bytes, by_detail}
+use Rattle.book_model.specs.declared.detail.Detail.{Detail}
+use Rattle.book_model.specs.Words.{IsDay, Naming, Rulings, ShowsDetail, by_bytes, by_detail}
 use Rattle.book_model.specs.Words.{detail_by, detail_of, details_for, members, same_bytes, set_of}
 use Rattle.book_model.proofs.DetailLemmas.{distinct_details}
 use Rattle.book_model.proofs.Lemmas.{by_detail_total, filter_map-map, filter_map-defined}

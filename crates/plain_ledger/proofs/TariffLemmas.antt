@@ -5,11 +5,14 @@ use Rattle.std.proofs.Common.{int_lt, nat_lt, All, sum_by, ltb-false}
 use Rattle.std.specs.Map.{keys_of}
 use Rattle.book_model.proofs.Std.{list_all, list_any, IsStrictlySortedBy, length-map, fold-map}
 use Rattle.book_model.proofs.Std.{map-map}
+use Rattle.book_model.specs.declared.answer.Ruled.{Ruled}
+use Rattle.book_model.specs.declared.answer.Ruled.TheVariants.{Done}
+use Rattle.book_model.specs.declared.fault.LedgerFault.{LedgerFault}
+use Rattle.book_model.specs.declared.fault.LedgerFault.TheVariants.{Full}
 use Rattle.book_model.specs.Words.{day_of, Terms, Naming, name_of, by_bytes, Book, Rulings}
 use Rattle.book_model.specs.Words.{price_in, price_by, with_tariff, has_text, total_of}
 use Rattle.book_model.specs.Words.{is_effective, is_later, is_too_dear, tariff_answer, terms_answer}
-use Rattle.book_model.specs.Words.{most_held, most_cost, terms_ruled, TariffFault, Priced, Ruled}
-use Rattle.book_model.specs.Words.{Done, LedgerFault, Full}
+use Rattle.book_model.specs.Words.{most_held, most_cost, terms_ruled, TariffFault, Priced}
 use Rattle.plain_ledger.specs.declared.held.HeldRecord.{HeldRecord}
 use Rattle.plain_ledger.specs.Plain.{Entry, held_in, AreBooked}
 use Rattle.plain_ledger.specs.Repricing.{AreRepriced, cost_anew, price_anew}

@@ -6,10 +6,12 @@ use Rattle.std.specs.BTreeMap.{is_at}
 use Rattle.std.specs.Map.{keys_of}
 use Rattle.book_model.proofs.Std.{IsStrictlySortedBy, map-append, take_more, All-map, filter-append}
 use Rattle.book_model.proofs.Std.{exact_bytes, tells_apart, map-map}
-use Rattle.book_model.specs.Words.{Reckoning, Variant, NoSuchRecord, Book, Choice, IsDay, Naming}
-use Rattle.book_model.specs.Words.{TrailSeen, by_bytes, choice_named, choices_among, day_of}
-use Rattle.book_model.specs.Words.{identity_by, life_of, period_on, reckoning_in, record_named}
-use Rattle.book_model.specs.Words.{share_identity, trail_by, trail_of, trail_outcome}
+use Rattle.book_model.specs.declared.dispute.Variant.{Variant}
+use Rattle.book_model.specs.declared.fault.LedgerFault.TheVariants.{NoSuchRecord}
+use Rattle.book_model.specs.Words.{Reckoning, Book, Choice, IsDay, Naming, TrailSeen, by_bytes}
+use Rattle.book_model.specs.Words.{choice_named, choices_among, day_of, identity_by, life_of}
+use Rattle.book_model.specs.Words.{period_on, reckoning_in, record_named, share_identity, trail_by}
+use Rattle.book_model.specs.Words.{trail_of, trail_outcome}
 use Rattle.book_model.proofs.Lemmas.{filter-map}
 use Rattle.plain_ledger.specs.declared.chosen.ChosenRecord.{ChosenRecord}
 use Rattle.plain_ledger.specs.declared.treatment.ClosedPeriod.{ClosedPeriod}

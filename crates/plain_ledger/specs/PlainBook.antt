@@ -1,6 +1,7 @@
 -- What is seen of a plain ledger.
 use Rattle.std.specs.Prelude.{◌≡◌, List, map, Result}
-use Rattle.book_model.specs.Words.{LedgerFault, Rulings, Period, Book, Outcome, IsBookCall}
+use Rattle.book_model.specs.declared.fault.LedgerFault.{LedgerFault}
+use Rattle.book_model.specs.Words.{Rulings, Period, Book, Outcome, IsBookCall}
 use Rattle.book_model.specs.declared.naming.Naming.{Ghosts}
 use Rattle.plain_ledger.specs.declared.treatment.ClosedPeriod.{ClosedPeriod}
 use Rattle.plain_ledger.specs.declared.period.Period.{Period as ReadPeriod}

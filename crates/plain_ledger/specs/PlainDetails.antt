@@ -1,6 +1,7 @@
 -- Details of the records that a plain ledger holds.
 use Rattle.std.specs.Prelude.{◌&&◌, Bool, List, ℕ, Option, find}
-use Rattle.book_model.specs.Words.{Detail, comes_after, detail_with, is_asked}
+use Rattle.book_model.specs.declared.detail.Detail.{Detail}
+use Rattle.book_model.specs.Words.{comes_after, detail_with, is_asked}
 use Rattle.plain_ledger.specs.Plain.{Entry, record_of}
 
 -- the record of an entry as details show it

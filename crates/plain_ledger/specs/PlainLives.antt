@@ -1,6 +1,9 @@
 -- The life of a record of a plain ledger, by the shares that it has in the periods.
 use Rattle.std.specs.Prelude.{ℕ, suc, List, [], ◌∷◌, ◌++◌, map, Option, None, Some}
-use Rattle.book_model.specs.Words.{by_bytes, Deed, Charged, Reversed, Turn}
+use Rattle.book_model.specs.declared.trail.Deed.{Deed}
+use Rattle.book_model.specs.declared.trail.Deed.TheVariants.{Charged, Reversed}
+use Rattle.book_model.specs.declared.trail.Turn.{Turn}
+use Rattle.book_model.specs.Words.{by_bytes}
 use Rattle.plain_ledger.specs.declared.treatment.ClosedPeriod.{ClosedPeriod}
 use Rattle.plain_ledger.specs.declared.treatment.Treatment.{Treatment}
 use Rattle.plain_ledger.specs.declared.treatment.Treatment.TheVariants.{Counted, Added, Taken}

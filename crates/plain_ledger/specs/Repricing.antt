@@ -2,7 +2,10 @@
 -- one.
 use Rattle.std.specs.Prelude.{◌≡◌, ℕ, List, map, sum_by, int_lt, if◌then◌else◌, Option, Some, None}
 use Rattle.std.specs.Prelude.{Result, Ok, Err}
-use Rattle.book_model.specs.Words.{Priced, Ruled, Done, Already, LedgerFault, Terms, price_by}
+use Rattle.book_model.specs.declared.answer.Ruled.{Ruled}
+use Rattle.book_model.specs.declared.answer.Ruled.TheVariants.{Done, Already}
+use Rattle.book_model.specs.declared.fault.LedgerFault.{LedgerFault}
+use Rattle.book_model.specs.Words.{Priced, Terms, price_by}
 use Rattle.plain_ledger.specs.declared.held.HeldRecord.{HeldRecord}
 use Rattle.plain_ledger.specs.Plain.{Entry, record_of}
 

@@ -4,8 +4,9 @@ use Rattle.std.specs.Prelude.{◌≡◌, Bool, true, false, not, ◌&&◌, ◌||
 use Rattle.std.specs.Prelude.{Option, Some, None, option_and_then}
 use Rattle.std.specs.Map.{lookup}
 use Rattle.std.specs.Option.{option_map_or}
+use Rattle.book_model.specs.declared.line.Line.{Line}
 use Rattle.book_model.specs.Words.{set_of, Records, by_bytes, same_bytes, Period, Rulings}
-use Rattle.book_model.specs.Words.{identity_by, is_after, is_through, last_close, line_with, Line}
+use Rattle.book_model.specs.Words.{identity_by, is_after, is_through, last_close, line_with}
 use Rattle.plain_ledger.specs.declared.treatment.ClosedPeriod.{ClosedPeriod}
 use Rattle.plain_ledger.specs.declared.period_end.PeriodEnd.{PeriodEnd}
 use Rattle.plain_ledger.specs.declared.held.HeldRecord.{HeldRecord}

@@ -3,10 +3,13 @@ use Rattle.std.proofs.Common.{◌≡◌, ℕ, List, [], ◌∷◌, refl, sym, ap
 use Rattle.std.proofs.Common.{Bool, Option, Some, None, Result, Ok, Err, if◌then◌else◌, ℤ}
 use Rattle.book_model.proofs.Std.{get, get-from_entries, nat_list_cmp_total, exact_bytes}
 use Rattle.book_model.proofs.Std.{tells_apart}
+use Rattle.book_model.specs.declared.answer.Accepted.{Accepted}
+use Rattle.book_model.specs.declared.answer.Accepted.TheVariants.{Known}
+use Rattle.book_model.specs.declared.fault.LedgerFault.{LedgerFault}
+use Rattle.book_model.specs.declared.fault.LedgerFault.TheVariants.{DigestClash}
 use Rattle.book_model.specs.Words.{data_of, record_with, IsFramed, accept_answer, accept_priced}
 use Rattle.book_model.specs.Words.{clashes, Book, charged_of, Naming, name_of, same_bytes, price_in}
-use Rattle.book_model.specs.Words.{identity_by, has, Priced, Accepted, Known, LedgerFault}
-use Rattle.book_model.specs.Words.{DigestClash}
+use Rattle.book_model.specs.Words.{identity_by, has, Priced}
 use Rattle.book_model.proofs.Lemmas.{is, is_itself, is_back, IsUnnamed, fails_too}
 use Rattle.table_model.specs.Words.{RecordRow, Tables, record_entries, tables_of, has_choice}
 use Rattle.table_model.specs.Words.{lone_members, member_at, NamedRow, IsReadable}

@@ -4,11 +4,11 @@ use Rattle.std.proofs.Common.{Bool, not, ◌&&◌, Option, Some, None, Ok, if◌
 use Rattle.std.proofs.Common.{filter_map, option_map}
 use Rattle.std.proofs.Math.Bool.{and-true}
 use Rattle.book_model.proofs.Std.{keys, from_entries, nat_list_cmp_total, exact_bytes, same_Some}
+use Rattle.book_model.specs.declared.answer.Ruled.TheVariants.{Done}
 use Rattle.book_model.specs.Words.{identity2_of, Book, open_number, charged_of, is_undisputed, give}
 use Rattle.book_model.specs.Words.{SecondRuleAdopted, Records, Naming, name_of, adopt_answer}
 use Rattle.book_model.specs.Words.{second_rule, Rulings, price_in, identity_by, with_second_rule}
 use Rattle.book_model.specs.Words.{last_close, open_by, members, has, IsSound, AreAmong, Priced}
-use Rattle.book_model.specs.Words.{Done}
 use Rattle.book_model.proofs.AdoptedLemmas.{adoption_takes_nothing, first_adopted}
 use Rattle.book_model.proofs.Lemmas.{map-filter_map, first_of, has_those, in_those, pick-agree}
 use Rattle.book_model.proofs.Lemmas.{steps_stay_sound}

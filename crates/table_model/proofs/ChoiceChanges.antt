@@ -17,7 +17,8 @@ use Rattle.book_model.proofs.Lemmas.{is_first, is_back, members_rise, named_held
 use Rattle.book_model.proofs.ChosenLemmas.{charged-choice, others-all, others-except}
 use Rattle.book_model.proofs.RecordSets.{is_second}
 use Rattle.book_model.proofs.TestLemmas.{choice_passes}
-use Rattle.book_core.specs.Words.{Member, withdraw, charge_held, choice_effects}
+use Rattle.book_core.specs.declared.effects.Member.{Member}
+use Rattle.book_core.specs.Words.{withdraw, charge_held, choice_effects}
 use Rattle.table_model.specs.Laws.{ChoiceFollows}
 use Rattle.table_model.specs.Words.{put_choice_row, apply, charge_in, put_choice, ChoiceRow, Tables}
 use Rattle.table_model.specs.Words.{choice_entries, choice_row, status_by, tables_of, tables_at}

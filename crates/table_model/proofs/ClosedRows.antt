@@ -4,10 +4,11 @@ use Rattle.std.proofs.Common.{◌&&◌, Some, None, ℤ, int_lt}
 use Rattle.std.specs.FinMap.{find}
 use Rattle.std.proofs.Math.Bool.{and-false, and-true}
 use Rattle.book_model.proofs.Std.{from_entries, map-append}
+use Rattle.book_model.specs.declared.row.ChargeRow.{ChargeRow}
+use Rattle.book_model.specs.declared.row.RowKey.{RowKey}
 use Rattle.book_model.specs.Words.{day_of, Book, open_number, open_period, all_periods, charged_of}
 use Rattle.book_model.specs.Words.{is_dated_through, is_dated_after, close, IsAfterLastClose}
 use Rattle.book_model.specs.Words.{Period, Naming, by_key, prices, last_close, those, IsSound}
-use Rattle.book_model.specs.Words.{ChargeRow, RowKey}
 use Rattle.book_model.proofs.Lemmas.{same_records, has_those}
 use Rattle.table_model.specs.Words.{moved, by_period, numbered, move_on, day_entries}
 use Rattle.table_model.proofs.CloseDays.{is_current, posted_by, ended_by, opened_by, periods_closed}

@@ -3,8 +3,11 @@ use Rattle.std.proofs.Common.{ℕ, ◌+◌, suc, List, [], ◌∷◌, length, re
 use Rattle.std.proofs.Common.{Some, None, arith}
 use Rattle.book_model.proofs.Std.{option_map_or, nat_list_cmp_total, exact_bytes}
 use Rattle.book_model.specs.Words.{last_close, name_of, open_number}
-use Rattle.book_core.specs.Words.{ChoiceEffects, DayChange, Add, Take, Effects, choice_effects}
-use Rattle.book_core.specs.Words.{effects_of}
+use Rattle.book_core.specs.declared.effects.ChoiceEffects.{ChoiceEffects}
+use Rattle.book_core.specs.declared.effects.DayChange.{DayChange}
+use Rattle.book_core.specs.declared.effects.DayChange.TheVariants.{Add, Take}
+use Rattle.book_core.specs.declared.effects.Effects.{Effects}
+use Rattle.book_core.specs.Words.{choice_effects, effects_of}
 use Rattle.table_model.specs.CountedLaws.{AtMostOneNameDiffers, AtMostTwoNamesDiffer}
 use Rattle.table_model.specs.Differences.{NamesDifferInAtMost}
 use Rattle.table_model.specs.Words.{count_where, uncounted_by, put_choice, CountedTable, Tables}

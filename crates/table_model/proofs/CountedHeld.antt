@@ -10,7 +10,9 @@ use Rattle.book_model.specs.Words.{has, is_dated_after, is_undisputed, last_clos
 use Rattle.book_model.specs.Words.{is_after}
 use Rattle.book_model.proofs.Lemmas.{current_is, find-none, in_those, is}
 use Rattle.book_model.proofs.CountedLemmas.{has_counted}
-use Rattle.book_core.specs.Words.{DayChange, Add, Take, Effects}
+use Rattle.book_core.specs.declared.effects.DayChange.{DayChange}
+use Rattle.book_core.specs.declared.effects.DayChange.TheVariants.{Add, Take}
+use Rattle.book_core.specs.declared.effects.Effects.{Effects}
 use Rattle.table_model.specs.CountedLaws.{NamesFollow}
 use Rattle.table_model.specs.RowChanges.{uncount_where}
 use Rattle.table_model.specs.Words.{uncounted_by, CountedTable, RecordTable, counted_by, tables_of}

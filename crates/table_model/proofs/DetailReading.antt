@@ -7,7 +7,8 @@ use Rattle.std.proofs.lemmas.List.Sorted.{Contains-permutation}
 use Rattle.book_model.proofs.Std.{contains_key, entries, get, cons_option, IsStrictlySortedBy}
 use Rattle.book_model.proofs.Std.{option_map_or, nat_tests, nat_list_cmp_total, IsPermutation-map}
 use Rattle.book_model.proofs.Std.{IsPermutation-sym, exact_bytes, slice_get_past, slice_get_within}
-use Rattle.book_model.specs.Words.{Priced, Detail, AreAmong, Book, Naming, Period, Records, Rulings}
+use Rattle.book_model.specs.declared.detail.Detail.{Detail}
+use Rattle.book_model.specs.Words.{Priced, AreAmong, Book, Naming, Period, Records, Rulings}
 use Rattle.book_model.specs.Words.{all_periods, by_detail, comes_after, counted_of, day_of}
 use Rattle.book_model.specs.Words.{detail_by, detail_of, details_asked, details_for, details_of}
 use Rattle.book_model.specs.Words.{has, is_asked, is_counted, is_dated_after, is_dated_in}

@@ -6,11 +6,16 @@ use Rattle.std.proofs.Common.{◌==◌, Ordering}
 use Rattle.book_model.proofs.Std.{IsTotalOrder, nat_cmp_total, FinMap, IsAntisymmetric, get, insert}
 use Rattle.book_model.proofs.Std.{remove, get-insert, get-remove, nat_cmp-IsAntisymmetric}
 use Rattle.book_model.proofs.Std.{nat_list_cmp_total, exact_bytes}
-use Rattle.book_model.specs.Words.{Priced, ChargeRow, RowKey, open_number, name_of, by_bytes}
-use Rattle.book_model.specs.Words.{key_of, by_key, is_after}
+use Rattle.book_model.specs.declared.row.ChargeRow.{ChargeRow}
+use Rattle.book_model.specs.declared.row.RowKey.{RowKey}
+use Rattle.book_model.specs.Words.{Priced, open_number, name_of, by_bytes, key_of, by_key, is_after}
 use Rattle.book_model.proofs.MapLemmas.{not_tied}
 use Rattle.book_model.proofs.Lemmas.{by_key_total, by_key_exact}
-use Rattle.book_core.specs.Words.{Add, Take, AddPlus, DropPlus, AddMinus, DropMinus, Member, View}
+use Rattle.book_core.specs.declared.effects.DayChange.TheVariants.{Add, Take}
+use Rattle.book_core.specs.declared.effects.LineChange.TheVariants.{AddPlus, DropPlus, AddMinus}
+use Rattle.book_core.specs.declared.effects.LineChange.TheVariants.{DropMinus}
+use Rattle.book_core.specs.declared.effects.Member.{Member}
+use Rattle.book_core.specs.declared.effects.View.{View}
 use Rattle.book_core.specs.Words.{charge_held, charges, choice_effects, unmarks}
 use Rattle.book_core.specs.Effects.{charge, effects_by}
 use Rattle.table_model.specs.Differences.{TableKey, OfBook, OfChoice, OfRecord, OfDay, OfLine}

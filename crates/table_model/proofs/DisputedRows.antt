@@ -6,9 +6,10 @@ use Rattle.std.specs.List.Sorted.{IsStrictlySortedBy}
 use Rattle.book_model.proofs.Std.{tied_itself, entries, list_any, cons_option, eq_by_cmp}
 use Rattle.book_model.proofs.Std.{nat_list_cmp_total, nat_list_eq_equiv, IsPermutation-sym}
 use Rattle.book_model.proofs.Std.{IsPermutation-trans, exact_bytes}
+use Rattle.book_model.specs.declared.dispute.Variant.{Variant}
 use Rattle.book_model.specs.Words.{variant_with, Book, charged_of, variant_of, Naming, name_of}
 use Rattle.book_model.specs.Words.{by_bytes, identity_by, set_of, members, has, IsSound, Records}
-use Rattle.book_model.specs.Words.{is_undisputed, same_bytes, share_identity, Priced, Variant}
+use Rattle.book_model.specs.Words.{is_undisputed, same_bytes, share_identity, Priced}
 use Rattle.book_model.proofs.DisputeLemmas.{disputed_is_uncharged}
 use Rattle.book_model.proofs.Lemmas.{filter-filter, apart_from_distinct, given_permuted, second_of}
 use Rattle.book_model.proofs.Lemmas.{in_those, members-those}

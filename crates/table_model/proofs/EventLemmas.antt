@@ -3,13 +3,15 @@ use Rattle.std.proofs.Common.{◌≡◌, ℕ, ◌+◌, List, [], ◌∷◌, ◌+
 use Rattle.std.proofs.Common.{false, Bool, not, ◌||◌, Option, Some, None, subst, sum_by, filter_map}
 use Rattle.std.proofs.Math.Bool.{or-true}
 use Rattle.book_model.proofs.Std.{from_entries, option_map_or}
-use Rattle.book_model.specs.Words.{Priced, ChargeRow, RowKey, Book, open_number, new_book}
-use Rattle.book_model.specs.Words.{is_undisputed, is_counted_in, is_dated_after, Event}
-use Rattle.book_model.specs.Words.{TariffAccepted, PeriodClosed, RecordKept, RulingGiven}
-use Rattle.book_model.specs.Words.{RecordChosen, SecondRuleAdopted, after, give, Terms, charged_of}
-use Rattle.book_model.specs.Words.{chosen_answer, book_after, Records, Naming, name_of, by_bytes}
-use Rattle.book_model.specs.Words.{by_key, row_at, no_rulings, Rulings, price_in, AcceptedTerms}
-use Rattle.book_model.specs.Words.{identity_by, last_close, members, has, those}
+use Rattle.book_model.specs.declared.row.ChargeRow.{ChargeRow}
+use Rattle.book_model.specs.declared.row.RowKey.{RowKey}
+use Rattle.book_model.specs.Words.{Priced, Book, open_number, new_book, is_undisputed}
+use Rattle.book_model.specs.Words.{is_counted_in, is_dated_after, Event, TariffAccepted}
+use Rattle.book_model.specs.Words.{PeriodClosed, RecordKept, RulingGiven, RecordChosen}
+use Rattle.book_model.specs.Words.{SecondRuleAdopted, after, give, Terms, charged_of, chosen_answer}
+use Rattle.book_model.specs.Words.{book_after, Records, Naming, name_of, by_bytes, by_key, row_at}
+use Rattle.book_model.specs.Words.{no_rulings, Rulings, price_in, AcceptedTerms, identity_by}
+use Rattle.book_model.specs.Words.{last_close, members, has, those}
 use Rattle.book_model.proofs.MadeByCallsLemmas.{rulings_are}
 use Rattle.book_model.proofs.Lemmas.{sound_after, no_length, members-empty, is, has_with, none_in}
 use Rattle.book_model.proofs.Lemmas.{named_held, tariff_passes}

@@ -6,11 +6,13 @@ use Rattle.std.specs.FinMap.{find}
 use Rattle.book_model.proofs.Std.{int_cmp-IsAntisymmetric, nat_cmp-IsAntisymmetric, int_cmp_total}
 use Rattle.book_model.proofs.Std.{nat_cmp_total, AllByRecursion, nat_list_cmp_total, All-head}
 use Rattle.book_model.proofs.Std.{All-tail, All-filter, tells_apart, slice_get_within}
+use Rattle.book_model.specs.declared.row.ChargeRow.{ChargeRow}
+use Rattle.book_model.specs.declared.row.RowKey.{RowKey}
 use Rattle.book_model.specs.Words.{IsDay, IsName, IsPriced, Book, all_periods, open_period}
 use Rattle.book_model.specs.Words.{last_period, Period, Naming, IsUsageRecord, key_of, by_key}
 use Rattle.book_model.specs.Words.{same_key, charged_at, charged_of, AcceptedTerms, AreAmong}
 use Rattle.book_model.specs.Words.{AreHeld, Choice, IsChoiceOf, most_choices, IsRule, first_rule}
-use Rattle.book_model.specs.Words.{second_rule, Priced, ChargeRow, RowKey}
+use Rattle.book_model.specs.Words.{second_rule, Priced}
 use Rattle.book_model.proofs.Lemmas.{by_key_total, by_key_exact, same_key_ties}
 use Rattle.table_model.specs.Words.{ChoiceRow, RecordRow, never_adopted, tariff_entries}
 use Rattle.table_model.specs.Words.{choice_entries, close_entries, day_entries, line_entries}

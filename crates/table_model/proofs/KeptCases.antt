@@ -10,7 +10,10 @@ use Rattle.book_model.specs.Words.{IsSound, AreAmong, Priced, is_after}
 use Rattle.book_model.proofs.Lemmas.{get-inserted, insert-insert, is, has_with, is_itself, in_those}
 use Rattle.book_model.proofs.Lemmas.{except, IsUnnamed}
 use Rattle.book_model.proofs.SetChanges.{not_those}
-use Rattle.book_core.specs.Words.{Add, Take, AddMinus, AddPlus, DropPlus, Effects, Member}
+use Rattle.book_core.specs.declared.effects.DayChange.TheVariants.{Add, Take}
+use Rattle.book_core.specs.declared.effects.Effects.{Effects}
+use Rattle.book_core.specs.declared.effects.LineChange.TheVariants.{AddMinus, AddPlus, DropPlus}
+use Rattle.book_core.specs.declared.effects.Member.{Member}
 use Rattle.book_core.specs.Words.{charge_held, charges, unmarks, withdraw}
 use Rattle.book_core.specs.Effects.{charge, no_effects}
 use Rattle.table_model.specs.Words.{count_where, mark_at, apply, charge_in, put_new, CountedTable}

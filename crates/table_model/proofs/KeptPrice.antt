@@ -1,6 +1,7 @@
 -- A record that is kept has a price.
 use Rattle.std.proofs.Common.{◌≡◌, ℕ, List, Some, Ok}
-use Rattle.book_model.specs.Words.{Priced, Kept, accept_answer, Book, Naming, price_in}
+use Rattle.book_model.specs.declared.answer.Accepted.TheVariants.{Kept}
+use Rattle.book_model.specs.Words.{Priced, accept_answer, Book, Naming, price_in}
 use Rattle.book_model.proofs.TestLemmas.{kept_passes, kept_price}
 use Rattle.table_model.proofs.TableParts.{what_is}
 

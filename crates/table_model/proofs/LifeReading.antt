@@ -5,10 +5,12 @@ use Rattle.std.proofs.Common.{length, refl, sym, ap, subst, true, false, true≢
 use Rattle.std.proofs.Common.{not, ◌&&◌, Option, Some, None, arith, ℤ, pos, slice_get}
 use Rattle.std.proofs.Common.{length-append}
 use Rattle.book_model.proofs.Std.{get, false_from_ne_true, slice_get-get_or, slice_get_past}
-use Rattle.book_model.specs.Words.{Priced, Charged, Added, Reversed, Turn, Book, Naming, Period}
-use Rattle.book_model.specs.Words.{Records, all_periods, charged_of, day_of, has, is_dated_after}
-use Rattle.book_model.specs.Words.{life_from, life_of, name_of, open_by, open_period, period_by}
-use Rattle.book_model.specs.Words.{period_on, price_in, turn_if, turns_in, without}
+use Rattle.book_model.specs.declared.trail.Deed.TheVariants.{Charged, Added, Reversed}
+use Rattle.book_model.specs.declared.trail.Turn.{Turn}
+use Rattle.book_model.specs.Words.{Priced, Book, Naming, Period, Records, all_periods, charged_of}
+use Rattle.book_model.specs.Words.{day_of, has, is_dated_after, life_from, life_of, name_of}
+use Rattle.book_model.specs.Words.{open_by, open_period, period_by, period_on, price_in, turn_if}
+use Rattle.book_model.specs.Words.{turns_in, without}
 use Rattle.book_model.proofs.Lemmas.{else_find, has_those}
 use Rattle.table_model.specs.Words.{tables_of, close_after, charged_before_lines, first_line}
 use Rattle.table_model.specs.Words.{IsReadable, life_read, line_turns}

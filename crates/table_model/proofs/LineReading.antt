@@ -3,10 +3,11 @@ use Rattle.std.proofs.Common.{◌≡◌, ℕ, List, ◌++◌, map, sym, ap, ◌�
 use Rattle.std.proofs.Common.{Some, None, filter_map, option_map, int_cmp}
 use Rattle.book_model.proofs.Std.{get, entries, from_entries, option_map_or, eq_by_cmp}
 use Rattle.book_model.proofs.Std.{nat_list_cmp_total, filter_map-append, exact_bytes}
+use Rattle.book_model.specs.declared.line.Line.{Line}
 use Rattle.book_model.specs.Words.{record_with, line_with, Book, all_periods, charged_of, lines_for}
 use Rattle.book_model.specs.Words.{by_line, plus_first, Period, Records, Naming, name_of, by_bytes}
 use Rattle.book_model.specs.Words.{price_in, set_of, members, has, IsSound, AreHeld, AreAmong}
-use Rattle.book_model.specs.Words.{identity_by, Priced, Line}
+use Rattle.book_model.specs.Words.{identity_by, Priced}
 use Rattle.book_model.proofs.SortedEntries.{read-entries}
 use Rattle.book_model.proofs.Lemmas.{filter_map-map, is, pick-agree, by_line_total}
 use Rattle.table_model.specs.Words.{line_read, AreFramed, IsApart, RecordRow, RecordTable}

@@ -3,9 +3,10 @@ use Rattle.std.proofs.Common.{◌≡◌, ℕ, ◌-◌, length, refl, sym, ap, �
 use Rattle.std.proofs.Common.{Bool, not, ◌&&◌, Option, Some, None, Result, Ok, get_or, arith, ◌<◌}
 use Rattle.std.proofs.Common.{◌≤◌, ◌==◌, nat_le, if◌then◌else◌, slice_get, ok_or, option_map}
 use Rattle.book_model.proofs.Std.{nat_tests, slice_get-get_or, slice_get_past}
-use Rattle.book_model.specs.Words.{LedgerFault, NoSuchPeriod, Book, open_number, open_period}
-use Rattle.book_model.specs.Words.{period_of, lines_of, no_event, AreHeld, IsSound, Naming, Period}
-use Rattle.book_model.specs.Words.{all_periods, rows_for}
+use Rattle.book_model.specs.declared.fault.LedgerFault.{LedgerFault}
+use Rattle.book_model.specs.declared.fault.LedgerFault.TheVariants.{NoSuchPeriod}
+use Rattle.book_model.specs.Words.{Book, open_number, open_period, period_of, lines_of, no_event}
+use Rattle.book_model.specs.Words.{AreHeld, IsSound, Naming, Period, all_periods, rows_for}
 use Rattle.table_model.specs.Words.{rows_read, lines_read, tables_of, is_period, of_period}
 use Rattle.table_model.proofs.HeldPeriods.{all_held, one_of}
 use Rattle.table_model.proofs.LineReading.{lines_follow}

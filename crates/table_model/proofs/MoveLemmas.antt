@@ -9,7 +9,9 @@ use Rattle.book_model.proofs.Std.{both_ways, IsTotalOrder, nat_cmp_total, get, f
 use Rattle.book_model.proofs.Std.{same_map, get-from_entries, contains_key, IsAntisymmetric}
 use Rattle.book_model.proofs.Std.{nat_cmp-IsAntisymmetric, option_map_or, eq_by_cmp}
 use Rattle.book_model.proofs.Std.{false_from_ne_true, eq_by_cmp_equiv, tells_apart}
-use Rattle.book_model.specs.Words.{ChargeRow, RowKey, by_key}
+use Rattle.book_model.specs.declared.row.ChargeRow.{ChargeRow}
+use Rattle.book_model.specs.declared.row.RowKey.{RowKey}
+use Rattle.book_model.specs.Words.{by_key}
 use Rattle.book_model.proofs.MapLemmas.{not_tied}
 use Rattle.book_model.proofs.Lemmas.{by_key_total, by_key_exact}
 use Rattle.table_model.specs.Words.{moved, by_period, numbered, move_on, DayTable}

@@ -3,9 +3,10 @@
 use Rattle.std.proofs.Common.{◌≡◌, ◌∙◌, ℕ, List, Bool, true, false, true≢false, cond, ◌||◌, Some}
 use Rattle.std.proofs.Common.{Ok, Option, refl, sym, ap, subst, ℤ, if◌then◌else◌, int_lt, is_some}
 use Rattle.book_model.proofs.Std.{contains_key, get, keys, list_any, false_from_ne_true, same_Some}
+use Rattle.book_model.specs.declared.answer.Ruled.TheVariants.{Done}
 use Rattle.book_model.specs.Words.{Priced, Book, IsSound, Naming, Rulings, Terms, day_of, has}
 use Rattle.book_model.specs.Words.{is_dated_after, last_close, name_of, open_number, price_by}
-use Rattle.book_model.specs.Words.{price_in, record_with, terms_answer, with_tariff, Done, is_after}
+use Rattle.book_model.specs.Words.{price_in, record_with, terms_answer, with_tariff, is_after}
 use Rattle.book_model.proofs.Lemmas.{tariff_passes, price_in-behind, is}
 use Rattle.table_model.specs.Words.{AreFramed, reprice, reprice_step, walk, RecordRow, RecordTable}
 use Rattle.table_model.specs.Words.{Tables, RecordStatus, status_of, tables_at, tables_of}

@@ -4,8 +4,9 @@ use Rattle.std.proofs.Common.{Some, None, ◌&&◌, filter, filter_map}
 use Rattle.std.specs.FinMap.{find}
 use Rattle.book_model.proofs.Std.{nat_list_cmp_total, exact_bytes, tells_apart, option_map_or}
 use Rattle.book_model.proofs.Std.{filter_agree}
+use Rattle.book_model.specs.declared.row.RowKey.{RowKey}
 use Rattle.book_model.specs.Words.{day_of, Records, key_of, by_key, same_key, Rulings, price_in}
-use Rattle.book_model.specs.Words.{prices, members, those, Priced, RowKey}
+use Rattle.book_model.specs.Words.{prices, members, those, Priced}
 use Rattle.book_model.proofs.Lemmas.{same_key_ties, by_key_exact, members-those, filter-filter}
 use Rattle.table_model.proofs.CostLemmas.{day-price}
 use Rattle.table_model.proofs.DayChanges.{days_at, days-found, found_at}

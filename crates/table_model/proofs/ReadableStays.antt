@@ -4,6 +4,9 @@ use Rattle.std.proofs.Common.{ap, subst, true, false, Bool, ◌||◌, Option, So
 use Rattle.std.proofs.Common.{arith, ◌≤◌, ◌<◌, nat_le, nat_lt, if◌then◌else◌, All, unwrap_or, ℤ}
 use Rattle.std.proofs.Common.{ltb-false, leb-false, length-append}
 use Rattle.book_model.proofs.Std.{nat_tests, All-push, All-weaker}
+use Rattle.book_model.specs.declared.answer.Accepted.TheVariants.{Kept}
+use Rattle.book_model.specs.declared.answer.Ruled.TheVariants.{Done}
+use Rattle.book_model.specs.declared.fault.LedgerFault.TheVariants.{Full}
 use Rattle.book_model.specs.Words.{AreDatedThrough, AcceptedTerms, Book, Choice, Event, IsDay}
 use Rattle.book_model.specs.Words.{IsAnswered, IsSound, IsUsageRecord, Naming, PeriodClosed}
 use Rattle.book_model.specs.Words.{RecordChosen, RecordKept, Records, Rulings, RulingGiven}
@@ -11,8 +14,7 @@ use Rattle.book_model.specs.Words.{SecondRuleAdopted, TariffAccepted, Terms, acc
 use Rattle.book_model.specs.Words.{accept_priced, after, give, choose_answer, chosen_answer, close}
 use Rattle.book_model.specs.Words.{close_answer, keep, last_close, members, most_choices, most_cost}
 use Rattle.book_model.specs.Words.{most_held, name_of, open_by, open_number, period_by, price_in}
-use Rattle.book_model.specs.Words.{record_named, terms_answer, total_of, with, with_tariff, Kept}
-use Rattle.book_model.specs.Words.{Done, Full}
+use Rattle.book_model.specs.Words.{record_named, terms_answer, total_of, with, with_tariff}
 use Rattle.book_model.proofs.Lemmas.{calls_go_forward, later-before, rising-behind, slice_get-front}
 use Rattle.book_model.proofs.Lemmas.{one_or, steps_stay_sound, closed_open, kept_passes}
 use Rattle.book_model.proofs.Lemmas.{tariff_passes}

@@ -6,9 +6,11 @@ use Rattle.std.proofs.Common.{IsSome, option_map}
 use Rattle.std.specs.FinMap.{find}
 use Rattle.book_model.proofs.Std.{get, insert, from_entries, false_from_ne_true, nat_list_cmp_total}
 use Rattle.book_model.proofs.Std.{exact_bytes, tells_apart}
+use Rattle.book_model.specs.declared.row.ChargeRow.{ChargeRow}
+use Rattle.book_model.specs.declared.row.RowKey.{RowKey}
 use Rattle.book_model.specs.Words.{day_of, data_of, Book, open_number, is_dated_after, Records}
 use Rattle.book_model.specs.Words.{Naming, name_of, by_bytes, last_close, has, those, IsSound}
-use Rattle.book_model.specs.Words.{AreAmong, Priced, ChargeRow, RowKey, is_after}
+use Rattle.book_model.specs.Words.{AreAmong, Priced, is_after}
 use Rattle.book_model.proofs.Lemmas.{map-agree, else_find, find-both, insert-insert, get-inserted}
 use Rattle.book_model.proofs.Lemmas.{is, is_itself, same_records, has_those, in_those, pick-agree}
 use Rattle.book_model.proofs.Lemmas.{except, with-except}

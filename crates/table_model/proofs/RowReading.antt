@@ -1,6 +1,8 @@
 -- The charge rows of a period are read back from the tables.
 use Rattle.std.proofs.Common.{◌≡◌, ℕ, List, [], ◌∷◌, map, refl, ap, ◌∙◌}
-use Rattle.book_model.specs.Words.{ChargeRow, RowKey, all_periods, by_key, rows_for, prices}
+use Rattle.book_model.specs.declared.row.ChargeRow.{ChargeRow}
+use Rattle.book_model.specs.declared.row.RowKey.{RowKey}
+use Rattle.book_model.specs.Words.{all_periods, by_key, rows_for, prices}
 use Rattle.book_model.proofs.Lemmas.{entries-sorted, by_key_total, by_key_exact}
 use Rattle.table_model.specs.Words.{under, row_key, day_entries}
 use Rattle.table_model.specs.PeriodLaws.{RowsFollow}

@@ -2,9 +2,10 @@
 use Rattle.std.proofs.Common.{◌≡◌, ℕ, List, refl, sym, ap, ◌∙◌, true, false, Bool, Some, Ok, subst}
 use Rattle.std.proofs.Common.{int_lt, nat_lt}
 use Rattle.book_model.proofs.Std.{get, list_any, same_Some}
+use Rattle.book_model.specs.declared.answer.Ruled.TheVariants.{Done}
 use Rattle.book_model.specs.Words.{day_of, Terms, IsPriced, price_by, Book, charged_of, Naming}
 use Rattle.book_model.specs.Words.{name_of, has_text, Rulings, is_effective, is_later, is_too_dear}
-use Rattle.book_model.specs.Words.{terms_answer, most_cost, with_tariff, has, IsSound, Done}
+use Rattle.book_model.specs.Words.{terms_answer, most_cost, with_tariff, has, IsSound}
 use Rattle.book_model.proofs.Lemmas.{later-before, later_price, price_in-behind, tariff_passes}
 use Rattle.book_model.proofs.TestLemmas.{by_tests}
 use Rattle.table_model.specs.Words.{AreFramed, RecordRow, record_row, tables_of, row_record}

@@ -3,9 +3,10 @@ use Rattle.std.proofs.Common.{◌≡◌, ℕ, Bool, List, [], ◌∷◌, length,
 use Rattle.std.proofs.Common.{◌⊎◌, All}
 use Rattle.book_model.proofs.Std.{AllByRecursion, nat_tests, All-from_recursion, All-map}
 use Rattle.book_model.proofs.Std.{All-weaker, filter_passes}
+use Rattle.book_model.specs.declared.dispute.Variant.{Variant}
 use Rattle.book_model.specs.Words.{IsDay, identity_length, identity2_length, Book, IsDispute}
 use Rattle.book_model.specs.Words.{AreDisputes, dispute_at, identities, is_in_dispute, Naming}
-use Rattle.book_model.specs.Words.{identity_by, Variant}
+use Rattle.book_model.specs.Words.{identity_by}
 use Rattle.table_model.specs.Words.{tables_of, NamedRow, disputes_read, variant_read, IsReadable}
 use Rattle.table_model.specs.ListLaws.{ListsShow}
 use Rattle.table_model.proofs.DisputeLemmas.{disputes_are, two_or_more}

@@ -5,9 +5,10 @@ use Rattle.std.proofs.Common.{sum_by, All, filter_map, Ordering, Less, Equal, Gr
 use Rattle.std.specs.BTreeSet.{insert_key}
 use Rattle.book_model.proofs.Std.{IsTotalOrder, AllByRecursion, match_ordering, All-from_recursion}
 use Rattle.book_model.proofs.Std.{recursion_from_All, fold-map, sum_by-cons, sum_by-append}
+use Rattle.book_model.specs.declared.line.Line.{Line}
 use Rattle.book_model.specs.Words.{IsDay, Book, most_cost, AreLines, lines_for, lines_of, Records}
 use Rattle.book_model.specs.Words.{Naming, name_of, FitSums, AreRows, AreAmong, price_in, set_of}
-use Rattle.book_model.specs.Words.{members, line_with, Priced, Line}
+use Rattle.book_model.specs.Words.{members, line_with, Priced}
 use Rattle.book_model.proofs.Lemmas.{map-filter_map, by_line_total, members-empty, members-with}
 use Rattle.table_model.proofs.LineReading.{lines_follow}
 use Rattle.table_model.proofs.ListOrder.{all_joined, all_unmapped}

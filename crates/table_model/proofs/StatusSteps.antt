@@ -8,7 +8,10 @@ use Rattle.book_model.specs.Words.{Priced, is_after}
 use Rattle.book_model.proofs.Lemmas.{is, has_with, has_those, in_those, is_itself, not_true, one_or}
 use Rattle.book_model.proofs.Lemmas.{second_of, except}
 use Rattle.book_model.proofs.SetChanges.{has-except}
-use Rattle.book_core.specs.Words.{Add, Take, AddPlus, DropPlus, AddMinus, DropMinus, Member}
+use Rattle.book_core.specs.declared.effects.DayChange.TheVariants.{Add, Take}
+use Rattle.book_core.specs.declared.effects.LineChange.TheVariants.{AddPlus, DropPlus, AddMinus}
+use Rattle.book_core.specs.declared.effects.LineChange.TheVariants.{DropMinus}
+use Rattle.book_core.specs.declared.effects.Member.{Member}
 use Rattle.book_core.specs.Words.{charge_held, withdraw, charges, unmarks}
 use Rattle.table_model.proofs.RestatedRows.{line_by, restate, set_counted, set_line}
 use Rattle.table_model.specs.Words.{add_price, take_price, apply, charge_due_step, charge_in}

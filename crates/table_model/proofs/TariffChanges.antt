@@ -5,11 +5,12 @@ use Rattle.std.proofs.Common.{MatchOption, if◌then◌else◌, int_cmp}
 use Rattle.std.specs.FinMap.{find, from_entries_push}
 use Rattle.book_model.proofs.Std.{int_cmp_total, keys, from_entries, int_cmp-IsAntisymmetric}
 use Rattle.book_model.proofs.Std.{list_any, false_from_ne_true, same_Some, ints, map-append}
+use Rattle.book_model.specs.declared.answer.Ruled.TheVariants.{Done}
 use Rattle.book_model.specs.Words.{day_of, Terms, price_by, total_of, Book, open_number, charged_of}
 use Rattle.book_model.specs.Words.{is_dated_after, is_undisputed, give, TariffAccepted, Records}
 use Rattle.book_model.specs.Words.{Naming, name_of, is_effective, terms_answer, Rulings}
 use Rattle.book_model.specs.Words.{AcceptedTerms, price_in, with_tariff, identity_by, last_close}
-use Rattle.book_model.specs.Words.{has, IsSound, AreAmong, Priced, Done, is_after}
+use Rattle.book_model.specs.Words.{has, IsSound, AreAmong, Priced, is_after}
 use Rattle.book_model.proofs.Lemmas.{calls_go_forward, price_in-behind, in_those, steps_stay_sound}
 use Rattle.table_model.specs.Laws.{TariffFollows}
 use Rattle.table_model.specs.Words.{AreFramed, tariff_at, put_tariff_row, set_sums, walk, reprice}

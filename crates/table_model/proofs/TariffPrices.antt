@@ -1,8 +1,9 @@
 -- What records cost under a tariff that comes into force.
 use Rattle.std.proofs.Common.{◌≡◌, ℕ, List, false, Some, Ok, int_lt}
 use Rattle.book_model.proofs.Std.{list_any}
+use Rattle.book_model.specs.declared.answer.Ruled.TheVariants.{Done}
 use Rattle.book_model.specs.Words.{day_of, Terms, price_by, Book, is_effective, terms_answer}
-use Rattle.book_model.specs.Words.{Rulings, price_in, with_tariff, Done}
+use Rattle.book_model.specs.Words.{Rulings, price_in, with_tariff}
 use Rattle.book_model.proofs.Lemmas.{later-before, later_price, tariff_passes}
 
 module _ (book : Book) (text : List ℕ) (terms : Terms)

@@ -2,11 +2,12 @@
 use Rattle.std.proofs.Common.{◌≡◌, ◌∙◌, ℕ, List, map, refl, sym, ap, true, true≢false, Bool, Option}
 use Rattle.std.proofs.Common.{None, Some, is_some, filter, ok_or, option_and_then, option_map}
 use Rattle.book_model.proofs.Std.{get, nat_list_eq_equiv, All-weaker, map-map}
-use Rattle.book_model.specs.Words.{Priced, Reckoning, NoSuchRecord, Book, Choice, IsChoiceOf}
-use Rattle.book_model.specs.Words.{IsSound, Naming, choice_named, charged_of, choices_among, has}
-use Rattle.book_model.specs.Words.{identity_by, name_of, no_event, period_on, price_in}
-use Rattle.book_model.specs.Words.{reckoning_in, record_named, same_bytes, share_identity, trail_by}
-use Rattle.book_model.specs.Words.{trail_of, trail_outcome}
+use Rattle.book_model.specs.declared.fault.LedgerFault.TheVariants.{NoSuchRecord}
+use Rattle.book_model.specs.Words.{Priced, Reckoning, Book, Choice, IsChoiceOf, IsSound, Naming}
+use Rattle.book_model.specs.Words.{choice_named, charged_of, choices_among, has, identity_by}
+use Rattle.book_model.specs.Words.{name_of, no_event, period_on, price_in, reckoning_in}
+use Rattle.book_model.specs.Words.{record_named, same_bytes, share_identity, trail_by, trail_of}
+use Rattle.book_model.specs.Words.{trail_outcome}
 use Rattle.book_model.proofs.Lemmas.{filter-agree, filter-map, named_held}
 use Rattle.book_core.proofs.NamedLemmas.{is_some-named, its_name}
 use Rattle.table_model.specs.Words.{ChoiceRow, RecordRow, Tables, choice_row, tables_of}

@@ -2,9 +2,10 @@
 use Rattle.std.specs.Prelude.{◌≡◌, ℕ, ◌≤◌, ◌==◌, false, filter, length, List, Some, None, Ok, ℤ}
 use Rattle.std.specs.Prelude.{int_lt, slice_get, take, unwrap_or, Option, option_map}
 use Rattle.book_model.specs.Std.{get, keys, last_or}
+use Rattle.book_model.specs.declared.answer.Ruled.TheVariants.{Done}
 use Rattle.book_model.specs.Words.{Terms, accept_answer, Book, choose_answer, Naming, IsUsageRecord}
 use Rattle.book_model.specs.Words.{terms_answer, price_by, IsPriced, with_tariff, first_rule}
-use Rattle.book_model.specs.Words.{second_rule, identity2_length, Priced, Done}
+use Rattle.book_model.specs.Words.{second_rule, identity2_length, Priced}
 use Rattle.book_core.specs.Words.{effects_of}
 use Rattle.table_model.specs.RowChanges.{by_second_rule}
 use Rattle.table_model.specs.Tables.{ChoiceTable, RecordRow, RecordTable, never_adopted}

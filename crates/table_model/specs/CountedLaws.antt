@@ -1,8 +1,10 @@
 -- Laws of the names that are counted: which they are, and how few of them a call changes.
 use Rattle.std.specs.Prelude.{◌≡◌, ℕ, true, List, Some, None, Ok, is_some}
 use Rattle.std.specs.FinMap.{get}
-use Rattle.book_model.specs.Words.{Kept, Done, Book, IsSound, Naming, RecordChosen, accept_answer}
-use Rattle.book_model.specs.Words.{give, chosen_answer, counted_of, has, keep, last_close, name_of}
+use Rattle.book_model.specs.declared.answer.Accepted.TheVariants.{Kept}
+use Rattle.book_model.specs.declared.answer.Ruled.TheVariants.{Done}
+use Rattle.book_model.specs.Words.{Book, IsSound, Naming, RecordChosen, accept_answer, give}
+use Rattle.book_model.specs.Words.{chosen_answer, counted_of, has, keep, last_close, name_of}
 use Rattle.book_model.specs.Words.{record_named, is_after}
 use Rattle.table_model.specs.Differences.{NamesDifferInAtMost}
 use Rattle.table_model.specs.Tables.{RecordRow}

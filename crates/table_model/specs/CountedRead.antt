@@ -4,8 +4,10 @@
 use Rattle.std.specs.Prelude.{ℕ, zero, suc, ◌-◌, Bool, not, ◌&&◌, if◌then◌else◌, List, map, filter}
 use Rattle.std.specs.Prelude.{Option, None, Result, Err}
 use Rattle.book_model.specs.Std.{entries, get, option_map_or, option_or}
-use Rattle.book_model.specs.Words.{LedgerFault, NoSuchPeriod, ChargeRow, Rulings, Terms, open_by}
-use Rattle.book_model.specs.Words.{price_by, rows_if_room, Priced}
+use Rattle.book_model.specs.declared.fault.LedgerFault.{LedgerFault}
+use Rattle.book_model.specs.declared.fault.LedgerFault.TheVariants.{NoSuchPeriod}
+use Rattle.book_model.specs.declared.row.ChargeRow.{ChargeRow}
+use Rattle.book_model.specs.Words.{Rulings, Terms, open_by, price_by, rows_if_room, Priced}
 use Rattle.table_model.specs.Tables.{LineTable, RecordRow, Tables}
 use Rattle.table_model.specs.BookIn.{row_record}
 use Rattle.table_model.specs.ListsRead.{is_period}

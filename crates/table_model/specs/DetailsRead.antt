@@ -3,9 +3,10 @@
 use Rattle.std.specs.Prelude.{◌≡◌, ℕ, Bool, true, false, ◌&&◌, List, map, filter, Option, Some}
 use Rattle.std.specs.Prelude.{None, Result}
 use Rattle.book_model.specs.Std.{contains_key, entries, get, is_lt}
-use Rattle.book_model.specs.Words.{Detail, LedgerFault, Rulings, by_detail, comes_after}
-use Rattle.book_model.specs.Words.{detail_with, details_asked, is_asked, members, next_after}
-use Rattle.book_model.specs.Words.{set_of, is_day_of}
+use Rattle.book_model.specs.declared.detail.Detail.{Detail}
+use Rattle.book_model.specs.declared.fault.LedgerFault.{LedgerFault}
+use Rattle.book_model.specs.Words.{Rulings, by_detail, comes_after, detail_with, details_asked}
+use Rattle.book_model.specs.Words.{is_asked, members, next_after, set_of, is_day_of}
 use Rattle.table_model.specs.Tables.{RecordRow, Tables}
 use Rattle.table_model.specs.BookIn.{row_record}
 use Rattle.table_model.specs.ListsRead.{of_period}

@@ -1,7 +1,7 @@
 -- In how many rows tables differ, and in how many of the names that are counted.
 use Rattle.std.specs.Prelude.{◌≡◌, ◌≢◌, ℕ, ◌≤◌, List, length, ℤ}
 use Rattle.book_model.specs.Std.{get, AllByRecursion}
-use Rattle.book_model.specs.Words.{RowKey}
+use Rattle.book_model.specs.declared.row.RowKey.{RowKey}
 use Rattle.table_model.specs.Tables.{CountedTable, Tables}
 
 -- the place of a row: its table and its key

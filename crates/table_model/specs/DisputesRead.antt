@@ -2,8 +2,9 @@
 use Rattle.std.specs.Prelude.{◌≡◌, ℕ, Bool, true, false, not, if◌then◌else◌, List, [], ◌∷◌, ◌++◌}
 use Rattle.std.specs.Prelude.{filter, map, Option, None, Some}
 use Rattle.book_model.specs.Std.{entries, get, list_any, ordering_then, Ordering}
+use Rattle.book_model.specs.declared.dispute.Variant.{Variant}
 use Rattle.book_model.specs.Words.{record_with, Disputed, variant_with, by_bytes, is_from}
-use Rattle.book_model.specs.Words.{same_bytes, set_of, members, Variant}
+use Rattle.book_model.specs.Words.{same_bytes, set_of, members}
 use Rattle.table_model.specs.Tables.{RecordRow, RecordTable, Tables}
 use Rattle.table_model.specs.Views.{rows_with}
 

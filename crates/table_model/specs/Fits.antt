@@ -1,8 +1,10 @@
 -- Tables whose numbers fit signed 64-bit integers, and whose days and periods are valid.
 use Rattle.std.specs.Prelude.{◌≡◌, ℕ, ◌≤◌, ◌<◌, ◌^◌, Bool, IsSome, length, List, Option, Some, ℤ}
 use Rattle.std.specs.FinMap.{get, values}
+use Rattle.book_model.specs.declared.row.ChargeRow.{ChargeRow}
+use Rattle.book_model.specs.declared.row.RowKey.{RowKey}
 use Rattle.book_model.specs.Words.{IsDay, IsName, IsPriced, most_held, most_cost, last_period}
-use Rattle.book_model.specs.Words.{IsRule, IsUsageRecord, most_choices, ChargeRow, RowKey}
+use Rattle.book_model.specs.Words.{IsRule, IsUsageRecord, most_choices}
 use Rattle.table_model.specs.Tables.{ChoiceRow, RecordRow, RecordTable, Tables}
 use Rattle.table_model.specs.TablesOf.{row_key}
 use Rattle.table_model.specs.BookIn.{row_record}

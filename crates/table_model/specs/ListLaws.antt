@@ -3,12 +3,12 @@
 use Rattle.std.specs.Prelude.{◌≡◌, ◌+◌, ◌≤◌, ℕ, filter, map, List, [], ◌∷◌, ◌++◌, Ok, Some, length}
 use Rattle.std.specs.Prelude.{Option, slice_get, true, IsPermutation, option_map}
 use Rattle.book_model.specs.Std.{entries, values, IsStrictlySortedBy}
-use Rattle.book_model.specs.Words.{Detail, details_outcome, next_detail_outcome, Book}
-use Rattle.book_model.specs.Words.{charges_outcome, adjustments_outcome, disputes_outcome}
-use Rattle.book_model.specs.Words.{periods_outcome, no_event, Naming, AreDisputes, AreLines}
-use Rattle.book_model.specs.Words.{AreRows, Period, Terms, by_bytes, choice_seen, dispute_outcome}
-use Rattle.book_model.specs.Words.{most_held, period_of, ruling_outcome, set_of, trail_outcome}
-use Rattle.book_model.specs.Words.{what_if_outcome}
+use Rattle.book_model.specs.declared.detail.Detail.{Detail}
+use Rattle.book_model.specs.Words.{details_outcome, next_detail_outcome, Book, charges_outcome}
+use Rattle.book_model.specs.Words.{adjustments_outcome, disputes_outcome, periods_outcome, no_event}
+use Rattle.book_model.specs.Words.{Naming, AreDisputes, AreLines, AreRows, Period, Terms, by_bytes}
+use Rattle.book_model.specs.Words.{choice_seen, dispute_outcome, most_held, period_of}
+use Rattle.book_model.specs.Words.{ruling_outcome, set_of, trail_outcome, what_if_outcome}
 use Rattle.table_model.specs.TablesOf.{tables_of}
 use Rattle.table_model.specs.DisputesRead.{FindsDisputed, NamedRow, by_identity, dispute_with}
 use Rattle.table_model.specs.DisputesRead.{disputed_among, disputed_rows, disputes_read, grouped}

@@ -3,8 +3,12 @@
 use Rattle.std.specs.Prelude.{ℕ, Bool, ◌==◌, ◌&&◌, not, nat_le, if◌then◌else◌, List, ◌++◌, map}
 use Rattle.std.specs.Prelude.{Option, Result, Ok, Err, option_map}
 use Rattle.std.specs.FinMap.{entries, get}
-use Rattle.book_model.specs.Words.{LedgerFault, NoSuchPeriod, Line, ChargeRow, Rulings, RulingSeen}
-use Rattle.book_model.specs.Words.{ChoiceSeen, adoption_seen, closes_seen, open_by, tariffs_seen}
+use Rattle.book_model.specs.declared.fault.LedgerFault.{LedgerFault}
+use Rattle.book_model.specs.declared.fault.LedgerFault.TheVariants.{NoSuchPeriod}
+use Rattle.book_model.specs.declared.line.Line.{Line}
+use Rattle.book_model.specs.declared.row.ChargeRow.{ChargeRow}
+use Rattle.book_model.specs.Words.{Rulings, RulingSeen, ChoiceSeen, adoption_seen, closes_seen}
+use Rattle.book_model.specs.Words.{open_by, tariffs_seen}
 use Rattle.table_model.specs.PeriodLists.{rows_read, lines_read}
 use Rattle.table_model.specs.Tables.{ChoiceRow, ChoiceTable, Tables}
 

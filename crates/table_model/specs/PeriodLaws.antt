@@ -1,8 +1,9 @@
 -- The laws of what is read: charge rows and lines are read back, and what is past stays.
 use Rattle.std.specs.Prelude.{◌≡◌, ℕ, List, Some, Ok, ℤ, slice_get}
+use Rattle.book_model.specs.declared.answer.Ruled.TheVariants.{Done}
 use Rattle.book_model.specs.Words.{IsFramed, Terms, Book, new_book, flat_book, period_of, keep}
 use Rattle.book_model.specs.Words.{Ruling, close, give, lines_of, Period, Naming, rows_for}
-use Rattle.book_model.specs.Words.{terms_answer, Rulings, with_tariff, IsSound, Done}
+use Rattle.book_model.specs.Words.{terms_answer, Rulings, with_tariff, IsSound}
 use Rattle.table_model.specs.PeriodLists.{rows_read, lines_read, HasLines}
 use Rattle.table_model.specs.TablesOf.{tables_of}
 

@@ -2,8 +2,10 @@
 use Rattle.std.specs.Prelude.{◌≡◌, ℕ, true, false, Bool, List, map, All, Option, filter_map}
 use Rattle.std.specs.Prelude.{option_map}
 use Rattle.std.specs.FinMap.{get}
+use Rattle.book_model.specs.declared.line.Line.{Line}
+use Rattle.book_model.specs.declared.row.ChargeRow.{ChargeRow}
 use Rattle.book_model.specs.Words.{record_with, IsFramed, Book, by_line, line_with, Period, Records}
-use Rattle.book_model.specs.Words.{set_of, members, has, IsUsageRecord, Line, ChargeRow}
+use Rattle.book_model.specs.Words.{set_of, members, has, IsUsageRecord}
 use Rattle.table_model.specs.PeriodRows.{rows_under}
 use Rattle.table_model.specs.Tables.{RecordTable, DayTable, Tables}
 

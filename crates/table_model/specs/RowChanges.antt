@@ -5,10 +5,15 @@
 use Rattle.std.specs.Prelude.{ℕ, ℤ, suc, ◌-◌, ◌==◌, int_lt, Bool, true, false, ◌&&◌, if◌then◌else◌}
 use Rattle.std.specs.Prelude.{List, [], Option, Some, None, unwrap_or}
 use Rattle.book_model.specs.Std.{get, insert, remove, option_map_or}
-use Rattle.book_model.specs.Words.{Priced, ChargeRow, RowKey, identity2_of, key_of, record_with}
-use Rattle.book_model.specs.Words.{row_at}
-use Rattle.book_core.specs.Words.{with_price, DayChange, Add, Take, Effects, AddPlus, DropPlus}
-use Rattle.book_core.specs.Words.{AddMinus, DropMinus}
+use Rattle.book_model.specs.declared.row.ChargeRow.{ChargeRow}
+use Rattle.book_model.specs.declared.row.RowKey.{RowKey}
+use Rattle.book_model.specs.Words.{Priced, identity2_of, key_of, record_with, row_at}
+use Rattle.book_core.specs.declared.effects.DayChange.{DayChange}
+use Rattle.book_core.specs.declared.effects.DayChange.TheVariants.{Add, Take}
+use Rattle.book_core.specs.declared.effects.Effects.{Effects}
+use Rattle.book_core.specs.declared.effects.LineChange.TheVariants.{AddPlus, DropPlus, AddMinus}
+use Rattle.book_core.specs.declared.effects.LineChange.TheVariants.{DropMinus}
+use Rattle.book_core.specs.Words.{with_price}
 use Rattle.book_core.specs.declared.effects.LineChange.{LineChange}
 use Rattle.table_model.specs.Tables.{CountedTable, DayTable, LineTable, RecordRow, RecordTable}
 

@@ -2,8 +2,11 @@
 use Rattle.std.specs.Prelude.{ℕ, ◌==◌, Bool, if◌then◌else◌, List, length, Option, Some, None}
 use Rattle.std.specs.Prelude.{Result, Ok, Err, nat_le, nat_lt, sum_by}
 use Rattle.std.specs.FinMap.{get, values}
-use Rattle.book_model.specs.Words.{terms_ruled, Rulings, Terms, most_choices, most_cost, Ruled}
-use Rattle.book_model.specs.Words.{Done, Already, LedgerFault, Full, NoSuchRecord, NotDisputed}
+use Rattle.book_model.specs.declared.answer.Ruled.{Ruled}
+use Rattle.book_model.specs.declared.answer.Ruled.TheVariants.{Done, Already}
+use Rattle.book_model.specs.declared.fault.LedgerFault.{LedgerFault}
+use Rattle.book_model.specs.declared.fault.LedgerFault.TheVariants.{Full, NoSuchRecord, NotDisputed}
+use Rattle.book_model.specs.Words.{terms_ruled, Rulings, Terms, most_choices, most_cost}
 use Rattle.table_model.specs.TableChanges.{amount_under}
 use Rattle.table_model.specs.Tables.{RecordRow, RecordTable, Tables}
 use Rattle.table_model.specs.Views.{rows_with}

@@ -2,7 +2,9 @@
 -- of the kept tables does.
 use Rattle.std.specs.Prelude.{ℕ, ℤ, Bool, List, Option, fold}
 use Rattle.std.specs.FinMap.{get, insert, remove}
-use Rattle.book_model.specs.Words.{Priced, ChargeRow, RowKey}
+use Rattle.book_model.specs.declared.row.ChargeRow.{ChargeRow}
+use Rattle.book_model.specs.declared.row.RowKey.{RowKey}
+use Rattle.book_model.specs.Words.{Priced}
 use Rattle.book_core.specs.declared.effects.DayChange.{DayChange}
 use Rattle.table_model.specs.MapChanges.{updated, moved}
 use Rattle.table_model.specs.RowChanges.{by_second_rule, change_day, count_where, mark_at, move_on}

@@ -5,7 +5,9 @@ use Rattle.std.specs.Prelude.{[], ◌∷◌, Option}
 use Rattle.book_model.specs.Std.{get, insert, keys, option_map_or}
 use Rattle.book_model.specs.Words.{data_of, record_with, price_by, Terms, Rulings, identity_by}
 use Rattle.book_model.specs.Words.{open_by, Priced}
-use Rattle.book_core.specs.Words.{charge_held, ChoiceEffects, Effects}
+use Rattle.book_core.specs.declared.effects.ChoiceEffects.{ChoiceEffects}
+use Rattle.book_core.specs.declared.effects.Effects.{Effects}
+use Rattle.book_core.specs.Words.{charge_held}
 use Rattle.table_model.specs.RowChanges.{add_price, change_day, change_line, change_mark}
 use Rattle.table_model.specs.RowChanges.{take_price, uncounted_by}
 use Rattle.table_model.specs.Steps.{count_where_row, put_choice_row, put_record_row, set_mark_row}

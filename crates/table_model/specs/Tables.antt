@@ -1,7 +1,8 @@
 -- The kept tables: each a finite map from its primary key to the rest of a row.
 use Rattle.std.specs.Prelude.{ℕ, Bool, List, Option, ℤ}
 use Rattle.book_model.specs.Std.{FinMap, nat_cmp, int_cmp}
-use Rattle.book_model.specs.Words.{Priced, ChargeRow, by_bytes, by_key}
+use Rattle.book_model.specs.declared.row.ChargeRow.{ChargeRow}
+use Rattle.book_model.specs.Words.{Priced, by_bytes, by_key}
 use Rattle.table_model.specs.PeriodRows.{by_period}
 pub use Rattle.book_model.specs.RulingAnswers.{first_rule}
 

@@ -2,10 +2,12 @@
 use Rattle.std.specs.Prelude.{ℕ, suc, Bool, true, false, List, [], ◌∷◌, ◌++◌, map, length, Option}
 use Rattle.std.specs.Prelude.{unwrap_or, ℤ, filter_map, option_map}
 use Rattle.std.specs.FinMap.{from_entries}
+use Rattle.book_model.specs.declared.row.ChargeRow.{ChargeRow}
+use Rattle.book_model.specs.declared.row.RowKey.{RowKey}
 use Rattle.book_model.specs.Words.{data_of, total_of, Book, charged_of, Period, Records, Naming}
 use Rattle.book_model.specs.Words.{name_of, Rulings, AcceptedTerms, price_in, identity_by, members}
 use Rattle.book_model.specs.Words.{has, period_by, rule_by, rows_of, Choice, is_counted_in}
-use Rattle.book_model.specs.Words.{last_close, those, Priced, ChargeRow, RowKey}
+use Rattle.book_model.specs.Words.{last_close, those, Priced}
 use Rattle.table_model.specs.PeriodRows.{numbered}
 use Rattle.table_model.specs.Tables.{BookRow, RecordRow, ChoiceRow, Tables, never_adopted}
 

@@ -3,9 +3,14 @@
 use Rattle.std.specs.Prelude.{ℕ, zero, suc, ◌-◌, Bool, true, false, List, [], ◌∷◌, ◌++◌, map}
 use Rattle.std.specs.Prelude.{filter, Option, None, Some, Result, Err, ok_or, option_map}
 use Rattle.std.specs.FinMap.{get, values}
-use Rattle.book_model.specs.Words.{Reckoning, LedgerFault, NoSuchRecord, Deed, Charged, Added}
-use Rattle.book_model.specs.Words.{Reversed, NamedChoice, Turn, Rulings, TrailSeen, open_by}
-use Rattle.book_model.specs.Words.{period_on, reckoning_in, turn_if}
+use Rattle.book_model.specs.declared.fault.LedgerFault.{LedgerFault}
+use Rattle.book_model.specs.declared.fault.LedgerFault.TheVariants.{NoSuchRecord}
+use Rattle.book_model.specs.declared.trail.Deed.{Deed}
+use Rattle.book_model.specs.declared.trail.Deed.TheVariants.{Charged, Added, Reversed}
+use Rattle.book_model.specs.declared.trail.NamedChoice.{NamedChoice}
+use Rattle.book_model.specs.declared.trail.Turn.{Turn}
+use Rattle.book_model.specs.Words.{Reckoning, Rulings, TrailSeen, open_by, period_on, reckoning_in}
+use Rattle.book_model.specs.Words.{turn_if}
 use Rattle.table_model.specs.Tables.{ChoiceRow, LineTable, RecordRow, Tables}
 use Rattle.table_model.specs.Views.{name_has_identity, rows_with}
 use Rattle.table_model.specs.BookIn.{row_record}

@@ -5,7 +5,8 @@ use Rattle.book_model.specs.Std.{entries, values, get, last_or, list_any, option
 use Rattle.book_model.specs.Words.{Priced, Book, charged_of, share_identity, is_chosen, Naming}
 use Rattle.book_model.specs.Words.{name_of, same_bytes, Rulings, price_in, last_close, members}
 use Rattle.book_model.specs.Words.{those, has}
-use Rattle.book_core.specs.Words.{Member, View}
+use Rattle.book_core.specs.declared.effects.Member.{Member}
+use Rattle.book_core.specs.declared.effects.View.{View}
 use Rattle.table_model.specs.Tables.{RecordRow, RecordTable, ChoiceTable, Tables}
 
 -- the only element of a list, if it has just one

@@ -2,7 +2,9 @@ use Rattle.std.proofs.Common.{◌≡◌, ◌∙◌, ℕ, ◌+◌, ◌≤◌, Lis
 use Rattle.std.proofs.Common.{rules, sum_by}
 use Rattle.std.specs.BTreeMap.{values}
 use Rattle.std.proofs.lemmas.Result.{IfOk-weaker}
-use Rattle.book_model.specs.Words.{ChargeRow, RowKey, row_at, charged_at, Priced}
+use Rattle.book_model.specs.declared.row.ChargeRow.{ChargeRow}
+use Rattle.book_model.specs.declared.row.RowKey.{RowKey}
+use Rattle.book_model.specs.Words.{row_at, charged_at, Priced}
 use Rattle.book_core.specs.KeyedRows.{with_price}
 use Rattle.book_core.proofs.KeyedRowLemmas.{keyed_rows-none, keyed_rows-more, row_so_far}
 use Rattle.book_core.proofs.KeyedRowLemmas.{sum_by-charged_at-more, length-charged_at-more}

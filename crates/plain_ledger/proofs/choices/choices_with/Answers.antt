@@ -1,6 +1,7 @@
 use Rattle.std.proofs.Common.{◌≡◌, ◌∙◌, ◌+◌, ◌++◌, [], ◌∷◌, ℕ, List, Bool, true, false, cond, ap}
 use Rattle.std.proofs.Common.{append-nil, map, sym, take, filter}
-use Rattle.book_model.specs.Words.{NamedChoice, choice_named, name_of, same_bytes}
+use Rattle.book_model.specs.declared.trail.NamedChoice.{NamedChoice}
+use Rattle.book_model.specs.Words.{choice_named, name_of, same_bytes}
 use Rattle.plain_ledger.specs.Choices.{choice_of, is_of}
 use Rattle.plain_ledger.specs.Plain.{rulings_of}
 use Rattle.plain_ledger.specs.declared.chosen.ChosenRecord.{ChosenRecord}

@@ -1,7 +1,8 @@
 use Rattle.std.proofs.Common.{◌≡◌, ◌∙◌, [], length, Bool, true, false, sym, ap, refl, Some, nat_le}
 use Rattle.std.proofs.lemmas.List.{length-map}
-use Rattle.book_model.specs.Words.{Ruled, Book, IsBookCall, after_any, choose_outcome, if_done}
-use Rattle.book_model.specs.Words.{is_chosen, most_choices}
+use Rattle.book_model.specs.declared.answer.Ruled.{Ruled}
+use Rattle.book_model.specs.Words.{Book, IsBookCall, after_any, choose_outcome, if_done, is_chosen}
+use Rattle.book_model.specs.Words.{most_choices}
 use Rattle.plain_ledger.specs.Choices.{choice_of}
 use Rattle.plain_ledger.specs.Plain.{is_alone, is_lone, record_of, rulings_of}
 use Rattle.plain_ledger.specs.PlainBook.{book_in, book_with}

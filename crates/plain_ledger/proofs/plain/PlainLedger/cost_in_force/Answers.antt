@@ -1,6 +1,7 @@
 use Rattle.std.proofs.Common.{◌≡◌, ◌∙◌, Bool, true, false, sym, ap, Ok, Some, nat_lt}
 use Rattle.std.specs.BTreeMap.{values}
-use Rattle.book_model.specs.Words.{terms_ruled, is_too_dear, most_cost, with_tariff, Done}
+use Rattle.book_model.specs.declared.answer.Ruled.TheVariants.{Done}
+use Rattle.book_model.specs.Words.{terms_ruled, is_too_dear, most_cost, with_tariff}
 use Rattle.book_core.specs.OfficeRulings.{ruled_in}
 use Rattle.plain_ledger.specs.PlainBook.{book_in}
 use Rattle.plain_ledger.specs.Repricing.{cost_anew}

@@ -1,7 +1,8 @@
 use Rattle.std.proofs.Common.{◌≡◌, ◌∙◌, List, length, sym, ap, subst, map, Bool, Ok, Option}
 use Rattle.std.specs.List.{IsDistinct}
-use Rattle.book_model.specs.Words.{Detail, Period, ShowsDetail, by_detail, details_asked}
-use Rattle.book_model.specs.Words.{details_of, members, next_after, period_of, same_bytes, set_of}
+use Rattle.book_model.specs.declared.detail.Detail.{Detail}
+use Rattle.book_model.specs.Words.{Period, ShowsDetail, by_detail, details_asked, details_of}
+use Rattle.book_model.specs.Words.{members, next_after, period_of, same_bytes, set_of}
 use Rattle.book_model.proofs.DetailOrder.{next_asked}
 use Rattle.plain_ledger.specs.Plain.{Entry}
 use Rattle.plain_ledger.specs.PlainBook.{book_in, naming_in}

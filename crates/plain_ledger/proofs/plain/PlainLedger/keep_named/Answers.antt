@@ -1,8 +1,10 @@
 use Rattle.std.proofs.Common.{◌≡◌, ◌∙◌, ◌||◌, ◌+◌, Bool, true, false, if◌then◌else◌, Ok, Err, refl}
 use Rattle.std.proofs.Common.{sym, ap, subst, nat_le, nat_lt, ℕ, List, None}
 use Rattle.std.specs.BTreeMap.{insert_entry}
-use Rattle.book_model.specs.Words.{Known, DigestClash, accept_priced, keep, after_any, most_held}
-use Rattle.book_model.specs.Words.{most_cost, accept_event, by_bytes, same_bytes, price_under, has}
+use Rattle.book_model.specs.declared.answer.Accepted.TheVariants.{Known}
+use Rattle.book_model.specs.declared.fault.LedgerFault.TheVariants.{DigestClash}
+use Rattle.book_model.specs.Words.{accept_priced, keep, after_any, most_held, most_cost}
+use Rattle.book_model.specs.Words.{accept_event, by_bytes, same_bytes, price_under, has}
 use Rattle.book_model.proofs.AnswerLemmas.{answers_itself, accept_calls}
 use Rattle.plain_ledger.specs.Plain.{AreBooked, CacheIsHeld, held_in, record_of, ruled_by}
 use Rattle.plain_ledger.specs.PlainBook.{book_in, book_with}

@@ -1,5 +1,6 @@
 use Rattle.std.proofs.Common.{refl, Ok}
-use Rattle.book_model.specs.Words.{Known, has}
+use Rattle.book_model.specs.declared.answer.Accepted.TheVariants.{Known}
+use Rattle.book_model.specs.Words.{has}
 use Rattle.book_model.proofs.AnswerLemmas.{answers_itself, accept_calls}
 use Rattle.plain_ledger.specs.Plain.{held_in}
 use Rattle.plain_ledger.specs.PlainBook.{book_in}

@@ -1,7 +1,8 @@
 use Rattle.std.proofs.Common.{◌≡◌, ◌∙◌, ◌++◌, length, take, drop, sym, ap, subst, map, Option, Ok}
 use Rattle.std.specs.List.{IsDistinct}
-use Rattle.book_model.specs.Words.{Line, period_of, AreLines, by_line, lines_of, same_bytes}
-use Rattle.book_model.specs.Words.{members, set_of}
+use Rattle.book_model.specs.declared.line.Line.{Line}
+use Rattle.book_model.specs.Words.{period_of, AreLines, by_line, lines_of, same_bytes, members}
+use Rattle.book_model.specs.Words.{set_of}
 use Rattle.plain_ledger.specs.declared.treatment.Treatment.{Treatment}
 use Rattle.plain_ledger.specs.Plain.{Entry}
 use Rattle.plain_ledger.specs.PlainBook.{book_in, naming_in}

@@ -1,7 +1,10 @@
 use Rattle.std.proofs.Common.{◌∙◌, [], ℕ, List, Some, None, Ok, map, sym, subst, option_map, All}
 use Rattle.std.proofs.Common.{filter}
-use Rattle.book_model.specs.Words.{Variant, NamedChoice, Turn, IsDay, IsUsage, TrailSeen}
-use Rattle.book_model.specs.Words.{choice_named, day_of, identity_by, in_force, reckoning_by}
+use Rattle.book_model.specs.declared.dispute.Variant.{Variant}
+use Rattle.book_model.specs.declared.trail.NamedChoice.{NamedChoice}
+use Rattle.book_model.specs.declared.trail.Turn.{Turn}
+use Rattle.book_model.specs.Words.{IsDay, IsUsage, TrailSeen, choice_named, day_of, identity_by}
+use Rattle.book_model.specs.Words.{in_force, reckoning_by}
 use Rattle.plain_ledger.specs.Choices.{choice_of, is_of}
 use Rattle.plain_ledger.specs.Plain.{entry_has_identity, record_of, rulings_of, variant_at}
 use Rattle.plain_ledger.specs.PlainBook.{naming_in}

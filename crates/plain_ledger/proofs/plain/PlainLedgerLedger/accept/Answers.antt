@@ -1,4 +1,5 @@
-use Rattle.book_model.specs.Words.{Accepted, accept_outcome}
+use Rattle.book_model.specs.declared.answer.Accepted.{Accepted}
+use Rattle.book_model.specs.Words.{accept_outcome}
 use Rattle.book_core.proofs.OpenAnswers.{accept_open}
 use Rattle.plain_ledger.specs.PlainBook.{book_in, naming_in}
 use Rattle.plain_ledger.proofs.PlainCallLemmas.{plain_call}

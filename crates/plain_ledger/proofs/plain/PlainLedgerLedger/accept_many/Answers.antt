@@ -1,6 +1,8 @@
 use Rattle.std.proofs.Common.{◌≡◌, ◌∙◌, ◌++◌, ◌∷◌, [], Ok, Err, refl, sym, ap, subst}
 use Rattle.std.proofs.lemmas.Result.{err_from_is_err_and}
-use Rattle.book_model.specs.Words.{Accepted, Memory, accept_outcome}
+use Rattle.book_model.specs.declared.answer.Accepted.{Accepted}
+use Rattle.book_model.specs.declared.fault.LedgerFault.TheVariants.{Memory}
+use Rattle.book_model.specs.Words.{accept_outcome}
 use Rattle.book_core.proofs.OpenAnswers.{accept_open}
 use Rattle.plain_ledger.specs.PlainBook.{book_in, naming_in, seen_in}
 use Rattle.book_core.specs.Words.{Accepts, Takes, first_of, records_in, IsTransition, Calls}

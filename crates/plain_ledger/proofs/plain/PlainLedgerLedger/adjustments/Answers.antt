@@ -1,5 +1,6 @@
 use Rattle.std.proofs.Common.{Vec, Global, refl}
-use Rattle.book_model.specs.Words.{Line, adjustments_outcome}
+use Rattle.book_model.specs.declared.line.Line.{Line}
+use Rattle.book_model.specs.Words.{adjustments_outcome}
 use Rattle.book_core.proofs.OpenAnswers.{listed_open}
 use Rattle.plain_ledger.specs.PlainBook.{book_in, naming_in}
 use Rattle.plain_ledger.proofs.PlainCallLemmas.{read_in_memory}

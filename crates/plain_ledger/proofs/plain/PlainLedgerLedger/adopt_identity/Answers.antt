@@ -1,4 +1,5 @@
-use Rattle.book_model.specs.Words.{adopt_outcome, Ruled}
+use Rattle.book_model.specs.declared.answer.Ruled.{Ruled}
+use Rattle.book_model.specs.Words.{adopt_outcome}
 use Rattle.book_core.proofs.OpenAnswers.{adopt_open}
 use Rattle.plain_ledger.specs.PlainBook.{book_in}
 use Rattle.plain_ledger.proofs.PlainCallLemmas.{plain_call}

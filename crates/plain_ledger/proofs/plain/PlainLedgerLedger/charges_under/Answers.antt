@@ -1,5 +1,6 @@
 use Rattle.std.proofs.Common.{Vec, Global, refl}
-use Rattle.book_model.specs.Words.{ChargeRow, period_of, what_if_outcome}
+use Rattle.book_model.specs.declared.row.ChargeRow.{ChargeRow}
+use Rattle.book_model.specs.Words.{period_of, what_if_outcome}
 use Rattle.book_core.proofs.OpenAnswers.{what_if_open}
 use Rattle.plain_ledger.specs.PlainBook.{book_in, naming_in}
 use Rattle.plain_ledger.proofs.PlainCallLemmas.{read_in_memory}

@@ -1,4 +1,5 @@
-use Rattle.book_model.specs.Words.{choose_outcome, record_named, Ruled}
+use Rattle.book_model.specs.declared.answer.Ruled.{Ruled}
+use Rattle.book_model.specs.Words.{choose_outcome, record_named}
 use Rattle.book_core.proofs.OpenAnswers.{choose_open}
 use Rattle.plain_ledger.specs.PlainBook.{book_in, naming_in}
 use Rattle.plain_ledger.proofs.PlainCallLemmas.{plain_call}

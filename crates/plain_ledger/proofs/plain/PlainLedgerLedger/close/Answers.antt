@@ -1,6 +1,7 @@
 use Rattle.std.proofs.Common.{subst, w32, to_z, of_z}
 use Rattle.std.proofs.lemmas.Int.{to_z-of_z}
-use Rattle.book_model.specs.Words.{Ruled, close_outcome}
+use Rattle.book_model.specs.declared.answer.Ruled.{Ruled}
+use Rattle.book_model.specs.Words.{close_outcome}
 use Rattle.book_core.specs.Calls.{IsCall}
 use Rattle.book_core.proofs.OpenAnswers.{close_open}
 use Rattle.plain_ledger.specs.PlainBook.{book_in, seen_in}

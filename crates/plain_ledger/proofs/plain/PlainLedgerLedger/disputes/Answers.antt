@@ -1,5 +1,6 @@
 use Rattle.std.proofs.Common.{Vec, Global, refl, map}
-use Rattle.book_model.specs.Words.{Dispute, dispute_shown, disputes_outcome}
+use Rattle.book_model.specs.declared.dispute.Dispute.{Dispute}
+use Rattle.book_model.specs.Words.{dispute_shown, disputes_outcome}
 use Rattle.book_core.proofs.OpenAnswers.{answered_open}
 use Rattle.plain_ledger.specs.PlainBook.{book_in, naming_in}
 use Rattle.plain_ledger.proofs.PlainCallLemmas.{read_in_memory}

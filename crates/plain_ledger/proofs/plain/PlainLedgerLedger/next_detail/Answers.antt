@@ -1,5 +1,6 @@
 use Rattle.std.proofs.Common.{Option, refl}
-use Rattle.book_model.specs.Words.{Detail, next_detail_outcome}
+use Rattle.book_model.specs.declared.detail.Detail.{Detail}
+use Rattle.book_model.specs.Words.{next_detail_outcome}
 use Rattle.book_core.proofs.OpenAnswers.{listed_open}
 use Rattle.plain_ledger.specs.PlainBook.{book_in, naming_in}
 use Rattle.plain_ledger.proofs.PlainCallLemmas.{read_in_memory}

@@ -1,5 +1,6 @@
 use Rattle.std.proofs.Common.{Option, refl, option_map}
-use Rattle.book_model.specs.Words.{ListedRuling, ruling_outcome, ruling_shown}
+use Rattle.book_model.specs.declared.listed_ruling.ListedRuling.{ListedRuling}
+use Rattle.book_model.specs.Words.{ruling_outcome, ruling_shown}
 use Rattle.book_core.proofs.OpenAnswers.{answered_open}
 use Rattle.plain_ledger.specs.PlainBook.{book_in, naming_in}
 use Rattle.plain_ledger.proofs.PlainCallLemmas.{read_in_memory}
