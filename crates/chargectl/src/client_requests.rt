@@ -22,7 +22,7 @@ use book_http::{
 use named_books::{Opened, Repository, RepositoryFault, Visit};
 use std::alloc::Global;
 use std::mem;
-use streams::Reader;
+use streams::{Reader, Writer};
 
 /// What became of a client.
 #[derive(Clone, Copy)]
@@ -61,7 +61,7 @@ impl<W: Peer + Drop> Visit for OpenRequest<W> {
 
     ghost comes = { λ it after told. ComesOpen it.request
         (W.contents it.writer) (W.contents after.writer)
-        (∥ HasFailed W.Writer.may_answer after.writer ∥₁) told };
+        (∥ HasFailed ⟦<W as Writer>⟧.may_answer after.writer ∥₁) told };
 
     ghost answered = { λ naming it after told. open_answered naming it.request
         (W.contents it.writer) (W.contents after.writer) told };
