@@ -50,7 +50,7 @@ struct OpenRequest<W: Peer + Drop> {
     writer: W,
 }
 
-impl<W: Peer + Drop> Visit for OpenRequest<W> {
+impl<W: Peer + Writer + Drop> Visit for OpenRequest<W> {
     ghost use Rattle.streams.specs.Failures.{HasFailed};
     ghost use Rattle.chargectl.specs.ClientRequests.{AsksOpen, ComesOpen, open_answered};
 
@@ -61,7 +61,7 @@ impl<W: Peer + Drop> Visit for OpenRequest<W> {
 
     ghost comes = { λ it after told. ComesOpen it.request
         (W.contents it.writer) (W.contents after.writer)
-        (∥ HasFailed ⟦<W as Writer>⟧.may_answer after.writer ∥₁) told };
+        (∥ HasFailed W.Writer.may_answer after.writer ∥₁) told };
 
     ghost answered = { λ naming it after told. open_answered naming it.request
         (W.contents it.writer) (W.contents after.writer) told };

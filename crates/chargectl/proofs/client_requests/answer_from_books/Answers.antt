@@ -4,8 +4,8 @@ use Rattle.chargectl.specs.ClientRequests.{EndsBy}
 use Rattle.chargectl.proofs.ClientLemmas.{failed_open, sent_open}
 use Rattle.chargectl.proofs.client_requests.answer_from_books.Goals as goal
 
-pub end_request-requires : goal.end_request-requires
-end_request-requires g c =
+pub end_request-served-requires : goal.end_request-served-requires
+end_request-served-requires g c =
     let contents = g.W.Write.contents in
     let opened = c.open-answer in
     failed_open c.args.request (contents c.args.writer) (contents opened.new.visit.writer)
