@@ -58,9 +58,9 @@ pub first_read : (old new : Seen) (next : Option Dispute)
     → HasRead old new 0 [] next
 first_read old new next call = record {
   shows = shown_as (λ book said. record {
-        front = refl;
-        there = sym (walked old.naming book 0 [] refl) ∙ same_value said;
-      })
+    front = refl;
+    there = sym (walked old.naming book 0 [] refl) ∙ same_value said;
+  })
       (shown (λ book. refl) call);
 }
 

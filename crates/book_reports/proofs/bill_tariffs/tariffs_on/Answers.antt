@@ -25,8 +25,11 @@ returns-in_default-clause-tariffs g c =
 -- there is no memory for it
 pub returns-in_err-join-clause-tariffs : goal.returns-in_err-join-clause-tariffs
 returns-in_err-join-clause-tariffs g c =
-    rw (passed_on c.from_residual-in_err-join.result
-    c.from_residual-in_err-join.ensures.1, c.in_err-join.ensures.memory)
+    rw (
+      passed_on c.from_residual-in_err-join.result
+          c.from_residual-in_err-join.ensures.1,
+      c.in_err-join.ensures.memory,
+    )
     (keep_stopped c.loop-before.invariant.far)
 
 -- the next ruling is refused

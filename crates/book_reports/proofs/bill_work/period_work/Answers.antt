@@ -39,8 +39,11 @@ returns-in_default-clause-work g c =
 -- the sums do not fit
 pub returns-in_err-add-clause-work : goal.returns-in_err-add-clause-work
 returns-in_err-add-clause-work g c =
-    rw (passed_on c.from_residual-in_err-add.result
-    c.from_residual-in_err-add.ensures.1, c.in_err-add.ensures.fault)
+    rw (
+      passed_on c.from_residual-in_err-add.result
+          c.from_residual-in_err-add.ensures.1,
+      c.in_err-add.ensures.fault,
+    )
     (work_stopped c.details.invariant.far)
 
 -- the next detail is refused
