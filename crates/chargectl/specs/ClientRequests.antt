@@ -4,6 +4,7 @@ use Rattle.std.specs.Prelude.{Option, Some, None, Result, Ok, Err}
 use Rattle.book_model.specs.Words.{Book, Event, Naming}
 use Rattle.book_core.specs.Transition.{Transition}
 use Rattle.book_core.specs.Follow.{MakesAnswered}
+use Rattle.book_reports.specs.declared.streamed_details.DetailReport.{DetailReport}
 use Rattle.book_http.specs.declared.requested.Requested.{Requested}
 use Rattle.book_http.specs.declared.requested.Requested.TheVariants as requested
 use Rattle.book_http.specs.declared.served.Served.{Served}
@@ -14,7 +15,7 @@ use Rattle.book_http.specs.Reads.{AreDue, IsDue, ReadCall, ReadOutcome}
 use Rattle.book_http.specs.Reads.{bytes_read, ended_after, failed_after}
 use Rattle.book_http.specs.Replies.{Reply, busy, refusal, reply_of}
 use Rattle.book_http.specs.Requested.{AnswersRequest, IsAsking, request_seen}
-use Rattle.book_http.specs.Served.{IsSent, IsSentAsRead, is_read_fault, is_unanswered}
+use Rattle.book_http.specs.Served.{IsSent, IsSentAsRead, SendsSome, is_read_fault, is_unanswered}
 use Rattle.book_http.specs.Served.{is_write_fault}
 use Rattle.book_http.proofs.LawLemmas.{wanted_answered}
 use Rattle.named_books.specs.declared.repository.RepositoryFault.{RepositoryFault}
@@ -50,11 +51,20 @@ AsksOpen naming request held holds (tells.Due answer) =
 AsksOpen naming request held holds (tells.Sent what) =
     StreamsAnswer naming request held holds what
 
--- Nothing but details is sent while they are open; those are long (StreamsAnswer).
+-- such details were sent, behind a head that announces more bytes than are gathered
+pub record SendsLong (details : DetailReport) (held holds : Option (List ℕ)) (what : Served) : Type 0
+  where
+    pub size : ℕ
+    pub long : most_gathered < size
+    pub some : SendsSome details size held holds what
+    pub begun : is_unanswered what ≡ false
+
+-- Nothing but long details is sent while they are open, whatever the books are.
 abbrev pub SendsOpen : Requested → Option (List ℕ) → Option (List ℕ) → Told → Type 0
 SendsOpen request held holds (tells.Due answer) = holds ≡ held
-SendsOpen request held holds (tells.Sent what) =
-    (is_streamed request ≡ true) × (is_unanswered what ≡ false)
+SendsOpen (requested.Details details) held holds (tells.Sent what) =
+    SendsLong details held holds what
+SendsOpen request held holds (tells.Sent what) = ⊥
 
 -- that a write of them failed is told where one did
 abbrev pub FailsOpen : Type 0 → Told → Type 0

@@ -1,11 +1,12 @@
-use Rattle.std.proofs.Common.{◌∙◌, ap}
+use Rattle.std.proofs.Common.{◌∙◌, ap, subst, sym}
 use Rattle.streams.specs.Sinks.{writer_of}
 use Rattle.book_core.specs.Transition.{IsTransition}
 use Rattle.book_http.specs.declared.requested.Requested.TheVariants as requested
 use Rattle.book_http.specs.Replies.{reply_of}
 use Rattle.book_http.proofs.ServeLemmas.{refuses}
 use Rattle.book_http.proofs.StreamLemmas.{sized_sent}
-use Rattle.chargectl.specs.ClientRequests.{StreamsAnswer, is_streamed}
+use Rattle.chargectl.specs.declared.client_requests.Told.TheVariants as tells
+use Rattle.chargectl.specs.ClientRequests.{SendsLong, SendsOpen, StreamsAnswer}
 use Rattle.chargectl.proofs.ClientLemmas.{details_open}
 use Rattle.chargectl.proofs.FirstByteLemmas.{written_so}
 use Rattle.chargectl.proofs.client_requests.ask_open.Goals as goal
@@ -36,8 +37,19 @@ returns-in-Ok-clause-done g c =
 
 pub returns-in-Ok-clause-came : goal.returns-in-Ok-clause-came
 returns-in-Ok-clause-came g c =
-    let sent = c.send_details-what.ensures in
+    let contents = g.W.Write.contents in
+    let sent = c.send_details-what in
+    let sends = written_so (λ held holds. SendsLong c.in-Details.details held holds sent.result)
+    _ _ _ _ (ap contents c.new-sink.ensures.writer) (ap contents c.into_inner.ensures.writer)
+    (record {
+      size = c.in-Ok.size;
+      long = c.in-Ok.ensures.long;
+      some = sent.ensures.some;
+      begun = sent.ensures.answered;
+    }) in
     record {
-      sends = (ap is_streamed c.in-Details.is, sent.answered);
-      failed = λ told. c.into_inner.ensures.cause (sent.failed ∙ told);
+      sends = subst
+          (λ request. SendsOpen request (contents c.args.writer) (contents c.into_inner.result)
+          (tells.Sent sent.result)) (sym c.in-Details.is) sends;
+      failed = λ told. c.into_inner.ensures.cause (sent.ensures.failed ∙ told);
     }
