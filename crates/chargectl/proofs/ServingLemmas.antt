@@ -23,7 +23,7 @@ use Rattle.chargectl.specs.CommandLaws.{AnswersOrNot, OpenedSo, ServesAny, Serve
 use Rattle.chargectl.specs.Faults.{IsFileFault}
 use Rattle.chargectl.specs.Requests.{IsServiceFault, Serves, WritesEarly, WritesLines}
 use Rattle.chargectl.specs.ServedLines.{Gains, unfailed}
-use Rattle.chargectl.specs.Serving.{AnswersSome, Coming, HasCome, IsServing, IsToldOf, ServesInTurn}
+use Rattle.chargectl.specs.Serving.{AnswersSome, Coming, IsServing, IsToldOf, ServesInTurn}
 use Rattle.chargectl.specs.Serving.{ServesOne, line_of, lines_of, ready, service_end}
 use Rattle.chargectl.proofs.CommandLemmas.{either_as}
 use Rattle.chargectl.proofs.ServedLineLemmas.{gains_then}
@@ -122,18 +122,19 @@ turn_after shelf book one two three (what ∷ before) none (between, turn, serve
 -- ---- one after the other
 
 -- one more connection was served
-pub serving_more : {S C : Type 0} (shelf : S → Shelf) (may_come : Coming C) (book : List ℕ)
-    (old between new : S) (due left less : ℕ) (held has holds : WriterSeen) (what : Served)
-    → IsServing shelf may_come due left book old between held has → HasCome may_come what
-    → ServesOne book what (shelf between) (shelf new) → Gains has holds (line_of what)
-    → less + 1 ≡ left → IsServing shelf may_come due less book old new held holds
-serving_more shelf may_come book old between new due left less held has holds what before came served
-    line one =
+pub serving_more : {S C : Type 0} (shelf : S → Shelf) (may_come : Coming C) (left : C → ℕ)
+    (first middle last : C) (book : List ℕ) (old between new : S) (held has holds : WriterSeen)
+    (what : Served) → IsServing shelf may_come left first middle book old between held has
+    → may_come middle what last → ServesOne book what (shelf between) (shelf new)
+    → Gains has holds (line_of what) → left last + 1 ≡ left middle
+    → IsServing shelf may_come left first last book old new held holds
+serving_more shelf may_come left first middle last book old between new held has holds what before came
+    served line one =
     record {
       told = what ∷ before.told;
-      came = (came, before.came);
+      came = (middle, before.came, came);
       turn = (between, before.turn, served);
-      count = let counted : left + length before.told ≡ due = before.count in omega arith;
+      count = let counted = before.count in omega (arith, counted, one);
       lines = gains_then held has holds (lines_of before.told) (line_of what) before.lines line;
     }
 
@@ -180,16 +181,16 @@ cut_by shelf Refuses book old new requests held holds ended why has_log told is 
     })
 
 -- a connection did not come
-pub serves_cut : {S C : Type 0} {may_come : Coming C} (shelf : S → Shelf)
-    (Refuses : RepositoryFault → Type 0) (book : List ℕ) (old new : S) (requests due left : ℕ)
-    (held holds : Option (List ℕ)) (first before after : WriterSeen) (ended : Ended)
-    (why : CommandFault) (has_log : Bool)
+pub serves_cut : {S C : Type 0} {may_come : Coming C} {left : C → ℕ} {from to : C}
+    (shelf : S → Shelf) (Refuses : RepositoryFault → Type 0) (book : List ℕ) (old new : S)
+    (requests : ℕ) (held holds : Option (List ℕ)) (first before after : WriterSeen)
+    (ended : Ended) (why : CommandFault) (has_log : Bool)
     → first ≡ unfailed held → Gains first before ready → holds ≡ after.holds
     → ended ≡ record { came = Err why; has_log = has_log; is_change = true; notice = None }
-    → IsServiceFault Refuses why → IsServing shelf may_come due left book old new before after
+    → IsServiceFault Refuses why → IsServing shelf may_come left from to book old new before after
     → (shelf new).has_log book has_log
     → Serves shelf Refuses requests book old new held holds ended
-serves_cut shelf Refuses book old new requests due left held holds first before after ended why has_log
+serves_cut shelf Refuses book old new requests held holds first before after ended why has_log
     begun said bytes is known it log =
     cut_by shelf Refuses book old new requests held holds ended why has_log it.told is known it.turn
     (inl (
@@ -216,11 +217,11 @@ serves_none shelf book old new requests held ended why has_log opened is known n
     (opened_untouched book (shelf old) (shelf new) opened none) (inr (refl, refl)) log
 
 -- a service of all connections, whose lines were written, or lost from one on
-pub serves_all : {S C : Type 0} {may_come : Coming C} (shelf : S → Shelf) (book : List ℕ)
-    (old new : S) (requests due left : ℕ) (held holds : Option (List ℕ))
+pub serves_all : {S C : Type 0} {may_come : Coming C} {left : C → ℕ} {from to : C}
+    (shelf : S → Shelf) (book : List ℕ) (old new : S) (requests : ℕ) (held holds : Option (List ℕ))
     (first before after : WriterSeen) (failed : Bool) (ended : Ended) (has_log : Bool)
-    → first ≡ unfailed held → Gains first before ready
-    → due ≡ requests → left ≡ 0 → IsServing shelf may_come due left book old new before after
+    → first ≡ unfailed held → Gains first before ready → left from ≡ requests → left to ≡ 0
+    → IsServing shelf may_come left from to book old new before after
     → holds ≡ after.holds → failed ≡ after.has_failed
     → ended ≡ record {
       came = service_end (Ok failed);
@@ -230,15 +231,15 @@ pub serves_all : {S C : Type 0} {may_come : Coming C} (shelf : S → Shelf) (boo
     }
     → (shelf new).has_log book has_log
     → Serves shelf (λ _. ⊥) requests book old new held holds ended
-serves_all shelf book old new requests due left held holds first before after failed ended has_log
-    begun said all none it bytes flag is log =
+serves_all shelf book old new requests held holds first before after failed ended has_log begun said all
+    none it bytes flag is log =
     subst (λ ended. Serves shelf (λ _. ⊥) requests book old new held holds ended) (sym is)
     (record {
       told = it.told;
       turn = it.turn;
       served = Ok failed;
       all = (
-        (let counted : left + length it.told ≡ due = it.count in omega arith),
+        (let counted = it.count in omega (arith, counted, all, none)),
         subst (λ failed. WritesLines it.told held holds failed) (sym flag)
             (lines_written held holds first before after it.told begun said it.lines bytes),
       );

@@ -98,24 +98,22 @@ ready = codes "READY\n"
 abbrev pub Coming : Type 0 → Type 1
 Coming C = C → Served → C → Type 0
 
--- a connection came, and this became of it
-abbrev pub HasCome : {C : Type 0} → Coming C → Served → Type 0
-HasCome {C} may_come what = (before : C) × (after : C) × may_come before what after
+-- From the first of these connections to the last they came one after the other, and this became of
+-- each, the newest first.
+abbrev pub CameInTurn : {C : Type 0} → Coming C → C → C → List Served → Type 0
+CameInTurn may_come first last [] = last ≡ first
+CameInTurn {C} may_come first last (what ∷ before) =
+    (between : C) × CameInTurn may_come first between before × may_come between what last
 
--- so it was with each of these
-abbrev pub HaveCome : {C : Type 0} → Coming C → List Served → Type 0
-HaveCome may_come [] = Unit {0}
-HaveCome may_come (what ∷ before) = HasCome may_come what × HaveCome may_come before
-
--- So many connections were due, and so many are left. The others were served one after the other, whatever
--- is known of the books, and each has the line of what became of one, up to a write that failed, if one
--- did.
-pub record IsServing {S C : Type 0} (shelf : S → Shelf) (may_come : Coming C) (due left : ℕ)
-    (book : List ℕ) (old new : S) (held holds : WriterSeen) : Type 0 where
+-- Of the connections that were due these are left last. The others came and were served one after the other,
+-- whatever is known of the books, and each has the line of what became of it, up to a write that failed, if
+-- one did.
+pub record IsServing {S C : Type 0} (shelf : S → Shelf) (may_come : Coming C) (left : C → ℕ)
+    (first last : C) (book : List ℕ) (old new : S) (held holds : WriterSeen) : Type 0 where
   pub told : List Served
-  pub came : HaveCome may_come told
+  pub came : CameInTurn may_come first last told
   pub turn : ServesInTurn shelf book old new told
-  pub count : left + length told ≡ due
+  pub count : left last + length told ≡ left first
   pub lines : Gains held holds (lines_of told)
 
 -- one that did not come is among those that are left
@@ -123,9 +121,23 @@ abbrev pub left_by : Result (Unit {0}) Error → ℕ → ℕ
 left_by (Ok done) left = left
 left_by (Err error) left = left + 1
 
--- Nothing but a connection that did not come, for this reason, ended a service early.
-abbrev pub NoneCame : {C : Type 0} → (C → Error → C → Type 0) → Error → C → Type 0
-NoneCame {C} may_fail error after = (before : C) × may_fail before error after
+-- why the next of some connections may not come, which leaves such others
+abbrev pub NotComing : Type 0 → Type 1
+NotComing C = C → Error → C → Type 0
+
+-- These are left after all that came; or they are left by one that did not, for this reason.
+abbrev pub EndsWith : {C : Type 0} → NotComing C → C → C → Result (Unit {0}) Error → Type 0
+EndsWith may_fail last new (Ok done) = new ≡ last
+EndsWith may_fail last new (Err error) = may_fail last error new
+
+-- Connections were served until none was left; nothing but one that did not come ended that early.
+pub record ServesUntil {S C : Type 0} (shelf : S → Shelf) (may_come : Coming C)
+    (may_fail : NotComing C) (left : C → ℕ) (first new : C) (book : List ℕ) (old after : S)
+    (held holds : WriterSeen) (result : Result (Unit {0}) Error) : Type 0 where
+  pub last : C
+  pub serving : IsServing shelf may_come left first last book old after held holds
+  pub ends : EndsWith may_fail last new result
+  pub count : left_by result (left new) ≡ left last
 
 -- How a service ends: all connections were answered, and it is told whether a write of their lines failed
 -- meanwhile; or why no more were answered.

@@ -4,8 +4,7 @@ ghost use Rattle.std.specs.Prelude.{◌≡◌, ◌++◌, codes, decimal, IfErr};
 ghost use Rattle.std.specs.Prelude.{Err, None, Ok, OnOk, true};
 ghost use Rattle.chargectl.specs.Requests.{IsServiceFault, Serves, ServesBy};
 ghost use Rattle.chargectl.specs.ServedLines.{Gains, seen_of};
-ghost use Rattle.chargectl.specs.Serving.{IsServing, NoneCame, left_by, line_of, service_end};
-ghost use Rattle.chargectl.specs.Serving.{ready};
+ghost use Rattle.chargectl.specs.Serving.{ServesUntil, line_of, ready, service_end};
 
 use crate::command_fault::CommandFault;
 use crate::ended::Ended;
@@ -136,14 +135,13 @@ pub fn serve_each<C: Connections, S: Repository, O: Writer + Drop>(
     lines: &mut ServedLines<O>,
 ) -> (io::Result<()>, bool)
     requires { (S.shelf repository.old).has_log book.now has_log }
-    ensures served { IsServing S.shelf C.may_come (C.left connections.old)
-        (left_by result.0 (C.left connections.new)) book.now repository.old repository.new
-        (seen_of O.contents lines.old) (seen_of O.contents lines.new) }
-    ensures all { OnOk result.0 (C.left connections.new ≡ 0) }
-    ensures log { (S.shelf repository.new).has_log book.now result.1 }
 
     // No fault of the output or of the books ends it early.
-    ensures failed { IfErr result.0 (λ error. NoneCame C.may_fail error connections.new) }
+    ensures served { ServesUntil S.shelf C.may_come C.may_fail C.left connections.old
+        connections.new book.now repository.old repository.new
+        (seen_of O.contents lines.old) (seen_of O.contents lines.new) result.0 }
+    ensures all { OnOk result.0 (C.left connections.new ≡ 0) }
+    ensures log { (S.shelf repository.new).has_log book.now result.1 }
 {
     let mut has_log = has_log;
     while !connections.is_over() {

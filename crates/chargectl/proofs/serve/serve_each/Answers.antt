@@ -1,5 +1,6 @@
-use Rattle.std.proofs.Common.{subst, sym}
+use Rattle.std.proofs.Common.{refl, subst, sym}
 use Rattle.chargectl.specs.ServedLines.{seen_of}
+use Rattle.chargectl.specs.Serving.{ServesInTurn}
 use Rattle.chargectl.proofs.ServingLemmas.{log_left, serving_more}
 use Rattle.chargectl.proofs.serve.serve_each.Goals as goal
 
@@ -9,12 +10,11 @@ loop-connections-preserved g c =
     let left = g.C.Connections.left in
     let seen = seen_of g.O.Write.contents in
     record {
-      serving = serving_more shelf g.C.Connections.may_come c.args.book.now c.args.repository.now
-          c.loop-connections.repository c.next.new.repository
-          (left c.args.connections.now) (left c.loop-connections.connections) (left c.next.new.self)
+      serving = serving_more shelf g.C.Connections.may_come g.C.Connections.left
+          c.args.connections.now c.loop-connections.connections c.next.new.self c.args.book.now
+          c.args.repository.now c.loop-connections.repository c.next.new.repository
           (seen c.args.lines.now) (seen c.loop-connections.lines) (seen c.say_served.new.lines)
-          c.in-Ok.attended.served c.loop-connections.invariant.serving
-          (c.loop-connections.connections, c.next.new.self, c.in-Ok.ensures.came)
+          c.in-Ok.attended.served c.loop-connections.invariant.serving c.in-Ok.ensures.came
           c.in-Ok.ensures.served.done c.say_served.ensures c.next.ensures.left;
       log = subst (λ is. (shelf c.next.new.repository).has_log c.args.book.now is)
           (sym c.unwrap_or-has_log.ensures)
@@ -22,3 +22,29 @@ loop-connections-preserved g c =
           c.loop-connections.has_log c.in-Ok.attended.log c.loop-connections.invariant.log
           c.in-Ok.ensures.served.log);
     }
+
+-- one did not come: the books are as they were
+pub returns-in-Err-clause-served : goal.returns-in-Err-clause-served
+returns-in-Err-clause-served g c =
+    let it = c.loop-connections.invariant.serving in record {
+      last = c.loop-connections.connections;
+      serving = record {
+        told = it.told;
+        came = it.came;
+        turn = subst
+            (λ place. ServesInTurn g.S.Repository.shelf c.args.book.now c.args.repository.now place
+            it.told) (sym c.in-Err.ensures.none) it.turn;
+        count = it.count;
+        lines = it.lines;
+      };
+      ends = c.in-Err.ensures.failed;
+      count = c.next.ensures.left;
+    }
+
+pub returns-clause-served : goal.returns-clause-served
+returns-clause-served g c = record {
+  last = c.loop-connections.connections;
+  serving = c.loop-connections.invariant.serving;
+  ends = refl;
+  count = refl;
+}

@@ -1,4 +1,4 @@
-use Rattle.std.proofs.Common.{inr}
+use Rattle.std.proofs.Common.{◌∙◌, inr, sym}
 use Rattle.std.specs.IoError.{error_kind}
 use Rattle.chargectl.specs.ServedLines.{seen_of}
 use Rattle.chargectl.proofs.ServingLemmas.{serves_all, serves_cut}
@@ -9,12 +9,13 @@ returns-in-Ok g c =
     let contents = g.O.Write.contents in
     let seen = seen_of contents in
     let each = c.serve_each-answered in
+    let served = rw c.in-Ok.is at each.ensures.served in
     serves_all g.S.Repository.shelf c.args.book.now c.args.repository.now each.new.repository
-    c.args.requests c.over-port.result.left each.new.connections.left (contents c.args.output)
-    (contents c.into_inner.result) (seen c.new-lines.result) (seen c.say_ready.new.lines)
-    (seen each.new.lines) c.has_failed.result c.ended.result each.result.1 c.new-lines.ensures
-    c.say_ready.ensures c.over-port.ensures (rw c.in-Ok.is at each.ensures.all)
-    (rw c.in-Ok.is at each.ensures.served) c.into_inner.ensures.holds c.has_failed.ensures
+    c.args.requests (contents c.args.output) (contents c.into_inner.result)
+    (seen c.new-lines.result) (seen c.say_ready.new.lines) (seen each.new.lines)
+    c.has_failed.result c.ended.result each.result.1 c.new-lines.ensures c.say_ready.ensures
+    c.over-port.ensures (sym served.count ∙ rw c.in-Ok.is at each.ensures.all) served.serving
+    c.into_inner.ensures.holds c.has_failed.ensures
     (rw c.told_end-came.ensures at c.ended.ensures) each.ensures.log
 
 pub returns-in-Err : goal.returns-in-Err
@@ -22,10 +23,10 @@ returns-in-Err g c =
     let contents = g.O.Write.contents in
     let seen = seen_of contents in
     let each = c.serve_each-answered in
+    let served = rw c.in-Err.is at each.ensures.served in
     serves_cut g.S.Repository.shelf (λ _. ⊥) c.args.book.now c.args.repository.now
-    each.new.repository c.args.requests c.over-port.result.left _ (contents c.args.output)
+    each.new.repository c.args.requests (contents c.args.output)
     (contents c.into_inner-in-Err.result) (seen c.new-lines.result) (seen c.say_ready.new.lines)
     (seen each.new.lines) c.ended-in-Err.result c.from-fault.result each.result.1
     c.new-lines.ensures c.say_ready.ensures c.into_inner-in-Err.ensures.holds c.ended-in-Err.ensures
-    (inr (error_kind c.in-Err.error, c.from-fault.ensures)) (rw c.in-Err.is at each.ensures.served)
-    each.ensures.log
+    (inr (error_kind c.in-Err.error, c.from-fault.ensures)) served.serving each.ensures.log
