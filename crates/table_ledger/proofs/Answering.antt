@@ -1,14 +1,12 @@
 -- Answers that make no event.
-use Rattle.std.proofs.Common.{◌≡◌, ◌≢◌, ◌∙◌, inl, Ok, Err, Result, [], None, refl}
-use Rattle.std.proofs.Common.{sym, ap, subst}
+use Rattle.std.proofs.Common.{◌≡◌, ◌≢◌, ◌∙◌, inl, Ok, Err, Result, [], None, refl, sym, ap, subst}
 use Rattle.book_model.specs.declared.answer.Ruled.{Ruled}
 use Rattle.book_model.specs.declared.answer.Ruled.TheVariants.{Done, Already}
 use Rattle.book_model.specs.declared.fault.LedgerFault.{LedgerFault}
 use Rattle.book_model.specs.declared.fault.LedgerFault.TheVariants.{Memory, Store, Reopen}
 use Rattle.book_model.specs.Words.{Book, Naming, Outcome}
-use Rattle.book_core.specs.Calls.{LeavesOpen, Makes, listed}
-use Rattle.table_model.specs.Tables.{Tables}
-use Rattle.table_model.specs.TablesOf.{tables_of}
+use Rattle.book_core.specs.Words.{LeavesOpen, Makes, listed}
+use Rattle.table_model.specs.Words.{Tables, tables_of}
 use Rattle.tree_tables.specs.States.{State}
 use Rattle.table_ledger.specs.Commits.{Saw}
 use Rattle.table_ledger.specs.Stages.{AttemptsOne, IsAt}

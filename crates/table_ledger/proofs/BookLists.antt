@@ -1,21 +1,16 @@
 -- Lists of books that can be read back: what is read from their tables can be shown.
-use Rattle.std.proofs.Common.{◌≡◌, ◌∙◌, ℕ, Bool, List, [], ◌∷◌, Option, None, Some, map, sym, ap, subst}
-use Rattle.std.proofs.Common.{refl, true}
-use Rattle.std.specs.FinMap.{get}
-use Rattle.std.specs.List.{AllByRecursion, cons_option}
-use Rattle.std.specs.Option.{option_map}
+use Rattle.std.proofs.Common.{◌≡◌, ◌∙◌, ℕ, Bool, List, [], ◌∷◌, Option, None, Some, map, sym, ap}
+use Rattle.std.proofs.Common.{subst, refl, true, option_map, Less}
 use Rattle.std.specs.List.Sorted.{IsStrictlySortedBy}
-use Rattle.std.specs.declared.cmp.Ordering.TheVariants.{Less}
 use Rattle.sqlite_trees.specs.View.{View}
 use Rattle.sqlite_trees.proofs.ListLemmas.{map-map}
-use Rattle.book_model.specs.Words.{AreLines, AreRows, Book, Naming, by_bytes, by_line, members, set_of}
+use Rattle.book_model.proofs.Std.{get, AllByRecursion, cons_option}
+use Rattle.book_model.specs.Words.{AreLines, AreRows, Book, Naming, by_bytes, by_line, members}
+use Rattle.book_model.specs.Words.{set_of}
 use Rattle.book_model.specs.declared.line.Line.{Line}
 use Rattle.book_model.specs.declared.row.ChargeRow.{ChargeRow}
-use Rattle.table_model.specs.PeriodRows.{rows_under}
-use Rattle.table_model.specs.Tables.{RecordRow, RecordTable}
-use Rattle.table_model.specs.TablesOf.{tables_of}
-use Rattle.table_model.specs.ListsRead.{is_period}
-use Rattle.table_model.specs.Readable.{IsReadable}
+use Rattle.table_model.specs.Words.{rows_under, RecordRow, RecordTable, tables_of, is_period}
+use Rattle.table_model.specs.Words.{IsReadable}
 use Rattle.table_model.proofs.CountedLemmas.{counted_follows}
 use Rattle.table_model.proofs.ShownDisputes.{lists_show}
 use Rattle.table_model.specs.DisputesRead.{IsNextDisputed}
@@ -29,7 +24,7 @@ use Rattle.table_ledger.specs.LineReads.{NamesRise, lines_stored}
 use Rattle.table_ledger.specs.OtherPrices.{CanBeWalked}
 use Rattle.table_ledger.specs.Ready.{IsReadyAt}
 use Rattle.table_ledger.specs.RecordReads.{CanBeRead, HasWideNames}
-use Rattle.book_core.specs.OfficeRulings.{ruled_in}
+use Rattle.book_core.specs.Words.{ruled_in}
 use Rattle.table_ledger.specs.declared.summary.Summary.{Summary}
 use Rattle.table_ledger.proofs.LineReadings.{line_with, lines_listed}
 use Rattle.table_ledger.proofs.Remembered.{rulings_are}

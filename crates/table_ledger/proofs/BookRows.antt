@@ -1,44 +1,30 @@
 -- The rows of books that can be read back: they fit, they can be shown, and there are no more of
 -- them than can be listed at once.
-use Rattle.std.proofs.Common.{◌≡◌, ◌∙◌, ◌+◌, ◌*◌, ◌≤◌, ℕ, List, [], ◌∷◌, length, map}
-use Rattle.std.proofs.Common.{Bool, true, false, cond, Some, refl, sym, ap, subst, arith}
-use Rattle.std.specs.Prelude.{◌==◌, All, filter}
-use Rattle.std.specs.Cmp.{IsTotalOrder}
-use Rattle.std.specs.FinMap.{FinMap, contains_key, entries, entries_sorted, from_entries, get}
-use Rattle.std.specs.FinMap.{insert, len, len-empty, len-entries, len-insert}
-use Rattle.std.specs.List.{AllByRecursion}
-use Rattle.std.specs.List.Sorted.{IsStrictlySortedBy}
-use Rattle.std.specs.declared.cmp.Ordering.{Ordering}
-use Rattle.std.proofs.lemmas.Cmp.{nat_list_cmp_total}
-use Rattle.std.proofs.lemmas.List.{length-append, length-map}
-use Rattle.std.proofs.lemmas.List.Elements.{All-from_recursion}
-use Rattle.std.proofs.lemmas.List.Sorted.{IsPermutation-sym}
-use Rattle.std.proofs.lemmas.List.Sums.{count_by-le-length, length-filter}
-use Rattle.std.proofs.lemmas.Map.Lookups.{exact_bytes}
+use Rattle.std.proofs.Common.{◌≡◌, ◌∙◌, ◌+◌, ◌*◌, ◌≤◌, ℕ, List, [], ◌∷◌, length, map, Bool, true}
+use Rattle.std.proofs.Common.{false, cond, Some, refl, sym, ap, subst, arith, ◌==◌, All, filter}
+use Rattle.std.proofs.Common.{Ordering, length-append}
+use Rattle.std.specs.FinMap.{len, len-insert}
 use Rattle.sqlite_trees.proofs.ListLemmas.{all-filter, all-map, all-permutation, all_from_map}
-use Rattle.smf_frames.specs.Framed.{data_of}
-use Rattle.tariff_rules.specs.declared.priced.Priced.{Priced}
-use Rattle.book_model.specs.Words.{AreAmong, Book, IsUsage}
-use Rattle.book_model.specs.Words.{Naming, Period, Records, all_periods, by_bytes, by_key, has, key_of}
-use Rattle.book_model.specs.Words.{keys_of, members, most_held, name_of, price_in, row_at, rows_of}
-use Rattle.book_model.specs.Words.{same_bytes, set_of}
-use Rattle.book_model.specs.Sets.{Set}
+use Rattle.book_model.proofs.Std.{IsTotalOrder, FinMap, contains_key, entries, entries_sorted}
+use Rattle.book_model.proofs.Std.{from_entries, get, insert, len-empty, len-entries, AllByRecursion}
+use Rattle.book_model.proofs.Std.{IsStrictlySortedBy, nat_list_cmp_total, length-map}
+use Rattle.book_model.proofs.Std.{All-from_recursion, IsPermutation-sym, count_by-le-length}
+use Rattle.book_model.proofs.Std.{length-filter, exact_bytes}
+use Rattle.book_model.specs.Words.{data_of, Priced, AreAmong, Book, IsUsage, Naming, Period}
+use Rattle.book_model.specs.Words.{Records, all_periods, by_bytes, by_key, has, key_of, keys_of}
+use Rattle.book_model.specs.Words.{members, most_held, name_of, price_in, row_at, rows_of}
+use Rattle.book_model.specs.Words.{same_bytes, set_of, Set}
 use Rattle.book_model.specs.declared.row.ChargeRow.{ChargeRow}
 use Rattle.book_model.specs.declared.row.RowKey.{RowKey}
 use Rattle.table_model.proofs.IdentityLengths.{identity_by-long}
-use Rattle.book_model.proofs.RowLemmas.{by_key_total}
-use Rattle.book_model.proofs.SetLemmas.{members-those}
-use Rattle.book_model.proofs.SumsAlike.{length-sum_by}
-use Rattle.table_model.specs.PeriodRows.{rows_under, under}
-use Rattle.table_model.specs.Tables.{RecordRow}
-use Rattle.table_model.specs.TablesOf.{line_entries, signed_names, tables_of}
+use Rattle.book_model.proofs.Lemmas.{by_key_total, members-those, length-sum_by, keys_rise}
+use Rattle.table_model.specs.Words.{rows_under, under, RecordRow, line_entries, signed_names}
+use Rattle.table_model.specs.Words.{tables_of, is_period, IsReadable}
 use Rattle.table_model.proofs.PeriodPlaces.{at_place, slice_get-map}
 use Rattle.table_model.proofs.PeriodReading.{read-period}
 use Rattle.table_model.proofs.RowReading.{rows_follow}
 use Rattle.table_model.proofs.RowsWhere.{those_among}
 use Rattle.table_model.specs.Fits.{DayFits}
-use Rattle.table_model.specs.ListsRead.{is_period}
-use Rattle.table_model.specs.Readable.{IsReadable}
 use Rattle.table_model.proofs.CountedLemmas.{counted_follows}
 use Rattle.table_model.proofs.FitsLemmas.{numbers_fit}
 use Rattle.table_model.proofs.Finding.{get_one}
@@ -53,7 +39,6 @@ use Rattle.tree_tables.specs.Fits.{ChargeFits, DaysFit, LineFits, LinesFit, Reco
 use Rattle.tree_tables.specs.Stored.{stored_entry}
 use Rattle.tree_tables.specs.declared.stored_record.StoredRecord.{StoredRecord}
 use Rattle.tree_tables.proofs.Layouts.{day_layout, record_layout}
-use Rattle.book_model.proofs.SetLemmas.{keys_rise}
 use Rattle.tree_tables.proofs.RowsRead.{all_entries as each_of}
 use Rattle.table_ledger.specs.DisputeReads.{IsShownRow}
 use Rattle.table_ledger.specs.RecordReads.{CanBeRead, HasWideNames}

@@ -1,15 +1,11 @@
 -- A choice that is tried: what it answers, and what it writes.
 use Rattle.std.proofs.Common.{◌≡◌, ◌∙◌, ℕ, ◌+◌, List, length, refl, sym, ap, subst, Bool, Ok, Err}
-use Rattle.std.proofs.Common.{Option, None, Some, Result, arith}
-use Rattle.std.specs.Prelude.{ℤ, nat_le, ◌==◌}
-use Rattle.std.specs.Cmp.{nat_cmp_total}
-use Rattle.std.specs.FinMap.{get, get-from_entries}
-use Rattle.std.specs.Option.{option_map, option_map_or}
-use Rattle.std.proofs.lemmas.List.{length-append}
+use Rattle.std.proofs.Common.{Option, None, Some, Result, arith, ℤ, nat_le, ◌==◌, option_map}
+use Rattle.std.proofs.Common.{length-append}
 use Rattle.sqlite_trees.specs.View.{View}
 use Rattle.sqlite_trees.specs.declared.error.StoreError.{StoreError}
-use Rattle.book_core.specs.Effects.{choice_effects}
-use Rattle.book_core.specs.OfficeRulings.{ruled_in}
+use Rattle.book_model.proofs.Std.{nat_cmp_total, get, get-from_entries, option_map_or}
+use Rattle.book_core.specs.Words.{choice_effects, ruled_in, LeavesOpen}
 use Rattle.book_core.specs.declared.effects.ChoiceEffects.{ChoiceEffects}
 use Rattle.book_model.specs.Words.{Book, Naming, RecordChosen, last_close, open_by, choose_answer}
 use Rattle.book_model.specs.Words.{choose_outcome, chosen_answer, if_done, most_choices}
@@ -18,12 +14,9 @@ use Rattle.book_model.specs.declared.answer.Ruled.{Ruled}
 use Rattle.book_model.specs.declared.answer.Ruled.TheVariants.{Done}
 use Rattle.book_model.specs.declared.fault.LedgerFault.TheVariants.{NoSuchRecord}
 use Rattle.table_model.specs.Changed.{chosen_at}
-use Rattle.table_model.specs.TableChanges.{put_choice}
-use Rattle.table_model.specs.Tables.{RecordRow, Tables}
-use Rattle.table_model.specs.TablesOf.{choice_entries, tables_of}
-use Rattle.table_model.specs.Views.{member_at}
+use Rattle.table_model.specs.Words.{put_choice, RecordRow, Tables, choice_entries, tables_of}
+use Rattle.table_model.specs.Words.{member_at, IsReadable}
 use Rattle.table_model.proofs.ChoiceChanges.{choice_free}
-use Rattle.table_model.specs.Readable.{IsReadable}
 use Rattle.table_model.specs.RulingsRead.{chosen_by, choose_row}
 use Rattle.table_model.proofs.ChoiceLemmas.{choices_follow}
 use Rattle.table_model.proofs.ChoiceReading.{choices_count}
@@ -32,7 +25,6 @@ use Rattle.tree_tables.specs.States.{HasCleanDisk, State}
 use Rattle.tree_tables.specs.Steps.{Does, Looks}
 use Rattle.tree_tables.specs.Stored.{stored_entry}
 use Rattle.tree_tables.specs.declared.stored_record.StoredRecord.{StoredRecord}
-use Rattle.book_core.specs.Calls.{LeavesOpen}
 use Rattle.table_ledger.specs.Commits.{Saw}
 use Rattle.table_ledger.specs.Premises.{IsNext}
 use Rattle.table_ledger.specs.ChoiceReads.{FindsChoiceEffects}

@@ -1,38 +1,31 @@
 -- The choices that name the records of an identity: found record by record, and then put in order,
 -- they are those of the table, in its order.
-use Rattle.std.proofs.Common.{◌≡◌, ◌∙◌, ◌+◌, ◌<◌, ℕ, List, [], ◌∷◌, ◌++◌, map, length, refl, sym, ap}
-use Rattle.std.proofs.Common.{subst, Bool, true, false, cond, not, ◌&&◌, ◌||◌}
-use Rattle.std.proofs.Common.{Some, take, get_or, append-nil}
-use Rattle.std.specs.Prelude.{filter}
-use Rattle.std.specs.Cmp.{IsTotalOrder, nat_cmp_total}
-use Rattle.std.specs.FinMap.{entries, entries_sorted, find, get-entries}
-use Rattle.std.specs.List.{AllByRecursion, IsDistinct, flat_map, list_any}
-use Rattle.std.specs.List.Sorted.{IsPermutation, IsStrictlySortedBy}
+use Rattle.std.proofs.Common.{◌≡◌, ◌∙◌, ◌+◌, ◌<◌, ℕ, List, [], ◌∷◌, ◌++◌, map, length, refl, sym}
+use Rattle.std.proofs.Common.{ap, subst, Bool, true, false, cond, not, ◌&&◌, ◌||◌, Some, take}
+use Rattle.std.proofs.Common.{get_or, append-nil, filter, flat_map, IsPermutation, nat_cmp}
+use Rattle.std.proofs.Common.{Ordering, Less, append_assoc}
+use Rattle.std.specs.FinMap.{find}
+use Rattle.std.specs.List.{IsDistinct}
+use Rattle.std.specs.List.Sorted.{IsStrictlySortedBy}
 use Rattle.std.specs.Map.{lookup}
-use Rattle.std.specs.Option.{option_map_or}
-use Rattle.std.specs.Ordering.{eq_by_cmp, nat_cmp}
-use Rattle.std.specs.declared.cmp.Ordering.{Ordering}
-use Rattle.std.specs.declared.cmp.Ordering.TheVariants.{Less}
-use Rattle.std.proofs.lemmas.Cmp.{eq_by_cmp_equiv, nat_list_cmp_total, on_total}
-use Rattle.std.proofs.lemmas.List.{append_assoc, map-append, take_more}
-use Rattle.std.proofs.lemmas.List.Kept.{IsStrictlySortedBy-filter}
 use Rattle.std.proofs.lemmas.List.Sorted.{IsPermutation-append_right, IsPermutation-filter_both}
-use Rattle.std.proofs.lemmas.List.Sorted.{IsPermutation-map, IsPermutation-refl, IsPermutation-sym}
-use Rattle.std.proofs.lemmas.List.Sorted.{IsPermutation-trans}
-use Rattle.std.proofs.lemmas.Map.Keys.{IsDistinct-from_sorted, IsDistinct-head, IsDistinct-tail}
-use Rattle.std.proofs.lemmas.Map.Lookups.{exact_bytes}
-use Rattle.std.proofs.lemmas.Map.Views.{tells_apart}
 use Rattle.sqlite_trees.proofs.ListLemmas.{map-map}
+use Rattle.book_model.proofs.Std.{IsTotalOrder, nat_cmp_total, entries, entries_sorted, get-entries}
+use Rattle.book_model.proofs.Std.{AllByRecursion, list_any, option_map_or, eq_by_cmp}
+use Rattle.book_model.proofs.Std.{eq_by_cmp_equiv, nat_list_cmp_total, on_total, map-append}
+use Rattle.book_model.proofs.Std.{take_more, IsStrictlySortedBy-filter, IsPermutation-map}
+use Rattle.book_model.proofs.Std.{IsPermutation-refl, IsPermutation-sym, IsPermutation-trans}
+use Rattle.book_model.proofs.Std.{IsDistinct-from_sorted, IsDistinct-head, IsDistinct-tail}
+use Rattle.book_model.proofs.Std.{exact_bytes, tells_apart}
 use Rattle.book_model.specs.declared.trail.NamedChoice.{NamedChoice}
 use Rattle.book_model.specs.Words.{by_bytes, same_bytes}
-use Rattle.book_model.proofs.ListLemmas.{filter-agree, filter-filter, filter-map, list_any-map}
+use Rattle.book_model.proofs.Lemmas.{filter-agree, filter-filter, filter-map, list_any-map}
+use Rattle.book_model.proofs.Lemmas.{keys_rise, same_bytes-by_cmp}
 use Rattle.book_model.proofs.PermutedSets.{distinct_permuted, only_rising, rising_from_sorted}
-use Rattle.book_model.proofs.SetLemmas.{keys_rise, same_bytes-by_cmp}
 use Rattle.book_core.proofs.EntryLemmas.{list_any-at_key}
-use Rattle.table_model.specs.Tables.{ChoiceRow, RecordRow, RecordTable, Tables}
-use Rattle.table_model.specs.Views.{name_has_identity}
-use Rattle.table_model.specs.DisputesRead.{NamedRow}
-use Rattle.table_model.specs.TrailRead.{choices_with, row_choice}
+use Rattle.table_model.specs.Words.{ChoiceRow, RecordRow, RecordTable, Tables, name_has_identity}
+use Rattle.table_model.specs.Words.{NamedRow, choices_with}
+use Rattle.table_model.specs.TrailRead.{row_choice}
 use Rattle.table_model.proofs.PickedRows.{filter-nothing}
 use Rattle.table_model.proofs.RowOrder.{list_any-filter}
 use Rattle.tree_tables.specs.Answers.{ListsChosen, ListsSharing, names_it}

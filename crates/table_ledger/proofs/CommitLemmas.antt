@@ -1,6 +1,5 @@
 -- What was staged in a transaction is committed, or not.
-use Rattle.std.proofs.Common.{List, Result, Ok, Err, sym, ap, subst}
-use Rattle.std.specs.Prelude.{IsErr}
+use Rattle.std.proofs.Common.{List, Result, Ok, Err, sym, ap, subst, IsErr}
 use Rattle.sqlite_trees.specs.View.{View}
 use Rattle.sqlite_trees.specs.declared.error.StoreError.{StoreError}
 use Rattle.sqlite_trees.specs.declared.store.Store.{Ghosts}

@@ -1,24 +1,15 @@
 -- The lines that tell which records a period counts.
 use Rattle.std.proofs.Common.{◌≡◌, ◌∙◌, ℕ, zero, suc, ◌+◌, ◌-◌, ◌≤◌, ◌<◌, List, [], ◌∷◌, map, refl}
 use Rattle.std.proofs.Common.{sym, ap, true, false, Bool, cond, Option, Some, None, arith, length}
-use Rattle.std.proofs.Common.{slice_index_or, take, unwrap_or, ◌++◌}
-use Rattle.std.proofs.lemmas.Cmp.{eq_by_cmp_equiv, nat_list_cmp_total}
-use Rattle.std.proofs.lemmas.List.{map-append, take_more}
-use Rattle.std.proofs.lemmas.Map.Lookups.{exact_bytes}
-use Rattle.std.proofs.lemmas.Map.Views.{tells_apart}
-use Rattle.book_model.proofs.MapLemmas.{else_find, find-both}
-use Rattle.std.specs.Prelude.{filter, nat_le, not, ◌==◌, ◌&&◌}
-use Rattle.std.specs.FinMap.{entries, find, get, get-entries}
-use Rattle.std.specs.Option.{option_or}
-use Rattle.std.specs.Ordering.{eq_by_cmp, is_eq, nat_cmp, ordering_then}
-use Rattle.std.specs.declared.cmp.Ordering.{Ordering}
-use Rattle.std.specs.declared.cmp.Ordering.TheVariants.{Less, Equal, Greater}
-use Rattle.std.proofs.lemmas.Bool.Decides.{nat_tests}
+use Rattle.std.proofs.Common.{slice_index_or, take, unwrap_or, ◌++◌, filter, nat_le, not, ◌==◌}
+use Rattle.std.proofs.Common.{◌&&◌, is_eq, nat_cmp, Ordering, Less, Equal, Greater}
+use Rattle.book_model.proofs.Lemmas.{else_find, find-both}
+use Rattle.std.specs.FinMap.{find}
+use Rattle.book_model.proofs.Std.{eq_by_cmp_equiv, nat_list_cmp_total, map-append, take_more}
+use Rattle.book_model.proofs.Std.{exact_bytes, tells_apart, entries, get, get-entries, option_or}
+use Rattle.book_model.proofs.Std.{eq_by_cmp, ordering_then, nat_tests}
 use Rattle.book_model.specs.Words.{Rulings, by_bytes, open_by}
-use Rattle.table_model.specs.PeriodRows.{by_period}
-use Rattle.table_model.specs.Tables.{LineTable, Tables}
-use Rattle.table_model.specs.CountedRead.{first_line}
-use Rattle.table_model.specs.ListsRead.{is_period}
+use Rattle.table_model.specs.Words.{by_period, LineTable, Tables, first_line, is_period}
 use Rattle.tree_tables.specs.Answers.{ListsLines}
 use Rattle.tree_tables.specs.Stored.{signed_name}
 use Rattle.tree_tables.specs.declared.line_rows.StoredLine.{StoredLine}

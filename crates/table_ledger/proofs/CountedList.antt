@@ -1,29 +1,19 @@
 -- The records that are counted: how a pass over all records lists them, and what it is to count
 -- them one after the other.
-use Rattle.std.proofs.Common.{◌≡◌, ◌∙◌, ◌+◌, ◌-◌, ℕ, List, [], ◌∷◌, ◌++◌, Bool, true, false}
-use Rattle.std.proofs.Common.{cond, ◌||◌, Option, map, length, refl, sym, ap, subst}
-use Rattle.std.proofs.Common.{inl, inr, is_some, append-nil, append_assoc, arith}
+use Rattle.std.proofs.Common.{◌≡◌, ◌∙◌, ◌+◌, ◌-◌, ℕ, List, [], ◌∷◌, ◌++◌, Bool, true, false, cond}
+use Rattle.std.proofs.Common.{◌||◌, Option, map, length, refl, sym, ap, subst, inl, inr, is_some}
+use Rattle.std.proofs.Common.{append-nil, append_assoc, arith, if◌then◌else◌, IsPermutation}
 use Rattle.std.proofs.Math.Bool.{or-false}
-use Rattle.std.specs.Prelude.{if◌then◌else◌}
-use Rattle.std.specs.FinMap.{entries, find, get-empty}
-use Rattle.std.specs.List.{list_any}
-use Rattle.std.specs.List.Sorted.{IsPermutation}
-use Rattle.std.specs.Option.{option_or}
+use Rattle.std.specs.FinMap.{find, get-empty}
 use Rattle.std.proofs.lemmas.Bool.{cases_Bool}
-use Rattle.std.proofs.lemmas.Cmp.{nat_list_cmp_total}
-use Rattle.std.proofs.lemmas.List.{length-map, map-append}
-use Rattle.std.proofs.lemmas.List.Elements.{filter-append}
-use Rattle.std.proofs.lemmas.List.Sorted.{IsPermutation-map, IsPermutation-sym}
-use Rattle.std.proofs.lemmas.List.Sorted.{list_any-IsPermutation}
 use Rattle.sqlite_trees.specs.View.{View}
 use Rattle.sqlite_value.specs.Order.{Row}
+use Rattle.book_model.proofs.Std.{entries, list_any, option_or, nat_list_cmp_total, length-map}
+use Rattle.book_model.proofs.Std.{map-append, filter-append, IsPermutation-map, IsPermutation-sym}
+use Rattle.book_model.proofs.Std.{list_any-IsPermutation}
 use Rattle.book_model.specs.Words.{by_bytes, has, set_of}
-use Rattle.book_model.proofs.RecordSets.{has_with, is, same_records}
-use Rattle.book_model.proofs.SetLemmas.{has-set_of}
-use Rattle.table_model.specs.CountedRead.{charged_before_lines, first_line}
-use Rattle.table_model.specs.DisputesRead.{NamedRow}
-use Rattle.table_model.specs.Steps.{count_row}
-use Rattle.table_model.specs.Tables.{Tables}
+use Rattle.book_model.proofs.Lemmas.{has_with, is, same_records, has-set_of}
+use Rattle.table_model.specs.Words.{charged_before_lines, first_line, NamedRow, count_row, Tables}
 use Rattle.table_model.proofs.WalkLemmas.{or_turn}
 use Rattle.tree_tables.specs.Answers.{ListsCloses, ListsLines}
 use Rattle.tree_tables.specs.Columns.{record_columns}

@@ -1,27 +1,20 @@
 -- Charge rows that are looked for and then written; and a price in the place of another in one row.
 use Rattle.std.proofs.Common.{◌≡◌, ◌∙◌, ℕ, Bool, true, false, Option, Some, None, refl, sym, ap}
-use Rattle.std.proofs.Common.{cond, Result, Ok}
-use Rattle.std.specs.Prelude.{if◌then◌else◌, ◌==◌, unwrap_or, []}
-use Rattle.std.specs.Option.{option_map_or}
-use Rattle.std.specs.Cmp.{IsTotalOrder}
-use Rattle.std.specs.FinMap.{FinMap, IsAntisymmetric, get, get-insert, get-remove, insert, remove}
-use Rattle.std.specs.FinMap.{same_map}
-use Rattle.std.specs.Ordering.{eq_by_cmp}
-use Rattle.std.specs.declared.cmp.Ordering.{Ordering}
-use Rattle.std.proofs.lemmas.Cmp.{eq_by_cmp_equiv}
+use Rattle.std.proofs.Common.{cond, Result, Ok, if◌then◌else◌, ◌==◌, unwrap_or, [], Ordering}
 use Rattle.sqlite_trees.specs.declared.error.StoreError.{StoreError}
-use Rattle.tariff_rules.specs.declared.priced.Priced.{Priced}
+use Rattle.book_model.proofs.Std.{option_map_or, IsTotalOrder, FinMap, IsAntisymmetric, get}
+use Rattle.book_model.proofs.Std.{get-insert, get-remove, insert, remove, same_map, eq_by_cmp}
+use Rattle.book_model.proofs.Std.{eq_by_cmp_equiv}
 use Rattle.book_model.specs.declared.row.ChargeRow.{ChargeRow}
 use Rattle.book_model.specs.declared.row.RowKey.{RowKey}
-use Rattle.book_model.specs.Words.{by_key, key_of, row_at}
-use Rattle.book_model.proofs.MapLemmas.{by_tie, get-inserted, insert-insert}
-use Rattle.book_model.proofs.RowLemmas.{by_key_total, by_key_exact}
+use Rattle.book_model.specs.Words.{Priced, by_key, key_of, row_at}
+use Rattle.book_model.proofs.Lemmas.{by_tie, get-inserted, insert-insert, by_key_total}
+use Rattle.book_model.proofs.Lemmas.{by_key_exact}
 use Rattle.book_core.specs.declared.effects.DayChange.TheVariants.{Add, Take}
-use Rattle.book_core.specs.KeyedRows.{with_price}
-use Rattle.table_model.specs.RowChanges.{less_price, take_at, add_price}
-use Rattle.table_model.specs.Steps.{change_day_row, put_day_row}
-use Rattle.table_model.specs.Tables.{DayTable, Tables}
-use Rattle.table_model.specs.TablesOf.{row_key}
+use Rattle.book_core.specs.Words.{with_price}
+use Rattle.table_model.specs.Words.{less_price, take_at, add_price, put_day_row, DayTable, Tables}
+use Rattle.table_model.specs.Words.{row_key}
+use Rattle.table_model.specs.Steps.{change_day_row}
 use Rattle.table_model.proofs.NumberedLemmas.{by_period_total, by_period_exact}
 use Rattle.tree_tables.specs.Answers.{FindsDay}
 use Rattle.tree_tables.specs.Holds.{AreUnderOwnKeys}

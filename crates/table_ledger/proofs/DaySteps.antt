@@ -1,19 +1,15 @@
 -- A price that joins the charge rows of a period puts one row, and a price that leaves them puts or
 -- drops one, where each row is under its own place.
-use Rattle.std.proofs.Common.{◌≡◌, ◌∙◌, ℕ, [], Bool, true, false, cond, Option, Some, None}
-use Rattle.std.proofs.Common.{refl, sym, ap}
-use Rattle.std.specs.Prelude.{◌==◌, unwrap_or}
-use Rattle.std.specs.FinMap.{get, insert, remove}
-use Rattle.tariff_rules.specs.declared.priced.Priced.{Priced}
+use Rattle.std.proofs.Common.{◌≡◌, ◌∙◌, ℕ, [], Bool, true, false, cond, Option, Some, None, refl}
+use Rattle.std.proofs.Common.{sym, ap, ◌==◌, unwrap_or}
+use Rattle.book_model.proofs.Std.{get, insert, remove}
 use Rattle.book_model.specs.declared.row.ChargeRow.{ChargeRow}
 use Rattle.book_model.specs.declared.row.RowKey.{RowKey}
-use Rattle.book_model.specs.Words.{key_of, row_at}
+use Rattle.book_model.specs.Words.{Priced, key_of, row_at}
 use Rattle.book_core.specs.declared.effects.DayChange.TheVariants.{Add, Take}
-use Rattle.book_core.specs.KeyedRows.{with_price}
-use Rattle.table_model.specs.RowChanges.{less_price, take_at}
-use Rattle.table_model.specs.Steps.{change_day_row, drop_day_row, put_day_row}
-use Rattle.table_model.specs.Tables.{Tables}
-use Rattle.table_model.specs.TablesOf.{row_key}
+use Rattle.book_core.specs.Words.{with_price}
+use Rattle.table_model.specs.Words.{less_price, take_at, drop_day_row, put_day_row, Tables, row_key}
+use Rattle.table_model.specs.Steps.{change_day_row}
 use Rattle.tree_tables.specs.Answers.{FindsDay}
 use Rattle.tree_tables.specs.Holds.{AreUnderOwnKeys}
 

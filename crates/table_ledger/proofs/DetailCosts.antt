@@ -1,47 +1,30 @@
 -- What the records of some days cost by another tariff, where their details are met one after
 -- another: what is summed, and what is still to come. And in the tables of a book these records are
 -- those that a period counts.
-use Rattle.std.proofs.Common.{◌≡◌, ◌∙◌, inl, inr, ◌+◌, ◌-◌, ◌<◌, ◌≤◌, ◌&&◌, ℕ, zero, suc, ℤ}
-use Rattle.std.proofs.Common.{List, [], ◌∷◌, ◌++◌, Bool, true, false, true≢false, not, cond, Option}
-use Rattle.std.proofs.Common.{Some, None, Ok, Err, Vec, length, refl, sym, ap, subst, arith}
-use Rattle.std.proofs.Common.{length-append}
+use Rattle.std.proofs.Common.{◌≡◌, ◌∙◌, inl, inr, ◌+◌, ◌-◌, ◌<◌, ◌≤◌, ◌&&◌, ℕ, zero, suc, ℤ, List}
+use Rattle.std.proofs.Common.{[], ◌∷◌, ◌++◌, Bool, true, false, true≢false, not, cond, Option, Some}
+use Rattle.std.proofs.Common.{None, Ok, Err, Vec, length, refl, sym, ap, subst, arith}
+use Rattle.std.proofs.Common.{length-append, filter, if◌then◌else◌, nat_le, sum_by, ◌==◌, Global}
+use Rattle.std.proofs.Common.{is_lt, lt-ltb}
 use Rattle.std.proofs.Math.Bool.{and-true}
-use Rattle.std.specs.Prelude.{filter, if◌then◌else◌, nat_le, sum_by, ◌==◌}
-use Rattle.std.specs.Cmp.{tied_itself}
-use Rattle.std.specs.FinMap.{contains_key, entries, get}
-use Rattle.std.specs.Global.{Global}
-use Rattle.std.specs.List.{AllByRecursion}
-use Rattle.std.specs.Ordering.{is_lt}
-use Rattle.std.proofs.lemmas.Bool.{and_from, and_parts, and_right, false_from_ne_true, lt-ltb}
-use Rattle.std.proofs.lemmas.Bool.Decides.{nat_tests}
-use Rattle.std.proofs.lemmas.Cmp.{nat_list_cmp_total}
-use Rattle.std.proofs.lemmas.List.Elements.{filter_agree}
-use Rattle.std.proofs.lemmas.List.Folds.{fold-map}
-use Rattle.std.proofs.lemmas.List.Sums.{sum_by_push}
-use Rattle.tariff_rules.specs.declared.priced.Priced.{Priced}
-use Rattle.book_model.specs.RulingAnswers.{through_of}
-use Rattle.book_model.specs.Words.{Book, Naming, Records, Rulings, Terms, by_detail, charged_of}
-use Rattle.book_model.specs.Words.{comes_after, counted_of, has, is_between, is_dated_in, is_day_of}
-use Rattle.book_model.specs.Words.{most_cost, most_held, name_of, open_by, price_by, rows_of}
-use Rattle.book_model.specs.Words.{same_bytes}
+use Rattle.std.proofs.lemmas.Bool.{and_from, and_right}
+use Rattle.book_model.proofs.Std.{tied_itself, contains_key, entries, get, AllByRecursion}
+use Rattle.book_model.proofs.Std.{and_parts, false_from_ne_true, nat_tests, nat_list_cmp_total}
+use Rattle.book_model.proofs.Std.{filter_agree, fold-map, sum_by_push}
+use Rattle.book_model.specs.Words.{Priced, through_of, Book, Naming, Records, Rulings, Terms}
+use Rattle.book_model.specs.Words.{by_detail, charged_of, comes_after, counted_of, has, is_between}
+use Rattle.book_model.specs.Words.{is_dated_in, is_day_of, most_cost, most_held, name_of, open_by}
+use Rattle.book_model.specs.Words.{price_by, rows_of, same_bytes}
 use Rattle.book_model.specs.declared.detail.Detail.{Detail}
 use Rattle.book_model.specs.declared.fault.LedgerFault.TheVariants.{Full}
 use Rattle.book_model.specs.declared.row.ChargeRow.{ChargeRow}
-use Rattle.book_model.proofs.CountedDays.{counted_at}
-use Rattle.book_model.proofs.DetailOrder.{by_detail_total}
-use Rattle.book_model.proofs.RecordSets.{has_those, is_itself}
+use Rattle.book_model.proofs.Lemmas.{counted_at, by_detail_total, has_those, is_itself}
+use Rattle.book_model.proofs.Lemmas.{same_bytes-by_cmp, SumsAlike, length-alike, length-sum_by}
 use Rattle.book_model.proofs.RowLemmas.{rows_if_room-alike}
-use Rattle.book_model.proofs.SetLemmas.{same_bytes-by_cmp}
-use Rattle.book_model.proofs.SumsAlike.{SumsAlike, length-alike, length-sum_by}
-use Rattle.table_model.specs.BookIn.{row_record}
-use Rattle.table_model.specs.CountedRead.{charged_before_lines, counted_rows, first_line}
-use Rattle.table_model.specs.CountedRead.{is_row_counted, row_costs}
-use Rattle.table_model.specs.DetailsRead.{FindsLeast, IsDetail, IsLeastDetail, detail_shown}
-use Rattle.table_model.specs.DisputesRead.{NamedRow}
-use Rattle.table_model.specs.ListsRead.{is_period}
-use Rattle.table_model.specs.Readable.{IsReadable}
-use Rattle.table_model.specs.Tables.{RecordRow, Tables}
-use Rattle.table_model.specs.TablesOf.{tables_of}
+use Rattle.table_model.specs.Words.{row_record, charged_before_lines, counted_rows, first_line}
+use Rattle.table_model.specs.Words.{is_row_counted, row_costs, FindsLeast, IsDetail, IsLeastDetail}
+use Rattle.table_model.specs.Words.{detail_shown, NamedRow, is_period, IsReadable, RecordRow}
+use Rattle.table_model.specs.Words.{Tables, tables_of}
 use Rattle.table_model.proofs.CostLemmas.{day-price}
 use Rattle.table_model.proofs.CountedHeld.{names_follow}
 use Rattle.table_model.proofs.CountedReading.{counted_back, is_record_counted, its_period}

@@ -1,33 +1,20 @@
 -- The next detail that is sought, where details are looked for from one start and then from others.
 use Rattle.std.proofs.Common.{◌≡◌, ◌∙◌, ◌-◌, ℕ, ℤ, pos, List, Bool, true, false, not, Option, Some}
-use Rattle.std.proofs.Common.{None, Ok, Err, subst}
-use Rattle.std.proofs.Common.{◌⊎◌, inl, inr, refl, sym, ap, true≢false, arith, ◌&&◌}
-use Rattle.std.specs.Prelude.{if◌then◌else◌, int_lt, ◌+ℤ◌}
-use Rattle.std.specs.FinMap.{get}
-use Rattle.std.specs.Option.{option_map_or}
-use Rattle.std.specs.Cmp.{tied_itself}
-use Rattle.std.specs.Ordering.{int_cmp, is_gt, is_lt, nat_cmp, ordering_reverse, ordering_then}
-use Rattle.std.specs.declared.cmp.Ordering.{Ordering}
-use Rattle.std.specs.declared.cmp.Ordering.TheVariants.{Less, Equal, Greater}
-use Rattle.std.proofs.lemmas.Bool.{and_parts}
-use Rattle.std.proofs.lemmas.Cmp.{nat_list_cmp_total}
-use Rattle.std.proofs.lemmas.Int.{ints}
-use Rattle.std.proofs.lemmas.Map.Views.{tells_apart}
+use Rattle.std.proofs.Common.{None, Ok, Err, subst, ◌⊎◌, inl, inr, refl, sym, ap, true≢false, arith}
+use Rattle.std.proofs.Common.{◌&&◌, if◌then◌else◌, int_lt, ◌+ℤ◌, int_cmp, is_gt, is_lt, nat_cmp}
+use Rattle.std.proofs.Common.{Ordering, Less, Equal, Greater}
 use Rattle.sqlite_value.proofs.OrderLemmas.{then-Equal}
-use Rattle.book_model.proofs.DetailOrder.{by_detail_total}
-use Rattle.book_model.proofs.SetLemmas.{same_bytes-by_cmp}
-use Rattle.book_model.specs.RulingAnswers.{through_of}
-use Rattle.book_model.specs.Words.{Book, IsDay, Naming, Outcome, Rulings, ShowsDetail, by_bytes}
-use Rattle.book_model.specs.Words.{by_detail, by_key, comes_after, is_asked, key_of}
-use Rattle.book_model.specs.Words.{next_detail_outcome}
+use Rattle.book_model.proofs.Std.{get, option_map_or, tied_itself, ordering_reverse, ordering_then}
+use Rattle.book_model.proofs.Std.{and_parts, nat_list_cmp_total, ints, tells_apart}
+use Rattle.book_model.proofs.Lemmas.{by_detail_total, same_bytes-by_cmp}
+use Rattle.book_model.specs.Words.{through_of, Book, IsDay, Naming, Outcome, Rulings, ShowsDetail}
+use Rattle.book_model.specs.Words.{by_bytes, by_detail, by_key, comes_after, is_asked, key_of}
+use Rattle.book_model.specs.Words.{next_detail_outcome, is_between}
 use Rattle.book_model.specs.declared.detail.Detail.{Detail}
 use Rattle.book_model.specs.declared.fault.LedgerFault.TheVariants.{NoSuchPeriod}
-use Rattle.book_core.specs.OfficeRulings.{ruled_in}
-use Rattle.book_model.specs.Words.{is_between}
-use Rattle.table_model.specs.DetailsRead.{FindsLeast, IsDetail, detail_shown}
-use Rattle.table_model.specs.ListsRead.{is_period, of_period}
-use Rattle.table_model.specs.Tables.{Tables}
-use Rattle.table_model.specs.TablesOf.{tables_of}
+use Rattle.book_core.specs.Words.{ruled_in}
+use Rattle.table_model.specs.Words.{FindsLeast, IsDetail, detail_shown, is_period, of_period}
+use Rattle.table_model.specs.Words.{Tables, tables_of}
 use Rattle.table_model.proofs.DetailReading.{details_follow}
 use Rattle.tree_rows.proofs.IndexOrders.{by_bytes_exact, second_equal}
 use Rattle.tree_rows.proofs.Taking.{some_is}

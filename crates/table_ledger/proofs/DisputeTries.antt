@@ -1,24 +1,20 @@
 -- The next identity in dispute, where identities that were settled are passed over, and its dispute.
-use Rattle.std.proofs.Common.{◌≡◌, ◌∙◌, ◌+◌, ℕ, List, [], ◌∷◌, ◌++◌, true, false, not}
-use Rattle.std.proofs.Common.{true≢false, None, Some, Ok, map, sym, ap, subst}
-use Rattle.std.specs.Prelude.{All, Err, IsErrAnd, Option, Result}
-use Rattle.std.specs.List.{list_any}
-use Rattle.std.proofs.lemmas.List.Elements.{All-map}
+use Rattle.std.proofs.Common.{◌≡◌, ◌∙◌, ◌+◌, ℕ, List, [], ◌∷◌, ◌++◌, true, false, not, true≢false}
+use Rattle.std.proofs.Common.{None, Some, Ok, map, sym, ap, subst, All, Err, IsErrAnd, Option}
+use Rattle.std.proofs.Common.{Result}
 use Rattle.sqlite_trees.specs.View.{View}
 use Rattle.sqlite_trees.specs.declared.error.StoreError.{StoreError}
 use Rattle.sqlite_trees.specs.declared.error.StoreError.TheVariants.{OutOfMemory}
+use Rattle.book_model.proofs.Std.{list_any, All-map}
 use Rattle.book_model.specs.declared.dispute.Dispute.{Dispute}
 use Rattle.book_model.specs.declared.fault.LedgerFault.{LedgerFault}
 use Rattle.book_model.specs.declared.dispute.Variant.{Variant}
-use Rattle.book_model.specs.Words.{Book, Disputed, IsDay, IsDispute, Naming, Outcome, dispute_outcome}
-use Rattle.book_model.specs.Words.{dispute_shown, is_from}
+use Rattle.book_model.specs.Words.{Book, Disputed, IsDay, IsDispute, Naming, Outcome}
+use Rattle.book_model.specs.Words.{dispute_outcome, dispute_shown, is_from}
 use Rattle.book_model.proofs.FromLemmas.{after_others, from_then, longer_from, next_from, same_from}
-use Rattle.table_model.specs.Tables.{Tables}
-use Rattle.table_model.specs.TablesOf.{tables_of}
-use Rattle.table_model.specs.Views.{rows_with}
-use Rattle.table_model.specs.DisputesRead.{FindsDisputed, IsDisputedFrom, IsNextDisputed, NamedRow}
-use Rattle.table_model.specs.DisputesRead.{variant_read}
-use Rattle.table_model.specs.Readable.{IsReadable}
+use Rattle.table_model.specs.Words.{Tables, tables_of, rows_with, FindsDisputed, NamedRow}
+use Rattle.table_model.specs.Words.{variant_read, IsReadable}
+use Rattle.table_model.specs.DisputesRead.{IsDisputedFrom, IsNextDisputed}
 use Rattle.table_model.proofs.DisputeLemmas.{disputes_follow}
 use Rattle.tree_tables.specs.Answers.{IsNextUncharged, IsUnchargedFrom, ListsSharing, is_charged}
 use Rattle.tree_tables.specs.Stored.{stored_entry}

@@ -1,17 +1,11 @@
 -- Records that are charged under the second rule: what is due, and a step that charges it.
-use Rattle.std.proofs.Common.{◌≡◌, ◌∙◌, ℕ, List, Bool, false, cond, not, ◌&&◌, Option}
-use Rattle.std.proofs.Common.{Some, None, refl, sym, ap, map, ◌++◌, ◌∷◌, []}
-use Rattle.std.specs.Prelude.{ℤ, filter, if◌then◌else◌}
-use Rattle.std.specs.FinMap.{entries, get}
-use Rattle.std.specs.List.{last_or}
-use Rattle.std.specs.Option.{option_map_or}
-use Rattle.std.proofs.lemmas.Cmp.{nat_list_eq_equiv}
-use Rattle.std.proofs.lemmas.Simd.{map-map}
+use Rattle.std.proofs.Common.{◌≡◌, ◌∙◌, ℕ, List, Bool, false, cond, not, ◌&&◌, Option, Some, None}
+use Rattle.std.proofs.Common.{refl, sym, ap, map, ◌++◌, ◌∷◌, [], ℤ, filter, if◌then◌else◌}
+use Rattle.book_model.proofs.Std.{entries, get, last_or, option_map_or, nat_list_eq_equiv, map-map}
 use Rattle.book_model.specs.Words.{same_bytes}
-use Rattle.book_core.specs.Effects.{charge_held}
-use Rattle.table_model.specs.TableChanges.{charge_in, charge_due_step}
-use Rattle.table_model.specs.Tables.{ChoiceRow, RecordRow, RecordTable, Tables}
-use Rattle.table_model.specs.Views.{name_has_identity, is_due_in, member_at}
+use Rattle.book_core.specs.Words.{charge_held}
+use Rattle.table_model.specs.Words.{charge_in, charge_due_step, ChoiceRow, RecordRow, RecordTable}
+use Rattle.table_model.specs.Words.{Tables, name_has_identity, is_due_in, member_at}
 use Rattle.table_model.proofs.DueStays.{due_stays, last_pushed, last_stays}
 use Rattle.tree_tables.specs.Answers.{FindsRecord}
 use Rattle.tree_tables.specs.Stored.{IsAsRead, choice_entry, stored_entry}

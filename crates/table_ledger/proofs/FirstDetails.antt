@@ -1,13 +1,8 @@
 -- The details that the rows and the lines of a book of the first form tell are those of the book.
-use Rattle.std.proofs.Common.{◌≡◌, ◌∙◌, ◌+◌, ℕ, ap, length, sym}
-use Rattle.std.proofs.lemmas.List.{length-map}
-use Rattle.std.specs.Prelude.{ℤ}
-use Rattle.std.specs.FinMap.{entries}
+use Rattle.std.proofs.Common.{◌≡◌, ◌∙◌, ◌+◌, ℕ, ap, length, sym, ℤ}
+use Rattle.book_model.proofs.Std.{length-map, entries}
 use Rattle.book_model.specs.Words.{Book, Naming, by_bytes, set_of}
-use Rattle.table_model.specs.CountedRead.{first_line}
-use Rattle.table_model.specs.Readable.{IsReadable}
-use Rattle.table_model.specs.Tables.{Tables}
-use Rattle.table_model.specs.TablesOf.{tables_of}
+use Rattle.table_model.specs.Words.{first_line, IsReadable, Tables, tables_of}
 use Rattle.table_model.proofs.CountedFirst.{names_told}
 use Rattle.table_model.proofs.UnderNumbers.{values-numbers}
 use Rattle.table_ledger.specs.FirstForm.{names_by, open_read, uncounted, with_details}

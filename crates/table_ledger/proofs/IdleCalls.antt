@@ -1,17 +1,15 @@
 -- Calls that leave the book as it is: that the store failed is answered only if the disk did.
 use Rattle.std.proofs.Common.{◌≡◌, ◌∙◌, Bool, false, inl, inr, List, None, Some, Result, Ok, Err}
-use Rattle.std.proofs.Common.{refl, sym, ap, subst, true≢false}
-use Rattle.std.specs.Prelude.{IfErr, IsErrAnd, IsErrOf, IsTrue}
+use Rattle.std.proofs.Common.{refl, sym, ap, subst, true≢false, IfErr, IsErrAnd, IsErrOf, IsTrue}
 use Rattle.sqlite_trees.specs.View.{View, IsClean}
 use Rattle.sqlite_trees.specs.declared.error.StoreError.{StoreError}
 use Rattle.sqlite_trees.specs.declared.error.StoreError.TheVariants.{OutOfMemory}
 use Rattle.sqlite_trees.specs.declared.store.Store.{Ghosts}
-use Rattle.book_core.specs.Calls.{is_store}
+use Rattle.book_core.specs.Words.{is_store}
 use Rattle.book_model.specs.Words.{Book, Event, Naming, Outcome}
 use Rattle.book_model.specs.declared.fault.LedgerFault.{LedgerFault}
 use Rattle.book_model.specs.declared.fault.LedgerFault.TheVariants.{Memory, Store}
-use Rattle.table_model.specs.Tables.{Tables}
-use Rattle.table_model.specs.TablesOf.{tables_of}
+use Rattle.table_model.specs.Words.{Tables, tables_of}
 use Rattle.tree_rows.proofs.Failing.{caused_since}
 use Rattle.tree_tables.specs.Holds.{Holds}
 use Rattle.tree_tables.specs.States.{HasCleanDisk, State, state}

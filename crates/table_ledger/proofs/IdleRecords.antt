@@ -1,17 +1,14 @@
 -- Records of which none is kept: the book stays as it is, and so do the sums.
 use Rattle.std.proofs.Common.{◌≡◌, ◌∙◌, ◌<◌, ◌++◌, ℕ, List, [], ◌∷◌, Result, Ok, Vec, Global, false}
-use Rattle.std.proofs.Common.{ap, append-nil, get_or, length, refl, subst, sym}
-use Rattle.std.specs.Prelude.{All}
-use Rattle.std.proofs.lemmas.List.Elements.{All-head, All-map, All-tail}
+use Rattle.std.proofs.Common.{ap, append-nil, get_or, length, refl, subst, sym, All}
 use Rattle.sqlite_trees.specs.View.{View}
 use Rattle.sqlite_trees.specs.declared.error.StoreError.{StoreError}
-use Rattle.book_core.specs.Calls.{listed}
-use Rattle.book_core.specs.Submissions.{Accepts, records_in}
+use Rattle.book_model.proofs.Std.{All-head, All-map, All-tail}
+use Rattle.book_core.specs.Words.{listed, Accepts, records_in}
 use Rattle.book_model.specs.Words.{Book, Event, Naming, accept_outcome, after_all}
 use Rattle.book_model.specs.declared.answer.Accepted.{Accepted}
 use Rattle.book_model.specs.declared.fault.LedgerFault.{LedgerFault}
-use Rattle.table_model.specs.Steps.{set_sums}
-use Rattle.table_model.specs.TablesOf.{tables_of}
+use Rattle.table_model.specs.Words.{set_sums, tables_of}
 use Rattle.tree_rows.proofs.Failing.{caused_since}
 use Rattle.tree_tables.specs.Holds.{Holds}
 use Rattle.tree_tables.specs.States.{HasCleanDisk, State, Survives}

@@ -1,18 +1,15 @@
 -- Rows that join disputes, and that such disputes can be shown.
-use Rattle.std.proofs.Common.{◌≡◌, ◌∙◌, Bool, true, false, List, [], ◌∷◌, ◌++◌, refl, sym, ap, map, append_assoc}
-use Rattle.std.proofs.Common.{subst, ℕ, ◌+◌, ◌<◌, not, cond, take, length, append-nil}
-use Rattle.std.proofs.Common.{slice_index_or}
-use Rattle.std.proofs.lemmas.List.{map-append, take_more}
-use Rattle.std.specs.Prelude.{filter, if◌then◌else◌}
-use Rattle.std.specs.List.{AllByRecursion}
-use Rattle.std.proofs.lemmas.List.Elements.{All-push, All-from_recursion, filter-append}
-use Rattle.std.proofs.lemmas.List.Elements.{recursion_from_All}
+use Rattle.std.proofs.Common.{◌≡◌, ◌∙◌, Bool, true, false, List, [], ◌∷◌, ◌++◌, refl, sym, ap, map}
+use Rattle.std.proofs.Common.{append_assoc, subst, ℕ, ◌+◌, ◌<◌, not, cond, take, length, append-nil}
+use Rattle.std.proofs.Common.{slice_index_or, filter, if◌then◌else◌}
+use Rattle.book_model.proofs.Std.{map-append, take_more, AllByRecursion, All-push}
+use Rattle.book_model.proofs.Std.{All-from_recursion, filter-append, recursion_from_All}
 use Rattle.book_model.specs.Words.{IsDay, Disputed, IsDispute, AreDisputes, dispute_shown}
 use Rattle.book_model.specs.Words.{same_bytes}
 use Rattle.book_model.specs.declared.dispute.Dispute.{Dispute}
 use Rattle.book_model.specs.declared.dispute.Variant.{Variant}
-use Rattle.table_model.specs.DisputesRead.{NamedRow, grouped, join_last, dispute_of_one}
-use Rattle.table_model.specs.DisputesRead.{variant_read}
+use Rattle.table_model.specs.Words.{NamedRow, grouped, join_last, variant_read}
+use Rattle.table_model.specs.DisputesRead.{dispute_of_one}
 use Rattle.table_model.proofs.GroupingLemmas.{grouped-push}
 use Rattle.tree_tables.specs.Stored.{stored_entry}
 use Rattle.tree_tables.specs.declared.stored_record.StoredRecord.{StoredRecord}

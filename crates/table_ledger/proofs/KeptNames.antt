@@ -1,13 +1,9 @@
 -- The steps of walks by name, an adoption's and a tariff's, change no name.
-use Rattle.std.proofs.Common.{◌≡◌, ℕ, List, Bool, true, false, cond, Option, Some, None, refl}
-use Rattle.std.specs.Prelude.{ℤ, int_lt}
-use Rattle.std.specs.FinMap.{get, keys}
-use Rattle.std.proofs.lemmas.Cmp.{nat_list_cmp_total}
-use Rattle.std.proofs.lemmas.Map.Lookups.{exact_bytes}
-use Rattle.tariff_rules.specs.declared.priced.Priced.{Priced}
-use Rattle.book_model.specs.Words.{Terms, price_by, record_with}
-use Rattle.table_model.specs.TableChanges.{charge_due_step, reprice, reprice_step}
-use Rattle.table_model.specs.Tables.{Tables}
+use Rattle.std.proofs.Common.{◌≡◌, ℕ, List, Bool, true, false, cond, Option, Some, None, refl, ℤ}
+use Rattle.std.proofs.Common.{int_lt}
+use Rattle.book_model.proofs.Std.{get, keys, nat_list_cmp_total, exact_bytes}
+use Rattle.book_model.specs.Words.{Priced, Terms, price_by, record_with}
+use Rattle.table_model.specs.Words.{charge_due_step, reprice, reprice_step, Tables}
 use Rattle.table_model.proofs.DueStays.{due-leaves}
 use Rattle.table_model.proofs.MovedLemmas.{keys-insert}
 use Rattle.tree_tables.proofs.WalkNames.{KeepsNames}

@@ -1,8 +1,7 @@
 -- The number of the last choice: it is their count.
 use Rattle.std.proofs.Common.{◌≡◌, ◌∙◌, length}
 use Rattle.book_model.specs.Words.{Book, Naming}
-use Rattle.table_model.specs.TablesOf.{tables_of}
-use Rattle.table_model.specs.Readable.{IsReadable}
+use Rattle.table_model.specs.Words.{tables_of, IsReadable}
 use Rattle.table_model.proofs.ChoiceLemmas.{choices_follow}
 use Rattle.table_model.proofs.ChoiceReading.{choices_count}
 use Rattle.tree_tables.specs.Answers.{last_number}

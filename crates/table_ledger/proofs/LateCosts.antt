@@ -1,16 +1,13 @@
 -- What all records cost under a later tariff: what they cost now, where of those that it may be for
 -- the old prices make way for the new ones, one after another.
 use Rattle.std.proofs.Common.{◌≡◌, ◌∙◌, ℕ, ◌+◌, ◌-◌, ◌≤◌, List, [], ◌∷◌, Bool, true, false, cond}
-use Rattle.std.proofs.Common.{Option, Some, None, refl, sym, ap, subst, true≢false, arith}
-use Rattle.std.specs.Prelude.{filter, sum_by}
-use Rattle.std.specs.FinMap.{entries, get, values}
-use Rattle.std.specs.List.{AllByRecursion}
-use Rattle.std.proofs.lemmas.Cmp.{nat_list_cmp_total}
-use Rattle.std.proofs.lemmas.Map.Lookups.{exact_bytes}
+use Rattle.std.proofs.Common.{Option, Some, None, refl, sym, ap, subst, true≢false, arith, filter}
+use Rattle.std.proofs.Common.{sum_by}
+use Rattle.book_model.proofs.Std.{entries, get, values, AllByRecursion, nat_list_cmp_total}
+use Rattle.book_model.proofs.Std.{exact_bytes}
 use Rattle.book_model.specs.Words.{Terms, same_bytes}
-use Rattle.book_core.specs.Room.{if_room}
-use Rattle.table_model.specs.TableChanges.{amount_under}
-use Rattle.table_model.specs.Tables.{RecordRow, Tables}
+use Rattle.book_core.specs.Words.{if_room}
+use Rattle.table_model.specs.Words.{amount_under, RecordRow, Tables}
 use Rattle.table_model.proofs.PriceSums.{part_within}
 use Rattle.book_core.proofs.NamedLemmas.{same_texts}
 use Rattle.tree_rows.proofs.Taking.{some_is}

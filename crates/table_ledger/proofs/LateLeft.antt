@@ -1,12 +1,9 @@
 -- Which records a walk over those that a later tariff may be for has still to come to.
 use Rattle.std.proofs.Common.{◌≡◌, ◌∙◌, ℕ, ℤ, List, Bool, true, false, not, ◌&&◌, ◌||◌, None, Some}
-use Rattle.std.proofs.Common.{refl, sym, true≢false, arith}
-use Rattle.std.specs.Prelude.{int_lt}
-use Rattle.std.specs.FinMap.{contains_key, get}
-use Rattle.std.specs.Ordering.{int_cmp, is_lt}
-use Rattle.std.proofs.lemmas.Int.{ints}
+use Rattle.std.proofs.Common.{refl, sym, true≢false, arith, int_lt, int_cmp, is_lt}
+use Rattle.book_model.proofs.Std.{contains_key, get, ints}
 use Rattle.book_model.specs.Words.{Terms}
-use Rattle.table_model.specs.Tables.{RecordRow, Tables}
+use Rattle.table_model.specs.Words.{RecordRow, Tables}
 use Rattle.tree_tables.specs.LateRecords.{is_left, is_met_twice}
 use Rattle.table_ledger.specs.Repricing.{CountsLate}
 

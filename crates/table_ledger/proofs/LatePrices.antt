@@ -1,18 +1,12 @@
 -- The prices of a book's records under a later tariff, in a walk over those that it may be for: the
 -- tables that such a walk has come to.
 use Rattle.std.proofs.Common.{◌≡◌, ◌∙◌, ◌⊎◌, inl, inr, ℕ, List, true, false, cond, Option, Some}
-use Rattle.std.proofs.Common.{None, refl, sym, ap, subst, true≢false}
-use Rattle.std.specs.Prelude.{int_lt}
-use Rattle.std.specs.Cmp.{tied_itself}
-use Rattle.std.specs.FinMap.{get, get-insert, keys}
-use Rattle.std.specs.Ordering.{eq_by_cmp, is_eq}
-use Rattle.std.proofs.lemmas.Cmp.{nat_list_cmp_total}
+use Rattle.std.proofs.Common.{None, refl, sym, ap, subst, true≢false, int_lt, is_eq}
 use Rattle.sqlite_trees.specs.Tree.{Trees}
-use Rattle.tariff_rules.specs.declared.priced.Priced.{Priced}
-use Rattle.book_model.specs.Words.{Terms, by_bytes, price_by, record_with, same_bytes}
-use Rattle.book_model.proofs.SetLemmas.{same_bytes-by_cmp}
-use Rattle.table_model.specs.TableChanges.{reprice, reprice_step, walk}
-use Rattle.table_model.specs.Tables.{RecordRow, Tables}
+use Rattle.book_model.proofs.Std.{tied_itself, get, get-insert, keys, eq_by_cmp, nat_list_cmp_total}
+use Rattle.book_model.specs.Words.{Priced, Terms, by_bytes, price_by, record_with, same_bytes}
+use Rattle.book_model.proofs.Lemmas.{same_bytes-by_cmp}
+use Rattle.table_model.specs.Words.{reprice, reprice_step, walk, RecordRow, Tables}
 use Rattle.table_model.proofs.PartlyPriced.{HasPrice, IsPartlyPriced, first_counted, partly_all}
 use Rattle.table_model.proofs.PartlyPriced.{partly_none, step_partly, step_stands}
 use Rattle.book_core.proofs.NamedLemmas.{same_texts}

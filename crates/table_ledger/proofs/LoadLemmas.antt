@@ -1,21 +1,16 @@
 -- The summary that is read is that of the tables, and so of their book.
-use Rattle.std.proofs.Common.{◌≡◌, ◌∙◌, ℕ, ℤ, List, [], ◌∷◌, ap, arith, map, refl}
-use Rattle.std.proofs.Common.{subst, sym, None, Option, Some, inl, inr}
-use Rattle.std.proofs.Common.{Err, Ok, Result, false, length}
-use Rattle.std.specs.Prelude.{All, IfErr, IfOk, ◌==◌, if◌then◌else◌}
-use Rattle.std.specs.List.{AllZip, cons_option, filter_map}
-use Rattle.std.specs.Option.{option_map}
-use Rattle.std.proofs.lemmas.List.Elements.{All-cons}
+use Rattle.std.proofs.Common.{◌≡◌, ◌∙◌, ℕ, ℤ, List, [], ◌∷◌, ap, arith, map, refl, subst, sym, None}
+use Rattle.std.proofs.Common.{Option, Some, inl, inr, Err, Ok, Result, false, length, All, IfErr}
+use Rattle.std.proofs.Common.{IfOk, ◌==◌, if◌then◌else◌, filter_map, option_map}
+use Rattle.book_model.proofs.Std.{AllZip, cons_option, All-cons}
 use Rattle.tree_tables.specs.States.{State, HasCleanDisk}
-use Rattle.book_model.specs.Words.{no_rulings}
-use Rattle.book_model.specs.Words.{IsDay, Book, Naming, Rulings, AcceptedTerms, second_rule}
+use Rattle.book_model.specs.Words.{no_rulings, IsDay, Book, Naming, Rulings, AcceptedTerms}
+use Rattle.book_model.specs.Words.{second_rule}
 use Rattle.book_model.specs.declared.fault.LedgerFault.{LedgerFault}
 use Rattle.book_model.specs.declared.fault.LedgerFault.TheVariants.{NotBooks, Store}
-use Rattle.book_core.specs.Ledgers.{IsOpenAt}
-use Rattle.table_model.specs.Tables.{BookRow, Tables}
-use Rattle.table_model.specs.TablesOf.{tables_of}
-use Rattle.table_model.specs.BookIn.{adopted_read, tariff_read}
-use Rattle.table_model.specs.Readable.{IsReadable}
+use Rattle.book_core.specs.Words.{IsOpenAt, ruled_in}
+use Rattle.table_model.specs.Words.{BookRow, Tables, tables_of, adopted_read, tariff_read}
+use Rattle.table_model.specs.Words.{IsReadable}
 use Rattle.table_model.proofs.BookLemmas.{book_follows}
 use Rattle.tree_tables.specs.Stored.{book_entry, close_entry, tariff_of}
 use Rattle.tree_tables.specs.declared.book_row.StoredBook.{StoredBook as Stored}
@@ -23,11 +18,10 @@ use Rattle.tree_tables.specs.declared.closed_rows.Close.{Close}
 use Rattle.tree_tables.specs.declared.tariff_rows.StoredTariff.{StoredTariff}
 use Rattle.table_ledger.specs.Commits.{Stores}
 use Rattle.table_ledger.specs.Ready.{Remembers}
-use Rattle.table_ledger.specs.Loaded.{AreRowsOf, IsCloseDay, IsLoaded, IsStoreFault, Reads, SummarizesTables}
-use Rattle.table_ledger.specs.Loaded.{SaysRule, SaysTariff, SummarizesRows}
+use Rattle.table_ledger.specs.Loaded.{AreRowsOf, IsCloseDay, IsLoaded, IsStoreFault, Reads}
+use Rattle.table_ledger.specs.Loaded.{SummarizesTables, SaysRule, SaysTariff, SummarizesRows}
 use Rattle.table_ledger.specs.LedgerState.{seen_on}
 use Rattle.table_ledger.specs.ReadyBooks.{LeavesTheLast}
-use Rattle.book_core.specs.OfficeRulings.{ruled_in}
 use Rattle.table_ledger.specs.declared.summary.Summary.{Summary}
 use Rattle.table_ledger.proofs.OpenLemmas.{opened}
 use Rattle.table_ledger.proofs.LastChoice.{last_counts}

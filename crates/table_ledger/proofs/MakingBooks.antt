@@ -1,10 +1,9 @@
 -- New books are not made for a cause of the store alone.
-use Rattle.std.proofs.Common.{◌∙◌, Result, Ok, ap}
-use Rattle.std.specs.Prelude.{IfErr}
+use Rattle.std.proofs.Common.{◌∙◌, Result, Ok, ap, IfErr}
 use Rattle.sqlite_trees.specs.Tree.{Trees}
 use Rattle.sqlite_trees.specs.View.{View}
 use Rattle.sqlite_trees.specs.declared.error.StoreError.{StoreError}
-use Rattle.table_model.specs.Tables.{Tables}
+use Rattle.table_model.specs.Words.{Tables}
 use Rattle.tree_rows.proofs.Failing.{caused_after, caused_since}
 use Rattle.tree_tables.specs.States.{HasCleanDisk, State, Survives}
 use Rattle.tree_tables.specs.Steps.{HasNoReals, IsCaused, Looks, Makes}

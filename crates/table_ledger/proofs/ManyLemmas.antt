@@ -1,24 +1,21 @@
 -- Records that are staged one after another.
-use Rattle.std.proofs.Common.{◌≡◌, ◌∙◌, ◌<◌, ◌+◌, ℕ, List, [], ◌∷◌, ◌++◌, Result, Ok, Err}
-use Rattle.std.proofs.Common.{refl, sym, ap, subst, false, true, true≢false, Vec, Global, drop}
-use Rattle.std.proofs.Common.{get_or, length, append-nil, append_assoc, add-one, drop-cons}
-use Rattle.std.proofs.lemmas.Bool.{eqb-true}
-use Rattle.std.specs.Prelude.{◌==◌, IsErr}
+use Rattle.std.proofs.Common.{◌≡◌, ◌∙◌, ◌<◌, ◌+◌, ℕ, List, [], ◌∷◌, ◌++◌, Result, Ok, Err, refl}
+use Rattle.std.proofs.Common.{sym, ap, subst, false, true, true≢false, Vec, Global, drop, get_or}
+use Rattle.std.proofs.Common.{length, append-nil, append_assoc, add-one, drop-cons, eqb-true, ◌==◌}
+use Rattle.std.proofs.Common.{IsErr}
 use Rattle.sqlite_trees.specs.View.{View, OnlyWrites}
 use Rattle.sqlite_trees.specs.declared.error.StoreError.{StoreError}
 use Rattle.book_model.specs.declared.answer.Accepted.{Accepted}
 use Rattle.book_model.specs.declared.fault.LedgerFault.{LedgerFault}
 use Rattle.book_model.specs.declared.fault.LedgerFault.TheVariants.{Memory, Store, Reopen}
 use Rattle.book_model.specs.Words.{Book, Event, after_all, Naming, Outcome, accept_outcome}
-use Rattle.book_core.specs.Calls.{Calls, Makes}
-use Rattle.book_core.specs.Submissions.{Accepts, Takes, first_of, records_in}
-use Rattle.book_core.specs.Transition.{NoEvent}
+use Rattle.book_core.specs.Words.{Calls, Makes, Accepts, Takes, first_of, records_in, NoEvent}
+use Rattle.book_core.specs.Words.{LeavesOpen}
 use Rattle.book_core.proofs.SubmissionLemmas.{refused_one}
 use Rattle.book_core.proofs.TransitionLemmas.{after_all-append}
-use Rattle.table_model.specs.Tables.{Tables}
+use Rattle.table_model.specs.Words.{Tables}
 use Rattle.tree_tables.specs.States.{State, HasCleanDisk, Survives}
 use Rattle.tree_tables.proofs.Looking.{only_both}
-use Rattle.book_core.specs.Calls.{LeavesOpen}
 use Rattle.table_ledger.specs.Stages.{AnswersFirst, IsAtAs, IsStaged, LeavesFirst, LeavesOne}
 use Rattle.table_ledger.specs.Stages.{MakesOf, RefusesNext, StagesAs, StagesFirst, StagesMany}
 use Rattle.table_ledger.specs.declared.summary.Summary.{Summary}
@@ -27,7 +24,7 @@ use Rattle.table_ledger.proofs.StageLemmas.{unstaged}
 use Rattle.table_ledger.proofs.StepLemmas.{stands_only}
 use Rattle.table_ledger.proofs.SurvivalLemmas.{clean_before, survives_then}
 use Rattle.table_ledger.proofs.UnchangedStores.{stands_then}
-use Rattle.book_model.proofs.FilterLemmas.{no_length}
+use Rattle.book_model.proofs.Lemmas.{no_length}
 
 -- a refusal that leaves the books open makes no event
 refused_none : {V A : Type 0} (view : V → A) (outcome : Outcome A) (fault : LedgerFault)

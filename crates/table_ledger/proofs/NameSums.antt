@@ -1,15 +1,10 @@
 -- What all records cost under a tariff, summed in a walk by name: of those that it has passed.
 use Rattle.std.proofs.Common.{◌≡◌, ◌∙◌, ℕ, ◌+◌, ◌≤◌, List, [], ◌∷◌, Option, Some, None, inl, inr}
-use Rattle.std.proofs.Common.{false, refl, sym, ap, subst, true≢false, arith}
-use Rattle.std.specs.Prelude.{slice_get, sum_by}
-use Rattle.std.specs.FinMap.{get, values}
-use Rattle.std.proofs.lemmas.Cmp.{nat_list_cmp_total}
-use Rattle.std.proofs.lemmas.List.Sums.{sum_by-cons}
-use Rattle.std.proofs.lemmas.Map.Lookups.{exact_bytes}
+use Rattle.std.proofs.Common.{false, refl, sym, ap, subst, true≢false, arith, slice_get, sum_by}
+use Rattle.book_model.proofs.Std.{get, values, nat_list_cmp_total, sum_by-cons, exact_bytes}
 use Rattle.book_model.specs.Words.{Terms, by_bytes, most_cost}
-use Rattle.book_core.specs.Room.{if_room}
-use Rattle.table_model.specs.TableChanges.{amount_under}
-use Rattle.table_model.specs.Tables.{RecordRow, Tables}
+use Rattle.book_core.specs.Words.{if_room}
+use Rattle.table_model.specs.Words.{amount_under, RecordRow, Tables}
 use Rattle.tree_rows.specs.Changes.{above, is_above}
 use Rattle.tree_rows.proofs.Maps.{not_none}
 use Rattle.tree_rows.proofs.Passing.{all_passed, passed_with}

@@ -1,16 +1,12 @@
 -- What a new record changes follows from the names of two records that have its identity.
 use Rattle.std.proofs.Common.{◌≡◌, ◌∙◌, ℕ, List, [], ◌∷◌, Option, None, Some, map, take, refl, ap}
-use Rattle.std.specs.Prelude.{ℤ, if◌then◌else◌}
-use Rattle.std.specs.FinMap.{get}
-use Rattle.std.specs.List.{AllByRecursion}
-use Rattle.std.specs.Option.{option_map}
-use Rattle.tariff_rules.specs.declared.priced.Priced.{Priced}
-use Rattle.book_model.specs.Words.{same_bytes}
-use Rattle.book_core.specs.Effects.{effects_of}
+use Rattle.std.proofs.Common.{ℤ, if◌then◌else◌, option_map}
+use Rattle.book_model.proofs.Std.{get, AllByRecursion}
+use Rattle.book_model.specs.Words.{Priced, same_bytes}
+use Rattle.book_core.specs.Words.{effects_of}
 use Rattle.table_model.specs.AcceptRead.{view_with}
-use Rattle.table_model.specs.DisputesRead.{NamedRow}
-use Rattle.table_model.specs.Tables.{RecordRow, Tables}
-use Rattle.table_model.specs.Views.{has_choice, lone_members, member_at, rows_with}
+use Rattle.table_model.specs.Words.{NamedRow, RecordRow, Tables, has_choice, lone_members}
+use Rattle.table_model.specs.Words.{member_at, rows_with}
 use Rattle.tree_tables.specs.Answers.{NamesSharing}
 use Rattle.tree_tables.specs.declared.found_names.FoundName.{FoundName}
 use Rattle.tree_tables.proofs.FoundNames.{some_had}

@@ -1,20 +1,15 @@
 -- Writing a new record makes the tables that it is to make.
-use Rattle.std.proofs.Common.{◌≡◌, ◌∙◌, ℕ, List, refl, sym, ap, false, Option, Some, None, cond}
-use Rattle.std.specs.Prelude.{ℤ}
-use Rattle.std.specs.List.{last_or}
-use Rattle.std.specs.FinMap.{get, get-insert, values}
-use Rattle.std.proofs.lemmas.Cmp.{eq_by_cmp_equiv, nat_list_cmp_total}
-use Rattle.std.proofs.lemmas.Map.Lookups.{exact_bytes}
-use Rattle.book_model.specs.Words.{Rulings, data_of, identity_by, last_close, open_by}
-use Rattle.book_model.proofs.MapLemmas.{by_tie}
-use Rattle.tariff_rules.specs.declared.priced.Priced.{Priced}
-use Rattle.book_core.specs.Effects.{effects_of}
+use Rattle.std.proofs.Common.{◌≡◌, ◌∙◌, ℕ, List, refl, sym, ap, false, Option, Some, None, cond, ℤ}
+use Rattle.book_model.proofs.Std.{last_or, get, get-insert, values, eq_by_cmp_equiv}
+use Rattle.book_model.proofs.Std.{nat_list_cmp_total, exact_bytes}
+use Rattle.book_model.specs.Words.{Rulings, data_of, identity_by, last_close, open_by, Priced}
+use Rattle.book_model.proofs.Lemmas.{by_tie}
+use Rattle.book_core.specs.Words.{effects_of}
 use Rattle.book_core.specs.declared.effects.Effects.{Effects}
-use Rattle.table_model.specs.RowChanges.{change_mark, mark_at}
-use Rattle.table_model.specs.Steps.{count_where_row, put_record_row}
-use Rattle.table_model.specs.TableChanges.{apply}
-use Rattle.table_model.specs.Tables.{RecordRow, RecordTable, Tables}
-use Rattle.table_model.specs.Views.{rows_with}
+use Rattle.table_model.specs.RowChanges.{change_mark}
+use Rattle.table_model.specs.Words.{mark_at, put_record_row, apply, RecordRow, RecordTable, Tables}
+use Rattle.table_model.specs.Words.{rows_with}
+use Rattle.table_model.specs.Steps.{count_where_row}
 use Rattle.table_model.specs.AcceptRead.{view_with}
 use Rattle.table_model.proofs.CountedHeld.{still_uncounted}
 use Rattle.tree_rows.proofs.Maps.{not_none}

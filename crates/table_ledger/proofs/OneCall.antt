@@ -1,15 +1,13 @@
 -- Calls of a ledger come to such work: a single one, and records that are submitted together.
-use Rattle.std.proofs.Common.{◌≡◌, ◌∙◌, ◌||◌, inl, ℕ, Bool, true, false, List, [], Result, Err, refl}
-use Rattle.std.proofs.Common.{sym, ap}
+use Rattle.std.proofs.Common.{◌≡◌, ◌∙◌, ◌||◌, inl, ℕ, Bool, true, false, List, [], Result, Err}
+use Rattle.std.proofs.Common.{refl, sym, ap}
 use Rattle.sqlite_trees.specs.declared.error.StoreError.{StoreError}
 use Rattle.sqlite_trees.specs.declared.store.Store.{Ghosts}
 use Rattle.book_model.specs.declared.answer.Accepted.{Accepted}
 use Rattle.book_model.specs.declared.fault.LedgerFault.{LedgerFault}
 use Rattle.book_model.specs.declared.fault.LedgerFault.TheVariants.{Reopen}
 use Rattle.book_model.specs.Words.{Book, Naming, Outcome, accept_outcome}
-use Rattle.book_core.specs.Calls.{Calls, IsCall, Reopens}
-use Rattle.book_core.specs.Submissions.{Takes, first_of}
-use Rattle.book_core.specs.Transition.{IsTransition}
+use Rattle.book_core.specs.Words.{Calls, IsCall, Reopens, Takes, first_of, IsTransition}
 use Rattle.tree_tables.specs.States.{state}
 use Rattle.table_ledger.specs.Attempts.{Finishes}
 use Rattle.table_ledger.specs.LedgerState.{LedgerState, seen_on, state_on}

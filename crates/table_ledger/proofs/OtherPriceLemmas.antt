@@ -1,52 +1,38 @@
 -- What records cost by another tariff, one record at a time.
 use Rattle.std.proofs.Common.{◌≡◌, ◌∙◌, ℕ, ◌+◌, ◌<◌, ◌≤◌, List, [], ◌∷◌, ◌++◌, map, refl, sym, ap}
 use Rattle.std.proofs.Common.{subst, true, false, cond, Some, None, unwrap_or, arith, length}
-use Rattle.std.proofs.Common.{true≢false}
-use Rattle.std.proofs.Common.{append-nil, append_assoc, length-append}
-use Rattle.std.specs.Prelude.{All, filter, sum_by, Vec, Ok, Err, if◌then◌else◌, IsSome, is_some}
-use Rattle.std.specs.declared.cmp.Ordering.{Ordering}
-use Rattle.std.specs.declared.cmp.Ordering.TheVariants.{Less, Equal, Greater}
+use Rattle.std.proofs.Common.{true≢false, append-nil, append_assoc, length-append, All, filter}
+use Rattle.std.proofs.Common.{sum_by, Vec, Ok, Err, if◌then◌else◌, IsSome, is_some, Ordering, Less}
+use Rattle.std.proofs.Common.{Equal, Greater, Global, is_eq, le-ltb, lt-ltb}
 use Rattle.std.specs.BTreeMap.{insert_entry, is_at}
-use Rattle.std.specs.FinMap.{entries, get}
-use Rattle.std.specs.Global.{Global}
-use Rattle.std.specs.List.Sorted.{IsStrictlySortedBy}
 use Rattle.std.specs.Map.{lookup, set_value}
-use Rattle.std.specs.Map as map_words
-use Rattle.std.specs.Ordering.{is_eq, match_ordering}
-use Rattle.std.proofs.lemmas.Bool.{le-ltb, lt-ltb}
-use Rattle.std.proofs.lemmas.List.{map-append}
-use Rattle.std.proofs.lemmas.List.Elements.{All-head, All-push, All-tail, filter-append}
-use Rattle.std.proofs.lemmas.List.Sums.{sum_by-append}
-use Rattle.std.proofs.lemmas.List.Sums.{sum_by_push}
 use Rattle.std.proofs.lemmas.Map.{lookup-none}
 use Rattle.std.proofs.lemmas.Map.Entries.{none_below_head}
-use Rattle.std.proofs.lemmas.Map.Keys.{sorted_tail}
 use Rattle.sqlite_trees.specs.View.{View}
 use Rattle.sqlite_value.specs.Order.{Row}
-use Rattle.tariff_rules.specs.declared.priced.Priced.{Priced}
+use Rattle.book_model.proofs.Std.{entries, get, IsStrictlySortedBy, match_ordering, map-append}
+use Rattle.book_model.proofs.Std.{All-head, All-push, All-tail, filter-append, sum_by-append}
+use Rattle.book_model.proofs.Std.{sum_by_push, sorted_tail}
 use Rattle.book_model.specs.declared.fault.LedgerFault.TheVariants.{Full}
 use Rattle.book_model.specs.declared.row.ChargeRow.{ChargeRow}
 use Rattle.book_model.specs.declared.row.RowKey.{RowKey}
-use Rattle.book_model.specs.Words.{AreRows, IsPriced, Terms, by_key, charged_at, key_of, most_cost}
-use Rattle.book_model.specs.Words.{most_held, price_by, row_at, rows_of}
-use Rattle.book_model.proofs.RowLemmas.{by_key_total}
-use Rattle.book_core.specs.KeyedRows.{keyed_rows}
+use Rattle.book_model.specs.Words.{Priced, AreRows, IsPriced, Terms, by_key, charged_at, key_of}
+use Rattle.book_model.specs.Words.{most_cost, most_held, price_by, row_at, rows_of}
+use Rattle.book_model.proofs.Lemmas.{by_key_total}
+use Rattle.book_core.specs.Words.{keyed_rows}
 use Rattle.book_core.proofs.KeyedRowLemmas.{length-charged_at-le, row_so_far, rows_under_keys}
 use Rattle.book_core.proofs.KeyedRowLemmas.{sum_by-charged_at-le}
 use Rattle.book_core.proofs.ListLimits.{priced_fit, priced_shown}
-use Rattle.table_model.specs.Tables.{Tables}
+use Rattle.table_model.specs.Words.{Tables, row_record, row_costs, NamedRow}
 use Rattle.table_model.proofs.CountedLemmas.{few_costs}
-use Rattle.table_model.specs.BookIn.{row_record}
-use Rattle.table_model.specs.CountedRead.{row_costs}
-use Rattle.table_model.specs.DisputesRead.{NamedRow}
 use Rattle.tree_tables.specs.Columns.{record_columns}
 use Rattle.tree_tables.specs.Passes.{HasRecordsLeft, TakesFirst, TakesNext}
 use Rattle.tree_tables.proofs.FoundNames.{entries_had}
-use Rattle.table_ledger.specs.OtherPrices.{AreRowsOf, AreSumsOf, CostsFit, SumsUp, costs_of}
-use Rattle.table_ledger.specs.OtherPrices.{passes}
+use Rattle.table_ledger.specs.OtherPrices.{AreRowsOf, AreSumsOf, CostsFit, SumsUp, costs_of, passes}
 use Rattle.table_ledger.specs.TotalsFit.{FitsPrice}
 use Rattle.table_ledger.specs.declared.count_test.CountTest.{CountTest}
 use Rattle.table_ledger.specs.declared.row_sums.RowSums.{RowSums}
+use Rattle.std.specs.Map as map_words
 
 -- a row that is written at a key that is found is where the key's row is put
 pub row_at_found : (key : RowKey) (row : ChargeRow) (rows : List (RowKey × ChargeRow))

@@ -1,24 +1,21 @@
 -- Books that can be read back are read: their rows fit, and what fails has a cause in the store.
-use Rattle.std.proofs.Common.{◌≡◌, ◌∙◌, ◌+◌, ◌≤◌, ◌<◌, ◌^◌, ℕ, ℤ, suc, List, [], ◌∷◌}
-use Rattle.std.proofs.Common.{Result, Ok, Err, IsTrue, ap, arith, false, inl, inr, length, map, pos}
-use Rattle.std.proofs.Common.{refl, rules, subst, sym, true, true≢false}
-use Rattle.std.specs.Prelude.{◌⊎◌, All, IsErrAnd, int_lt, ◌≤ℤ◌, ◌+ℤ◌}
-use Rattle.std.specs.List.{AllByRecursion, list_all}
-use Rattle.std.proofs.lemmas.Int.{ints}
-use Rattle.std.proofs.lemmas.List.Elements.{All-head, All-tail}
+use Rattle.std.proofs.Common.{◌≡◌, ◌∙◌, ◌+◌, ◌≤◌, ◌<◌, ◌^◌, ℕ, ℤ, suc, List, [], ◌∷◌, Result, Ok}
+use Rattle.std.proofs.Common.{Err, IsTrue, ap, arith, false, inl, inr, length, map, pos, refl}
+use Rattle.std.proofs.Common.{rules, subst, sym, true, true≢false, ◌⊎◌, All, IsErrAnd, int_lt, ◌≤ℤ◌}
+use Rattle.std.proofs.Common.{◌+ℤ◌}
 use Rattle.sqlite_disk.specs.Disk.{MoreFaults}
 use Rattle.sqlite_value.specs.Order.{Row}
 use Rattle.sqlite_trees.specs.Tree.{Trees}
 use Rattle.sqlite_trees.specs.declared.error.StoreError.{StoreError}
 use Rattle.sqlite_trees.specs.declared.error.StoreError.TheVariants.{Broken, Corrupt, Full, Io}
 use Rattle.sqlite_trees.specs.declared.error.StoreError.TheVariants.{OutOfMemory, Unstorable}
+use Rattle.book_model.proofs.Std.{AllByRecursion, list_all, ints, All-head, All-tail}
 use Rattle.book_model.specs.Words.{Book, IsDay, Naming, AcceptedTerms, are_rising}
-use Rattle.book_model.proofs.RecordSets.{first_of, second_of}
+use Rattle.book_model.proofs.Lemmas.{first_of, second_of}
 use Rattle.book_model.specs.declared.fault.LedgerFault.{LedgerFault}
 use Rattle.book_model.specs.declared.fault.LedgerFault.TheVariants.{Memory, Store}
-use Rattle.table_model.specs.Tables.{Tables}
-use Rattle.table_model.specs.TablesOf.{close_entries, tables_of, tariff_entries}
-use Rattle.table_model.specs.Readable.{IsReadable, IsTexted}
+use Rattle.table_model.specs.Words.{Tables, close_entries, tables_of, tariff_entries, IsReadable}
+use Rattle.table_model.specs.Words.{IsTexted}
 use Rattle.table_model.proofs.RulingsReading.{tariffs_kept}
 use Rattle.table_model.proofs.UnderNumbers.{entries-numbers}
 use Rattle.tree_rows.proofs.Failing.{caused_after}

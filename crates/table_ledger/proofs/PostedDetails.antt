@@ -1,35 +1,22 @@
 -- The details of a period whose records are posted, some at once, and the lines that come before
 -- them.
-use Rattle.std.proofs.Common.{◌≡◌, ◌∙◌, ◌+◌, ◌<◌, ℕ, ℤ, List, [], ◌∷◌, ◌++◌, ◌&&◌, ◌||◌, Bool}
-use Rattle.std.proofs.Common.{true, false, true≢false, cond, not, Option, Some, None, inl, inr}
-use Rattle.std.proofs.Common.{is_some, map, refl, sym, ap, subst, take, length, get_or, arith}
-use Rattle.std.proofs.Common.{length-append}
+use Rattle.std.proofs.Common.{◌≡◌, ◌∙◌, ◌+◌, ◌<◌, ℕ, ℤ, List, [], ◌∷◌, ◌++◌, ◌&&◌, ◌||◌, Bool, true}
+use Rattle.std.proofs.Common.{false, true≢false, cond, not, Option, Some, None, inl, inr, is_some}
+use Rattle.std.proofs.Common.{map, refl, sym, ap, subst, take, length, get_or, arith, length-append}
+use Rattle.std.proofs.Common.{int_lt, slice_index_or, IsPermutation, option_map}
 use Rattle.std.proofs.Math.Bool.{or-true}
-use Rattle.std.specs.Prelude.{int_lt, slice_index_or}
-use Rattle.std.specs.FinMap.{contains_key, get, same_map}
 use Rattle.std.specs.FinMap.Entries.{is_some-find}
-use Rattle.std.specs.List.{list_any}
-use Rattle.std.specs.List.Sorted.{IsPermutation}
-use Rattle.std.specs.Option.{option_map}
-use Rattle.std.proofs.lemmas.Bool.{and_parts}
-use Rattle.std.proofs.lemmas.Cmp.{nat_list_cmp_total}
-use Rattle.std.proofs.lemmas.List.{map-append, take_more}
-use Rattle.std.proofs.lemmas.List.Folds.{list_any-append}
-use Rattle.std.proofs.lemmas.List.Sorted.{list_any-IsPermutation}
 use Rattle.std.proofs.lemmas.List.Sums.{fold-append}
-use Rattle.std.proofs.lemmas.Map.Lookups.{exact_bytes}
-use Rattle.std.proofs.lemmas.Simd.{map-map}
 use Rattle.sqlite_trees.specs.Tree.{Trees}
-use Rattle.book_core.specs.Effects.{is_after}
-use Rattle.book_model.specs.Words.{by_bytes, comes_after, is_asked}
+use Rattle.book_model.proofs.Std.{contains_key, get, same_map, list_any, and_parts}
+use Rattle.book_model.proofs.Std.{nat_list_cmp_total, map-append, take_more, list_any-append}
+use Rattle.book_model.proofs.Std.{list_any-IsPermutation, exact_bytes, map-map}
+use Rattle.book_model.specs.Words.{is_after, by_bytes, comes_after, is_asked, is_between}
 use Rattle.book_model.specs.declared.detail.Detail.{Detail}
-use Rattle.book_model.proofs.RecordSets.{is, is_itself}
-use Rattle.book_model.specs.Words.{is_between}
-use Rattle.table_model.specs.DetailsRead.{FindsLeast, IsDetail, detail_shown}
-use Rattle.table_model.specs.PostedLaws.{PostsTouched, is_touched}
-use Rattle.table_model.specs.RowChanges.{post_by}
-use Rattle.table_model.specs.Steps.{post_each, post_row, post_rows}
-use Rattle.table_model.specs.Tables.{RecordRow, Tables}
+use Rattle.book_model.proofs.Lemmas.{is, is_itself}
+use Rattle.table_model.specs.Words.{FindsLeast, IsDetail, detail_shown, PostsTouched, post_by}
+use Rattle.table_model.specs.Words.{post_each, post_row, post_rows, RecordRow, Tables}
+use Rattle.table_model.specs.PostedLaws.{is_touched}
 use Rattle.table_model.proofs.PostedRows.{post_again, post_stays, posted_found, posted_those}
 use Rattle.table_model.proofs.PostedRows.{rest_stays}
 use Rattle.tree_rows.proofs.Taking.{some_is}

@@ -1,8 +1,7 @@
 -- What a function that stops at a refusal answers: an error, whichever it is.
-use Rattle.std.proofs.Common.{Result, Err}
-use Rattle.std.specs.Prelude.{IsErr}
+use Rattle.std.proofs.Common.{Result, Err, IsErr}
 use Rattle.sqlite_trees.specs.declared.error.StoreError.{StoreError}
-use Rattle.table_model.specs.Tables.{Tables}
+use Rattle.table_model.specs.Words.{Tables}
 use Rattle.tree_tables.specs.States.{State}
 use Rattle.tree_tables.specs.Steps.{Looks}
 use Rattle.table_ledger.specs.Commits.{Saw}

@@ -1,16 +1,11 @@
 -- What a record's new price changes, and which costs the books can hold.
-use Rattle.std.proofs.Common.{◌≡◌, ◌∙◌, ℕ, ◌<◌, ◌≤◌, List, Bool, true, false, cond, Option}
-use Rattle.std.proofs.Common.{Some, None, refl, sym, ap, arith}
-use Rattle.std.specs.Option.{option_map_or}
-use Rattle.std.specs.Prelude.{int_lt, nat_lt}
-use Rattle.std.proofs.lemmas.Bool.Decides.{nat_tests}
-use Rattle.std.specs.FinMap.{get}
-use Rattle.tariff_rules.specs.declared.priced.Priced.{Priced}
-use Rattle.book_model.specs.Words.{Terms, most_cost, price_by, record_with}
-use Rattle.book_core.specs.Room.{if_room}
-use Rattle.table_model.specs.RowChanges.{add_price, price_at, take_price}
-use Rattle.table_model.specs.TableChanges.{reprice, reprice_step}
-use Rattle.table_model.specs.Tables.{RecordRow, Tables}
+use Rattle.std.proofs.Common.{◌≡◌, ◌∙◌, ℕ, ◌<◌, ◌≤◌, List, Bool, true, false, cond, Option, Some}
+use Rattle.std.proofs.Common.{None, refl, sym, ap, arith, int_lt, nat_lt}
+use Rattle.book_model.proofs.Std.{option_map_or, nat_tests, get}
+use Rattle.book_model.specs.Words.{Priced, Terms, most_cost, price_by, record_with}
+use Rattle.book_core.specs.Words.{if_room}
+use Rattle.table_model.specs.Words.{add_price, price_at, take_price, reprice, reprice_step}
+use Rattle.table_model.specs.Words.{RecordRow, Tables}
 use Rattle.tree_rows.proofs.Maps.{not_none}
 use Rattle.tree_rows.proofs.Taking.{some_is}
 use Rattle.table_ledger.specs.Repricing.{StandsPriced, tariff_price}

@@ -1,18 +1,13 @@
 -- Lines whose names rise are of different records.
 use Rattle.std.proofs.Common.{◌≡◌, ◌∙◌, ℕ, List, [], ◌∷◌, ◌+◌, ◌<◌, true, true≢false, length}
-use Rattle.std.proofs.Common.{slice_index_or, ap, refl, sym, subst, arith, map}
-use Rattle.std.specs.declared.cmp.Ordering.{Ordering}
-use Rattle.std.specs.declared.cmp.Ordering.TheVariants.{Less, Equal, Greater}
-use Rattle.std.specs.List.{IsDistinct}
-use Rattle.std.specs.List.Sorted.{IsStrictlySortedBy}
-use Rattle.std.specs.Ordering.{is_lt}
-use Rattle.std.proofs.lemmas.Cmp.{nat_list_cmp_total}
-use Rattle.std.proofs.lemmas.List.{get_or-map, length-map}
-use Rattle.std.proofs.lemmas.Map.Keys.{IsDistinct-from_sorted, Less-from_sorted}
-use Rattle.std.proofs.lemmas.Map.Keys.{sorted_from_all_adjacent}
+use Rattle.std.proofs.Common.{slice_index_or, ap, refl, sym, subst, arith, map, Ordering, Less}
+use Rattle.std.proofs.Common.{Equal, Greater, is_lt}
+use Rattle.std.proofs.lemmas.Map.Keys.{Less-from_sorted, sorted_from_all_adjacent}
+use Rattle.book_model.proofs.Std.{IsDistinct, IsStrictlySortedBy, nat_list_cmp_total, get_or-map}
+use Rattle.book_model.proofs.Std.{length-map, IsDistinct-from_sorted}
 use Rattle.book_model.specs.declared.line.Line.{Line}
 use Rattle.book_model.specs.Words.{by_bytes, same_bytes}
-use Rattle.book_model.proofs.SetLemmas.{same_bytes-by_cmp}
+use Rattle.book_model.proofs.Lemmas.{same_bytes-by_cmp}
 
 -- each name below a place comes before the next one
 abbrev pub RiseBelow : List Line → ℕ → Type 0

@@ -1,26 +1,19 @@
 -- Rows of books are accepted: a row that is refused among rows read in order is none of a book.
-use Rattle.std.proofs.Common.{◌≡◌, ◌∙◌, ℕ, ℤ, zero, suc, List, [], ◌∷◌, ap, arith, map, refl}
-use Rattle.std.proofs.Common.{subst, sym, None, Option, Some, slice_index_or, take, ◌<◌, ◌+◌, true}
-use Rattle.std.proofs.Common.{length, Bool, ◌&&◌}
-use Rattle.std.specs.Prelude.{All, int_lt, ◌≤◌, if◌then◌else◌, is_some, unwrap_or}
-use Rattle.std.specs.FinMap.{entries}
-use Rattle.std.specs.List.{AllZip, last_or, list_all}
+use Rattle.std.proofs.Common.{◌≡◌, ◌∙◌, ℕ, ℤ, zero, suc, List, [], ◌∷◌, ap, arith, map, refl, subst}
+use Rattle.std.proofs.Common.{sym, None, Option, Some, slice_index_or, take, ◌<◌, ◌+◌, true, length}
+use Rattle.std.proofs.Common.{Bool, ◌&&◌, All, int_lt, ◌≤◌, if◌then◌else◌, is_some, unwrap_or}
+use Rattle.std.proofs.Common.{int_cmp}
 use Rattle.std.specs.List.Sorted.{IsStrictlySortedBy}
-use Rattle.std.specs.Option.{option_map_or}
-use Rattle.std.specs.Ordering.{int_cmp}
 use Rattle.std.proofs.lemmas.List.{get_or_default}
-use Rattle.std.proofs.lemmas.List.Elements.{All-head, All-tail}
-use Rattle.std.proofs.lemmas.Option.{same_Some}
 use Rattle.std.proofs.lemmas.Slice.Zip.{AllZip-long}
+use Rattle.book_model.proofs.Std.{entries, AllZip, last_or, list_all, option_map_or, All-head}
+use Rattle.book_model.proofs.Std.{All-tail, same_Some}
 use Rattle.book_model.specs.Words.{IsDay, AcceptedTerms, are_rising, Book, Naming, members}
 use Rattle.book_model.specs.Words.{total_of, most_choices, most_cost, most_held, first_rule}
 use Rattle.book_model.specs.Words.{second_rule}
-use Rattle.book_model.proofs.RecordSets.{first_of, second_of}
-use Rattle.table_model.specs.Tables.{BookRow, Tables, never_adopted}
-use Rattle.table_model.specs.TablesOf.{close_entries, tables_of, tariff_entries}
-use Rattle.table_model.specs.BookIn.{tariff_read}
-use Rattle.table_model.specs.Readable.{IsReadable}
-use Rattle.table_model.specs.Readable.{IsTexted}
+use Rattle.book_model.proofs.Lemmas.{first_of, second_of}
+use Rattle.table_model.specs.Words.{BookRow, Tables, never_adopted, close_entries, tables_of}
+use Rattle.table_model.specs.Words.{tariff_entries, tariff_read, IsReadable, IsTexted}
 use Rattle.table_model.proofs.CloseOrder.{Behind, late_first}
 use Rattle.table_model.proofs.RulingsReading.{one_read, tariffs_kept}
 use Rattle.table_model.proofs.UnderNumbers.{entries-numbers}

@@ -1,22 +1,15 @@
 -- What stands in the list of rulings, by what is remembered and by the table of choices.
-use Rattle.std.proofs.Common.{◌≡◌, ◌∙◌, ◌+◌, ◌<◌, ℕ, [], Option, None, Some, length, refl, sym}
-use Rattle.std.proofs.Common.{ap, subst, arith, get_or}
-use Rattle.std.specs.Prelude.{slice_get}
-use Rattle.std.specs.FinMap.{get}
-use Rattle.std.specs.Option.{option_map}
-use Rattle.std.proofs.lemmas.Option.{slice_get-get_or}
-use Rattle.smf_frames.specs.Framed.{data_of}
+use Rattle.std.proofs.Common.{◌≡◌, ◌∙◌, ◌+◌, ◌<◌, ℕ, [], Option, None, Some, length, refl, sym, ap}
+use Rattle.std.proofs.Common.{subst, arith, get_or, slice_get, option_map}
 use Rattle.sqlite_trees.specs.View.{View}
+use Rattle.book_model.proofs.Std.{get, slice_get-get_or}
 use Rattle.book_model.specs.declared.listed_ruling.ListedRuling.{ListedRuling}
-use Rattle.book_model.specs.Words.{Book, Choice, Naming, name_of, ruling_shown}
+use Rattle.book_model.specs.Words.{data_of, Book, Choice, Naming, name_of, ruling_shown}
 use Rattle.book_model.specs.Words.{rulings_listed}
 use Rattle.book_core.specs.ListedRulings.{StandsAt}
-use Rattle.book_core.specs.declared.listed_rulings.ListedAt.TheVariants as listed
-use Rattle.book_core.specs.OfficeRulings.{ruled_in}
-use Rattle.table_model.specs.Tables.{ChoiceRow, ChoiceTable}
-use Rattle.table_model.specs.TablesOf.{tables_of}
-use Rattle.table_model.specs.ListsRead.{choice_read_at, choice_shown}
-use Rattle.table_model.specs.Readable.{IsReadable}
+use Rattle.book_core.specs.Words.{ruled_in}
+use Rattle.table_model.specs.Words.{ChoiceRow, ChoiceTable, tables_of, choice_read_at, IsReadable}
+use Rattle.table_model.specs.ListsRead.{choice_shown}
 use Rattle.table_model.proofs.FitsLemmas.{numbers_fit}
 use Rattle.table_model.proofs.ListedChoices.{choice_listed, choice_row_at}
 use Rattle.tree_tables.specs.Fits.{IsNumbered}
@@ -26,6 +19,7 @@ use Rattle.table_ledger.specs.Ready.{IsReadyAt, Remembers}
 use Rattle.table_ledger.specs.RecordReads.{HasWideNames}
 use Rattle.table_ledger.specs.declared.summary.Summary.{Summary}
 use Rattle.table_ledger.proofs.Remembered.{rulings_are}
+use Rattle.book_core.specs.declared.listed_rulings.ListedAt.TheVariants as listed
 
 -- a choice that was found is shown as its row
 pub shown_row : (number : ℕ) (choices : ChoiceTable) (stored : StoredChoice)

@@ -1,22 +1,17 @@
 -- A call that is tried inside a transaction: looks at the tables, and then an answer or steps.
 use Rattle.std.proofs.Common.{◌≡◌, ◌∙◌, inl, inr, List, Result, Ok, Err, Some, [], ◌∷◌, refl, sym}
-use Rattle.std.proofs.Common.{ap, subst, true≢false}
-use Rattle.std.specs.Prelude.{IsErr}
+use Rattle.std.proofs.Common.{ap, subst, true≢false, IsErr}
 use Rattle.sqlite_trees.specs.declared.error.StoreError.{StoreError}
 use Rattle.book_model.specs.declared.fault.LedgerFault.{LedgerFault}
 use Rattle.book_model.specs.Words.{Book, Event, IsAnswered, after, Outcome, Naming}
-use Rattle.book_core.specs.Calls.{Makes, listed}
-use Rattle.table_model.specs.Changed.{changed}
-use Rattle.table_model.specs.Tables.{Tables}
-use Rattle.table_model.specs.TablesOf.{tables_of}
+use Rattle.book_core.specs.Words.{Makes, listed, LeavesOpen}
+use Rattle.table_model.specs.Words.{changed, Tables, tables_of, IsSubmittedTo}
 use Rattle.table_model.proofs.EventLemmas.{event_follows}
-use Rattle.table_model.specs.FromCalls.{IsSubmittedTo}
 use Rattle.tree_rows.proofs.Calls.{only_looks, kept_after_look}
 use Rattle.tree_tables.specs.Holds.{Holds}
 use Rattle.tree_tables.specs.States.{State, HasCleanDisk, Survives}
 use Rattle.tree_tables.specs.Steps.{Does, KeepsLastCommit}
 use Rattle.tree_tables.proofs.Looking.{does_err, kept_last, only_both}
-use Rattle.book_core.specs.Calls.{LeavesOpen}
 use Rattle.table_ledger.specs.Commits.{Saw}
 use Rattle.table_ledger.specs.Ready.{IsStoredAs, Remembers}
 use Rattle.table_ledger.specs.Stages.{IsAtAs, LeavesOne, MakesOf, StagesAs, StagesBy}

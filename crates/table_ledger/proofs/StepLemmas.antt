@@ -1,11 +1,9 @@
 -- Steps inside one transaction, one after the other, and the store after their commit.
-use Rattle.std.proofs.Common.{◌≡◌, ◌∙◌, Result, Ok, Err, false, refl, sym, ap, subst}
-use Rattle.std.specs.Prelude.{OnOk}
+use Rattle.std.proofs.Common.{◌≡◌, ◌∙◌, Result, Ok, Err, false, refl, sym, ap, subst, OnOk}
 use Rattle.sqlite_trees.specs.Tree.{Trees}
 use Rattle.sqlite_trees.specs.View.{View, Commits, OnlyWrites}
 use Rattle.sqlite_trees.specs.declared.error.StoreError.{StoreError}
-use Rattle.table_model.specs.TablesAfter.{new_tables}
-use Rattle.table_model.specs.Tables.{Tables}
+use Rattle.table_model.specs.Words.{new_tables, Tables}
 use Rattle.tree_rows.specs.Rows.{IsUnchanged}
 use Rattle.tree_tables.specs.Holds.{Holds, has_book}
 use Rattle.tree_tables.specs.States.{State, HasCleanDisk, Survives}

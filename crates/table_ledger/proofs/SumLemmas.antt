@@ -1,15 +1,12 @@
 -- The sums in the row of the book, which are written once, after the records that change them.
 use Rattle.std.proofs.Common.{◌≡◌, ◌∙◌, ℕ, List, [], Result, Ok, Err, inl, inr, ap, refl, sym}
-use Rattle.std.proofs.Common.{subst}
-use Rattle.std.specs.Prelude.{IsErr}
+use Rattle.std.proofs.Common.{subst, IsErr}
 use Rattle.sqlite_trees.specs.View.{View}
 use Rattle.sqlite_trees.specs.declared.error.StoreError.{StoreError}
 use Rattle.book_model.specs.declared.fault.LedgerFault.{LedgerFault}
-use Rattle.book_core.specs.Calls.{listed}
+use Rattle.book_core.specs.Words.{listed}
 use Rattle.book_model.specs.Words.{Book, Event, Naming, Outcome, after_all}
-use Rattle.table_model.specs.Steps.{set_sums}
-use Rattle.table_model.specs.Tables.{Tables}
-use Rattle.table_model.specs.TablesOf.{tables_of}
+use Rattle.table_model.specs.Words.{set_sums, Tables, tables_of}
 use Rattle.tree_tables.specs.Holds.{Holds}
 use Rattle.tree_tables.specs.States.{HasCleanDisk, State}
 use Rattle.tree_tables.specs.Steps.{Changes, Does}

@@ -1,29 +1,21 @@
 -- A tariff that is tried: what it answers, and what it writes.
-use Rattle.std.proofs.Common.{◌≡◌, ◌≢◌, ◌∙◌, ℕ, List, refl, sym, ap}
-use Rattle.std.proofs.Common.{Bool, true, false, Ok, Err, Option, Some, None}
-use Rattle.std.specs.Prelude.{if◌then◌else◌, nat_lt, sum_by}
-use Rattle.std.specs.FinMap.{values}
-use Rattle.std.specs.List.{list_any}
-use Rattle.std.specs.Str.{IsUtf8}
+use Rattle.std.proofs.Common.{◌≡◌, ◌≢◌, ◌∙◌, ℕ, List, refl, sym, ap, Bool, true, false, Ok, Err}
+use Rattle.std.proofs.Common.{Option, Some, None, if◌then◌else◌, nat_lt, sum_by, IsUtf8}
 use Rattle.sqlite_trees.specs.View.{View}
-use Rattle.book_model.specs.RulingAnswers.{terms_ruled}
-use Rattle.book_model.specs.Words.{IsDay, Terms, terms_in, Book, TariffAccepted, most_cost, open_by}
-use Rattle.book_model.specs.Words.{open_number, tariff_outcome, if_done, Naming, has_text}
-use Rattle.book_model.specs.Words.{RulingGiven, is_effective}
-use Rattle.book_model.specs.Words.{is_later, tariff_answer, with_tariff, Rulings}
+use Rattle.book_model.proofs.Std.{values, list_any}
+use Rattle.book_model.specs.Words.{terms_ruled, IsDay, Terms, terms_in, Book, TariffAccepted}
+use Rattle.book_model.specs.Words.{most_cost, open_by, open_number, tariff_outcome, if_done, Naming}
+use Rattle.book_model.specs.Words.{has_text, RulingGiven, is_effective, is_later, tariff_answer}
+use Rattle.book_model.specs.Words.{with_tariff, Rulings}
 use Rattle.book_model.specs.declared.answer.Ruled.{Ruled}
 use Rattle.book_model.specs.declared.answer.Ruled.TheVariants.{Done}
 use Rattle.book_model.specs.declared.fault.LedgerFault.TheVariants.{Full}
-use Rattle.book_core.specs.OfficeRulings.{ruled_in}
+use Rattle.book_core.specs.Words.{ruled_in}
 use Rattle.book_model.proofs.TestLemmas.{tariff_tests}
 use Rattle.book_core.proofs.RulingLemmas.{done_by, other_by, said_by}
-use Rattle.table_model.specs.Changed.{tariff_at}
-use Rattle.table_model.specs.TableChanges.{amount_under}
-use Rattle.table_model.specs.Tables.{Tables}
-use Rattle.table_model.specs.TablesOf.{tables_of}
+use Rattle.table_model.specs.Words.{tariff_at, amount_under, Tables, tables_of, IsReadable}
 use Rattle.table_model.proofs.LateRows.{amount_is_read, late_counted}
 use Rattle.table_model.proofs.RulingLemmas.{terms_follow}
-use Rattle.table_model.specs.Readable.{IsReadable}
 use Rattle.table_ledger.specs.IdleCalls.{NeedsNoPrices}
 use Rattle.table_ledger.specs.Repricing.{CanBeSummed, CostUnder, CountsRecords, TakesTariff}
 use Rattle.table_ledger.specs.Stages.{IsAt}

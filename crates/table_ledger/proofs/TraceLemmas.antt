@@ -1,16 +1,14 @@
 -- The life of a record, as its lines are looked up one period after another.
-use Rattle.std.proofs.Common.{◌≡◌, ◌∙◌, ℕ, zero, suc, ◌+◌, ◌-◌, ◌≤◌, List, ◌++◌, refl, sym}
-use Rattle.std.proofs.Common.{ap, Bool, true, false, Option, Some, None, append-nil, arith}
-use Rattle.std.specs.FinMap.{get}
-use Rattle.std.specs.Option.{option_or}
-use Rattle.std.proofs.lemmas.List.{append_assoc}
+use Rattle.std.proofs.Common.{◌≡◌, ◌∙◌, ℕ, zero, suc, ◌+◌, ◌-◌, ◌≤◌, List, ◌++◌, refl, sym, ap}
+use Rattle.std.proofs.Common.{Bool, true, false, Option, Some, None, append-nil, arith}
+use Rattle.std.proofs.Common.{append_assoc}
+use Rattle.book_model.proofs.Std.{get, option_or}
 use Rattle.book_model.specs.declared.trail.Deed.TheVariants.{Charged}
 use Rattle.book_model.specs.declared.trail.Turn.{Turn}
 use Rattle.book_model.specs.Words.{Rulings, open_by, period_on, turn_if}
-use Rattle.table_model.specs.Tables.{LineTable}
-use Rattle.table_model.specs.CountedRead.{charged_before_lines, first_line}
-use Rattle.table_model.specs.DisputesRead.{NamedRow}
-use Rattle.table_model.specs.TrailRead.{life_read, line_turn, line_turns}
+use Rattle.table_model.specs.Words.{LineTable, charged_before_lines, first_line, NamedRow}
+use Rattle.table_model.specs.Words.{life_read, line_turns}
+use Rattle.table_model.specs.TrailRead.{line_turn}
 use Rattle.table_ledger.specs.TrailReads.{charged_before}
 
 -- one period more comes after the others

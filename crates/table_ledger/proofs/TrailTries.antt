@@ -1,29 +1,22 @@
 -- The trail of a record that is tried: what is answered, and that books that can be read back can be
 -- read for it.
-use Rattle.std.proofs.Common.{◌≡◌, ◌∙◌, ℕ, List, refl, sym, ap, subst, Option, None}
-use Rattle.std.proofs.Common.{Some, Ok, Err, arith, map}
-use Rattle.std.specs.Prelude.{All}
-use Rattle.std.specs.FinMap.{entries, get}
-use Rattle.std.specs.List.{AllByRecursion}
-use Rattle.std.specs.Option.{ok_or, option_map}
-use Rattle.std.proofs.lemmas.List.{length-map}
-use Rattle.std.proofs.lemmas.List.Elements.{All-from_recursion, All-map}
+use Rattle.std.proofs.Common.{◌≡◌, ◌∙◌, ℕ, List, refl, sym, ap, subst, Option, None, Some, Ok, Err}
+use Rattle.std.proofs.Common.{arith, map, All, ok_or, option_map}
 use Rattle.sqlite_trees.specs.View.{View}
 use Rattle.sqlite_trees.proofs.ListLemmas.{all-filter, all_from_map}
-use Rattle.tariff_rules.specs.declared.reckoning.Reckoning.{Reckoning}
+use Rattle.book_model.proofs.Std.{entries, get, AllByRecursion, length-map, All-from_recursion}
+use Rattle.book_model.proofs.Std.{All-map}
 use Rattle.book_model.specs.declared.dispute.Variant.{Variant}
 use Rattle.book_model.specs.declared.fault.LedgerFault.TheVariants.{NoSuchRecord}
 use Rattle.book_model.specs.declared.trail.Trail.{Trail}
-use Rattle.book_model.specs.Words.{AcceptedTerms, Book, IsDay, Naming, Outcome, Rulings, TrailSeen}
-use Rattle.book_model.specs.Words.{day_of, in_force, period_on, reckoning_by}
-use Rattle.book_model.specs.Words.{reckoning_in, record_with, same_bytes, trail_outcome, trail_shown}
-use Rattle.book_core.specs.OfficeRulings.{ruled_in}
-use Rattle.table_model.specs.Tables.{ChoiceRow, RecordRow, Tables}
-use Rattle.table_model.specs.TablesOf.{tables_of}
-use Rattle.table_model.specs.Views.{rows_with}
-use Rattle.table_model.specs.DisputesRead.{NamedRow, variant_read}
-use Rattle.table_model.specs.Readable.{IsReadable}
-use Rattle.table_model.specs.TrailRead.{choices_with, life_read, trail_at, trail_read, trail_row}
+use Rattle.book_model.specs.Words.{Reckoning, AcceptedTerms, Book, IsDay, Naming, Outcome, Rulings}
+use Rattle.book_model.specs.Words.{TrailSeen, day_of, in_force, period_on, reckoning_by}
+use Rattle.book_model.specs.Words.{reckoning_in, record_with, same_bytes, trail_outcome}
+use Rattle.book_model.specs.Words.{trail_shown}
+use Rattle.book_core.specs.Words.{ruled_in}
+use Rattle.table_model.specs.Words.{ChoiceRow, RecordRow, Tables, tables_of, rows_with, NamedRow}
+use Rattle.table_model.specs.Words.{variant_read, IsReadable, choices_with, life_read}
+use Rattle.table_model.specs.TrailRead.{trail_at, trail_read, trail_row}
 use Rattle.table_model.proofs.FitsLemmas.{numbers_fit}
 use Rattle.table_model.proofs.TableParts.{what_is}
 use Rattle.table_model.proofs.TrailLemmas.{trails_follow}

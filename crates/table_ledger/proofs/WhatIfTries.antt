@@ -1,20 +1,16 @@
 -- What is answered to the rows of a period by another tariff, where they were found in the tables.
-use Rattle.std.proofs.Common.{◌≡◌, ◌∙◌, ℕ, Bool, true, List, Some, None, Ok, Err}
-use Rattle.std.proofs.Common.{refl, sym, ap, subst, Vec, arith}
-use Rattle.std.specs.Prelude.{filter, if◌then◌else◌}
-use Rattle.std.specs.FinMap.{entries}
-use Rattle.std.specs.Global.{Global}
+use Rattle.std.proofs.Common.{◌≡◌, ◌∙◌, ℕ, Bool, true, List, Some, None, Ok, Err, refl, sym, ap}
+use Rattle.std.proofs.Common.{subst, Vec, arith, filter, if◌then◌else◌, Global}
 use Rattle.book_model.specs.declared.fault.LedgerFault.TheVariants.{Full, NoSuchPeriod}
 use Rattle.book_model.specs.declared.row.ChargeRow.{ChargeRow}
 use Rattle.book_model.specs.Words.{AreRows, Book, Naming, Outcome, Rulings, Terms, rows_if_room}
 use Rattle.book_model.specs.Words.{what_if_outcome}
-use Rattle.book_core.specs.OfficeRulings.{ruled_in}
+use Rattle.book_core.specs.Words.{ruled_in}
 use Rattle.sqlite_trees.specs.View.{View}
-use Rattle.table_model.specs.Tables.{Tables}
-use Rattle.table_model.specs.TablesOf.{tables_of}
-use Rattle.table_model.specs.CountedRead.{counted_rows, is_row_counted, row_costs, what_if_read}
-use Rattle.table_model.specs.ListsRead.{is_period}
-use Rattle.table_model.specs.Readable.{IsReadable}
+use Rattle.book_model.proofs.Std.{entries}
+use Rattle.table_model.specs.Words.{Tables, tables_of, counted_rows, is_row_counted, row_costs}
+use Rattle.table_model.specs.Words.{is_period, IsReadable}
+use Rattle.table_model.specs.CountedRead.{what_if_read}
 use Rattle.table_model.proofs.CountedLemmas.{counted_follows, few_costs}
 use Rattle.tree_tables.specs.States.{State}
 use Rattle.table_ledger.specs.Commits.{Saw}

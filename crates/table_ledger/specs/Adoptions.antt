@@ -1,16 +1,12 @@
 -- Which record of an identity was chosen last, as an adoption remembers it, and what it does to a
 -- record.
-use Rattle.std.specs.Prelude.{◌≡◌, ℕ, ℤ, Bool, false, if◌then◌else◌, List, Option, Some}
+use Rattle.std.specs.Prelude.{◌≡◌, ℕ, ℤ, Bool, false, if◌then◌else◌, List, Option, Some, None}
+use Rattle.std.specs.Prelude.{filter}
 use Rattle.std.specs.BTreeMap.{get_by}
-use Rattle.std.specs.Cmp.Lexicographic.{slice_cmp}
-use Rattle.std.specs.List.{last_or}
-use Rattle.std.specs.Option.{option_map_or}
-use Rattle.std.specs.Ordering.{nat_cmp}
-use Rattle.std.specs.Prelude.{None, filter}
+use Rattle.book_model.specs.Std.{slice_cmp, last_or, option_map_or, nat_cmp}
 use Rattle.book_model.specs.Words.{same_bytes}
-use Rattle.table_model.specs.TableChanges.{charge_due_step}
-use Rattle.table_model.specs.Tables.{RecordTable, Tables}
-use Rattle.table_model.specs.Views.{is_due_in, last_named, name_has_identity}
+use Rattle.table_model.specs.Words.{charge_due_step, RecordTable, Tables, is_due_in, last_named}
+use Rattle.table_model.specs.Words.{name_has_identity}
 use Rattle.table_ledger.specs.declared.chosen.Chosen.{Chosen}
 
 -- the name of the record of an identity that was chosen last, if one was chosen

@@ -1,10 +1,8 @@
 -- What the choice of a record changes, as it is looked for in the tables.
-use Rattle.std.specs.Prelude.{◌≡◌, ℕ, ℤ, List, Option, slice_get}
-use Rattle.std.specs.Option.{option_map}
-use Rattle.book_core.specs.Effects.{choice_effects}
+use Rattle.std.specs.Prelude.{◌≡◌, ℕ, ℤ, List, Option, slice_get, option_map}
+use Rattle.book_core.specs.Words.{choice_effects}
 use Rattle.book_core.specs.declared.effects.ChoiceEffects.{ChoiceEffects}
-use Rattle.table_model.specs.Tables.{RecordRow, Tables}
-use Rattle.table_model.specs.Views.{member_at}
+use Rattle.table_model.specs.Words.{RecordRow, Tables, member_at}
 use Rattle.tree_tables.specs.Answers.{charged_with}
 
 -- it is charged, and the record of its identity that was charged until now, if there was one, no

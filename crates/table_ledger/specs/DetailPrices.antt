@@ -1,17 +1,12 @@
 -- What records cost by another tariff, where details lead to them; and that these are the records
 -- that a period counts.
 use Rattle.std.specs.Prelude.{◌≡◌, ◌-◌, ℕ, ℤ, Bool, ◌&&◌, List, filter, Option, None, Some, Vec}
-use Rattle.std.specs.FinMap.{contains_key, entries, get}
 use Rattle.std.specs.Global.{Global}
-use Rattle.tariff_rules.specs.declared.priced.Priced.{Priced}
-use Rattle.book_model.specs.RulingAnswers.{through_of}
+use Rattle.book_model.specs.Std.{contains_key, entries, get}
+use Rattle.book_model.specs.Words.{Priced, through_of, Rulings, Terms, is_between, price_by}
 use Rattle.book_model.specs.declared.row.ChargeRow.{ChargeRow}
-use Rattle.book_model.specs.Words.{Rulings, Terms, is_between, price_by}
-use Rattle.table_model.specs.BookIn.{row_record}
-use Rattle.table_model.specs.CountedRead.{counted_rows, is_row_counted, row_costs}
-use Rattle.table_model.specs.DetailsRead.{FindsLeast, IsLeastDetail}
-use Rattle.table_model.specs.DisputesRead.{NamedRow}
-use Rattle.table_model.specs.Tables.{RecordRow, Tables}
+use Rattle.table_model.specs.Words.{row_record, counted_rows, is_row_counted, row_costs, FindsLeast}
+use Rattle.table_model.specs.Words.{IsLeastDetail, NamedRow, RecordRow, Tables}
 use Rattle.tree_tables.specs.Fits.{DaysFit}
 use Rattle.table_ledger.specs.DetailReads.{seeks}
 use Rattle.table_ledger.specs.OtherPrices.{AllLinesFit, AreRowsOf, CanBeWalked}

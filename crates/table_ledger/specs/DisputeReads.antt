@@ -1,11 +1,9 @@
 -- Records as disputes are made from them, and the next identity in dispute.
-use Rattle.std.specs.Prelude.{◌≡◌, ◌⊎◌, ℕ, List, Option, Vec, filter, length, map}
+use Rattle.std.specs.Prelude.{◌≡◌, ◌⊎◌, ℕ, List, Option, Vec, filter, length, map, option_map}
 use Rattle.std.specs.Global.{Global}
-use Rattle.std.specs.Option.{option_map}
 use Rattle.book_model.specs.Words.{Disputed, IsDay, identity_length, identity2_length}
-use Rattle.table_model.specs.Tables.{Tables}
-use Rattle.table_model.specs.DisputesRead.{FindsDisputed, NamedRow, grouped, has_none_charged}
-use Rattle.table_model.specs.DisputesRead.{variant_read}
+use Rattle.table_model.specs.Words.{Tables, FindsDisputed, NamedRow, grouped, has_none_charged}
+use Rattle.table_model.specs.Words.{variant_read}
 use Rattle.tree_tables.specs.Stored.{stored_entry}
 use Rattle.tree_tables.specs.declared.stored_record.StoredRecord.{StoredRecord}
 

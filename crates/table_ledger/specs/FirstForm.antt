@@ -2,13 +2,11 @@
 -- those of a book of which no record is counted. The details are told by the rows and the lines.
 use Rattle.std.specs.Prelude.{◌≡◌, ◌+◌, ◌++◌, ◌∷◌, [], ℕ, Bool, List, Option, filter, fold, length}
 use Rattle.std.specs.Prelude.{if◌then◌else◌, map}
-use Rattle.std.specs.FinMap.{empty, entries}
 use Rattle.sqlite_trees.specs.Tree.{Trees}
 use Rattle.sqlite_trees.specs.View.{View, IsClean}
+use Rattle.book_model.specs.Std.{empty, entries}
 use Rattle.book_model.specs.Words.{Book, Naming, by_bytes, set_of}
-use Rattle.table_model.specs.CountedRead.{charged_before_lines, first_line}
-use Rattle.table_model.specs.Steps.{count_row}
-use Rattle.table_model.specs.Tables.{RecordRow, Tables}
+use Rattle.table_model.specs.Words.{charged_before_lines, first_line, count_row, RecordRow, Tables}
 use Rattle.table_ledger.specs.Commits.{IsAtRest}
 use Rattle.table_ledger.specs.Ready.{IsStoredAs}
 use Rattle.table_ledger.specs.declared.upgrading.Counted.{Counted}

@@ -1,11 +1,9 @@
 -- Adjustment lines that are read from the tables.
-use Rattle.std.specs.Prelude.{List, Option, map}
-use Rattle.std.specs.List.{filter_map}
-use Rattle.std.specs.List.Sorted.{IsStrictlySortedBy}
+use Rattle.std.specs.Prelude.{List, Option, map, filter_map}
+use Rattle.book_model.specs.Std.{IsStrictlySortedBy}
 use Rattle.book_model.specs.Words.{by_bytes}
 use Rattle.book_model.specs.declared.line.Line.{Line}
-use Rattle.table_model.specs.PeriodLists.{line_read}
-use Rattle.table_model.specs.Tables.{RecordTable}
+use Rattle.table_model.specs.Words.{line_read, RecordTable}
 use Rattle.tree_tables.specs.declared.line_rows.StoredLine.{StoredLine}
 
 -- a stored line, of whichever period, with what the row of its record says

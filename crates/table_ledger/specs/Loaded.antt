@@ -1,23 +1,21 @@
 -- What is read from a store when its books are opened.
-use Rattle.std.specs.Prelude.{◌≡◌, ◌≢◌, ◌⊎◌, ◌↔◌, ◌≤◌, ◌<◌, ◌+◌, ◌^◌, All, IfErr, IfOk, Option, Some, None}
-use Rattle.std.specs.Prelude.{Bool, Result, Ok, [], Err, List, ℕ, ℤ, int_lt, length, map, false, true}
-use Rattle.std.specs.List.{AllZip, last_or}
-use Rattle.std.specs.List.Sorted.{IsStrictlySortedBy}
-use Rattle.std.specs.Option.{option_map_or}
-use Rattle.std.specs.Ordering.{int_cmp}
-use Rattle.std.specs.FinMap.{entries}
+use Rattle.std.specs.Prelude.{◌≡◌, ◌≢◌, ◌⊎◌, ◌↔◌, ◌≤◌, ◌<◌, ◌+◌, ◌^◌, All, IfErr, IfOk, Option}
+use Rattle.std.specs.Prelude.{Some, None, Bool, Result, Ok, [], Err, List, ℕ, ℤ, int_lt, length}
+use Rattle.std.specs.Prelude.{map, false, true}
 use Rattle.sqlite_disk.specs.Disk.{MoreFaults}
 use Rattle.sqlite_trees.specs.View.{View}
+use Rattle.book_model.specs.Std.{AllZip, last_or, IsStrictlySortedBy, option_map_or, int_cmp}
+use Rattle.book_model.specs.Std.{entries}
 use Rattle.tree_tables.specs.States.{State, HasCleanDisk, Survives}
-use Rattle.book_model.specs.Words.{IsDay, AcceptedTerms, Rulings, Book, Naming, are_rising, last_period}
-use Rattle.book_model.specs.Words.{most_choices, most_cost, most_held, second_rule}
+use Rattle.book_model.specs.Words.{IsDay, AcceptedTerms, Rulings, Book, Naming, are_rising}
+use Rattle.book_model.specs.Words.{last_period, most_choices, most_cost, most_held, second_rule}
+use Rattle.book_model.specs.Words.{first_rule}
 use Rattle.book_model.specs.declared.fault.LedgerFault.{LedgerFault}
 use Rattle.book_model.specs.declared.fault.LedgerFault.TheVariants.{Memory, NotBooks, Store}
-use Rattle.book_core.specs.Ledgers.{IsOpenAt, Seen}
-use Rattle.table_model.specs.Tables.{Tables, first_rule, never_adopted}
-use Rattle.table_model.specs.TablesOf.{close_entries, tables_of}
-use Rattle.table_model.specs.BookIn.{rulings_of_tables, tariff_read}
-use Rattle.table_model.specs.Readable.{IsReadable}
+use Rattle.book_core.specs.Words.{IsOpenAt, Seen, ruled_in}
+use Rattle.table_model.specs.Words.{Tables, never_adopted, close_entries, tables_of, tariff_read}
+use Rattle.table_model.specs.Words.{IsReadable}
+use Rattle.table_model.specs.BookIn.{rulings_of_tables}
 use Rattle.tree_rows.specs.Runs.{RowsFit}
 use Rattle.tree_tables.specs.Answers.{last_number}
 use Rattle.tree_tables.specs.Columns.{closed_columns, tariff_columns}
@@ -31,7 +29,6 @@ use Rattle.tree_tables.specs.declared.tariff_rows.StoredTariff.{StoredTariff}
 use Rattle.table_ledger.specs.Attempts.{IsNoPeriod}
 use Rattle.table_ledger.specs.Commits.{IsAtRest, Stores}
 use Rattle.table_ledger.specs.LedgerState.{LedgerState, seen_on}
-use Rattle.book_core.specs.OfficeRulings.{ruled_in}
 use Rattle.table_ledger.specs.declared.summary.Summary.{Summary}
 
 -- out of memory, or another fault of the store

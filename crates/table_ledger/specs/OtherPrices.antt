@@ -1,24 +1,20 @@
 -- What is found out about a period, and about its records by another tariff, in a walk over all
 -- records.
-use Rattle.std.specs.Prelude.{◌≡◌, ◌≤◌, ◌<◌, ◌^◌, ◌++◌, ◌∷◌, [], ℕ, Bool, true, false, ◌&&◌, List, All}
-use Rattle.std.specs.Prelude.{filter, length, MatchOption, Ok, Err, Option, Vec, sum_by}
+use Rattle.std.specs.Prelude.{◌≡◌, ◌≤◌, ◌<◌, ◌^◌, ◌++◌, ◌∷◌, [], ℕ, Bool, true, false, ◌&&◌, List}
+use Rattle.std.specs.Prelude.{All, filter, length, MatchOption, Ok, Err, Option, Vec, sum_by}
 use Rattle.std.specs.BTreeMap.{get}
-use Rattle.std.specs.FinMap.{entries}
 use Rattle.std.specs.Global.{Global}
 use Rattle.sqlite_trees.specs.declared.error.StoreError.{StoreError}
 use Rattle.sqlite_trees.specs.declared.error.StoreError.TheVariants.{OutOfMemory}
 use Rattle.sqlite_value.specs.Order.{Row}
-use Rattle.tariff_rules.specs.declared.priced.Priced.{Priced}
+use Rattle.book_model.specs.Std.{entries}
 use Rattle.book_model.specs.declared.fault.LedgerFault.TheVariants.{Full}
 use Rattle.book_model.specs.declared.row.ChargeRow.{ChargeRow}
-use Rattle.book_model.specs.Words.{AreRows, FitSums, IsPriced, Rulings, Terms, by_bytes}
+use Rattle.book_model.specs.Words.{Priced, AreRows, FitSums, IsPriced, Rulings, Terms, by_bytes}
 use Rattle.book_model.specs.Words.{is_between, most_cost, most_held, rows_if_room}
-use Rattle.book_core.specs.KeyedRows.{keyed_rows}
-use Rattle.table_model.specs.Tables.{Tables}
-use Rattle.table_model.specs.CountedRead.{charged_before_lines, is_row_counted}
-use Rattle.table_model.specs.CountedRead.{row_costs}
-use Rattle.table_model.specs.DisputesRead.{NamedRow}
-use Rattle.table_model.specs.ListsRead.{is_period}
+use Rattle.book_core.specs.Words.{keyed_rows}
+use Rattle.table_model.specs.Words.{Tables, charged_before_lines, is_row_counted, row_costs}
+use Rattle.table_model.specs.Words.{NamedRow, is_period}
 use Rattle.tree_tables.specs.Columns.{record_columns}
 use Rattle.tree_tables.specs.Fits.{LinesFit, RecordFits}
 use Rattle.tree_tables.specs.Stored.{mark_of}

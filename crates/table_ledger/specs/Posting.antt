@@ -2,16 +2,10 @@
 -- first, and then those that its charge rows count, some of them at once.
 use Rattle.std.specs.Prelude.{◌≡◌, ℕ, ℤ, true, false, ◌&&◌, Bool, List, length, map, Option, Some}
 use Rattle.std.specs.Prelude.{None}
-use Rattle.std.specs.FinMap.{contains_key, get}
-use Rattle.std.specs.List.{list_any}
-use Rattle.std.specs.Ordering.{eq_by_cmp}
-use Rattle.book_core.specs.Effects.{is_after}
-use Rattle.book_model.specs.Words.{by_bytes, comes_after}
+use Rattle.book_model.specs.Std.{contains_key, get, list_any, eq_by_cmp}
+use Rattle.book_model.specs.Words.{is_after, by_bytes, comes_after}
 use Rattle.book_model.specs.declared.detail.Detail.{Detail}
-use Rattle.table_model.specs.DetailsRead.{FindsLeast, IsDetail}
-use Rattle.table_model.specs.PostedLaws.{PostsTouched}
-use Rattle.table_model.specs.RowChanges.{post_by}
-use Rattle.table_model.specs.Tables.{RecordRow, Tables}
+use Rattle.table_model.specs.Words.{FindsLeast, IsDetail, PostsTouched, post_by, RecordRow, Tables}
 use Rattle.tree_tables.specs.Days.{NoneNext}
 use Rattle.tree_tables.specs.declared.line_rows.StoredLine.{StoredLine}
 use Rattle.table_ledger.specs.DetailReads.{seeks}

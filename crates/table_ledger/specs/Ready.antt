@@ -4,12 +4,10 @@ use Rattle.std.specs.Prelude.{◌≡◌, [], length}
 use Rattle.sqlite_trees.specs.Tree.{Trees}
 use Rattle.sqlite_trees.specs.View.{View}
 use Rattle.book_model.specs.Words.{total_of, Book, Naming, members}
-use Rattle.table_model.specs.TablesOf.{tables_of}
-use Rattle.table_model.specs.Readable.{IsReadable}
-use Rattle.table_model.specs.Tables.{Tables}
+use Rattle.table_model.specs.Words.{tables_of, IsReadable, Tables}
 use Rattle.tree_tables.specs.Holds.{Holds}
 use Rattle.table_ledger.specs.Commits.{IsAtRest}
-use Rattle.book_core.specs.OfficeRulings.{ruled_in}
+use Rattle.book_core.specs.Words.{ruled_in}
 use Rattle.table_ledger.specs.declared.summary.Summary.{Summary}
 
 -- it is a summary of the book: its rulings, but for which records were chosen, and its sums

@@ -1,15 +1,13 @@
 -- A ledger that is ready determines its book, and so does what a crash leaves of it.
-use Rattle.std.proofs.Common.{◌≡◌, ◌∙◌, ◌++◌, ◌∷◌, [], ℕ, zero, suc, Bool, IsTrue, length, refl, sym}
-use Rattle.std.proofs.Common.{ap}
-use Rattle.std.specs.FinMap.{empty, values}
+use Rattle.std.specs.Prelude.{◌≡◌, ◌++◌, ◌∷◌, [], ℕ, zero, suc, Bool, IsTrue, length, refl}
+use Rattle.std.proofs.Common.{◌∙◌, sym, ap}
 use Rattle.sqlite_trees.specs.Tree.{Trees}
 use Rattle.sqlite_trees.specs.View.{View, IsClean}
+use Rattle.book_model.specs.Std.{empty, values}
 use Rattle.book_model.specs.Words.{Book, Naming, Period, Records}
 use Rattle.book_core.specs.Ledgers.{StopIsHarmless}
-use Rattle.table_model.specs.Tables.{CountedTable, Tables}
-use Rattle.table_model.specs.TablesOf.{tables_of}
-use Rattle.table_model.specs.BookIn.{book_in, charged_before, close_after, past_in, period_in}
-use Rattle.table_model.specs.BookIn.{records_of_rows}
+use Rattle.table_model.specs.Words.{CountedTable, Tables, tables_of, book_in, charged_before}
+use Rattle.table_model.specs.Words.{close_after, past_in, period_in, records_of_rows}
 use Rattle.table_model.proofs.BookLemmas.{book_follows}
 use Rattle.table_ledger.specs.Ready.{IsReadyAt, IsStoredIn}
 use Rattle.table_ledger.specs.LedgerState.{book_of_trees, AreBooks, seen_of}

@@ -1,17 +1,14 @@
 -- What records cost under a tariff that is for them, by their rows; and what is known of the tables
 -- before it is put in force.
-use Rattle.std.specs.Prelude.{◌≡◌, ℕ, List, false, int_lt, if◌then◌else◌, Option, Some, None, IsSome}
-use Rattle.std.specs.Prelude.{Ok, sum_by}
-use Rattle.std.specs.FinMap.{contains_key, get, values}
-use Rattle.tariff_rules.specs.declared.priced.Priced.{Priced}
-use Rattle.book_model.specs.Words.{Book, IsPriced, Naming, Terms, open_number, price_by, record_with}
-use Rattle.book_model.specs.Words.{terms_answer}
+use Rattle.std.specs.Prelude.{◌≡◌, ℕ, List, false, int_lt, if◌then◌else◌, Option, Some, None}
+use Rattle.std.specs.Prelude.{IsSome, Ok, sum_by}
+use Rattle.book_model.specs.Std.{contains_key, get, values}
+use Rattle.book_model.specs.Words.{Priced, Book, IsPriced, Naming, Terms, open_number, price_by}
+use Rattle.book_model.specs.Words.{record_with, terms_answer}
 use Rattle.book_model.specs.declared.answer.Ruled.TheVariants.{Done}
-use Rattle.book_core.specs.Room.{if_room}
-use Rattle.table_model.specs.Readable.{IsReadable}
-use Rattle.table_model.specs.TableChanges.{amount_under, reprice_step}
-use Rattle.table_model.specs.Tables.{RecordRow, Tables}
-use Rattle.table_model.specs.TablesOf.{tables_of}
+use Rattle.book_core.specs.Words.{if_room}
+use Rattle.table_model.specs.Words.{IsReadable, amount_under, reprice_step, RecordRow, Tables}
+use Rattle.table_model.specs.Words.{tables_of}
 use Rattle.tree_tables.specs.Stored.{IsAsRead}
 use Rattle.tree_tables.specs.declared.stored_record.StoredRecord.{StoredRecord}
 

@@ -6,14 +6,11 @@ use Rattle.sqlite_trees.specs.View.{View, OnlyWrites}
 use Rattle.sqlite_trees.specs.declared.error.StoreError.{StoreError}
 use Rattle.book_model.specs.declared.answer.Accepted.{Accepted}
 use Rattle.book_model.specs.declared.fault.LedgerFault.{LedgerFault}
-use Rattle.tariff_rules.specs.declared.priced.Priced.{Priced}
-use Rattle.book_model.specs.Words.{Book, Event, after_all, accept_outcome, Outcome, Naming, Rulings}
-use Rattle.book_core.specs.Calls.{Calls, LeavesOpen, Makes, is_store, is_reopen, listed}
-use Rattle.book_core.specs.OfficeRulings.{ruled_in}
-use Rattle.book_core.specs.Submissions.{Accepts, Takes, first_of}
-use Rattle.table_model.specs.Changed.{kept_at}
-use Rattle.table_model.specs.Steps.{set_sums}
-use Rattle.table_model.specs.Tables.{Tables}
+use Rattle.book_model.specs.Words.{Priced, Book, Event, after_all, accept_outcome, Outcome, Naming}
+use Rattle.book_model.specs.Words.{Rulings}
+use Rattle.book_core.specs.Words.{Calls, LeavesOpen, Makes, is_store, is_reopen, listed, ruled_in}
+use Rattle.book_core.specs.Words.{Accepts, Takes, first_of}
+use Rattle.table_model.specs.Words.{kept_at, set_sums, Tables}
 use Rattle.tree_tables.specs.States.{State, HasCleanDisk, Survives}
 use Rattle.tree_tables.specs.Steps.{KeepsLastCommit}
 use Rattle.table_ledger.specs.Ready.{IsReadyAt, IsStoredAs, IsStoredIn, Remembers}

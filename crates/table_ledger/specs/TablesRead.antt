@@ -1,17 +1,14 @@
 -- Trees that hold tables determine them, but for the names of the records that are counted.
-use Rattle.std.proofs.Common.{◌≡◌, ◌∙◌, ap, refl, sym, Bool, true, false, ℤ, ℕ, List, [], ◌∷◌, not}
-use Rattle.std.proofs.Common.{Option, Some, None, map}
-use Rattle.std.specs.Prelude.{◌==◌}
-use Rattle.std.specs.FinMap.{FinMap, empty, entries, from_entries, get, get-entries}
-use Rattle.std.specs.FinMap.{get-from_entries, same_map}
-use Rattle.std.specs.List.{AllByRecursion}
-use Rattle.std.specs.declared.cmp.Ordering.{Ordering}
+use Rattle.std.specs.Prelude.{◌≡◌, refl, Bool, true, false, ℤ, ℕ, List, [], ◌∷◌, not, Option, Some}
+use Rattle.std.specs.Prelude.{None, map, ◌==◌}
+use Rattle.std.proofs.Common.{◌∙◌, ap, sym}
 use Rattle.sqlite_trees.specs.Tree.{Trees}
 use Rattle.sqlite_value.specs.Order.{Row}
+use Rattle.book_model.specs.Std.{FinMap, empty, entries, from_entries, get, get-entries}
+use Rattle.book_model.specs.Std.{get-from_entries, same_map, AllByRecursion, Ordering}
 use Rattle.book_model.specs.declared.row.ChargeRow.{ChargeRow}
 use Rattle.book_model.specs.declared.row.RowKey.{RowKey}
-use Rattle.table_model.specs.TablesOf.{row_key}
-use Rattle.table_model.specs.Tables.{RecordRow, Tables}
+use Rattle.table_model.specs.Words.{row_key, RecordRow, Tables}
 use Rattle.tree_rows.specs.Layouts.{Layout, row_of, rows_of}
 use Rattle.tree_tables.specs.Columns.{day_columns, flag, line_columns, record_columns}
 use Rattle.tree_tables.specs.Columns.{tariff_columns}

@@ -1,7 +1,6 @@
 -- Texts that are not tariffs.
 use Rattle.std.specs.Prelude.{◌≡◌, ◌⊎◌, ℕ, List, Err}
-use Rattle.book_model.specs.Words.{terms_in}
-use Rattle.tariff_rules.specs.declared.fault.TariffFault.{TariffFault}
+use Rattle.book_model.specs.Words.{terms_in, TariffFault}
 use Rattle.book_model.specs.declared.fault.LedgerFault.{LedgerFault}
 use Rattle.book_model.specs.declared.fault.LedgerFault.TheVariants.{Memory, TariffRefused}
 

@@ -1,17 +1,12 @@
 -- What is read of the tables for the trail of a record.
-use Rattle.std.specs.Prelude.{◌≡◌, ℕ, Bool, not, List, [], ◌∷◌, filter, map, Some}
-use Rattle.std.specs.FinMap.{entries, get}
-use Rattle.std.specs.List.{flat_map}
-use Rattle.std.specs.List.Sorted.{IsPermutation, IsSorted}
-use Rattle.std.specs.Ordering.{nat_cmp}
-use Rattle.std.specs.declared.cmp.Ordering.{Ordering}
+use Rattle.std.specs.Prelude.{◌≡◌, ℕ, Bool, not, List, [], ◌∷◌, filter, map, Some, flat_map}
+use Rattle.std.specs.Prelude.{IsPermutation, IsSorted}
+use Rattle.book_model.specs.Std.{entries, get, nat_cmp, Ordering}
 use Rattle.book_model.specs.declared.trail.NamedChoice.{NamedChoice}
 use Rattle.book_model.specs.declared.trail.Turn.{Turn}
 use Rattle.book_model.specs.Words.{is_charge}
-use Rattle.table_model.specs.Tables.{ChoiceRow, RecordRow, Tables}
-use Rattle.table_model.specs.Views.{rows_with}
-use Rattle.table_model.specs.DisputesRead.{variant_read}
-use Rattle.table_model.specs.TrailRead.{choices_with}
+use Rattle.table_model.specs.Words.{ChoiceRow, RecordRow, Tables, rows_with, variant_read}
+use Rattle.table_model.specs.Words.{choices_with}
 use Rattle.tree_tables.specs.Answers.{ListsSharing, names_it}
 use Rattle.tree_tables.specs.Fits.{ChosenFit}
 use Rattle.tree_tables.specs.declared.choice_rows.StoredChoice.{StoredChoice}

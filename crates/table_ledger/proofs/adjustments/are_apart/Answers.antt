@@ -1,5 +1,4 @@
-use Rattle.std.proofs.Common.{◌∙◌, ◌-◌, ◌<◌, ap, arith, sym, true≢false}
-use Rattle.std.specs.Ordering.{is_lt}
+use Rattle.std.proofs.Common.{◌∙◌, ◌-◌, ◌<◌, ap, arith, sym, true≢false, is_lt}
 use Rattle.table_ledger.proofs.RisingNames.{rise_at, rising_apart}
 use Rattle.table_ledger.proofs.adjustments.are_apart.Goals as goal
 

@@ -1,9 +1,7 @@
 use Rattle.std.proofs.Common.{◌≡◌, ◌∙◌, ◌++◌, [], List, Option, false, refl, slice_index_or, sym}
-use Rattle.std.proofs.Common.{ap, Vec, append-nil}
-use Rattle.std.specs.Global.{Global}
-use Rattle.std.specs.List.{cons_option}
-use Rattle.std.proofs.lemmas.List.{take_all}
+use Rattle.std.proofs.Common.{ap, Vec, append-nil, Global, take_all}
 use Rattle.std.proofs.lemmas.Result.{err_from_is_err_and}
+use Rattle.book_model.proofs.Std.{cons_option}
 use Rattle.book_model.specs.declared.line.Line.{Line}
 use Rattle.tree_tables.specs.declared.line_rows.StoredLine.{StoredLine}
 use Rattle.table_ledger.specs.LineReads.{lines_stored}
@@ -11,8 +9,8 @@ use Rattle.table_ledger.proofs.LineReadings.{line_more}
 use Rattle.table_ledger.proofs.TryLemmas.{looks_known, saw_found, saw_so, saw_then}
 use Rattle.table_ledger.proofs.OwnBooks.{fails_after_look}
 use Rattle.table_ledger.proofs.Refusals.{looks_failed_after, looks_failed_next}
-use Rattle.table_ledger.proofs.adjustments.read_lines.Goals as goal
 use Rattle.table_ledger.proofs.adjustments.read_lines.Goals.{in-Some+in_ok-push, in_default}
+use Rattle.table_ledger.proofs.adjustments.read_lines.Goals as goal
 
 pub returns-in_err-line-clause-looks : goal.returns-in_err-line-clause-looks
 returns-in_err-line-clause-looks g c =

@@ -1,5 +1,4 @@
-use Rattle.std.proofs.Common.{◌≡◌, ◌∙◌, ◌++◌, ℕ, List, ap, drop, length, take}
-use Rattle.std.proofs.lemmas.List.{take_at}
+use Rattle.std.proofs.Common.{◌≡◌, ◌∙◌, ◌++◌, ℕ, List, ap, drop, length, take, take_at}
 use Rattle.book_model.specs.declared.line.Line.{Line}
 use Rattle.book_model.specs.Words.{by_line, members, set_of}
 

@@ -1,15 +1,12 @@
-use Rattle.std.proofs.Common.{◌≡◌, ◌∙◌, ap, sym, true, false}
-use Rattle.std.specs.Prelude.{List}
-use Rattle.table_model.specs.PeriodLists.{lines_read}
-use Rattle.table_model.specs.ListsRead.{is_period}
+use Rattle.std.proofs.Common.{◌≡◌, ◌∙◌, ap, sym, true, false, List}
+use Rattle.table_model.specs.Words.{lines_read, is_period, tables_of}
 use Rattle.table_model.proofs.ListLemmas.{lists_follow}
 use Rattle.tree_tables.specs.declared.line_rows.StoredLine.{StoredLine}
 use Rattle.table_ledger.specs.LineReads.{lines_stored}
-use Rattle.book_core.specs.OfficeRulings.{ruled_in}
+use Rattle.book_core.specs.Words.{ruled_in}
 use Rattle.table_ledger.proofs.LineReadings.{lines_listed}
 use Rattle.table_ledger.proofs.ListReadings.{period_read}
 use Rattle.table_ledger.proofs.TryLemmas.{saw_found, saw_none, saw_then}
-use Rattle.table_model.specs.TablesOf.{tables_of}
 use Rattle.table_ledger.proofs.OwnBooks.{own_failed}
 use Rattle.table_ledger.proofs.BookLists.{own_lines, own_records, own_rise, own_shown}
 use Rattle.table_ledger.proofs.adjustments.try_adjustments.Goals as goal

@@ -1,5 +1,4 @@
-use Rattle.std.proofs.Common.{◌≡◌, take}
-use Rattle.std.specs.Prelude.{All, sum_by}
+use Rattle.std.proofs.Common.{◌≡◌, take, All, sum_by}
 use Rattle.book_model.specs.Words.{IsDay}
 use Rattle.table_ledger.specs.TotalsFit.{TotalsFit}
 use Rattle.table_ledger.proofs.charges.can_show.Given as goal

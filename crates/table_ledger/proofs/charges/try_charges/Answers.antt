@@ -1,10 +1,8 @@
 use Rattle.std.proofs.Common.{◌≡◌, ◌∙◌, sym, subst, true, false}
 use Rattle.book_model.specs.Words.{AreRows}
-use Rattle.table_model.specs.PeriodLists.{rows_read}
-use Rattle.table_model.specs.TablesOf.{tables_of}
-use Rattle.table_model.specs.ListsRead.{is_period}
+use Rattle.table_model.specs.Words.{rows_read, tables_of, is_period}
 use Rattle.table_model.proofs.ListLemmas.{lists_follow}
-use Rattle.book_core.specs.OfficeRulings.{ruled_in}
+use Rattle.book_core.specs.Words.{ruled_in}
 use Rattle.table_ledger.proofs.ListReadings.{period_read}
 use Rattle.table_ledger.proofs.BookLists.{own_days, own_rows}
 use Rattle.table_ledger.proofs.OwnBooks.{own_failed}

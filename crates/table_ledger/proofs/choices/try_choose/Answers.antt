@@ -1,5 +1,4 @@
-use Rattle.std.proofs.Common.{◌∙◌, ap, refl, sym}
-use Rattle.std.specs.Prelude.{nat_le, ◌==◌}
+use Rattle.std.proofs.Common.{◌∙◌, ap, refl, sym, nat_le, ◌==◌}
 use Rattle.book_model.specs.Words.{choose_outcome, if_done, most_choices, record_named}
 use Rattle.book_core.proofs.RulingLemmas.{meant_by}
 use Rattle.tree_tables.proofs.Looking.{any_err}

@@ -1,10 +1,7 @@
 use Rattle.std.proofs.Common.{◌≡◌, ◌∙◌, ℕ, Option, Some, None, ap, refl}
-use Rattle.std.specs.FinMap.{get}
-use Rattle.std.specs.Option.{option_map_or}
+use Rattle.book_model.proofs.Std.{get, option_map_or}
 use Rattle.book_core.specs.declared.effects.Effects.{Effects}
-use Rattle.table_model.specs.Steps.{put_choice_row}
-use Rattle.table_model.specs.TableChanges.{apply, charge_in}
-use Rattle.table_model.specs.Tables.{ChoiceTable, Tables}
+use Rattle.table_model.specs.Words.{put_choice_row, apply, charge_in, ChoiceTable, Tables}
 use Rattle.tree_tables.specs.States.{state}
 use Rattle.tree_tables.specs.Steps.{Does}
 use Rattle.table_ledger.specs.Premises.{IsNext}

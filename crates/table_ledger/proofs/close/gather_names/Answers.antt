@@ -1,7 +1,6 @@
 use Rattle.std.proofs.Common.{◌++◌, ◌∷◌, [], ℕ, List, Some}
-use Rattle.book_model.proofs.DayLemmas.{day_kept}
-use Rattle.table_ledger.proofs.PostedDetails.{GatheredSo}
-use Rattle.table_ledger.proofs.PostedDetails.{gathered_on}
+use Rattle.book_model.proofs.Lemmas.{day_kept}
+use Rattle.table_ledger.proofs.PostedDetails.{GatheredSo, gathered_on}
 use Rattle.table_ledger.proofs.TryLemmas.{saw_found, saw_so, saw_then}
 use Rattle.table_ledger.proofs.close.gather_names.Goals as goal
 

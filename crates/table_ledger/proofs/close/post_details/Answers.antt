@@ -1,8 +1,6 @@
-use Rattle.std.proofs.Common.{◌∙◌, arith, sym, vec_len}
-use Rattle.std.proofs.lemmas.Bool.{eqb-true}
+use Rattle.std.proofs.Common.{◌∙◌, arith, sym, vec_len, eqb-true}
 use Rattle.table_ledger.proofs.PostedDetails.{posted_all, posted_on}
-use Rattle.table_ledger.proofs.Walks.{walks_all}
-use Rattle.table_ledger.proofs.Walks.{walks_on}
+use Rattle.table_ledger.proofs.Walks.{walks_all, walks_on}
 use Rattle.table_ledger.proofs.close.post_details.Goals as goal
 
 -- none is left

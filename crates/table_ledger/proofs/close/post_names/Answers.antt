@@ -1,5 +1,4 @@
-use Rattle.std.proofs.Common.{ℕ, List, subst, sym}
-use Rattle.std.specs.List.Sorted.{IsPermutation}
+use Rattle.std.proofs.Common.{ℕ, List, subst, sym, IsPermutation}
 use Rattle.table_ledger.proofs.PostedDetails.{posted_order}
 use Rattle.table_ledger.proofs.StepLemmas.{does_so}
 use Rattle.table_ledger.proofs.close.post_names.Goals as goal

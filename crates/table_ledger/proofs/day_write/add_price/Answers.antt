@@ -1,9 +1,7 @@
-use Rattle.std.proofs.Common.{◌≡◌, ◌∙◌, [], ap, sym}
-use Rattle.std.specs.Prelude.{unwrap_or}
+use Rattle.std.proofs.Common.{◌≡◌, ◌∙◌, [], ap, sym, unwrap_or}
 use Rattle.book_model.specs.Words.{key_of, row_at}
-use Rattle.book_core.specs.KeyedRows.{with_price}
-use Rattle.table_model.specs.Steps.{put_day_row}
-use Rattle.table_model.specs.TablesOf.{row_key}
+use Rattle.book_core.specs.Words.{with_price}
+use Rattle.table_model.specs.Words.{put_day_row, row_key}
 use Rattle.table_ledger.proofs.DaySteps.{found_at, here_placed, joins}
 use Rattle.table_ledger.proofs.DayLooks.{day_stepped}
 use Rattle.table_ledger.proofs.day_write.add_price.Goals as goal

@@ -1,7 +1,6 @@
 use Rattle.std.proofs.Common.{◌∙◌, ap, sym}
-use Rattle.std.specs.FinMap.{get}
-use Rattle.table_model.specs.Steps.{put_day_row}
-use Rattle.table_model.specs.TablesOf.{row_key}
+use Rattle.book_model.proofs.Std.{get}
+use Rattle.table_model.specs.Words.{put_day_row, row_key}
 use Rattle.table_ledger.proofs.StepLemmas.{does_so}
 use Rattle.table_ledger.proofs.day_write.put_with.Goals as goal
 

@@ -1,8 +1,7 @@
 use Rattle.std.proofs.Common.{◌∙◌, ap, sym}
 use Rattle.book_model.specs.Words.{key_of}
-use Rattle.book_core.specs.KeyedRows.{with_price}
-use Rattle.table_model.specs.Steps.{put_day_row}
-use Rattle.table_model.specs.TablesOf.{row_key}
+use Rattle.book_core.specs.Words.{with_price}
+use Rattle.table_model.specs.Words.{put_day_row, row_key}
 use Rattle.table_ledger.proofs.DayLooks.{day_stepped, replaced, rest_placed}
 use Rattle.table_ledger.proofs.DaySteps.{found_at}
 use Rattle.table_ledger.proofs.day_write.replace_price.Goals as goal

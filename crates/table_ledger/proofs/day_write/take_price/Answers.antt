@@ -1,9 +1,7 @@
-use Rattle.std.proofs.Common.{◌∙◌, Some, ap, arith, sym}
-use Rattle.std.specs.Prelude.{◌==◌}
-use Rattle.std.proofs.lemmas.Bool.Decides.{nat_tests}
+use Rattle.std.proofs.Common.{◌∙◌, Some, ap, arith, sym, ◌==◌}
+use Rattle.book_model.proofs.Std.{nat_tests}
 use Rattle.book_model.specs.Words.{key_of}
-use Rattle.table_model.specs.Steps.{drop_day_row, put_day_row}
-use Rattle.table_model.specs.TablesOf.{row_key}
+use Rattle.table_model.specs.Words.{drop_day_row, put_day_row, row_key}
 use Rattle.table_ledger.proofs.DaySteps.{found_at, leaves, leaves_last}
 use Rattle.table_ledger.proofs.DayLooks.{day_stepped}
 use Rattle.table_ledger.proofs.day_write.take_price.Goals as goal

@@ -1,7 +1,5 @@
-use Rattle.std.proofs.Common.{◌∙◌, SFits, ap, rules, sym, true, w32}
-use Rattle.std.specs.Option.{option_map_or}
-use Rattle.std.specs.Prelude.{int_lt, not, ℤ}
-use Rattle.std.proofs.lemmas.Int.{to_z-of_z}
+use Rattle.std.proofs.Common.{◌∙◌, SFits, ap, rules, sym, true, w32, int_lt, not, ℤ}
+use Rattle.book_model.proofs.Std.{option_map_or, to_z-of_z}
 use Rattle.tree_tables.specs.Details.{DetailsFit}
 use Rattle.table_ledger.proofs.DetailTries.{sought_found, sought_none, sought_on, sought_past}
 use Rattle.table_ledger.proofs.OwnBooks.{fails_after_look}

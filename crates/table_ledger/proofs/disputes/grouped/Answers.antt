@@ -1,11 +1,9 @@
-use Rattle.std.proofs.Common.{◌≡◌, ◌∙◌, List, Vec, ap, map, not, subst, sym}
-use Rattle.std.specs.Global.{Global}
-use Rattle.std.specs.List.{list_any}
-use Rattle.std.specs.Prelude.{Bool, if◌then◌else◌}
+use Rattle.std.proofs.Common.{◌≡◌, ◌∙◌, List, Vec, ap, map, not, subst, sym, Global, Bool}
+use Rattle.std.proofs.Common.{if◌then◌else◌}
+use Rattle.book_model.proofs.Std.{list_any}
 use Rattle.book_model.specs.Words.{AreDisputes, Disputed, dispute_shown}
 use Rattle.book_model.specs.declared.dispute.Dispute.{Dispute}
-use Rattle.table_model.specs.Views.{rows_with}
-use Rattle.table_model.specs.DisputesRead.{has_none_charged, join_last}
+use Rattle.table_model.specs.Words.{rows_with, has_none_charged, join_last}
 use Rattle.tree_tables.specs.Answers.{is_charged}
 use Rattle.tree_tables.specs.Stored.{stored_entry}
 use Rattle.tree_tables.specs.declared.stored_record.StoredRecord.{StoredRecord}
@@ -13,8 +11,8 @@ use Rattle.table_ledger.specs.DisputeReads.{IsShownRow}
 use Rattle.table_ledger.proofs.JoinLemmas.{grouped_more}
 use Rattle.table_ledger.proofs.OwnBooks.{fails_after_look}
 use Rattle.table_ledger.proofs.TryLemmas.{saw_found, saw_so, saw_then}
-use Rattle.table_ledger.proofs.disputes.grouped.Goals as goal
 use Rattle.table_ledger.proofs.disputes.grouped.Goals.{then-not-branch+in_ok-join, else-not-branch}
+use Rattle.table_ledger.proofs.disputes.grouped.Goals as goal
 
 -- why it is not known whether another of the identity is charged, after the earlier rows
 pub returns-in_err-has_charged-clause-cause : goal.returns-in_err-has_charged-clause-cause

@@ -1,7 +1,6 @@
-use Rattle.std.proofs.Common.{◌≡◌, map, take}
-use Rattle.std.specs.Prelude.{filter}
+use Rattle.std.proofs.Common.{◌≡◌, map, take, filter}
 use Rattle.book_model.specs.Words.{AreDisputes, dispute_shown}
-use Rattle.table_model.specs.DisputesRead.{grouped, has_none_charged}
+use Rattle.table_model.specs.Words.{grouped, has_none_charged}
 use Rattle.tree_tables.specs.States.{state}
 use Rattle.tree_tables.specs.Stored.{stored_entry}
 use Rattle.table_ledger.specs.Commits.{Saw}

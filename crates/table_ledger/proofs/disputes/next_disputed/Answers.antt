@@ -1,7 +1,6 @@
-use Rattle.std.proofs.Common.{ap, subst, sym}
-use Rattle.std.specs.List.{list_any}
-use Rattle.std.proofs.Common.{◌∙◌}
-use Rattle.table_model.specs.Views.{rows_with}
+use Rattle.std.proofs.Common.{ap, subst, sym, ◌∙◌}
+use Rattle.book_model.proofs.Std.{list_any}
+use Rattle.table_model.specs.Words.{rows_with}
 use Rattle.tree_tables.specs.Answers.{is_charged}
 use Rattle.tree_tables.specs.Steps.{Always}
 use Rattle.table_ledger.proofs.DisputeTries.{PassedTo, next_is, passed_none, passed_on}

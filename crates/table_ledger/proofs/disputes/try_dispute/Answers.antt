@@ -1,5 +1,4 @@
-use Rattle.std.proofs.Common.{refl, subst, sym}
-use Rattle.std.specs.Prelude.{All}
+use Rattle.std.proofs.Common.{refl, subst, sym, All}
 use Rattle.book_model.specs.Words.{dispute_outcome}
 use Rattle.tree_tables.specs.States.{state}
 use Rattle.tree_tables.specs.Stored.{stored_entry}
@@ -11,7 +10,7 @@ use Rattle.table_ledger.proofs.BookRows.{taken_shown, taken_usage}
 use Rattle.table_ledger.proofs.DisputeTries.{made_shows, none_left, one_left, own_memory}
 use Rattle.table_ledger.proofs.OwnBooks.{own_failed}
 use Rattle.table_ledger.proofs.TryLemmas.{saw_found, saw_none, saw_then, try_answered}
-use Rattle.table_model.specs.TablesOf.{tables_of}
+use Rattle.table_model.specs.Words.{tables_of}
 use Rattle.table_ledger.proofs.disputes.try_dispute.Goals as goal
 
 pub returns-in_err-identity-clause-own : goal.returns-in_err-identity-clause-own

@@ -1,8 +1,6 @@
-use Rattle.std.proofs.Common.{◌∙◌, Some, ap, sym}
-use Rattle.std.specs.FinMap.{get}
-use Rattle.std.specs.Option.{option_map}
-use Rattle.table_model.specs.Tables.{RecordRow}
-use Rattle.table_model.specs.Views.{member_at}
+use Rattle.std.proofs.Common.{◌∙◌, Some, ap, sym, option_map}
+use Rattle.book_model.proofs.Std.{get}
+use Rattle.table_model.specs.Words.{RecordRow, member_at}
 use Rattle.tree_tables.specs.Stored.{stored_entry}
 use Rattle.table_ledger.proofs.ChoiceTries.{found_row}
 use Rattle.table_ledger.proofs.TryLemmas.{looks_known, saw_found}

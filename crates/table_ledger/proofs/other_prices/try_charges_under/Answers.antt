@@ -1,11 +1,10 @@
 use Rattle.std.proofs.Common.{◌∙◌, sym, subst}
 use Rattle.book_model.specs.Words.{AreRows}
-use Rattle.table_model.specs.TablesOf.{tables_of}
+use Rattle.table_model.specs.Words.{tables_of}
 use Rattle.table_ledger.proofs.BookLists.{own_days, own_lines, own_walk}
 use Rattle.table_ledger.proofs.OwnBooks.{own_failed}
 use Rattle.table_ledger.proofs.TryLemmas.{saw_found, saw_none}
-use Rattle.table_ledger.proofs.WhatIfTries.{what_if_found, what_if_full}
-use Rattle.table_ledger.proofs.WhatIfTries.{what_if_shown}
+use Rattle.table_ledger.proofs.WhatIfTries.{what_if_found, what_if_full, what_if_shown}
 use Rattle.table_ledger.proofs.other_prices.try_charges_under.Goals as goal
 
 pub returns-in_default-clause-tries : goal.returns-in_default-clause-tries

@@ -1,7 +1,6 @@
 use Rattle.tree_tables.specs.States.{state}
 use Rattle.table_ledger.proofs.LatePrices.{priced_all, priced_first, priced_next, priced_stays}
-use Rattle.table_ledger.proofs.Walks.{walks_all, walks_none}
-use Rattle.table_ledger.proofs.Walks.{walks_on}
+use Rattle.table_ledger.proofs.Walks.{walks_all, walks_none, walks_on}
 use Rattle.table_ledger.proofs.repricing.reprice_late.Goals as goal
 
 pub records-init : goal.records-init

@@ -1,7 +1,6 @@
-use Rattle.std.proofs.Common.{◌∙◌, [], ap, refl, rules, sym, unwrap_or}
-use Rattle.std.specs.Prelude.{is_some}
+use Rattle.std.proofs.Common.{◌∙◌, [], ap, refl, rules, sym, unwrap_or, is_some}
 use Rattle.book_model.specs.Words.{row_at}
-use Rattle.book_core.specs.KeyedRows.{with_price}
+use Rattle.book_core.specs.Words.{with_price}
 use Rattle.book_core.proofs.KeyedRowLemmas.{price_joined}
 use Rattle.table_ledger.proofs.OtherPriceLemmas.{price_fits, row_at_found}
 use Rattle.table_ledger.proofs.row_sums.add_price.Goals as goal

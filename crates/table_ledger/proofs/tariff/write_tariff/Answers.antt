@@ -1,9 +1,8 @@
 use Rattle.std.proofs.Common.{◌∙◌, Ok, Some, sym}
-use Rattle.std.specs.FinMap.{keys}
-use Rattle.table_model.specs.Steps.{put_tariff_row, set_sums}
-use Rattle.table_model.specs.TableChanges.{reprice_step, walk}
+use Rattle.book_model.proofs.Std.{keys}
+use Rattle.table_model.specs.Words.{put_tariff_row, set_sums, reprice_step, walk}
 use Rattle.table_ledger.proofs.StepLemmas.{does_so, does_then}
-use Rattle.book_model.proofs.DayLemmas.{day_kept}
+use Rattle.book_model.proofs.Lemmas.{day_kept}
 use Rattle.table_ledger.proofs.tariff.write_tariff.Goals as goal
 
 -- the prices, the tariff's row and the sums

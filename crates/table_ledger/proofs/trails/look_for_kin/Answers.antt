@@ -1,6 +1,5 @@
-use Rattle.std.proofs.Common.{◌∙◌, ap, map, subst, sym}
-use Rattle.std.specs.Prelude.{All}
-use Rattle.table_model.specs.DisputesRead.{variant_read}
+use Rattle.std.proofs.Common.{◌∙◌, ap, map, subst, sym, All}
+use Rattle.table_model.specs.Words.{variant_read}
 use Rattle.tree_tables.specs.States.{state}
 use Rattle.tree_tables.specs.Stored.{stored_entry}
 use Rattle.tree_tables.specs.UsageData.{IsUsageData}

@@ -1,5 +1,4 @@
-use Rattle.std.proofs.Common.{◌≡◌, List, subst, sym}
-use Rattle.std.specs.List.Sorted.{IsPermutation}
+use Rattle.std.proofs.Common.{◌≡◌, List, subst, sym, IsPermutation}
 use Rattle.table_ledger.specs.FirstForm.{names_of, names_read, uncounted}
 use Rattle.table_ledger.specs.declared.upgrading.Counted.{Counted}
 use Rattle.table_ledger.proofs.CountedList.{details_told}

@@ -1,6 +1,5 @@
-use Rattle.std.proofs.Common.{◌≡◌, ◌∙◌, SFits, arith, rules, sym, subst, w32}
-use Rattle.std.specs.Prelude.{ℤ, ◌+ℤ◌, pos}
-use Rattle.std.proofs.lemmas.Int.{ints, to_z-of_z}
+use Rattle.std.proofs.Common.{◌≡◌, ◌∙◌, SFits, arith, rules, sym, subst, w32, ℤ, ◌+ℤ◌, pos}
+use Rattle.book_model.proofs.Std.{ints, to_z-of_z}
 use Rattle.tree_tables.specs.declared.detail_rows.DetailStart.TheVariants.{Centre}
 use Rattle.table_ledger.specs.DetailReads.{GoesOn}
 use Rattle.table_ledger.proofs.DetailTries.{on_its_day, on_the_next}

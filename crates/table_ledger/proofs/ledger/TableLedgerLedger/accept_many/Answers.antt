@@ -1,13 +1,11 @@
-use Rattle.std.proofs.Common.{sym, subst, take, Vec, Global, ℕ, true≢false}
-use Rattle.std.specs.Prelude.{All}
+use Rattle.std.proofs.Common.{sym, subst, take, Vec, Global, ℕ, true≢false, All}
 use Rattle.std.proofs.lemmas.List.Elements.{All-take}
-use Rattle.book_model.specs.Words.{IsUsageRecord}
-use Rattle.book_core.specs.Submissions.{Takes, records_in}
+use Rattle.book_model.specs.Words.{IsUsageRecord, accept_outcome}
+use Rattle.book_core.specs.Words.{Takes, records_in}
 use Rattle.book_core.proofs.SubmissionLemmas.{takes_part}
 use Rattle.book_core.proofs.TransitionLemmas.{work_as}
 use Rattle.table_ledger.specs.IdleCalls.{LeavesBook, LeavesEach}
 use Rattle.table_ledger.specs.LedgerState.{ledger_state, seen_on}
-use Rattle.book_model.specs.Words.{accept_outcome}
 use Rattle.table_ledger.specs.Stages.{most_in_commit}
 use Rattle.table_ledger.proofs.IdleCalls.{idle_settled}
 use Rattle.table_ledger.proofs.OneCall.{many_come, many_reopen}
