@@ -1,18 +1,15 @@
 -- A rule of identity that is tried: what it answers, and what it writes.
 use Rattle.std.proofs.Common.{◌≡◌, ◌∙◌, ℕ, refl, sym, ap, Bool, true, false, Option, Some, Ok, Err}
 use Rattle.std.proofs.Common.{ℤ, if◌then◌else◌, ◌==◌, eqb-true}
-use Rattle.sqlite_trees.specs.View.{View}
 use Rattle.book_model.specs.Words.{Book, Naming, RulingGiven, Rulings, SecondRuleAdopted}
 use Rattle.book_model.specs.Words.{adopt_answer, adopt_outcome, if_done, last_close, open_by}
 use Rattle.book_model.specs.Words.{rule_by, second_rule, with_second_rule}
-use Rattle.book_model.specs.declared.answer.Ruled.{Ruled}
-use Rattle.book_model.specs.declared.answer.Ruled.TheVariants.{Done, Already}
+use Rattle.book_model.specs.declared.answer.Ruled.TheVariants.{Already}
 use Rattle.book_model.specs.declared.fault.LedgerFault.TheVariants.{OldRule}
 use Rattle.book_core.specs.Words.{ruled_in}
 use Rattle.table_model.specs.Changed.{adopted_at}
 use Rattle.table_model.specs.Words.{tables_of}
-use Rattle.tree_tables.specs.Steps.{Always}
-use Rattle.table_ledger.specs.Stages.{IsAt}
+use Rattle.table_ledger.proofs.Words.{View, Ruled, Done, Always, IsAt}
 use Rattle.table_ledger.specs.declared.summary.Summary.{Summary}
 use Rattle.table_ledger.proofs.Remembered.{Says}
 use Rattle.table_ledger.proofs.StageLemmas.{IsEvent}

@@ -1,15 +1,11 @@
 -- Answers that make no event.
 use Rattle.std.proofs.Common.{◌≡◌, ◌≢◌, ◌∙◌, inl, Ok, Err, Result, [], None, refl, sym, ap, subst}
-use Rattle.book_model.specs.declared.answer.Ruled.{Ruled}
-use Rattle.book_model.specs.declared.answer.Ruled.TheVariants.{Done, Already}
-use Rattle.book_model.specs.declared.fault.LedgerFault.{LedgerFault}
-use Rattle.book_model.specs.declared.fault.LedgerFault.TheVariants.{Memory, Store, Reopen}
+use Rattle.book_model.specs.declared.answer.Ruled.TheVariants.{Already}
 use Rattle.book_model.specs.Words.{Book, Naming, Outcome}
 use Rattle.book_core.specs.Words.{LeavesOpen, Makes, listed}
 use Rattle.table_model.specs.Words.{Tables, tables_of}
-use Rattle.tree_tables.specs.States.{State}
-use Rattle.table_ledger.specs.Commits.{Saw}
-use Rattle.table_ledger.specs.Stages.{AttemptsOne, IsAt}
+use Rattle.table_ledger.proofs.Words.{Ruled, Done, LedgerFault, Memory, Store, Reopen, State, Saw}
+use Rattle.table_ledger.proofs.Words.{AttemptsOne, IsAt}
 use Rattle.table_ledger.specs.declared.summary.Summary.{Summary}
 use Rattle.table_ledger.proofs.TryLemmas.{try_answered}
 

@@ -2,28 +2,21 @@
 use Rattle.std.proofs.Common.{◌≡◌, ◌∙◌, ℕ, Bool, List, [], ◌∷◌, Option, None, Some, map, sym, ap}
 use Rattle.std.proofs.Common.{subst, refl, true, option_map, Less}
 use Rattle.std.specs.List.Sorted.{IsStrictlySortedBy}
-use Rattle.sqlite_trees.specs.View.{View}
 use Rattle.sqlite_trees.proofs.ListLemmas.{map-map}
 use Rattle.book_model.proofs.Std.{get, AllByRecursion, cons_option}
 use Rattle.book_model.specs.Words.{AreLines, AreRows, Book, Naming, by_bytes, by_line, members}
 use Rattle.book_model.specs.Words.{set_of}
-use Rattle.book_model.specs.declared.line.Line.{Line}
-use Rattle.book_model.specs.declared.row.ChargeRow.{ChargeRow}
 use Rattle.table_model.specs.Words.{rows_under, RecordRow, RecordTable, tables_of, is_period}
 use Rattle.table_model.specs.Words.{IsReadable}
-use Rattle.table_model.proofs.CountedLemmas.{counted_follows}
 use Rattle.table_model.proofs.ShownDisputes.{lists_show}
 use Rattle.table_model.specs.DisputesRead.{IsNextDisputed}
-use Rattle.tree_tables.specs.Answers.{ListsDays, ListsLines, ListsSharing, ListsUncharged}
+use Rattle.tree_tables.specs.Answers.{ListsDays, ListsUncharged}
 use Rattle.tree_tables.specs.Fits.{DaysFit, LinesFit}
-use Rattle.tree_tables.specs.Stored.{signed_name}
-use Rattle.tree_tables.specs.declared.line_rows.StoredLine.{StoredLine}
-use Rattle.tree_tables.specs.declared.stored_record.StoredRecord.{StoredRecord}
-use Rattle.table_ledger.specs.DisputeReads.{IsIdentity}
-use Rattle.table_ledger.specs.LineReads.{NamesRise, lines_stored}
+use Rattle.table_ledger.proofs.Words.{View, Line, ChargeRow, counted_follows, ListsLines}
+use Rattle.table_ledger.proofs.Words.{ListsSharing, signed_name, StoredLine, StoredRecord}
+use Rattle.table_ledger.proofs.Words.{IsIdentity, lines_stored, IsReadyAt, CanBeRead, HasWideNames}
+use Rattle.table_ledger.specs.LineReads.{NamesRise}
 use Rattle.table_ledger.specs.OtherPrices.{CanBeWalked}
-use Rattle.table_ledger.specs.Ready.{IsReadyAt}
-use Rattle.table_ledger.specs.RecordReads.{CanBeRead, HasWideNames}
 use Rattle.book_core.specs.Words.{ruled_in}
 use Rattle.table_ledger.specs.declared.summary.Summary.{Summary}
 use Rattle.table_ledger.proofs.LineReadings.{line_with, lines_listed}

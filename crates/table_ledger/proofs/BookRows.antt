@@ -14,8 +14,6 @@ use Rattle.book_model.specs.Words.{data_of, Priced, AreAmong, Book, IsUsage, Nam
 use Rattle.book_model.specs.Words.{Records, all_periods, by_bytes, by_key, has, key_of, keys_of}
 use Rattle.book_model.specs.Words.{members, most_held, name_of, price_in, row_at, rows_of}
 use Rattle.book_model.specs.Words.{same_bytes, set_of, Set}
-use Rattle.book_model.specs.declared.row.ChargeRow.{ChargeRow}
-use Rattle.book_model.specs.declared.row.RowKey.{RowKey}
 use Rattle.table_model.proofs.IdentityLengths.{identity_by-long}
 use Rattle.book_model.proofs.Lemmas.{by_key_total, members-those, length-sum_by, keys_rise}
 use Rattle.table_model.specs.Words.{rows_under, under, RecordRow, line_entries, signed_names}
@@ -25,24 +23,20 @@ use Rattle.table_model.proofs.PeriodReading.{read-period}
 use Rattle.table_model.proofs.RowReading.{rows_follow}
 use Rattle.table_model.proofs.RowsWhere.{those_among}
 use Rattle.table_model.specs.Fits.{DayFits}
-use Rattle.table_model.proofs.CountedLemmas.{counted_follows}
-use Rattle.table_model.proofs.FitsLemmas.{numbers_fit}
 use Rattle.table_model.proofs.Finding.{get_one}
 use Rattle.table_model.proofs.ListLemmas.{period_held}
 use Rattle.table_model.proofs.ListOrder.{all_joined}
 use Rattle.table_model.proofs.PriceSums.{costs, given_few, some_within}
 use Rattle.table_model.proofs.RecordReading.{entry_at, every_row}
 use Rattle.tree_rows.specs.Runs.{RowsFit}
-use Rattle.tree_tables.specs.Answers.{ListsSharing, ListsUncharged, is_uncharged}
-use Rattle.tree_tables.specs.Columns.{day_columns, line_columns, record_columns}
+use Rattle.tree_tables.specs.Answers.{ListsUncharged, is_uncharged}
+use Rattle.tree_tables.specs.Columns.{day_columns, line_columns}
 use Rattle.tree_tables.specs.Fits.{ChargeFits, DaysFit, LineFits, LinesFit, RecordFits}
-use Rattle.tree_tables.specs.Stored.{stored_entry}
-use Rattle.tree_tables.specs.declared.stored_record.StoredRecord.{StoredRecord}
 use Rattle.tree_tables.proofs.Layouts.{day_layout, record_layout}
 use Rattle.tree_tables.proofs.RowsRead.{all_entries as each_of}
-use Rattle.table_ledger.specs.DisputeReads.{IsShownRow}
-use Rattle.table_ledger.specs.RecordReads.{CanBeRead, HasWideNames}
-use Rattle.tree_tables.specs.UsageData.{IsUsageData}
+use Rattle.table_ledger.proofs.Words.{ChargeRow, RowKey, counted_follows, numbers_fit, ListsSharing}
+use Rattle.table_ledger.proofs.Words.{record_columns, stored_entry, StoredRecord, IsShownRow}
+use Rattle.table_ledger.proofs.Words.{CanBeRead, HasWideNames, IsUsageData}
 
 -- ---- how many there are
 

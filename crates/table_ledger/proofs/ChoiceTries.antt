@@ -2,16 +2,12 @@
 use Rattle.std.proofs.Common.{◌≡◌, ◌∙◌, ℕ, ◌+◌, List, length, refl, sym, ap, subst, Bool, Ok, Err}
 use Rattle.std.proofs.Common.{Option, None, Some, Result, arith, ℤ, nat_le, ◌==◌, option_map}
 use Rattle.std.proofs.Common.{length-append}
-use Rattle.sqlite_trees.specs.View.{View}
-use Rattle.sqlite_trees.specs.declared.error.StoreError.{StoreError}
 use Rattle.book_model.proofs.Std.{nat_cmp_total, get, get-from_entries, option_map_or}
 use Rattle.book_core.specs.Words.{choice_effects, ruled_in, LeavesOpen}
 use Rattle.book_core.specs.declared.effects.ChoiceEffects.{ChoiceEffects}
 use Rattle.book_model.specs.Words.{Book, Naming, RecordChosen, last_close, open_by, choose_answer}
 use Rattle.book_model.specs.Words.{choose_outcome, chosen_answer, if_done, most_choices}
 use Rattle.book_model.specs.Words.{RulingGiven, record_named}
-use Rattle.book_model.specs.declared.answer.Ruled.{Ruled}
-use Rattle.book_model.specs.declared.answer.Ruled.TheVariants.{Done}
 use Rattle.book_model.specs.declared.fault.LedgerFault.TheVariants.{NoSuchRecord}
 use Rattle.table_model.specs.Changed.{chosen_at}
 use Rattle.table_model.specs.Words.{put_choice, RecordRow, Tables, choice_entries, tables_of}
@@ -20,19 +16,15 @@ use Rattle.table_model.proofs.ChoiceChanges.{choice_free}
 use Rattle.table_model.specs.RulingsRead.{chosen_by, choose_row}
 use Rattle.table_model.proofs.ChoiceLemmas.{choices_follow}
 use Rattle.table_model.proofs.ChoiceReading.{choices_count}
-use Rattle.tree_tables.specs.Answers.{CountsSharing, FindsRecord}
-use Rattle.tree_tables.specs.States.{HasCleanDisk, State}
-use Rattle.tree_tables.specs.Steps.{Does, Looks}
-use Rattle.tree_tables.specs.Stored.{stored_entry}
-use Rattle.tree_tables.specs.declared.stored_record.StoredRecord.{StoredRecord}
-use Rattle.table_ledger.specs.Commits.{Saw}
+use Rattle.tree_tables.specs.Answers.{CountsSharing}
+use Rattle.table_ledger.proofs.Words.{View, StoreError, Ruled, Done, FindsRecord, HasCleanDisk}
+use Rattle.table_ledger.proofs.Words.{State, Does, Looks, stored_entry, StoredRecord, Saw}
+use Rattle.table_ledger.proofs.Words.{LeavesBook, IsAt, LeavesOne, MakesOf, StagesBy, opens}
 use Rattle.table_ledger.specs.Premises.{IsNext}
 use Rattle.table_ledger.specs.ChoiceReads.{FindsChoiceEffects}
-use Rattle.table_ledger.specs.IdleCalls.{LeavesBook}
-use Rattle.table_ledger.specs.Stages.{IsAt, LeavesOne, MakesOf, StagesBy}
 use Rattle.table_ledger.specs.declared.summary.Summary.{Summary}
 use Rattle.table_ledger.proofs.AcceptTries.{none_found, saw_as}
-use Rattle.book_core.proofs.OpenAnswers.{opens, opens_if}
+use Rattle.book_core.proofs.OpenAnswers.{opens_if}
 use Rattle.table_ledger.proofs.Remembered.{Says}
 use Rattle.table_ledger.proofs.StageLemmas.{IsEvent, stage_steps}
 use Rattle.table_ledger.proofs.TryLemmas.{saw_found, saw_so, saw_then}

@@ -4,10 +4,8 @@ use Rattle.std.proofs.Common.{◌≡◌, ◌∙◌, ◌+◌, ◌<◌, ℕ, List,
 use Rattle.std.proofs.Common.{ap, subst, Bool, true, false, cond, not, ◌&&◌, ◌||◌, Some, take}
 use Rattle.std.proofs.Common.{get_or, append-nil, filter, flat_map, IsPermutation, nat_cmp}
 use Rattle.std.proofs.Common.{Ordering, Less, append_assoc}
-use Rattle.std.specs.FinMap.{find}
 use Rattle.std.specs.List.{IsDistinct}
 use Rattle.std.specs.List.Sorted.{IsStrictlySortedBy}
-use Rattle.std.specs.Map.{lookup}
 use Rattle.std.proofs.lemmas.List.Sorted.{IsPermutation-append_right, IsPermutation-filter_both}
 use Rattle.sqlite_trees.proofs.ListLemmas.{map-map}
 use Rattle.book_model.proofs.Std.{IsTotalOrder, nat_cmp_total, entries, entries_sorted, get-entries}
@@ -28,11 +26,10 @@ use Rattle.table_model.specs.Words.{NamedRow, choices_with}
 use Rattle.table_model.specs.TrailRead.{row_choice}
 use Rattle.table_model.proofs.PickedRows.{filter-nothing}
 use Rattle.table_model.proofs.RowOrder.{list_any-filter}
-use Rattle.tree_tables.specs.Answers.{ListsChosen, ListsSharing, names_it}
-use Rattle.tree_tables.specs.Stored.{choice_entry, stored_entry}
-use Rattle.tree_tables.specs.declared.choice_rows.StoredChoice.{StoredChoice}
-use Rattle.tree_tables.specs.declared.stored_record.StoredRecord.{StoredRecord}
-use Rattle.table_ledger.specs.TrailReads.{AreInOrder, by_number, choice_told, chosen_of}
+use Rattle.tree_tables.specs.Answers.{ListsChosen, names_it}
+use Rattle.table_ledger.proofs.Words.{find, lookup, ListsSharing, choice_entry, stored_entry}
+use Rattle.table_ledger.proofs.Words.{StoredChoice, StoredRecord, choice_told}
+use Rattle.table_ledger.specs.TrailReads.{AreInOrder, by_number, chosen_of}
 
 -- a choice under its number
 abbrev Entry : Type 0

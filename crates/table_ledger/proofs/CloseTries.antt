@@ -2,12 +2,9 @@
 use Rattle.std.proofs.Common.{◌≡◌, ◌∙◌, ℕ, suc, ◌+◌, ◌≤◌, List, [], ◌∷◌, length, refl, sym, ap}
 use Rattle.std.proofs.Common.{false, Ok, Option, None, Some, arith, cond, is_some, map, subst, ℤ}
 use Rattle.std.proofs.Common.{Ordering, length-append}
-use Rattle.std.specs.FinMap.{find}
 use Rattle.book_model.specs.Words.{IsDay, Book, all_periods, open_number, open_period, PeriodClosed}
 use Rattle.book_model.specs.Words.{close_outcome, if_done, Naming, by_key, close_answer, IsSound}
 use Rattle.book_model.specs.Words.{last_close, with_close}
-use Rattle.book_model.specs.declared.answer.Ruled.{Ruled}
-use Rattle.book_model.specs.declared.answer.Ruled.TheVariants.{Done}
 use Rattle.book_model.proofs.Lemmas.{else_find, find-both, by_key_total, closed_open}
 use Rattle.book_core.specs.Words.{ruled_in}
 use Rattle.table_model.specs.Words.{closed_at, by_period, under, numbered, PostsTouched, tables_of}
@@ -15,11 +12,10 @@ use Rattle.table_model.specs.Words.{day_entries}
 use Rattle.table_model.proofs.MoveLemmas.{not_number}
 use Rattle.table_model.proofs.NumberedLemmas.{by_period_total, find-under, is_number}
 use Rattle.table_model.proofs.TouchedRecords.{posts_few}
-use Rattle.sqlite_trees.specs.View.{View}
 use Rattle.book_model.proofs.Std.{get-from_entries, length-map}
 use Rattle.tree_tables.specs.Days.{NoneNext}
 use Rattle.table_ledger.specs.Posting.{CanClose}
-use Rattle.table_ledger.specs.Stages.{IsAt}
+use Rattle.table_ledger.proofs.Words.{find, Ruled, Done, View, IsAt}
 use Rattle.table_ledger.specs.declared.summary.Summary.{Summary}
 use Rattle.table_ledger.proofs.Remembered.{Says}
 use Rattle.table_ledger.proofs.StageLemmas.{IsEvent}

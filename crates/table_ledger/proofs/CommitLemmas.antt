@@ -1,15 +1,11 @@
 -- What was staged in a transaction is committed, or not.
 use Rattle.std.proofs.Common.{List, Result, Ok, Err, sym, ap, subst, IsErr}
-use Rattle.sqlite_trees.specs.View.{View}
-use Rattle.sqlite_trees.specs.declared.error.StoreError.{StoreError}
-use Rattle.sqlite_trees.specs.declared.store.Store.{Ghosts}
-use Rattle.book_model.specs.declared.fault.LedgerFault.{LedgerFault}
 use Rattle.book_model.specs.Words.{Book, Event, after_all, Naming}
-use Rattle.tree_tables.specs.States.{State, Survives, state}
 use Rattle.tree_tables.specs.Steps.{MayCommit}
 use Rattle.table_ledger.specs.Commits.{CommitsWritten}
-use Rattle.table_ledger.specs.Ready.{IsStoredIn, Remembers}
-use Rattle.table_ledger.specs.Stages.{StagesBy, MayKeepBy, AttemptsBy}
+use Rattle.table_ledger.proofs.Words.{View, StoreError, Ghosts, LedgerFault, State, Survives, state}
+use Rattle.table_ledger.proofs.Words.{IsStoredIn, Remembers, StagesBy, AttemptsBy}
+use Rattle.table_ledger.specs.Stages.{MayKeepBy}
 use Rattle.table_ledger.specs.declared.summary.Summary.{Summary}
 use Rattle.table_ledger.proofs.StepLemmas.{rests, stands_only}
 use Rattle.table_ledger.proofs.SurvivalLemmas.{clean_before, survives_both, survives_so}

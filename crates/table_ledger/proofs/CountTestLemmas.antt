@@ -4,15 +4,12 @@ use Rattle.std.proofs.Common.{sym, ap, true, false, Bool, cond, Option, Some, No
 use Rattle.std.proofs.Common.{slice_index_or, take, unwrap_or, ◌++◌, filter, nat_le, not, ◌==◌}
 use Rattle.std.proofs.Common.{◌&&◌, is_eq, nat_cmp, Ordering, Less, Equal, Greater}
 use Rattle.book_model.proofs.Lemmas.{else_find, find-both}
-use Rattle.std.specs.FinMap.{find}
 use Rattle.book_model.proofs.Std.{eq_by_cmp_equiv, nat_list_cmp_total, map-append, take_more}
 use Rattle.book_model.proofs.Std.{exact_bytes, tells_apart, entries, get, get-entries, option_or}
 use Rattle.book_model.proofs.Std.{eq_by_cmp, ordering_then, nat_tests}
 use Rattle.book_model.specs.Words.{Rulings, by_bytes, open_by}
 use Rattle.table_model.specs.Words.{by_period, LineTable, Tables, first_line, is_period}
-use Rattle.tree_tables.specs.Answers.{ListsLines}
-use Rattle.tree_tables.specs.Stored.{signed_name}
-use Rattle.tree_tables.specs.declared.line_rows.StoredLine.{StoredLine}
+use Rattle.table_ledger.proofs.Words.{find, ListsLines, signed_name, StoredLine}
 
 -- nothing else is found
 or_none : {X : Type 0} (found : Option X) → option_or found None ≡ found

@@ -4,10 +4,8 @@ use Rattle.std.proofs.Common.{◌≡◌, ◌∙◌, ◌+◌, ◌-◌, ℕ, List,
 use Rattle.std.proofs.Common.{◌||◌, Option, map, length, refl, sym, ap, subst, inl, inr, is_some}
 use Rattle.std.proofs.Common.{append-nil, append_assoc, arith, if◌then◌else◌, IsPermutation}
 use Rattle.std.proofs.Math.Bool.{or-false}
-use Rattle.std.specs.FinMap.{find, get-empty}
+use Rattle.std.specs.FinMap.{get-empty}
 use Rattle.std.proofs.lemmas.Bool.{cases_Bool}
-use Rattle.sqlite_trees.specs.View.{View}
-use Rattle.sqlite_value.specs.Order.{Row}
 use Rattle.book_model.proofs.Std.{entries, list_any, option_or, nat_list_cmp_total, length-map}
 use Rattle.book_model.proofs.Std.{map-append, filter-append, IsPermutation-map, IsPermutation-sym}
 use Rattle.book_model.proofs.Std.{list_any-IsPermutation}
@@ -15,14 +13,12 @@ use Rattle.book_model.specs.Words.{by_bytes, has, set_of}
 use Rattle.book_model.proofs.Lemmas.{has_with, is, same_records, has-set_of}
 use Rattle.table_model.specs.Words.{charged_before_lines, first_line, NamedRow, count_row, Tables}
 use Rattle.table_model.proofs.WalkLemmas.{or_turn}
-use Rattle.tree_tables.specs.Answers.{ListsCloses, ListsLines}
-use Rattle.tree_tables.specs.Columns.{record_columns}
+use Rattle.tree_tables.specs.Answers.{ListsCloses}
 use Rattle.tree_tables.specs.Passes.{HasRecordsLeft, TakesFirst, TakesNext}
-use Rattle.tree_tables.specs.Stored.{close_entry, signed_name}
-use Rattle.tree_tables.specs.declared.closed_rows.Close.{Close}
-use Rattle.tree_tables.specs.declared.line_rows.StoredLine.{StoredLine}
-use Rattle.table_ledger.specs.FirstForm.{AddsCounted, count_each, names_by, names_of, names_read}
-use Rattle.table_ledger.specs.FirstForm.{open_read, uncounted, with_details}
+use Rattle.table_ledger.proofs.Words.{find, View, Row, ListsLines, record_columns, close_entry}
+use Rattle.table_ledger.proofs.Words.{signed_name, Close, StoredLine, names_of, uncounted}
+use Rattle.table_ledger.specs.FirstForm.{AddsCounted, count_each, names_by, names_read, open_read}
+use Rattle.table_ledger.specs.FirstForm.{with_details}
 use Rattle.table_ledger.specs.declared.upgrading.Counted.{Counted}
 use Rattle.table_ledger.proofs.CountTestLemmas.{lines_on}
 

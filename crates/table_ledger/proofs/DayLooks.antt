@@ -1,12 +1,9 @@
 -- Charge rows that are looked for and then written; and a price in the place of another in one row.
 use Rattle.std.proofs.Common.{◌≡◌, ◌∙◌, ℕ, Bool, true, false, Option, Some, None, refl, sym, ap}
 use Rattle.std.proofs.Common.{cond, Result, Ok, if◌then◌else◌, ◌==◌, unwrap_or, [], Ordering}
-use Rattle.sqlite_trees.specs.declared.error.StoreError.{StoreError}
 use Rattle.book_model.proofs.Std.{option_map_or, IsTotalOrder, FinMap, IsAntisymmetric, get}
 use Rattle.book_model.proofs.Std.{get-insert, get-remove, insert, remove, same_map, eq_by_cmp}
 use Rattle.book_model.proofs.Std.{eq_by_cmp_equiv}
-use Rattle.book_model.specs.declared.row.ChargeRow.{ChargeRow}
-use Rattle.book_model.specs.declared.row.RowKey.{RowKey}
 use Rattle.book_model.specs.Words.{Priced, by_key, key_of, row_at}
 use Rattle.book_model.proofs.Lemmas.{by_tie, get-inserted, insert-insert, by_key_total}
 use Rattle.book_model.proofs.Lemmas.{by_key_exact}
@@ -18,9 +15,8 @@ use Rattle.table_model.specs.Steps.{change_day_row}
 use Rattle.table_model.proofs.NumberedLemmas.{by_period_total, by_period_exact}
 use Rattle.tree_tables.specs.Answers.{FindsDay}
 use Rattle.tree_tables.specs.Holds.{AreUnderOwnKeys}
-use Rattle.tree_tables.specs.States.{State}
-use Rattle.tree_tables.specs.Steps.{Always, Does, Looks}
-use Rattle.table_ledger.specs.Commits.{Saw}
+use Rattle.table_ledger.proofs.Words.{StoreError, ChargeRow, RowKey, State, Always, Does, Looks}
+use Rattle.table_ledger.proofs.Words.{Saw}
 use Rattle.table_ledger.proofs.StageLemmas.{does_seen}
 use Rattle.table_ledger.proofs.StepLemmas.{does_so}
 

@@ -3,8 +3,6 @@
 use Rattle.std.proofs.Common.{◌≡◌, ◌∙◌, ℕ, [], Bool, true, false, cond, Option, Some, None, refl}
 use Rattle.std.proofs.Common.{sym, ap, ◌==◌, unwrap_or}
 use Rattle.book_model.proofs.Std.{get, insert, remove}
-use Rattle.book_model.specs.declared.row.ChargeRow.{ChargeRow}
-use Rattle.book_model.specs.declared.row.RowKey.{RowKey}
 use Rattle.book_model.specs.Words.{Priced, key_of, row_at}
 use Rattle.book_core.specs.declared.effects.DayChange.TheVariants.{Add, Take}
 use Rattle.book_core.specs.Words.{with_price}
@@ -12,6 +10,7 @@ use Rattle.table_model.specs.Words.{less_price, take_at, drop_day_row, put_day_r
 use Rattle.table_model.specs.Steps.{change_day_row}
 use Rattle.tree_tables.specs.Answers.{FindsDay}
 use Rattle.tree_tables.specs.Holds.{AreUnderOwnKeys}
+use Rattle.table_ledger.proofs.Words.{ChargeRow, RowKey}
 
 -- what was found at a place was found at that of a row which is under it
 pub found_at : (period : ℕ) (tables : Tables) (place : RowKey) (row : ChargeRow)

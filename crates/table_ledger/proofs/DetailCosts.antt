@@ -15,9 +15,6 @@ use Rattle.book_model.specs.Words.{Priced, through_of, Book, Naming, Records, Ru
 use Rattle.book_model.specs.Words.{by_detail, charged_of, comes_after, counted_of, has, is_between}
 use Rattle.book_model.specs.Words.{is_dated_in, is_day_of, most_cost, most_held, name_of, open_by}
 use Rattle.book_model.specs.Words.{price_by, rows_of, same_bytes}
-use Rattle.book_model.specs.declared.detail.Detail.{Detail}
-use Rattle.book_model.specs.declared.fault.LedgerFault.TheVariants.{Full}
-use Rattle.book_model.specs.declared.row.ChargeRow.{ChargeRow}
 use Rattle.book_model.proofs.Lemmas.{counted_at, by_detail_total, has_those, is_itself}
 use Rattle.book_model.proofs.Lemmas.{same_bytes-by_cmp, SumsAlike, length-alike, length-sum_by}
 use Rattle.book_model.proofs.RowLemmas.{rows_if_room-alike}
@@ -38,8 +35,7 @@ use Rattle.tree_rows.proofs.Remaining.{is_less}
 use Rattle.tree_tables.proofs.LateSums.{sum_one_less}
 use Rattle.tree_tables.proofs.RowsRead.{all_entries}
 use Rattle.table_ledger.specs.DetailPrices.{FindsRowsOfDays, IsNextPriced, KeepsCounted, is_kept}
-use Rattle.table_ledger.specs.DetailReads.{seeks}
-use Rattle.table_ledger.specs.OtherPrices.{AreRowsOf, AreSumsOf, SumsUp}
+use Rattle.table_ledger.proofs.Words.{Detail, Full, ChargeRow, seeks, AreRowsOf, AreSumsOf, SumsUp}
 use Rattle.table_ledger.specs.declared.detail_prices.DetailPrice.{DetailPrice}
 use Rattle.table_ledger.specs.declared.details.Sought.{Sought}
 use Rattle.table_ledger.specs.declared.row_sums.RowSums.{RowSums}

@@ -10,24 +10,18 @@ use Rattle.book_model.proofs.Lemmas.{by_detail_total, same_bytes-by_cmp}
 use Rattle.book_model.specs.Words.{through_of, Book, IsDay, Naming, Outcome, Rulings, ShowsDetail}
 use Rattle.book_model.specs.Words.{by_bytes, by_detail, by_key, comes_after, is_asked, key_of}
 use Rattle.book_model.specs.Words.{next_detail_outcome, is_between}
-use Rattle.book_model.specs.declared.detail.Detail.{Detail}
-use Rattle.book_model.specs.declared.fault.LedgerFault.TheVariants.{NoSuchPeriod}
 use Rattle.book_core.specs.Words.{ruled_in}
 use Rattle.table_model.specs.Words.{FindsLeast, IsDetail, detail_shown, is_period, of_period}
 use Rattle.table_model.specs.Words.{Tables, tables_of}
 use Rattle.table_model.proofs.DetailReading.{details_follow}
 use Rattle.tree_rows.proofs.IndexOrders.{by_bytes_exact, second_equal}
-use Rattle.tree_rows.proofs.Taking.{some_is}
 use Rattle.tree_tables.specs.Details.{FindsDetail, is_reached}
 use Rattle.tree_tables.specs.declared.detail_rows.DetailStart.{DetailStart}
 use Rattle.tree_tables.specs.declared.detail_rows.DetailStart.TheVariants.{Centre}
-use Rattle.tree_tables.specs.States.{State}
 use Rattle.tree_tables.proofs.RowsRead.{same_int}
-use Rattle.table_ledger.specs.Commits.{Saw}
-use Rattle.table_ledger.specs.DetailReads.{GoesOn, seeks}
-use Rattle.table_ledger.specs.Ready.{Remembers}
-use Rattle.table_ledger.specs.RecordReads.{CanBeRead}
-use Rattle.table_ledger.specs.Stages.{AttemptsOne}
+use Rattle.table_ledger.proofs.Words.{Detail, NoSuchPeriod, some_is, State, Saw, seeks, Remembers}
+use Rattle.table_ledger.proofs.Words.{CanBeRead, AttemptsOne}
+use Rattle.table_ledger.specs.DetailReads.{GoesOn}
 use Rattle.table_ledger.specs.declared.details.Sought.{Sought}
 use Rattle.table_ledger.specs.declared.summary.Summary.{Summary}
 use Rattle.table_ledger.proofs.Answering.{makes_answer}

@@ -1,12 +1,11 @@
 -- Details of records that can be read fit.
 use Rattle.std.proofs.Common.{subst}
-use Rattle.book_model.specs.declared.detail.Detail.{Detail}
-use Rattle.table_model.specs.Tables.{Tables}
+use Rattle.table_model.specs.Words.{Tables}
 use Rattle.tree_tables.specs.Columns.{detail_columns}
 use Rattle.tree_tables.specs.Details.{DetailsFit}
 use Rattle.tree_tables.specs.Fits.{DetailFits}
 use Rattle.tree_tables.proofs.ShownDetails.{shown_fits}
-use Rattle.table_ledger.specs.RecordReads.{CanBeRead}
+use Rattle.table_ledger.proofs.Words.{Detail, CanBeRead}
 
 -- what details show of records that can be read fits
 pub details_fit : (tables : Tables) → CanBeRead tables → DetailsFit tables

@@ -2,13 +2,7 @@
 use Rattle.std.proofs.Common.{◌≡◌, ◌∙◌, ◌+◌, ℕ, List, [], ◌∷◌, ◌++◌, true, false, not, true≢false}
 use Rattle.std.proofs.Common.{None, Some, Ok, map, sym, ap, subst, All, Err, IsErrAnd, Option}
 use Rattle.std.proofs.Common.{Result}
-use Rattle.sqlite_trees.specs.View.{View}
-use Rattle.sqlite_trees.specs.declared.error.StoreError.{StoreError}
-use Rattle.sqlite_trees.specs.declared.error.StoreError.TheVariants.{OutOfMemory}
 use Rattle.book_model.proofs.Std.{list_any, All-map}
-use Rattle.book_model.specs.declared.dispute.Dispute.{Dispute}
-use Rattle.book_model.specs.declared.fault.LedgerFault.{LedgerFault}
-use Rattle.book_model.specs.declared.dispute.Variant.{Variant}
 use Rattle.book_model.specs.Words.{Book, Disputed, IsDay, IsDispute, Naming, Outcome}
 use Rattle.book_model.specs.Words.{dispute_outcome, dispute_shown, is_from}
 use Rattle.book_model.proofs.FromLemmas.{after_others, from_then, longer_from, next_from, same_from}
@@ -16,15 +10,12 @@ use Rattle.table_model.specs.Words.{Tables, tables_of, rows_with, FindsDisputed,
 use Rattle.table_model.specs.Words.{variant_read, IsReadable}
 use Rattle.table_model.specs.DisputesRead.{IsDisputedFrom, IsNextDisputed}
 use Rattle.table_model.proofs.DisputeLemmas.{disputes_follow}
-use Rattle.tree_tables.specs.Answers.{IsNextUncharged, IsUnchargedFrom, ListsSharing, is_charged}
-use Rattle.tree_tables.specs.Stored.{stored_entry}
-use Rattle.tree_tables.specs.declared.stored_record.StoredRecord.{StoredRecord}
-use Rattle.tree_tables.specs.States.{HasCleanDisk, State}
-use Rattle.tree_tables.proofs.Looking.{caused_memory}
-use Rattle.table_ledger.specs.Attempts.{TriesBut}
-use Rattle.table_ledger.specs.DisputeReads.{IsIdentity, IsShownRow, dispute_made}
-use Rattle.table_ledger.specs.Ready.{IsReadyAt}
-use Rattle.table_ledger.specs.Stages.{IsAt}
+use Rattle.tree_tables.specs.Answers.{IsNextUncharged, IsUnchargedFrom}
+use Rattle.table_ledger.proofs.Words.{View, StoreError, OutOfMemory, Dispute, LedgerFault, Variant}
+use Rattle.table_ledger.proofs.Words.{ListsSharing, is_charged, stored_entry, StoredRecord}
+use Rattle.table_ledger.proofs.Words.{HasCleanDisk, State, caused_memory, TriesBut, IsIdentity}
+use Rattle.table_ledger.proofs.Words.{IsShownRow, IsReadyAt, IsAt}
+use Rattle.table_ledger.specs.DisputeReads.{dispute_made}
 use Rattle.table_ledger.specs.declared.summary.Summary.{Summary}
 
 -- ---- identities that are passed over

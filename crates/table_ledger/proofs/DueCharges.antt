@@ -7,11 +7,10 @@ use Rattle.book_core.specs.Words.{charge_held}
 use Rattle.table_model.specs.Words.{charge_in, charge_due_step, ChoiceRow, RecordRow, RecordTable}
 use Rattle.table_model.specs.Words.{Tables, name_has_identity, is_due_in, member_at}
 use Rattle.table_model.proofs.DueStays.{due_stays, last_pushed, last_stays}
-use Rattle.tree_tables.specs.Answers.{FindsRecord}
-use Rattle.tree_tables.specs.Stored.{IsAsRead, choice_entry, stored_entry}
-use Rattle.tree_tables.specs.declared.choice_rows.StoredChoice.{StoredChoice}
-use Rattle.tree_tables.specs.declared.stored_record.StoredRecord.{StoredRecord}
-use Rattle.table_ledger.specs.Adoptions.{IsLast, IsLastOf, JoinsLast, last_chosen}
+use Rattle.tree_tables.specs.Stored.{IsAsRead}
+use Rattle.table_ledger.proofs.Words.{FindsRecord, choice_entry, stored_entry, StoredChoice}
+use Rattle.table_ledger.proofs.Words.{StoredRecord, IsLastOf}
+use Rattle.table_ledger.specs.Adoptions.{IsLast, JoinsLast, last_chosen}
 use Rattle.table_ledger.specs.declared.chosen.Chosen.{Chosen}
 use Rattle.table_ledger.proofs.ChoiceTries.{found_row}
 

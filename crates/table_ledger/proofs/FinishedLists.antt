@@ -1,18 +1,11 @@
 -- Lists that were tried and settled: what fails, and is no refusal of theirs, is the store's own.
-use Rattle.std.proofs.Common.{◌≡◌, ◌∙◌, Bool, false, inl, inr, List, Result, Ok, Err, refl, sym, subst}
-use Rattle.std.specs.Prelude.{IfErr, IsErrOf, IsTrue}
-use Rattle.sqlite_trees.specs.View.{IsClean}
-use Rattle.sqlite_trees.specs.declared.error.StoreError.{StoreError}
-use Rattle.sqlite_trees.specs.declared.error.StoreError.TheVariants.{OutOfMemory}
-use Rattle.sqlite_trees.specs.declared.store.Store.{Ghosts}
+use Rattle.std.proofs.Common.{◌≡◌, ◌∙◌, Bool, false, inl, inr, List, Result, Ok, Err, refl, sym}
+use Rattle.std.proofs.Common.{subst, IfErr, IsErrOf, IsTrue}
 use Rattle.book_model.specs.Words.{Book, Event, Naming}
-use Rattle.book_model.specs.declared.fault.LedgerFault.{LedgerFault}
-use Rattle.book_model.specs.declared.fault.LedgerFault.TheVariants.{Memory, Store}
-use Rattle.tree_tables.specs.States.{HasCleanDisk, state}
 use Rattle.table_ledger.specs.Loaded.{FailsBut}
-use Rattle.table_ledger.specs.LedgerState.{LedgerState, state_on}
-use Rattle.table_ledger.specs.Attempts.{Finishes, TriesBut}
-use Rattle.table_ledger.specs.Stages.{AttemptsBy}
+use Rattle.table_ledger.proofs.Words.{IsClean, StoreError, OutOfMemory, Ghosts, LedgerFault, Memory}
+use Rattle.table_ledger.proofs.Words.{Store, HasCleanDisk, state, LedgerState, state_on, Finishes}
+use Rattle.table_ledger.proofs.Words.{TriesBut, AttemptsBy}
 use Rattle.table_ledger.specs.declared.summary.Summary.{Summary}
 use Rattle.table_ledger.proofs.OwnBooks.{cause_told}
 use Rattle.table_ledger.proofs.SurvivalLemmas.{clean_before}

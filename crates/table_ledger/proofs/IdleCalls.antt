@@ -1,25 +1,15 @@
 -- Calls that leave the book as it is: that the store failed is answered only if the disk did.
 use Rattle.std.proofs.Common.{◌≡◌, ◌∙◌, Bool, false, inl, inr, List, None, Some, Result, Ok, Err}
 use Rattle.std.proofs.Common.{refl, sym, ap, subst, true≢false, IfErr, IsErrAnd, IsErrOf, IsTrue}
-use Rattle.sqlite_trees.specs.View.{View, IsClean}
-use Rattle.sqlite_trees.specs.declared.error.StoreError.{StoreError}
-use Rattle.sqlite_trees.specs.declared.error.StoreError.TheVariants.{OutOfMemory}
-use Rattle.sqlite_trees.specs.declared.store.Store.{Ghosts}
 use Rattle.book_core.specs.Words.{is_store}
 use Rattle.book_model.specs.Words.{Book, Event, Naming, Outcome}
-use Rattle.book_model.specs.declared.fault.LedgerFault.{LedgerFault}
-use Rattle.book_model.specs.declared.fault.LedgerFault.TheVariants.{Memory, Store}
 use Rattle.table_model.specs.Words.{Tables, tables_of}
-use Rattle.tree_rows.proofs.Failing.{caused_since}
-use Rattle.tree_tables.specs.Holds.{Holds}
-use Rattle.tree_tables.specs.States.{HasCleanDisk, State, state}
-use Rattle.tree_tables.specs.Steps.{IsCaused, Looks}
-use Rattle.table_ledger.specs.Attempts.{Finishes}
-use Rattle.table_ledger.specs.Commits.{CommitsWritten, Saw}
-use Rattle.table_ledger.specs.IdleCalls.{FailsByDisk, FailsIdle, LeavesBook}
-use Rattle.table_ledger.specs.LedgerState.{state_on}
-use Rattle.table_ledger.specs.ReadyBooks.{book_of_ready}
-use Rattle.table_ledger.specs.Stages.{AttemptsBy, IsAt, StagesBy}
+use Rattle.table_ledger.proofs.Words.{View, IsClean, StoreError, OutOfMemory, Ghosts, LedgerFault}
+use Rattle.table_ledger.proofs.Words.{Memory, Store, caused_since, Holds, HasCleanDisk, State}
+use Rattle.table_ledger.proofs.Words.{state, IsCaused, Looks, Finishes, Saw, LeavesBook, state_on}
+use Rattle.table_ledger.proofs.Words.{book_of_ready, AttemptsBy, IsAt, StagesBy}
+use Rattle.table_ledger.specs.Commits.{CommitsWritten}
+use Rattle.table_ledger.specs.IdleCalls.{FailsByDisk, FailsIdle}
 use Rattle.table_ledger.specs.declared.summary.Summary.{Summary}
 use Rattle.table_ledger.proofs.FinishedLists.{same_fault}
 use Rattle.table_ledger.proofs.OwnBooks.{cause_told, fails_after_look}

@@ -1,21 +1,14 @@
 -- Records of which none is kept: the book stays as it is, and so do the sums.
 use Rattle.std.proofs.Common.{◌≡◌, ◌∙◌, ◌<◌, ◌++◌, ℕ, List, [], ◌∷◌, Result, Ok, Vec, Global, false}
 use Rattle.std.proofs.Common.{ap, append-nil, get_or, length, refl, subst, sym, All}
-use Rattle.sqlite_trees.specs.View.{View}
-use Rattle.sqlite_trees.specs.declared.error.StoreError.{StoreError}
 use Rattle.book_model.proofs.Std.{All-head, All-map, All-tail}
 use Rattle.book_core.specs.Words.{listed, Accepts, records_in}
 use Rattle.book_model.specs.Words.{Book, Event, Naming, accept_outcome, after_all}
-use Rattle.book_model.specs.declared.answer.Accepted.{Accepted}
-use Rattle.book_model.specs.declared.fault.LedgerFault.{LedgerFault}
 use Rattle.table_model.specs.Words.{set_sums, tables_of}
-use Rattle.tree_rows.proofs.Failing.{caused_since}
-use Rattle.tree_tables.specs.Holds.{Holds}
-use Rattle.tree_tables.specs.States.{HasCleanDisk, State, Survives}
-use Rattle.tree_tables.specs.Steps.{IsCaused}
-use Rattle.table_ledger.specs.IdleCalls.{LeavesBook, LeavesEach}
-use Rattle.table_ledger.specs.Ready.{Remembers}
-use Rattle.table_ledger.specs.Stages.{IsAt, IsAtAs, StagesMany}
+use Rattle.table_ledger.proofs.Words.{View, StoreError, Accepted, LedgerFault, caused_since, Holds}
+use Rattle.table_ledger.proofs.Words.{HasCleanDisk, State, Survives, IsCaused, LeavesBook}
+use Rattle.table_ledger.proofs.Words.{Remembers, IsAt, IsAtAs, StagesMany}
+use Rattle.table_ledger.specs.IdleCalls.{LeavesEach}
 use Rattle.table_ledger.specs.declared.summary.Summary.{Summary}
 use Rattle.table_ledger.proofs.ManyLemmas.{AreTaken}
 use Rattle.table_ledger.proofs.SumLemmas.{sums_remembered, sums_there}

@@ -6,14 +6,10 @@ use Rattle.book_model.proofs.Std.{map-append, take_more, AllByRecursion, All-pus
 use Rattle.book_model.proofs.Std.{All-from_recursion, filter-append, recursion_from_All}
 use Rattle.book_model.specs.Words.{IsDay, Disputed, IsDispute, AreDisputes, dispute_shown}
 use Rattle.book_model.specs.Words.{same_bytes}
-use Rattle.book_model.specs.declared.dispute.Dispute.{Dispute}
-use Rattle.book_model.specs.declared.dispute.Variant.{Variant}
 use Rattle.table_model.specs.Words.{NamedRow, grouped, join_last, variant_read}
 use Rattle.table_model.specs.DisputesRead.{dispute_of_one}
 use Rattle.table_model.proofs.GroupingLemmas.{grouped-push}
-use Rattle.tree_tables.specs.Stored.{stored_entry}
-use Rattle.tree_tables.specs.declared.stored_record.StoredRecord.{StoredRecord}
-use Rattle.table_ledger.specs.DisputeReads.{IsShownRow}
+use Rattle.table_ledger.proofs.Words.{Dispute, Variant, stored_entry, StoredRecord, IsShownRow}
 
 -- a row after disputes joins the last of them, or comes after it
 pub join_after : (front : List Disputed) (last : Disputed) (row : NamedRow)

@@ -10,13 +10,12 @@ use Rattle.book_core.specs.Words.{if_room}
 use Rattle.table_model.specs.Words.{amount_under, RecordRow, Tables}
 use Rattle.table_model.proofs.PriceSums.{part_within}
 use Rattle.book_core.proofs.NamedLemmas.{same_texts}
-use Rattle.tree_rows.proofs.Taking.{some_is}
 use Rattle.tree_tables.proofs.LateSums.{sum_one_less, total_by_parts, values_sum}
 use Rattle.tree_tables.proofs.RowsRead.{all_entries}
-use Rattle.tree_tables.specs.LateRecords.{FindsLate, is_left}
-use Rattle.tree_tables.specs.Stored.{stored_entry}
+use Rattle.tree_tables.specs.LateRecords.{FindsLate}
 use Rattle.tree_tables.specs.declared.late_records.LateRecord.{LateRecord}
-use Rattle.table_ledger.specs.Repricing.{CanBeSummed, CanCost, CostUnder}
+use Rattle.table_ledger.proofs.Words.{some_is, is_left, stored_entry, CanBeSummed, CostUnder}
+use Rattle.table_ledger.specs.Repricing.{CanCost}
 use Rattle.table_ledger.proofs.LateLeft.{gone_early, met_once}
 use Rattle.table_ledger.proofs.Repriced.{part_full}
 

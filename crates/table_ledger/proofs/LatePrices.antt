@@ -2,7 +2,6 @@
 -- tables that such a walk has come to.
 use Rattle.std.proofs.Common.{◌≡◌, ◌∙◌, ◌⊎◌, inl, inr, ℕ, List, true, false, cond, Option, Some}
 use Rattle.std.proofs.Common.{None, refl, sym, ap, subst, true≢false, int_lt, is_eq}
-use Rattle.sqlite_trees.specs.Tree.{Trees}
 use Rattle.book_model.proofs.Std.{tied_itself, get, get-insert, keys, eq_by_cmp, nat_list_cmp_total}
 use Rattle.book_model.specs.Words.{Priced, Terms, by_bytes, price_by, record_with, same_bytes}
 use Rattle.book_model.proofs.Lemmas.{same_bytes-by_cmp}
@@ -10,12 +9,10 @@ use Rattle.table_model.specs.Words.{reprice, reprice_step, walk, RecordRow, Tabl
 use Rattle.table_model.proofs.PartlyPriced.{HasPrice, IsPartlyPriced, first_counted, partly_all}
 use Rattle.table_model.proofs.PartlyPriced.{partly_none, step_partly, step_stands}
 use Rattle.book_core.proofs.NamedLemmas.{same_texts}
-use Rattle.tree_rows.proofs.Taking.{some_is}
-use Rattle.tree_tables.specs.Holds.{Holds}
-use Rattle.tree_tables.specs.LateRecords.{FindsLate, is_left}
-use Rattle.tree_tables.specs.Stored.{stored_entry}
+use Rattle.tree_tables.specs.LateRecords.{FindsLate}
 use Rattle.tree_tables.specs.declared.late_records.LateRecord.{LateRecord}
-use Rattle.table_ledger.specs.Repricing.{CountsLate, StandsPriced, TakesTariff}
+use Rattle.table_ledger.proofs.Words.{Trees, some_is, Holds, is_left, stored_entry, TakesTariff}
+use Rattle.table_ledger.specs.Repricing.{CountsLate, StandsPriced}
 use Rattle.table_ledger.proofs.LateLeft.{late_left}
 use Rattle.table_ledger.proofs.Repriced.{step_by}
 

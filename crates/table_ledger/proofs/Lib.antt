@@ -1,5 +1,6 @@
 -- The lemmas: what survives two calls, and what stays of a store after them; calls that are tried,
 -- refused, answered and settled; steps and their commit; and then one file for each subject.
+mod Words
 pub mod SurvivalLemmas
 pub mod UnchangedStores
 mod TryLemmas

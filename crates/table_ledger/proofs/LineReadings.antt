@@ -3,14 +3,11 @@ use Rattle.std.proofs.Common.{◌≡◌, ◌∙◌, ℕ, Bool, List, [], ◌∷�
 use Rattle.std.proofs.Common.{slice_index_or, Option, Some, None, option_map, sym, ap, filter_map}
 use Rattle.book_model.proofs.Std.{get, cons_option, take_more, filter_map-append}
 use Rattle.book_model.specs.Words.{record_with, job_of, by_line, members, set_of}
-use Rattle.book_model.specs.declared.line.Line.{Line}
 use Rattle.table_model.specs.Words.{rows_under, line_read, lines_read, RecordRow, RecordTable}
 use Rattle.table_model.specs.Words.{Tables, NamedRow}
-use Rattle.tree_tables.specs.Answers.{ListsLines, FindsRecord}
-use Rattle.tree_tables.specs.Stored.{signed_name, stored_entry}
-use Rattle.tree_tables.specs.declared.line_rows.StoredLine.{StoredLine}
-use Rattle.tree_tables.specs.declared.stored_record.StoredRecord.{StoredRecord}
-use Rattle.table_ledger.specs.LineReads.{line_stored, lines_stored}
+use Rattle.table_ledger.proofs.Words.{Line, ListsLines, FindsRecord, signed_name, stored_entry}
+use Rattle.table_ledger.proofs.Words.{StoredLine, StoredRecord, lines_stored}
+use Rattle.table_ledger.specs.LineReads.{line_stored}
 use Rattle.book_model.proofs.Lemmas.{filter_map-map}
 
 -- the line of a stored line, with a row of a record

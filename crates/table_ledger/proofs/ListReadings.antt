@@ -1,15 +1,10 @@
 -- A list that is read is answered with no event, and the ledger stays ready.
 use Rattle.std.proofs.Common.{◌≡◌, ◌∙◌, Bool, true, ℕ, [], Result, Ok, Err, refl, sym, ap}
 use Rattle.std.proofs.Common.{if◌then◌else◌}
-use Rattle.tree_tables.specs.States.{State}
-use Rattle.book_model.specs.declared.fault.LedgerFault.{LedgerFault}
-use Rattle.book_model.specs.declared.fault.LedgerFault.TheVariants.{NoSuchPeriod}
 use Rattle.book_model.specs.Words.{Book, Outcome, no_event, Naming, Rulings}
 use Rattle.book_core.specs.Words.{Makes, listed, ruled_in}
 use Rattle.table_model.specs.Words.{Tables, tables_of, is_period, of_period, IsReadable}
-use Rattle.table_ledger.specs.Commits.{Saw}
-use Rattle.table_ledger.specs.Ready.{Remembers}
-use Rattle.table_ledger.specs.Stages.{AttemptsOne}
+use Rattle.table_ledger.proofs.Words.{State, LedgerFault, NoSuchPeriod, Saw, Remembers, AttemptsOne}
 use Rattle.table_ledger.specs.declared.summary.Summary.{Summary}
 use Rattle.table_ledger.proofs.Remembered.{rulings_are}
 use Rattle.table_ledger.proofs.TryLemmas.{try_answered}

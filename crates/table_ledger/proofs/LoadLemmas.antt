@@ -3,25 +3,20 @@ use Rattle.std.proofs.Common.{◌≡◌, ◌∙◌, ℕ, ℤ, List, [], ◌∷�
 use Rattle.std.proofs.Common.{Option, Some, inl, inr, Err, Ok, Result, false, length, All, IfErr}
 use Rattle.std.proofs.Common.{IfOk, ◌==◌, if◌then◌else◌, filter_map, option_map}
 use Rattle.book_model.proofs.Std.{AllZip, cons_option, All-cons}
-use Rattle.tree_tables.specs.States.{State, HasCleanDisk}
 use Rattle.book_model.specs.Words.{no_rulings, IsDay, Book, Naming, Rulings, AcceptedTerms}
 use Rattle.book_model.specs.Words.{second_rule}
-use Rattle.book_model.specs.declared.fault.LedgerFault.{LedgerFault}
-use Rattle.book_model.specs.declared.fault.LedgerFault.TheVariants.{NotBooks, Store}
+use Rattle.book_model.specs.declared.fault.LedgerFault.TheVariants.{NotBooks}
 use Rattle.book_core.specs.Words.{IsOpenAt, ruled_in}
 use Rattle.table_model.specs.Words.{BookRow, Tables, tables_of, adopted_read, tariff_read}
 use Rattle.table_model.specs.Words.{IsReadable}
 use Rattle.table_model.proofs.BookLemmas.{book_follows}
-use Rattle.tree_tables.specs.Stored.{book_entry, close_entry, tariff_of}
 use Rattle.tree_tables.specs.declared.book_row.StoredBook.{StoredBook as Stored}
-use Rattle.tree_tables.specs.declared.closed_rows.Close.{Close}
 use Rattle.tree_tables.specs.declared.tariff_rows.StoredTariff.{StoredTariff}
-use Rattle.table_ledger.specs.Commits.{Stores}
-use Rattle.table_ledger.specs.Ready.{Remembers}
-use Rattle.table_ledger.specs.Loaded.{AreRowsOf, IsCloseDay, IsLoaded, IsStoreFault, Reads}
-use Rattle.table_ledger.specs.Loaded.{SummarizesTables, SaysRule, SaysTariff, SummarizesRows}
-use Rattle.table_ledger.specs.LedgerState.{seen_on}
-use Rattle.table_ledger.specs.ReadyBooks.{LeavesTheLast}
+use Rattle.table_ledger.proofs.Words.{State, HasCleanDisk, LedgerFault, Store, book_entry}
+use Rattle.table_ledger.proofs.Words.{close_entry, tariff_of, Close, Stores, Remembers, IsCloseDay}
+use Rattle.table_ledger.proofs.Words.{SaysRule, SaysTariff, seen_on, LeavesTheLast}
+use Rattle.table_ledger.specs.Loaded.{AreRowsOf, IsLoaded, IsStoreFault, Reads, SummarizesTables}
+use Rattle.table_ledger.specs.Loaded.{SummarizesRows}
 use Rattle.table_ledger.specs.declared.summary.Summary.{Summary}
 use Rattle.table_ledger.proofs.OpenLemmas.{opened}
 use Rattle.table_ledger.proofs.LastChoice.{last_counts}

@@ -1,15 +1,12 @@
 -- New books are not made for a cause of the store alone.
 use Rattle.std.proofs.Common.{◌∙◌, Result, Ok, ap, IfErr}
-use Rattle.sqlite_trees.specs.Tree.{Trees}
-use Rattle.sqlite_trees.specs.View.{View}
-use Rattle.sqlite_trees.specs.declared.error.StoreError.{StoreError}
 use Rattle.table_model.specs.Words.{Tables}
-use Rattle.tree_rows.proofs.Failing.{caused_after, caused_since}
-use Rattle.tree_tables.specs.States.{HasCleanDisk, State, Survives}
-use Rattle.tree_tables.specs.Steps.{HasNoReals, IsCaused, Looks, Makes}
-use Rattle.tree_tables.proofs.Looking.{err_so}
+use Rattle.tree_rows.proofs.Failing.{caused_after}
+use Rattle.tree_tables.specs.Steps.{HasNoReals, Makes}
 use Rattle.table_ledger.specs.NewBooks.{FailsToMake, LacksBook}
 use Rattle.table_ledger.proofs.SurvivalLemmas.{clean_before}
+use Rattle.table_ledger.proofs.Words.{Trees, View, StoreError, caused_since, HasCleanDisk, State}
+use Rattle.table_ledger.proofs.Words.{Survives, IsCaused, Looks, err_so}
 
 -- the row of the book is not written, after a look for it
 pub unmade : {A : Type 0} {Answers : Tables → A → Type 0} {answer : A} {old mid new : State}

@@ -3,21 +3,16 @@ use Rattle.std.proofs.Common.{◌≡◌, ◌∙◌, ◌<◌, ◌+◌, ℕ, List,
 use Rattle.std.proofs.Common.{sym, ap, subst, false, true, true≢false, Vec, Global, drop, get_or}
 use Rattle.std.proofs.Common.{length, append-nil, append_assoc, add-one, drop-cons, eqb-true, ◌==◌}
 use Rattle.std.proofs.Common.{IsErr}
-use Rattle.sqlite_trees.specs.View.{View, OnlyWrites}
-use Rattle.sqlite_trees.specs.declared.error.StoreError.{StoreError}
-use Rattle.book_model.specs.declared.answer.Accepted.{Accepted}
-use Rattle.book_model.specs.declared.fault.LedgerFault.{LedgerFault}
-use Rattle.book_model.specs.declared.fault.LedgerFault.TheVariants.{Memory, Store, Reopen}
 use Rattle.book_model.specs.Words.{Book, Event, after_all, Naming, Outcome, accept_outcome}
 use Rattle.book_core.specs.Words.{Calls, Makes, Accepts, Takes, first_of, records_in, NoEvent}
 use Rattle.book_core.specs.Words.{LeavesOpen}
 use Rattle.book_core.proofs.SubmissionLemmas.{refused_one}
 use Rattle.book_core.proofs.TransitionLemmas.{after_all-append}
 use Rattle.table_model.specs.Words.{Tables}
-use Rattle.tree_tables.specs.States.{State, HasCleanDisk, Survives}
-use Rattle.tree_tables.proofs.Looking.{only_both}
-use Rattle.table_ledger.specs.Stages.{AnswersFirst, IsAtAs, IsStaged, LeavesFirst, LeavesOne}
-use Rattle.table_ledger.specs.Stages.{MakesOf, RefusesNext, StagesAs, StagesFirst, StagesMany}
+use Rattle.table_ledger.proofs.Words.{View, OnlyWrites, StoreError, Accepted, LedgerFault, Memory}
+use Rattle.table_ledger.proofs.Words.{Store, Reopen, State, HasCleanDisk, Survives, only_both}
+use Rattle.table_ledger.proofs.Words.{IsAtAs, LeavesOne, MakesOf, StagesAs, StagesMany}
+use Rattle.table_ledger.specs.Stages.{AnswersFirst, IsStaged, LeavesFirst, RefusesNext, StagesFirst}
 use Rattle.table_ledger.specs.declared.summary.Summary.{Summary}
 use Rattle.table_ledger.proofs.Remembered.{remembers_as}
 use Rattle.table_ledger.proofs.StageLemmas.{unstaged}

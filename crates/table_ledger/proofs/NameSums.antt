@@ -6,15 +6,13 @@ use Rattle.book_model.specs.Words.{Terms, by_bytes, most_cost}
 use Rattle.book_core.specs.Words.{if_room}
 use Rattle.table_model.specs.Words.{amount_under, RecordRow, Tables}
 use Rattle.tree_rows.specs.Changes.{above, is_above}
-use Rattle.tree_rows.proofs.Maps.{not_none}
 use Rattle.tree_rows.proofs.Passing.{all_passed, passed_with}
 use Rattle.tree_rows.proofs.Remaining.{above_next}
-use Rattle.tree_rows.proofs.Taking.{some_is}
 use Rattle.tree_tables.specs.Answers.{FindsNext}
-use Rattle.tree_tables.specs.Stored.{stored_entry}
-use Rattle.tree_tables.specs.declared.stored_record.StoredRecord.{StoredRecord}
-use Rattle.tree_tables.proofs.WalkNames.{next_stands, none_left}
-use Rattle.table_ledger.specs.Repricing.{CanCost, CostUnder}
+use Rattle.tree_tables.proofs.WalkNames.{none_left}
+use Rattle.table_ledger.proofs.Words.{not_none, some_is, stored_entry, StoredRecord, next_stands}
+use Rattle.table_ledger.proofs.Words.{CostUnder}
+use Rattle.table_ledger.specs.Repricing.{CanCost}
 use Rattle.table_ledger.proofs.LateCosts.{cost_then}
 use Rattle.table_ledger.proofs.Repriced.{has_room, part_full}
 

@@ -1,18 +1,12 @@
 -- Calls of a ledger come to such work: a single one, and records that are submitted together.
 use Rattle.std.proofs.Common.{◌≡◌, ◌∙◌, ◌||◌, inl, ℕ, Bool, true, false, List, [], Result, Err}
 use Rattle.std.proofs.Common.{refl, sym, ap}
-use Rattle.sqlite_trees.specs.declared.error.StoreError.{StoreError}
-use Rattle.sqlite_trees.specs.declared.store.Store.{Ghosts}
-use Rattle.book_model.specs.declared.answer.Accepted.{Accepted}
-use Rattle.book_model.specs.declared.fault.LedgerFault.{LedgerFault}
-use Rattle.book_model.specs.declared.fault.LedgerFault.TheVariants.{Reopen}
 use Rattle.book_model.specs.Words.{Book, Naming, Outcome, accept_outcome}
 use Rattle.book_core.specs.Words.{Calls, IsCall, Reopens, Takes, first_of, IsTransition}
-use Rattle.tree_tables.specs.States.{state}
-use Rattle.table_ledger.specs.Attempts.{Finishes}
-use Rattle.table_ledger.specs.LedgerState.{LedgerState, seen_on, state_on}
-use Rattle.table_ledger.specs.ReadyBooks.{LeavesTheLast}
-use Rattle.table_ledger.specs.Stages.{AttemptsOne, TakesOf, LeavesFirst, MakesOf, LeavesOne}
+use Rattle.table_ledger.proofs.Words.{StoreError, Ghosts, Accepted, LedgerFault, Reopen, state}
+use Rattle.table_ledger.proofs.Words.{Finishes, LedgerState, seen_on, state_on, LeavesTheLast}
+use Rattle.table_ledger.proofs.Words.{AttemptsOne, MakesOf, LeavesOne}
+use Rattle.table_ledger.specs.Stages.{TakesOf, LeavesFirst}
 use Rattle.table_ledger.specs.declared.summary.Summary.{Summary}
 use Rattle.table_ledger.proofs.ServedWork.{ComesTo, work_settled}
 

@@ -1,16 +1,13 @@
 -- A store that keeps the tables of a book, with its summary, is an open ledger.
 use Rattle.std.proofs.Common.{◌≡◌, ◌∙◌, ap, false, refl, subst, sym}
-use Rattle.tree_tables.specs.States.{State, HasCleanDisk}
 use Rattle.book_model.specs.Words.{Book, new_book, Naming, no_rulings}
 use Rattle.book_core.specs.Words.{IsOpenAt, ruled_in}
 use Rattle.table_model.specs.Words.{new_tables, Tables, tables_of, IsReadable}
 use Rattle.table_model.proofs.EventLemmas.{new_follow}
 use Rattle.table_model.proofs.CallsLemmas.{calls_stay}
 use Rattle.table_model.proofs.ReadableLemmas.{calls_read}
-use Rattle.table_ledger.specs.Commits.{Stores}
-use Rattle.table_ledger.specs.Ready.{IsStoredIn, IsReadyAt, Remembers}
-use Rattle.table_ledger.specs.LedgerState.{seen_on}
-use Rattle.table_ledger.specs.ReadyBooks.{book_of_ready, LeavesTheLast}
+use Rattle.table_ledger.proofs.Words.{State, HasCleanDisk, Stores, IsStoredIn, IsReadyAt, Remembers}
+use Rattle.table_ledger.proofs.Words.{seen_on, book_of_ready, LeavesTheLast}
 use Rattle.table_ledger.specs.declared.summary.Summary.{Summary}
 
 -- the ledger is open at the book

@@ -5,17 +5,12 @@ use Rattle.std.proofs.Common.{true≢false, append-nil, append_assoc, length-app
 use Rattle.std.proofs.Common.{sum_by, Vec, Ok, Err, if◌then◌else◌, IsSome, is_some, Ordering, Less}
 use Rattle.std.proofs.Common.{Equal, Greater, Global, is_eq, le-ltb, lt-ltb}
 use Rattle.std.specs.BTreeMap.{insert_entry, is_at}
-use Rattle.std.specs.Map.{lookup, set_value}
+use Rattle.std.specs.Map.{set_value}
 use Rattle.std.proofs.lemmas.Map.{lookup-none}
 use Rattle.std.proofs.lemmas.Map.Entries.{none_below_head}
-use Rattle.sqlite_trees.specs.View.{View}
-use Rattle.sqlite_value.specs.Order.{Row}
 use Rattle.book_model.proofs.Std.{entries, get, IsStrictlySortedBy, match_ordering, map-append}
 use Rattle.book_model.proofs.Std.{All-head, All-push, All-tail, filter-append, sum_by-append}
 use Rattle.book_model.proofs.Std.{sum_by_push, sorted_tail}
-use Rattle.book_model.specs.declared.fault.LedgerFault.TheVariants.{Full}
-use Rattle.book_model.specs.declared.row.ChargeRow.{ChargeRow}
-use Rattle.book_model.specs.declared.row.RowKey.{RowKey}
 use Rattle.book_model.specs.Words.{Priced, AreRows, IsPriced, Terms, by_key, charged_at, key_of}
 use Rattle.book_model.specs.Words.{most_cost, most_held, price_by, row_at, rows_of}
 use Rattle.book_model.proofs.Lemmas.{by_key_total}
@@ -25,10 +20,11 @@ use Rattle.book_core.proofs.KeyedRowLemmas.{sum_by-charged_at-le}
 use Rattle.book_core.proofs.ListLimits.{priced_fit, priced_shown}
 use Rattle.table_model.specs.Words.{Tables, row_record, row_costs, NamedRow}
 use Rattle.table_model.proofs.CountedLemmas.{few_costs}
-use Rattle.tree_tables.specs.Columns.{record_columns}
 use Rattle.tree_tables.specs.Passes.{HasRecordsLeft, TakesFirst, TakesNext}
 use Rattle.tree_tables.proofs.FoundNames.{entries_had}
-use Rattle.table_ledger.specs.OtherPrices.{AreRowsOf, AreSumsOf, CostsFit, SumsUp, costs_of, passes}
+use Rattle.table_ledger.proofs.Words.{lookup, View, Row, Full, ChargeRow, RowKey, record_columns}
+use Rattle.table_ledger.proofs.Words.{AreRowsOf, AreSumsOf, SumsUp, costs_of}
+use Rattle.table_ledger.specs.OtherPrices.{CostsFit, passes}
 use Rattle.table_ledger.specs.TotalsFit.{FitsPrice}
 use Rattle.table_ledger.specs.declared.count_test.CountTest.{CountTest}
 use Rattle.table_ledger.specs.declared.row_sums.RowSums.{RowSums}

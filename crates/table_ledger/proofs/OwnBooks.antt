@@ -4,16 +4,11 @@ use Rattle.std.proofs.Common.{Err, IsTrue, ap, arith, false, inl, inr, length, m
 use Rattle.std.proofs.Common.{rules, subst, sym, true, true≢false, ◌⊎◌, All, IsErrAnd, int_lt, ◌≤ℤ◌}
 use Rattle.std.proofs.Common.{◌+ℤ◌}
 use Rattle.sqlite_disk.specs.Disk.{MoreFaults}
-use Rattle.sqlite_value.specs.Order.{Row}
-use Rattle.sqlite_trees.specs.Tree.{Trees}
-use Rattle.sqlite_trees.specs.declared.error.StoreError.{StoreError}
 use Rattle.sqlite_trees.specs.declared.error.StoreError.TheVariants.{Broken, Corrupt, Full, Io}
-use Rattle.sqlite_trees.specs.declared.error.StoreError.TheVariants.{OutOfMemory, Unstorable}
+use Rattle.sqlite_trees.specs.declared.error.StoreError.TheVariants.{Unstorable}
 use Rattle.book_model.proofs.Std.{AllByRecursion, list_all, ints, All-head, All-tail}
 use Rattle.book_model.specs.Words.{Book, IsDay, Naming, AcceptedTerms, are_rising}
 use Rattle.book_model.proofs.Lemmas.{first_of, second_of}
-use Rattle.book_model.specs.declared.fault.LedgerFault.{LedgerFault}
-use Rattle.book_model.specs.declared.fault.LedgerFault.TheVariants.{Memory, Store}
 use Rattle.table_model.specs.Words.{Tables, close_entries, tables_of, tariff_entries, IsReadable}
 use Rattle.table_model.specs.Words.{IsTexted}
 use Rattle.table_model.proofs.RulingsReading.{tariffs_kept}
@@ -21,15 +16,12 @@ use Rattle.table_model.proofs.UnderNumbers.{entries-numbers}
 use Rattle.tree_rows.proofs.Failing.{caused_after}
 use Rattle.tree_tables.specs.Columns.{closed_columns, tariff_columns}
 use Rattle.tree_tables.specs.Fits.{CloseFits, TariffFits}
-use Rattle.tree_tables.specs.Holds.{Holds}
-use Rattle.tree_tables.specs.States.{State, HasCleanDisk, Survives}
-use Rattle.tree_tables.specs.Steps.{FailsByStore, IsCaused, Looks}
-use Rattle.tree_tables.proofs.Looking.{err_on}
+use Rattle.tree_tables.specs.Steps.{FailsByStore}
 use Rattle.tree_tables.proofs.RulingRows.{closes_fit, tariffs_fit}
-use Rattle.table_ledger.specs.Commits.{IsAtRest, Saw}
+use Rattle.table_ledger.proofs.Words.{Row, Trees, StoreError, OutOfMemory, LedgerFault, Memory}
+use Rattle.table_ledger.proofs.Words.{Store, Holds, State, HasCleanDisk, Survives, IsCaused, Looks}
+use Rattle.table_ledger.proofs.Words.{err_on, IsAtRest, Saw, IsReadyAt, TriesBut}
 use Rattle.table_ledger.specs.Loaded.{CanBeListed, IsOpenCause, IsLoaded, ReadsItsOwn}
-use Rattle.table_ledger.specs.Ready.{IsReadyAt}
-use Rattle.table_ledger.specs.Attempts.{TriesBut}
 use Rattle.table_ledger.specs.declared.summary.Summary.{Summary}
 use Rattle.table_ledger.proofs.LastChoice.{last_counts}
 use Rattle.table_ledger.proofs.UnchangedStores.{holds_on}

@@ -7,26 +7,20 @@ use Rattle.std.proofs.Common.{int_lt, slice_index_or, IsPermutation, option_map}
 use Rattle.std.proofs.Math.Bool.{or-true}
 use Rattle.std.specs.FinMap.Entries.{is_some-find}
 use Rattle.std.proofs.lemmas.List.Sums.{fold-append}
-use Rattle.sqlite_trees.specs.Tree.{Trees}
 use Rattle.book_model.proofs.Std.{contains_key, get, same_map, list_any, and_parts}
 use Rattle.book_model.proofs.Std.{nat_list_cmp_total, map-append, take_more, list_any-append}
 use Rattle.book_model.proofs.Std.{list_any-IsPermutation, exact_bytes, map-map}
 use Rattle.book_model.specs.Words.{is_after, by_bytes, comes_after, is_asked, is_between}
-use Rattle.book_model.specs.declared.detail.Detail.{Detail}
 use Rattle.book_model.proofs.Lemmas.{is, is_itself}
 use Rattle.table_model.specs.Words.{FindsLeast, IsDetail, detail_shown, PostsTouched, post_by}
 use Rattle.table_model.specs.Words.{post_each, post_row, post_rows, RecordRow, Tables}
 use Rattle.table_model.specs.PostedLaws.{is_touched}
 use Rattle.table_model.proofs.PostedRows.{post_again, post_stays, posted_found, posted_those}
 use Rattle.table_model.proofs.PostedRows.{rest_stays}
-use Rattle.tree_rows.proofs.Taking.{some_is}
-use Rattle.tree_tables.specs.Answers.{ListsLines}
-use Rattle.tree_tables.specs.Holds.{Holds}
-use Rattle.tree_tables.specs.Stored.{signed_name}
-use Rattle.tree_tables.specs.declared.line_rows.StoredLine.{StoredLine}
 use Rattle.tree_tables.proofs.Posting.{posted_shown}
-use Rattle.table_ledger.specs.DetailReads.{seeks}
-use Rattle.table_ledger.specs.Posting.{Gathers, RestIsPosted, days_after, names_in}
+use Rattle.table_ledger.proofs.Words.{Trees, Detail, some_is, ListsLines, Holds, signed_name}
+use Rattle.table_ledger.proofs.Words.{StoredLine, seeks, names_in}
+use Rattle.table_ledger.specs.Posting.{Gathers, RestIsPosted, days_after}
 use Rattle.table_ledger.proofs.CountTestLemmas.{line_listed}
 use Rattle.table_ledger.proofs.DetailTries.{after_or_named}
 use Rattle.table_ledger.proofs.Walks.{Shows}

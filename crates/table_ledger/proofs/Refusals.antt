@@ -1,11 +1,8 @@
 -- What a function that stops at a refusal answers: an error, whichever it is.
 use Rattle.std.proofs.Common.{Result, Err, IsErr}
-use Rattle.sqlite_trees.specs.declared.error.StoreError.{StoreError}
 use Rattle.table_model.specs.Words.{Tables}
-use Rattle.tree_tables.specs.States.{State}
-use Rattle.tree_tables.specs.Steps.{Looks}
-use Rattle.table_ledger.specs.Commits.{Saw}
-use Rattle.tree_rows.proofs.Calls.{kept_after_look, kept_same}
+use Rattle.table_ledger.proofs.Words.{StoreError, State, Looks, Saw, kept_after_look}
+use Rattle.tree_rows.proofs.Calls.{kept_same}
 use Rattle.tree_tables.proofs.Looking.{looks_err}
 use Rattle.table_ledger.proofs.SurvivalLemmas.{clean_before, survives_then}
 

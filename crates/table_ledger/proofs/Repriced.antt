@@ -6,9 +6,8 @@ use Rattle.book_model.specs.Words.{Priced, Terms, most_cost, price_by, record_wi
 use Rattle.book_core.specs.Words.{if_room}
 use Rattle.table_model.specs.Words.{add_price, price_at, take_price, reprice, reprice_step}
 use Rattle.table_model.specs.Words.{RecordRow, Tables}
-use Rattle.tree_rows.proofs.Maps.{not_none}
-use Rattle.tree_rows.proofs.Taking.{some_is}
 use Rattle.table_ledger.specs.Repricing.{StandsPriced, tariff_price}
+use Rattle.table_ledger.proofs.Words.{not_none, some_is}
 
 module _ (period : ℕ) (name : List ℕ) (row : RecordRow) (tables : Tables)
     (there : get tables.records name ≡ Some row) where

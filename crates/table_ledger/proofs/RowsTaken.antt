@@ -18,13 +18,12 @@ use Rattle.table_model.proofs.CloseOrder.{Behind, late_first}
 use Rattle.table_model.proofs.RulingsReading.{one_read, tariffs_kept}
 use Rattle.table_model.proofs.UnderNumbers.{entries-numbers}
 use Rattle.tree_tables.specs.Answers.{last_number}
-use Rattle.tree_tables.specs.Stored.{book_entry, close_entry, tariff_of}
 use Rattle.tree_tables.specs.declared.book_row.StoredBook.{StoredBook as Stored}
-use Rattle.tree_tables.specs.declared.closed_rows.Close.{Close}
 use Rattle.tree_tables.specs.declared.tariff_rows.StoredTariff.{StoredTariff}
 use Rattle.table_ledger.proofs.LastChoice.{last_counts}
-use Rattle.table_ledger.specs.Loaded.{AreCloses, AreRowsOf, IsCloseDay, IsNextClose, SaysRule}
-use Rattle.table_ledger.specs.Loaded.{SaysTariff, TellsTariff}
+use Rattle.table_ledger.proofs.Words.{book_entry, close_entry, tariff_of, Close, IsCloseDay}
+use Rattle.table_ledger.proofs.Words.{SaysRule, SaysTariff}
+use Rattle.table_ledger.specs.Loaded.{AreCloses, AreRowsOf, IsNextClose, TellsTariff}
 use Rattle.book_model.proofs.LatestLemmas.{precedes}
 
 -- of rows that give values, the row at a place gives one

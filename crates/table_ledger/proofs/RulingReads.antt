@@ -1,7 +1,6 @@
 -- What stands in the list of rulings, by what is remembered and by the table of choices.
 use Rattle.std.proofs.Common.{◌≡◌, ◌∙◌, ◌+◌, ◌<◌, ℕ, [], Option, None, Some, length, refl, sym, ap}
 use Rattle.std.proofs.Common.{subst, arith, get_or, slice_get, option_map}
-use Rattle.sqlite_trees.specs.View.{View}
 use Rattle.book_model.proofs.Std.{get, slice_get-get_or}
 use Rattle.book_model.specs.declared.listed_ruling.ListedRuling.{ListedRuling}
 use Rattle.book_model.specs.Words.{data_of, Book, Choice, Naming, name_of, ruling_shown}
@@ -10,13 +9,10 @@ use Rattle.book_core.specs.ListedRulings.{StandsAt}
 use Rattle.book_core.specs.Words.{ruled_in}
 use Rattle.table_model.specs.Words.{ChoiceRow, ChoiceTable, tables_of, choice_read_at, IsReadable}
 use Rattle.table_model.specs.ListsRead.{choice_shown}
-use Rattle.table_model.proofs.FitsLemmas.{numbers_fit}
 use Rattle.table_model.proofs.ListedChoices.{choice_listed, choice_row_at}
 use Rattle.tree_tables.specs.Fits.{IsNumbered}
-use Rattle.tree_tables.specs.Stored.{choice_entry}
-use Rattle.tree_tables.specs.declared.choice_rows.StoredChoice.{StoredChoice}
-use Rattle.table_ledger.specs.Ready.{IsReadyAt, Remembers}
-use Rattle.table_ledger.specs.RecordReads.{HasWideNames}
+use Rattle.table_ledger.proofs.Words.{View, numbers_fit, choice_entry, StoredChoice, IsReadyAt}
+use Rattle.table_ledger.proofs.Words.{Remembers, HasWideNames}
 use Rattle.table_ledger.specs.declared.summary.Summary.{Summary}
 use Rattle.table_ledger.proofs.Remembered.{rulings_are}
 use Rattle.book_core.specs.declared.listed_rulings.ListedAt.TheVariants as listed

@@ -1,23 +1,19 @@
 -- Work that is served is work of a ledger, whatever events it makes.
-use Rattle.std.proofs.Common.{◌≡◌, ◌∙◌, inl, inr, Bool, true, false, true≢false, List, []}
-use Rattle.std.proofs.Common.{Result, Ok, Err, refl, sym, ap, subst}
-use Rattle.sqlite_trees.specs.Tree.{Trees}
-use Rattle.sqlite_trees.specs.View.{View, IsClean}
-use Rattle.sqlite_trees.specs.declared.error.StoreError.{StoreError}
-use Rattle.sqlite_trees.specs.declared.store.Store.{Ghosts}
-use Rattle.tree_tables.specs.States.{HasCleanDisk, Survives, state}
-use Rattle.book_model.specs.declared.fault.LedgerFault.{LedgerFault}
-use Rattle.book_model.specs.declared.fault.LedgerFault.TheVariants.{Memory, Store}
+use Rattle.std.proofs.Common.{◌≡◌, ◌∙◌, inl, inr, Bool, true, false, true≢false, List, [], Result}
+use Rattle.std.proofs.Common.{Ok, Err, refl, sym, ap, subst}
 use Rattle.book_model.specs.Words.{Book, Event, after_all, Naming}
-use Rattle.book_core.specs.Calls.{Reopens, is_store, is_reopen}
-use Rattle.book_core.specs.Ledgers.{MayHave, may_have}
-use Rattle.book_core.specs.Transition.{Transition, ComesFrom, IsTransition}
-use Rattle.table_ledger.specs.Attempts.{Ends, Finishes, IsRefused, IsRolledBack}
-use Rattle.table_ledger.specs.Ready.{IsReadyAt, IsReady, IsStoredIn, StoreSomeBook}
-use Rattle.table_ledger.specs.LedgerState.{LedgerState, book_of_trees, MayFind, AreBooks, seen_on}
-use Rattle.table_ledger.specs.LedgerState.{state_on}
-use Rattle.table_ledger.specs.ReadyBooks.{book_of_stored, book_of_ready, book_of_left, LeavesTheLast}
-use Rattle.table_ledger.specs.Stages.{IsMade, AttemptsBy, ServesBy}
+use Rattle.book_core.specs.Words.{Reopens, is_store, is_reopen, MayHave, may_have, Transition}
+use Rattle.book_core.specs.Words.{IsTransition}
+use Rattle.book_core.specs.Transition.{ComesFrom}
+use Rattle.table_ledger.proofs.Words.{Trees, View, IsClean, StoreError, Ghosts, HasCleanDisk}
+use Rattle.table_ledger.proofs.Words.{Survives, state, LedgerFault, Memory, Store, Finishes}
+use Rattle.table_ledger.proofs.Words.{IsReadyAt, IsStoredIn, LedgerState, seen_on, state_on}
+use Rattle.table_ledger.proofs.Words.{book_of_ready, LeavesTheLast, AttemptsBy}
+use Rattle.table_ledger.specs.Attempts.{Ends, IsRefused, IsRolledBack}
+use Rattle.table_ledger.specs.Ready.{IsReady, StoreSomeBook}
+use Rattle.table_ledger.specs.LedgerState.{book_of_trees, MayFind, AreBooks}
+use Rattle.table_ledger.specs.ReadyBooks.{book_of_stored, book_of_left}
+use Rattle.table_ledger.specs.Stages.{IsMade, ServesBy}
 use Rattle.table_ledger.specs.declared.summary.Summary.{Summary}
 use Rattle.table_ledger.proofs.SurvivalLemmas.{clean_before, survives_then}
 

@@ -1,20 +1,17 @@
 -- A call that is tried inside a transaction: looks at the tables, and then an answer or steps.
 use Rattle.std.proofs.Common.{◌≡◌, ◌∙◌, inl, inr, List, Result, Ok, Err, Some, [], ◌∷◌, refl, sym}
 use Rattle.std.proofs.Common.{ap, subst, true≢false, IsErr}
-use Rattle.sqlite_trees.specs.declared.error.StoreError.{StoreError}
-use Rattle.book_model.specs.declared.fault.LedgerFault.{LedgerFault}
 use Rattle.book_model.specs.Words.{Book, Event, IsAnswered, after, Outcome, Naming}
 use Rattle.book_core.specs.Words.{Makes, listed, LeavesOpen}
 use Rattle.table_model.specs.Words.{changed, Tables, tables_of, IsSubmittedTo}
 use Rattle.table_model.proofs.EventLemmas.{event_follows}
-use Rattle.tree_rows.proofs.Calls.{only_looks, kept_after_look}
-use Rattle.tree_tables.specs.Holds.{Holds}
-use Rattle.tree_tables.specs.States.{State, HasCleanDisk, Survives}
-use Rattle.tree_tables.specs.Steps.{Does, KeepsLastCommit}
-use Rattle.tree_tables.proofs.Looking.{does_err, kept_last, only_both}
-use Rattle.table_ledger.specs.Commits.{Saw}
-use Rattle.table_ledger.specs.Ready.{IsStoredAs, Remembers}
-use Rattle.table_ledger.specs.Stages.{IsAtAs, LeavesOne, MakesOf, StagesAs, StagesBy}
+use Rattle.tree_rows.proofs.Calls.{only_looks}
+use Rattle.tree_tables.proofs.Looking.{does_err}
+use Rattle.table_ledger.proofs.Words.{StoreError, LedgerFault, kept_after_look, Holds, State}
+use Rattle.table_ledger.proofs.Words.{HasCleanDisk, Survives, Does, KeepsLastCommit, kept_last}
+use Rattle.table_ledger.proofs.Words.{only_both, Saw, Remembers, IsAtAs, LeavesOne, MakesOf}
+use Rattle.table_ledger.proofs.Words.{StagesAs, StagesBy}
+use Rattle.table_ledger.specs.Ready.{IsStoredAs}
 use Rattle.table_ledger.specs.declared.summary.Summary.{Summary}
 use Rattle.table_model.proofs.ReadableStays.{readable_stays}
 use Rattle.table_ledger.proofs.Remembered.{remembers_as}

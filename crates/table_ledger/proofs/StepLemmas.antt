@@ -1,16 +1,13 @@
 -- Steps inside one transaction, one after the other, and the store after their commit.
 use Rattle.std.proofs.Common.{◌≡◌, ◌∙◌, Result, Ok, Err, false, refl, sym, ap, subst, OnOk}
-use Rattle.sqlite_trees.specs.Tree.{Trees}
-use Rattle.sqlite_trees.specs.View.{View, Commits, OnlyWrites}
-use Rattle.sqlite_trees.specs.declared.error.StoreError.{StoreError}
+use Rattle.sqlite_trees.specs.View.{Commits}
 use Rattle.table_model.specs.Words.{new_tables, Tables}
-use Rattle.tree_rows.specs.Rows.{IsUnchanged}
-use Rattle.tree_tables.specs.Holds.{Holds, has_book}
-use Rattle.tree_tables.specs.States.{State, HasCleanDisk, Survives}
-use Rattle.tree_tables.specs.Steps.{Always, Changes, Does, HasNoRows, KeepsLastCommit, Makes}
-use Rattle.tree_tables.specs.Steps.{MayCommit}
+use Rattle.tree_tables.specs.Holds.{has_book}
+use Rattle.tree_tables.specs.Steps.{Changes, HasNoRows, Makes, MayCommit}
 use Rattle.tree_tables.proofs.Looking.{does_err, kept_after}
-use Rattle.table_ledger.specs.Commits.{IsAtRest, Saw, Stores}
+use Rattle.table_ledger.proofs.Words.{Trees, View, OnlyWrites, StoreError, IsUnchanged, Holds}
+use Rattle.table_ledger.proofs.Words.{State, HasCleanDisk, Survives, Always, Does, KeepsLastCommit}
+use Rattle.table_ledger.proofs.Words.{IsAtRest, Saw, Stores}
 use Rattle.table_ledger.specs.NewBooks.{MakesNew}
 use Rattle.table_ledger.proofs.UnchangedStores.{rest_on, trees_same}
 use Rattle.table_ledger.proofs.SurvivalLemmas.{clean_before, survives_both, survives_none}

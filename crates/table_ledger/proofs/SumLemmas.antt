@@ -1,20 +1,14 @@
 -- The sums in the row of the book, which are written once, after the records that change them.
 use Rattle.std.proofs.Common.{◌≡◌, ◌∙◌, ℕ, List, [], Result, Ok, Err, inl, inr, ap, refl, sym}
 use Rattle.std.proofs.Common.{subst, IsErr}
-use Rattle.sqlite_trees.specs.View.{View}
-use Rattle.sqlite_trees.specs.declared.error.StoreError.{StoreError}
-use Rattle.book_model.specs.declared.fault.LedgerFault.{LedgerFault}
 use Rattle.book_core.specs.Words.{listed}
 use Rattle.book_model.specs.Words.{Book, Event, Naming, Outcome, after_all}
 use Rattle.table_model.specs.Words.{set_sums, Tables, tables_of}
-use Rattle.tree_tables.specs.Holds.{Holds}
-use Rattle.tree_tables.specs.States.{HasCleanDisk, State}
-use Rattle.tree_tables.specs.Steps.{Changes, Does}
-use Rattle.tree_tables.proofs.Looking.{kept_last, only_both}
-use Rattle.table_ledger.specs.IdleCalls.{LeavesBook}
+use Rattle.tree_tables.specs.Steps.{Changes}
+use Rattle.table_ledger.proofs.Words.{View, StoreError, LedgerFault, Holds, HasCleanDisk, State}
+use Rattle.table_ledger.proofs.Words.{Does, kept_last, only_both, LeavesBook, Remembers, IsAt}
+use Rattle.table_ledger.proofs.Words.{IsAtAs, LeavesOne, StagesBy}
 use Rattle.table_ledger.specs.Premises.{HaveSums}
-use Rattle.table_ledger.specs.Ready.{Remembers}
-use Rattle.table_ledger.specs.Stages.{IsAt, IsAtAs, LeavesOne, StagesBy}
 use Rattle.table_ledger.specs.declared.summary.Summary.{Summary}
 use Rattle.table_ledger.proofs.Remembered.{remembers_as}
 use Rattle.table_ledger.proofs.StageLemmas.{unstaged}

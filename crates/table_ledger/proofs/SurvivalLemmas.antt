@@ -1,8 +1,7 @@
 -- What survives two calls.
 use Rattle.std.proofs.Common.{inl, inr, arith}
-use Rattle.sqlite_trees.specs.Tree.{Trees}
 use Rattle.tree_rows.proofs.Calls.{closes_both}
-use Rattle.tree_tables.specs.States.{State, HasCleanDisk, Survives}
+use Rattle.table_ledger.proofs.Words.{Trees, State, HasCleanDisk, Survives}
 
 -- the disk was clean before a call, if it is after it
 pub clean_before : {old new : State} {Commits : Trees → Type 0} → Survives old new Commits

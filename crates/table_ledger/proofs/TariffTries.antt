@@ -1,15 +1,11 @@
 -- A tariff that is tried: what it answers, and what it writes.
 use Rattle.std.proofs.Common.{◌≡◌, ◌≢◌, ◌∙◌, ℕ, List, refl, sym, ap, Bool, true, false, Ok, Err}
 use Rattle.std.proofs.Common.{Option, Some, None, if◌then◌else◌, nat_lt, sum_by, IsUtf8}
-use Rattle.sqlite_trees.specs.View.{View}
 use Rattle.book_model.proofs.Std.{values, list_any}
 use Rattle.book_model.specs.Words.{terms_ruled, IsDay, Terms, terms_in, Book, TariffAccepted}
 use Rattle.book_model.specs.Words.{most_cost, open_by, open_number, tariff_outcome, if_done, Naming}
 use Rattle.book_model.specs.Words.{has_text, RulingGiven, is_effective, is_later, tariff_answer}
 use Rattle.book_model.specs.Words.{with_tariff, Rulings}
-use Rattle.book_model.specs.declared.answer.Ruled.{Ruled}
-use Rattle.book_model.specs.declared.answer.Ruled.TheVariants.{Done}
-use Rattle.book_model.specs.declared.fault.LedgerFault.TheVariants.{Full}
 use Rattle.book_core.specs.Words.{ruled_in}
 use Rattle.book_model.proofs.TestLemmas.{tariff_tests}
 use Rattle.book_core.proofs.RulingLemmas.{done_by, other_by, said_by}
@@ -17,8 +13,9 @@ use Rattle.table_model.specs.Words.{tariff_at, amount_under, Tables, tables_of, 
 use Rattle.table_model.proofs.LateRows.{amount_is_read, late_counted}
 use Rattle.table_model.proofs.RulingLemmas.{terms_follow}
 use Rattle.table_ledger.specs.IdleCalls.{NeedsNoPrices}
-use Rattle.table_ledger.specs.Repricing.{CanBeSummed, CostUnder, CountsRecords, TakesTariff}
-use Rattle.table_ledger.specs.Stages.{IsAt}
+use Rattle.table_ledger.proofs.Words.{View, Ruled, Done, Full, CanBeSummed, CostUnder, TakesTariff}
+use Rattle.table_ledger.proofs.Words.{IsAt}
+use Rattle.table_ledger.specs.Repricing.{CountsRecords}
 use Rattle.table_ledger.specs.declared.summary.Summary.{Summary}
 use Rattle.table_ledger.proofs.Remembered.{Says}
 use Rattle.table_ledger.proofs.Repriced.{no_room, room}

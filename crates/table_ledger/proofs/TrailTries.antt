@@ -2,11 +2,9 @@
 -- read for it.
 use Rattle.std.proofs.Common.{◌≡◌, ◌∙◌, ℕ, List, refl, sym, ap, subst, Option, None, Some, Ok, Err}
 use Rattle.std.proofs.Common.{arith, map, All, ok_or, option_map}
-use Rattle.sqlite_trees.specs.View.{View}
 use Rattle.sqlite_trees.proofs.ListLemmas.{all-filter, all_from_map}
 use Rattle.book_model.proofs.Std.{entries, get, AllByRecursion, length-map, All-from_recursion}
 use Rattle.book_model.proofs.Std.{All-map}
-use Rattle.book_model.specs.declared.dispute.Variant.{Variant}
 use Rattle.book_model.specs.declared.fault.LedgerFault.TheVariants.{NoSuchRecord}
 use Rattle.book_model.specs.declared.trail.Trail.{Trail}
 use Rattle.book_model.specs.Words.{Reckoning, AcceptedTerms, Book, IsDay, Naming, Outcome, Rulings}
@@ -17,20 +15,14 @@ use Rattle.book_core.specs.Words.{ruled_in}
 use Rattle.table_model.specs.Words.{ChoiceRow, RecordRow, Tables, tables_of, rows_with, NamedRow}
 use Rattle.table_model.specs.Words.{variant_read, IsReadable, choices_with, life_read}
 use Rattle.table_model.specs.TrailRead.{trail_at, trail_read, trail_row}
-use Rattle.table_model.proofs.FitsLemmas.{numbers_fit}
 use Rattle.table_model.proofs.TableParts.{what_is}
 use Rattle.table_model.proofs.TrailLemmas.{trails_follow}
-use Rattle.tree_tables.specs.Answers.{FindsRecord, ListsSharing}
 use Rattle.tree_tables.specs.Fits.{ChosenFit}
-use Rattle.tree_tables.specs.Stored.{stored_entry}
-use Rattle.tree_tables.specs.UsageData.{IsUsageData}
-use Rattle.tree_tables.specs.declared.stored_record.StoredRecord.{StoredRecord}
 use Rattle.tree_tables.proofs.Layouts.{record_layout}
 use Rattle.tree_tables.proofs.RowsRead.{all_entries as each_of}
-use Rattle.table_ledger.specs.DisputeReads.{IsShownRow}
-use Rattle.table_ledger.specs.Ready.{IsReadyAt}
-use Rattle.table_ledger.specs.RecordReads.{HasWideNames}
-use Rattle.table_ledger.specs.Stages.{IsAt}
+use Rattle.table_ledger.proofs.Words.{View, Variant, numbers_fit, FindsRecord, ListsSharing}
+use Rattle.table_ledger.proofs.Words.{stored_entry, IsUsageData, StoredRecord, IsShownRow}
+use Rattle.table_ledger.proofs.Words.{IsReadyAt, HasWideNames, IsAt}
 use Rattle.table_ledger.specs.TrailReads.{CanBeTraced}
 use Rattle.table_ledger.specs.declared.summary.Summary.{Summary}
 use Rattle.table_ledger.proofs.AcceptTries.{none_found}

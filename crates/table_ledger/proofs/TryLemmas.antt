@@ -1,19 +1,14 @@
 -- A call that is tried: looks at the tables, and then an answer or a refusal.
 use Rattle.std.proofs.Common.{List, Result, Ok, Err, [], refl, sym, subst, true≢false, IsErr}
-use Rattle.sqlite_trees.specs.View.{View}
-use Rattle.sqlite_trees.specs.declared.error.StoreError.{StoreError}
-use Rattle.book_model.specs.declared.fault.LedgerFault.{LedgerFault}
 use Rattle.book_model.specs.Words.{Book, Event, Outcome, Naming}
 use Rattle.book_core.specs.Words.{Makes, LeavesOpen}
 use Rattle.table_model.specs.Words.{Tables, tables_of}
-use Rattle.tree_rows.specs.Rows.{IsUnchanged}
-use Rattle.tree_tables.specs.States.{HasCleanDisk, State, Survives}
-use Rattle.tree_tables.specs.Steps.{KeepsLastCommit, Looks}
-use Rattle.tree_rows.proofs.Calls.{kept_after_look, unchanged_both}
-use Rattle.tree_tables.proofs.Looking.{kept_last}
-use Rattle.table_ledger.specs.Commits.{Saw}
-use Rattle.table_ledger.specs.Ready.{IsReadyAt, IsStoredIn, Remembers}
-use Rattle.table_ledger.specs.Stages.{AttemptsBy, AttemptsOne, IsAt, MayKeepBy}
+use Rattle.tree_rows.proofs.Calls.{unchanged_both}
+use Rattle.table_ledger.proofs.Words.{View, StoreError, LedgerFault, IsUnchanged, HasCleanDisk}
+use Rattle.table_ledger.proofs.Words.{State, Survives, KeepsLastCommit, Looks, kept_after_look}
+use Rattle.table_ledger.proofs.Words.{kept_last, Saw, IsReadyAt, IsStoredIn, Remembers, AttemptsBy}
+use Rattle.table_ledger.proofs.Words.{AttemptsOne, IsAt}
+use Rattle.table_ledger.specs.Stages.{MayKeepBy}
 use Rattle.table_ledger.specs.declared.summary.Summary.{Summary}
 use Rattle.table_ledger.proofs.UnchangedStores.{holds_on, rest_on, trees_same}
 use Rattle.table_ledger.proofs.SurvivalLemmas.{clean_before, survives_both, survives_none}

@@ -1,11 +1,7 @@
 -- What stays of a store after calls that change nothing.
 use Rattle.std.proofs.Common.{◌≡◌, ◌∙◌, sym, ap, subst}
-use Rattle.sqlite_trees.specs.View.{View}
-use Rattle.table_model.specs.Tables.{Tables}
-use Rattle.tree_rows.specs.Rows.{IsUnchanged}
-use Rattle.tree_tables.specs.Holds.{Holds}
-use Rattle.tree_tables.specs.Steps.{KeepsLastCommit}
-use Rattle.table_ledger.specs.Commits.{IsAtRest}
+use Rattle.table_model.specs.Words.{Tables}
+use Rattle.table_ledger.proofs.Words.{View, IsUnchanged, Holds, KeepsLastCommit, IsAtRest}
 
 -- the trees are those from before
 pub trees_same : (old new : View) → IsUnchanged old new → new.trees ≡ old.trees

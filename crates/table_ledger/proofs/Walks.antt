@@ -1,14 +1,10 @@
 -- Walks, as calls on a store make them: a look, then a step by what it has answered, and so on.
 use Rattle.std.proofs.Common.{Ok, refl}
-use Rattle.sqlite_trees.specs.Tree.{Trees}
-use Rattle.sqlite_trees.specs.View.{OnlyWrites}
-use Rattle.table_model.specs.Tables.{Tables}
-use Rattle.tree_tables.specs.Holds.{Holds}
-use Rattle.tree_tables.specs.States.{HasCleanDisk, State, Survives}
-use Rattle.tree_tables.specs.Steps.{Does, Looks}
-use Rattle.tree_tables.proofs.Looking.{held_after_look, only_both}
-use Rattle.tree_tables.proofs.Looking.{only_looks, survives_both, was_clean}
+use Rattle.table_model.specs.Words.{Tables}
+use Rattle.tree_tables.proofs.Looking.{held_after_look, only_looks, survives_both, was_clean}
 use Rattle.table_ledger.proofs.SurvivalLemmas.{survives_none}
+use Rattle.table_ledger.proofs.Words.{Trees, OnlyWrites, Holds, HasCleanDisk, State, Survives, Does}
+use Rattle.table_ledger.proofs.Words.{Looks, only_both}
 
 -- what is known of any tables that some trees hold
 abbrev pub Shows : Trees → (Tables → Type 0) → Type 0

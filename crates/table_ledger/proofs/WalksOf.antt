@@ -1,17 +1,13 @@
 -- Walks over all records, by name, a step at each: the steps may depend on the tables before the
 -- first one.
 use Rattle.std.proofs.Common.{◌≡◌, ◌∙◌, ℕ, List, Option, Some, None, Ok, refl, sym, subst, ap}
-use Rattle.sqlite_trees.specs.Tree.{Trees}
 use Rattle.book_model.proofs.Std.{keys}
 use Rattle.table_model.specs.Words.{walk, Tables}
 use Rattle.tree_tables.specs.Answers.{FindsNext}
-use Rattle.tree_tables.specs.Holds.{Holds}
-use Rattle.tree_tables.specs.States.{State}
-use Rattle.tree_tables.specs.Steps.{Does, Looks}
-use Rattle.tree_tables.specs.declared.stored_record.StoredRecord.{StoredRecord}
 use Rattle.tree_tables.proofs.WalkNames.{IsWalking, KeepsNames, names_stay, next_names}
 use Rattle.tree_tables.proofs.WalkNames.{walking_ends}
 use Rattle.table_ledger.proofs.Walks.{WalksTo, walks_all, walks_none, walks_on}
+use Rattle.table_ledger.proofs.Words.{Trees, Holds, State, Does, Looks, StoredRecord}
 
 -- A walk has reached a name; and of the tables as they are now this still holds, by those before it.
 pub record HasWalked (Still : Tables → Tables → Type 0)

@@ -1,23 +1,18 @@
 -- What is answered to the rows of a period by another tariff, where they were found in the tables.
 use Rattle.std.proofs.Common.{◌≡◌, ◌∙◌, ℕ, Bool, true, List, Some, None, Ok, Err, refl, sym, ap}
 use Rattle.std.proofs.Common.{subst, Vec, arith, filter, if◌then◌else◌, Global}
-use Rattle.book_model.specs.declared.fault.LedgerFault.TheVariants.{Full, NoSuchPeriod}
-use Rattle.book_model.specs.declared.row.ChargeRow.{ChargeRow}
 use Rattle.book_model.specs.Words.{AreRows, Book, Naming, Outcome, Rulings, Terms, rows_if_room}
 use Rattle.book_model.specs.Words.{what_if_outcome}
 use Rattle.book_core.specs.Words.{ruled_in}
-use Rattle.sqlite_trees.specs.View.{View}
 use Rattle.book_model.proofs.Std.{entries}
 use Rattle.table_model.specs.Words.{Tables, tables_of, counted_rows, is_row_counted, row_costs}
 use Rattle.table_model.specs.Words.{is_period, IsReadable}
 use Rattle.table_model.specs.CountedRead.{what_if_read}
-use Rattle.table_model.proofs.CountedLemmas.{counted_follows, few_costs}
-use Rattle.tree_tables.specs.States.{State}
-use Rattle.table_ledger.specs.Commits.{Saw}
+use Rattle.table_model.proofs.CountedLemmas.{few_costs}
+use Rattle.table_ledger.proofs.Words.{Full, NoSuchPeriod, ChargeRow, View, counted_follows, State}
+use Rattle.table_ledger.proofs.Words.{Saw, IsReadyAt, Remembers, costs_of, AttemptsOne, IsAt}
 use Rattle.table_ledger.specs.DetailPrices.{FindsRowsCounted, KeepsCounted}
-use Rattle.table_ledger.specs.Ready.{IsReadyAt, Remembers}
-use Rattle.table_ledger.specs.OtherPrices.{IsTestOf, costs_of}
-use Rattle.table_ledger.specs.Stages.{AttemptsOne, IsAt}
+use Rattle.table_ledger.specs.OtherPrices.{IsTestOf}
 use Rattle.table_ledger.specs.declared.count_test.CountTest.{CountTest}
 use Rattle.table_ledger.specs.declared.summary.Summary.{Summary}
 use Rattle.table_ledger.proofs.Answering.{makes_answer, makes_refused}

@@ -1,14 +1,13 @@
-use Rattle.std.proofs.Common.{drop, ◌≡◌, ◌∙◌, ◌++◌, ◌∷◌, [], ◌+◌, refl, sym, ap, subst, length, length-append}
-use Rattle.tree_tables.specs.States.{state}
+use Rattle.std.proofs.Common.{drop, ◌≡◌, ◌∙◌, ◌++◌, ◌∷◌, [], ◌+◌, refl, sym, ap, subst, length}
+use Rattle.std.proofs.Common.{length-append}
 use Rattle.table_ledger.proofs.SurvivalLemmas.{clean_before, survives_then}
-use Rattle.book_core.specs.Submissions.{records_in}
-use Rattle.table_model.specs.Steps.{set_sums}
-use Rattle.table_ledger.proofs.ManyLemmas.{AreTaken, all_taken, step_failed}
-use Rattle.table_ledger.proofs.ManyLemmas.{step_refused, step_taken, step_untold}
-use Rattle.std.proofs.lemmas.Result.{err_from_is_err_and}
-use Rattle.tree_tables.proofs.Looking.{err_on}
+use Rattle.book_core.specs.Words.{records_in}
+use Rattle.table_model.specs.Words.{set_sums}
+use Rattle.table_ledger.proofs.ManyLemmas.{AreTaken, all_taken, step_failed, step_refused}
+use Rattle.table_ledger.proofs.ManyLemmas.{step_taken, step_untold}
 use Rattle.table_ledger.proofs.IdleRecords.{idle_next}
 use Rattle.table_ledger.proofs.SumLemmas.{sums_remembered}
+use Rattle.table_ledger.proofs.Words.{state, err_from_is_err_and, err_on}
 use Rattle.table_ledger.proofs.accept.stage_each.Goals as goal
 
 pub loop-one-preserved : goal.loop-one-preserved

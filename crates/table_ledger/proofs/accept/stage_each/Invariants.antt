@@ -1,10 +1,9 @@
 use Rattle.std.proofs.Common.{◌≡◌, drop, length}
-use Rattle.sqlite_trees.specs.Tree.{Trees}
 use Rattle.book_model.specs.Words.{Book}
-use Rattle.book_core.specs.Submissions.{records_in}
-use Rattle.tree_tables.specs.States.{HasCleanDisk, Survives, state}
-use Rattle.table_model.specs.Steps.{set_sums}
-use Rattle.table_ledger.specs.Stages.{IsAtAs, KeepsRulings}
+use Rattle.book_core.specs.Words.{records_in}
+use Rattle.table_model.specs.Words.{set_sums}
+use Rattle.table_ledger.proofs.Words.{Trees, HasCleanDisk, Survives, state, IsAtAs}
+use Rattle.table_ledger.specs.Stages.{KeepsRulings}
 use Rattle.table_ledger.proofs.ManyLemmas.{AreTaken}
 use Rattle.table_ledger.proofs.accept.stage_each.Given as goal
 

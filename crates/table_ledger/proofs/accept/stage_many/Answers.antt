@@ -1,12 +1,9 @@
 use Rattle.std.proofs.Common.{◌∙◌, sym, subst, Ok}
-use Rattle.book_core.specs.Submissions.{records_in}
+use Rattle.book_core.specs.Words.{records_in}
 use Rattle.book_core.proofs.SubmissionLemmas.{some_in}
-use Rattle.tree_tables.specs.States.{state}
-use Rattle.table_ledger.specs.Stages.{StagesMany}
+use Rattle.table_ledger.proofs.Words.{state, StagesMany, err_from_is_err_and, any_err, err_on}
 use Rattle.table_ledger.proofs.ManyLemmas.{many_staged, none_left, none_staged}
 use Rattle.table_ledger.proofs.SumLemmas.{sums_staged}
-use Rattle.std.proofs.lemmas.Result.{err_from_is_err_and}
-use Rattle.tree_tables.proofs.Looking.{any_err, err_on}
 use Rattle.table_ledger.proofs.IdleRecords.{sums_stay_each}
 use Rattle.table_ledger.proofs.SurvivalLemmas.{clean_before}
 use Rattle.table_ledger.proofs.accept.stage_many.Goals as goal

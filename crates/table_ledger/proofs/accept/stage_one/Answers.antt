@@ -1,10 +1,9 @@
 use Rattle.std.proofs.Common.{refl}
-use Rattle.table_model.specs.TablesOf.{tables_of}
-use Rattle.tree_tables.proofs.Looking.{any_err}
+use Rattle.table_model.specs.Words.{tables_of}
 use Rattle.table_ledger.proofs.AcceptTries.{accept_moves, price_is, saw_as, stage_full, stage_kept}
 use Rattle.table_ledger.proofs.AcceptTries.{stage_known, stage_unpriced}
 use Rattle.book_model.specs.Words.{accept_outcome}
-use Rattle.table_ledger.specs.IdleCalls.{LeavesBook}
+use Rattle.table_ledger.proofs.Words.{any_err, LeavesBook}
 use Rattle.table_ledger.proofs.BookRows.{can_be_read}
 use Rattle.table_ledger.proofs.IdleCalls.{idle_failed}
 use Rattle.table_ledger.proofs.StageLemmas.{stage_undone}

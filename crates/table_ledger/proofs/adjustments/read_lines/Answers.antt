@@ -1,10 +1,7 @@
 use Rattle.std.proofs.Common.{◌≡◌, ◌∙◌, ◌++◌, [], List, Option, false, refl, slice_index_or, sym}
 use Rattle.std.proofs.Common.{ap, Vec, append-nil, Global, take_all}
-use Rattle.std.proofs.lemmas.Result.{err_from_is_err_and}
 use Rattle.book_model.proofs.Std.{cons_option}
-use Rattle.book_model.specs.declared.line.Line.{Line}
-use Rattle.tree_tables.specs.declared.line_rows.StoredLine.{StoredLine}
-use Rattle.table_ledger.specs.LineReads.{lines_stored}
+use Rattle.table_ledger.proofs.Words.{err_from_is_err_and, Line, StoredLine, lines_stored}
 use Rattle.table_ledger.proofs.LineReadings.{line_more}
 use Rattle.table_ledger.proofs.TryLemmas.{looks_known, saw_found, saw_so, saw_then}
 use Rattle.table_ledger.proofs.OwnBooks.{fails_after_look}

@@ -1,7 +1,5 @@
 use Rattle.std.proofs.Common.{◌≡◌, take}
-use Rattle.tree_tables.specs.States.{state}
-use Rattle.table_ledger.specs.Commits.{Saw}
-use Rattle.table_ledger.specs.LineReads.{lines_stored}
+use Rattle.table_ledger.proofs.Words.{state, Saw, lines_stored}
 use Rattle.table_ledger.proofs.adjustments.read_lines.Given as goal
 
 -- the lines so far are read

@@ -1,8 +1,7 @@
 use Rattle.std.proofs.Common.{◌≡◌, ◌∙◌, ap, sym, true, false, List}
 use Rattle.table_model.specs.Words.{lines_read, is_period, tables_of}
 use Rattle.table_model.proofs.ListLemmas.{lists_follow}
-use Rattle.tree_tables.specs.declared.line_rows.StoredLine.{StoredLine}
-use Rattle.table_ledger.specs.LineReads.{lines_stored}
+use Rattle.table_ledger.proofs.Words.{StoredLine, lines_stored}
 use Rattle.book_core.specs.Words.{ruled_in}
 use Rattle.table_ledger.proofs.LineReadings.{lines_listed}
 use Rattle.table_ledger.proofs.ListReadings.{period_read}

@@ -1,9 +1,8 @@
-use Rattle.table_model.specs.Views.{is_due_in}
-use Rattle.tree_tables.specs.States.{state}
-use Rattle.tree_tables.proofs.WalkNames.{next_stands}
+use Rattle.table_model.specs.Words.{is_due_in}
 use Rattle.table_ledger.proofs.KeptNames.{settle_keeps}
 use Rattle.table_ledger.proofs.DueCharges.{settles_still, still_first, still_next}
 use Rattle.table_ledger.proofs.WalksOf.{of_all, of_none, of_on}
+use Rattle.table_ledger.proofs.Words.{state, next_stands}
 use Rattle.table_ledger.proofs.adoption.charge_all_due.Goals as goal
 
 pub records-init : goal.records-init

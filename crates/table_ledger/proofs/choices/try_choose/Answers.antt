@@ -1,14 +1,12 @@
 use Rattle.std.proofs.Common.{◌∙◌, ap, refl, sym, nat_le, ◌==◌}
 use Rattle.book_model.specs.Words.{choose_outcome, if_done, most_choices, record_named}
 use Rattle.book_core.proofs.RulingLemmas.{meant_by}
-use Rattle.tree_tables.proofs.Looking.{any_err}
 use Rattle.table_ledger.proofs.AcceptTries.{saw_as}
-use Rattle.book_core.proofs.OpenAnswers.{opens}
 use Rattle.table_ledger.proofs.Answering.{ruled_other}
 use Rattle.table_ledger.proofs.BookRows.{can_be_read}
 use Rattle.table_ledger.proofs.ChoiceTries.{choice_plain, choose_none, choose_staged, choose_told}
 use Rattle.table_ledger.proofs.ChoiceTries.{saw_shared, tests_move}
-use Rattle.table_ledger.specs.IdleCalls.{LeavesBook}
+use Rattle.table_ledger.proofs.Words.{any_err, opens, LeavesBook}
 use Rattle.table_ledger.proofs.CommitLemmas.{committed, uncommitted}
 use Rattle.table_ledger.proofs.IdleCalls.{idle_failed}
 use Rattle.table_ledger.proofs.SurvivalLemmas.{clean_before}

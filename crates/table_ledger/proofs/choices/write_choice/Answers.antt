@@ -2,10 +2,9 @@ use Rattle.std.proofs.Common.{◌≡◌, ◌∙◌, ℕ, Option, Some, None, ap,
 use Rattle.book_model.proofs.Std.{get, option_map_or}
 use Rattle.book_core.specs.declared.effects.Effects.{Effects}
 use Rattle.table_model.specs.Words.{put_choice_row, apply, charge_in, ChoiceTable, Tables}
-use Rattle.tree_tables.specs.States.{state}
-use Rattle.tree_tables.specs.Steps.{Does}
 use Rattle.table_ledger.specs.Premises.{IsNext}
 use Rattle.table_ledger.proofs.StepLemmas.{does_then}
+use Rattle.table_ledger.proofs.Words.{state, Does}
 use Rattle.table_ledger.proofs.choices.write_choice.Goals as goal
 
 -- effects leave the choices alone

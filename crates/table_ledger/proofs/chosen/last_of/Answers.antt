@@ -1,8 +1,7 @@
-use Rattle.std.proofs.Common.{◌≡◌, ◌∙◌, ◌++◌, ◌∷◌, ◌+◌, [], List, ℕ, ap, map, slice_index_or, subst, sym}
-use Rattle.std.proofs.Common.{take}
-use Rattle.std.proofs.lemmas.List.{map-append, take_all, take_more}
-use Rattle.tree_tables.specs.declared.choice_rows.StoredChoice.{StoredChoice}
-use Rattle.table_ledger.specs.Adoptions.{IsLastOf}
+use Rattle.std.proofs.Common.{◌≡◌, ◌∙◌, ◌++◌, ◌∷◌, ◌+◌, [], List, ℕ, ap, map, slice_index_or, subst}
+use Rattle.std.proofs.Common.{sym, take, take_all}
+use Rattle.book_model.proofs.Std.{map-append, take_more}
+use Rattle.table_ledger.proofs.Words.{StoredChoice, IsLastOf}
 use Rattle.table_ledger.proofs.DueCharges.{last_more}
 use Rattle.table_ledger.proofs.TryLemmas.{looks_known, saw_found, saw_so, saw_then}
 use Rattle.table_ledger.proofs.chosen.last_of.Goals as goal

@@ -1,8 +1,5 @@
 use Rattle.std.proofs.Common.{map, take}
-use Rattle.tree_tables.specs.States.{state}
-use Rattle.tree_tables.specs.declared.choice_rows.StoredChoice.{StoredChoice}
-use Rattle.table_ledger.specs.Adoptions.{IsLastOf}
-use Rattle.table_ledger.specs.Commits.{Saw}
+use Rattle.table_ledger.proofs.Words.{state, StoredChoice, IsLastOf, Saw}
 use Rattle.table_ledger.proofs.chosen.last_of.Given as goal
 
 -- of the choices so far the last ones are remembered

@@ -1,7 +1,5 @@
 use Rattle.std.proofs.Common.{List, map, subst}
-use Rattle.tree_tables.specs.declared.choice_rows.StoredChoice.{StoredChoice}
-use Rattle.tree_tables.proofs.Looking.{looks_after_look}
-use Rattle.table_ledger.specs.Adoptions.{IsLastOf}
+use Rattle.table_ledger.proofs.Words.{StoredChoice, looks_after_look, IsLastOf}
 use Rattle.table_ledger.proofs.DueCharges.{last_listed}
 use Rattle.table_ledger.proofs.chosen.look_for_chosen.Goals as goal
 

@@ -1,6 +1,5 @@
 use Rattle.std.proofs.Common.{◌-◌, length}
-use Rattle.tree_tables.specs.States.{state}
-use Rattle.table_ledger.specs.Commits.{Saw}
+use Rattle.table_ledger.proofs.Words.{state, Saw}
 use Rattle.table_ledger.specs.declared.close.TheConstants.{MOST_AT_ONCE}
 use Rattle.table_ledger.proofs.PostedDetails.{GatheredSo}
 use Rattle.table_ledger.proofs.close.gather_names.Given as goal

@@ -1,9 +1,7 @@
 use Rattle.std.proofs.Common.{List, subst, sym}
 use Rattle.table_model.proofs.PostedRows.{posted_alike}
-use Rattle.table_model.specs.PostedLaws.{PostsTouched}
-use Rattle.tree_tables.specs.Answers.{ListsLines}
-use Rattle.tree_tables.specs.declared.line_rows.StoredLine.{StoredLine}
-use Rattle.table_ledger.specs.Posting.{names_in}
+use Rattle.table_model.specs.Words.{PostsTouched}
+use Rattle.table_ledger.proofs.Words.{ListsLines, StoredLine, names_in}
 use Rattle.table_ledger.proofs.PostedDetails.{rest_posted}
 use Rattle.table_ledger.proofs.StageLemmas.{does_seen}
 use Rattle.table_ledger.proofs.StepLemmas.{does_so, does_then}

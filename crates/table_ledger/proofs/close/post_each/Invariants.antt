@@ -1,7 +1,6 @@
 use Rattle.std.proofs.Common.{Ok, take}
-use Rattle.table_model.specs.Steps.{post_each}
-use Rattle.tree_tables.specs.States.{state}
-use Rattle.tree_tables.specs.Steps.{Always, Does}
+use Rattle.table_model.specs.Words.{post_each}
+use Rattle.table_ledger.proofs.Words.{state, Always, Does}
 use Rattle.table_ledger.proofs.close.post_each.Given as goal
 
 -- the records of the names so far are posted

@@ -1,8 +1,6 @@
 use Rattle.std.proofs.Common.{Ok, take}
-use Rattle.table_model.specs.Steps.{post_each}
-use Rattle.tree_tables.specs.States.{state}
-use Rattle.tree_tables.specs.Steps.{Always, Does}
-use Rattle.table_ledger.specs.Posting.{names_in}
+use Rattle.table_model.specs.Words.{post_each}
+use Rattle.table_ledger.proofs.Words.{state, Always, Does, names_in}
 use Rattle.table_ledger.proofs.close.post_lines.Given as goal
 
 -- the records of the lines so far are posted

@@ -1,9 +1,8 @@
 use Rattle.std.proofs.Common.{◌≡◌, ℕ, List, map, take}
 use Rattle.std.specs.BTreeMap.{get}
-use Rattle.std.specs.FinMap.{find}
-use Rattle.std.specs.Option.{option_or}
+use Rattle.book_model.proofs.Std.{option_or}
 use Rattle.book_model.specs.Words.{by_bytes}
-use Rattle.tree_tables.specs.Stored.{signed_name}
+use Rattle.table_ledger.proofs.Words.{find, signed_name}
 use Rattle.table_ledger.proofs.count_test.add_first.Given as goal
 
 -- those of the lines so far have joined that are the first of their records

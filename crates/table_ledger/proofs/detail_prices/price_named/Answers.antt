@@ -1,15 +1,11 @@
 use Rattle.std.proofs.Common.{◌∙◌, ap, subst, sym}
 use Rattle.book_model.specs.Words.{price_by, record_with}
-use Rattle.table_model.specs.Tables.{RecordRow}
-use Rattle.tree_rows.proofs.Taking.{some_is}
-use Rattle.tree_tables.specs.Answers.{FindsRecord}
-use Rattle.tree_tables.specs.States.{state}
-use Rattle.tree_tables.specs.Stored.{stored_entry}
-use Rattle.tree_tables.specs.UsageData.{IsUsageData}
+use Rattle.table_model.specs.Words.{RecordRow}
 use Rattle.tree_tables.proofs.FoundNames.{never_missed}
-use Rattle.tree_tables.proofs.Looking.{caused_memory, err_on}
 use Rattle.table_ledger.proofs.LineReadings.{found_there}
 use Rattle.table_ledger.proofs.TryLemmas.{looks_known, saw_found}
+use Rattle.table_ledger.proofs.Words.{some_is, FindsRecord, state, stored_entry, IsUsageData}
+use Rattle.table_ledger.proofs.Words.{caused_memory, err_on}
 use Rattle.table_ledger.proofs.detail_prices.price_named.Goals as goal
 
 pub returns-in_err-stored-clause-cause : goal.returns-in_err-stored-clause-cause

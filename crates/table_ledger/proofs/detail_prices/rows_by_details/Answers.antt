@@ -1,7 +1,5 @@
 use Rattle.std.proofs.Common.{◌++◌, ◌∷◌, [], subst}
-use Rattle.tree_tables.specs.States.{state}
-use Rattle.tree_tables.proofs.Looking.{caused_memory, err_on}
-use Rattle.table_ledger.specs.OtherPrices.{SumsUp}
+use Rattle.table_ledger.proofs.Words.{state, caused_memory, err_on, SumsUp}
 use Rattle.table_ledger.proofs.DetailCosts.{summed_all, summed_dear, summed_few, summed_next}
 use Rattle.table_ledger.proofs.DetailCosts.{summed_none}
 use Rattle.table_ledger.proofs.OwnBooks.{fails_after_look}

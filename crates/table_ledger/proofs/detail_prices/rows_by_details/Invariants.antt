@@ -1,5 +1,4 @@
-use Rattle.tree_tables.specs.States.{state}
-use Rattle.table_ledger.specs.Commits.{Saw}
+use Rattle.table_ledger.proofs.Words.{state, Saw}
 use Rattle.table_ledger.proofs.DetailCosts.{SummedTo}
 use Rattle.table_ledger.proofs.detail_prices.rows_by_details.Given as goal
 

@@ -1,5 +1,4 @@
-use Rattle.tree_tables.specs.States.{state}
-use Rattle.table_ledger.specs.Commits.{Saw}
+use Rattle.table_ledger.proofs.Words.{state, Saw}
 use Rattle.table_ledger.proofs.DetailTries.{ReachesAll}
 use Rattle.table_ledger.proofs.details.next_sought.Given as goal
 

@@ -2,12 +2,8 @@ use Rattle.std.proofs.Common.{◌≡◌, ◌∙◌, List, Vec, ap, map, not, sub
 use Rattle.std.proofs.Common.{if◌then◌else◌}
 use Rattle.book_model.proofs.Std.{list_any}
 use Rattle.book_model.specs.Words.{AreDisputes, Disputed, dispute_shown}
-use Rattle.book_model.specs.declared.dispute.Dispute.{Dispute}
 use Rattle.table_model.specs.Words.{rows_with, has_none_charged, join_last}
-use Rattle.tree_tables.specs.Answers.{is_charged}
-use Rattle.tree_tables.specs.Stored.{stored_entry}
-use Rattle.tree_tables.specs.declared.stored_record.StoredRecord.{StoredRecord}
-use Rattle.table_ledger.specs.DisputeReads.{IsShownRow}
+use Rattle.table_ledger.proofs.Words.{Dispute, is_charged, stored_entry, StoredRecord, IsShownRow}
 use Rattle.table_ledger.proofs.JoinLemmas.{grouped_more}
 use Rattle.table_ledger.proofs.OwnBooks.{fails_after_look}
 use Rattle.table_ledger.proofs.TryLemmas.{saw_found, saw_so, saw_then}

@@ -1,9 +1,7 @@
 use Rattle.std.proofs.Common.{◌≡◌, map, take, filter}
 use Rattle.book_model.specs.Words.{AreDisputes, dispute_shown}
 use Rattle.table_model.specs.Words.{grouped, has_none_charged}
-use Rattle.tree_tables.specs.States.{state}
-use Rattle.tree_tables.specs.Stored.{stored_entry}
-use Rattle.table_ledger.specs.Commits.{Saw}
+use Rattle.table_ledger.proofs.Words.{state, stored_entry, Saw}
 use Rattle.table_ledger.proofs.disputes.grouped.Given as goal
 
 -- the records so far are in groups, which can be shown

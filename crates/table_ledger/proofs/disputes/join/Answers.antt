@@ -1,9 +1,7 @@
 use Rattle.std.proofs.Common.{◌≡◌, ◌∙◌, ◌++◌, ◌∷◌, [], true, false, ap, sym, map, List}
-use Rattle.book_model.specs.declared.dispute.Dispute.{Dispute}
-use Rattle.book_model.specs.declared.dispute.Variant.{Variant}
 use Rattle.book_model.specs.Words.{dispute_shown, same_bytes}
-use Rattle.tree_tables.specs.Stored.{stored_entry}
 use Rattle.table_ledger.proofs.JoinLemmas.{joined_same, joined_other, joined_show}
+use Rattle.table_ledger.proofs.Words.{Dispute, Variant, stored_entry}
 use Rattle.table_ledger.proofs.disputes.join.Goals as goal
 
 pub returns-in_ok-push-3-clause-joined : goal.returns-in_ok-push-3-clause-joined

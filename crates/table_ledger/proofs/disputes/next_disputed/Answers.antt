@@ -1,11 +1,10 @@
 use Rattle.std.proofs.Common.{ap, subst, sym, ◌∙◌}
 use Rattle.book_model.proofs.Std.{list_any}
 use Rattle.table_model.specs.Words.{rows_with}
-use Rattle.tree_tables.specs.Answers.{is_charged}
-use Rattle.tree_tables.specs.Steps.{Always}
 use Rattle.table_ledger.proofs.DisputeTries.{PassedTo, next_is, passed_none, passed_on}
 use Rattle.table_ledger.proofs.OwnBooks.{fails_after_look}
 use Rattle.table_ledger.proofs.TryLemmas.{looks_known, saw_found, saw_none, saw_so, saw_then}
+use Rattle.table_ledger.proofs.Words.{is_charged, Always}
 use Rattle.table_ledger.proofs.disputes.next_disputed.Goals as goal
 
 -- none is passed at first

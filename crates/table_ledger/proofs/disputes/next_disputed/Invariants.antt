@@ -1,5 +1,4 @@
-use Rattle.tree_tables.specs.States.{state}
-use Rattle.table_ledger.specs.Commits.{Saw}
+use Rattle.table_ledger.proofs.Words.{state, Saw}
 use Rattle.table_ledger.proofs.DisputeTries.{PassedTo}
 use Rattle.table_ledger.proofs.disputes.next_disputed.Given as goal
 

@@ -1,10 +1,7 @@
 use Rattle.std.proofs.Common.{refl, subst, sym, All}
 use Rattle.book_model.specs.Words.{dispute_outcome}
-use Rattle.tree_tables.specs.States.{state}
-use Rattle.tree_tables.specs.Stored.{stored_entry}
-use Rattle.tree_tables.specs.UsageData.{IsUsageData}
-use Rattle.tree_tables.specs.declared.stored_record.StoredRecord.{StoredRecord}
-use Rattle.table_ledger.specs.DisputeReads.{IsIdentity, IsShownRow}
+use Rattle.table_ledger.proofs.Words.{state, stored_entry, IsUsageData, StoredRecord, IsIdentity}
+use Rattle.table_ledger.proofs.Words.{IsShownRow}
 use Rattle.table_ledger.proofs.BookLists.{own_identity, own_records, own_sharing}
 use Rattle.table_ledger.proofs.BookRows.{taken_shown, taken_usage}
 use Rattle.table_ledger.proofs.DisputeTries.{made_shows, none_left, one_left, own_memory}

@@ -1,14 +1,11 @@
 use Rattle.std.proofs.Common.{◌∙◌, sym, ap, subst, List, map, All, filter}
-use Rattle.tree_tables.specs.Stored.{stored_entry}
-use Rattle.tree_tables.specs.declared.stored_record.StoredRecord.{StoredRecord}
 use Rattle.table_model.specs.Words.{disputes_read, grouped, has_none_charged, tables_of}
 use Rattle.table_model.proofs.DisputeLemmas.{disputes_follow}
-use Rattle.table_ledger.specs.DisputeReads.{IsShownRow}
+use Rattle.table_ledger.proofs.Words.{stored_entry, StoredRecord, IsShownRow, IsUsageData}
 use Rattle.table_ledger.proofs.ListReadings.{list_read}
 use Rattle.table_ledger.proofs.OwnBooks.{own_failed}
 use Rattle.table_ledger.proofs.SurvivalLemmas.{clean_before}
 use Rattle.table_ledger.proofs.TryLemmas.{saw_found, saw_none, saw_then}
-use Rattle.tree_tables.specs.UsageData.{IsUsageData}
 use Rattle.table_ledger.proofs.BookLists.{own_records, own_uncharged}
 use Rattle.table_ledger.proofs.BookRows.{taken_shown, taken_usage}
 use Rattle.table_ledger.proofs.disputes.try_disputes.Goals as goal

@@ -1,10 +1,9 @@
 use Rattle.std.proofs.Common.{◌≡◌, ◌∙◌, ◌++◌, ◌∷◌, [], sym, ap, arith, subst}
-use Rattle.std.proofs.lemmas.Result.{IfOk-weaker}
-use Rattle.tree_tables.specs.UsageData.{IsUsageData}
-use Rattle.tree_tables.proofs.Looking.{err_on, err_so}
 use Rattle.book_model.specs.Words.{Priced, IsUsage, price_by, record_with}
 use Rattle.table_model.specs.Words.{row_record}
-use Rattle.table_ledger.specs.OtherPrices.{AreSumsOf, Costs, SumsUp, costs_of, passes_mark}
+use Rattle.table_ledger.proofs.Words.{IfOk-weaker, IsUsageData, err_on, err_so, AreSumsOf, SumsUp}
+use Rattle.table_ledger.proofs.Words.{costs_of}
+use Rattle.table_ledger.specs.OtherPrices.{Costs, passes_mark}
 use Rattle.table_ledger.proofs.OtherPriceLemmas.{costs_few, costs_more, costs_same}
 use Rattle.table_ledger.proofs.other_prices.add_counted.Goals as goal
 

@@ -1,9 +1,8 @@
 use Rattle.std.proofs.Common.{List, subst, sym}
-use Rattle.book_core.specs.OfficeRulings.{ruled_in}
-use Rattle.tariff_rules.specs.declared.priced.Priced.{Priced}
-use Rattle.tree_tables.proofs.Looking.{err_on, err_so, fails_after_look, looks_after_look}
+use Rattle.book_model.specs.Words.{Priced}
+use Rattle.book_core.specs.Words.{ruled_in}
 use Rattle.table_ledger.specs.DetailPrices.{CanBeTried}
-use Rattle.table_ledger.specs.OtherPrices.{AreRowsOf}
+use Rattle.table_ledger.proofs.Words.{err_on, err_so, fails_after_look, looks_after_look, AreRowsOf}
 use Rattle.table_ledger.proofs.WhatIfTries.{costs_tested}
 use Rattle.table_ledger.proofs.other_prices.rows_by_name.Goals as goal
 

@@ -1,10 +1,8 @@
 use Rattle.std.proofs.Common.{◌++◌, ◌∷◌, [], arith, subst, sym}
 use Rattle.tree_tables.specs.Fits.{RecordFits}
-use Rattle.tree_tables.specs.States.{state}
-use Rattle.tree_tables.proofs.Looking.{caused_memory, err_on}
-use Rattle.table_ledger.specs.OtherPrices.{SumsUp, costs_of}
-use Rattle.table_ledger.proofs.OtherPriceLemmas.{entry_there, passed_all, passed_dear}
-use Rattle.table_ledger.proofs.OtherPriceLemmas.{passed_on, passed_with}
+use Rattle.table_ledger.proofs.Words.{state, caused_memory, err_on, SumsUp, costs_of}
+use Rattle.table_ledger.proofs.OtherPriceLemmas.{entry_there, passed_all, passed_dear, passed_on}
+use Rattle.table_ledger.proofs.OtherPriceLemmas.{passed_with}
 use Rattle.table_ledger.proofs.OwnBooks.{fails_after_look}
 use Rattle.table_ledger.proofs.TryLemmas.{looks_known, saw_found, saw_so, saw_then}
 use Rattle.table_ledger.proofs.other_prices.rows_under.Goals as goal

@@ -1,6 +1,5 @@
 use Rattle.tree_rows.specs.Passes.{IsPassing}
-use Rattle.tree_tables.specs.States.{state}
-use Rattle.table_ledger.specs.Commits.{Saw}
+use Rattle.table_ledger.proofs.Words.{state, Saw}
 use Rattle.table_ledger.proofs.OtherPriceLemmas.{PassedSo}
 use Rattle.table_ledger.proofs.other_prices.rows_under.Given as goal
 

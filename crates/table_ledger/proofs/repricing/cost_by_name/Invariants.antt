@@ -1,7 +1,6 @@
 use Rattle.std.proofs.Common.{◌≤◌}
 use Rattle.book_model.specs.Words.{most_cost}
-use Rattle.tree_tables.specs.States.{state}
-use Rattle.table_ledger.specs.Commits.{Saw}
+use Rattle.table_ledger.proofs.Words.{state, Saw}
 use Rattle.table_ledger.proofs.NameSums.{SumsTo}
 use Rattle.table_ledger.proofs.repricing.cost_by_name.Given as goal
 

@@ -1,6 +1,4 @@
-use Rattle.tree_tables.specs.States.{state}
-use Rattle.table_ledger.specs.Commits.{Saw}
-use Rattle.table_ledger.specs.Repricing.{CanBeSummed}
+use Rattle.table_ledger.proofs.Words.{state, Saw, CanBeSummed}
 use Rattle.table_ledger.proofs.LateCosts.{SumsSo}
 use Rattle.table_ledger.proofs.repricing.cost_of_late.Given as goal
 

@@ -1,8 +1,7 @@
 use Rattle.std.proofs.Common.{refl}
-use Rattle.tree_tables.specs.States.{state}
-use Rattle.tree_tables.proofs.WalkNames.{next_stands}
 use Rattle.table_ledger.proofs.KeptNames.{reprice_keeps}
 use Rattle.table_ledger.proofs.WalksOf.{of_all, of_none, of_on}
+use Rattle.table_ledger.proofs.Words.{state, next_stands}
 use Rattle.table_ledger.proofs.repricing.reprice_by_name.Goals as goal
 
 pub records-init : goal.records-init

@@ -1,8 +1,7 @@
-use Rattle.table_model.specs.TableChanges.{reprice_step}
-use Rattle.tree_tables.specs.States.{state}
-use Rattle.tree_tables.specs.Steps.{Always}
+use Rattle.table_model.specs.Words.{reprice_step}
 use Rattle.table_ledger.proofs.Walks.{WalksTo}
 use Rattle.table_ledger.proofs.WalksOf.{HasWalked}
+use Rattle.table_ledger.proofs.Words.{state, Always}
 use Rattle.table_ledger.proofs.repricing.reprice_by_name.Given as goal
 
 -- the records up to the last name have their new prices

@@ -1,5 +1,4 @@
-use Rattle.tree_tables.specs.States.{state}
-use Rattle.table_ledger.specs.Repricing.{TakesTariff}
+use Rattle.table_ledger.proofs.Words.{state, TakesTariff}
 use Rattle.table_ledger.proofs.LatePrices.{IsPricedTo}
 use Rattle.table_ledger.proofs.Walks.{WalksTo}
 use Rattle.table_ledger.proofs.repricing.reprice_late.Given as goal

@@ -1,13 +1,12 @@
 use Rattle.std.proofs.Common.{◌≡◌, ◌∙◌, refl, subst, Some}
 use Rattle.book_model.specs.Words.{IsDay, Terms, tariff_outcome, with_tariff}
-use Rattle.book_model.specs.declared.answer.Ruled.{Ruled}
-use Rattle.book_model.specs.declared.fault.LedgerFault.TheVariants.{Full}
 use Rattle.table_ledger.proofs.Answering.{makes_refused}
 use Rattle.table_ledger.proofs.CommitLemmas.{committed, uncommitted}
 use Rattle.table_ledger.proofs.Remembered.{remembers_same}
 use Rattle.table_ledger.proofs.TariffTries.{tariff_full, tariff_is_event}
 use Rattle.table_ledger.proofs.StageLemmas.{stage_steps}
 use Rattle.table_ledger.proofs.TryLemmas.{saw_found, saw_then, try_answered}
+use Rattle.table_ledger.proofs.Words.{Ruled, Full}
 use Rattle.table_ledger.proofs.tariff.put_in_force.Goals as goal
 
 -- a tariff's first day is one, whichever way the tariff is seen

@@ -1,13 +1,12 @@
 use Rattle.std.proofs.Common.{◌≢◌, ◌∙◌, Ok, ap, false, sym}
 use Rattle.book_model.specs.Words.{if_done, terms_in}
-use Rattle.book_model.specs.declared.answer.Ruled.TheVariants.{Done}
 use Rattle.book_core.proofs.OpenAnswers.{terms_open}
 use Rattle.book_core.proofs.RulingLemmas.{said_by}
-use Rattle.book_core.specs.OfficeRulings.{ruled_in}
+use Rattle.book_core.specs.Words.{ruled_in}
 use Rattle.table_ledger.proofs.Answering.{ruled_other}
 use Rattle.table_ledger.proofs.TariffTries.{tariff_moves, tariff_other}
 use Rattle.table_ledger.proofs.TryLemmas.{saw_none}
-use Rattle.tree_tables.proofs.Looking.{any_err}
+use Rattle.table_ledger.proofs.Words.{Done, any_err}
 use Rattle.table_ledger.proofs.tariff.try_tariff.Goals as goal
 
 pub returns-then-not-is_done-clause-tries : goal.returns-then-not-is_done-clause-tries

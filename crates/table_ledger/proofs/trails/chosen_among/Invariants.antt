@@ -1,7 +1,5 @@
 use Rattle.std.proofs.Common.{◌≡◌, map, take}
-use Rattle.tree_tables.specs.States.{state}
-use Rattle.tree_tables.specs.Stored.{choice_entry}
-use Rattle.table_ledger.specs.Commits.{Saw}
+use Rattle.table_ledger.proofs.Words.{state, choice_entry, Saw}
 use Rattle.table_ledger.specs.TrailReads.{chosen_of}
 use Rattle.table_ledger.proofs.trails.chosen_among.Given as goal
 

@@ -1,7 +1,6 @@
 use Rattle.std.proofs.Common.{◌≡◌, ◌≤◌, ◌-◌, suc}
-use Rattle.table_model.specs.TrailRead.{line_turns}
-use Rattle.tree_tables.specs.States.{state}
-use Rattle.table_ledger.specs.Commits.{Saw}
+use Rattle.table_model.specs.Words.{line_turns}
+use Rattle.table_ledger.proofs.Words.{state, Saw}
 use Rattle.table_ledger.proofs.trails.later_turns.Given as goal
 
 -- the turns are those of the periods so far

@@ -1,11 +1,7 @@
 use Rattle.std.proofs.Common.{◌∙◌, ap, map, subst, sym, All}
 use Rattle.table_model.specs.Words.{variant_read}
-use Rattle.tree_tables.specs.States.{state}
-use Rattle.tree_tables.specs.Stored.{stored_entry}
-use Rattle.tree_tables.specs.UsageData.{IsUsageData}
-use Rattle.tree_tables.specs.declared.stored_record.StoredRecord.{StoredRecord}
-use Rattle.tree_tables.proofs.Looking.{caused_memory, err_on}
-use Rattle.table_ledger.specs.DisputeReads.{IsShownRow}
+use Rattle.table_ledger.proofs.Words.{state, stored_entry, IsUsageData, StoredRecord, caused_memory}
+use Rattle.table_ledger.proofs.Words.{err_on, IsShownRow}
 use Rattle.table_ledger.specs.TrailReads.{CanBeTraced}
 use Rattle.table_ledger.proofs.OwnBooks.{fails_after_look}
 use Rattle.table_ledger.proofs.TrailTries.{members_dated, sharing_shown, sharing_usage}

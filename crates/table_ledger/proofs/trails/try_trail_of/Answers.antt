@@ -1,15 +1,10 @@
 use Rattle.std.proofs.Common.{◌∙◌, ap, refl, sym, subst}
-use Rattle.book_core.specs.OfficeRulings.{ruled_in}
+use Rattle.book_core.specs.Words.{ruled_in}
 use Rattle.book_model.specs.declared.trail.Trail.{Trail}
 use Rattle.book_model.specs.Words.{record_with, trail_outcome, trail_shown}
-use Rattle.table_model.specs.TablesOf.{tables_of}
-use Rattle.tree_tables.specs.Answers.{FindsRecord}
-use Rattle.tree_tables.specs.States.{state}
-use Rattle.tree_tables.specs.Stored.{stored_entry}
-use Rattle.tree_tables.specs.UsageData.{IsUsageData}
+use Rattle.table_model.specs.Words.{tables_of}
 use Rattle.table_ledger.specs.TrailReads.{IsKin}
 use Rattle.table_ledger.proofs.AcceptTries.{saw_as}
-use Rattle.book_core.proofs.OpenAnswers.{opens}
 use Rattle.table_ledger.proofs.Answering.{makes_answer, makes_refused}
 use Rattle.table_ledger.proofs.BookLists.{own_records}
 use Rattle.table_ledger.proofs.DisputeTries.{own_memory}
@@ -17,6 +12,7 @@ use Rattle.table_ledger.proofs.LineReadings.{found_there}
 use Rattle.table_ledger.proofs.OwnBooks.{own_failed}
 use Rattle.table_ledger.proofs.TrailTries.{by_stored, is_trail, no_record, own_traced, reckoned_is}
 use Rattle.table_ledger.proofs.TryLemmas.{saw_then, saw_found, saw_none, try_answered, try_refused}
+use Rattle.table_ledger.proofs.Words.{FindsRecord, state, stored_entry, IsUsageData, opens}
 use Rattle.table_ledger.proofs.trails.try_trail_of.Goals as goal
 
 pub returns-in_err-stored-clause-own : goal.returns-in_err-stored-clause-own

@@ -1,12 +1,11 @@
 use Rattle.std.proofs.Common.{◌∙◌, map, ap, arith}
 use Rattle.std.specs.BTreeMap.{get}
-use Rattle.std.specs.FinMap.{find}
-use Rattle.std.specs.Option.{option_or}
+use Rattle.book_model.proofs.Std.{option_or}
 use Rattle.book_model.specs.Words.{by_bytes}
 use Rattle.tree_rows.proofs.Calls.{schema_both}
-use Rattle.tree_tables.specs.Stored.{signed_name}
 use Rattle.table_ledger.proofs.CountedList.{lines_first}
 use Rattle.table_ledger.proofs.TryLemmas.{saw_found, saw_so, saw_then}
+use Rattle.table_ledger.proofs.Words.{find, signed_name}
 use Rattle.table_ledger.proofs.upgrading.first_lines.Goals as goal
 
 pub loop-period-preserved : goal.loop-period-preserved

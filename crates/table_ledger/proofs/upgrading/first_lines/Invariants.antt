@@ -1,10 +1,8 @@
 use Rattle.std.proofs.Common.{◌≡◌, ◌≤◌, ◌-◌, ℕ, List}
 use Rattle.std.specs.BTreeMap.{get}
-use Rattle.sqlite_trees.specs.View.{KeepsSchema}
 use Rattle.book_model.specs.Words.{by_bytes}
-use Rattle.table_model.specs.CountedRead.{first_line}
-use Rattle.tree_tables.specs.States.{state}
-use Rattle.table_ledger.specs.Commits.{Saw}
+use Rattle.table_model.specs.Words.{first_line}
+use Rattle.table_ledger.proofs.Words.{KeepsSchema, state, Saw}
 use Rattle.table_ledger.proofs.upgrading.first_lines.Given as goal
 
 -- the lines are the first of the periods so far

@@ -1,7 +1,6 @@
-use Rattle.std.proofs.lemmas.Result.{IfOk-weaker}
-use Rattle.sqlite_trees.specs.View.{IsClean}
 use Rattle.tree_rows.specs.Rows.{Finds}
 use Rattle.tree_tables.proofs.TheBook.{book_found}
+use Rattle.table_ledger.proofs.Words.{IfOk-weaker, IsClean}
 use Rattle.table_ledger.proofs.upgrading.has_book_row.Goals as goal
 
 -- a look at the tree tells it

@@ -1,9 +1,7 @@
 use Rattle.std.specs.BTreeMap.{get}
-use Rattle.sqlite_trees.specs.View.{KeepsSchema}
 use Rattle.tree_rows.specs.Passes.{IsPassing}
 use Rattle.book_model.specs.Words.{by_bytes}
-use Rattle.tree_tables.specs.States.{state}
-use Rattle.table_ledger.specs.Commits.{Saw}
+use Rattle.table_ledger.proofs.Words.{KeepsSchema, state, Saw}
 use Rattle.table_ledger.proofs.CountedList.{ListedSo}
 use Rattle.table_ledger.proofs.upgrading.list_counted.Given as goal
 

@@ -1,8 +1,6 @@
 use Rattle.std.proofs.Common.{refl, subst, sym}
-use Rattle.sqlite_trees.specs.Tree.{Trees}
-use Rattle.tree_tables.specs.States.{state}
 use Rattle.tree_tables.specs.Steps.{HasNoRows}
-use Rattle.table_ledger.specs.Commits.{IsAtRest}
+use Rattle.table_ledger.proofs.Words.{Trees, state, IsAtRest}
 use Rattle.table_ledger.proofs.OpenLemmas.{created}
 use Rattle.table_ledger.proofs.ledger.TableLedger.create.Goals as goal
 

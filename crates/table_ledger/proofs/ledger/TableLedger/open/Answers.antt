@@ -1,8 +1,6 @@
 use Rattle.std.proofs.Common.{subst, sym}
-use Rattle.sqlite_trees.specs.Tree.{Trees}
-use Rattle.table_model.specs.TablesOf.{tables_of}
-use Rattle.tree_tables.specs.States.{state}
-use Rattle.table_ledger.specs.Commits.{Stores}
+use Rattle.table_model.specs.Words.{tables_of}
+use Rattle.table_ledger.proofs.Words.{Trees, state, Stores}
 use Rattle.table_ledger.proofs.LoadLemmas.{read_open}
 use Rattle.table_ledger.proofs.ledger.TableLedger.open.Goals as goal
 

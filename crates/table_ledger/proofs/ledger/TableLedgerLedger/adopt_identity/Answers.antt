@@ -1,7 +1,6 @@
 use Rattle.std.proofs.Common.{sym, true≢false}
 use Rattle.book_model.specs.Words.{adopt_outcome}
-use Rattle.table_ledger.specs.IdleCalls.{LeavesBook}
-use Rattle.table_ledger.specs.LedgerState.{ledger_state}
+use Rattle.table_ledger.proofs.Words.{LeavesBook, ledger_state}
 use Rattle.table_ledger.proofs.IdleCalls.{idle_settled}
 use Rattle.table_ledger.proofs.OneCall.{call_reopen, call_settled}
 use Rattle.table_ledger.proofs.ledger.TableLedgerLedger.adopt_identity.Goals as goal

@@ -1,10 +1,9 @@
 use Rattle.std.proofs.Common.{sym, true≢false}
 use Rattle.book_model.specs.Words.{close_outcome}
-use Rattle.table_ledger.specs.IdleCalls.{LeavesBook}
-use Rattle.table_ledger.specs.LedgerState.{ledger_state}
+use Rattle.table_ledger.proofs.Words.{LeavesBook, ledger_state}
 use Rattle.table_ledger.proofs.IdleCalls.{idle_settled}
 use Rattle.table_ledger.proofs.OneCall.{call_reopen, call_settled}
-use Rattle.book_model.proofs.DayLemmas.{day_kept}
+use Rattle.book_model.proofs.Lemmas.{day_kept}
 use Rattle.table_ledger.proofs.ledger.TableLedgerLedger.close.Goals as goal
 
 pub returns-then-self-clause-call : goal.returns-then-self-clause-call
