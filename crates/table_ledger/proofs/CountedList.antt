@@ -1,23 +1,22 @@
 -- The records that are counted: how a pass over all records lists them, and what it is to count
 -- them one after the other.
 use Rattle.std.proofs.Common.{◌≡◌, ◌∙◌, ◌+◌, ◌-◌, ℕ, List, [], ◌∷◌, ◌++◌, Bool, true, false, cond}
-use Rattle.std.proofs.Common.{◌||◌, Option, map, length, refl, sym, ap, subst, inl, inr, is_some}
+use Rattle.std.proofs.Common.{◌||◌, Option, map, refl, sym, ap, subst, inl, inr, is_some}
 use Rattle.std.proofs.Common.{append-nil, append_assoc, arith, if◌then◌else◌, IsPermutation}
 use Rattle.std.proofs.Math.Bool.{or-false}
 use Rattle.std.specs.FinMap.{get-empty}
 use Rattle.std.proofs.lemmas.Bool.{cases_Bool}
-use Rattle.book_model.proofs.Std.{entries, list_any, option_or, nat_list_cmp_total, length-map}
-use Rattle.book_model.proofs.Std.{map-append, filter-append, IsPermutation-map, IsPermutation-sym}
+use Rattle.book_model.proofs.Std.{entries, list_any, option_or, nat_list_cmp_total, map-append}
+use Rattle.book_model.proofs.Std.{filter-append, IsPermutation-map, IsPermutation-sym}
 use Rattle.book_model.proofs.Std.{list_any-IsPermutation}
 use Rattle.book_model.specs.Words.{by_bytes, has, set_of}
 use Rattle.book_model.proofs.Lemmas.{has_with, is, same_records, has-set_of}
 use Rattle.table_model.specs.Words.{charged_before_lines, first_line, NamedRow, count_row, Tables}
 use Rattle.table_model.proofs.WalkLemmas.{or_turn}
-use Rattle.tree_tables.specs.Answers.{ListsCloses}
 use Rattle.tree_tables.specs.Passes.{HasRecordsLeft, TakesFirst, TakesNext}
-use Rattle.table_ledger.proofs.Words.{find, View, Row, ListsLines, record_columns, close_entry}
-use Rattle.table_ledger.proofs.Words.{signed_name, Close, StoredLine, names_of, uncounted}
-use Rattle.table_ledger.specs.FirstForm.{AddsCounted, count_each, names_by, names_read, open_read}
+use Rattle.table_ledger.proofs.Words.{find, View, Row, ListsLines, record_columns, signed_name}
+use Rattle.table_ledger.proofs.Words.{StoredLine, names_of, uncounted}
+use Rattle.table_ledger.specs.FirstForm.{AddsCounted, count_each, names_by, names_read}
 use Rattle.table_ledger.specs.FirstForm.{with_details}
 use Rattle.table_ledger.specs.declared.upgrading.Counted.{Counted}
 use Rattle.table_ledger.proofs.CountTestLemmas.{lines_on}
@@ -35,12 +34,6 @@ lines_first period tables found name before now so_far lists adds =
     (so_far ∙ ap (first_line tables.lines name 1) (sym same)) lists adds
     ∙ ap (first_line tables.lines name 1) more
 
--- the number of the open period, by a list of the closes
-pub open_is : (last : ℕ) (tables : Tables) (list : List Close) → last ≡ length list + 1
-    → ListsCloses tables list → last ≡ open_read tables
-open_is last tables list is lists =
-    is ∙ ap (λ n. n + 1) (sym (length-map list close_entry) ∙ ap length lists)
-
 -- the name of a row that is not counted does not join, and that of one that is does
 pub adds_none : (line : Option Bool) (entry : NamedRow) (names : List (List ℕ))
     → charged_before_lines line entry.1.charged ≡ false → AddsCounted line entry names names
@@ -54,14 +47,6 @@ adds_one line entry old new counted joins =
     joins ∙ ap (λ b. if b then old ++ entry.0 ∷ [] else old) (sym counted)
 
 module _ (first : List ℕ → Option Bool) where
-  -- the name of one row, if it is counted
-  one_name : (one : NamedRow) → names_by first (one ∷ [])
-      ≡ cond (charged_before_lines (first one.0) one.1.charged) (one.0 ∷ []) []
-  one_name one = elim (cases_Bool (charged_before_lines (first one.0) one.1.charged)) [
-    | inl counted ↦ rw counted refl
-    | inr other ↦ rw other refl
-  ]
-
   -- the names of rows, and then those of others
   names_both : (rows others : List NamedRow)
       → names_by first (rows ++ others) ≡ names_by first rows ++ names_by first others

@@ -38,11 +38,6 @@ module _ (from at : List ℕ) (tables : Tables) (so_far : PassedTo from at table
   not_charged row is =
       record { there = is.there; uncharged = is.uncharged; reached = so_far.passed row is }
 
-  -- where no record is left that is not charged, none is in dispute
-  pub passed_all : ((row : NamedRow) → IsUnchargedFrom at tables row → ⊥)
-      → FindsDisputed from tables.records None
-  passed_all none = λ row is. none row (not_charged row is)
-
   module _ (identity : List ℕ) (next : IsNextUncharged at tables identity) where
     -- the next identity is from the first bytes on
     identity_from : is_from from identity ≡ true
@@ -82,10 +77,6 @@ module _ (from at : List ℕ) (tables : Tables) (so_far : PassedTo from at table
         })
 
 -- ---- the dispute of an identity
-
--- records as the list of disputes shows them
-abbrev variants : List StoredRecord → List Variant
-variants rows = map variant_read (map stored_entry rows)
 
 -- a dispute of an identity and of records that can be shown can be shown
 pub made_shows : (made : Dispute) (identity : List ℕ) (rows : List StoredRecord)

@@ -1,15 +1,13 @@
 -- Records that are charged under the second rule: what is due, and a step that charges it.
-use Rattle.std.proofs.Common.{◌≡◌, ◌∙◌, ℕ, List, Bool, false, cond, not, ◌&&◌, Option, Some, None}
-use Rattle.std.proofs.Common.{refl, sym, ap, map, ◌++◌, ◌∷◌, [], ℤ, filter, if◌then◌else◌}
+use Rattle.std.proofs.Common.{◌≡◌, ◌∙◌, ℕ, List, Bool, false, Option, Some, None, refl, sym, ap}
+use Rattle.std.proofs.Common.{map, ◌++◌, ◌∷◌, [], ℤ, filter, if◌then◌else◌}
 use Rattle.book_model.proofs.Std.{entries, get, last_or, option_map_or, nat_list_eq_equiv, map-map}
 use Rattle.book_model.specs.Words.{same_bytes}
-use Rattle.book_core.specs.Words.{charge_held}
-use Rattle.table_model.specs.Words.{charge_in, charge_due_step, ChoiceRow, RecordRow, RecordTable}
-use Rattle.table_model.specs.Words.{Tables, name_has_identity, is_due_in, member_at}
+use Rattle.table_model.specs.Words.{charge_due_step, ChoiceRow, RecordRow, RecordTable, Tables}
+use Rattle.table_model.specs.Words.{name_has_identity, is_due_in}
 use Rattle.table_model.proofs.DueStays.{due_stays, last_pushed, last_stays}
-use Rattle.tree_tables.specs.Stored.{IsAsRead}
-use Rattle.table_ledger.proofs.Words.{FindsRecord, choice_entry, stored_entry, StoredChoice}
-use Rattle.table_ledger.proofs.Words.{StoredRecord, IsLastOf}
+use Rattle.table_ledger.proofs.Words.{FindsRecord, choice_entry, StoredChoice, StoredRecord}
+use Rattle.table_ledger.proofs.Words.{IsLastOf}
 use Rattle.table_ledger.specs.Adoptions.{IsLast, JoinsLast, last_chosen}
 use Rattle.table_ledger.specs.declared.chosen.Chosen.{Chosen}
 use Rattle.table_ledger.proofs.ChoiceTries.{found_row}
@@ -55,22 +53,6 @@ last_listed choices chosen tables lists lasts identity =
     ∙ ap (map (λ (entry : ℕ × ChoiceRow). entry.1.name)) lists
     ∙ sym (map-map (λ (choice : ChoiceRow). choice.name) (λ (entry : ℕ × ChoiceRow). entry.1)
     (entries tables.choices)))
-
--- ---- the step
-
-module _ (period : ℕ) (last : Option ℤ) (stored : StoredRecord) (tables : Tables)
-    (stands : IsAsRead stored tables) where
-  -- the tables with it charged
-  abbrev charged : Tables
-  charged = charge_in period stored.name (charge_held last (member_at (stored_entry stored))) tables
-
-  -- it is charged by the step if it is due and is not charged
-  pub settles : (due is_charged : Bool) → due ≡ is_due_in tables stored.name
-      → is_charged ≡ stored.charged
-      → cond (due && not is_charged) charged tables
-      ≡ charge_due_step period last (is_due_in tables) stored.name tables
-  settles due is_charged is same =
-      (λ i. cond (is i && not (same i)) charged tables) ∙ sym (rw stands)
 
 -- ---- the walk
 

@@ -1,11 +1,10 @@
 -- The summary that is read is that of the tables, and so of their book.
 use Rattle.std.proofs.Common.{◌≡◌, ◌∙◌, ℕ, ℤ, List, [], ◌∷◌, ap, arith, map, refl, subst, sym, None}
-use Rattle.std.proofs.Common.{Option, Some, inl, inr, Err, Ok, Result, false, length, All, IfErr}
-use Rattle.std.proofs.Common.{IfOk, ◌==◌, if◌then◌else◌, filter_map, option_map}
+use Rattle.std.proofs.Common.{Option, Some, Err, Ok, Result, false, length, All, IfErr, IfOk, ◌==◌}
+use Rattle.std.proofs.Common.{if◌then◌else◌, filter_map}
 use Rattle.book_model.proofs.Std.{AllZip, cons_option, All-cons}
 use Rattle.book_model.specs.Words.{no_rulings, IsDay, Book, Naming, Rulings, AcceptedTerms}
 use Rattle.book_model.specs.Words.{second_rule}
-use Rattle.book_model.specs.declared.fault.LedgerFault.TheVariants.{NotBooks}
 use Rattle.book_core.specs.Words.{IsOpenAt, ruled_in}
 use Rattle.table_model.specs.Words.{BookRow, Tables, tables_of, adopted_read, tariff_read}
 use Rattle.table_model.specs.Words.{IsReadable}
@@ -109,17 +108,6 @@ remembered naming book summary whole recalls =
       held = recalls.held;
       total = recalls.total;
     }
-
--- the row of the book is never missing
-pub never_missed : (found : Option Stored) (book : BookRow) → option_map book_entry found ≡ Some book
-    → found ≡ None → ⊥
-never_missed None book same none = absurd (let e = same in cc)
-never_missed (Some row) book same none = absurd (let e = none in cc)
-
--- a fault of the store does not say that there are no books
-pub never_both : (fault : LedgerFault) → fault ≡ NotBooks → IsStoreFault fault → ⊥
-never_both fault none (inl memory) = absurd (let e = sym none ∙ memory in cc)
-never_both fault none (inr store) = absurd (let e = sym none ∙ store in cc)
 
 -- books that were read are open
 pub read_open : (naming : Naming) (old new : State) (summary : Summary) (book : Book)

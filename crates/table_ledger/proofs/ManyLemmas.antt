@@ -48,19 +48,6 @@ pub record AreTaken (written : Tables → Tables) (naming : Naming) (records res
   pub only : OnlyWrites old new
   pub at : IsAtAs written naming is new (after_all events book)
 
--- no record was taken yet
-pub none_taken : {written : Tables → Tables} {naming : Naming} {records : List (List ℕ)}
-    {is : Summary} {view : View} {book : Book} → IsAtAs written naming is view book
-    → AreTaken written naming records records is view view book []
-none_taken {naming = naming} {records = records} {book = book} at = record {
-  events = [];
-  leads = λ later late accepts.
-      subst (λ events. Accepts naming records later false book events false)
-      (sym (append-nil late)) accepts;
-  only = refl;
-  at = at;
-}
-
 -- one more record was answered and written
 pub more_taken : {written : Tables → Tables} {naming : Naming} {records rest : List (List ℕ)}
     {bytes : List ℕ} {was is : Summary} {old middle new : View} {book : Book}

@@ -171,18 +171,6 @@ module _ (terms : Terms) (test : CountTest) where
     pub to_come : HasRecordsLeft view left
     pub sums_are : AreSumsOf sums (costs_of terms test passed)
 
-  -- none at first
-  pub passed_none : (view : View) (sums : RowSums) (tables : Tables) → AreSumsOf sums []
-      → HasRecordsLeft view (entries tables.records) → PassedSo view sums 0 tables
-  passed_none view sums tables are has = record {
-    passed = [];
-    left = entries tables.records;
-    many = refl;
-    whole = refl;
-    to_come = has;
-    sums_are = are;
-  }
-
   -- The next row is the first of those that are still to come.
   module _ (old new : View) (sums : RowSums) (steps : ℕ) (tables : Tables) (row : Row)
       (so_far : PassedSo old sums steps tables) (takes : TakesNext old new row true) where

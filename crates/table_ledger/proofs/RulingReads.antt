@@ -1,35 +1,19 @@
 -- What stands in the list of rulings, by what is remembered and by the table of choices.
-use Rattle.std.proofs.Common.{◌≡◌, ◌∙◌, ◌+◌, ◌<◌, ℕ, [], Option, None, Some, length, refl, sym, ap}
-use Rattle.std.proofs.Common.{subst, arith, get_or, slice_get, option_map}
+use Rattle.std.proofs.Common.{◌≡◌, ◌∙◌, ◌+◌, ◌<◌, ℕ, [], Some, length, refl, sym, ap, subst, arith}
+use Rattle.std.proofs.Common.{get_or, slice_get, option_map}
 use Rattle.book_model.proofs.Std.{get, slice_get-get_or}
 use Rattle.book_model.specs.declared.listed_ruling.ListedRuling.{ListedRuling}
 use Rattle.book_model.specs.Words.{data_of, Book, Choice, Naming, name_of, ruling_shown}
 use Rattle.book_model.specs.Words.{rulings_listed}
 use Rattle.book_core.specs.ListedRulings.{StandsAt}
 use Rattle.book_core.specs.Words.{ruled_in}
-use Rattle.table_model.specs.Words.{ChoiceRow, ChoiceTable, tables_of, choice_read_at, IsReadable}
-use Rattle.table_model.specs.ListsRead.{choice_shown}
+use Rattle.table_model.specs.Words.{ChoiceRow, tables_of, choice_read_at, IsReadable}
 use Rattle.table_model.proofs.ListedChoices.{choice_listed, choice_row_at}
 use Rattle.tree_tables.specs.Fits.{IsNumbered}
-use Rattle.table_ledger.proofs.Words.{View, numbers_fit, choice_entry, StoredChoice, IsReadyAt}
-use Rattle.table_ledger.proofs.Words.{Remembers, HasWideNames}
+use Rattle.table_ledger.proofs.Words.{View, numbers_fit, IsReadyAt, Remembers, HasWideNames}
 use Rattle.table_ledger.specs.declared.summary.Summary.{Summary}
 use Rattle.table_ledger.proofs.Remembered.{rulings_are}
 use Rattle.book_core.specs.declared.listed_rulings.ListedAt.TheVariants as listed
-
--- a choice that was found is shown as its row
-pub shown_row : (number : ℕ) (choices : ChoiceTable) (stored : StoredChoice)
-    → Some (choice_entry stored)
-    ≡ option_map (λ (row : ChoiceRow). (number, row)) (get choices number)
-    → choice_read_at number choices ≡ Some (choice_shown (choice_entry stored))
-shown_row number choices stored is =
-    both (get choices number) ∙ ap (option_map choice_shown) (sym is)
-  where
-    both : (found : Option ChoiceRow)
-        → option_map (λ (row : ChoiceRow). choice_shown (number, row)) found
-        ≡ option_map choice_shown (option_map (λ (row : ChoiceRow). (number, row)) found)
-    both None = refl
-    both (Some row) = refl
 
 module _ {summary : Summary} {book : Book} (remembers : Remembers summary book) (naming : Naming)
     (number : ℕ) where
