@@ -17,6 +17,7 @@ use Rattle.book_model.specs.Words.{is_dated_in, is_day_of, most_cost, most_held,
 use Rattle.book_model.specs.Words.{price_by, rows_of, same_bytes}
 use Rattle.book_model.proofs.Lemmas.{counted_at, by_detail_total, has_those, is_itself}
 use Rattle.book_model.proofs.Lemmas.{same_bytes-by_cmp, SumsAlike, length-alike, length-sum_by}
+use Rattle.book_model.proofs.RecordSets.{tests_swap}
 use Rattle.book_model.proofs.RowLemmas.{rows_if_room-alike}
 use Rattle.table_model.specs.Words.{row_record, charged_before_lines, counted_rows, first_line}
 use Rattle.table_model.specs.Words.{is_row_counted, row_costs, FindsLeast, IsDetail, IsLeastDetail}
@@ -34,7 +35,8 @@ use Rattle.tree_rows.proofs.IndexOrders.{by_bytes_exact}
 use Rattle.tree_rows.proofs.Remaining.{is_less}
 use Rattle.tree_tables.proofs.LateSums.{sum_one_less}
 use Rattle.tree_tables.proofs.RowsRead.{all_entries}
-use Rattle.table_ledger.specs.DetailPrices.{FindsRowsOfDays, IsNextPriced, KeepsCounted, is_kept}
+use Rattle.table_ledger.specs.DetailPrices.{CountsByDay, FindsRowsOfDays, IsNextPriced}
+use Rattle.table_ledger.specs.DetailPrices.{is_counted_between}
 use Rattle.table_ledger.proofs.Words.{Detail, Full, ChargeRow, seeks, AreRowsOf, AreSumsOf, SumsUp}
 use Rattle.table_ledger.specs.declared.detail_prices.DetailPrice.{DetailPrice}
 use Rattle.table_ledger.specs.declared.details.Sought.{Sought}
@@ -65,24 +67,18 @@ filter_where p q (e ∷ es) all =
 -- where a period counts what is kept of its days, that is what it counts
 pub kept_costs : (number : ℕ) (rulings : Rulings) (terms : Terms) (tables : Tables)
     (close through : Option ℤ) → close ≡ through_of (number - 1) rulings
-    → through ≡ through_of number rulings → KeepsCounted number rulings tables
-    → row_costs terms (filter (is_kept close through tables) (entries tables.records))
+    → through ≡ through_of number rulings → CountsByDay number rulings tables
+    → row_costs terms (filter (is_counted_between close through tables) (entries tables.records))
     ≡ row_costs terms (counted_rows number rulings tables)
 kept_costs number rulings terms tables close through close_is through_is keeps =
     let kept : NamedRow → Bool =
-    is_kept (through_of (number - 1) rulings) (through_of number rulings) tables in
+    is_counted_between (through_of (number - 1) rulings) (through_of number rulings) tables in
     (λ i. row_costs terms
-    (filter (is_kept (close_is i) (through_is i) tables) (entries tables.records)))
+    (filter (is_counted_between (close_is i) (through_is i) tables) (entries tables.records)))
     ∙ ap (row_costs terms) (sym (filter_where (is_row_counted number rulings tables.lines) kept
     (entries tables.records) (all_entries nat_list_cmp_total by_bytes_exact
     (λ (entry : NamedRow). is_row_counted number rulings tables.lines entry ≡ kept entry)
     tables.records keeps)))
-
-turned : (a b : Bool) → (a && b) ≡ (b && a)
-turned true true = refl
-turned true false = refl
-turned false true = refl
-turned false false = refl
 
 module _ (naming : Naming) (book : Book) (whole : IsReadable naming book) where
   abbrev its_tables : Tables
@@ -104,15 +100,12 @@ module _ (naming : Naming) (book : Book) (whole : IsReadable naming book) where
         (sym (names_follow.counted naming book bytes whole.sound there))
 
     -- by its row
-    counted_row : (name : List ℕ) (row : RecordRow) → get its_tables.records name ≡ Some row
-        → is_row_counted (suc k) book.rulings its_tables.lines (name, row)
-        ≡ is_kept (through_of (suc k - 1) book.rulings) (through_of (suc k) book.rulings) its_tables
-        (name, row)
+    counted_row : CountsByDay (suc k) book.rulings its_tables
     counted_row =
         every_row naming book whole.sound
-        (λ one. is_row_counted (suc k) book.rulings its_tables.lines one
-        ≡ is_kept (through_of (suc k - 1) book.rulings) (through_of (suc k) book.rulings) its_tables
-        one)
+        (λ (one : NamedRow). is_row_counted (suc k) book.rulings its_tables.lines one
+        ≡ (contains_key its_tables.counted one.0
+        && is_day_of (suc k) book.rulings one.1.priced.day))
         (λ bytes priced there price.
         let name : List ℕ = name_of naming bytes in
         let dated = day-price book.rulings bytes priced price in
@@ -122,11 +115,12 @@ module _ (naming : Naming) (book : Book) (whole : IsReadable naming book) where
         ∙ counted_record bytes there
         ∙ ap (λ day. is_day_of (suc k) book.rulings day && contains_key its_tables.counted name)
         (sym dated)
-        ∙ turned (is_day_of (suc k) book.rulings priced.day) (contains_key its_tables.counted name))
+        ∙ tests_swap (is_day_of (suc k) book.rulings priced.day)
+        (contains_key its_tables.counted name))
 
   -- so each period of a book does
   pub keeps_counted : (number : ℕ) → is_period number book.rulings ≡ true
-      → KeepsCounted number book.rulings its_tables
+      → CountsByDay number book.rulings its_tables
   keeps_counted zero is = absurd (true≢false (sym is))
   keeps_counted (suc k) is =
       let early : nat_le (suc k) (open_by book.rulings) ≡ true =
@@ -248,6 +242,11 @@ module _ (terms : Terms) (close through : Option ℤ) where
   abbrev cost_of : NamedRow → Priced
   cost_of entry = price_by terms (row_record entry.1)
 
+  -- what those of the days cost
+  abbrev all_costs : Tables → List Priced
+  all_costs tables =
+      row_costs terms (filter (is_counted_between close through tables) (entries tables.records))
+
   -- a part of what those cost together that are still to come
   abbrev pub to_come : (Priced → ℕ) → Option Detail → Tables → ℕ
   to_come part last tables =
@@ -272,14 +271,12 @@ module _ (terms : Terms) (close through : Option ℤ) where
 
   -- the same part of what all cost
   kept_part : (tables : Tables) (part : Priced → ℕ)
-      → sum_by part
-      (row_costs terms (filter (is_kept close through tables) (entries tables.records)))
-      ≡ to_come part None tables
+      → sum_by part (all_costs tables) ≡ to_come part None tables
   kept_part tables part =
       fold-map (λ n (one : Priced). n + part one) cost_of 0
-      (filter (is_kept close through tables) (entries tables.records))
+      (filter (is_counted_between close through tables) (entries tables.records))
       ∙ ap (sum_by (λ (entry : NamedRow). part (cost_of entry)))
-      (filter_agree (is_kept close through tables) (is_left close through None tables)
+      (filter_agree (is_counted_between close through tables) (is_left close through None tables)
       (λ entry. ap (λ b. contains_key tables.counted entry.0 && b)
       (sym (and-true (is_between close through entry.1.priced.day)))) (entries tables.records))
 
@@ -291,9 +288,8 @@ module _ (terms : Terms) (close through : Option ℤ) where
         → ((costs : List Priced) → AreSumsOf sums costs → AreRowsOf costs (Some rows))
         → FindsRowsOfDays terms close through tables (Some rows)
     summed_all none rows answers =
-        rows_alike so_far.costs
-        (row_costs terms (filter (is_kept close through tables) (entries tables.records)))
-        (Some rows) (record { sums = all }) (answers so_far.costs so_far.are)
+        rows_alike so_far.costs (all_costs tables) (Some rows) (record { sums = all })
+        (answers so_far.costs so_far.are)
       where
         passed : (name : List ℕ) (row : RecordRow) → get tables.records name ≡ Some row
             → is_left close through last tables (name, row) ≡ false
@@ -313,9 +309,7 @@ module _ (terms : Terms) (close through : Option ℤ) where
             passed)
             ∙ filter-nothing (entries tables.records)
 
-        all : (part : Priced → ℕ) → sum_by part so_far.costs
-            ≡ sum_by part
-            (row_costs terms (filter (is_kept close through tables) (entries tables.records)))
+        all : (part : Priced → ℕ) → sum_by part so_far.costs ≡ sum_by part (all_costs tables)
         all part =
             let left : to_come part last tables ≡ 0 =
             ap (sum_by (λ (entry : NamedRow). part (cost_of entry))) nothing in
@@ -374,8 +368,7 @@ module _ (terms : Terms) (close through : Option ℤ) where
             → SumsUp more (costs ++ next.priced ∷ []) false)
             → FindsRowsOfDays terms close through tables None
         summed_dear adds =
-            let all : List Priced =
-            row_costs terms (filter (is_kept close through tables) (entries tables.records)) in
+            let all : List Priced = all_costs tables in
             let some = adds so_far.costs so_far.are in
             let parts : sum_by (λ (one : Priced). one.amount) (so_far.costs ++ next.priced ∷ [])
             + to_come (λ (one : Priced). one.amount) (Some next.detail) tables

@@ -11,7 +11,7 @@ use Rattle.table_model.specs.CountedRead.{what_if_read}
 use Rattle.table_model.proofs.CountedLemmas.{few_costs}
 use Rattle.table_ledger.proofs.Words.{Full, NoSuchPeriod, ChargeRow, View, counted_follows, State}
 use Rattle.table_ledger.proofs.Words.{Saw, IsReadyAt, Remembers, costs_of, AttemptsOne, IsAt}
-use Rattle.table_ledger.specs.DetailPrices.{FindsRowsCounted, KeepsCounted}
+use Rattle.table_ledger.specs.DetailPrices.{CountsByDay, FindsRowsCounted}
 use Rattle.table_ledger.specs.OtherPrices.{IsTestOf}
 use Rattle.table_ledger.specs.declared.count_test.CountTest.{CountTest}
 use Rattle.table_ledger.specs.declared.summary.Summary.{Summary}
@@ -66,9 +66,9 @@ module _ (naming : Naming) (summary : Summary) (number : ℕ) (terms : Terms) wh
   module _ (there : is_period number (ruled_in summary.rulings) ≡ true) where
     -- the period counts what is kept of its days
     keeps : (book : Book) → IsReadable naming book → Remembers summary book
-        → KeepsCounted number (ruled_in summary.rulings) (tables_of naming book)
+        → CountsByDay number (ruled_in summary.rulings) (tables_of naming book)
     keeps book whole remembers =
-        subst (λ (rulings : Rulings). KeepsCounted number rulings (tables_of naming book))
+        subst (λ (rulings : Rulings). CountsByDay number rulings (tables_of naming book))
         (rulings_are remembers)
         (keeps_counted naming book whole number
         (ap (is_period number) (rulings_are remembers) ∙ there))

@@ -1,9 +1,9 @@
 -- What records cost by another tariff, where details lead to them; and that these are the records
 -- that a period counts.
-use Rattle.std.specs.Prelude.{◌≡◌, ◌-◌, ℕ, ℤ, Bool, ◌&&◌, List, filter, Option, None, Some, Vec}
+use Rattle.std.specs.Prelude.{◌≡◌, ℕ, ℤ, Bool, ◌&&◌, List, filter, Option, None, Some, Vec}
 use Rattle.std.specs.Global.{Global}
 use Rattle.book_model.specs.Std.{contains_key, entries, get}
-use Rattle.book_model.specs.Words.{Priced, through_of, Rulings, Terms, is_between, price_by}
+use Rattle.book_model.specs.Words.{Priced, Rulings, Terms, is_between, is_day_of, price_by}
 use Rattle.book_model.specs.declared.row.ChargeRow.{ChargeRow}
 use Rattle.table_model.specs.Words.{row_record, counted_rows, is_row_counted, row_costs, FindsLeast}
 use Rattle.table_model.specs.Words.{IsLeastDetail, NamedRow, RecordRow, Tables}
@@ -38,29 +38,30 @@ FindsPriced terms sought tables None = FindsLeast (seeks sought) tables None
 FindsPriced terms sought tables (Some next) = IsNextPriced terms sought tables next
 
 -- a record is counted, and dated after one close and no later than another
-abbrev pub is_kept : Option ℤ → Option ℤ → Tables → NamedRow → Bool
-is_kept close through tables entry =
+abbrev pub is_counted_between : Option ℤ → Option ℤ → Tables → NamedRow → Bool
+is_counted_between close through tables entry =
     contains_key tables.counted entry.0 && is_between close through entry.1.priced.day
 
 -- the charge rows of these records, each of them by a tariff
 abbrev pub FindsRowsOfDays : Terms → Option ℤ → Option ℤ → Tables
     → Option (Vec ChargeRow Global) → Type 0
 FindsRowsOfDays terms close through tables found =
-    AreRowsOf (row_costs terms (filter (is_kept close through tables) (entries tables.records)))
+    AreRowsOf
+    (row_costs terms (filter (is_counted_between close through tables) (entries tables.records)))
     found
 
 -- a period counts the records that are counted at all and dated in it
-abbrev pub KeepsCounted : ℕ → Rulings → Tables → Type 0
-KeepsCounted number rulings tables =
+abbrev pub CountsByDay : ℕ → Rulings → Tables → Type 0
+CountsByDay number rulings tables =
     (name : List ℕ) (row : RecordRow) → get tables.records name ≡ Some row
     → is_row_counted number rulings tables.lines (name, row)
-    ≡ is_kept (through_of (number - 1) rulings) (through_of number rulings) tables (name, row)
+    ≡ (contains_key tables.counted name && is_day_of number rulings row.priced.day)
 
 -- where it does, these are the charge rows of what it counts, each record by a tariff
 abbrev pub FindsRowsCounted : ℕ → Rulings → Terms → Tables → Option (Vec ChargeRow Global)
     → Type 0
 FindsRowsCounted number rulings terms tables found =
-    KeepsCounted number rulings tables
+    CountsByDay number rulings tables
     → AreRowsOf (row_costs terms (counted_rows number rulings tables)) found
 
 -- all that is read for the charge rows of a period can be read
