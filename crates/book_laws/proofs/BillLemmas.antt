@@ -2,14 +2,10 @@
 use Rattle.std.proofs.Common.{◌≡◌, ℕ, ◌+◌, List, [], ◌∷◌, ◌++◌, refl, sym, ap, ◌∙◌, subst, map}
 use Rattle.std.proofs.Common.{true, Bool, not, ◌&&◌, ◌||◌, Option, Some, None, get_or, arith, All}
 use Rattle.std.proofs.Common.{filter, sum_by, pos, ◌+ℤ◌, ◌-ℤ◌}
-use Rattle.std.proofs.Math.Bool.{or-true}
 use Rattle.book_model.proofs.Std.{list_any, ints, sum_by-filter_both, fold-map, list_any-append}
 use Rattle.book_model.proofs.Std.{sum_by-cons, get_or_from_slice_get, slice_get_within}
 use Rattle.book_model.specs.declared.bill.BilledLine.{BilledLine}
 use Rattle.book_model.specs.declared.detail.Detail.{Detail}
-use Rattle.book_model.specs.declared.line.Line.{Line}
-use Rattle.book_model.specs.declared.row.ChargeRow.{ChargeRow}
-use Rattle.book_model.specs.declared.row.RowKey.{RowKey}
 use Rattle.book_model.specs.Words.{Priced, BillSeen, Book, IsSound, Naming, Period, all_periods}
 use Rattle.book_model.specs.Words.{bill_of, billed_line, billed_lines, charged_at, details_asked}
 use Rattle.book_model.specs.Words.{details_of, details_of_centre, is_step, jobs_of, line_alone}
@@ -19,17 +15,17 @@ use Rattle.book_model.proofs.Lemmas.{filter-agree, filter-filter, filter-map, li
 use Rattle.book_model.proofs.Lemmas.{sum_by-plus, length-sum_by}
 use Rattle.book_model.proofs.RecordSets.{tests_swap}
 use Rattle.report_texts.specs.AdjustmentLists.{charged_amount, reversed_amount}
-use Rattle.report_texts.specs.Centres.{lines_of_centre, rows_of_centre}
+use Rattle.report_texts.specs.Centres.{lines_of_centre}
 use Rattle.report_texts.specs.Charges.{all_charges, centres_of, charges_of, charges_of_centre}
 use Rattle.report_texts.specs.Charges.{plain_lines}
 use Rattle.report_texts.specs.declared.charges.Charges.{Charges}
-use Rattle.table_model.proofs.PeriodPlaces.{at_place}
 use Rattle.book_laws.specs.BillLaws.{AddUpTo, BillsAddUp, BillsSplitStatements, Splits, lines_asked}
 use Rattle.book_laws.specs.BillLaws.{owed_for, owed_for_all, rows_asked}
 use Rattle.book_laws.specs.DetailLaws.{AddUp}
 use Rattle.book_laws.proofs.CentreLemmas.{by_centres}
 use Rattle.book_laws.proofs.DetailLemmas.{details_add_up}
 use Rattle.book_laws.proofs.RowSums.{sum_by-centre_rows, sum_by-rows}
+use Rattle.book_laws.proofs.Words.{or-true, Line, ChargeRow, RowKey, rows_of_centre, at_place}
 
 -- what holds of all periods holds of one that the book has under a number
 pub of_period : (P : Period → Type 0) (naming : Naming) (book : Book) → IsSound naming book

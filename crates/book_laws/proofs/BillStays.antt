@@ -3,13 +3,11 @@ use Rattle.std.proofs.Common.{◌≡◌, ℕ, zero, suc, ◌<◌, List, [], ◌�
 use Rattle.std.proofs.Common.{◌∙◌, true, false, true≢false, Bool, ◌||◌, Option, Some, None, is_some}
 use Rattle.std.proofs.Common.{arith, All, ℤ, pos, if◌then◌else◌, filter_map, ok_or, option_and_then}
 use Rattle.std.proofs.Common.{option_map}
-use Rattle.std.proofs.Math.Bool.{or-true}
 use Rattle.std.proofs.lemmas.List.Sorted.{All-permutation}
 use Rattle.book_model.proofs.Std.{cons_option, list_any, result_ok, All-append, All-cons}
 use Rattle.book_model.proofs.Std.{All-filter, All-nil, IsPermutation-sym, slice_get-get_or}
 use Rattle.book_model.specs.declared.bill.HeldBack.{HeldBack}
-use Rattle.book_model.specs.declared.fault.LedgerFault.TheVariants.{NoSuchPeriod, NoSuchRecord}
-use Rattle.book_model.specs.declared.line.Line.{Line}
+use Rattle.book_model.specs.declared.fault.LedgerFault.TheVariants.{NoSuchRecord}
 use Rattle.book_model.specs.Words.{day_of, job_of, Priced, Book, IsSound, Naming, Period, Records}
 use Rattle.book_model.specs.Words.{Rulings, Terms, bill_of, billed_line, billed_lines}
 use Rattle.book_model.specs.Words.{billed_tariff, book_after, charged_before, details_asked}
@@ -19,14 +17,13 @@ use Rattle.book_model.specs.Words.{lines_for, lines_of, members, name_of, no_eve
 use Rattle.book_model.specs.Words.{period_of_line, period_on, price_by, price_in, reckoning_by}
 use Rattle.book_model.specs.Words.{record_named, same_bytes, steps_of, trail_by, trail_of}
 use Rattle.book_model.specs.Words.{work_rows}
-use Rattle.book_model.proofs.CountedDays.{through_at}
 use Rattle.book_model.proofs.Lemmas.{line_by, line_of, map-agree, sound_after, is, is_first}
 use Rattle.book_model.proofs.SamePriceLemmas.{same_lines}
 use Rattle.report_texts.specs.Centres.{lines_of_centre}
-use Rattle.table_model.proofs.ListLemmas.{held_in}
 use Rattle.table_model.proofs.TrailLemmas.{named_itself}
 use Rattle.book_laws.specs.BillLaws.{ClosedBillsStay}
-use Rattle.book_laws.specs.PeriodLines.{AreReadOnce, both_lines}
+use Rattle.book_laws.proofs.Words.{or-true, NoSuchPeriod, Line, through_at, held_in, AreReadOnce}
+use Rattle.book_laws.proofs.Words.{both_lines}
 use Rattle.book_laws.proofs.BillLemmas.{of_period}
 use Rattle.book_laws.proofs.ReadLemmas.{lines_once}
 use Rattle.book_laws.proofs.StayLemmas.{answered_before, keeps, keeps_period}

@@ -2,7 +2,6 @@
 use Rattle.std.proofs.Common.{false, ℕ, List, [], ◌∷◌, ◌++◌, Result, Ok, Err, map, refl, sym, subst}
 use Rattle.std.proofs.Common.{Vec, Global, option_map}
 use Rattle.book_model.specs.declared.answer.Accepted.{Accepted}
-use Rattle.book_model.specs.declared.fault.LedgerFault.{LedgerFault}
 use Rattle.book_model.specs.declared.fault.LedgerFault.TheVariants.{Store}
 use Rattle.book_model.specs.Words.{accept_answer, IsMadeByCalls, Book, new_book, dispute_shown}
 use Rattle.book_model.specs.Words.{book_after, Outcome, accept_outcome, charges_outcome}
@@ -14,11 +13,10 @@ use Rattle.book_core.specs.Words.{IsTransition, MakesAnswered}
 use Rattle.book_core.proofs.FollowLemmas.{then_answered, calls_answered, none_answered}
 use Rattle.book_core.proofs.FollowLemmas.{accept_event-answered, adopt_answered, choose_answered}
 use Rattle.book_core.proofs.FollowLemmas.{close_answered, tariff_answered}
-use Rattle.book_core.proofs.TransitionLemmas.{no_work, work_then, after_all-append}
+use Rattle.book_core.proofs.TransitionLemmas.{no_work, work_then}
 use Rattle.book_reports.proofs.ReadingLemmas.{IsReading}
 use Rattle.office.proofs.ChoiceLemmas.{choices_answered}
 use Rattle.office.proofs.LawLemmas.{asks_answered}
-use Rattle.office.proofs.LeavingLemmas.{work_leaves}
 use Rattle.office.proofs.RunLemmas.{runs_answered}
 use Rattle.book_http.proofs.LawLemmas.{requests_make_history}
 use Rattle.book_laws.specs.CallLaws.{CallsFollowHistory}
@@ -28,6 +26,7 @@ use Rattle.book_laws.specs.Calls.{HttpDetails, SubmitTariff, HttpRequest, ReadAd
 use Rattle.book_laws.specs.Calls.{ReadDisputes, ReadPeriods, ReadChargesUnder, ReadDetail}
 use Rattle.book_laws.specs.Calls.{ReadDispute, ReadRuling, ReadTrail, Step, AreDone, calls_of}
 use Rattle.book_laws.specs.Calls.{ledger_after_calls, work_of, works_of}
+use Rattle.book_laws.proofs.Words.{LedgerFault, after_all-append, work_leaves}
 
 -- what is read makes none
 readings_answered : {V A : Type 0} (naming : Naming) (view : V → A) (outcome : Book → Outcome A)

@@ -5,8 +5,6 @@ use Rattle.std.proofs.Common.{filter_map, option_map, int_eq}
 use Rattle.book_model.proofs.Std.{cons_option, nat_list_eq_equiv, length-map, All-cons, All-head}
 use Rattle.book_model.proofs.Std.{All-map, All-nil, All-tail, All-weaker, fold-map}
 use Rattle.book_model.specs.declared.detail.Detail.{Detail}
-use Rattle.book_model.specs.declared.row.ChargeRow.{ChargeRow}
-use Rattle.book_model.specs.declared.row.RowKey.{RowKey}
 use Rattle.book_model.specs.Words.{Priced, AreHeld, Naming, Records, Rulings, all_periods}
 use Rattle.book_model.specs.Words.{charged_at, detail_by, detail_of, details_at, details_for}
 use Rattle.book_model.specs.Words.{details_of, details_of_centre, has, key_of, keys_of, members}
@@ -16,12 +14,12 @@ use Rattle.book_model.proofs.DetailLemmas.{read_once}
 use Rattle.book_model.proofs.Lemmas.{filter-agree, filter-filter, filter-map, first_of, second_of}
 use Rattle.book_model.proofs.Lemmas.{rows_of-alike, SumsAlike, filter-alike, length-alike}
 use Rattle.book_model.proofs.Lemmas.{map-alike}
-use Rattle.report_texts.specs.Centres.{rows_of_centre}
 use Rattle.table_model.specs.Words.{row_key}
 use Rattle.table_model.proofs.SetReading.{permuted-alike}
 use Rattle.book_laws.specs.DetailLaws.{AddUp, AreSumsOf, CentreDetailsAddUp, DetailsAddUp, IsSumOf}
 use Rattle.table_model.proofs.HeldPeriods.{all_held}
 use Rattle.book_laws.proofs.ReadLemmas.{named}
+use Rattle.book_laws.proofs.Words.{ChargeRow, RowKey, rows_of_centre}
 
 module _ (naming : Naming) (rulings : Rulings) where
   -- details have the prices of their records

@@ -6,6 +6,7 @@
 -- their lines; tariff files; pages; rows by another tariff, and their lines; and the texts about a
 -- closed period. Single records: their lives, and how their prices came about. Single answers: to
 -- calls, reports, imports, and lists of requests.
+mod Words
 pub mod PeriodLemmas
 pub mod NetLemmas
 pub mod WrongPeriodLemmas

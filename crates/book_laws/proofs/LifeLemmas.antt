@@ -7,8 +7,6 @@ use Rattle.std.specs.Fmt.{signed_decimal}
 use Rattle.book_model.proofs.Std.{sum_by-append, sum_by-cons}
 use Rattle.book_model.specs.declared.fault.LedgerFault.TheVariants.{NoSuchRecord}
 use Rattle.book_model.specs.declared.trail.Deed.{Deed}
-use Rattle.book_model.specs.declared.trail.Deed.TheVariants.{Added, Charged, Reversed}
-use Rattle.book_model.specs.declared.trail.Turn.{Turn}
 use Rattle.book_model.specs.Words.{Book, Event, Period, PeriodClosed, Records, AreDatedThrough}
 use Rattle.book_model.specs.Words.{all_periods, book_after, charged_of, charged_through, has}
 use Rattle.book_model.specs.Words.{is_charge, is_dated_after, last_close, life_from, life_of}
@@ -18,7 +16,7 @@ use Rattle.book_model.proofs.Lemmas.{has_those, none_in, sum_by-plus}
 use Rattle.report_texts.specs.Columns.{newline}
 use Rattle.report_texts.specs.LifeLines.{net_line}
 use Rattle.book_reports.proofs.WritingLemmas.{same_value}
-use Rattle.book_laws.specs.NetCounts.{net_count, one_if}
+use Rattle.book_laws.proofs.Words.{Added, Charged, Reversed, Turn, net_count, one_if}
 use Rattle.book_laws.proofs.NetLemmas.{charged_once, has_without}
 use Rattle.book_laws.proofs.PeriodLemmas.{posted_dated}
 use Rattle.book_laws.specs.LifeLaws.{LivesNet, LivesTakeTurns, TakeTurns, TrailsNet}

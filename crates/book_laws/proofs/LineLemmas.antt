@@ -6,7 +6,6 @@ use Rattle.book_model.proofs.Std.{list_any, cons_option, AllByRecursion, option_
 use Rattle.book_model.proofs.Std.{ordering_then, nat_list_cmp_total, list_any-append}
 use Rattle.book_model.proofs.Std.{sum_by-IsPermutation, sum_by-append, sum_by-cons}
 use Rattle.book_model.proofs.Std.{IsDistinct-from_sorted, exact_bytes}
-use Rattle.book_model.specs.declared.line.Line.{Line}
 use Rattle.book_model.specs.Words.{Priced, plus_first, by_line, lines_for, lines_of, Period}
 use Rattle.book_model.specs.Words.{Records, Naming, name_of, by_bytes, Rulings, price_in, members}
 use Rattle.book_model.specs.Words.{has, prices, total_of}
@@ -16,8 +15,7 @@ use Rattle.book_model.proofs.Lemmas.{line_of, sum_by-filter_map, is}
 use Rattle.book_model.proofs.PermutedSets.{Apart, members_permuted}
 use Rattle.book_model.proofs.LineOrder.{name_ties}
 use Rattle.report_texts.specs.AdjustmentLists.{charged_amount, reversed_amount}
-use Rattle.book_laws.specs.PeriodAmounts.{plus_of, minus_of}
-use Rattle.book_laws.specs.PeriodLines.{both_lines}
+use Rattle.book_laws.proofs.Words.{Line, plus_of, minus_of, both_lines}
 use Rattle.std.specs.FinMap as map
 
 -- lines with signs that do not tie do not tie

@@ -4,13 +4,9 @@ use Rattle.std.proofs.Common.{◌≡◌, ◌∙◌, ℕ, zero, suc, ◌+◌, ◌
 use Rattle.std.proofs.Common.{not, cond, ◌&&◌, ◌||◌, List, [], ◌∷◌, ◌++◌, length, Option, Some}
 use Rattle.std.proofs.Common.{None, ap, arith, is_some, refl, subst, sym, All, IsSome, filter}
 use Rattle.std.proofs.Common.{nat_lt, slice_get, option_map, lt-ltb, length-append}
-use Rattle.std.proofs.Math.Bool.{or-true}
 use Rattle.book_model.proofs.Std.{last_or, list_any, All-filter, All-map, list_any-append}
 use Rattle.book_model.proofs.Std.{slice_get_within}
 use Rattle.book_model.specs.declared.bill.BilledLine.{BilledLine}
-use Rattle.book_model.specs.declared.line.Line.{Line}
-use Rattle.book_model.specs.declared.trail.Deed.TheVariants.{Added, Charged, Reversed}
-use Rattle.book_model.specs.declared.trail.Turn.{Turn}
 use Rattle.book_model.specs.Words.{Book, Naming, Period, Records, all_periods, billed_line}
 use Rattle.book_model.specs.Words.{charged_before, has, is_dated_after, life_from, life_of}
 use Rattle.book_model.specs.Words.{lines_of, open_period, period_by, period_of_line, same_bytes}
@@ -18,11 +14,10 @@ use Rattle.book_model.specs.Words.{turn_if, turns_in}
 use Rattle.table_model.specs.Words.{close_after, IsReadable}
 use Rattle.table_model.proofs.CountedReading.{in_added, in_counted, in_taken, its_period}
 use Rattle.table_model.proofs.CountedReading.{period_after, sets, sets_past}
-use Rattle.table_model.proofs.ListLemmas.{held_in}
-use Rattle.table_model.proofs.PeriodPlaces.{at_place}
 use Rattle.book_model.proofs.Lemmas.{second_of}
 use Rattle.book_laws.specs.BillLaws.{BilledLinesHavePeriods}
-use Rattle.book_laws.specs.PeriodLines.{AreReadOnce}
+use Rattle.book_laws.proofs.Words.{or-true, Line, Added, Charged, Reversed, Turn, held_in, at_place}
+use Rattle.book_laws.proofs.Words.{AreReadOnce}
 use Rattle.book_laws.proofs.BillLemmas.{of_period}
 use Rattle.book_laws.proofs.BillStays.{each_of_period, line_with, period_told}
 use Rattle.book_laws.proofs.ReadLemmas.{lines_once}

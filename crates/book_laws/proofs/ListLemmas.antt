@@ -4,10 +4,6 @@ use Rattle.std.proofs.Common.{◌++◌, length, Option, None, Some, Result, Ok, 
 use Rattle.std.proofs.Common.{append_assoc, arith, eqb-true, eq-eqb, length-append, ok_or}
 use Rattle.std.proofs.Common.{option_map, ◌==◌, if◌then◌else◌, pos, ◌-ℤ◌, slice_get, sum_by}
 use Rattle.book_model.proofs.Std.{length-map, sum_by-cons}
-use Rattle.book_model.specs.declared.fault.LedgerFault.{LedgerFault}
-use Rattle.book_model.specs.declared.fault.LedgerFault.TheVariants.{NoSuchPeriod}
-use Rattle.book_model.specs.declared.line.Line.{Line}
-use Rattle.book_model.specs.declared.row.ChargeRow.{ChargeRow}
 use Rattle.book_model.specs.Words.{total_of, Book, open_number, open_period, all_periods, period_of}
 use Rattle.book_model.specs.Words.{charged_of, Event, after_all, book_after, book_of, lines_of}
 use Rattle.book_model.specs.Words.{Outcome, no_event, charges_outcome, adjustments_outcome, Period}
@@ -15,7 +11,7 @@ use Rattle.book_model.specs.Words.{Naming, rows_for}
 use Rattle.book_model.proofs.Lemmas.{sound_after, slice_get-front, slice_get-behind}
 use Rattle.book_model.proofs.Lemmas.{books_follow_history}
 use Rattle.book_core.specs.Words.{Seen}
-use Rattle.book_laws.specs.PeriodAmounts.{plus_of, minus_of}
+use Rattle.book_laws.proofs.Words.{LedgerFault, NoSuchPeriod, Line, ChargeRow, plus_of, minus_of}
 use Rattle.book_laws.specs.HistoryLaws.{IsBalanced}
 use Rattle.book_laws.proofs.ReadLemmas.{conserved}
 use Rattle.book_laws.specs.ListLaws.{PeriodLists, list_calls, rows_in, lines_in, rows_cost}

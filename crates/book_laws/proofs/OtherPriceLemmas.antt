@@ -5,9 +5,7 @@ use Rattle.std.proofs.Common.{◌≤◌, ◌≤ℤ◌, filter, int_lt, nat_lt, i
 use Rattle.std.proofs.Common.{filter_map, ok_or, option_map}
 use Rattle.book_model.proofs.Std.{nat_tests, ints, fold-map}
 use Rattle.smf_text.specs.Day.{first_day}
-use Rattle.book_model.specs.declared.fault.LedgerFault.{LedgerFault}
-use Rattle.book_model.specs.declared.fault.LedgerFault.TheVariants.{Full, NoSuchPeriod}
-use Rattle.book_model.specs.declared.row.ChargeRow.{ChargeRow}
+use Rattle.book_model.specs.declared.fault.LedgerFault.TheVariants.{Full}
 use Rattle.book_model.specs.Words.{on_every_day, Priced, AcceptedTerms, AreAmong, Book, IsDay}
 use Rattle.book_model.specs.Words.{Naming, Period, Records, Rulings, Terms, charges_outcome}
 use Rattle.book_model.specs.Words.{costs_under, day_of, flat_book, has, has_begun, in_force}
@@ -15,14 +13,13 @@ use Rattle.book_model.specs.Words.{members, most_cost, no_event, period_of, pric
 use Rattle.book_model.specs.Words.{price_under, prices, rows_for, rows_if_room, rows_of, same_bytes}
 use Rattle.book_model.specs.Words.{terms_in, what_if_answer, what_if_outcome, latest}
 use Rattle.book_model.proofs.Lemmas.{filter-map, pick-agree}
-use Rattle.report_texts.specs.Centres.{rows_of_centre}
 use Rattle.table_model.proofs.HeldPeriods.{one_of}
-use Rattle.table_model.proofs.ListLemmas.{held_in}
 use Rattle.table_model.proofs.TableParts.{what_is}
 use Rattle.table_model.specs.Words.{IsReadable, IsTexted}
-use Rattle.table_model.proofs.PriceSums.{some_within}
 use Rattle.book_laws.specs.OtherPriceLaws.{CostsAsSaid, GivesStatement}
 use Rattle.book_laws.proofs.RowSums.{sum_by-centre_rows, sum_by-rows_of}
+use Rattle.book_laws.proofs.Words.{LedgerFault, NoSuchPeriod, ChargeRow, rows_of_centre, held_in}
+use Rattle.book_laws.proofs.Words.{some_within}
 
 -- what a function gives of each element is what it gives as a partial one
 all_given : {X Y : Type 0} (f : X → Y) (xs : List X)

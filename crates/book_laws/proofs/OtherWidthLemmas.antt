@@ -4,17 +4,16 @@ use Rattle.std.proofs.Common.{Err, arith, All, Some, if◌then◌else◌, nat_lt
 use Rattle.std.proofs.lemmas.Map.Views.{All-from_any}
 use Rattle.book_model.proofs.Std.{eq_by_cmp_equiv, nat_list_cmp_total, All-map}
 use Rattle.book_model.specs.declared.fault.LedgerFault.TheVariants.{Full}
-use Rattle.book_model.specs.declared.row.ChargeRow.{ChargeRow}
 use Rattle.book_model.specs.Words.{Priced, Book, IsPriced, Naming, Period, Terms, costs_under, has}
 use Rattle.book_model.specs.Words.{members, most_cost, period_of, price_by, prices, rows_if_room}
 use Rattle.book_model.specs.Words.{rows_of, what_if_answer, what_if_outcome}
 use Rattle.book_model.proofs.Lemmas.{length-sum_by}
 use Rattle.table_model.specs.Words.{IsReadable}
-use Rattle.table_model.proofs.PriceSums.{some_within}
 use Rattle.book_laws.specs.StatementWidths.{AreAligned, WhatIfsAreAligned}
 use Rattle.book_laws.proofs.OtherPriceLemmas.{answered_rows, counted_held}
 use Rattle.book_laws.proofs.OtherWorkLemmas.{IsWork, same_sums}
 use Rattle.book_laws.proofs.WidthLemmas.{FitTogether, are_even, held_fit}
+use Rattle.book_laws.proofs.Words.{ChargeRow, some_within}
 use Rattle.std.specs.FinMap as fin
 
 -- what has rows costs no more than books hold

@@ -2,24 +2,20 @@
 use Rattle.std.proofs.Common.{◌≡◌, ℕ, List, [], ◌∷◌, map, refl, sym, ap, ◌∙◌, subst, true, Bool}
 use Rattle.std.proofs.Common.{cond, ◌||◌, Option, Some, None, Result, Ok, Err, arith, filter}
 use Rattle.std.proofs.Common.{sum_by, filter_map, ok_or, option_map}
-use Rattle.std.proofs.Math.Bool.{or-true}
 use Rattle.book_model.proofs.Std.{cons_option, list_any, sum_by-cons}
-use Rattle.book_model.specs.declared.fault.LedgerFault.{LedgerFault}
-use Rattle.book_model.specs.declared.fault.LedgerFault.TheVariants.{NoSuchPeriod}
-use Rattle.book_model.specs.declared.row.ChargeRow.{ChargeRow}
-use Rattle.book_model.specs.declared.row.RowKey.{RowKey}
 use Rattle.book_model.specs.Words.{Priced, Book, Naming, Period, Rulings, Terms, charged_at}
 use Rattle.book_model.specs.Words.{charges_outcome, costs_under, day_of, has, in_force, members}
 use Rattle.book_model.specs.Words.{no_event, period_of, price_by, price_in, prices, row_at}
 use Rattle.book_model.specs.Words.{rows_for, rows_of, same_bytes, what_if_answer, what_if_outcome}
 use Rattle.book_model.proofs.Lemmas.{is, is_first, length-sum_by, sum_by-filter}
-use Rattle.report_texts.specs.Centres.{rows_of_centre}
 use Rattle.table_model.specs.Words.{IsReadable}
 use Rattle.book_laws.specs.OtherPriceLaws.{CountSameWork, KeepsWork, NamesSameCentres, WhatIf}
 use Rattle.book_laws.proofs.ClosedLemmas.{closed_stays}
 use Rattle.book_laws.proofs.OtherPriceLemmas.{answered_rows, costs_as_said, counted_priced}
 use Rattle.book_laws.proofs.OtherPriceLemmas.{gives_statement}
 use Rattle.book_laws.proofs.RowSums.{sum_by-centre_rows, sum_by-rows}
+use Rattle.book_laws.proofs.Words.{or-true, LedgerFault, NoSuchPeriod, ChargeRow, RowKey}
+use Rattle.book_laws.proofs.Words.{rows_of_centre}
 use Rattle.std.specs.FinMap as fin
 
 -- work of a record is the same by each tariff

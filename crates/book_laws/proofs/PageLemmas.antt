@@ -1,17 +1,12 @@
 -- The sums of a period, in its reports and in pages, and the number of the open one.
 use Rattle.std.proofs.Common.{◌≡◌, ◌∙◌, ℕ, suc, zero, ◌+◌, ◌-◌, ◌<◌, ◌≤◌, Bool, true, false, List}
-use Rattle.std.proofs.Common.{[], ◌∷◌, ◌++◌, append-nil, append_assoc, codes, get_or, length}
-use Rattle.std.proofs.Common.{Some, None, Ok, ap, arith, refl, sym}
-use Rattle.std.proofs.lemmas.Bool.{lt-ltb}
-use Rattle.std.proofs.lemmas.Bool.Decides.{nat_tests}
+use Rattle.std.proofs.Common.{[], ◌∷◌, ◌++◌, append-nil, append_assoc, codes, get_or, length, Some}
+use Rattle.std.proofs.Common.{None, Ok, ap, arith, refl, sym, lt-ltb, ok_or, option_map, ◌==◌, cond}
+use Rattle.std.proofs.Common.{flat_map, slice_get, sum_by}
 use Rattle.std.proofs.lemmas.List.FromFn.{get_or-map-range_with_len, length-map-range_with_len}
-use Rattle.std.specs.Option.{ok_or, option_map, option_map_or}
-use Rattle.std.specs.Prelude.{◌==◌, cond, flat_map, slice_get, sum_by}
-use Rattle.book_model.specs.declared.fault.LedgerFault.TheVariants.{NoSuchPeriod}
-use Rattle.book_model.specs.declared.line.Line.{Line}
-use Rattle.book_model.specs.declared.row.ChargeRow.{ChargeRow}
-use Rattle.book_model.specs.Words.{Book, Naming, Period, disputes_in, lines_of, open_by, open_period}
-use Rattle.book_model.specs.Words.{close_of, last_period, period_of, rows_for}
+use Rattle.book_model.proofs.Std.{nat_tests, option_map_or}
+use Rattle.book_model.specs.Words.{Book, Naming, Period, disputes_in, lines_of, open_by}
+use Rattle.book_model.specs.Words.{open_period, close_of, last_period, period_of, rows_for}
 use Rattle.report_texts.specs.AdjustmentLists.{adjustment_line, adjustment_list_text, sum_line}
 use Rattle.report_texts.specs.Figures.{period_open}
 use Rattle.report_texts.specs.Periods.{title_line}
@@ -26,10 +21,11 @@ use Rattle.page_texts.specs.PeriodPictures.{centre_part, day_part}
 use Rattle.page_texts.specs.PeriodTables.{adjustment_part, dispute_part, statement_part}
 use Rattle.book_reports.specs.BookTexts.{closed_through, report_answer, shown_by}
 use Rattle.book_reports.specs.Pages.{first_figures, page_figures}
-use Rattle.book_reports.specs.declared.report.PeriodReport.TheVariants.{AdjustmentList, Statement}
+use Rattle.book_reports.specs.declared.report.PeriodReport.TheVariants.{AdjustmentList}
 use Rattle.book_reports.specs.declared.report.Report.TheVariants.{OfPeriod, OfficePage, PeriodPage}
 use Rattle.book_laws.specs.PageLaws.{EndsWith, HasPart, OpenIsOpen, PageTotalsAreTheReports}
 use Rattle.book_laws.specs.PageLaws.{adjustments_end, statement_end}
+use Rattle.book_laws.proofs.Words.{NoSuchPeriod, Line, ChargeRow, Statement}
 
 -- the row of each period stands among those of the office's page, the last one first
 row_stands : (row : ℕ → FiguresSeen → List ℕ) (before : ℕ) (periods : List FiguresSeen) (i number : ℕ)

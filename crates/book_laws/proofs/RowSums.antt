@@ -1,18 +1,15 @@
 -- Charge rows sum what all prices sum to.
 use Rattle.std.proofs.Common.{◌≡◌, ℕ, ◌+◌, List, [], ◌∷◌, refl, sym, ap, ◌∙◌, true, false, Bool}
 use Rattle.std.proofs.Common.{cond, ◌||◌, map, arith, length, filter, sum_by}
-use Rattle.std.proofs.Math.Bool.{or-true}
 use Rattle.book_model.proofs.Std.{IsEquivalence, list_any, IsDistinct, fold-map, sum_by-cons}
 use Rattle.book_model.proofs.Std.{length-filter, tells_apart}
-use Rattle.book_model.specs.declared.row.ChargeRow.{ChargeRow}
-use Rattle.book_model.specs.declared.row.RowKey.{RowKey}
 use Rattle.book_model.specs.Words.{Priced, charged_at, key_of, keys_of, row_at, rows_of, same_bytes}
 use Rattle.book_model.specs.Words.{same_key}
 use Rattle.book_model.proofs.Lemmas.{by_key_exact, by_key_total, same_key_ties, list_any-map}
 use Rattle.book_model.proofs.Lemmas.{count_by-distinct, any_tied-members, sum_by-filter}
 use Rattle.book_model.proofs.RowLemmas.{same_key_is, same_key_laws, keys_distinct}
 use Rattle.book_model.proofs.SumLemmas.{sum_by-exchange}
-use Rattle.report_texts.specs.Centres.{rows_of_centre}
+use Rattle.book_laws.proofs.Words.{or-true, ChargeRow, RowKey, rows_of_centre}
 
 -- a number for each element of a list of one
 sum_by-one : {X : Type 0} (n : ℕ) (xs : List X) → length xs ≡ 1 → sum_by (λ _. n) xs ≡ n

@@ -14,13 +14,12 @@ use Rattle.book_model.specs.Words.{are_rising, begins_by, billed_tariff, has_beg
 use Rattle.book_model.specs.Words.{is_between, is_day_of, is_through, tariff_by, tariffs_from}
 use Rattle.book_model.specs.Words.{tariffs_in, tariffs_seen, tariffs_through, terms_in}
 use Rattle.book_model.proofs.Lemmas.{close_at, begun-last, list_any-map, first_of, second_of}
-use Rattle.book_model.proofs.CountedDays.{through_at}
 use Rattle.book_model.proofs.LatestLemmas.{precedes}
 use Rattle.table_model.specs.Words.{IsTexted}
-use Rattle.table_model.proofs.PeriodPlaces.{at_place}
 use Rattle.book_laws.specs.BillLaws.{BilledTariffsRule, IsInForceIn}
 use Rattle.book_laws.proofs.BilledTariffs.{found_more}
 use Rattle.book_laws.proofs.TariffStays.{day_after, rise_at, tariffs_are}
+use Rattle.book_laws.proofs.Words.{through_at, at_place}
 
 -- ---- days
 

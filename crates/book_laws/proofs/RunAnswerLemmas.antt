@@ -2,10 +2,8 @@
 use Rattle.std.proofs.Common.{◌≡◌, ◌∙◌, ℕ, Bool, true, false, List, [], ◌∷◌, Result, Ok, Err, refl}
 use Rattle.std.proofs.Common.{sym, ap, subst, map, All}
 use Rattle.book_model.proofs.Std.{All-head, All-tail}
-use Rattle.book_model.specs.declared.fault.LedgerFault.{LedgerFault}
 use Rattle.book_model.specs.Words.{front, Book, Event, after_all, Naming, Outcome}
 use Rattle.book_core.specs.Words.{Calls, Seen, IsOpenAt, IsTransition}
-use Rattle.book_core.proofs.TransitionLemmas.{after_all-append}
 use Rattle.book_import.specs.declared.receipt.Receipt.{Receipt}
 use Rattle.book_import.specs.declared.receipt.Stop.{Stop}
 use Rattle.book_import.specs.Dumps.{stop_after}
@@ -17,8 +15,8 @@ use Rattle.office.specs.Outcomes.{AskedOutcome, asked_outcome, is_hindered}
 use Rattle.office.specs.Requests.{Dump, Response, Ruling, Count, Text, Receives, Asks, response_by}
 use Rattle.office.specs.Runs.{AsksWithoutReader, Runs, dump_here}
 use Rattle.office.proofs.LawLemmas.{asks_done}
-use Rattle.office.proofs.LeavingLemmas.{work_leaves}
 use Rattle.book_laws.specs.RunAnswers.{responses_to, book_after_requests, OneRun}
+use Rattle.book_laws.proofs.Words.{LedgerFault, after_all-append, work_leaves}
 
 -- books that are open after a call were open before it
 call_opened : (outcome : Book → Outcome Response) (told : Result Response LedgerFault) (was : Bool)

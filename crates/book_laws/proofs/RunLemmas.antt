@@ -4,16 +4,13 @@ use Rattle.book_model.specs.Words.{IsMadeByCalls, Book, new_book, is_undisputed,
 use Rattle.book_model.specs.Words.{Naming}
 use Rattle.book_model.proofs.OrderLemmas.{order_is_free}
 use Rattle.book_model.proofs.Lemmas.{has_those, books_follow_history}
-use Rattle.book_laws.specs.ClosedPeriods.{IsReadAlike}
+use Rattle.book_laws.proofs.Words.{IsReadAlike, one_if, after_all-append, Statement}
 use Rattle.book_laws.specs.HistoryLaws.{IsBalanced}
-use Rattle.book_laws.specs.NetCounts.{one_if}
 use Rattle.book_laws.proofs.ClosedLemmas.{closed_stays}
 use Rattle.book_laws.proofs.ClosedTexts.{period_stays}
 use Rattle.book_laws.proofs.NetLemmas.{charged_once}
 use Rattle.book_laws.proofs.ReadLemmas.{conserved}
-use Rattle.book_core.proofs.TransitionLemmas.{after_all-append}
 use Rattle.book_reports.specs.BookTexts.{open_statement, report_answer}
-use Rattle.book_reports.specs.declared.report.PeriodReport.TheVariants.{Statement}
 use Rattle.book_reports.specs.declared.report.Report.TheVariants.{OfPeriod}
 use Rattle.office.proofs.RunLemmas.{runs_answered}
 use Rattle.book_laws.specs.RunLaws.{RunsMakeHistory, RunsFollowHistory, ChargesOnce, RunsChargeOnce}

@@ -3,7 +3,6 @@ use Rattle.std.proofs.Common.{◌≡◌, ℕ, List, [], ◌∷◌, ◌++◌, ref
 use Rattle.std.proofs.Common.{true≢false, Bool, cond, Option, Some, None, suc, length, append-nil}
 use Rattle.std.proofs.Common.{ℤ, int_lt, filter, ok_or, option_map}
 use Rattle.book_model.proofs.Std.{IsStrictlySortedBy, filter-append}
-use Rattle.book_model.specs.declared.fault.LedgerFault.TheVariants.{NoSuchPeriod}
 use Rattle.book_model.specs.Words.{day_of, AreAllDatedThrough, Book, Event, IsMadeByCalls, Naming}
 use Rattle.book_model.specs.Words.{Period, PeriodClosed, RulingGiven, Rulings, TariffAccepted}
 use Rattle.book_model.specs.Words.{book_after, is_dated_after, last_close, members, no_event}
@@ -16,7 +15,7 @@ use Rattle.book_model.proofs.DetailLemmas.{asked_rise, details_rise}
 use Rattle.book_model.proofs.DetailOrder.{next_in}
 use Rattle.book_model.proofs.SoundLemmas.{later_still}
 use Rattle.book_laws.proofs.ClosedLemmas.{closed_stays, found_past, past_period}
-use Rattle.book_laws.specs.ClosedPeriods.{IsClosed}
+use Rattle.book_laws.proofs.Words.{NoSuchPeriod, IsClosed}
 use Rattle.book_laws.specs.DetailStays.{DetailsStay, NextIsNext}
 
 -- one more close is none of those before a day that it is not before

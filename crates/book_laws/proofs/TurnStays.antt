@@ -4,12 +4,11 @@ use Rattle.std.proofs.Common.{◌∙◌, true, false, Bool, cond, ◌&&◌, None
 use Rattle.std.proofs.Common.{option_map, le-ltb, length-append}
 use Rattle.book_model.proofs.Std.{last_or, filter-append}
 use Rattle.book_model.specs.declared.trail.Deed.{Deed}
-use Rattle.book_model.specs.declared.trail.Deed.TheVariants.{Added, Charged, Reversed}
-use Rattle.book_model.specs.declared.trail.Turn.{Turn}
 use Rattle.book_model.specs.Words.{Book, Event, IsMadeByCalls, Naming, Period, PeriodClosed}
 use Rattle.book_model.specs.Words.{book_after, charged_before, charged_through, has, is_charge}
 use Rattle.book_model.specs.Words.{last_close, life_from, life_of, open_period, period_by, turn_if}
 use Rattle.book_model.specs.Words.{turns_in}
+use Rattle.book_laws.proofs.Words.{Added, Charged, Reversed, Turn}
 
 -- a charge in a period before that of the number
 abbrev pub is_before : ℕ → Turn → Bool

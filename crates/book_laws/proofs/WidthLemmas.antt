@@ -9,24 +9,21 @@ use Rattle.std.proofs.lemmas.List.{length-replicate}
 use Rattle.std.proofs.lemmas.List.Sums.{sum_by-le}
 use Rattle.book_model.proofs.Std.{and_parts, nat_tests, All-map}
 use Rattle.smf_text.specs.Day.{day_text_of}
-use Rattle.book_model.specs.declared.fault.LedgerFault.{LedgerFault}
-use Rattle.book_model.specs.declared.fault.LedgerFault.TheVariants.{NoSuchPeriod}
-use Rattle.book_model.specs.declared.row.ChargeRow.{ChargeRow}
-use Rattle.book_model.specs.declared.row.RowKey.{RowKey}
 use Rattle.book_model.specs.Words.{IsName, Priced, Book, Naming, IsPriced, Period, Records}
 use Rattle.book_model.specs.Words.{charged_at, key_of, AreAmong, keys_of, most_held, period_of}
 use Rattle.book_model.specs.Words.{prices, row_at, rows_for, rows_of}
 use Rattle.book_model.proofs.Lemmas.{by_key_total, by_key_exact, length-sum_by}
 use Rattle.book_laws.proofs.RowSums.{sum_by-rows}
 use Rattle.book_core.proofs.ListLimits.{All-members}
-use Rattle.table_model.proofs.ListLemmas.{held_in}
 use Rattle.report_texts.specs.Columns.{amount_text, digits_in, left_aligned, newline, right_aligned}
 use Rattle.report_texts.specs.Columns.{seconds_text}
 use Rattle.report_texts.specs.Statements.{heading, key_columns, number_columns, row_line}
 use Rattle.report_texts.specs.Statements.{sum_columns, total_line}
 use Rattle.table_model.specs.Words.{IsReadable}
-use Rattle.table_model.proofs.PriceSums.{all_priced, few_prices, part_within, some_within}
+use Rattle.table_model.proofs.PriceSums.{all_priced, few_prices, part_within}
 use Rattle.book_laws.specs.StatementWidths.{AreAligned, StatementsAreAligned}
+use Rattle.book_laws.proofs.Words.{LedgerFault, NoSuchPeriod, ChargeRow, RowKey, held_in}
+use Rattle.book_laws.proofs.Words.{some_within}
 
 -- a text that fits fills its column
 length-left_aligned : (width : ℕ) (text : List ℕ) → length text ≤ width
