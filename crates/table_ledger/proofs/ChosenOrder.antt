@@ -2,10 +2,10 @@
 -- they are those of the table, in its order.
 use Rattle.std.proofs.Common.{◌≡◌, ◌∙◌, ◌+◌, ◌<◌, ℕ, List, [], ◌∷◌, ◌++◌, map, length, refl, sym}
 use Rattle.std.proofs.Common.{ap, subst, Bool, true, false, cond, not, ◌&&◌, ◌||◌, Some, take}
-use Rattle.std.proofs.Common.{get_or, append-nil, filter, flat_map, IsPermutation, nat_cmp}
-use Rattle.std.proofs.Common.{Ordering, Less, append_assoc}
+use Rattle.std.proofs.Common.{get_or, filter, flat_map, IsPermutation, nat_cmp, Ordering, Less}
 use Rattle.std.specs.List.{IsDistinct}
 use Rattle.std.specs.List.Sorted.{IsStrictlySortedBy}
+use Rattle.std.proofs.lemmas.List.{flat_map_more}
 use Rattle.std.proofs.lemmas.List.Sorted.{IsPermutation-append_right, IsPermutation-filter_both}
 use Rattle.sqlite_trees.proofs.ListLemmas.{map-map}
 use Rattle.book_model.proofs.Std.{IsTotalOrder, nat_cmp_total, entries, entries_sorted, get-entries}
@@ -20,6 +20,7 @@ use Rattle.book_model.specs.Words.{by_bytes, same_bytes}
 use Rattle.book_model.proofs.Lemmas.{filter-agree, filter-filter, filter-map, list_any-map}
 use Rattle.book_model.proofs.Lemmas.{keys_rise, same_bytes-by_cmp}
 use Rattle.book_model.proofs.PermutedSets.{distinct_permuted, only_rising, rising_from_sorted}
+use Rattle.book_model.proofs.RecordSets.{tests_swap}
 use Rattle.book_core.proofs.EntryLemmas.{list_any-at_key}
 use Rattle.table_model.specs.Words.{ChoiceRow, RecordRow, RecordTable, Tables, name_has_identity}
 use Rattle.table_model.specs.Words.{NamedRow, choices_with}
@@ -154,14 +155,7 @@ chosen-more rows at one tables olds chosen news within is so_far lists more =
     ∙ (λ i. so_far i ++ lists i)
     ∙ sym (ap (flat_map its) (take_more rows at one within
     ∙ ap (λ last. take at rows ++ last ∷ []) (sym is))
-    ∙ flat_map-push its (take at rows) one)
-  where
-    flat_map-push : {X Y : Type 0} (f : X → List Y) (xs : List X) (x : X)
-        → flat_map f (xs ++ x ∷ []) ≡ flat_map f xs ++ f x
-    flat_map-push f [] x = append-nil (f x)
-    flat_map-push f (y ∷ xs) x =
-        ap (λ rest. f y ++ rest) (flat_map-push f xs x)
-        ∙ sym (append_assoc (f y) (flat_map f xs) (f x))
+    ∙ sym (flat_map_more its [] (take at rows) one))
 
 -- ---- the records of an identity
 
@@ -171,13 +165,6 @@ lookup_is : (name : List ℕ) (es : List NamedRow)
 lookup_is name [] = refl
 lookup_is name (e ∷ es) =
     ap (cond (eq_by_cmp by_bytes name e.0) (Some e.1)) (lookup_is name es)
-
--- two tests in the other order
-other_order : (a b : Bool) → (a && b) ≡ (b && a)
-other_order true true = refl
-other_order true false = refl
-other_order false true = refl
-other_order false false = refl
 
 module _ (identity : List ℕ) (tables : Tables) (rows : List StoredRecord)
     (lists : ListsSharing identity tables rows) where
@@ -211,7 +198,7 @@ module _ (identity : List ℕ) (tables : Tables) (rows : List StoredRecord)
       sym (list_any-map named stored_entry rows)
       ∙ ap (list_any named) lists
       ∙ list_any-filter named (λ e. own e.1) (entries records)
-      ∙ (λ i. list_any (λ (e : NamedRow). other_order (own e.1) (same_bytes name e.0) i)
+      ∙ (λ i. list_any (λ (e : NamedRow). tests_swap (own e.1) (same_bytes name e.0) i)
       (entries records))
       ∙ (λ i. list_any (λ (e : NamedRow). same_bytes-by_cmp i name e.0 && own e.1)
       (entries records))
