@@ -33,36 +33,6 @@ costs_tested number rulings terms tables test tests =
     λ i. row_costs terms (filter (λ row. sym (tests row) i) (entries tables.records))
 
 module _ (naming : Naming) (summary : Summary) (number : ℕ) (terms : Terms) where
-  -- what is read by what is remembered
-  read_by : (book : Book) → Remembers summary book → (there : Bool)
-      → is_period number (ruled_in summary.rulings) ≡ there
-      → what_if_read number terms book.rulings (tables_of naming book)
-      ≡ (if there
-      then rows_if_room (row_costs terms
-      (counted_rows number (ruled_in summary.rulings) (tables_of naming book)))
-      else Err NoSuchPeriod)
-  read_by book remembers there is =
-      ap (λ (rulings : Rulings). what_if_read number terms rulings (tables_of naming book))
-      (rulings_are remembers)
-      ∙ ap (λ (there : Bool). if there
-      then rows_if_room (row_costs terms
-      (counted_rows number (ruled_in summary.rulings) (tables_of naming book)))
-      else Err NoSuchPeriod) is
-
-  -- that is the answer
-  answer_by : (view : View) (book : Book) → IsAt naming summary view book → (there : Bool)
-      → is_period number (ruled_in summary.rulings) ≡ there
-      → (what_if_outcome number terms book).answer
-      ≡ (if there
-      then rows_if_room (row_costs terms
-      (counted_rows number (ruled_in summary.rulings) (tables_of naming book)))
-      else Err NoSuchPeriod)
-  answer_by view book at there is =
-      let whole = at.kept.readable in
-      ap (λ (outcome : Outcome (List ChargeRow)). outcome.answer)
-      (counted_follows.what_if naming book number terms whole)
-      ∙ read_by book at.remembers there is
-
   module _ (there : is_period number (ruled_in summary.rulings) ≡ true) where
     -- the period counts what is kept of its days
     keeps : (book : Book) → IsReadable naming book → Remembers summary book
@@ -73,17 +43,31 @@ module _ (naming : Naming) (summary : Summary) (number : ℕ) (terms : Terms) wh
         (keeps_counted naming book whole number
         (ap (is_period number) (rulings_are remembers) ∙ there))
 
+    -- the answer is that to what it counts, by what is remembered
+    answered : {view : View} (book : Book) → IsAt naming summary view book
+        → (what_if_outcome number terms book).answer
+        ≡ rows_if_room (row_costs terms
+        (counted_rows number (ruled_in summary.rulings) (tables_of naming book)))
+    answered book at =
+        ap (λ (outcome : Outcome (List ChargeRow)). outcome.answer)
+        (counted_follows.what_if naming book number terms at.kept.readable)
+        ∙ ap (λ (rulings : Rulings). what_if_read number terms rulings (tables_of naming book))
+        (rulings_are at.remembers)
+        ∙ ap (λ (there : Bool). if there
+        then rows_if_room (row_costs terms
+        (counted_rows number (ruled_in summary.rulings) (tables_of naming book)))
+        else Err NoSuchPeriod) there
+
     -- the books cannot hold what the records cost
     pub what_if_full : {old new : State}
         → Saw old new (λ tables. FindsRowsCounted number (ruled_in summary.rulings) terms tables
         None)
         → AttemptsOne items_of naming summary summary old new (what_if_outcome number terms)
         (Ok (Err Full))
-    what_if_full {old} {new} saw =
+    what_if_full saw =
         try_answered (what_if_outcome number terms) saw (record { stored = refl; served = refl })
         (λ book at finds. makes_refused items_of (what_if_outcome number terms book) Full
-        (answer_by old.view book at true there
-        ∙ finds (keeps book at.kept.readable at.remembers)))
+        (answered book at ∙ finds (keeps book at.kept.readable at.remembers)))
 
     -- the rows are found
     pub what_if_found : {old new : State} (rows : Vec ChargeRow Global)
@@ -91,11 +75,10 @@ module _ (naming : Naming) (summary : Summary) (number : ℕ) (terms : Terms) wh
         (Some rows))
         → AttemptsOne items_of naming summary summary old new (what_if_outcome number terms)
         (Ok (Ok rows))
-    what_if_found {old} {new} rows saw =
+    what_if_found rows saw =
         try_answered (what_if_outcome number terms) saw (record { stored = refl; served = refl })
         (λ book at finds. makes_answer items_of (what_if_outcome number terms book) rows
-        (answer_by old.view book at true there
-        ∙ (finds (keeps book at.kept.readable at.remembers)).0) refl)
+        (answered book at ∙ (finds (keeps book at.kept.readable at.remembers)).0) refl)
 
     -- they can be shown
     pub what_if_shown : {view : View} (rows : Vec ChargeRow Global) (book : Book)
