@@ -1,30 +1,30 @@
 -- The next detail that is sought, where details are looked for from one start and then from others.
 use Rattle.std.proofs.Common.{◌≡◌, ◌∙◌, ◌-◌, ℕ, ℤ, pos, List, Bool, true, false, not, Option, Some}
-use Rattle.std.proofs.Common.{None, Ok, Err, subst, ◌⊎◌, inl, inr, refl, sym, ap, true≢false, arith}
-use Rattle.std.proofs.Common.{◌&&◌, if◌then◌else◌, int_lt, ◌+ℤ◌, int_cmp, is_gt, is_lt, nat_cmp}
-use Rattle.std.proofs.Common.{Ordering, Less, Equal, Greater}
+use Rattle.std.proofs.Common.{None, Ok, subst, ◌⊎◌, inl, inr, refl, sym, ap, true≢false, arith}
+use Rattle.std.proofs.Common.{◌&&◌, int_lt, ◌+ℤ◌, int_cmp, is_gt, is_lt, nat_cmp, Ordering, Less}
+use Rattle.std.proofs.Common.{Equal, Greater}
 use Rattle.sqlite_value.proofs.OrderLemmas.{then-Equal}
 use Rattle.book_model.proofs.Std.{get, option_map_or, tied_itself, ordering_reverse, ordering_then}
 use Rattle.book_model.proofs.Std.{and_parts, nat_list_cmp_total, ints, tells_apart}
 use Rattle.book_model.proofs.Lemmas.{by_detail_total, same_bytes-by_cmp}
-use Rattle.book_model.specs.Words.{through_of, Book, IsDay, Naming, Outcome, Rulings, ShowsDetail}
-use Rattle.book_model.specs.Words.{by_bytes, by_detail, by_key, comes_after, is_asked, key_of}
+use Rattle.book_model.specs.Words.{through_of, IsDay, Naming, Outcome, ShowsDetail, by_bytes}
+use Rattle.book_model.specs.Words.{by_detail, by_key, comes_after, is_asked, key_of}
 use Rattle.book_model.specs.Words.{next_detail_outcome, is_between}
 use Rattle.book_core.specs.Words.{ruled_in}
-use Rattle.table_model.specs.Words.{FindsLeast, IsDetail, detail_shown, is_period, of_period}
-use Rattle.table_model.specs.Words.{Tables, tables_of}
+use Rattle.table_model.specs.Words.{FindsLeast, IsDetail, detail_shown, is_period, Tables}
+use Rattle.table_model.specs.Words.{tables_of}
 use Rattle.table_model.proofs.DetailReading.{details_follow}
 use Rattle.tree_rows.proofs.IndexOrders.{by_bytes_exact, second_equal}
 use Rattle.tree_tables.specs.Details.{FindsDetail, is_reached}
 use Rattle.tree_tables.specs.declared.detail_rows.DetailStart.{DetailStart}
 use Rattle.tree_tables.specs.declared.detail_rows.DetailStart.TheVariants.{Centre}
 use Rattle.tree_tables.proofs.RowsRead.{same_int}
-use Rattle.table_ledger.proofs.Words.{Detail, NoSuchPeriod, some_is, State, Saw, seeks, Remembers}
-use Rattle.table_ledger.proofs.Words.{CanBeRead, AttemptsOne}
+use Rattle.table_ledger.proofs.Words.{Detail, some_is, State, Saw, seeks, CanBeRead, AttemptsOne}
 use Rattle.table_ledger.specs.DetailReads.{GoesOn}
 use Rattle.table_ledger.specs.declared.details.Sought.{Sought}
 use Rattle.table_ledger.specs.declared.summary.Summary.{Summary}
 use Rattle.table_ledger.proofs.Answering.{makes_answer}
+use Rattle.table_ledger.proofs.ListReadings.{of_there}
 use Rattle.table_ledger.proofs.Remembered.{rulings_are}
 use Rattle.table_ledger.proofs.TryLemmas.{try_answered}
 
@@ -232,14 +232,6 @@ sought_by close through centre last =
 module _ (naming : Naming) (summary : Summary) (number : ℕ) (centre : Option (List ℕ))
     (last : Option Detail)
   where
-    -- whether there is a period, by what is remembered
-    answer_by : {A : Type 0} (value : A) (book : Book) → Remembers summary book → (there : Bool)
-        → is_period number (ruled_in summary.rulings) ≡ there
-        → of_period number book.rulings value ≡ (if there then Ok value else Err NoSuchPeriod)
-    answer_by value book remembers there is =
-        ap (λ (rulings : Rulings). of_period number rulings value) (rulings_are remembers)
-        ∙ ap (λ (found : Bool). if found then Ok value else Err NoSuchPeriod) is
-
     module _ {old new : State} (close through : Option ℤ) (found : Option Detail)
         (close_is : close ≡ through_of (number - 1) (ruled_in summary.rulings))
         (through_is : through ≡ through_of number (ruled_in summary.rulings))
@@ -263,7 +255,7 @@ module _ (naming : Naming) (summary : Summary) (number : ℕ) (centre : Option (
             (details_follow.found naming book number centre last found whole
             (subst (λ test. FindsLeast test (tables_of naming book) found)
             (λ i detail. seeks (sought_by (first i) (end i) centre last) detail) known))
-            ∙ answer_by found book at.remembers true there) refl)
+            ∙ of_there number found at.remembers there) refl)
 
 -- what is found of records that can be read can be shown
 pub least_shown : (test : Detail → Bool) (tables : Tables) (found : Option Detail) → CanBeRead tables

@@ -31,14 +31,13 @@ list_read {view = view} {naming = naming} {outcome = outcome} read law value saw
     let whole = ready.kept.readable in
     read_makes view (outcome book) _ value (law book whole) (ap Ok (says book whole known)))
 
--- whether there is a period, by what is remembered
-answer_is : {A : Type 0} {naming : Naming} {summary : Summary} (number : ℕ) (list : A)
-    (found : Bool) (book : Book) → is_period number (ruled_in summary.rulings) ≡ found
-    → IsReadable naming book → Remembers summary book
-    → of_period number book.rulings list ≡ (if found then Ok list else Err NoSuchPeriod)
-answer_is number list found book is whole remembers =
-    ap (λ (rulings : Rulings). of_period number rulings list) (rulings_are remembers)
-    ∙ ap (λ (there : Bool). if there then Ok list else Err NoSuchPeriod) is
+-- what is answered of a period that exists, by what is remembered
+pub of_there : {A : Type 0} {summary : Summary} {book : Book} (number : ℕ) (value : A)
+    → Remembers summary book → is_period number (ruled_in summary.rulings) ≡ true
+    → of_period number book.rulings value ≡ Ok value
+of_there number value remembers there =
+    ap (λ (rulings : Rulings). of_period number rulings value) (rulings_are remembers)
+    ∙ ap (λ (found : Bool). if found then Ok value else Err NoSuchPeriod) there
 
 module _ {V A : Type 0} {view : V → A} {naming : Naming} {summary : Summary}
     {outcome : Book → Outcome A} (number : ℕ) (read : Tables → A)
@@ -53,5 +52,5 @@ module _ {V A : Type 0} {view : V → A} {naming : Naming} {summary : Summary}
       try_answered outcome saw (record { stored = refl; served = refl }) (λ book ready known.
       let whole = ready.kept.readable in
       read_makes view (outcome book) _ value (law book whole)
-      (answer_is number (read (tables_of naming book)) true book there whole ready.remembers
+      (of_there number (read (tables_of naming book)) ready.remembers there
       ∙ ap Ok (says (tables_of naming book) known)))
