@@ -1,7 +1,6 @@
 -- A choice that is tried: what it answers, and what it writes.
 use Rattle.std.proofs.Common.{◌≡◌, ◌∙◌, ℕ, ◌+◌, List, length, refl, sym, ap, subst, Bool, Ok, Err}
-use Rattle.std.proofs.Common.{Option, None, Some, Result, arith, ℤ, nat_le, ◌==◌, option_map}
-use Rattle.std.proofs.Common.{length-append}
+use Rattle.std.proofs.Common.{Option, None, Some, Result, arith, ℤ, nat_le, ◌==◌, length-append}
 use Rattle.book_model.proofs.Std.{nat_cmp_total, get, get-from_entries, option_map_or}
 use Rattle.book_core.specs.Words.{choice_effects, ruled_in, LeavesOpen}
 use Rattle.book_core.specs.declared.effects.ChoiceEffects.{ChoiceEffects}
@@ -25,22 +24,12 @@ use Rattle.table_ledger.specs.ChoiceReads.{FindsChoiceEffects}
 use Rattle.table_ledger.specs.declared.summary.Summary.{Summary}
 use Rattle.table_ledger.proofs.AcceptTries.{none_found, saw_as}
 use Rattle.book_core.proofs.OpenAnswers.{opens_if}
+use Rattle.table_ledger.proofs.LineReadings.{found_row}
 use Rattle.table_ledger.proofs.Remembered.{Says}
 use Rattle.table_ledger.proofs.StageLemmas.{IsEvent, stage_steps}
 use Rattle.table_ledger.proofs.TryLemmas.{saw_found, saw_so, saw_then}
 use Rattle.book_core.proofs.RulingLemmas.{meant_by}
 use Rattle.book_core.proofs.NamedLemmas.{its_name}
-
--- a record that was found is that of its row
-pub found_row : (name : List ℕ) (stored : StoredRecord) (found : Option RecordRow)
-    → option_map stored_entry (Some stored) ≡ option_map (λ (row : RecordRow). (name, row)) found
-    → (found ≡ Some (stored_entry stored).1) × (name ≡ stored.name)
-found_row name stored None is = cc
-found_row name stored (Some row) is =
-    let both : stored_entry stored ≡ (name, row) = (let e = is in cc) in (
-      ap (λ (entry : List ℕ × RecordRow). Some entry.1) (sym both),
-      ap (λ (entry : List ℕ × RecordRow). entry.0) (sym both),
-    )
 
 -- a record was found, and how many of its identity there are
 pub saw_shared : {first middle last : State} {found : Option StoredRecord} {many : ℕ}

@@ -10,7 +10,7 @@ use Rattle.table_ledger.proofs.Words.{FindsRecord, choice_entry, StoredChoice, S
 use Rattle.table_ledger.proofs.Words.{IsLastOf}
 use Rattle.table_ledger.specs.Adoptions.{IsLast, JoinsLast, last_chosen}
 use Rattle.table_ledger.specs.declared.chosen.Chosen.{Chosen}
-use Rattle.table_ledger.proofs.ChoiceTries.{found_row}
+use Rattle.table_ledger.proofs.LineReadings.{found_row}
 
 -- ---- the records that were chosen last
 

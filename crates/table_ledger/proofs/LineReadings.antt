@@ -19,17 +19,22 @@ line_with stored row = record {
   priced = row.1.priced;
 }
 
--- a record that was found is there
+-- a record that was found is that of its row
+pub found_row : (name : List ℕ) (stored : StoredRecord) (found : Option RecordRow)
+    → option_map stored_entry (Some stored) ≡ option_map (λ (row : RecordRow). (name, row)) found
+    → (found ≡ Some (stored_entry stored).1) × (name ≡ stored.name)
+found_row name stored None is = cc
+found_row name stored (Some row) is =
+    let both : stored_entry stored ≡ (name, row) = (let e = is in cc) in (
+      ap (λ (entry : List ℕ × RecordRow). Some entry.1) (sym both),
+      ap (λ (entry : List ℕ × RecordRow). entry.0) (sym both),
+    )
+
+-- so it is there
 pub found_there : (name : List ℕ) (tables : Tables) (held : StoredRecord)
     → FindsRecord name tables (Some held)
     → get tables.records name ≡ Some (stored_entry held).1
-found_there name tables held finds = by (get tables.records name) finds
-  where
-    by : (found : Option RecordRow)
-        → Some (stored_entry held) ≡ option_map (λ (row : RecordRow). (name, row)) found
-        → found ≡ Some (stored_entry held).1
-    by None is = absurd (let e = is in cc)
-    by (Some row) is = sym (ap (option_map (λ (entry : NamedRow). entry.1)) is)
+found_there name tables held finds = (found_row name held (get tables.records name) finds).0
 
 -- The lines that are read after one more stored line.
 pub line_more : (records : RecordTable) (stored : List StoredLine) (at : ℕ)

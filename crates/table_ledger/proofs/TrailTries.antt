@@ -28,7 +28,7 @@ use Rattle.table_ledger.specs.declared.summary.Summary.{Summary}
 use Rattle.table_ledger.proofs.AcceptTries.{none_found}
 use Rattle.table_ledger.proofs.BookLists.{own_records}
 use Rattle.table_ledger.proofs.BookRows.{row_taken}
-use Rattle.table_ledger.proofs.ChoiceTries.{found_row}
+use Rattle.table_ledger.proofs.LineReadings.{found_row}
 use Rattle.table_ledger.proofs.Remembered.{rulings_are}
 
 -- ---- the records of an identity

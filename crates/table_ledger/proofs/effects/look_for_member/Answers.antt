@@ -2,7 +2,7 @@ use Rattle.std.proofs.Common.{◌∙◌, Some, ap, sym, option_map}
 use Rattle.book_model.proofs.Std.{get}
 use Rattle.table_model.specs.Words.{RecordRow, member_at}
 use Rattle.tree_tables.specs.Stored.{stored_entry}
-use Rattle.table_ledger.proofs.ChoiceTries.{found_row}
+use Rattle.table_ledger.proofs.LineReadings.{found_row}
 use Rattle.table_ledger.proofs.TryLemmas.{looks_known, saw_found}
 use Rattle.table_ledger.proofs.effects.look_for_member.Goals as goal
 
