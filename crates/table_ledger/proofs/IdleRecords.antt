@@ -4,7 +4,7 @@ use Rattle.std.proofs.Common.{ap, append-nil, get_or, length, refl, subst, sym, 
 use Rattle.book_model.proofs.Std.{All-head, All-map, All-tail}
 use Rattle.book_core.specs.Words.{listed, Accepts, records_in}
 use Rattle.book_model.specs.Words.{Book, Event, Naming, accept_outcome, after_all}
-use Rattle.table_model.specs.Words.{set_sums, tables_of}
+use Rattle.table_model.specs.Words.{set_sums}
 use Rattle.table_ledger.proofs.Words.{View, StoreError, Accepted, LedgerFault, caused_since, Holds}
 use Rattle.table_ledger.proofs.Words.{HasCleanDisk, State, Survives, IsCaused, LeavesBook}
 use Rattle.table_ledger.proofs.Words.{Remembers, IsAt, IsAtAs, StagesMany}
@@ -43,13 +43,10 @@ none_made naming book records answers idle accepts =
 sums_whole : {naming : Naming} {was is : Summary} {old new : View} {book : Book}
     → IsAt naming was old book → IsAtAs (set_sums was.held was.total) naming is new book
     → IsAt naming is new book
-sums_whole {naming = naming} {was = was} {new = new} {book = book} at after = record {
+sums_whole {naming = naming} {new = new} at after = record {
   kept = record {
     readable = after.kept.readable;
-    holds = subst (Holds new.trees)
-        (sym (sums_there was.held was.total (tables_of naming book)
-        (record { held_is = sym at.remembers.held; amount_is = sym at.remembers.total })))
-        after.kept.holds;
+    holds = subst (Holds new.trees) (sym (sums_there naming at.remembers)) after.kept.holds;
   };
   remembers = after.remembers;
 }

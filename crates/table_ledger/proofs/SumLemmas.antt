@@ -3,7 +3,7 @@ use Rattle.std.proofs.Common.{◌≡◌, ◌∙◌, ℕ, List, [], Result, Ok, E
 use Rattle.std.proofs.Common.{subst, IsErr}
 use Rattle.book_core.specs.Words.{listed}
 use Rattle.book_model.specs.Words.{Book, Event, Naming, Outcome, after_all}
-use Rattle.table_model.specs.Words.{set_sums, Tables, tables_of}
+use Rattle.table_model.specs.Words.{set_sums, tables_of}
 use Rattle.tree_tables.specs.Steps.{Changes}
 use Rattle.table_ledger.proofs.Words.{View, StoreError, LedgerFault, Holds, HasCleanDisk, State}
 use Rattle.table_ledger.proofs.Words.{Does, kept_last, only_both, LeavesBook, Remembers, IsAt}
@@ -16,24 +16,22 @@ use Rattle.table_ledger.proofs.StepLemmas.{stands_only}
 use Rattle.table_ledger.proofs.SurvivalLemmas.{clean_before, survives_then}
 use Rattle.table_ledger.proofs.UnchangedStores.{stands_then}
 
--- sums that are these already are not written again
-pub sums_there : (held amount : ℕ) (tables : Tables) → HaveSums held amount tables
-    → tables ≡ set_sums held amount tables
-sums_there held amount tables have =
+-- to write sums that are remembered changes nothing
+pub sums_there : {is : Summary} {book : Book} (naming : Naming) → Remembers is book
+    → tables_of naming book ≡ set_sums is.held is.total (tables_of naming book)
+sums_there {book = book} naming remembers =
+    let tables = tables_of naming book in
     λ i. record tables {
-      book = record tables.book { held = have.held_is i; amount = have.amount_is i };
+      book = record tables.book { held = sym remembers.held i; amount = sym remembers.total i };
     }
 
 -- before the first record they are those that the summary remembers
 pub sums_remembered : {naming : Naming} {was : Summary} {view : View} {book : Book}
     → IsAt naming was view book → IsAtAs (set_sums was.held was.total) naming was view book
-sums_remembered {naming = naming} {was = was} {view = view} {book = book} at = record {
+sums_remembered {naming = naming} {view = view} at = record {
   kept = record {
     readable = at.kept.readable;
-    holds = subst (Holds view.trees)
-        (sums_there was.held was.total (tables_of naming book)
-        (record { held_is = sym at.remembers.held; amount_is = sym at.remembers.total }))
-        at.kept.holds;
+    holds = subst (Holds view.trees) (sums_there naming at.remembers) at.kept.holds;
   };
   remembers = at.remembers;
 }
@@ -42,12 +40,10 @@ sums_remembered {naming = naming} {was = was} {view = view} {book = book} at = r
 pub sums_written : {naming : Naming} {is : Summary} {middle new : View} {book : Book}
     (held amount : ℕ) → Changes middle new (HaveSums held amount) (set_sums is.held is.total)
     → IsAtAs (set_sums held amount) naming is middle book → IsAt naming is new book
-sums_written {naming = naming} {is = is} {middle = middle} {new = new} {book = book} held amount changes at = record {
+sums_written {naming = naming} {new = new} {book = book} held amount changes at = record {
   kept = record {
     readable = at.kept.readable;
-    holds = subst (Holds new.trees)
-        (sym (sums_there is.held is.total (tables_of naming book)
-        (record { held_is = sym at.remembers.held; amount_is = sym at.remembers.total })))
+    holds = subst (Holds new.trees) (sym (sums_there naming at.remembers))
         (changes.made (set_sums held amount (tables_of naming book)) at.kept.holds
         (record { held_is = refl; amount_is = refl }));
   };
