@@ -28,7 +28,6 @@ use Rattle.table_model.proofs.CountedHeld.{names_follow}
 use Rattle.table_model.proofs.CountedReading.{counted_back, is_record_counted, its_period}
 use Rattle.table_model.proofs.CountedReading.{period_after}
 use Rattle.table_model.proofs.DetailReading.{in_windows}
-use Rattle.table_model.proofs.PickedRows.{filter-nothing}
 use Rattle.table_model.proofs.PriceSums.{part_within}
 use Rattle.table_model.proofs.RecordReading.{every_row}
 use Rattle.tree_rows.proofs.IndexOrders.{by_bytes_exact}
@@ -42,6 +41,7 @@ use Rattle.table_ledger.specs.declared.detail_prices.DetailPrice.{DetailPrice}
 use Rattle.table_ledger.specs.declared.details.Sought.{Sought}
 use Rattle.table_ledger.specs.declared.row_sums.RowSums.{RowSums}
 use Rattle.table_ledger.proofs.DetailTries.{after_or_named, is_sought_by}
+use Rattle.table_ledger.proofs.LateCosts.{none_summed}
 
 -- ---- costs in whatever order
 
@@ -301,18 +301,14 @@ module _ (terms : Terms) (close through : Option ℤ) where
               | false ↦ λ uncounted. refl
             ] refl
 
-        nothing : filter (is_left close through last tables) (entries tables.records) ≡ []
-        nothing =
-            filter_where (is_left close through last tables) (λ entry. false)
-            (entries tables.records) (all_entries nat_list_cmp_total by_bytes_exact
-            (λ (entry : NamedRow). is_left close through last tables entry ≡ false) tables.records
-            passed)
-            ∙ filter-nothing (entries tables.records)
-
         all : (part : Priced → ℕ) → sum_by part so_far.costs ≡ sum_by part (all_costs tables)
         all part =
             let left : to_come part last tables ≡ 0 =
-            ap (sum_by (λ (entry : NamedRow). part (cost_of entry))) nothing in
+            none_summed (is_left close through last tables)
+            (λ (entry : NamedRow). part (cost_of entry)) (entries tables.records)
+            (all_entries nat_list_cmp_total by_bytes_exact
+            (λ (entry : NamedRow). is_left close through last tables entry ≡ false) tables.records
+            passed) in
             let parts = so_far.parts part in
             let kept = kept_part tables part in
             omega (arith, left, parts, kept)

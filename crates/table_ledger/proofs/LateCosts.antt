@@ -43,7 +43,7 @@ pub record SumsSo (terms : Terms) (total : ℕ) (last : Option LateRecord) (rest
       → is_left terms.effective last tables (name, row) ≡ false → CanCost terms row
 
 -- where nothing passes a test, nothing is summed
-none_summed : {E : Type 0} (test : E → Bool) (f : E → ℕ) (es : List E)
+pub none_summed : {E : Type 0} (test : E → Bool) (f : E → ℕ) (es : List E)
     → AllByRecursion (λ e. test e ≡ false) es → sum_by f (filter test es) ≡ 0
 none_summed test f [] none = refl
 none_summed test f (e ∷ es) none =
