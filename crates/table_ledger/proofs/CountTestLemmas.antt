@@ -3,6 +3,7 @@ use Rattle.std.proofs.Common.{◌≡◌, ◌∙◌, ℕ, zero, suc, ◌+◌, ◌
 use Rattle.std.proofs.Common.{sym, ap, true, false, Bool, cond, Option, Some, None, arith, length}
 use Rattle.std.proofs.Common.{slice_index_or, take, unwrap_or, ◌++◌, filter, nat_le, not, ◌==◌}
 use Rattle.std.proofs.Common.{◌&&◌, is_eq, nat_cmp, Ordering, Less, Equal, Greater}
+use Rattle.book_model.proofs.LatestLemmas.{or-none}
 use Rattle.book_model.proofs.Lemmas.{else_find, find-both}
 use Rattle.book_model.proofs.Std.{eq_by_cmp_equiv, nat_list_cmp_total, map-append, take_more}
 use Rattle.book_model.proofs.Std.{exact_bytes, tells_apart, entries, get, get-entries, option_or}
@@ -10,11 +11,6 @@ use Rattle.book_model.proofs.Std.{eq_by_cmp, ordering_then, nat_tests}
 use Rattle.book_model.specs.Words.{Rulings, by_bytes, open_by}
 use Rattle.table_model.specs.Words.{by_period, LineTable, Tables, first_line, is_period}
 use Rattle.table_ledger.proofs.Words.{find, ListsLines, signed_name, StoredLine}
-
--- nothing else is found
-or_none : {X : Type 0} (found : Option X) → option_or found None ≡ found
-or_none None = refl
-or_none (Some x) = refl
 
 -- the first of three
 or_assoc : {X : Type 0} (one two three : Option X)
@@ -28,7 +24,7 @@ pub first_line-more : (lines : LineTable) (name : List ℕ) (number later : ℕ)
     ≡ option_or (first_line lines name number later) (get lines (number + later, name))
 first_line-more lines name number zero =
     let place : number ≡ number + 0 = omega arith in
-    or_none (get lines (number, name)) ∙ ap (λ n. get lines (n, name)) place
+    or-none (get lines (number, name)) ∙ ap (λ n. get lines (n, name)) place
 first_line-more lines name number (suc later) =
     let place : suc number + later ≡ number + suc later = omega arith in
     ap (option_or (get lines (number, name))) (first_line-more lines name (suc number) later)
@@ -105,7 +101,7 @@ line_joins found i any one name start now next its kept within is so_far joins i
           ap Some (keeps ∙ ap (λ found. unwrap_or found one.plus)
           (its_own (tells_apart exact_bytes one.name name same)))
           ∙ some_first now
-      | false ↦ λ apart. sym (or_none now)
+      | false ↦ λ apart. sym (or-none now)
     ] refl
     ∙ ap (λ b. option_or now (own b)) (sym tied)
     ∙ ap (λ before. option_or before (own (eq_by_cmp by_bytes name one.name))) so_far

@@ -1,25 +1,19 @@
 -- Lines whose names rise are of different records.
-use Rattle.std.proofs.Common.{◌≡◌, ◌∙◌, ℕ, List, [], ◌∷◌, ◌+◌, ◌<◌, true, true≢false, length}
-use Rattle.std.proofs.Common.{slice_index_or, ap, refl, sym, subst, arith, map, Ordering, Less}
-use Rattle.std.proofs.Common.{Equal, Greater, is_lt}
+use Rattle.std.proofs.Common.{◌≡◌, ◌∙◌, ℕ, List, [], ◌∷◌, ◌+◌, ◌<◌, true, length, slice_index_or}
+use Rattle.std.proofs.Common.{ap, sym, subst, arith, map, Less, is_lt}
 use Rattle.std.proofs.lemmas.Map.Keys.{Less-from_sorted, sorted_from_all_adjacent}
 use Rattle.book_model.proofs.Std.{IsDistinct, IsStrictlySortedBy, nat_list_cmp_total, get_or-map}
 use Rattle.book_model.proofs.Std.{length-map, IsDistinct-from_sorted}
 use Rattle.book_model.specs.declared.line.Line.{Line}
 use Rattle.book_model.specs.Words.{by_bytes, same_bytes}
 use Rattle.book_model.proofs.Lemmas.{same_bytes-by_cmp}
+use Rattle.tree_rows.proofs.Remaining.{is_less}
 
 -- each name below a place comes before the next one
 abbrev pub RiseBelow : List Line → ℕ → Type 0
 RiseBelow lines at = (k : ℕ) (any : Line) → k + 1 < at
     → true ≡ is_lt (by_bytes (slice_index_or lines k any).name
     (slice_index_or lines (k + 1) any).name)
-
--- what is less compares as less
-is_less : (order : Ordering) → true ≡ is_lt order → order ≡ Less
-is_less Less is = refl
-is_less Equal is = absurd (true≢false is)
-is_less Greater is = absurd (true≢false is)
 
 -- the names of lines
 abbrev names : List Line → List (List ℕ)
@@ -38,7 +32,7 @@ names_rise (line ∷ lines) rise =
     let near : k + 1 < length all = subst (λ (n : ℕ). k + 1 < n) long within in
     (λ i. by_bytes (get_or-map name all k line [] (omega (arith, near)) i)
     (get_or-map name all (k + 1) line [] near i))
-    ∙ is_less _ (rise k line near))
+    ∙ is_less _ (sym (rise k line near)))
 
 -- Lines whose names rise are of different records.
 pub rising_apart : (lines : List Line) → RiseBelow lines (length lines)
