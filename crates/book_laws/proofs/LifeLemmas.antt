@@ -11,13 +11,13 @@ use Rattle.book_model.specs.Words.{Book, Event, Period, PeriodClosed, Records, A
 use Rattle.book_model.specs.Words.{all_periods, book_after, charged_of, charged_through, has}
 use Rattle.book_model.specs.Words.{is_charge, is_dated_after, last_close, life_from, life_of}
 use Rattle.book_model.specs.Words.{net_of, Naming, TrailSeen, period_by, reckoning_in, record_named}
-use Rattle.book_model.specs.Words.{trail_by, trail_of, turn_if, turns_in, without, Reckoning}
-use Rattle.book_model.proofs.Lemmas.{has_those, none_in, sum_by-plus}
+use Rattle.book_model.specs.Words.{trail_by, trail_of, turn_if, turns_in, Reckoning}
+use Rattle.book_model.proofs.Lemmas.{none_in, sum_by-plus}
 use Rattle.report_texts.specs.Columns.{newline}
 use Rattle.report_texts.specs.LifeLines.{net_line}
 use Rattle.book_reports.proofs.WritingLemmas.{same_value}
 use Rattle.book_laws.proofs.Words.{Added, Charged, Reversed, Turn, net_count, one_if}
-use Rattle.book_laws.proofs.NetLemmas.{charged_once, has_without}
+use Rattle.book_laws.proofs.NetLemmas.{charged_once, has_without, in_added, in_counted}
 use Rattle.book_laws.proofs.PeriodLemmas.{posted_dated}
 use Rattle.book_laws.specs.LifeLaws.{LivesNet, LivesTakeTurns, TakeTurns, TrailsNet}
 
@@ -51,15 +51,13 @@ module _ (bytes : List ℕ) where
       → TakeTurns (has before bytes) (turns_in k (period_by last before charged) bytes)
       (has charged bytes)
   one_period k last before charged old =
-      let late : List ℕ → Bool = is_dated_after last in
-      let counted = has_those late charged bytes in
-      let added = has_those (λ b. not (late b)) (without charged before) bytes
-      ∙ ap (λ b. not (late bytes) && b) (has_without charged before bytes) in
+      let counted = in_counted last before charged bytes in
+      let added = in_added last before charged bytes in
       let taken = has_without before charged bytes in
       subst (λ turns. TakeTurns (has before bytes) turns (has charged bytes))
       (λ i. turn_if (sym counted i) k Charged ++ turn_if (sym added i) k Added
       ++ turn_if (sym taken i) k Reversed)
-      (by_cases k (has before bytes) (has charged bytes) (late bytes) (old bytes))
+      (by_cases k (has before bytes) (has charged bytes) (is_dated_after last bytes) (old bytes))
 
   -- one more period goes on where the others ended
   one_more : (k : ℕ) (periods : List Period) (last : Option ℤ) (start : Bool)
