@@ -32,7 +32,8 @@ use Rattle.book_trees.specs.declared.first_form.FirstFault.TheVariants as form
 use Rattle.book_trees.specs.declared.integrity.LookFault.{LookFault}
 use Rattle.book_trees.specs.declared.integrity.LookFault.TheVariants.{Pages, Open}
 use Rattle.book_files.specs.Causes.{HasFaultCause, HasNoAnswerFor, HaveNoBookRow, HoldsOurBooks}
-use Rattle.book_files.specs.Causes.{HoldsOurs, IsToldOfThis, IsWithoutFiles, ShowsOurBooks, ShowsOurs}
+use Rattle.book_files.specs.Causes.{HoldsOurs, IsResumedBy, IsToldOfThis, IsWithoutFiles}
+use Rattle.book_files.specs.Causes.{ShowsOurBooks, ShowsOurs}
 use Rattle.book_files.specs.Causes.{WhyNotCopied}
 use Rattle.book_files.specs.Faults.{first_answer, not_copied, open_fault}
 use Rattle.book_files.specs.Upgrades.{upgrade_answer}
@@ -102,6 +103,15 @@ cause_so Absent Absent' There There' Failed Failed' absent there failed (Ledger 
     failed cause
 cause_so Absent Absent' There There' Failed Failed' absent there failed Exists cause = there cause
 cause_so Absent Absent' There There' Failed Failed' absent there failed other cause = cause
+
+-- so may what is said where books were to be continued
+pub resumed_so : {A : Type 0} (One Other : Type 0) (unused : Bool) → (One → Other)
+    → (result : Result A RepositoryFault) → IsResumedBy One unused result
+    → IsResumedBy Other unused result
+resumed_so One Other unused so (Ok made) told = told
+resumed_so One Other unused so (Err fault) told =
+    cause_so ⊥ ⊥ (unused ≡ false) (unused ≡ false) One Other (λ never. never) (λ there. there) so
+    fault told
 
 -- and so has the fault of books that were not opened
 pub opened_cause : (Absent There Failed : Type 0) (fault : LedgerFault)

@@ -15,10 +15,12 @@ use Rattle.book_trees.specs.LedgerFiles.{HoldsBooks, HoldsEmptyBooks, HoldsFirst
 use Rattle.book_trees.specs.LedgerFiles.{trees_held}
 use Rattle.book_trees.specs.Refusals.{faults_in, AreFull, StopCreating}
 use Rattle.book_trees.specs.Schema.{books_schema}
+use Rattle.table_model.specs.TablesOf.{tables_of}
 use Rattle.tree_tables.specs.Holds.{has_book}
 use Rattle.book_restarts.specs.FileBooks.{HoldsBook, RestsAt, file_names}
 use Rattle.book_files.specs.NewBooks.{IsEmpty}
 use Rattle.book_files.specs.Sessions.{AreHonest, MayFollow, files_in_hand}
+use Rattle.book_files.specs.Unused.{are_unused}
 use Rattle.book_files.specs.declared.copies.CopyFault.{CopyFault}
 use Rattle.book_files.specs.declared.copies.CopyFault.TheVariants as copies
 use Rattle.book_files.specs.declared.session.Ended.{Ended}
@@ -87,11 +89,16 @@ HasFaultCause Absent There Failed Exists = There
 HasFaultCause Absent There Failed _ = ⊥
 
 -- Books were to be continued, and this says whether anything was submitted to them: they are new
--- where it was answered that all went well; and that books are there is answered only where they are
--- not.
-abbrev pub IsResumed : {A : Type 0} → Bool → Result A RepositoryFault → Type 0
-IsResumed unused (Ok made) = unused ≡ true
-IsResumed unused (Err fault) = HasFaultCause ⊥ (unused ≡ false) ⊤ fault
+-- where it was answered that all went well; that books are there is answered only where they are
+-- not; and a fault of the store only where one failed.
+abbrev pub IsResumedBy : {A : Type 0} → Type 0 → Bool → Result A RepositoryFault → Type 0
+IsResumedBy Failed unused (Ok made) = unused ≡ true
+IsResumedBy Failed unused (Err fault) = HasFaultCause ⊥ (unused ≡ false) Failed fault
+
+-- the same of this book, which a store held
+abbrev pub IsResumed : {A : Type 0} → Type 0 → Book → Result A RepositoryFault → Type 0
+IsResumed Failed book result =
+    IsResumedBy Failed (are_unused (tables_of file_names book)) result
 
 -- Why a session has no answer, by what is in hand of its files: what is said of a fault where they
 -- were not opened, by a failure of their disk or a limit of the format; and where they were.
@@ -132,12 +139,14 @@ module _ {D : Type 0} (g : Ghosts D) (found : Image) (ended : Ended D) where
       HasNoAnswerFor g (StopCreating g) (HasFaultCause (¬ HoldsNothing found) ⊥)
       (λ Failed. HasFaultCause ⊥ ⊥ ⊤) fault ended
 
-  -- Why new books were not continued: the files hold none of this form, or a book that is not new; or a
-  -- call on them failed, or met a limit of the format; or memory ran out.
+  -- Why new books were not continued: the files hold none of this form, or a book that is not new;
+  -- or a call on them failed, or met a limit of the format; or memory ran out. Of files that hold no
+  -- book yet no more is said of a fault of the store.
   abbrev pub WhyNotContinued : RepositoryFault → Type 0
   WhyNotContinued fault =
       HasNoAnswerFor g (AreFull g) (HasFaultCause ⊥ (¬ HoldsThisForm found))
-      (λ Failed. HasFaultCause ⊥ (HaveUsedBook found) ⊤) fault ended
+      (λ Failed. HasFaultCause ⊥ (HaveUsedBook found) (HoldsOurBooks file_names found → Failed))
+      fault ended
 
   -- Why books were not looked through: the files hold none of this form; or a call on them failed, or
   -- met a limit of the format; or memory ran out. Of files that were looked through this says nothing.

@@ -20,14 +20,13 @@ ghost use Rattle.book_files.specs.Stores.{CloseLeavesNew, CloseLeavesRows, Close
 ghost use Rattle.book_files.specs.Stores.{CloseTriesToMoveLog};
 ghost use Rattle.book_files.specs.Stores.{StopGoesOn, StopKeepsBook, StopKeepsTrees, StopLeaves};
 ghost use Rattle.book_files.specs.Stores.{StopLeavesNew};
-ghost use Rattle.book_files.specs.Unused.{SaysUnused, are_unused, unused_by};
+ghost use Rattle.book_files.specs.Unused.{SaysUnused, unused_by};
 ghost use Rattle.book_files.specs.Upgrades.{HoldsUpgraded, LeavesUpgraded, MayBringOver};
 ghost use Rattle.book_files.specs.Upgrades.{RestsBroughtOver};
 ghost use Rattle.book_trees.specs.FirstForm.{HasFirstTrees};
 ghost use Rattle.book_restarts.specs.FileBooks.{StandsAt, done_by, file_names};
 ghost use Rattle.table_ledger.specs.FirstForm.{StandsAtFirst};
 ghost use Rattle.table_ledger.specs.Loaded.{CanBeListed};
-ghost use Rattle.table_model.specs.TablesOf.{tables_of};
 ghost use Rattle.tree_tables.specs.Holds.{HasShapes, has_book};
 ghost use Rattle.tree_tables.specs.States.{HasCleanDisk, Survives, state};
 ghost use Rattle.tree_tables.specs.Steps.{FailsByStore, Looks};
@@ -165,7 +164,8 @@ fn resume_in<S: Alter>(alloc: Global, store: S) -> (Result<(), RepositoryFault>,
     ensures held { StopKeepsBook (S.Store.view store) (state S.Store result.1) }
     ensures told { (book : Book) → StandsAt file_names book (S.Store.view store)
         → IsClean (S.Store.view result.1)
-        → IsResumed (are_unused (tables_of file_names book)) result.0 }
+        → IsResumed (MoreFaults (S.Store.faults store) (S.Store.faults result.1)) book
+        result.0 }
     ensures left { StopLeavesNew (S.Store.view store) result.0 (state S.Store result.1) }
     ensures there { has_book (S.Store.view store).trees ≡ true
         → StopKeepsTrees (S.Store.view store) (state S.Store result.1) }
@@ -245,7 +245,7 @@ pub(crate) fn resume_and_close<D: Disk>(
     ensures held { CloseKeepsBook D.Disk (view store) result.1 }
     ensures told { (book : Book) → StandsAt file_names book (view store)
         → AreClean D.Disk result.1.files.log result.1.files.db
-        → IsResumed (are_unused (tables_of file_names book)) result.0 }
+        → IsResumed (HaveFailed D.Disk result.1.files) book result.0 }
     ensures left { CloseLeavesNew D.Disk (view store) result.0 result.1 }
     ensures rows { has_book (view store).trees ≡ true
         → CloseKeepsRows D.Disk (view store) result.1 }

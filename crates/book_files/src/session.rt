@@ -181,6 +181,8 @@ pub fn resume_at<S: LeftByLedger>(
     ensures moves { TriesToMoveLog result.1 }
 
     // That books are there is answered of files that hold none of ours, or books that are not new.
+    // A fault of the store is told of files that hold a book only where a call on them failed, or
+    // met a limit.
     ensures cause { IfErr result.0
         (WhyNotContinued ⟦<FileFrom<S> as Disk>⟧ (image_at S.Start) result.1) }
 {

@@ -51,7 +51,7 @@ mod DetailsRead
 mod OpenLemmas
 mod MakingBooks
 mod LoadLemmas
-mod OwnBooks
+pub mod OwnBooks
 mod BookRows
 mod BookLists
 mod RulingReads

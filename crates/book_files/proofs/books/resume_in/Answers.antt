@@ -1,8 +1,13 @@
-use Rattle.std.proofs.Common.{◌∙◌, Ok, Some, ap, false, true}
+use Rattle.std.proofs.Common.{◌≡◌, ◌∙◌, Ok, Some, ap, false, subst, sym, true}
+use Rattle.sqlite_disk.specs.Disk.{MoreFaults}
 use Rattle.sqlite_trees.specs.Tree.{Trees}
+use Rattle.book_restarts.specs.FileBooks.{file_names}
+use Rattle.table_model.specs.TablesOf.{tables_of}
 use Rattle.tree_tables.specs.States.{state}
-use Rattle.book_files.proofs.ResumeParts.{told_absent, told_filled, told_gone, told_resumed}
-use Rattle.book_files.proofs.ResumeParts.{unwritten_stays}
+use Rattle.book_files.specs.Causes.{HasFaultCause}
+use Rattle.book_files.specs.Unused.{are_unused}
+use Rattle.book_files.proofs.ResumeParts.{told_absent, told_filled, told_gone, told_in_vain}
+use Rattle.book_files.proofs.ResumeParts.{told_resumed, unwritten_stays}
 use Rattle.book_files.proofs.books.resume_in.Goals as goal
 
 pub returns-in_default-clause-held : goal.returns-in_default-clause-held
@@ -18,6 +23,16 @@ returns-in_default-clause-told g c = λ book stands clean.
     told_gone (state g.S.Store c.args.store) (state g.S.Store looked.result.1) looked.result.0
     looked.ensures.looks looked.ensures.row (c.in-Ok.is ∙ ap Ok c.in_default.is) book stands
     (c.make_in.ensures.clean clean)
+
+pub returns-in-Err-clause-told : goal.returns-in-Err-clause-told
+returns-in-Err-clause-told g c = λ book stands clean.
+    let looked = c.look_for_new-found in
+    let old = state g.S.Store c.args.store in
+    let new = state g.S.Store looked.result.1 in
+    let There : Type 0 = are_unused (tables_of file_names book) ≡ false in
+    subst (HasFaultCause ⊥ There (MoreFaults old.faults new.faults)) (sym c.fault_of.ensures)
+    (told_in_vain old new looked.result.0 looked.ensures.looks looked.ensures.row There
+    c.in-Err.error c.in-Err.is looked.ensures.cause book stands clean)
 
 pub returns-in-Err-clause-there : goal.returns-in-Err-clause-there
 returns-in-Err-clause-there g c = λ there.
