@@ -19,6 +19,7 @@ pub mod TariffLemmas
 pub mod WhatIfLemmas
 pub mod FigureLemmas
 pub mod RecordNameLemmas
+pub mod DetailSums
 pub mod WorkLemmas
 pub mod BillLineLemmas
 pub mod HeldLemmas

@@ -1,7 +1,7 @@
 //! What was worked in a period: the charge rows of the steps and those of the jobs among its
 //! details, which are read one at a time.
 
-ghost use Rattle.std.specs.Prelude.{◌≡◌, ◌++◌, ◌∷◌, [], IfErr, IfOk, IfSome, OnOk};
+ghost use Rattle.std.specs.Prelude.{◌≡◌, ◌++◌, ◌∷◌, [], IfErr, IfOk, IfSome, None, OnOk};
 ghost use Rattle.std.specs.BTreeMap.{values};
 ghost use Rattle.std.specs.Option.{ForSome};
 ghost use Rattle.book_model.specs.Words as words;
@@ -67,13 +67,16 @@ fn add_price(rows: &mut BTreeMap<RowKey, ChargeRow>, priced: &Priced) -> Result<
 fn fitting_sums(sums: Sums, detail: &Detail) -> Option<Sums>
     ensures more { IfSome result (λ more. more ≡ streamed.with_detail sums detail.now) }
     ensures fit { IfSome result SumsFit }
+    ensures large { result ≡ None → ¬ SumsFit (streamed.with_detail sums detail.now) }
 {
-    let more = with_detail(sums, detail)?;
-    if more.amount < SIGNED_END {
-        Some(more)
-    } else {
-        None
+    let Some(more) = with_detail(sums, detail) else {
+        return None;
+    };
+    let amount = more.amount;
+    if amount >= SIGNED_END {
+        return None;
     }
+    Some(more)
 }
 
 /// The rows, by day, then centre, then shift.
