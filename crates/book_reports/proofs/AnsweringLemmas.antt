@@ -28,6 +28,12 @@ abbrev pub IsRefusedBy : {A : Type 0} → LedgerFault → Result A LedgerFault �
 IsRefusedBy fault answer =
     (is_hindrance (report_fault_of fault) ≡ true) ⊎ (answer ≡ Err fault)
 
+-- so a call to which the definitions answer something was hindered
+pub only_hinders : {A : Type 0} (answer : A) (fault : LedgerFault) → IsRefusedBy fault (Ok answer)
+    → is_hindrance (report_fault_of fault) ≡ true
+only_hinders answer fault (inl hinders) = hinders
+only_hinders answer fault (inr is) = absurd (cc is)
+
 -- it is what the definitions say of a call that was refused, which made no event
 pub refused_by : {V A : Type 0} (view : V → A) (outcome : Outcome A) (fault : LedgerFault)
     (events : List Event) → outcome.event ≡ None → Makes view outcome (Err fault) events

@@ -3,8 +3,10 @@ use Rattle.std.specs.Prelude.{◌≡◌, ◌⊎◌, Bool, true, ℕ, List, [], O
 use Rattle.book_model.specs.declared.fault.LedgerFault.{LedgerFault}
 use Rattle.book_model.specs.Words.{Book, Event, Naming}
 use Rattle.book_core.specs.Calls.{Reopens}
+use Rattle.book_core.specs.Transition.{Transition}
 use Rattle.book_reports.specs.declared.fault.ReportFault.{ReportFault}
 use Rattle.book_reports.specs.declared.fault.ReportFault.TheVariants.{Ledger}
+use Rattle.book_reports.specs.BookTexts.{ruling_text}
 use Rattle.book_reports.specs.StreamedRulings.{is_hindrance, refusal_in}
 use Rattle.book_reports.specs.Writing.{WritesPrefix, WritesUntil}
 
@@ -48,3 +50,8 @@ pub record WritesAnswerUntil (answer : Naming → Book → Result (List ℕ) Led
 -- a report that no book refuses, by its text
 abbrev pub answered_by : (Naming → Book → List ℕ) → Naming → Book → Result (List ℕ) LedgerFault
 answered_by text naming book = Ok (text naming book)
+
+-- the list of its rulings was written so, or a prefix of it that is not the whole
+abbrev pub WritesRulings : Naming → Option (List ℕ) → Option (List ℕ)
+    → Result (Unit {0}) ReportFault → Transition
+WritesRulings = WritesAnswerUntil (answered_by ruling_text)

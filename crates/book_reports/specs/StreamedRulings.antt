@@ -1,4 +1,4 @@
--- A text that is written while it is made; and the list of a ledger's rulings, which is written so.
+-- A text that is written while it is made, as the list of a ledger's rulings is.
 use Rattle.std.specs.Prelude.{◌≡◌, ◌<◌, Bool, true, false, ℕ, List, [], ◌++◌, length, Option, IfErr}
 use Rattle.std.specs.Prelude.{Result, Ok, Err}
 use Rattle.std.specs.Io.KnownBytes.{Appends}
@@ -9,7 +9,6 @@ use Rattle.book_core.specs.Calls.{Reopens}
 use Rattle.report_texts.specs.RulingLists.{ruling_list_text}
 use Rattle.book_reports.specs.declared.fault.ReportFault.{ReportFault}
 use Rattle.book_reports.specs.declared.fault.ReportFault.TheVariants.{Write, Memory, Ledger}
-use Rattle.book_reports.specs.BookTexts.{ruling_text}
 use Rattle.book_reports.specs.Writing.{WritesPrefix}
 
 -- the first bytes of a text were written, where what the writer holds is known, and this rest was
@@ -55,11 +54,6 @@ pub record WritesReport (text : Naming → Book → List ℕ) (naming : Naming)
   pub unread : was ≡ true → holds ≡ held
   pub reopens : Reopens (refusal_in result) was is
   pub hindered : IfErr result (λ fault. is_hindrance fault ≡ true)
-
--- the list of its rulings was written so
-abbrev pub WritesRulings : Naming → Option (List ℕ) → Option (List ℕ)
-    → Result (Unit {0}) ReportFault → Bool → Book → List Event → Bool → Type 0
-WritesRulings = WritesReport ruling_text
 
 -- whatever the book is, what was written is such a text, or a prefix of one
 abbrev pub WritesSome : {X : Type 0} → (X → List ℕ) → Option (List ℕ) → Option (List ℕ)

@@ -7,7 +7,8 @@ ghost use Rattle.book_model.specs.Words.{HasDays, ruling_shown};
 ghost use Rattle.book_core.specs.Calls.{Reopens};
 ghost use Rattle.book_core.specs.Transition.{IsTransition};
 ghost use Rattle.report_texts.specs.RulingLists.{ruling_line};
-ghost use Rattle.book_reports.specs.StreamedRulings.{WritesAllBut, WritesRulings, WritesSomeRulings};
+ghost use Rattle.book_reports.specs.StreamedAnswers.{WritesRulings};
+ghost use Rattle.book_reports.specs.StreamedRulings.{LeavesSome, WritesAllBut, WritesSomeRulings};
 ghost use Rattle.book_reports.specs.StreamedRulings.{refusal_in};
 ghost use Rattle.book_reports.specs.Writing.{is_write_fault, is_write_or_memory};
 
@@ -43,6 +44,9 @@ fn push_line<W: Writer + Drop>(
     ensures written { WritesAllBut (waiting.old.items ++ ruling_line (ruling_shown ruling.now))
         waiting.new.items (W.contents (writer_of sink.old)) (W.contents (writer_of sink.new))
         result }
+    ensures left { LeavesSome (waiting.old.items ++ ruling_line (ruling_shown ruling.now))
+        waiting.new.items (W.contents (writer_of sink.old)) (W.contents (writer_of sink.new))
+        result }
     ensures failed { has_failed sink.new ≡ is_write_fault result }
     ensures fault { IfErr result (λ fault. is_write_or_memory fault ≡ true) }
 {
@@ -50,9 +54,9 @@ fn push_line<W: Writer + Drop>(
     push_part(waiting, &line, sink)
 }
 
-/// Writes the list of rulings: the whole of it, or a prefix before a fault. The ledger is asked for
-/// the first ruling before anything else, so that what it refuses comes before any byte. Nothing is
-/// written after a write that failed.
+/// Writes the list of rulings: the whole of it, or, before a fault, a prefix that is not the whole.
+/// The ledger is asked for the first ruling before anything else, so that what it refuses comes
+/// before any byte. Nothing is written after a write that failed.
 pub fn write_rulings<L: Ledger, W: Writer + Drop>(
     alloc: Global,
     ledger: &mut L,

@@ -8,7 +8,7 @@ use Rattle.book_reports.specs.Writing.{is_write_or_memory}
 use Rattle.book_reports.proofs.ReadingLemmas.{passed_on}
 use Rattle.book_reports.proofs.RulingLemmas.{list_begun, list_cut, list_ended, list_more}
 use Rattle.book_reports.proofs.RulingLemmas.{list_refused, list_stopped, none_read, read_written}
-use Rattle.book_reports.proofs.RulingLemmas.{some_cut, some_ended, some_stopped}
+use Rattle.book_reports.proofs.RulingLemmas.{list_some, some_cut, some_ended, some_stopped}
 use Rattle.book_reports.proofs.RulingReading.{first_read}
 use Rattle.book_reports.proofs.streamed_rulings.write_rulings.Goals as goal
 
@@ -22,14 +22,14 @@ pub returns-then-failed-clause-written : goal.returns-then-failed-clause-written
 returns-then-failed-clause-written g c =
     let held = g.W.Write.contents (writer_of c.args.sink.now) in
     read_written (first_read _ _ c.in_ok-next.next c.in_ok-next.ensures.ruling) held held _ refl
-    (λ all known. (0, Appends-nil held))
+    (λ all known. (0, list_some all, Appends-nil held))
 
 pub returns-in_err-head-clause-written : goal.returns-in_err-head-clause-written
 returns-in_err-head-clause-written g c =
     let held = g.W.Write.contents (writer_of c.args.sink.now) in
     rw (passed_on c.from_residual-in_err-head.result c.from_residual-in_err-head.ensures.1)
     (read_written (first_read _ _ c.in_ok-next.next c.in_ok-next.ensures.ruling) held held _ refl
-    (λ all known. (0, Appends-nil held)))
+    (λ all known. (0, list_some all, Appends-nil held)))
 
 pub returns-in_err-head-clause-some : goal.returns-in_err-head-clause-some
 returns-in_err-head-clause-some g c =
@@ -52,7 +52,7 @@ returns-in_default-clause-written g c =
     c.flush.result c.in_default.is
     (IfErr-weaker c.flush.result (λ fault. fault ≡ report.Write) (λ fault. is_write_or_memory fault ≡ true)
     (λ fault is. ap is_write_or_memory is) c.flush.ensures.fault)
-    c.flush.ensures.written
+    c.flush.ensures.until
 
 pub returns-in_default-clause-some : goal.returns-in_default-clause-some
 returns-in_default-clause-some g c =
@@ -61,28 +61,29 @@ returns-in_default-clause-some g c =
 
 pub returns-in_err-push_line-clause-written : goal.returns-in_err-push_line-clause-written
 returns-in_err-push_line-clause-written g c =
-    let line = c.in_err-push_line.ensures.written in
+    let line = c.in_err-push_line.ensures.left in
     rw (passed_on c.from_residual-in_err-push_line.result
     c.from_residual-in_err-push_line.ensures.1)
     (list_cut c.loop-before.invariant.far c.in-Some.ruling c.in-Some.is line.0
-    (g.W.Write.contents (writer_of c.push_line.new.sink)) line.1
+    (g.W.Write.contents (writer_of c.push_line.new.sink)) line.2 line.1
     c.in_err-push_line.field-0.0 c.in_err-push_line.ensures.fault)
 
 pub returns-in_err-push_line-clause-some : goal.returns-in_err-push_line-clause-some
 returns-in_err-push_line-clause-some g c =
     let failed = err_from_is_err_and c.from_residual-in_err-push_line.result
     c.from_residual-in_err-push_line.ensures.1 in
-    let line = c.in_err-push_line.ensures.written in
+    let line = c.in_err-push_line.ensures.left in
     rw failed.1
     (some_cut c.loop-before.invariant.far c.in-Some.ruling c.in-Some.is line.0
-    (g.W.Write.contents (writer_of c.push_line.new.sink)) line.1 failed.0)
+    (g.W.Write.contents (writer_of c.push_line.new.sink)) line.2 line.1 failed.0)
 
 pub returns-in_err-next-2-clause-written : goal.returns-in_err-next-2-clause-written
 returns-in_err-next-2-clause-written g c =
     rw (passed_on c.from_residual-in_err-next-2.result c.from_residual-in_err-next-2.ensures.1)
     (list_refused c.loop-before.invariant.far c.in-Some.ruling c.in-Some.is
     c.push_line.new.waiting.items (g.W.Write.contents (writer_of c.push_line.new.sink))
-    c.in_ok-push_line.ensures.written (g.L.Ledger.seen c.ruling-in-loop-before.new.self)
+    c.in_ok-push_line.ensures.written c.in_ok-push_line.ensures.left
+    (g.L.Ledger.seen c.ruling-in-loop-before.new.self)
     c.in_err-next-2.field-0.0 c.in_err-next-2.ensures.ruling)
 
 pub returns-in_err-next-2-clause-some : goal.returns-in_err-next-2-clause-some
@@ -92,7 +93,7 @@ returns-in_err-next-2-clause-some g c =
     rw failed.1
     (some_cut c.loop-before.invariant.far c.in-Some.ruling c.in-Some.is
     c.push_line.new.waiting.items (g.W.Write.contents (writer_of c.push_line.new.sink))
-    c.in_ok-push_line.ensures.written failed.0)
+    c.in_ok-push_line.ensures.written c.in_ok-push_line.ensures.left failed.0)
 
 pub loop-before-preserved : goal.loop-before-preserved
 loop-before-preserved g c = record {
@@ -100,7 +101,8 @@ loop-before-preserved g c = record {
   days = c.in_ok-next-2.ensures.shown;
   far = list_more c.loop-before.invariant.far c.in-Some.ruling c.in-Some.is
       c.push_line.new.waiting.items (g.W.Write.contents (writer_of c.push_line.new.sink))
-      c.in_ok-push_line.ensures.written (g.L.Ledger.seen c.ruling-in-loop-before.new.self)
+      c.in_ok-push_line.ensures.written c.in_ok-push_line.ensures.left
+      (g.L.Ledger.seen c.ruling-in-loop-before.new.self)
       c.in_ok-next-2.next c.in_ok-next-2.ensures.ruling;
 }
 

@@ -1,4 +1,5 @@
 use Rattle.book_reports.specs.BookTexts.{ruling_text}
+use Rattle.book_reports.specs.StreamedAnswers.{answered_by}
 use Rattle.book_reports.specs.StreamedDetails.{detail_answer}
 use Rattle.book_reports.specs.StreamedDisputes.{dispute_report}
 use Rattle.book_reports.proofs.AnsweringLemmas.{until_written}
@@ -12,7 +13,8 @@ returns-in-Details-clause-written g c =
 
 pub returns-in-Rulings-clause-written : goal.returns-in-Rulings-clause-written
 returns-in-Rulings-clause-written g c =
-    rw c.in-Rulings.is (text_answered ruling_text _ _ _ _ _ c.write_rulings.ensures.written)
+    rw c.in-Rulings.is
+    (until_written (answered_by ruling_text) _ _ _ _ _ c.write_rulings.ensures.written)
 
 pub returns-in-Disputes-clause-written : goal.returns-in-Disputes-clause-written
 returns-in-Disputes-clause-written g c =
