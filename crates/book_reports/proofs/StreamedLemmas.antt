@@ -1,7 +1,7 @@
 -- Texts that are written in part.
-use Rattle.std.proofs.Common.{◌≡◌, ◌∙◌, ℕ, ◌<◌, ◌-◌, List, [], ◌++◌, length, take, drop, arith}
-use Rattle.std.proofs.Common.{refl, sym, ap, subst, append_assoc, length-append, length-drop, Option}
-use Rattle.std.proofs.Common.{Result, Ok, Err}
+use Rattle.std.proofs.Common.{◌≡◌, ◌∙◌, ℕ, ◌<◌, ◌-◌, List, [], ◌∷◌, ◌++◌, length, take, drop, arith}
+use Rattle.std.proofs.Common.{refl, sym, ap, subst, append_assoc, append-nil, length-append}
+use Rattle.std.proofs.Common.{length-drop, Option, Result, Ok, Err}
 use Rattle.std.proofs.lemmas.List.{take-append-drop}
 use Rattle.std.proofs.Math.Seq.{take-append_seam}
 use Rattle.std.specs.Io.KnownBytes.{Appends}
@@ -40,6 +40,16 @@ written_of_more text left more held holds written = record {
   grown = written.grown;
   parts = ap (λ b. b ++ more) written.parts ∙ append_assoc written.first left more;
 }
+
+-- a part without bytes adds none to what waits
+pub none_added : (waits part : List ℕ) (held : Option (List ℕ)) → length part ≡ 0
+    → WritesFirst (waits ++ part) waits held held
+none_added waits [] held none = record {
+  first = [];
+  grown = Appends-nil held;
+  parts = append-nil waits;
+}
+none_added waits (byte ∷ part) held none = absurd (omega (arith, none))
 
 -- and then a part of the rest was written too
 pub then_written : (text rest left : List ℕ) (held had has : Option (List ℕ))
@@ -84,6 +94,11 @@ some_behind first next some = rw length-append (omega arith)
 
 pub some_before : (first next : List ℕ) → 0 < length first → 0 < length (first ++ next)
 some_before first next some = rw length-append (omega arith)
+
+-- a part has bytes, or none
+pub some_in : (part : List ℕ) → (length part ≡ 0 → ⊥) → 0 < length part
+some_in [] some = absurd (some refl)
+some_in (byte ∷ part) some = omega arith
 
 some_dropped : (count : ℕ) (text : List ℕ) → count < length text → 0 < length (drop count text)
 some_dropped count text few = rw length-drop (omega arith)

@@ -21,7 +21,7 @@ pub mod Faults
 pub mod Writing
 pub mod Reports
 pub mod StreamedRulings
-pub mod StreamedDisputes
 pub mod StreamedAnswers
+pub mod StreamedDisputes
 pub mod StreamedDetails
 pub mod WorkSums

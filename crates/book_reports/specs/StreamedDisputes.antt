@@ -1,13 +1,15 @@
 -- The disputes of a ledger, as a list or as a table, which are written while they are read.
-use Rattle.std.specs.Prelude.{ℕ, List, Bool, Option, Result, Ok}
-use Rattle.book_model.specs.Words.{Book, Disputed, Event, Naming, Outcome, disputes_in, no_event}
+use Rattle.std.specs.Prelude.{ℕ, List, Option, Result, Ok}
+use Rattle.book_model.specs.Words.{Book, Disputed, Naming, Outcome, disputes_in, no_event}
+use Rattle.book_core.specs.Transition.{Transition}
 use Rattle.report_texts.specs.DisputeLists.{dispute_lines, dispute_list_head, dispute_list_text}
 use Rattle.report_texts.specs.Figures.{dispute_count}
 use Rattle.report_texts.specs.DisputeTables.{dispute_rows, dispute_table, member_heading}
 use Rattle.book_reports.specs.declared.fault.ReportFault.{ReportFault}
 use Rattle.book_reports.specs.declared.streamed_disputes.DisputeForm.{DisputeForm}
 use Rattle.book_reports.specs.declared.streamed_disputes.DisputeForm.TheVariants as form
-use Rattle.book_reports.specs.StreamedRulings.{WritesReport, WritesSome}
+use Rattle.book_reports.specs.StreamedAnswers.{WritesAnswerUntil, answered_by}
+use Rattle.book_reports.specs.StreamedRulings.{WritesSome}
 
 -- how many disputes there are
 abbrev pub dispute_count_outcome : Naming → Book → Outcome ℕ
@@ -32,10 +34,10 @@ disputes_part form.Table number dispute = dispute_rows number dispute
 abbrev pub dispute_report : DisputeForm → Naming → Book → List ℕ
 dispute_report form naming book = disputes_text form (disputes_in naming book.rulings book.held)
 
--- It was written, or a prefix of it before a fault, and no event was made.
+-- it was written, or a prefix of it that is not the whole
 abbrev pub WritesDisputes : DisputeForm → Naming → Option (List ℕ) → Option (List ℕ)
-    → Result (Unit {0}) ReportFault → Bool → Book → List Event → Bool → Type 0
-WritesDisputes form = WritesReport (dispute_report form)
+    → Result (Unit {0}) ReportFault → Transition
+WritesDisputes form = WritesAnswerUntil (answered_by (dispute_report form))
 
 -- whatever the book is, what was written is the text of some disputes, or a prefix of one
 abbrev pub WritesSomeDisputes : DisputeForm → Option (List ℕ) → Option (List ℕ)

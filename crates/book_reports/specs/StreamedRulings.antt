@@ -1,11 +1,10 @@
 -- A text that is written while it is made, as the list of a ledger's rulings is.
-use Rattle.std.specs.Prelude.{◌≡◌, ◌<◌, Bool, true, false, ℕ, List, [], ◌++◌, length, Option, IfErr}
+use Rattle.std.specs.Prelude.{◌≡◌, ◌<◌, Bool, true, false, ℕ, List, ◌++◌, length, Option}
 use Rattle.std.specs.Prelude.{Result, Ok, Err}
 use Rattle.std.specs.Io.KnownBytes.{Appends}
 use Rattle.book_model.specs.declared.fault.LedgerFault.{LedgerFault}
 use Rattle.book_model.specs.declared.fault.LedgerFault.TheVariants as ledger
-use Rattle.book_model.specs.Words.{Book, Event, Naming, RulingSeen}
-use Rattle.book_core.specs.Calls.{Reopens}
+use Rattle.book_model.specs.Words.{RulingSeen}
 use Rattle.report_texts.specs.RulingLists.{ruling_list_text}
 use Rattle.book_reports.specs.declared.fault.ReportFault.{ReportFault}
 use Rattle.book_reports.specs.declared.fault.ReportFault.TheVariants.{Write, Memory, Ledger}
@@ -43,17 +42,6 @@ is_hindrance Memory = true
 is_hindrance (Ledger ledger.Store) = true
 is_hindrance (Ledger ledger.Reopen) = true
 is_hindrance (Ledger fault) = false
-
--- A text about the book was written, or a prefix of it before such a fault, and no event was made. Of
--- books that are to be opened again nothing is written.
-pub record WritesReport (text : Naming → Book → List ℕ) (naming : Naming)
-    (held holds : Option (List ℕ)) (result : Result (Unit {0}) ReportFault) (was : Bool)
-    (before : Book) (events : List Event) (is : Bool) : Type 0 where
-  pub none : events ≡ []
-  pub written : WritesPrefix (text naming before) held holds result
-  pub unread : was ≡ true → holds ≡ held
-  pub reopens : Reopens (refusal_in result) was is
-  pub hindered : IfErr result (λ fault. is_hindrance fault ≡ true)
 
 -- whatever the book is, what was written is such a text, or a prefix of one
 abbrev pub WritesSome : {X : Type 0} → (X → List ℕ) → Option (List ℕ) → Option (List ℕ)

@@ -1,7 +1,7 @@
 //! The disputes, written as they are read: with a million records in dispute the list has 150 MB, and
 //! is never made whole. What is held of it is one dispute, and the lines that wait to be written.
 
-ghost use Rattle.std.specs.Prelude.{◌≡◌, ◌++◌, ◌∷◌, [], IfOk, false};
+ghost use Rattle.std.specs.Prelude.{◌≡◌, ◌++◌, ◌<◌, ◌∷◌, [], IfErr, IfOk, false, length, true};
 ghost use Rattle.streams.specs.Sinks.{has_failed, writer_of};
 ghost use Rattle.book_model.specs.Words.{IsDispute, dispute_shown};
 ghost use Rattle.book_core.specs.Calls.{IsCall, Reopens};
@@ -9,8 +9,8 @@ ghost use Rattle.book_core.specs.Transition.{IsTransition};
 ghost use Rattle.book_reports.specs.StreamedDisputes.{WritesDisputes, WritesSomeDisputes};
 ghost use Rattle.book_reports.specs.StreamedDisputes.{dispute_count_outcome, disputes_head};
 ghost use Rattle.book_reports.specs.StreamedDisputes.{disputes_part};
-ghost use Rattle.book_reports.specs.StreamedRulings.{refusal_in};
-ghost use Rattle.book_reports.specs.Writing.{is_write_fault};
+ghost use Rattle.book_reports.specs.StreamedRulings.{LeavesSome, WritesAllBut, refusal_in};
+ghost use Rattle.book_reports.specs.Writing.{is_write_fault, is_write_or_memory};
 
 use crate::fault::ReportFault;
 use crate::waiting::{flush, push_part};
@@ -62,6 +62,28 @@ fn part_of(
     }
 }
 
+/// Adds the lines of a dispute to what waits, which is written before where it is much. In a table
+/// a dispute without records has no line: then what waits stays.
+fn push_lines<W: Writer + Drop>(
+    waiting: &mut Vec<u8>,
+    lines: &[u8],
+    sink: &mut Sink<W>,
+) -> Result<(), ReportFault>
+    requires { has_failed sink.old ≡ false }
+    ensures written { WritesAllBut (waiting.old.items ++ lines.now) waiting.new.items
+        (W.contents (writer_of sink.old)) (W.contents (writer_of sink.new)) result }
+    ensures left { 0 < length waiting.old.items
+        → LeavesSome (waiting.old.items ++ lines.now) waiting.new.items
+        (W.contents (writer_of sink.old)) (W.contents (writer_of sink.new)) result }
+    ensures failed { has_failed sink.new ≡ is_write_fault result }
+    ensures fault { IfErr result (λ fault. is_write_or_memory fault ≡ true) }
+{
+    if lines.is_empty() {
+        return Ok(());
+    }
+    push_part(waiting, lines, sink)
+}
+
 /// The bytes from which the dispute after this one is the first: a zero byte behind its identity.
 pub(crate) fn bytes_after(dispute: Dispute) -> Result<Vec<u8>, AllocError>
     ensures { IfOk result (λ bytes. bytes.items ≡ dispute.identity.items ++ 0 ∷ []) }
@@ -87,9 +109,10 @@ pub(crate) fn count_disputes<L: Ledger>(ledger: &mut L) -> Result<u64, LedgerFau
     Err(LedgerFault::Memory)
 }
 
-/// Writes the disputes: all of them, or a prefix before a fault. They are counted first, since their
-/// number stands above the list, so what the ledger refuses comes before any byte; nobody changes
-/// the books meanwhile. Nothing is written after a write that failed.
+/// Writes the disputes: all of them, or, before a fault, a prefix of their text that is not the
+/// whole. They are counted first, since their number stands above the list, so what the ledger
+/// refuses comes before any byte; nobody changes the books meanwhile. Nothing is written after a
+/// write that failed.
 pub fn write_disputes<L: Ledger, W: Writer + Drop>(
     alloc: Global,
     ledger: &mut L,
@@ -117,7 +140,7 @@ pub fn write_disputes<L: Ledger, W: Writer + Drop>(
             return Err(ReportFault::Memory);
         };
         let part = part_of(alloc, form, before + 1, &dispute)?;
-        push_part(&mut waiting, &part, sink)?;
+        push_lines(&mut waiting, &part, sink)?;
         from = bytes_after(dispute)?;
     }
     flush(&mut waiting, sink)

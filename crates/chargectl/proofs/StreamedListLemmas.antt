@@ -5,13 +5,8 @@ use Rattle.std.specs.Prelude.{IsErr}
 use Rattle.std.specs.Io.KnownBytes.{Keeps}
 use Rattle.std.proofs.KnownBytes.{Appends-kept}
 use Rattle.book_model.specs.declared.fault.LedgerFault.{LedgerFault}
-use Rattle.book_model.specs.Words.{Book, Naming}
-use Rattle.book_core.specs.Ledgers.{Seen}
-use Rattle.book_core.specs.Transition.{IsTransition}
-use Rattle.book_core.proofs.TransitionLemmas.{work_as}
 use Rattle.book_reports.specs.declared.fault.ReportFault.{ReportFault}
-use Rattle.book_reports.specs.StreamedAnswers.{WritesAnswer, WritesOrRefuses, answered_by}
-use Rattle.book_reports.specs.StreamedRulings.{WritesReport}
+use Rattle.book_reports.specs.StreamedAnswers.{WritesAnswer, WritesOrRefuses}
 use Rattle.book_reports.specs.Writing.{WritesPrefix}
 use Rattle.named_books.specs.declared.repository.RepositoryFault.{RepositoryFault}
 use Rattle.named_books.specs.declared.repository.RepositoryFault.TheVariants.{Unseen}
@@ -20,22 +15,6 @@ use Rattle.named_books.proofs.ShelfLemmas.{done_as}
 use Rattle.chargectl.specs.declared.streamed_lists.StreamedList.{StreamedList}
 use Rattle.chargectl.specs.declared.streamed_lists.StreamedList.TheVariants as list
 use Rattle.chargectl.specs.StreamedLists.{WritesSomeOf, list_answer, list_end}
-
--- a text that no book refuses was written
-pub text_answered : (text : Naming → Book → List ℕ) (old new : Seen) (held holds : Option (List ℕ))
-    (told : Result (Unit {0}) ReportFault)
-    → IsTransition old new (WritesReport text old.naming held holds told)
-    → IsTransition old new (WritesAnswer (answered_by text) old.naming held holds told)
-text_answered text old new held holds told written =
-    work_as old new (WritesReport text old.naming held holds told)
-    (WritesAnswer (answered_by text) old.naming held holds told)
-    (λ was before events is it. record {
-      none = it.none;
-      written = (it.written, it.hindered);
-      unread = it.unread;
-      reopens = it.reopens;
-    })
-    written
 
 -- a prefix stays written
 prefix_kept : (text : List ℕ) (held has holds : Option (List ℕ)) (told : Result (Unit {0}) ReportFault)

@@ -3,7 +3,6 @@ use Rattle.book_reports.specs.StreamedAnswers.{answered_by}
 use Rattle.book_reports.specs.StreamedDetails.{detail_answer}
 use Rattle.book_reports.specs.StreamedDisputes.{dispute_report}
 use Rattle.book_reports.proofs.AnsweringLemmas.{until_written}
-use Rattle.chargectl.proofs.StreamedListLemmas.{text_answered}
 use Rattle.chargectl.proofs.streamed_lists.write_of.Goals as goal
 
 pub returns-in-Details-clause-written : goal.returns-in-Details-clause-written
@@ -19,4 +18,5 @@ returns-in-Rulings-clause-written g c =
 pub returns-in-Disputes-clause-written : goal.returns-in-Disputes-clause-written
 returns-in-Disputes-clause-written g c =
     rw c.in-Disputes.is
-    (text_answered (dispute_report c.in-Disputes.form) _ _ _ _ _ c.write_disputes.ensures.written)
+    (until_written (answered_by (dispute_report c.in-Disputes.form)) _ _ _ _ _
+    c.write_disputes.ensures.written)
