@@ -14,8 +14,7 @@ use Rattle.book_core.proofs.TransitionLemmas.{work_as, work_then}
 use Rattle.book_reports.specs.declared.fault.ReportFault.{ReportFault}
 use Rattle.book_reports.specs.declared.fault.ReportFault.TheVariants as report
 use Rattle.book_reports.specs.Faults.{report_fault_of}
-use Rattle.book_reports.specs.StreamedAnswers.{WritesAnswer, WritesAnswerUntil, WritesOrRefuses}
-use Rattle.book_reports.specs.StreamedAnswers.{WritesUntilOrRefuses}
+use Rattle.book_reports.specs.StreamedAnswers.{WritesAnswerUntil, WritesUntilOrRefuses}
 use Rattle.book_reports.specs.StreamedRulings.{is_hindrance, refusal_in}
 use Rattle.book_reports.specs.Writing.{WritesUntil, is_write_or_memory}
 use Rattle.book_reports.proofs.ReadingLemmas.{IsReading, reopens_alike}
@@ -77,29 +76,6 @@ cut_by said text fault held holds is cut (inr refused) = absurd (never (sym is �
   where
     never : ◌≡◌ {A = Result (List ℕ) LedgerFault} (Ok text) (Err fault) → ⊥
     never same = cc
-
--- what was written is a prefix in any case
-until_or_refuses : (said : Result (List ℕ) LedgerFault) (held holds : Option (List ℕ))
-    (result : Result (Unit {0}) ReportFault) → WritesUntilOrRefuses said held holds result
-    → WritesOrRefuses said held holds result
-until_or_refuses (Ok text) held holds (Ok done) it = it
-until_or_refuses (Ok text) held holds (Err fault) it = ((it.0.0, it.0.2), it.1)
-until_or_refuses (Err refused) held holds result it = it
-
-pub until_written : (answer : Naming → Book → Result (List ℕ) LedgerFault) (old new : Seen)
-    (held holds : Option (List ℕ)) (result : Result (Unit {0}) ReportFault)
-    → IsTransition old new (WritesAnswerUntil answer old.naming held holds result)
-    → IsTransition old new (WritesAnswer answer old.naming held holds result)
-until_written answer old new held holds result work =
-    work_as old new (WritesAnswerUntil answer old.naming held holds result)
-    (WritesAnswer answer old.naming held holds result)
-    (λ was before events is wrote. record {
-      none = wrote.none;
-      written = until_or_refuses (answer old.naming before) held holds result wrote.written;
-      unread = wrote.unread;
-      reopens = wrote.reopens;
-    })
-    work
 
 module _ {Known : Book → Type 0} {old new : Seen} (so_far : Shows old new Known)
     (answer : Naming → Book → Result (List ℕ) LedgerFault) (held holds : Option (List ℕ))

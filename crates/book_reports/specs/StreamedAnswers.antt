@@ -8,29 +8,10 @@ use Rattle.book_reports.specs.declared.fault.ReportFault.{ReportFault}
 use Rattle.book_reports.specs.declared.fault.ReportFault.TheVariants.{Ledger}
 use Rattle.book_reports.specs.BookTexts.{ruling_text}
 use Rattle.book_reports.specs.StreamedRulings.{is_hindrance, refusal_in}
-use Rattle.book_reports.specs.Writing.{WritesPrefix, WritesUntil}
+use Rattle.book_reports.specs.Writing.{WritesUntil}
 
--- The text was written, or a prefix of it before a fault that may hinder any report. Or the books
--- refused it, or were hindered before, and nothing was written.
-abbrev pub WritesOrRefuses : Result (List ℕ) LedgerFault → Option (List ℕ) → Option (List ℕ)
-    → Result (Unit {0}) ReportFault → Type 0
-WritesOrRefuses (Ok text) held holds result =
-    WritesPrefix text held holds result × IfErr result (λ fault. is_hindrance fault ≡ true)
-WritesOrRefuses (Err refused) held holds result =
-    (holds ≡ held)
-    × IsErrAnd result (λ fault. (fault ≡ Ledger refused) ⊎ (is_hindrance fault ≡ true))
-
--- What a book answers to a report was written so, and no event was made. Of books that are to be
--- opened again nothing is written.
-pub record WritesAnswer (answer : Naming → Book → Result (List ℕ) LedgerFault) (naming : Naming)
-    (held holds : Option (List ℕ)) (result : Result (Unit {0}) ReportFault) (was : Bool)
-    (before : Book) (events : List Event) (is : Bool) : Type 0 where
-  pub none : events ≡ []
-  pub written : WritesOrRefuses (answer naming before) held holds result
-  pub unread : was ≡ true → holds ≡ held
-  pub reopens : Reopens (refusal_in result) was is
-
--- The same, where a prefix that was written is not the whole.
+-- The text was written, or, before a fault that may hinder any report, a prefix of it that is not
+-- the whole. Or the books refused it, or were hindered before, and nothing was written.
 abbrev pub WritesUntilOrRefuses : Result (List ℕ) LedgerFault → Option (List ℕ) → Option (List ℕ)
     → Result (Unit {0}) ReportFault → Type 0
 WritesUntilOrRefuses (Ok text) held holds result =
@@ -39,6 +20,8 @@ WritesUntilOrRefuses (Err refused) held holds result =
     (holds ≡ held)
     × IsErrAnd result (λ fault. (fault ≡ Ledger refused) ⊎ (is_hindrance fault ≡ true))
 
+-- What a book answers to a report was written so, and no event was made. Of books that are to be
+-- opened again nothing is written.
 pub record WritesAnswerUntil (answer : Naming → Book → Result (List ℕ) LedgerFault)
     (naming : Naming) (held holds : Option (List ℕ)) (result : Result (Unit {0}) ReportFault)
     (was : Bool) (before : Book) (events : List Event) (is : Bool) : Type 0 where

@@ -11,7 +11,7 @@ use Rattle.book_model.proofs.StepLemmas.{books_follow_history}
 use Rattle.book_core.specs.Follow.{MakesAnswered}
 use Rattle.book_core.specs.Transition.{Transition, NoEvent}
 use Rattle.book_reports.specs.declared.fault.ReportFault.{ReportFault}
-use Rattle.book_reports.specs.StreamedAnswers.{WritesAnswer, WritesOrRefuses}
+use Rattle.book_reports.specs.StreamedAnswers.{WritesAnswerUntil, WritesUntilOrRefuses}
 use Rattle.book_core.proofs.FollowLemmas.{none_answered}
 use Rattle.office.specs.declared.choosing.Chosen.{Chosen}
 use Rattle.named_books.specs.declared.repository.RepositoryFault.{RepositoryFault}
@@ -175,16 +175,16 @@ module _ (naming : Naming) (history : List Event) (name : List ℕ) (old new : S
   -- a list was written
   listed_on : (answer : Naming → Book → Result (List ℕ) LedgerFault) (book : List ℕ)
       (held_bytes holds : Option (List ℕ)) (told : Result (Unit {0}) ReportFault)
-      → IsDoneTo book (WritesAnswer answer naming held_bytes holds told) old new
+      → IsDoneTo book (WritesAnswerUntil answer naming held_bytes holds told) old new
       → Step naming history name old new (λ made. (book ≡ name
-      → WritesOrRefuses (answer naming (book_of history)) held_bytes holds told) × (made ≡ []))
+      → WritesUntilOrRefuses (answer naming (book_of history)) held_bytes holds told) × (made ≡ []))
   listed_on answer book held_bytes holds told done =
       step_as (λ made so. (
-        λ same. subst (λ book. WritesOrRefuses (answer naming book) held_bytes holds told)
+        λ same. subst (λ book. WritesUntilOrRefuses (answer naming book) held_bytes holds told)
             (books_follow_history history) (so.0 same).made_so.written,
         in_any_case book name (λ same. (so.0 same).made_so.none) so.1,
       ))
-      (work_on book (WritesAnswer answer naming held_bytes holds told)
+      (work_on book (WritesAnswerUntil answer naming held_bytes holds told)
       (listing_answered answer naming held_bytes holds told) done)
 
   -- records were chosen, one after the other
@@ -342,7 +342,7 @@ module _ (history : List Event) (name : List ℕ) (old new : Shelf)
       (by_came does.came does.does)
     where
       by_told : (told : Result (Result (Unit {0}) ReportFault) RepositoryFault)
-          → IsOpened (WritesAnswer (list_answer list) old.naming has holds) book old new told
+          → IsOpened (WritesAnswerUntil (list_answer list) old.naming has holds) book old new told
           → ComesBy (WritesSomeOf list has holds) (holds ≡ has) told
           → Step old.naming history name old new
           (λ made. (book ≡ name

@@ -6,8 +6,8 @@ use Rattle.std.specs.Io.KnownBytes.{Keeps}
 use Rattle.std.proofs.KnownBytes.{Appends-kept}
 use Rattle.book_model.specs.declared.fault.LedgerFault.{LedgerFault}
 use Rattle.book_reports.specs.declared.fault.ReportFault.{ReportFault}
-use Rattle.book_reports.specs.StreamedAnswers.{WritesAnswer, WritesOrRefuses}
-use Rattle.book_reports.specs.Writing.{WritesPrefix}
+use Rattle.book_reports.specs.StreamedAnswers.{WritesAnswerUntil, WritesUntilOrRefuses}
+use Rattle.book_reports.specs.Writing.{WritesPrefix, WritesUntil}
 use Rattle.named_books.specs.declared.repository.RepositoryFault.{RepositoryFault}
 use Rattle.named_books.specs.declared.repository.RepositoryFault.TheVariants.{Unseen}
 use Rattle.named_books.specs.Shelves.{ComesBy, IsDoneTo, IsOpened, Shelf}
@@ -23,13 +23,20 @@ prefix_kept text held has holds (Ok done) kept grown = Appends-kept held has hol
 prefix_kept text held has holds (Err fault) kept cut =
     (cut.0, Appends-kept held has holds (take cut.0 text) cut.1 kept)
 
+-- also one that is not the whole
+until_kept : (text : List ℕ) (held has holds : Option (List ℕ)) (told : Result (Unit {0}) ReportFault)
+    → Keeps has holds → WritesUntil text held has told → WritesUntil text held holds told
+until_kept text held has holds (Ok done) kept grown = Appends-kept held has holds text grown kept
+until_kept text held has holds (Err fault) kept cut =
+    (cut.0, cut.1, Appends-kept held has holds (take cut.0 text) cut.2 kept)
+
 -- so does what was refused, where nothing was written since
 told_kept : (answer : Result (List ℕ) LedgerFault) (held has holds : Option (List ℕ))
     (told : Result (Unit {0}) ReportFault)
-    → Keeps has holds → (IsErr told → holds ≡ has) → WritesOrRefuses answer held has told
-    → WritesOrRefuses answer held holds told
+    → Keeps has holds → (IsErr told → holds ≡ has) → WritesUntilOrRefuses answer held has told
+    → WritesUntilOrRefuses answer held holds told
 told_kept (Ok text) held has holds told kept still it =
-    (prefix_kept text held has holds told kept it.0, it.1)
+    (until_kept text held has holds told kept it.0, it.1)
 told_kept (Err refused) held has holds (Ok done) kept still it = absurd it.1
 told_kept (Err refused) held has holds (Err fault) kept still it = (still refl ∙ it.0, it.1)
 
@@ -46,11 +53,11 @@ some_kept (list.Disputes form) held has holds told kept some =
 module _ (list : StreamedList) (book : List ℕ) (old new : Shelf) (held has holds : Option (List ℕ)) (kept : Keeps has holds)
   where
     done_kept : (told : Result (Unit {0}) ReportFault) → (IsErr told → holds ≡ has)
-        → IsDoneTo book (WritesAnswer (list_answer list) old.naming held has told) old new
-        → IsDoneTo book (WritesAnswer (list_answer list) old.naming held holds told) old new
+        → IsDoneTo book (WritesAnswerUntil (list_answer list) old.naming held has told) old new
+        → IsDoneTo book (WritesAnswerUntil (list_answer list) old.naming held holds told) old new
     done_kept told still done =
-        done_as book (WritesAnswer (list_answer list) old.naming held has told)
-        (WritesAnswer (list_answer list) old.naming held holds told) old new
+        done_as book (WritesAnswerUntil (list_answer list) old.naming held has told)
+        (WritesAnswerUntil (list_answer list) old.naming held holds told) old new
         (λ before events is it. record {
           none = it.none;
           written = told_kept _ held has holds told kept still it.written;
@@ -67,8 +74,8 @@ module _ (list : StreamedList) (book : List ℕ) (old new : Shelf) (held has hol
 
     pub opened_kept : (told : Result (Result (Unit {0}) ReportFault) RepositoryFault)
         → (IsErr (list_end told) → holds ≡ has)
-        → IsOpened (WritesAnswer (list_answer list) old.naming held has) book old new told
-        → IsOpened (WritesAnswer (list_answer list) old.naming held holds) book old new told
+        → IsOpened (WritesAnswerUntil (list_answer list) old.naming held has) book old new told
+        → IsOpened (WritesAnswerUntil (list_answer list) old.naming held holds) book old new told
     opened_kept (Ok written) still done = done_kept written (still_of written still) done
     opened_kept (Err Unseen) still (refused, inl seen) =
         (refused, inl (seen.0, done_kept seen.0 (λ _. still refl) seen.1))

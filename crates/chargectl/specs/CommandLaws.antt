@@ -12,7 +12,7 @@ use Rattle.book_core.specs.Transition.{Transition, NoEvent, Then}
 use Rattle.book_http.specs.declared.served.Served.{Served}
 use Rattle.book_http.specs.declared.served.Served.TheVariants as served
 use Rattle.book_reports.specs.declared.fault.ReportFault.{ReportFault}
-use Rattle.book_reports.specs.StreamedAnswers.{WritesOrRefuses}
+use Rattle.book_reports.specs.StreamedAnswers.{WritesUntilOrRefuses}
 use Rattle.office.specs.declared.choosing.Chosen.{Chosen}
 use Rattle.named_books.specs.declared.repository.RepositoryFault.{RepositoryFault}
 use Rattle.office.specs.declared.request.Answer.{Answer}
@@ -208,12 +208,14 @@ pub record ServesOfHistory (naming : Naming) (history made : List Event) : Type 
   pub is : Bool
   pub made_so : ServesEach naming told false (book_after history) made is
 
--- This text was written, whole or up to a fault, or refused. Where the place refused the books none
--- was; where it was not seen that their closed files hold them, it may be the list of other books.
+-- This text was written whole, or, before a fault, a prefix of it that is not the whole; or it was
+-- refused. Where the place refused the books none was; where it was not seen that their closed files
+-- hold them, it may be the list of other books.
 abbrev pub IsListed : StreamedList → Result (List ℕ) LedgerFault → (RepositoryFault → Type 0)
     → Option (List ℕ) → Option (List ℕ) → Result (Result (Unit {0}) ReportFault) RepositoryFault
     → Type 0
-IsListed list answer Refuses held holds (Ok written) = WritesOrRefuses answer held holds written
+IsListed list answer Refuses held holds (Ok written) =
+    WritesUntilOrRefuses answer held holds written
 IsListed list answer Refuses held holds (Err fault) = Refuses fault
     × WhereUnopened ((written : _) × WritesSomeOf list held holds written) (holds ≡ held) fault
 

@@ -10,7 +10,7 @@ use Rattle.book_core.specs.Follow.{MakesAnswered}
 use Rattle.book_reports.specs.declared.fault.ReportFault.{ReportFault}
 use Rattle.book_reports.specs.declared.what_if.StatementForm.{StatementForm}
 use Rattle.book_reports.specs.BookTexts.{ruling_text}
-use Rattle.book_reports.specs.StreamedAnswers.{WritesAnswer, answered_by}
+use Rattle.book_reports.specs.StreamedAnswers.{WritesAnswerUntil, answered_by}
 use Rattle.book_reports.specs.StreamedDetails.{WritesSomeDetails, detail_answer}
 use Rattle.book_reports.specs.StreamedDisputes.{WritesSomeDisputes, dispute_report}
 use Rattle.book_reports.specs.StreamedRulings.{WritesSomeRulings}
@@ -58,7 +58,7 @@ list_of worded.Rulings = Some list.Rulings
 -- a list makes events that the books answered, since it makes none
 pub listing_answered : (answer : Naming → Book → Result (List ℕ) LedgerFault) (naming : Naming)
     (held holds : Option (List ℕ)) (told : Result (Unit {0}) ReportFault)
-    → MakesAnswered naming (WritesAnswer answer naming held holds told)
+    → MakesAnswered naming (WritesAnswerUntil answer naming held holds told)
 listing_answered answer naming held holds told history was events is it answered =
     subst (λ events. IsMadeByCalls naming (events ++ history)) (sym it.none) answered
 
@@ -75,7 +75,7 @@ pub record Lists (list : StreamedList) (book : List ℕ) (old new : Shelf)
     (held holds : Option (List ℕ)) (ended : Ended) : Type 0 where
   pub told : Result (Result (Unit {0}) ReportFault) RepositoryFault
   pub flushed : Result (Unit {0}) CommandFault
-  pub done : IsOpened (WritesAnswer (list_answer list) old.naming held holds) book old new told
+  pub done : IsOpened (WritesAnswerUntil (list_answer list) old.naming held holds) book old new told
   pub there : IsThere book old new told
   pub some : ComesBy (WritesSomeOf list held holds) (holds ≡ held) told
   pub ends : ended.came ≡ first_fault (list_end told) flushed

@@ -6,7 +6,7 @@ ghost use Rattle.std.specs.Io.KnownBytes.{Keeps};
 ghost use Rattle.streams.specs.Sinks.{writer_of};
 ghost use Rattle.book_core.specs.Calls.{Reopens};
 ghost use Rattle.book_core.specs.Transition.{IsTransition};
-ghost use Rattle.book_reports.specs.StreamedAnswers.{WritesAnswer};
+ghost use Rattle.book_reports.specs.StreamedAnswers.{WritesAnswerUntil};
 ghost use Rattle.book_reports.specs.StreamedRulings.{refusal_in};
 ghost use Rattle.chargectl.specs.Commands.{IsFileFault, first_fault};
 ghost use Rattle.chargectl.specs.StreamedLists as spec;
@@ -73,7 +73,7 @@ fn write_of<L: Ledger, O: Writer + Drop>(
     sink: &mut Sink<O>,
 ) -> Result<(), ReportFault>
     ensures written { IsTransition (L.seen books.old) (L.seen books.new)
-        (WritesAnswer (list_answer list) (L.seen books.old).naming
+        (WritesAnswerUntil (list_answer list) (L.seen books.old).naming
         (O.contents (writer_of sink.old)) (O.contents (writer_of sink.new)) result) }
     ensures reopens { Reopens (refusal_in result)
         (L.seen books.old).must_reopen (L.seen books.new).must_reopen }
@@ -89,12 +89,12 @@ fn write_of<L: Ledger, O: Writer + Drop>(
 
 impl<O: Writer + Drop> Visit for Listing<O> {
     ghost use Rattle.streams.specs.Sinks.{writer_of};
-    ghost use Rattle.book_reports.specs.StreamedAnswers.{WritesAnswer};
+    ghost use Rattle.book_reports.specs.StreamedAnswers.{WritesAnswerUntil};
     ghost use Rattle.chargectl.specs.StreamedLists.{WritesSomeOf, list_answer, listing_answered};
 
     type Answer = Result<(), ReportFault>;
 
-    ghost work = { λ naming it after told. WritesAnswer (list_answer it.list) naming
+    ghost work = { λ naming it after told. WritesAnswerUntil (list_answer it.list) naming
         (O.contents (writer_of it.sink)) (O.contents (writer_of after.sink)) told };
 
     ghost comes = { λ it after told. WritesSomeOf it.list
