@@ -40,7 +40,7 @@ use Rattle.command_line.specs.declared.request.BookRequest.{BookRequest}
 use Rattle.chargectl.specs.declared.command_fault.CommandFault.{CommandFault}
 use Rattle.chargectl.specs.declared.notice.Notice.{Notice}
 use Rattle.chargectl.specs.Commands.{AsksNothing}
-use Rattle.chargectl.specs.DryRuns.{IsAskedFor, IsNamedBy, IsRuled, IsShown, IsUnnamed}
+use Rattle.chargectl.specs.DryRuns.{IsAskedFor, IsDryAnswer, IsNamedBy, IsRuled, IsShown, IsUnnamed}
 use Rattle.chargectl.specs.DryRuns.{ShowsDry, TellsDry, TriesOnce, TriesOnceBy, dated_by, ruled_told}
 use Rattle.chargectl.specs.DryRuns.{tariff_tried}
 use Rattle.chargectl.specs.Far.{far_notice, far_outcome, is_far_asked, notice_by}
@@ -295,6 +295,7 @@ reading_failed {view = view} {outcome = outcome} {old = old} {new = new} {fault 
       shows = λ fresh free.
           absurd (never book (refused_only (fails view outcome fault was book events is called) fresh
           free));
+      form = refl;
       made = inl (none_made none called);
     }) call.work
 
@@ -328,6 +329,7 @@ name_failed {view = view} {outcome = outcome} {old = old} {new = new} {value = v
         | inl memory ↦ absurd (not_hindered memory free)
         | inr unnamed ↦ unnamed_shows old.naming asked book fault unnamed
       ];
+      form = refl;
       made = inl (none_made none called);
     }) call.work
 
@@ -345,6 +347,7 @@ ruling_failed {old = old} {new = new} {fault = fault} asked ruling named work =
         notice = sym (ap (notice_by (is_far_asked asked book)) (told_by old.naming asked (Err fault) was book
             events is called fresh free));
       };
+      form = refl;
       made = inr (record { answer = Err fault; left = is; made = called });
     }) work
 
@@ -380,6 +383,7 @@ later_failed {old = old} {mid = mid} {new = new} {fault = fault} asked answer ru
           absurd (no_refusal (refused_only (fails (λ figures. figures)
           (figures_outcome old.naming ruling period) fault both.between (after_all both.early book)
           both.late is both.next) (found.same ∙ fresh) free));
+      form = refl;
       made = inr (ruled_then answer (λ book. refl) both);
     })
     (read_after asked answer ruling period work last)
@@ -419,15 +423,27 @@ module _ {naming : Naming} {asked : Asked} (ruling : TriedRuling) (answer : Answ
           notice = says.1 ∙ sym told;
         }
 
+    -- it is a text
+    form_of : (shown : Answer × Option Notice)
+        → IsShown ruling period before after far answer (Ok shown)
+        → IsDryAnswer (Ok (response_of shown.0)) shown.1
+    form_of shown is_shown =
+        let found = answers_ruling naming asked answer was book both.early both.between may both.first in
+        let says = subst (λ answer. IsShown ruling period before after far answer (Ok shown))
+        found.answered is_shown in
+        subst (λ told. IsDryAnswer (Ok told) shown.1) (sym says.0) tt
+
     shown_so : (result : Result (Answer × Option Notice) LedgerFault)
         → IsShown ruling period before after far answer result
         → TriesOnceBy naming asked (dated_by result) was book events is
     shown_so (Ok shown) is_shown = record {
       shows = λ fresh free. shown_dry shown is_shown fresh;
+      form = form_of shown is_shown;
       made = inr (ruled_then answer (λ book. refl) both);
     }
     shown_so (Err fault) memory = record {
       shows = λ fresh free. absurd (not_hindered memory free);
+      form = refl;
       made = inr (ruled_then answer (λ book. refl) both);
     }
 

@@ -1,6 +1,6 @@
 -- Dry runs: a ruling is tried on a copy of the books. What is answered by the books as they are, what
 -- is done to the copy, and what is told of it.
-use Rattle.std.specs.Prelude.{◌≡◌, ◌⊎◌, ⊤, Bool, false, ℕ, List, [], ◌++◌, Option, None}
+use Rattle.std.specs.Prelude.{◌≡◌, ◌⊎◌, Bool, false, ℕ, List, [], ◌++◌, Option, None}
 use Rattle.std.specs.Prelude.{Result, Ok, Err, string_bytes}
 use Rattle.std.proofs.Common.{inl, inr, sym, subst}
 use Rattle.tariff_rules.specs.declared.fault.TariffFault.{TariffFault}
@@ -65,7 +65,7 @@ IsShown ruling period before after far answer (Err fault) = fault ≡ Memory
 IsShown ruling period before after far (answers.Ruled ruled) (Ok shown) =
     (response_of shown.0 ≡ Text (dry_run_text ruling ruled period before after))
     × (shown.1 ≡ notice_by far (Ok (office.Ruling ruled)))
-IsShown ruling period before after far answer (Ok shown) = ⊤
+IsShown ruling period before after far answer (Ok shown) = ⊥
 
 -- the same, as the answer to a ruling of a day; of a refusal nothing is noticed
 abbrev pub dated_by : Result (Answer × Option Notice) LedgerFault → DatedAnswer
@@ -110,12 +110,19 @@ pub record IsRuled (naming : Naming) (asked : Asked) (was : Bool) (before : Book
   pub left : Bool
   pub made : AsksWithoutReader naming asked answer was before events left
 
+-- What is answered is a text; and of a fault nothing is noticed.
+abbrev pub IsDryAnswer : Result Response LedgerFault → Option Notice → Type 0
+IsDryAnswer (Ok (Text text)) noticed = Unit {0}
+IsDryAnswer (Ok told) noticed = ⊥
+IsDryAnswer (Err fault) noticed = noticed ≡ None
+
 -- A ruling was tried once on open books, and this was told and noticed, unless a lack of memory or the
 -- store hindered it. Of the books it made what the ruling makes, or nothing.
 pub record TriesOnce (naming : Naming) (asked : Asked) (told : Result Response LedgerFault)
     (noticed : Option Notice) (was : Bool) (before : Book) (events : List Event) (is : Bool) : Type 0
   where
     pub shows : was ≡ false → is_hindered told ≡ false → ShowsDry naming asked before told noticed
+    pub form : IsDryAnswer told noticed
     pub made : (events ≡ []) ⊎ IsRuled naming asked was before events
 
 -- what a visit to the copy did that tried this once, by what came of it
