@@ -78,4 +78,5 @@ numbers_are_one_to_one = record {
   ledgers = fix_numbers ledger_texts refl;
   tariffs = fix_numbers tariff_texts refl;
   damages = fix_numbers damage_texts refl;
+  counts = (refl, refl, refl, refl);
 }

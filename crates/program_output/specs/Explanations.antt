@@ -1,5 +1,5 @@
 -- What a number means: the texts of the fault that has it. What a word means that has none.
-use Rattle.std.specs.Prelude.{◌≡◌, ◌≢◌, ℕ, ◌-◌, ◌==◌, List, slice_get, Option, Some, None}
+use Rattle.std.specs.Prelude.{◌≡◌, ◌≢◌, ℕ, ◌-◌, ◌==◌, List, length, slice_get, Option, Some, None}
 use Rattle.std.specs.Prelude.{if◌then◌else◌}
 use Rattle.smf_frames.specs.Faults.{frame_number}
 use Rattle.smf_type30.specs.Damage.{damage_number}
@@ -54,9 +54,11 @@ MeaningsFixNumbers texts = (number other : ℕ) (meaning advice other_advice : L
     → texts_of other texts ≡ Some (meaning, other_advice)
     → number ≡ other
 
--- Numbers and meanings are one to one, in each kind.
+-- Numbers and meanings are one to one, in each kind. There are as many as `no_number_line` says.
 pub record NumbersAreOneToOne : Type 0 where
   pub frames : MeaningsFixNumbers frame_texts
   pub ledgers : MeaningsFixNumbers ledger_texts
   pub tariffs : MeaningsFixNumbers tariff_texts
   pub damages : MeaningsFixNumbers damage_texts
+  pub counts : (length frame_texts ≡ 8) × (length ledger_texts ≡ 19) × (length tariff_texts ≡ 7)
+      × (length damage_texts ≡ 9)

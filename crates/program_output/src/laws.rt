@@ -11,7 +11,8 @@ pub fn same_records_same_texts()
     ensures { SameRecordsSameTexts }
 {}
 
-/// In each kind, no two numbers have the same meaning.
+/// In each kind, no two numbers have the same meaning, and there are as many as `no_such_number`
+/// says.
 pub fn numbers_are_one_to_one()
     ensures { NumbersAreOneToOne }
 {}
