@@ -80,15 +80,24 @@ read_on {remaining} {MayAnswer} {between} {new} {room} {answer} {given} so_far f
       gave = gives (bytes_read so_far.reads) so_far.gave;
     }
 
+-- there is room behind what is filled of a buffer
+room_behind : (filled : ℕ) (buffer : List ℕ) → filled < length buffer
+    → 0 < length (take (length buffer - filled) (drop filled buffer))
+room_behind filled buffer low =
+    let all : length (take (length buffer - filled) (drop filled buffer)) ≡ length buffer - filled =
+    length-take-le (length buffer - filled) (drop filled buffer) (rw length-drop (omega arith)) in
+    rw all (omega arith)
+
 -- a read into the rest of the buffer for a head is due where there is none in its filled part
 pub due_for_head : (came buffer : List ℕ) (filled : ℕ) → came ≡ take filled buffer
-    → filled ≤ length buffer → length buffer ≡ 16384
+    → filled < length buffer → length buffer ≡ 16384
     → (0 < filled → HasNoRequest (take filled buffer))
     → (0 < filled → MayBecomeRequest (take filled buffer))
     → IsDueForHead came (length (take (length buffer - filled) (drop filled buffer)))
-due_for_head came buffer filled is within size none may_come =
-    let long : length (take filled buffer) ≡ filled = length-take-le filled buffer within in
+due_for_head came buffer filled is low size none may_come =
+    let long : length (take filled buffer) ≡ filled = length-take-le filled buffer (omega arith) in
     rw is (record {
+      some = room_behind filled buffer low;
       within = rw (long, length-take) (omega arith);
       none = λ some. none (rw long at some);
       may_come = λ some. may_come (rw long at some);
@@ -114,7 +123,11 @@ pub due_for_body : (came body : List ℕ) (had filled size : ℕ) → came ≡ d
 due_for_body came body had filled size is low within whole =
     let long : length (take filled body) ≡ filled = length-take-le filled body (omega arith) in
     let size_is : had + length came ≡ filled = rw (is, length-drop, long) (omega arith) in
-    rw size_is (record { short = omega arith; within = rw length-take (omega arith) })
+    rw size_is (record {
+      some = room_behind filled body within;
+      short = omega arith;
+      within = rw length-take (omega arith);
+    })
 
 -- what a read gave follows what was filled from a place on
 pub more_filled : (came body given : List ℕ) (had filled room count : ℕ)

@@ -85,16 +85,18 @@ pub record ReadsOn {R : Type 0} {answers : _} {bytes : _} (remaining : R → Opt
   pub between : AreReadsBetween remaining MayAnswer IsDue old new reads
   pub gave : Gave (bytes_read reads)
 
--- A read is due for the head, within its limit: there is no whole head in what came, and one may
--- still come.
+-- A read is due for the head, for some bytes within its limit: there is no whole head in what came,
+-- and one may still come.
 pub record IsDueForHead (came : List ℕ) (room : ℕ) : Type 0 where
+  pub some : 0 < room
   pub within : length came + room ≤ most_head_bytes
   pub none : 0 < length came → HasNoRequest came
   pub may_come : 0 < length came → MayBecomeRequest came
 
--- A read is due for a body of which this many bytes came: it is not whole yet, and no byte after it
--- is asked for.
+-- A read is due for a body of which this many bytes came: it is not whole yet, and some bytes of
+-- it, but none after it, are asked for.
 pub record IsDueForBody (size came room : ℕ) : Type 0 where
+  pub some : 0 < room
   pub short : came < size
   pub within : came + room ≤ size
 

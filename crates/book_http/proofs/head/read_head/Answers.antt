@@ -10,21 +10,23 @@ use Rattle.book_http.proofs.head.read_head.Goals as goal
 pub returns-in_default-clause-reads : goal.returns-in_default-clause-reads
 returns-in_default-clause-reads g c =
     let so_far = c.pieces.invariant in
+    let low : c.pieces.filled < length c.pieces.buffer = omega arith in
     read_on so_far.reads (c.requires.failed, c.requires.ended) (so_far.failed, so_far.ended)
     c.in_default.ensures.answer
     c.in_default.ensures.bytes c.read.ensures.asked c.in_default.ensures.failed
     c.in_default.ensures.ended
-    (λ came is. due_for_head _ _ _ is so_far.within so_far.size so_far.none so_far.may_come)
+    (λ came is. due_for_head _ _ _ is low so_far.size so_far.none so_far.may_come)
     (λ came is. tt)
 
 pub returns-then-filled-eq0-clause-reads : goal.returns-then-filled-eq0-clause-reads
 returns-then-filled-eq0-clause-reads g c =
     let so_far = c.pieces.invariant in
+    let low : c.pieces.filled < length c.pieces.buffer = omega arith in
     let ended : has_ended c.read.new.self ≡ true = search rules in
     read_on so_far.reads (c.requires.failed, c.requires.ended) (so_far.failed, so_far.ended)
     c.in-Ok.ensures.answer c.in-Ok.ensures.bytes
     c.read.ensures.asked c.in-Ok.ensures.failed c.in-Ok.ensures.ended
-    (λ came is. due_for_head _ _ _ is so_far.within so_far.size so_far.none so_far.may_come)
+    (λ came is. due_for_head _ _ _ is low so_far.size so_far.none so_far.may_come)
     (λ came is. (
       ended,
       none_came _ _ _ c.if-count-eq0.true ∙ is
@@ -34,12 +36,13 @@ returns-then-filled-eq0-clause-reads g c =
 pub returns-else-filled-eq0-clause-reads : goal.returns-else-filled-eq0-clause-reads
 returns-else-filled-eq0-clause-reads g c =
     let so_far = c.pieces.invariant in
+    let low : c.pieces.filled < length c.pieces.buffer = omega arith in
     let some : 0 < c.pieces.filled = omega arith in
     let ended : has_ended c.read.new.self ≡ true = search rules in
     read_on so_far.reads (c.requires.failed, c.requires.ended) (so_far.failed, so_far.ended)
     c.in-Ok.ensures.answer c.in-Ok.ensures.bytes
     c.read.ensures.asked c.in-Ok.ensures.failed c.in-Ok.ensures.ended
-    (λ came is. due_for_head _ _ _ is so_far.within so_far.size so_far.none so_far.may_come)
+    (λ came is. due_for_head _ _ _ is low so_far.size so_far.none so_far.may_come)
     (λ came is.
     let same = none_came came c.read.new.buffer _ c.if-count-eq0.true ∙ is in (
       rw (same, length-take-le c.pieces.filled c.pieces.buffer so_far.within) some,
@@ -49,11 +52,12 @@ returns-else-filled-eq0-clause-reads g c =
 pub returns-in-Ok-Complete-clause-reads : goal.returns-in-Ok-Complete-clause-reads
 returns-in-Ok-Complete-clause-reads g c =
     let so_far = c.pieces.invariant in
+    let low : c.pieces.filled < length c.pieces.buffer = omega arith in
     let few : c.in-Ok.count ≤ length c.read.new.buffer = omega (arith, c.in-Ok.ensures.bound) in
     read_on so_far.reads (c.requires.failed, c.requires.ended) (so_far.failed, so_far.ended)
     c.in-Ok.ensures.answer c.in-Ok.ensures.bytes
     c.read.ensures.asked c.in-Ok.ensures.failed c.in-Ok.ensures.ended
-    (λ came is. due_for_head _ _ _ is so_far.within so_far.size so_far.none so_far.may_come)
+    (λ came is. due_for_head _ _ _ is low so_far.size so_far.none so_far.may_come)
     (λ came is. more_came _ _ _ _ _ _ is so_far.within few)
 
 pub returns-in-Ok-Complete-clause-head : goal.returns-in-Ok-Complete-clause-head
@@ -64,6 +68,7 @@ returns-in-Ok-Complete-clause-head g c =
 pub pieces-preserved : goal.pieces-preserved
 pieces-preserved g c =
     let so_far = c.pieces.invariant in
+    let low : c.pieces.filled < length c.pieces.buffer = omega arith in
     let few : c.in-Ok.count ≤ length c.read.new.buffer = omega (arith, c.in-Ok.ensures.bound) in
     let parsed = rw c.in-Ok-Partial.field-0-is at c.in-Ok-Partial.ensures in
     record {
@@ -77,7 +82,7 @@ pieces-preserved g c =
           c.in-Ok.ensures.answer
           c.in-Ok.ensures.bytes c.read.ensures.asked c.in-Ok.ensures.failed
           c.in-Ok.ensures.ended
-          (λ came is. due_for_head _ _ _ is so_far.within so_far.size so_far.none so_far.may_come)
+          (λ came is. due_for_head _ _ _ is low so_far.size so_far.none so_far.may_come)
           (λ came is. more_came _ _ _ _ _ _ is so_far.within few);
       none = λ _. parsed.partial;
       may_come = λ _. parsed.unfinished;
@@ -86,6 +91,7 @@ pieces-preserved g c =
 pub returns-in-Err-clause-reads : goal.returns-in-Err-clause-reads
 returns-in-Err-clause-reads g c =
     let so_far = c.pieces.invariant in
+    let low : c.pieces.filled < length c.pieces.buffer = omega arith in
     let room : length c.pieces.fields ≡ 64 = so_far.fields in
     let few : c.in-Ok.count ≤ length c.read.new.buffer = omega (arith, c.in-Ok.ensures.bound) in
     let given = length c.pieces.buffer - c.pieces.filled in
@@ -95,7 +101,7 @@ returns-in-Err-clause-reads g c =
     read_on so_far.reads (c.requires.failed, c.requires.ended) (so_far.failed, so_far.ended)
     c.in-Ok.ensures.answer c.in-Ok.ensures.bytes
     c.read.ensures.asked c.in-Ok.ensures.failed c.in-Ok.ensures.ended
-    (λ came is. due_for_head _ _ _ is so_far.within so_far.size so_far.none so_far.may_come)
+    (λ came is. due_for_head _ _ _ is low so_far.size so_far.none so_far.may_come)
     (λ came is.
     let more = more_came came c.pieces.buffer c.read.new.buffer c.pieces.filled given c.in-Ok.count
     is so_far.within few in (
