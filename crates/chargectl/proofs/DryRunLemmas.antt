@@ -2,7 +2,8 @@
 -- of work.
 use Rattle.std.proofs.Common.{◌≡◌, ◌∙◌, ◌⊎◌, ℕ, Bool, false, true≢false, List, [], ◌++◌, append-nil}
 use Rattle.std.proofs.Common.{Option, None, Some, Result, Ok, Err, ap, inl, inr, refl, subst, sym}
-use Rattle.std.specs.Prelude.{IsErr, IsErrAnd, string_bytes}
+use Rattle.std.specs.Prelude.{IfOk, IsErr, IsErrAnd, Vec, string_bytes}
+use Rattle.std.specs.Global.{Global}
 use Rattle.book_model.specs.declared.answer.Ruled.{Ruled}
 use Rattle.book_model.specs.declared.fault.LedgerFault.{LedgerFault}
 use Rattle.book_model.specs.declared.fault.LedgerFault.TheVariants.{Memory}
@@ -28,6 +29,7 @@ use Rattle.book_reports.proofs.WritingLemmas.{same_value}
 use Rattle.office.specs.declared.request.Asked.{Asked}
 use Rattle.office.specs.declared.request.Asked.TheVariants as asks
 use Rattle.named_books.specs.declared.repository.RepositoryFault.{RepositoryFault}
+use Rattle.named_books.specs.Shelves.{ComesBy}
 use Rattle.office.specs.declared.request.Answer.{Answer}
 use Rattle.office.specs.declared.request.Answer.TheVariants as answers
 use Rattle.office.specs.Outcomes.{AskedOutcome, is_hindered}
@@ -38,6 +40,7 @@ use Rattle.office.specs.Runs.{AsksWithoutReader, dump_here}
 use Rattle.office.proofs.LawLemmas.{asks_done}
 use Rattle.command_line.specs.declared.request.BookRequest.{BookRequest}
 use Rattle.chargectl.specs.declared.command_fault.CommandFault.{CommandFault}
+use Rattle.chargectl.specs.declared.dated_rulings.DatedAnswer.{DatedAnswer}
 use Rattle.chargectl.specs.declared.notice.Notice.{Notice}
 use Rattle.chargectl.specs.Commands.{AsksNothing}
 use Rattle.chargectl.specs.DryRuns.{IsAskedFor, IsDryAnswer, IsNamedBy, IsRuled, IsShown, IsUnnamed}
@@ -70,12 +73,19 @@ none_asked request Refuses (Err fault) found bad is why =
 
 -- the fault that `?` hands on: of a refusal nothing is noticed
 pub handed_on : {old new : Seen} {naming : Naming} {asked : Asked} {fault : LedgerFault}
-    (result : Result (Answer × Option Notice) LedgerFault) → IsErrAnd result (λ given. given ≡ fault)
+    (result : Result (Vec ℕ Global × Option Notice) LedgerFault)
+    → IsErrAnd result (λ given. given ≡ fault)
     → IsTransition old new (TriesOnce naming asked (Err fault) None)
     → IsTransition old new (TriesOnceBy naming asked (dated_by result))
 handed_on (Ok shown) is work = absurd is
 handed_on {old = old} {new = new} {naming = naming} {asked = asked} (Err given) is work =
     subst (λ fault. IsTransition old new (TriesOnce naming asked (Err fault) None)) (sym is) work
+
+-- what a visit to a copy told is a text or a fault
+pub form_told : (Same : Type 0) (told : Result DatedAnswer RepositoryFault)
+    → ComesBy IsDryAnswer Same told → IfOk told IsDryAnswer
+form_told Same (Ok dated) form = form
+form_told Same (Err why) same = tt
 
 -- what was read first is so of the book before it, and left the books as they were
 read_first : {V A : Type 0} {view : V → A} {outcome : Book → Outcome A} {value : V}
@@ -295,7 +305,6 @@ reading_failed {view = view} {outcome = outcome} {old = old} {new = new} {fault 
       shows = λ fresh free.
           absurd (never book (refused_only (fails view outcome fault was book events is called) fresh
           free));
-      form = refl;
       made = inl (none_made none called);
     }) call.work
 
@@ -329,7 +338,6 @@ name_failed {view = view} {outcome = outcome} {old = old} {new = new} {value = v
         | inl memory ↦ absurd (not_hindered memory free)
         | inr unnamed ↦ unnamed_shows old.naming asked book fault unnamed
       ];
-      form = refl;
       made = inl (none_made none called);
     }) call.work
 
@@ -347,7 +355,6 @@ ruling_failed {old = old} {new = new} {fault = fault} asked ruling named work =
         notice = sym (ap (notice_by (is_far_asked asked book)) (told_by old.naming asked (Err fault) was book
             events is called fresh free));
       };
-      form = refl;
       made = inr (record { answer = Err fault; left = is; made = called });
     }) work
 
@@ -383,7 +390,6 @@ later_failed {old = old} {mid = mid} {new = new} {fault = fault} asked answer ru
           absurd (no_refusal (refused_only (fails (λ figures. figures)
           (figures_outcome old.naming ruling period) fault both.between (after_all both.early book)
           both.late is both.next) (found.same ∙ fresh) free));
-      form = refl;
       made = inr (ruled_then answer (λ book. refl) both);
     })
     (read_after asked answer ruling period work last)
@@ -396,9 +402,9 @@ module _ {naming : Naming} {asked : Asked} (ruling : TriedRuling) (answer : Answ
     (both : Then (AsksWithoutReader naming asked (Ok answer))
     (Calls (λ figures. figures) (figures_outcome naming ruling period) (Ok after)) was book events is)
   where
-    shown_dry : (shown : Answer × Option Notice)
+    shown_dry : (shown : Vec ℕ Global × Option Notice)
         → IsShown ruling period before after far answer (Ok shown) → was ≡ false
-        → ShowsDry naming asked book (Ok (response_of shown.0)) shown.1
+        → ShowsDry naming asked book (Ok (Text shown.0.items)) shown.1
     shown_dry shown is_shown fresh =
         let found = answers_ruling naming asked answer was book both.early both.between may both.first in
         let ruled = found.ruled in
@@ -418,32 +424,20 @@ module _ {naming : Naming} {asked : Asked} (ruling : TriedRuling) (answer : Answ
         found.answered is_shown in
         record {
           told_so = subst (TellsDry naming asked book)
-              (ap (λ text. Ok (Text text)) same ∙ ap Ok (sym says.0))
+              (ap (λ text. Ok (Text text)) (same ∙ sym says.0))
               (ruled_tells naming asked ruling ruled was book both.early both.between named first);
           notice = says.1 ∙ sym told;
         }
 
-    -- it is a text
-    form_of : (shown : Answer × Option Notice)
-        → IsShown ruling period before after far answer (Ok shown)
-        → IsDryAnswer (Ok (response_of shown.0)) shown.1
-    form_of shown is_shown =
-        let found = answers_ruling naming asked answer was book both.early both.between may both.first in
-        let says = subst (λ answer. IsShown ruling period before after far answer (Ok shown))
-        found.answered is_shown in
-        subst (λ told. IsDryAnswer (Ok told) shown.1) (sym says.0) tt
-
-    shown_so : (result : Result (Answer × Option Notice) LedgerFault)
+    shown_so : (result : Result (Vec ℕ Global × Option Notice) LedgerFault)
         → IsShown ruling period before after far answer result
         → TriesOnceBy naming asked (dated_by result) was book events is
     shown_so (Ok shown) is_shown = record {
       shows = λ fresh free. shown_dry shown is_shown fresh;
-      form = form_of shown is_shown;
       made = inr (ruled_then answer (λ book. refl) both);
     }
     shown_so (Err fault) memory = record {
       shows = λ fresh free. absurd (not_hindered memory free);
-      form = refl;
       made = inr (ruled_then answer (λ book. refl) both);
     }
 
@@ -451,7 +445,7 @@ module _ {naming : Naming} {asked : Asked} (ruling : TriedRuling) (answer : Answ
 -- number of its open period was read, after the figures, after the ruling, and at the end.
 pub all_shown : {one two three four five six : Seen} {far : Bool} {period : OpenPeriod}
     {before after : Figures} (asked : Asked) (ruling : TriedRuling) (answer : Answer)
-    (result : Result (Answer × Option Notice) LedgerFault) → IsAskableRuling asked
+    (result : Result (Vec ℕ Global × Option Notice) LedgerFault) → IsAskableRuling asked
     → IsNamedBy asked ruling
     → IsCall (λ far. far) one two (Ok far) (far_outcome asked)
     → IsCall (λ found. found) two three (Ok period) open_outcome

@@ -1,7 +1,8 @@
 -- Dry runs: a ruling is tried on a copy of the books. What is answered by the books as they are, what
 -- is done to the copy, and what is told of it.
 use Rattle.std.specs.Prelude.{◌≡◌, ◌⊎◌, Bool, false, ℕ, List, [], ◌++◌, Option, None}
-use Rattle.std.specs.Prelude.{Result, Ok, Err, string_bytes}
+use Rattle.std.specs.Prelude.{Result, Ok, Err, IfOk, Vec, string_bytes}
+use Rattle.std.specs.Global.{Global}
 use Rattle.std.proofs.Common.{inl, inr, sym, subst}
 use Rattle.tariff_rules.specs.declared.fault.TariffFault.{TariffFault}
 use Rattle.book_model.specs.declared.fault.LedgerFault.{LedgerFault}
@@ -22,7 +23,7 @@ use Rattle.office.specs.declared.request.Answer.{Answer}
 use Rattle.office.specs.declared.request.Answer.TheVariants as answers
 use Rattle.office.specs.Outcomes.{asked_outcome, is_hindered}
 use Rattle.office.specs.Requests as office
-use Rattle.office.specs.Requests.{IsAskableRuling, Response, Text, response_by, response_of}
+use Rattle.office.specs.Requests.{IsAskableRuling, Response, Text, response_by}
 use Rattle.office.specs.Runs.{AsksWithoutReader, dump_here}
 use Rattle.named_books.specs.Shelves.{Shelf, IsThere, IsTried, IsUntouched}
 use Rattle.office.proofs.LawLemmas.{asks_answered}
@@ -60,16 +61,16 @@ IsUnnamed asked fault = ⊥
 
 -- What is shown by the answer to the ruling, a text, and what is noticed: nothing else is answered to one.
 abbrev pub IsShown : TriedRuling → ℕ → Figures → Figures → Bool → Answer
-    → Result (Answer × Option Notice) LedgerFault → Type 0
+    → Result (Vec ℕ Global × Option Notice) LedgerFault → Type 0
 IsShown ruling period before after far answer (Err fault) = fault ≡ Memory
 IsShown ruling period before after far (answers.Ruled ruled) (Ok shown) =
-    (response_of shown.0 ≡ Text (dry_run_text ruling ruled period before after))
+    (shown.0.items ≡ dry_run_text ruling ruled period before after)
     × (shown.1 ≡ notice_by far (Ok (office.Ruling ruled)))
 IsShown ruling period before after far answer (Ok shown) = ⊥
 
 -- the same, as the answer to a ruling of a day; of a refusal nothing is noticed
-abbrev pub dated_by : Result (Answer × Option Notice) LedgerFault → DatedAnswer
-dated_by (Ok shown) = record { answer = Ok shown.0; notice = shown.1 }
+abbrev pub dated_by : Result (Vec ℕ Global × Option Notice) LedgerFault → DatedAnswer
+dated_by (Ok shown) = record { answer = Ok (answers.Text shown.0); notice = shown.1 }
 dated_by (Err fault) = record { answer = Err fault; notice = None }
 
 -- what is answered to the text of a tariff, by the result of reading it
@@ -110,11 +111,15 @@ pub record IsRuled (naming : Naming) (asked : Asked) (was : Bool) (before : Book
   pub left : Bool
   pub made : AsksWithoutReader naming asked answer was before events left
 
--- What is answered is a text; and of a fault nothing is noticed.
-abbrev pub IsDryAnswer : Result Response LedgerFault → Option Notice → Type 0
-IsDryAnswer (Ok (Text text)) noticed = Unit {0}
-IsDryAnswer (Ok told) noticed = ⊥
-IsDryAnswer (Err fault) noticed = noticed ≡ None
+-- This is a text; or a fault, and nothing is noticed of it.
+abbrev pub IsTextOrFault : Result Answer LedgerFault → Option Notice → Type 0
+IsTextOrFault (Ok (answers.Text text)) noticed = Unit {0}
+IsTextOrFault (Ok answer) noticed = ⊥
+IsTextOrFault (Err fault) noticed = noticed ≡ None
+
+-- so it is with all that a dry run answers, whatever the books are
+abbrev pub IsDryAnswer : DatedAnswer → Type 0
+IsDryAnswer dated = IsTextOrFault dated.answer dated.notice
 
 -- A ruling was tried once on open books, and this was told and noticed, unless a lack of memory or the
 -- store hindered it. Of the books it made what the ruling makes, or nothing.
@@ -122,7 +127,6 @@ pub record TriesOnce (naming : Naming) (asked : Asked) (told : Result Response L
     (noticed : Option Notice) (was : Bool) (before : Book) (events : List Event) (is : Bool) : Type 0
   where
     pub shows : was ≡ false → is_hindered told ≡ false → ShowsDry naming asked before told noticed
-    pub form : IsDryAnswer told noticed
     pub made : (events ≡ []) ⊎ IsRuled naming asked was before events
 
 -- what a visit to the copy did that tried this once, by what came of it
@@ -148,6 +152,7 @@ pub record IsTriedOnce (asked : Asked) (book : List ℕ) (old new : Shelf) (answ
   where
     pub told : Result DatedAnswer RepositoryFault
     pub tried : IsTried (TriesOnceBy old.naming asked) book old new told
+    pub form : IfOk told IsDryAnswer
     pub there : IsThere book old new told
     pub says : answered.answer ≡ answer_of (answer_told told)
     pub notice : answered.notice ≡ notice_of told

@@ -6,8 +6,9 @@ ghost use Rattle.book_core.specs.Transition.{IsTransition};
 ghost use Rattle.report_texts.specs.DryRuns.{NamesDay};
 ghost use Rattle.office.specs.Requests.{IsAskableRuling};
 ghost use Rattle.office.proofs.AskLemmas.{ruling_once};
-ghost use Rattle.chargectl.specs.DryRuns.{ComesOfDryRun, IsNamedBy, IsShown, IsTriedOnce};
-ghost use Rattle.chargectl.specs.DryRuns.{IsUnnamed, TriesOnceBy, dated_by, tried_answered};
+ghost use Rattle.chargectl.specs.DryRuns.{ComesOfDryRun, IsDryAnswer, IsNamedBy, IsShown};
+ghost use Rattle.chargectl.specs.DryRuns.{IsTriedOnce, IsUnnamed, TriesOnceBy, dated_by};
+ghost use Rattle.chargectl.specs.DryRuns.{tried_answered};
 
 use crate::asked_rulings::asked_ruling;
 use crate::command_fault::CommandFault;
@@ -37,7 +38,7 @@ impl Visit for DryRun {
 
     ghost work = { λ naming run _ dated. TriesOnceBy naming run.asked dated };
 
-    ghost comes = { λ _ _ _. Unit {0} };
+    ghost comes = { λ _ _ dated. IsDryAnswer dated };
 
     ghost answered = { λ naming run _ dated. tried_answered naming run.asked dated };
 
@@ -47,12 +48,13 @@ impl Visit for DryRun {
 }
 
 /// What is shown, and what is noticed; of a refusal nothing is.
-fn dated(shown: Result<(Answer, Option<Notice>), LedgerFault>) -> DatedAnswer
-    ensures { result ≡ dated_by shown }
+fn dated(shown: Result<(Vec<u8>, Option<Notice>), LedgerFault>) -> DatedAnswer
+    ensures told { result ≡ dated_by shown }
+    ensures form { IsDryAnswer result }
 {
     match shown {
         Ok((text, notice)) => DatedAnswer {
-            answer: Ok(text),
+            answer: Ok(Answer::Text(text)),
             notice,
         },
         Err(fault) => DatedAnswer {
@@ -99,7 +101,7 @@ fn try_ruling<L: Ledger>(
     alloc: Global,
     books: &mut L,
     asked: &Asked,
-) -> Result<(Answer, Option<Notice>), LedgerFault>
+) -> Result<(Vec<u8>, Option<Notice>), LedgerFault>
     requires { IsAskableRuling asked.now }
     ensures { IsTransition (L.seen books.old) (L.seen books.new)
         (TriesOnceBy (L.seen books.old).naming asked.now (dated_by result)) }
@@ -150,7 +152,7 @@ fn shown(
     before: &Figures,
     after: &Figures,
     is_far: bool,
-) -> Result<(Answer, Option<Notice>), LedgerFault>
+) -> Result<(Vec<u8>, Option<Notice>), LedgerFault>
     requires { NamesDay ruling }
     ensures { IsShown ruling period before.now after.now is_far answer result }
 {
@@ -158,7 +160,7 @@ fn shown(
         Answer::Ruled(ruled) => {
             let text = dry_run_text(alloc, ruling, ruled, period, before, after)?;
             let notice = notice_by(is_far, &Ok(Answer::Ruled(ruled)));
-            Ok((Answer::Text(text.into_bytes()), notice))
+            Ok((text.into_bytes(), notice))
         }
         // Nothing else is answered to a ruling.
         _ => Err(LedgerFault::Memory),
