@@ -1,5 +1,5 @@
--- Whole histories: what their periods give and take; net counts, and days; wrong definitions that
--- they refuse; sums over rows and over a period's sets; the amounts of periods; the lines that are
+-- Whole histories: what their periods give and take; net counts, one work, and days; wrong
+-- definitions; sums over rows and over a period's sets; the amounts of periods; the lines that are
 -- read; and closed periods. Runs, from these; calls one after another, and what they leave; the
 -- lists of all periods; the lines of a statement; single centres; details, which records are counted,
 -- what is kept of them, and that they stay; bills, that they stay, their tariffs and the periods of
@@ -9,6 +9,7 @@
 mod Words
 pub mod PeriodLemmas
 pub mod NetLemmas
+pub mod WorkLemmas
 pub mod WrongPeriodLemmas
 pub mod DatedLemmas
 pub mod RowSums

@@ -11,6 +11,7 @@ mod pages;
 mod records;
 mod runs;
 mod tariffs;
+mod works;
 
 pub use bills::{
     billed_lines_have_periods, billed_tariffs_price, billed_tariffs_rule, bills_add_up,
@@ -39,3 +40,4 @@ pub use runs::{
     statements_are_aligned,
 };
 pub use tariffs::tariff_texts_stay;
+pub use works::work_is_charged_once;
