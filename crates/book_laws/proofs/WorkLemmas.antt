@@ -1,11 +1,14 @@
--- Of the records that are taken for the same work one is charged at most.
+-- Of the records that are taken for the same work one is charged at most, after a choice the chosen
+-- one.
 use Rattle.std.proofs.Common.{◌≡◌, ℕ, List, refl, sym, ap, ◌∙◌, true, false, ◌||◌}
 use Rattle.book_model.proofs.Std.{exact_bytes, tells_apart}
-use Rattle.book_model.specs.Words.{Book, charged_of, has, is_chosen, is_undisputed, is_unrivalled}
-use Rattle.book_model.proofs.Lemmas.{first_of, has_those, in_those, is, share_back}
+use Rattle.book_model.specs.Words.{Book, charged_of, chosen_answer, has, is_chosen, is_undisputed}
+use Rattle.book_model.specs.Words.{is_unrivalled}
+use Rattle.book_model.proofs.Lemmas.{first_of, has_those, in_those, is, named_held, share_back}
 use Rattle.book_model.proofs.ChargedChanges.{do_conflict, rivalled_by}
-use Rattle.book_model.proofs.ChosenLemmas.{all_rivalled, one_chosen}
-use Rattle.book_laws.specs.WorkLaws.{WorkIsChargedOnce}
+use Rattle.book_model.proofs.ChosenLemmas.{all_rivalled, charged-choice, one_chosen}
+use Rattle.book_model.proofs.TestLemmas.{choice_passes}
+use Rattle.book_laws.specs.WorkLaws.{ChosenIsCharged, WorkIsChargedOnce}
 
 -- a charged record that has a rival was chosen
 rivalled_chosen : (book : Book) (one : List ℕ) → has (charged_of book) one ≡ true
@@ -34,3 +37,10 @@ work_is_charged_once book one other first second shared =
           one_chosen book.rulings one other shared (rivalled_chosen book one first rival)
           (rivalled_chosen book other second rival_too)
     ] refl
+
+-- the law of choices: the record of one that is done has rivals
+pub chosen_is_charged : ChosenIsCharged
+chosen_is_charged naming book name bytes found done =
+    let tests = choice_passes book bytes (sym (ap (chosen_answer book) found) ∙ done) in
+    charged-choice book.rulings book.held bytes (named_held naming book.held name bytes found)
+    tests.rivalled

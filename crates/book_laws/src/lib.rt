@@ -40,4 +40,4 @@ pub use runs::{
     statements_are_aligned,
 };
 pub use tariffs::tariff_texts_stay;
-pub use works::work_is_charged_once;
+pub use works::{chosen_is_charged, work_is_charged_once};
