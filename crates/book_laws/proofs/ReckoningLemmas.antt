@@ -1,15 +1,17 @@
--- How prices came about: the rules that are named have what the price has.
-use Rattle.std.proofs.Common.{◌≡◌, ℕ, suc, ◌-◌, List, length, refl, sym, ap, ◌∙◌, true, false, cond}
-use Rattle.std.proofs.Common.{Option, Some, None, arith, Bool, find, nat_lt, slice_get, position}
-use Rattle.std.proofs.Common.{option_and_then, option_map, ltb-false}
+-- How prices came about: the rules that are named have what the price has. And what rates mean.
+use Rattle.std.proofs.Common.{◌≡◌, ℕ, suc, ◌+◌, ◌-◌, ◌*◌, ◌/◌, List, length, refl, sym, ap, ◌∙◌}
+use Rattle.std.proofs.Common.{true, false, cond, Option, Some, None, arith, Bool, find, nat_lt}
+use Rattle.std.proofs.Common.{slice_get, position, option_and_then, option_map, ltb-false}
 use Rattle.std.specs.List.{position_or_len}
 use Rattle.std.proofs.lemmas.List.Folds.{find_at}
 use Rattle.std.proofs.lemmas.Option.{same_Some, slice_get_past}
 use Rattle.smf_text.specs.Day.{weekday_of}
-use Rattle.tariff_rules.specs.Price.{applies_to, centre_by, has_moment, minute_of, shift_by}
+use Rattle.tariff_rules.specs.Price.{applies_to, centre_by, has_moment, minute_of, parts_of}
+use Rattle.tariff_rules.specs.Price.{shift_by}
 use Rattle.book_model.specs.Words.{day_of, time_of, Reckoning, Terms, in_force, price_by}
 use Rattle.book_model.specs.Words.{reckoning_by, rule_number, rule_numbered}
-use Rattle.book_laws.specs.ReckoningLaws.{PricesAreReckoned, ReckonsPrice}
+use Rattle.book_laws.specs.ReckoningLaws.{IsNearest, PricesAreReckoned, RatesSayWhatIsCharged}
+use Rattle.book_laws.specs.ReckoningLaws.{ReckonsPrice}
 
 -- the element in the place of the first that passes is the first that passes
 found_there : {X : Type 0} (p : X → Bool) (xs : List X)
@@ -62,4 +64,28 @@ prices_are_reckoned = record {
   rules = reckons;
   price = λ rulings bytes reckoning is.
       priced (in_force (day_of bytes) rulings.tariffs) bytes reckoning is;
+}
+
+-- parts are rounded to the nearest whole number
+rounded : (parts : ℕ) → IsNearest parts ((parts + 50_000) / 100_000)
+rounded parts = record { above = omega arith; below = omega arith }
+
+-- those of a whole number come to it
+come_to : (whole : ℕ) → (100_000 * whole + 50_000) / 100_000 ≡ whole
+come_to whole = omega arith
+
+-- whole seconds and thousands of blocks have such parts
+make_whole : (seconds thousands cpu excp fee : ℕ)
+    → (10 * (100 * seconds) * cpu + 1000 * thousands * excp + 1000 * fee) * 100
+    ≡ 100_000 * (seconds * cpu + thousands * excp + fee)
+make_whole seconds thousands cpu excp fee = omega arith
+
+-- the law of rates
+pub rates_say_what_is_charged : RatesSayWhatIsCharged
+rates_say_what_is_charged = record {
+  whole = λ rates seconds thousands.
+      ap (λ parts. (parts + 50_000) / 100_000)
+      (make_whole seconds thousands rates.cpu rates.excp rates.record_fee)
+      ∙ come_to (seconds * rates.cpu + thousands * rates.excp + rates.record_fee);
+  nearest = λ rates percent cpu excp. rounded (parts_of rates cpu excp * percent);
 }

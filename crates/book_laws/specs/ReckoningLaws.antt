@@ -1,6 +1,7 @@
--- Laws of how prices came about.
-use Rattle.std.specs.Prelude.{◌≡◌, ℕ, List, Some}
-use Rattle.tariff_rules.specs.Price.{centre_by, shift_by}
+-- Laws of how prices came about, and of what rates mean.
+use Rattle.std.specs.Prelude.{◌≡◌, ℕ, ◌+◌, ◌*◌, ◌≤◌, ◌<◌, List, Some}
+use Rattle.tariff_rules.specs.Terms.{RatesOf}
+use Rattle.tariff_rules.specs.Price.{amount_of, centre_by, shift_by}
 use Rattle.book_model.specs.Words.{Reckoning, Rulings, Terms, price_by, price_in, reckoned}
 use Rattle.book_model.specs.Words.{reckoning_by, reckoning_in, rule_numbered}
 
@@ -24,3 +25,21 @@ pub record PricesAreReckoned : Type 0 where
       (rulings : Rulings) (bytes : List ℕ) (reckoning : Reckoning)
       → reckoning_in rulings bytes ≡ Some reckoning
       → price_in rulings bytes ≡ Some reckoning.priced
+
+-- where 100,000 parts make one, the amount is the whole number nearest to them, a half upwards
+pub record IsNearest (parts amount : ℕ) : Type 0 where
+  pub above : 100_000 * amount ≤ parts + 50_000
+  pub below : parts < 100_000 * amount + 50_000
+
+-- What rates mean. At 100 percent each CPU second, each 1,000 blocks and the record itself cost
+-- their rates, and nothing is rounded. A hundredth of a second costs a hundredth of the rate of a
+-- second, a block a thousandth of that of 1,000; so many percent of all together are rounded once.
+pub record RatesSayWhatIsCharged : Type 0 where
+  pub whole :
+      (rates : RatesOf) (seconds thousands : ℕ)
+      → amount_of rates 100 (100 * seconds) (1000 * thousands)
+      ≡ seconds * rates.cpu + thousands * rates.excp + rates.record_fee
+  pub nearest :
+      (rates : RatesOf) (percent cpu excp : ℕ)
+      → IsNearest ((10 * cpu * rates.cpu + excp * rates.excp + 1000 * rates.record_fee) * percent)
+      (amount_of rates percent cpu excp)

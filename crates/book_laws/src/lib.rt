@@ -33,7 +33,9 @@ pub use histories::{
 };
 pub use other_prices::{what_if, what_ifs_are_aligned};
 pub use pages::{open_is_open, page_totals_are_the_reports};
-pub use records::{lives_net, lives_take_turns, prices_are_reckoned, trails_net};
+pub use records::{
+    lives_net, lives_take_turns, prices_are_reckoned, rates_say_what_is_charged, trails_net,
+};
 pub use runs::{
     calls_follow_history, closed_statements_stay, lists_conserve, open_statement_is_first,
     run_order_is_free, runs_charge_once, runs_conserve, runs_follow_history, runs_make_history,

@@ -2,7 +2,7 @@
 //! of a function that does nothing.
 
 ghost use Rattle.book_laws.specs.LifeLaws.{LivesNet, LivesTakeTurns, TrailsNet};
-ghost use Rattle.book_laws.specs.ReckoningLaws.{PricesAreReckoned};
+ghost use Rattle.book_laws.specs.ReckoningLaws.{PricesAreReckoned, RatesSayWhatIsCharged};
 
 /// Charges and reversals of a record take turns, from none to whether it is charged now.
 pub fn lives_take_turns()
@@ -24,4 +24,10 @@ pub fn trails_net()
 /// numbers come to the amount, and that is what the record is charged at.
 pub fn prices_are_reckoned()
     ensures { PricesAreReckoned }
+{}
+
+/// Each CPU second, each 1,000 blocks and the record itself cost their rates, by a shift's percent:
+/// rounded once, to the nearest, a half upwards.
+pub fn rates_say_what_is_charged()
+    ensures { RatesSayWhatIsCharged }
 {}
