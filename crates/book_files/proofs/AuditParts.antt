@@ -1,6 +1,6 @@
 -- What an audit says of files.
 use Rattle.std.proofs.Common.{◌≡◌, ◌∙◌, ℕ, List, ◌++◌, Option, None, Some, IsTrue, refl, subst, sym}
-use Rattle.std.proofs.Common.{true≢false}
+use Rattle.std.proofs.Common.{◌<◌, length, true≢false}
 use Rattle.std.proofs.Math.Logic.{∥∥₁_elim, ∥∥₁_map, ∥∥₁_prop}
 use Rattle.std.specs.Prelude.{IfOk, IfSome, IsOk, IsSome, MatchOption}
 use Rattle.sqlite_disk.specs.declared.Disk.{Ghosts}
@@ -15,7 +15,7 @@ use Rattle.book_model.specs.Words.{Event, Naming, book_after}
 use Rattle.book_core.specs.Transition.{NoEvent, Transition}
 use Rattle.table_ledger.specs.Commits.{IsAtRest}
 use Rattle.table_ledger.specs.Ready.{IsStoredIn}
-use Rattle.book_audit.specs.Own.{AreOwn}
+use Rattle.book_audit.specs.Own.{AreOwn, too_many_rows}
 use Rattle.book_audit.specs.declared.audited.Audited.{Audited}
 use Rattle.book_trees.specs.Forms.{HoldsThisForm}
 use Rattle.book_trees.specs.LedgerFiles.{HoldsBooks, trees_held}
@@ -27,7 +27,7 @@ use Rattle.book_trees.specs.declared.integrity.LookFault.TheVariants.{Pages, Ope
 use Rattle.book_restarts.specs.FileBooks.{GoesOn, HoldsHistory, file_names}
 use Rattle.book_restarts.proofs.SessionLemmas.{sessions_follow, still_held}
 use Rattle.book_files.specs.Audits.{HoldSameTrees, IsUnsoundBy, OwnFilesAreNotUnsound, SoundAreOurs}
-use Rattle.book_files.specs.Audits.{WhyUnsound}
+use Rattle.book_files.specs.Audits.{HaveFewRows, ShowsOwn, WhyUnsound}
 use Rattle.book_files.specs.Faults.{look_answer}
 use Rattle.book_files.specs.Sessions.{MayFollow}
 use Rattle.book_files.specs.declared.session.Ended.{Ended}
@@ -87,6 +87,21 @@ own_trees found history ours held kept = record {
   left = refl;
   readable = kept.readable;
   holds = kept.holds;
+}
+
+-- in a store that was whole, if their trees have few rows
+pub opened_own : {D : Type 0} {g : Ghosts D} (found : Image) (history : List Event)
+    → HoldsHistory file_names history found → HaveFewRows found → (store : FileStore D g)
+    → IsReady store → IsClean (view store) → (held : HoldsBooks found)
+    → IsStoredIn file_names (book_after history) (trees_held held)
+    → (view store).trees ≡ trees_held held → ShowsOwn (view store)
+opened_own found history ours few store ready clean held kept shown = record {
+  whole = record {
+    unbroken = ready.sound clean;
+    few = λ tree. subst (λ (trees : Trees). length (trees tree) < too_many_rows) (sym shown)
+        (few held tree);
+  };
+  own = subst AreOwn (sym shown) (own_trees found history ours held kept);
 }
 
 -- and their pages are called wrong only where they list the tables of books

@@ -63,6 +63,11 @@ pub ok_each : {A E : Type 0} {Says : A → Type 0} (result : Result A E)
 ok_each (Ok answer) each = each answer
 ok_each (Err fault) each = tt
 
+pub err_each : {A E : Type 0} {Says : E → Type 0} (result : Result A E)
+    → ((fault : E) → Says fault) → IfErr result Says
+err_each (Ok answer) each = tt
+err_each (Err fault) each = each fault
+
 -- and so may what is said of an error that is taken for another
 pub mapped_err : {A E F : Type 0} {One : E → Type 0} (Other : F → Type 0) (to : E → F)
     (result : Result A E) (mapped : Result A F)

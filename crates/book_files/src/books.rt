@@ -11,7 +11,7 @@ ghost use Rattle.book_audit.specs.Own.{AreOwn};
 ghost use Rattle.book_audit.specs.declared.audited.Counts.{Counts};
 ghost use Rattle.book_model.specs.Words.{Book};
 ghost use Rattle.book_trees.specs.Closing.{HaveFailed, IsShort};
-ghost use Rattle.book_files.specs.Audits.{FindsWrongBy};
+ghost use Rattle.book_files.specs.Audits.{FindsWrongBy, GivesUpBy, ShowsOwn};
 ghost use Rattle.book_files.specs.Causes.{HasFaultCause, IsResumed, IsUnvisitedFor};
 ghost use Rattle.book_files.specs.Faults.{store_fault};
 ghost use Rattle.book_files.specs.Stores.{CloseGoesOn, CloseKeepsBook, CloseKeepsLog};
@@ -336,6 +336,9 @@ fn audit_in<S: Store, W: Watch>(
     ensures own { IfOk result.0 (λ audited. IsClean (S.Store.view result.1)
         → AreOwn (S.Store.view store).trees
         → FindsWrongBy (MoreFaults (S.Store.faults store) (S.Store.faults result.1)) audited) }
+    ensures ends { IfErr result.0 (λ fault. IsClean (S.Store.view result.1)
+        → ShowsOwn (S.Store.view store)
+        → GivesUpBy (MoreFaults (S.Store.faults store) (S.Store.faults result.1)) fault) }
     ensures clean { IsClean (S.Store.view result.1) → IsClean (S.Store.view store) }
 {
     let (audited, store) = audit_trees(alloc, store, watch);
@@ -360,6 +363,9 @@ pub(crate) fn audit_and_close<D: Disk, W: Watch>(
     ensures own { IfOk result.0 (λ audited.
         AreClean D.Disk result.1.files.log result.1.files.db → AreOwn (view store).trees
         → FindsWrongBy (HaveFailed D.Disk result.1.files) audited) }
+    ensures ends { IfErr result.0 (λ fault.
+        AreClean D.Disk result.1.files.log result.1.files.db → ShowsOwn (view store)
+        → GivesUpBy (HaveFailed D.Disk result.1.files) fault) }
     ensures clean { AreClean D.Disk result.1.files.log result.1.files.db → IsClean (view store) }
 {
     let (audited, store) = audit_in(alloc, store, watch);

@@ -7,7 +7,7 @@ ghost use Rattle.sqlite_wal.specs.Recovery.{Image};
 ghost use Rattle.book_model.specs.Words.{Event};
 ghost use Rattle.book_core.specs.Transition.{NoEvent};
 ghost use Rattle.book_audit.specs.declared.audited.Counts.{Counts};
-ghost use Rattle.book_files.specs.Audits.{HoldCounted, HoldSameTrees, WhyUnsound};
+ghost use Rattle.book_files.specs.Audits.{HoldCounted, HoldSameTrees, WhyGivenUp, WhyUnsound};
 ghost use Rattle.book_files.specs.Causes.{HaveBookRow, MightBeVisited, WhyNotAudited};
 ghost use Rattle.book_files.specs.Causes.{WhyNotContinued, WhyNotMade};
 ghost use Rattle.book_files.specs.Causes.{IsToldOfThis, WhyNotUpgraded, WhyNotVisited};
@@ -232,7 +232,10 @@ pub fn audit_at<S: Start, W: Watch>(
     ensures own { IfOk result.0
         (WhyUnsound ⟦<FileFrom<S> as Disk>⟧ (image_at S.Start) result.1) }
 
-    // Of files that were looked through this says nothing.
+    // Nor are they given up once they were looked through, if they have few rows, but for want of
+    // memory, or since a call on them failed. Why files were not looked through `cause` says.
+    ensures ends { IfErr result.0
+        (WhyGivenUp ⟦<FileFrom<S> as Disk>⟧ (image_at S.Start) result.1) }
     ensures cause { IfErr result.0
         (WhyNotAudited ⟦<FileFrom<S> as Disk>⟧ (image_at S.Start) result.1) }
 {

@@ -3,7 +3,7 @@ use Rattle.sqlite_store.specs.FileStore.{faults, view}
 use Rattle.sqlite_trees.proofs.Doubt.{no_doubt}
 use Rattle.sqlite_trees.specs.Tree.{Trees}
 use Rattle.book_trees.proofs.ClosedFiles.{files_failed}
-use Rattle.book_files.proofs.Causes.{ok_so, since_none}
+use Rattle.book_files.proofs.Causes.{err_so, ok_so, since_none}
 use Rattle.book_files.proofs.SessionParts.{close_leaves, close_rows}
 use Rattle.book_files.proofs.books.audit_and_close.Goals as goal
 
@@ -29,5 +29,9 @@ returns g c =
           files_failed store store files files.log closed.ensures.files (omega arith) (omega arith)
           (since_none (faults c.args.store) (faults store)
           (own (no_doubt _ (closed.ensures.honest honest)) ours finding is)));
+      ends = err_so audited.result.0 audited.ensures.ends (λ fault ends honest shown other.
+          files_failed store store files files.log closed.ensures.files (omega arith) (omega arith)
+          (since_none (faults c.args.store) (faults store)
+          (ends (no_doubt _ (closed.ensures.honest honest)) shown other)));
       clean = λ honest. audited.ensures.clean (no_doubt _ (closed.ensures.honest honest));
     }

@@ -17,8 +17,8 @@ use Rattle.book_files.specs.Audits.{WhyUnsound}
 use Rattle.book_files.specs.Sessions.{MayFollow}
 use Rattle.book_files.specs.declared.session.Ended.TheVariants.{Refused}
 use Rattle.book_files.proofs.AuditParts.{audited_same, looked_in_hand, looked_listed, never_unsound}
-use Rattle.book_files.proofs.AuditParts.{own_trees, refused_same, same_goes_on}
-use Rattle.book_files.proofs.Causes.{ok_each, ok_so}
+use Rattle.book_files.proofs.AuditParts.{opened_own, own_trees, refused_same, same_goes_on}
+use Rattle.book_files.proofs.Causes.{err_each, err_so, ok_each, ok_so}
 use Rattle.book_files.proofs.SessionParts.{found_clean, rows_as_found}
 use Rattle.book_files.proofs.session.audit_at.Goals as goal
 
@@ -72,6 +72,20 @@ returns-in-Err-clause-own g c =
     (sym c.not_looked_through.ensures)
     (never_unsound disk first (AreFull disk) c.in-Err.fault c.in-Err.files c.in-Err.ensures.cause
     c.in-Err.ensures.wrong)
+
+pub returns-in-Ok-clause-ends : goal.returns-in-Ok-clause-ends
+returns-in-Ok-clause-ends g c =
+    let audited = c.audit_and_close-audited in
+    let opened = c.in-Ok.ensures in
+    err_so audited.result.0 audited.ensures.ends (λ fault ends history ours few honest other.
+    let clean = audited.ensures.clean honest in
+    ∥∥₁_elim ours.held ∥∥₁_prop λ kept.
+    ends honest (opened_own (image_at g.S.Start) history ours few c.in-Ok.store opened.ready clean
+    kept.0 kept.1 (opened.found (clean_of _ clean) kept.0)) other)
+
+pub returns-in-Err-clause-ends : goal.returns-in-Err-clause-ends
+returns-in-Err-clause-ends g c =
+    err_each c.not_looked_through.result (λ fault history ours few. tt)
 
 pub returns-in-Ok-clause-book : goal.returns-in-Ok-clause-book
 returns-in-Ok-clause-book g c =
