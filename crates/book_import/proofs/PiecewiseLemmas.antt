@@ -1,6 +1,6 @@
 -- What an import has done with the records of a dump that it reads in pieces.
 use Rattle.std.proofs.Common.{◌≡◌, ◌∙◌, ℕ, List, [], ◌++◌, sym, ap, subst, Option, Some, None}
-use Rattle.std.proofs.Common.{append-nil, append_assoc, take, drop}
+use Rattle.std.proofs.Common.{append-nil, append_assoc, take, drop, arith, length, ◌≤◌}
 use Rattle.std.proofs.lemmas.List.{take-append-drop}
 use Rattle.std.specs.Prelude.{unwrap_or}
 use Rattle.smf_frames.specs.declared.dump.Layout.{Layout}
@@ -13,8 +13,9 @@ use Rattle.book_import.specs.declared.receipt.Receipt.{Receipt}
 use Rattle.book_import.specs.declared.receipt.Stop.{Stop}
 use Rattle.book_import.specs.declared.receipt.Stop.TheVariants.{End}
 use Rattle.book_import.specs.Dumps.{stop_after, frame_stop}
-use Rattle.book_import.specs.Receipts.{receipt_stopped}
-use Rattle.book_import.specs.Imports.{Imports}
+use Rattle.book_import.specs.ReadLimits.{piece_length}
+use Rattle.book_import.specs.Receipts.{counted, receipt_stopped}
+use Rattle.book_import.specs.Imports.{BooksInPieces, Imports}
 use Rattle.book_import.specs.Pieces.{LeadsTo, FollowsRecords, StopsAt, BooksPiece, TakesAll}
 use Rattle.book_import.proofs.ImportLemmas.{all_handled, none_yet}
 use Rattle.book_import.proofs.FeedLemmas.{HasPassed, holds_here, passed_more, stop_is}
@@ -31,6 +32,29 @@ pub pieces_go_on : (passed rest piece later bytes : List ℕ) (count : ℕ)
 pieces_go_on passed rest piece later bytes count parts piece_is later_is =
     append_assoc passed piece later ∙ (λ i. passed ++ (piece_is i ++ later_is i))
     ∙ ap (λ those. passed ++ those) (take-append-drop count rest) ∙ parts
+
+-- what was counted before is counted in the end, whatever the stop
+pub still_counted : (found : ℕ) (receipt later told : Receipt) (stop : Stop)
+    → told ≡ record later { stop = stop } → found ≤ counted receipt
+    → counted receipt ≤ counted later → found ≤ counted told
+still_counted found receipt later told stop so all here =
+    subst (λ (one : Receipt). found ≤ counted one) (sym so) (omega (arith, all, here))
+
+-- these bytes were imported, whatever follows them, and each of their records was counted
+pub all_in_pieces : (layout : Layout) (old new : Seen) (bytes later all : List ℕ) (told : Receipt)
+    → bytes ++ later ≡ all → length (front layout bytes).records ≤ counted told
+    → IsTransition old new (Imports old.naming layout None bytes told)
+    → BooksInPieces layout all old new told
+all_in_pieces layout old new bytes later all told parts counts booked = record {
+  before = bytes;
+  last = [];
+  later = later;
+  parts = sym (ap (λ b. b ++ later) (append-nil bytes) ∙ parts);
+  piece = omega arith;
+  counts = counts;
+  booked = subst (λ b. IsTransition old new (Imports old.naming layout None b told))
+      (sym (append-nil bytes)) booked;
+}
 
 -- none yet
 pub joins_nothing : (begins : Seen) (layout : Layout) (joiner : Joining) (receipt : Receipt)
@@ -111,3 +135,21 @@ module _ (begins now : Seen) (receipt : Receipt) {layout : Layout} {bytes : List
       (all_handled begins.naming found.records receipt told (stop_after cut found)
       (so ∙ ap (λ stop. record receipt { stop = stop }) (stop_is joins cut stopped)))
       joins.done
+
+  -- the import was stopped in a piece, and each record before it was counted
+  pub stopped_in_pieces : (next : Seen) (piece more all : List ℕ) (further told : Receipt)
+      (stop : Stop) → BooksPiece now next joiner piece receipt further (Some stop)
+      → told ≡ record further { stop = stop } → (bytes ++ piece) ++ more ≡ all
+      → length piece ≤ piece_length → length (front layout bytes).records ≤ counted receipt
+      → counted receipt ≤ counted further → BooksInPieces layout all begins next told
+  stopped_in_pieces next piece more all further told stop handled so parts few counts here =
+      record {
+        before = bytes;
+        last = piece;
+        later = more;
+        parts = sym parts;
+        piece = few;
+        counts = still_counted (length (front layout bytes).records) receipt further told stop so
+            counts here;
+        booked = joins_stopped next piece further told stop handled so None;
+      }

@@ -3,7 +3,7 @@ ghost use Rattle.streams.specs.Sources.{reader_of, reads_of, has_failed, has_end
 ghost use Rattle.streams.specs.AnswerFlags.{NothingUnread};
 ghost use Rattle.streams.specs.InputOutput.{input};
 ghost use Rattle.book_core.specs.Transition.{IsTransition};
-ghost use Rattle.book_import.specs.Imports.{BooksInput, Imports};
+ghost use Rattle.book_import.specs.Imports.{BooksInPieces, BooksInput, Imports};
 ghost use Rattle.book_import.specs.ReadLimits.{cut_of, most_reads, piece_length};
 
 use crate::pieces::import_piece;
@@ -76,8 +76,12 @@ pub fn import_bytes<L: Ledger>(
     layout: Layout,
     bytes: &[u8],
 ) -> Receipt
-    ensures { IsTransition (L.seen ledger.old) (L.seen ledger.new)
+    ensures booked { IsTransition (L.seen ledger.old) (L.seen ledger.new)
         (Imports (L.seen ledger.old).naming layout None bytes.now result) }
+
+    // As many records are counted, at least, as were whole before the last piece. Where a store
+    // failed, `booked` leaves open how many of those that were kept were counted.
+    ensures pieces { BooksInPieces layout bytes.now (L.seen ledger.old) (L.seen ledger.new) result }
 {
     let Ok(mut joiner) = Joiner::new(alloc, layout) else {
         return Receipt::stopped(Stop::Ledger(LedgerFault::Memory));

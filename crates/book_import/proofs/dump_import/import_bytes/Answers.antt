@@ -1,20 +1,24 @@
 use Rattle.std.proofs.Common.{◌≡◌, ◌≤◌, ◌<◌, ◌+◌, ◌-◌, ◌++◌, ◌∙◌, ◌∷◌, List, ℕ, zero, suc, length, min, arith}
 use Rattle.std.proofs.Common.{lit≤, subst, sym, ap, None, [], append-nil, length-append, length-drop, refl}
-use Rattle.std.proofs.Common.{true, false, true≢false}
+use Rattle.std.proofs.Common.{true, false, true≢false, Some}
 use Rattle.std.specs.Prelude.{◌==◌}
 use Rattle.std.proofs.lemmas.Bool.{eqb-true}
 use Rattle.std.proofs.lemmas.List.{length-take}
+use Rattle.smf_frames.proofs.JoinerStates.{front_of_nothing}
 use Rattle.book_core.specs.Transition.{IsTransition}
 use Rattle.book_core.proofs.TransitionLemmas.{no_work, work_as}
-use Rattle.book_model.specs.Words.{front}
+use Rattle.book_model.specs.Words.{Front, front}
 use Rattle.book_import.specs.declared.receipt.Receipt.{Receipt}
 use Rattle.book_import.specs.Dumps.{stop_after}
 use Rattle.book_import.specs.Imports.{Imports}
 use Rattle.book_import.specs.ReadLimits.{piece_length}
 use Rattle.book_import.specs.Receipts.{counted}
+use Rattle.book_import.specs.Pieces.{CountsPiece}
+use Rattle.book_import.proofs.FeedLemmas.{holds_here}
 use Rattle.book_import.proofs.ImportLemmas.{none_handled}
 use Rattle.book_import.proofs.PiecewiseLemmas.{joins_nothing, joins_more, joins_stopped_before}
-use Rattle.book_import.proofs.PiecewiseLemmas.{joins_ended, pieces_go_on}
+use Rattle.book_import.proofs.PiecewiseLemmas.{joins_ended, pieces_go_on, all_in_pieces}
+use Rattle.book_import.proofs.PiecewiseLemmas.{stopped_in_pieces, still_counted}
 use Rattle.book_import.proofs.dump_import.import_bytes.Goals as goal
 
 -- there is something left
@@ -29,8 +33,8 @@ all_passed passed [] bytes parts none = sym (append-nil passed) ∙ parts
 all_passed passed (byte ∷ rest) bytes parts none =
     absurd (omega (arith, eqb-true (length (byte ∷ rest)) 0 none))
 
-pub returns-in_default : goal.returns-in_default
-returns-in_default g c =
+pub returns-in_default-clause-booked : goal.returns-in_default-clause-booked
+returns-in_default-clause-booked g c =
     let seen = g.L.Ledger.seen c.args.ledger.now in
     let bytes = c.args.bytes.now in
     let found = front c.args.layout bytes in
@@ -38,6 +42,18 @@ returns-in_default g c =
     (none_handled seen.naming (stop_after None found) found.records c.stopped.result
     c.stopped.ensures)
     (no_work seen)
+
+pub returns-in_default-clause-pieces : goal.returns-in_default-clause-pieces
+returns-in_default-clause-pieces g c =
+    let seen = g.L.Ledger.seen c.args.ledger.now in
+    let found = front c.args.layout [] in
+    all_in_pieces c.args.layout seen seen [] c.args.bytes.now c.args.bytes.now c.stopped.result refl
+    (subst (λ (f : Front). length f.records ≤ counted c.stopped.result)
+    (sym (front_of_nothing c.args.layout)) (omega arith))
+    (work_as seen seen _ (Imports seen.naming c.args.layout None [] c.stopped.result)
+    (none_handled seen.naming (stop_after None found) found.records c.stopped.result
+    c.stopped.ensures)
+    (no_work seen))
 
 pub loop-rest-init : goal.loop-rest-init
 loop-rest-init g c = (
@@ -47,6 +63,8 @@ loop-rest-init g c = (
   joins_nothing (g.L.Ledger.seen c.args.ledger.now) c.args.layout c.in-Ok.joiner
       c.stopped-receipt.result c.in-Ok.ensures.value c.in-Ok.ensures.stands c.in-Ok.ensures.found
       c.stopped-receipt.ensures,
+  subst (λ (f : Front). length f.records ≤ counted c.stopped-receipt.result)
+      (sym c.in-Ok.ensures.found) (omega arith),
 )
 
 pub import_piece-requires-clause-few : goal.import_piece-requires-clause-few
@@ -59,8 +77,8 @@ import_piece-requires-clause-few g c =
     sym (length-append joins.0 rest) ∙ ap length joins.1 in
     omega (arith, joins.2, piece, all)
 
-pub returns-in-Some : goal.returns-in-Some
-returns-in-Some g c =
+pub returns-in-Some-clause-booked : goal.returns-in-Some-clause-booked
+returns-in-Some-clause-booked g c =
     let seen = g.L.Ledger.seen c.args.ledger.now in
     let now = g.L.Ledger.seen c.import_piece.new.ledger in
     let joins = c.loop-rest.invariant in
@@ -73,6 +91,24 @@ returns-in-Some g c =
     (joins_stopped_before seen (g.L.Ledger.seen c.loop-rest.ledger) c.loop-rest.receipt joins.3 now
     piece c.import_piece.new.receipt told c.in-Some.stop c.in-Some.ensures.handled c.stopped_by.ensures
     later None)
+
+pub returns-in-Some-clause-pieces : goal.returns-in-Some-clause-pieces
+returns-in-Some-clause-pieces g c =
+    let joins = c.loop-rest.invariant in
+    let rest = c.loop-rest.rest.now in
+    let piece = c.next_piece.result.0.now in
+    let later = c.next_piece.result.1.now in
+    let long : length piece ≡ min piece_length (length rest) =
+    ap length c.next_piece.ensures.piece ∙ length-take piece_length rest in
+    let more = holds_here joins.3 (λ l text. CountsPiece l text piece c.loop-rest.receipt
+    c.import_piece.new.receipt (Some c.in-Some.stop)) c.in-Some.ensures.counts in
+    stopped_in_pieces (g.L.Ledger.seen c.args.ledger.now) (g.L.Ledger.seen c.loop-rest.ledger)
+    c.loop-rest.receipt joins.3 (g.L.Ledger.seen c.import_piece.new.ledger) piece later
+    c.args.bytes.now c.import_piece.new.receipt c.stopped_by.result c.in-Some.stop
+    c.in-Some.ensures.handled c.stopped_by.ensures
+    (pieces_go_on joins.0 rest piece later c.args.bytes.now piece_length joins.1
+    c.next_piece.ensures.piece c.next_piece.ensures.later)
+    (omega (arith, long)) joins.4 more.1
 
 pub loop-rest-smaller : goal.loop-rest-smaller
 loop-rest-smaller g c =
@@ -95,10 +131,16 @@ loop-rest-preserved g c =
       joins_more (g.L.Ledger.seen c.args.ledger.now) (g.L.Ledger.seen c.loop-rest.ledger)
           c.loop-rest.receipt joins.3 (g.L.Ledger.seen c.import_piece.new.ledger)
           c.import_piece.new.receipt (c.in-None.ensures.taken refl) c.in-None.ensures.handled,
+      omega (
+        arith,
+        joins.4,
+        holds_here joins.3 (λ l text. CountsPiece l text piece c.loop-rest.receipt
+            c.import_piece.new.receipt None) c.in-None.ensures.counts,
+      ),
     )
 
-pub returns : goal.returns
-returns g c =
+pub returns-clause-booked : goal.returns-clause-booked
+returns-clause-booked g c =
     let seen = g.L.Ledger.seen c.args.ledger.now in
     let now = g.L.Ledger.seen c.loop-rest.ledger in
     let joins = c.loop-rest.invariant in
@@ -106,5 +148,17 @@ returns g c =
     subst (λ all. IsTransition seen now (Imports seen.naming c.args.layout None all told))
     (all_passed joins.0 c.loop-rest.rest.now c.args.bytes.now joins.1
     (sym c.is_empty.ensures ∙ c.loop-rest-test.false))
+    (joins_ended seen now c.loop-rest.receipt joins.3 told c.dump_end.result None
+    c.dump_end.ensures.stop c.stopped_by-2.ensures)
+
+pub returns-clause-pieces : goal.returns-clause-pieces
+returns-clause-pieces g c =
+    let seen = g.L.Ledger.seen c.args.ledger.now in
+    let now = g.L.Ledger.seen c.loop-rest.ledger in
+    let joins = c.loop-rest.invariant in
+    let told = c.stopped_by-2.result in
+    all_in_pieces c.args.layout seen now joins.0 c.loop-rest.rest.now c.args.bytes.now told joins.1
+    (still_counted (length (front c.args.layout joins.0).records) c.loop-rest.receipt
+    c.loop-rest.receipt told c.dump_end.result c.stopped_by-2.ensures joins.4 (omega arith))
     (joins_ended seen now c.loop-rest.receipt joins.3 told c.dump_end.result None
     c.dump_end.ensures.stop c.stopped_by-2.ensures)

@@ -82,7 +82,7 @@ returns-in-ImportBytes g c =
     (record { is = refl; same = refl })
     (subst (λ (bytes : List ℕ).
     IsTransition old new (Imports old.naming c.in-ImportBytes.layout None bytes c.import_bytes.result))
-    c.as_slice.ensures.value c.import_bytes.ensures))
+    c.as_slice.ensures.value c.import_bytes.ensures.booked))
 
 pub returns-in-Report : goal.returns-in-Report
 returns-in-Report g c =
