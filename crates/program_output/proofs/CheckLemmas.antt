@@ -1,6 +1,6 @@
 -- What makes a check: a dump, listed piece by piece.
 use Rattle.std.proofs.Common.{◌≡◌, ℕ, List, [], ◌++◌, length, sym, ap, subst, Option, Some, None}
-use Rattle.std.proofs.Common.{Result, Ok, Err, ◌∙◌, ◌+◌, ◌≤◌, false, append-nil}
+use Rattle.std.proofs.Common.{Result, Ok, Err, ◌∙◌, ◌+◌, ◌<◌, ◌≤◌, false, append-nil}
 use Rattle.std.specs.Prelude.{◌||◌}
 use Rattle.std.specs.Prelude.{IfOk, unwrap_or}
 use Rattle.std.specs.Io.KnownBytes.{Consumes, Appends}
@@ -27,9 +27,10 @@ use Rattle.book_reports.specs.CheckLists.{record_lines, last_line, check_list_te
 use Rattle.program_output.specs.Listings.{HasListed, WritesSome, ListsPiece, Breaks, waiting}
 use Rattle.program_output.specs.Listings.{listed_count}
 use Rattle.book_reports.specs.StreamedRulings.{WritesFirst}
-use Rattle.book_reports.specs.Writing.{WritesPrefix}
-use Rattle.book_reports.proofs.StreamedLemmas.{is_prefix, written_of_more}
-use Rattle.program_output.proofs.ListingLemmas.{listed_whole, prefix_grows, grows_on, lines_written}
+use Rattle.book_reports.specs.Writing.{WritesUntil}
+use Rattle.book_reports.proofs.StreamedLemmas.{is_short, some_behind, written_of_more}
+use Rattle.program_output.proofs.LineLemmas.{last_line_some}
+use Rattle.program_output.proofs.ListingLemmas.{listed_whole, until_grows, grows_on, lines_written}
 
 -- the lines of the records were written, or are waiting
 abbrev pub AreListed : Option (List ℕ) → Option (List ℕ) → Listing → List (List ℕ) → Type 0
@@ -52,6 +53,12 @@ module _ {layout : Layout} {bytes : List ℕ} {joiner : Joining} (began now : Li
       → ListsPiece joiner piece began now had has (Ok None)
       → HasPassed layout (bytes ++ piece) new (AreListed held has now)
   lists_more {piece = piece} taken over = passed_more lists taken (lists_on piece None over)
+
+-- a list has a last line, so it is not empty
+list_some : (records : List (List ℕ)) (stop : Stop) → 0 < length (check_list_text records stop)
+list_some records stop =
+    let count = length records in
+    some_behind (record_lines 1 records) (last_line count stop) (last_line_some count stop)
 
 -- the stop that is answered is the one at which the reading ended
 ends_told : (allowed : ℕ) (found : Front) (input : Input) (stop : Stop)
@@ -84,19 +91,23 @@ module _ {layout : Layout} {cut : Option Stop} {allowed : ℕ} {input : Input} w
     bytes = [];
     taken = subst (λ (one : ReaderSeen). Consumes input.old.left one.left []) (sym same)
         (Consumes-nil input.old.left);
-    written = (0, Appends-nil held);
+    written = (
+      0,
+      list_some (front layout []).records (stop_after cut (front layout [])),
+      Appends-nil held,
+    );
     stop = tt;
     ends = tt;
     no_further = nothing_further layout (AreWritten held held) input ([], Appends-nil held)
         (ap (λ (one : ReaderSeen). one.reads) same);
   }
 
-  -- the last line was written after the lines of these bytes, or a prefix of what was left of them
+  -- the last line was written after the lines of these bytes, or not all of what was left of them
   is_check : (bytes : List ℕ) (began : Listing) (held had has : Option (List ℕ))
       (stop : Stop) (answer : Result Stop ReportFault)
       → HasListed (front layout bytes).records held had began
       → stop ≡ stop_after cut (front layout bytes)
-      → WritesPrefix (waiting began ++ last_line (listed_count began) stop) had has answer
+      → WritesUntil (waiting began ++ last_line (listed_count began) stop) had has answer
       → IfOk answer (λ told. told ≡ stop)
       → Consumes input.old.left input.new.left bytes
       → EndsBy allowed (is_early_stop (front layout bytes) stop) input
@@ -106,7 +117,7 @@ module _ {layout : Layout} {cut : Option Stop} {allowed : ℕ} {input : Input} w
       record {
         bytes = bytes;
         taken = taken;
-        written = subst (λ stop. WritesPrefix (check_list_text (front layout bytes).records stop)
+        written = subst (λ stop. WritesUntil (check_list_text (front layout bytes).records stop)
             held has answer) same
             (listed_whole (front layout bytes).records stop held had has began answer listed
             written);
@@ -122,7 +133,7 @@ module _ {layout : Layout} {cut : Option Stop} {allowed : ℕ} {input : Input} w
       → ((text : List ℕ) → HasTaken text joiner
       → stop ≡ unwrap_or cut (frame_stop (front joiner.layout text).fault))
       → is_stop_of_books stop ≡ false
-      → WritesPrefix (waiting began ++ last_line (listed_count began) stop) had has answer
+      → WritesUntil (waiting began ++ last_line (listed_count began) stop) had has answer
       → IfOk answer (λ told. told ≡ stop)
       → Consumes input.old.left input.new.left bytes
       → input.new.reads ≤ input.old.reads + length bytes + 1
@@ -136,7 +147,7 @@ module _ {layout : Layout} {cut : Option Stop} {allowed : ℕ} {input : Input} w
       (ends_late (ap (λ b. b || (front layout bytes).is_broken) other ∙ lists.whole) out)
       (all_needed layout (AreWritten held has) input bytes lists.whole
       (lines_written (front layout bytes).records began held had has lists.done waits
-      (prefix_grows (waiting began ++ last_line (listed_count began) stop) had has answer written))
+      (until_grows (waiting began ++ last_line (listed_count began) stop) had has answer written))
       reads)
 
   module _ (bytes piece : List ℕ) (joiner : Joining) (began now : Listing)
@@ -151,7 +162,7 @@ module _ {layout : Layout} {cut : Option Stop} {allowed : ℕ} {input : Input} w
     pub check_broken : (gets : Option (List ℕ)) (fault : FrameFault)
         (answer : Result Stop ReportFault) → Breaks joiner piece fault
         → ListsPiece joiner piece began now had has (Ok (Some fault))
-        → WritesPrefix (waiting now ++ last_line (listed_count now) (Frame fault)) has gets answer
+        → WritesUntil (waiting now ++ last_line (listed_count now) (Frame fault)) has gets answer
         → IfOk answer (λ told. told ≡ Frame fault)
         → IsCheck (reading layout cut allowed input) held gets answer
     check_broken gets fault answer breaks over written told =
@@ -165,7 +176,7 @@ module _ {layout : Layout} {cut : Option Stop} {allowed : ℕ} {input : Input} w
         (ap (stop_after cut) (sym is)) written told taken
         (ends_early (ap (λ (f : Front). f.is_broken) is) failed ended)
         (written_before layout input bytes piece joiner began held had gets lists waits
-        (grows_on had has gets grown (prefix_grows (waiting now ++ last_line (listed_count now)
+        (grows_on had has gets grown (until_grows (waiting now ++ last_line (listed_count now)
         (Frame fault)) has gets answer written)) reads few failed ended)
 
     -- a line was not written, or there was no memory for it
@@ -183,7 +194,8 @@ module _ {layout : Layout} {cut : Option Stop} {allowed : ℕ} {input : Input} w
         record {
           bytes = all;
           taken = taken;
-          written = is_prefix (lines ++ last) (part.0 ++ last) held has
+          written = is_short (lines ++ last) (part.0 ++ last) held has
+              (some_behind part.0 last (last_line_some (length found.records) stop))
               (written_of_more lines part.0 last held has
               (subst (λ b. WritesFirst (record_lines 1 (front layout b).records) part.0 held has)
               (append-nil all) part.1));

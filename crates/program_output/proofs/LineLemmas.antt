@@ -1,4 +1,4 @@
--- No line of a check list is longer than 64 bytes.
+-- No line of a check list is longer than 64 bytes, and the last one is not empty.
 use Rattle.std.proofs.Common.{ℕ, ◌+◌, ◌^◌, ◌<◌, ◌≤◌, Bool, true, false, List, ◌++◌, length, codes}
 use Rattle.std.proofs.Common.{arith, lit≤, length-append, if◌then◌else◌, nat_lt, slice_index}
 use Rattle.std.specs.Fmt.{decimal}
@@ -80,7 +80,10 @@ record_line_short number bytes fits small =
     let class_is = class_short (class_of bytes) in
     simp length-append (omega arith)
 
--- the last line
+-- the last line, which is not empty
+pub last_line_some : (count : ℕ) (stop : Stop) → 0 < length (last_line count stop)
+last_line_some count stop = simp length-append (omega arith)
+
 pub last_line_short : (count : ℕ) (stop : Stop) → count < 2 ^ 64
     → length (last_line count stop) ≤ 64
 last_line_short count stop fits =

@@ -11,9 +11,9 @@ use Rattle.book_reports.specs.CheckLists.{record_line, record_lines, last_line, 
 use Rattle.program_output.specs.Listings.{HasListed, waiting, listed_count}
 use Rattle.program_output.specs.Checks.{AreWritten}
 use Rattle.book_reports.specs.StreamedRulings.{WritesFirst}
-use Rattle.book_reports.specs.Writing.{WritesPrefix}
+use Rattle.book_reports.specs.Writing.{WritesUntil}
 use Rattle.book_reports.proofs.NumberLemmas.{lines-append, one_more_line}
-use Rattle.book_reports.proofs.StreamedLemmas.{first_written, rest_written, then_written}
+use Rattle.book_reports.proofs.StreamedLemmas.{first_written, rest_until, then_written}
 use Rattle.book_reports.proofs.StreamedLemmas.{written_as, written_of_more}
 
 -- all was written
@@ -96,26 +96,26 @@ flush_cut records later count held had has began listed grown =
           part.1)),
     )
 
--- the last line was written after the others, or a prefix of what was left before a fault
+-- the last line was written after the others, or before a fault not all of what was left
 pub listed_whole : (records : List (List ℕ)) (stop : Stop) (held had has : Option (List ℕ))
     (began : Listing) (answer : Result Stop ReportFault) → HasListed records held had began
-    → WritesPrefix (waiting began ++ last_line (listed_count began) stop) had has answer
-    → WritesPrefix (check_list_text records stop) held has answer
+    → WritesUntil (waiting began ++ last_line (listed_count began) stop) had has answer
+    → WritesUntil (check_list_text records stop) held has answer
 listed_whole records stop held had has began answer listed ended =
     let last = last_line (length records) stop in
     let so_far = written_of_more (record_lines 1 records) (waiting began) last held had
     listed.lines in
-    let ended_so = subst (λ n. WritesPrefix (waiting began ++ last_line n stop) had has answer)
+    let ended_so = subst (λ n. WritesUntil (waiting began ++ last_line n stop) had has answer)
     listed.count ended in
-    rest_written (record_lines 1 records ++ last) (waiting began ++ last) held had has answer so_far
+    rest_until (record_lines 1 records ++ last) (waiting began ++ last) held had has answer so_far
     ended_so
 
--- a prefix of a text, or all of it, came after what the writer held
-pub prefix_grows : {A : Type 0} (text : List ℕ) (held holds : Option (List ℕ))
-    (answer : Result A ReportFault) → WritesPrefix text held holds answer
+-- all of a text, or a part of it, came after what the writer held
+pub until_grows : {A : Type 0} (text : List ℕ) (held holds : Option (List ℕ))
+    (answer : Result A ReportFault) → WritesUntil text held holds answer
     → (more : List ℕ) × Appends held holds more
-prefix_grows text held holds (Ok value) written = (text, written)
-prefix_grows text held holds (Err fault) written = (take written.0 text, written.1)
+until_grows text held holds (Ok value) written = (text, written)
+until_grows text held holds (Err fault) written = (take written.0 text, written.2)
 
 -- and then more came after it
 pub grows_on : (held had has : Option (List ℕ)) → (more : List ℕ) × Appends held had more

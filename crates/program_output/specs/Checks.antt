@@ -7,7 +7,7 @@ use Rattle.book_import.specs.Dumps.{stop_after}
 use Rattle.book_import.specs.Reach.{is_early_stop, EndsBy, IsNoFurther}
 use Rattle.book_reports.specs.declared.fault.ReportFault.{ReportFault}
 use Rattle.book_reports.specs.CheckLists.{record_lines, check_list_text}
-use Rattle.book_reports.specs.Writing.{WritesPrefix}
+use Rattle.book_reports.specs.Writing.{WritesUntil}
 use Rattle.program_output.specs.Readings.{Reading}
 
 -- the lines of these records were written, and perhaps more after them
@@ -23,13 +23,14 @@ abbrev pub stop_of : Reading → List ℕ → Stop
 stop_of reading bytes = stop_after reading.cut (found_in reading bytes)
 
 -- A check took these bytes from the reader, whose reading may have been cut short, and wrote the
--- list of their records and its stop, or a prefix of it before a fault. It read no further than it
--- needed: the lines of the records that were whole before the last read were all written.
+-- list of their records and its stop, or, before a fault, a prefix of it that is not the whole. It
+-- read no further than it needed: the lines of the records that were whole before the last read
+-- were all written.
 pub record IsCheck (reading : Reading) (held holds : Option (List ℕ))
     (answer : Result Stop ReportFault) : Type 0 where
   pub bytes : List ℕ
   pub taken : Consumes reading.input.old.left reading.input.new.left bytes
-  pub written : WritesPrefix
+  pub written : WritesUntil
       (check_list_text (found_in reading bytes).records (stop_of reading bytes)) held holds answer
   pub stop : IfOk answer (λ stop. stop ≡ stop_of reading bytes)
   pub ends : IfOk answer (λ stop.

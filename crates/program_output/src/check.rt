@@ -94,7 +94,7 @@ fn list_piece<W: Writer + Drop>(
 /// Writes what every record of a dump is, and why there are no more. The lines of a piece are
 /// written before the next one is read; it holds a piece, a record, and the lines that are written
 /// at once. After a fault at a descriptor, or a write that failed, nothing more is read. After a
-/// fault the writer has a prefix of the list.
+/// fault the writer has a prefix of the list that is not the whole.
 pub fn check_list<R: Reader + Drop, W: Writer + Drop>(
     alloc: Global,
     source: &mut Source<R>,

@@ -6,7 +6,8 @@ ghost use Rattle.streams.specs.Sinks.{writer_of, has_failed};
 ghost use Rattle.book_reports.specs.CheckLists.{last_line, record_line};
 ghost use Rattle.book_reports.specs.StreamedRulings.{WritesAllBut};
 ghost use Rattle.program_output.specs.Listings.{HasRoom, listed_count, most_written, waiting};
-ghost use Rattle.book_reports.specs.Writing.{WritesPrefix, is_write_fault, is_write_or_memory};
+ghost use Rattle.book_reports.specs.Writing.{WritesPrefix, WritesUntil, is_write_fault};
+ghost use Rattle.book_reports.specs.Writing.{is_write_or_memory};
 
 use book_core::Sink;
 use book_import::Stop;
@@ -44,6 +45,8 @@ impl Listing {
         requires unwritten { has_failed sink.old ≡ false }
         requires short { length (waiting self.old) ≤ most_written }
         ensures written { WritesPrefix (waiting self.old)
+            (W.contents (writer_of sink.old)) (W.contents (writer_of sink.new)) result }
+        ensures until { WritesUntil (waiting self.old)
             (W.contents (writer_of sink.old)) (W.contents (writer_of sink.new)) result }
         ensures waits { OnOk result (waiting self.new ≡ []) }
         ensures count { listed_count self.new ≡ listed_count self.old }
@@ -90,7 +93,7 @@ impl Listing {
         requires unwritten { has_failed sink.old ≡ false }
         requires few { listed_count self.old < 2 ^ 63 }
         requires room { HasRoom self.old }
-        ensures written { WritesPrefix (waiting self.old ++ last_line (listed_count self.old) stop)
+        ensures written { WritesUntil (waiting self.old ++ last_line (listed_count self.old) stop)
             (W.contents (writer_of sink.old)) (W.contents (writer_of sink.new)) result }
         ensures stop { IfOk result (λ told. told ≡ stop) }
         ensures failed { has_failed sink.new ≡ is_write_fault result }
