@@ -268,7 +268,7 @@ module _ (history : List Event) (name : List ℕ) (old new : Shelf)
       (none_on old.naming history name old new answered held book comes.1)
 
   asks_on : (book : List ℕ) (request : BookRequest) (has holds : Option (List ℕ)) (ended : Ended)
-      → AsksAndTells request book old new has holds ended
+      → AsksAndTells request book old new has holds (Unit {0}) ended
       → Step old.naming history name old new
       (Where book name (AsksOfHistory old.naming history (Refuses book) request has holds ended))
   asks_on book request has holds ended it =
@@ -308,7 +308,7 @@ module _ (history : List Event) (name : List ℕ) (old new : Shelf)
       (none_on old.naming history name old new answered held book comes.1)
 
   list_on : (book : List ℕ) (has holds : Option (List ℕ)) (ended : Ended)
-      → ChoosesListed book old new has holds ended
+      → ChoosesListed book old new has holds (Unit {0}) ended
       → Step old.naming history name old new
       (Where book name (ListOfHistory old.naming history (Refuses book) has holds ended))
   list_on book has holds ended it =
@@ -423,7 +423,7 @@ module _ (history : List Event) (name : List ℕ) (old new : Shelf)
       (none_on old.naming history name old new answered held book tried.1)
 
   tries_on : (book : List ℕ) (ruling : Ruling) (has holds : Option (List ℕ)) (ended : Ended)
-      → TriesAndTells ruling book old new has holds ended
+      → TriesAndTells ruling book old new has holds (Unit {0}) ended
       → Step old.naming history name old new
       (Where book name (TriesOfHistory old.naming history (Refuses book) ruling has holds ended))
   tries_on book ruling has holds ended it =
@@ -462,19 +462,19 @@ module _ (history : List Event) (name : List ℕ) (old new : Shelf)
           (none_on old.naming history name old new answered held book comes.1)
 
   upgrades_on : (book : List ℕ) (has holds : Option (List ℕ)) (came : Result Ended CommandFault)
-      → UpgradesBy book old new has holds came
+      → UpgradesBy book old new has holds (Unit {0}) came
       → Step old.naming history name old new (Where book name (λ made. made ≡ []))
   upgrades_on book has holds (Ok ended) it = still_on book book it.done
   upgrades_on book has holds (Err why) it = still_on book book it.1
 
   audits_on : (book : List ℕ) (has holds : Option (List ℕ)) (came : Result Ended CommandFault)
-      → AuditsBooks book old new has holds came
+      → AuditsBooks book old new has holds (Unit {0}) came
       → Step old.naming history name old new (Where book name (λ made. made ≡ []))
   audits_on book has holds (Ok ended) it = still_on book book it.done.0
   audits_on book has holds (Err why) it = still_on book book it.1
 
   backs_up_on : (book copy : List ℕ) (has holds : Option (List ℕ))
-      (came : Result Ended CommandFault) → BacksUp book copy old new has holds came
+      (came : Result Ended CommandFault) → BacksUp book copy old new has holds (Unit {0}) came
       → Step old.naming history name old new (Where book name (λ made. made ≡ []))
   backs_up_on book copy has holds (Ok ended) it = still_on book copy it.done.kept
   backs_up_on book copy has holds (Err why) it = still_on book book it.1
@@ -505,7 +505,7 @@ module _ {S : Type 0} (shelf : S → Shelf) (history : List Event) (name : List 
       (none_on (shelf before).naming history name (shelf before) (shelf after) answered held book it.1)
 
   does_on : (book : List ℕ) (request : BookRequest) (has holds : Option (List ℕ)) (ended : Ended)
-      → Does shelf request book before after has holds ended
+      → Does shelf request book before after has holds (Unit {0}) ended
       → Step (shelf before).naming history name (shelf before) (shelf after)
       (Where book name
       (DoesToHistory (shelf before).naming history (Refuses book) request has holds ended))
@@ -552,7 +552,7 @@ runs_on : {S : Type 0} (shelf : S → Shelf) (waits : S → ℕ → Type 0) (his
     (old new : S) → IsMadeByCalls (shelf old).naming history → (shelf old).holds name history
     → (asked : Result Request ArgumentFault) (had has holds : Option (List ℕ))
     (Says : List (List ℕ) → Type 0) (status : Status)
-    → DoesOrRefuses shelf waits old new asked had has holds Says status
+    → DoesOrRefuses shelf waits old new asked had has holds (Unit {0}) Says status
     → Step (shelf old).naming history name (shelf old) (shelf new)
     (RunsOn (shelf old).naming name history (shelf old).refuses asked has holds status)
 runs_on shelf waits history name old new answered held (Ok (request.OfBooks book wait asked)) had has

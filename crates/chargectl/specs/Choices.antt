@@ -100,35 +100,35 @@ choices_end chosen written =
     first_fault (refusal_end chosen.refusal (length chosen.answers.items + 1)) written
 
 -- a line is written for each answer
-pub record EndsChoices (chosen : Chosen) (held holds : Option (List ℕ))
+pub record EndsChoices (chosen : Chosen) (held holds : Option (List ℕ)) (Failed : Type 0)
     (came : Result (Unit {0}) CommandFault) : Type 0 where
   pub written : Result (Unit {0}) CommandFault
-  pub lines : IsPrinted (answer_lines chosen.answers.items) held holds written
+  pub lines : IsPrinted (answer_lines chosen.answers.items) held holds Failed written
   pub ends : came ≡ choices_end chosen written
 
 -- or nothing, where there are none
-abbrev pub TellsChoices : Result Chosen CommandFault → Option (List ℕ) → Option (List ℕ)
+abbrev pub TellsChoices : Result Chosen CommandFault → Option (List ℕ) → Option (List ℕ) → Type 0
     → Result (Unit {0}) CommandFault → Type 0
-TellsChoices (Ok chosen) held holds came = EndsChoices chosen held holds came
-TellsChoices (Err why) held holds came = (holds ≡ held) × (came ≡ Err why)
+TellsChoices (Ok chosen) held holds Failed came = EndsChoices chosen held holds Failed came
+TellsChoices (Err why) held holds Failed came = (holds ≡ held) × (came ≡ Err why)
 
 -- with what the books left, which may have changed
-pub record TellsListAnswered (answered : ListAnswered) (held holds : Option (List ℕ)) (ended : Ended)
-    : Type 0 where
-  pub told : TellsChoices answered.chosen held holds ended.came
+pub record TellsListAnswered (answered : ListAnswered) (held holds : Option (List ℕ)) (Failed : Type 0)
+    (ended : Ended) : Type 0 where
+  pub told : TellsChoices answered.chosen held holds Failed ended.came
   pub log : ended.has_log ≡ answered.has_log
   pub change : ended.is_change ≡ true
   pub notice : ended.notice ≡ None
 
 -- and where nothing was chosen
-abbrev pub TellsList : Result ListAnswered CommandFault → Option (List ℕ) → Option (List ℕ) → Ended
-    → Type 0
-TellsList (Ok answered) held holds ended = TellsListAnswered answered held holds ended
-TellsList (Err why) held holds ended = (holds ≡ held) × (ended ≡ without_log (Err why))
+abbrev pub TellsList : Result ListAnswered CommandFault → Option (List ℕ) → Option (List ℕ) → Type 0
+    → Ended → Type 0
+TellsList (Ok answered) held holds Failed ended = TellsListAnswered answered held holds Failed ended
+TellsList (Err why) held holds Failed ended = (holds ≡ held) × (ended ≡ without_log (Err why))
 
 -- The command: what came of the list, and what was told of that.
 pub record ChoosesListed (book : List ℕ) (old new : Shelf) (held holds : Option (List ℕ))
-    (ended : Ended) : Type 0 where
+    (Failed : Type 0) (ended : Ended) : Type 0 where
   pub answered : Result ListAnswered CommandFault
   pub comes : ComesOfList book old new answered
-  pub tells : TellsList answered held holds ended
+  pub tells : TellsList answered held holds Failed ended

@@ -63,13 +63,13 @@ abbrev pub place_after : {S E : Type 0} → S → List (Commanded S E) → S
 place_after before [] = before
 place_after before (command ∷ later) = place_after command.after later
 
--- each kept its contract where the one before it left the books
+-- each kept its contract where the one before it left the books, whatever is known of its output
 abbrev pub AreCommanded : {S E : Type 0} → (S → Shelf) → (S → ℕ → Type 0)
     → (List (List ℕ) → E → E → Type 0) → S → List (Commanded S E) → Type 0
 AreCommanded shelf waits Says before [] = Unit {0}
 AreCommanded shelf waits Says before (command ∷ later) =
     CommandsBy shelf waits before command.after command.words command.had command.held command.holds
-    Says command.quiet command.said command.status
+    (Unit {0}) Says command.quiet command.said command.status
     × AreCommanded shelf waits Says command.after later
 
 -- After a history this was asked and told, and it made these events, the newest first. Unless a lack
@@ -115,7 +115,7 @@ pub record AsksOfHistory (naming : Naming) (history : List Event)
     (ended : Ended) (made : List Event) : Type 0 where
   pub came : Result Answered CommandFault
   pub asked : AskedBy naming history Refuses request came made
-  pub tells : Tells came held holds ended
+  pub tells : Tells came held holds (Unit {0}) ended
 
 -- What the words ask was tried on the books of a history, and so it was told and noticed: unless a lack of
 -- memory or the store hindered it, that is what the definitions say of the history.
@@ -143,7 +143,7 @@ pub record TriesOfHistory (naming : Naming) (history : List Event)
     (ended : Ended) (made : List Event) : Type 0 where
   pub came : Result Answered CommandFault
   pub tried : TriedBy naming history Refuses (book.Rule ruling) came
-  pub tells : Tells came held holds ended
+  pub tells : Tells came held holds (Unit {0}) ended
   pub none : made ≡ []
 
 -- After a history the records of these names were chosen, one after the other, which made these events.
@@ -180,7 +180,7 @@ pub record ListOfHistory (naming : Naming) (history : List Event)
     (made : List Event) : Type 0 where
   pub came : Result ListAnswered CommandFault
   pub listed : ListBy naming history Refuses came made
-  pub tells : TellsList came held holds ended
+  pub tells : TellsList came held holds (Unit {0}) ended
 
 -- One client was replied to, and these events were made; or the place refused the books, for any reason.
 pub record AnswersOrNot (naming : Naming) (what : Served) (was : Bool) (before : Book)

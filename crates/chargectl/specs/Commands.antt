@@ -246,28 +246,30 @@ ends_by (answers.Receipt receipt) written = first_fault (end_of receipt.stop) wr
 ends_by answer written = written
 
 -- What a command writes of an answer, and how it ends. Of a fault nothing is written.
-abbrev pub IsTold : Result Answer CommandFault → Option (List ℕ) → Option (List ℕ)
+abbrev pub IsTold : Result Answer CommandFault → Option (List ℕ) → Option (List ℕ) → Type 0
     → Result (Unit {0}) CommandFault → Type 0
-IsTold (Ok answer) held holds came = (written : Result (Unit {0}) CommandFault)
-    × IsPrinted (answer_text (response_of answer)) held holds written × (came ≡ ends_by answer written)
-IsTold (Err fault) held holds came = (holds ≡ held) × (came ≡ Err fault)
+IsTold (Ok answer) held holds Failed came = (written : Result (Unit {0}) CommandFault)
+    × IsPrinted (answer_text (response_of answer)) held holds Failed written
+    × (came ≡ ends_by answer written)
+IsTold (Err fault) held holds Failed came = (holds ≡ held) × (came ≡ Err fault)
 
 -- with what the books left, whether they may have changed, and what was noticed
-pub record TellsAnswered (answered : Answered) (held holds : Option (List ℕ)) (ended : Ended) : Type 0
-  where
-    pub told : IsTold answered.answer held holds ended.came
-    pub log : ended.has_log ≡ answered.has_log
-    pub change : ended.is_change ≡ answered.is_change
-    pub notice : ended.notice ≡ answered.notice
+pub record TellsAnswered (answered : Answered) (held holds : Option (List ℕ)) (Failed : Type 0)
+    (ended : Ended) : Type 0 where
+  pub told : IsTold answered.answer held holds Failed ended.came
+  pub log : ended.has_log ≡ answered.has_log
+  pub change : ended.is_change ≡ answered.is_change
+  pub notice : ended.notice ≡ answered.notice
 
 -- and where nothing was asked
-abbrev pub Tells : Result Answered CommandFault → Option (List ℕ) → Option (List ℕ) → Ended → Type 0
-Tells (Ok answered) held holds ended = TellsAnswered answered held holds ended
-Tells (Err why) held holds ended = (holds ≡ held) × (ended ≡ without_log (Err why))
+abbrev pub Tells : Result Answered CommandFault → Option (List ℕ) → Option (List ℕ) → Type 0 → Ended
+    → Type 0
+Tells (Ok answered) held holds Failed ended = TellsAnswered answered held holds Failed ended
+Tells (Err why) held holds Failed ended = (holds ≡ held) × (ended ≡ without_log (Err why))
 
 -- A command that asks the office: what came of it, and what was told of that.
 pub record AsksAndTells (request : BookRequest) (book : List ℕ) (old new : Shelf)
-    (held holds : Option (List ℕ)) (ended : Ended) : Type 0 where
+    (held holds : Option (List ℕ)) (Failed : Type 0) (ended : Ended) : Type 0 where
   pub answered : Result Answered CommandFault
   pub comes : ComesOf request book old new answered
-  pub tells : Tells answered held holds ended
+  pub tells : Tells answered held holds Failed ended

@@ -175,7 +175,7 @@ ComesOfDryRun request book old new (Err why) =
 
 -- A dry run of a ruling: what came of it, and what was told of that.
 pub record TriesAndTells (ruling : Ruling) (book : List ℕ) (old new : Shelf)
-    (held holds : Option (List ℕ)) (ended : Ended) : Type 0 where
+    (held holds : Option (List ℕ)) (Failed : Type 0) (ended : Ended) : Type 0 where
   pub answered : Result Answered CommandFault
   pub comes : ComesOfDryRun (to_books.Rule ruling) book old new answered
-  pub tells : Tells answered held holds ended
+  pub tells : Tells answered held holds Failed ended

@@ -146,16 +146,17 @@ io_fault kind = fault.Io
 abbrev pub IsFileFault : CommandFault → Type 0
 IsFileFault why = (kind : ErrorKind) × (why ≡ io_fault kind)
 
--- the output failed, or there was no memory for what is written
-abbrev pub IsOutputFault : CommandFault → Type 0
-IsOutputFault why = IsFileFault why ⊎ (why ≡ fault.Report report.Write)
+-- there was no memory for what is written; or the output has failed, which is told only then
+abbrev pub IsOutputFault : Type 0 → CommandFault → Type 0
+IsOutputFault Failed why = (why ≡ fault.Ledger ledger.Memory)
+    ⊎ (Failed × (IsFileFault why ⊎ (why ≡ fault.Report report.Write)))
 
--- the text was written whole; or the output failed, and has a prefix of it
-abbrev pub IsPrinted : List ℕ → Option (List ℕ) → Option (List ℕ) → Result (Unit {0}) CommandFault
-    → Type 0
-IsPrinted text held holds (Ok done) = Appends held holds text
-IsPrinted text held holds (Err why) =
-    IsOutputFault why × (count : ℕ) × Appends held holds (take count text)
+-- the text was written whole; or the output has failed, and has a prefix of it
+abbrev pub IsPrinted : List ℕ → Option (List ℕ) → Option (List ℕ) → Type 0
+    → Result (Unit {0}) CommandFault → Type 0
+IsPrinted text held holds Failed (Ok done) = Appends held holds text
+IsPrinted text held holds Failed (Err why) =
+    IsOutputFault Failed why × (count : ℕ) × Appends held holds (take count text)
 
 -- why bytes are no text of a tariff: they are too many, or no text at all
 abbrev pub IsNoText : List ℕ → CommandFault → Type 0

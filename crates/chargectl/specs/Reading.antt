@@ -134,15 +134,15 @@ explanation_text meaning advice = meaning ++ codes "\n" ++ advice ++ codes "\n"
 
 -- what is told of a number: that is written, or a prefix of it where the output fails; or that nothing
 -- has it
-abbrev pub TellsNumber : Option Explanation → Option (List ℕ) → Option (List ℕ)
+abbrev pub TellsNumber : Option Explanation → Option (List ℕ) → Option (List ℕ) → Type 0
     → Result (Unit {0}) CommandFault → Type 0
-TellsNumber None held holds ended = (holds ≡ held) × (ended ≡ Err fault.Number)
-TellsNumber (Some told) held holds ended =
-    IsPrinted (explanation_text told.meaning.now told.advice.now) held holds ended
+TellsNumber None held holds Failed ended = (holds ≡ held) × (ended ≡ Err fault.Number)
+TellsNumber (Some told) held holds Failed ended =
+    IsPrinted (explanation_text told.meaning.now told.advice.now) held holds Failed ended
 
 -- what is told of a number of this kind, or of a word, by what it means
-pub record TellsOf (kind : FaultKind) (number : ℕ) (held holds : Option (List ℕ))
+pub record TellsOf (kind : FaultKind) (number : ℕ) (held holds : Option (List ℕ)) (Failed : Type 0)
     (ended : Result (Unit {0}) CommandFault) : Type 0 where
   pub told : Option Explanation
   pub explains : Explains kind number told
-  pub tells : TellsNumber told held holds ended
+  pub tells : TellsNumber told held holds Failed ended

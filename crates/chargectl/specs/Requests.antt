@@ -87,25 +87,25 @@ pub record SettlesBy (Does : Result Ended CommandFault → Type 0) (ended : Ende
 
 -- Each command on books.
 abbrev pub Does : {S : Type 0} → (S → Shelf) → BookRequest → List ℕ → S → S → Option (List ℕ)
-    → Option (List ℕ) → Ended → Type 0
-Does shelf book.Init name old new held holds ended =
+    → Option (List ℕ) → Type 0 → Ended → Type 0
+Does shelf book.Init name old new held holds Failed ended =
     Makes name (shelf old) (shelf new) held holds ended
-Does shelf book.Upgrade name old new held holds ended =
-    SettlesBy (UpgradesBy name (shelf old) (shelf new) held holds) ended
-Does shelf (book.Audit quiet) name old new held holds ended =
-    SettlesBy (AuditsBooks name (shelf old) (shelf new) held holds) ended
-Does shelf (book.BackUp copy quiet) name old new held holds ended =
-    SettlesBy (BacksUp name copy.now (shelf old) (shelf new) held holds) ended
-Does shelf (book.Serve port requests) name old new held holds ended =
+Does shelf book.Upgrade name old new held holds Failed ended =
+    SettlesBy (UpgradesBy name (shelf old) (shelf new) held holds Failed) ended
+Does shelf (book.Audit quiet) name old new held holds Failed ended =
+    SettlesBy (AuditsBooks name (shelf old) (shelf new) held holds Failed) ended
+Does shelf (book.BackUp copy quiet) name old new held holds Failed ended =
+    SettlesBy (BacksUp name copy.now (shelf old) (shelf new) held holds Failed) ended
+Does shelf (book.Serve port requests) name old new held holds Failed ended =
     SettlesBy (ServesBy shelf requests name old new held holds) ended
-Does shelf (book.List asked) name old new held holds ended =
+Does shelf (book.List asked) name old new held holds Failed ended =
     SettlesBy (ListsAsked (list_of asked) name (shelf old) (shelf new) held holds) ended
-Does shelf (book.ChooseListed file) name old new held holds ended =
-    ChoosesListed name (shelf old) (shelf new) held holds ended
-Does shelf (book.DryRun ruling) name old new held holds ended =
-    TriesAndTells ruling name (shelf old) (shelf new) held holds ended
-Does shelf asked name old new held holds ended =
-    AsksAndTells asked name (shelf old) (shelf new) held holds ended
+Does shelf (book.ChooseListed file) name old new held holds Failed ended =
+    ChoosesListed name (shelf old) (shelf new) held holds Failed ended
+Does shelf (book.DryRun ruling) name old new held holds Failed ended =
+    TriesAndTells ruling name (shelf old) (shelf new) held holds Failed ended
+Does shelf asked name old new held holds Failed ended =
+    AsksAndTells asked name (shelf old) (shelf new) held holds Failed ended
 
 -- a command that opens no books and reads no dump
 pub record EndsAt (Does : Result (Unit {0}) CommandFault → Type 0) (ended : Ended) : Type 0 where
@@ -125,63 +125,64 @@ wait_for asked wait = wait
 -- It was set that openings wait for so many seconds, and nothing else was new; and then a command was
 -- done on the books of a name. What does it knows its place by traits that cannot set this again.
 pub record WaitsAndDoes {S : Type 0} (shelf : S → Shelf) (waits : S → ℕ → Type 0) (old new : S)
-    (seconds : ℕ) (asked : BookRequest) (name : List ℕ) (held holds : Option (List ℕ)) (ended : Ended)
-    : Type 0 where
+    (seconds : ℕ) (asked : BookRequest) (name : List ℕ) (held holds : Option (List ℕ))
+    (Failed : Type 0) (ended : Ended) : Type 0 where
   pub waiting : S
   pub set : waits waiting seconds
   pub same : IsSameShelf (shelf old) (shelf waiting)
-  pub does : Does shelf asked name waiting new held holds ended
+  pub does : Does shelf asked name waiting new held holds Failed ended
 
 -- The table of the commands.
 abbrev pub Runs : {S : Type 0} → (S → Shelf) → (S → ℕ → Type 0) → S → S → Request
-    → Option (List ℕ) → Option (List ℕ) → Option (List ℕ) → Ended → Type 0
-Runs shelf waits old new (request.Trial layout cpu excp fee) had held holds ended =
+    → Option (List ℕ) → Option (List ℕ) → Option (List ℕ) → Type 0 → Ended → Type 0
+Runs shelf waits old new (request.Trial layout cpu excp fee) had held holds Failed ended =
     (new ≡ old) × TriesAt layout cpu excp fee had held holds ended
-Runs shelf waits old new (request.TrialUnder layout file) had held holds ended =
+Runs shelf waits old new (request.TrialUnder layout file) had held holds Failed ended =
     (new ≡ old) × TriesUnder layout had held holds ended
-Runs shelf waits old new (request.Check dump) had held holds ended =
+Runs shelf waits old new (request.Check dump) had held holds Failed ended =
     (new ≡ old) × Checks dump.layout held holds ended
-Runs shelf waits old new (request.Explain kind number) had held holds ended =
-    (new ≡ old) × EndsAt (TellsOf (kind_of kind) number held holds) ended
-Runs shelf waits old new (request.OfBooks name wait asked) had held holds ended =
-    WaitsAndDoes shelf waits old new (wait_for asked wait) asked name.now held holds ended
-Runs shelf waits old new (request.Unclear why) had held holds ended =
+Runs shelf waits old new (request.Explain kind number) had held holds Failed ended =
+    (new ≡ old) × EndsAt (TellsOf (kind_of kind) number held holds Failed) ended
+Runs shelf waits old new (request.OfBooks name wait asked) had held holds Failed ended =
+    WaitsAndDoes shelf waits old new (wait_for asked wait) asked name.now held holds Failed ended
+Runs shelf waits old new (request.Unclear why) had held holds Failed ended =
     (new ≡ old) × (holds ≡ held) × (ended ≡ without_log (Err (fault.Unclear why)))
 
 -- help was written, or a prefix of it where the output failed, which is said as of any command
-pub record Helps (text : List ℕ) (held holds : Option (List ℕ)) (Says : List (List ℕ) → Type 0)
-    (ended : Status) : Type 0 where
+pub record Helps (text : List ℕ) (held holds : Option (List ℕ)) (Failed : Type 0)
+    (Says : List (List ℕ) → Type 0) (ended : Status) : Type 0 where
   pub written : Result (Unit {0}) CommandFault
-  pub printed : IsPrinted text held holds written
+  pub printed : IsPrinted text held holds Failed written
   pub ends : ended ≡ came_status written
   pub said : Says (came_lines written)
 
 -- What was wrong with the words, or help, which is written to standard output; and what is said on
 -- standard error.
-abbrev pub IsRefusedFor : ArgumentFault → Option (List ℕ) → Option (List ℕ)
+abbrev pub IsRefusedFor : ArgumentFault → Option (List ℕ) → Option (List ℕ) → Type 0
     → (List (List ℕ) → Type 0) → Status → Type 0
-IsRefusedFor words.Memory held holds Says ended =
+IsRefusedFor words.Memory held holds Failed Says ended =
     (holds ≡ held) × (ended ≡ status.Memory) × Says (ledger_line ledger.Memory ∷ [])
-IsRefusedFor (words.Wrong text) held holds Says ended =
+IsRefusedFor (words.Wrong text) held holds Failed Says ended =
     (holds ≡ held) × (ended ≡ status.Usage) × Says (string_bytes text ∷ [])
-IsRefusedFor (words.Help text) held holds Says ended =
-    Helps (string_bytes text) held holds Says ended
+IsRefusedFor (words.Help text) held holds Failed Says ended =
+    Helps (string_bytes text) held holds Failed Says ended
 
 -- What was asked was done; or nothing was asked.
 abbrev pub DoesOrRefuses : {S : Type 0} → (S → Shelf) → (S → ℕ → Type 0) → S → S
-    → Result Request ArgumentFault → Option (List ℕ) → Option (List ℕ) → Option (List ℕ)
+    → Result Request ArgumentFault → Option (List ℕ) → Option (List ℕ) → Option (List ℕ) → Type 0
     → (List (List ℕ) → Type 0) → Status → Type 0
-DoesOrRefuses shelf waits old new (Ok request) had held holds Says status =
-    (ended : Ended) × Runs shelf waits old new request had held holds ended
+DoesOrRefuses shelf waits old new (Ok request) had held holds Failed Says status =
+    (ended : Ended) × Runs shelf waits old new request had held holds Failed ended
     × (status ≡ status_by ended) × Says (error_lines ended)
-DoesOrRefuses shelf waits old new (Err fault) had held holds Says status =
-    (new ≡ old) × IsRefusedFor fault held holds Says status
+DoesOrRefuses shelf waits old new (Err fault) had held holds Failed Says status =
+    (new ≡ old) × IsRefusedFor fault held holds Failed Says status
 
 -- The program: its words ask for something by the table of the commands, and that was done. These
--- lines, and no others, were said on standard error.
+-- lines, and no others, were said on standard error; that the output failed is told only where it has.
 pub record CommandsBy {S E : Type 0} (shelf : S → Shelf) (waits : S → ℕ → Type 0) (old new : S)
-    (words : List (String Global)) (had held holds : Option (List ℕ))
+    (words : List (String Global)) (had held holds : Option (List ℕ)) (Failed : Type 0)
     (Says : List (List ℕ) → E → E → Type 0) (quiet said : E) (status : Status) : Type 0 where
   pub asked : Result Request ArgumentFault
   pub read : AreReadAs program_name most_rate (as_texts words) asked
-  pub done : DoesOrRefuses shelf waits old new asked had held holds (λ lines. Says lines quiet said) status
+  pub done : DoesOrRefuses shelf waits old new asked had held holds Failed
+      (λ lines. Says lines quiet said) status

@@ -18,27 +18,28 @@ upgrade_text (To form) = codes "UPGRADED " ++ decimal form ++ codes "\n"
 upgrade_text Already = codes "ALREADY\n"
 
 -- It was written; or the output failed, and has a prefix of it. Of books that were not opened nothing is.
-abbrev pub EndsUpgrade : Result Upgraded RepositoryFault → Option (List ℕ) → Option (List ℕ)
+abbrev pub EndsUpgrade : Result Upgraded RepositoryFault → Option (List ℕ) → Option (List ℕ) → Type 0
     → Result (Unit {0}) CommandFault → Type 0
-EndsUpgrade (Ok upgraded) held holds came = IsPrinted (upgrade_text upgraded) held holds came
-EndsUpgrade (Err fault) held holds came = (holds ≡ held) × (came ≡ Err (shelf_fault fault))
+EndsUpgrade (Ok upgraded) held holds Failed came =
+    IsPrinted (upgrade_text upgraded) held holds Failed came
+EndsUpgrade (Err fault) held holds Failed came = (holds ≡ held) × (came ≡ Err (shelf_fault fault))
 
 -- The books of a name were brought over, or had the present form, as their place told, or why not; and
 -- whether their log is left. They hold the history that they held.
-pub record Upgrades (book : List ℕ) (old new : Shelf) (held holds : Option (List ℕ)) (ended : Ended)
-    : Type 0 where
+pub record Upgrades (book : List ℕ) (old new : Shelf) (held holds : Option (List ℕ)) (Failed : Type 0)
+    (ended : Ended) : Type 0 where
   pub upgraded : Result Upgraded RepositoryFault
   pub done : IsUntouched book old new
   pub there : IsThere book old new upgraded
   pub may : IfOk upgraded (old.upgrades book)
   pub refused : IfErr upgraded (old.refuses book)
-  pub ends : EndsUpgrade upgraded held holds ended.came
+  pub ends : EndsUpgrade upgraded held holds Failed ended.came
   pub log : new.has_log book ended.has_log
   pub change : ended.is_change ≡ true
   pub notice : ended.notice ≡ None
 
 -- or the place refused them before
-abbrev pub UpgradesBy : List ℕ → Shelf → Shelf → Option (List ℕ) → Option (List ℕ)
+abbrev pub UpgradesBy : List ℕ → Shelf → Shelf → Option (List ℕ) → Option (List ℕ) → Type 0
     → Result Ended CommandFault → Type 0
-UpgradesBy book old new held holds (Ok ended) = Upgrades book old new held holds ended
-UpgradesBy book old new held holds (Err why) = IsRefusedBy book old new held holds why
+UpgradesBy book old new held holds Failed (Ok ended) = Upgrades book old new held holds Failed ended
+UpgradesBy book old new held holds Failed (Err why) = IsRefusedBy book old new held holds why

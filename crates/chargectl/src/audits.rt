@@ -1,5 +1,6 @@
 //! Audits of books, and of copies of them.
 
+ghost use Rattle.streams.specs.Failures.{HasFailed};
 ghost use Rattle.chargectl.specs.Audits.{AuditsBooks, BacksUp, EndsAudit};
 
 use crate::book_commands::print;
@@ -10,10 +11,11 @@ use book_audit::{Audited, AuditedRepository, audit_text};
 use named_books::{Opened, RepositoryFault};
 use office::Answer;
 use std::alloc::Global;
-use std::io::{IsTerminal, Write};
+use std::io::IsTerminal;
+use streams::Writer;
 
 /// Audits the whole file of books, and prints the result.
-pub(crate) fn audit<S: AuditedRepository, O: Write + Drop>(
+pub(crate) fn audit<S: AuditedRepository, O: Writer + Drop>(
     rt: &HostRuntime,
     repository: &S,
     book: &str,
@@ -21,7 +23,7 @@ pub(crate) fn audit<S: AuditedRepository, O: Write + Drop>(
     output: O,
 ) -> (Result<Ended, CommandFault>, O)
     ensures { AuditsBooks book.now (S.shelf repository.now) (S.shelf repository.now)
-        (O.contents output) (O.contents result.1) result.0 }
+        (O.contents output) (O.contents result.1) (∥ HasFailed O.may_answer result.1 ∥₁) result.0 }
 {
     if let Err(fault) = repository.expect(book) {
         return (Err(CommandFault::from(fault)), output);
@@ -40,7 +42,7 @@ pub(crate) fn audit<S: AuditedRepository, O: Write + Drop>(
 }
 
 /// Copies books to another file, audits the copy, and prints the result.
-pub(crate) fn back_up<S: AuditedRepository, O: Write + Drop>(
+pub(crate) fn back_up<S: AuditedRepository, O: Writer + Drop>(
     rt: &HostRuntime,
     repository: &mut S,
     book: &str,
@@ -49,7 +51,7 @@ pub(crate) fn back_up<S: AuditedRepository, O: Write + Drop>(
     output: O,
 ) -> (Result<Ended, CommandFault>, O)
     ensures { BacksUp book.now copy.now (S.shelf repository.old) (S.shelf repository.new)
-        (O.contents output) (O.contents result.1) result.0 }
+        (O.contents output) (O.contents result.1) (∥ HasFailed O.may_answer result.1 ∥₁) result.0 }
 {
     if let Err(fault) = repository.expect(book) {
         return (Err(CommandFault::from(fault)), output);
@@ -68,12 +70,13 @@ pub(crate) fn back_up<S: AuditedRepository, O: Write + Drop>(
 }
 
 /// Prints what came of an audit.
-fn show_audited<O: Write + Drop>(
+fn show_audited<O: Writer + Drop>(
     alloc: Global,
     audited: Result<Audited, RepositoryFault>,
     output: O,
 ) -> (Result<(), CommandFault>, O)
-    ensures { EndsAudit audited (O.contents output) (O.contents result.1) result.0 }
+    ensures { EndsAudit audited (O.contents output) (O.contents result.1)
+        (∥ HasFailed O.may_answer result.1 ∥₁) result.0 }
 {
     match audited {
         Ok(audited) => write_audited(alloc, &audited, output),
@@ -82,12 +85,13 @@ fn show_audited<O: Write + Drop>(
 }
 
 /// Writes what was found. Books that are unsound end the command so, whatever became of the text.
-fn write_audited<O: Write + Drop>(
+fn write_audited<O: Writer + Drop>(
     alloc: Global,
     audited: &Audited,
     output: O,
 ) -> (Result<(), CommandFault>, O)
-    ensures { EndsAudit (Ok audited.now) (O.contents output) (O.contents result.1) result.0 }
+    ensures { EndsAudit (Ok audited.now) (O.contents output) (O.contents result.1)
+        (∥ HasFailed O.may_answer result.1 ∥₁) result.0 }
 {
     let text = match audit_text(alloc, audited) {
         Ok(text) => text,

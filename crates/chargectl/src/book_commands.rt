@@ -3,6 +3,7 @@
 //! their answer is written. `report_commands` has the reports.
 
 ghost use Rattle.std.specs.Prelude.{◌≡◌, None};
+ghost use Rattle.streams.specs.Failures.{HasFailed};
 ghost use Rattle.book_core.specs.Transition.{IsTransition};
 ghost use Rattle.office.specs.Answers.{answer_text};
 ghost use Rattle.office.specs.Requests.{IsAskableUnread, response_by, response_of};
@@ -19,6 +20,7 @@ use crate::dated_rulings::rule_on_day;
 use crate::ended::{Answered, Ended};
 use crate::first_bytes::{LookedAt, look_at};
 use crate::notice::{Notice, layout_notice};
+use crate::printed_text::let_out;
 use crate::progress::{WatchedReader, clear_line};
 use book_core::{Ledger, LedgerFault, Sink, Source};
 use command_line::{BookRequest, DumpFile, Ruling};
@@ -26,7 +28,8 @@ use named_books::{Opened, Repository, RepositoryFault, Visit};
 use office::{Answer, Asked, ask, write_answer};
 use std::alloc::Global;
 use std::io;
-use std::io::{IsTerminal, Read, Write};
+use std::io::{IsTerminal, Read};
+use streams::Writer;
 
 /// A request to the office, with the reader of its dump.
 #[derive(Drop)]
@@ -127,11 +130,12 @@ pub(crate) fn ask_books<S: Repository, R: Read + Drop>(
 }
 
 /// Writes what came of a command, and says how it ends.
-pub(crate) fn tell<O: Write + Drop>(
+pub(crate) fn tell<O: Writer + Drop>(
     answered: Result<Answered, CommandFault>,
     output: O,
 ) -> (Ended, O)
-    ensures { Tells answered (O.contents output) (O.contents result.1) result.0 }
+    ensures { Tells answered (O.contents output) (O.contents result.1)
+        (∥ HasFailed O.may_answer result.1 ∥₁) result.0 }
 {
     match answered {
         Ok(answered) => tell_answered(answered, output),
@@ -140,8 +144,9 @@ pub(crate) fn tell<O: Write + Drop>(
 }
 
 /// The same, where the books were closed.
-fn tell_answered<O: Write + Drop>(answered: Answered, output: O) -> (Ended, O)
-    ensures { TellsAnswered answered (O.contents output) (O.contents result.1) result.0 }
+fn tell_answered<O: Writer + Drop>(answered: Answered, output: O) -> (Ended, O)
+    ensures { TellsAnswered answered (O.contents output) (O.contents result.1)
+        (∥ HasFailed O.may_answer result.1 ∥₁) result.0 }
 {
     let Answered {
         answer,
@@ -159,11 +164,12 @@ fn tell_answered<O: Write + Drop>(answered: Answered, output: O) -> (Ended, O)
     (ended, output)
 }
 
-fn tell_answer<O: Write + Drop>(
+fn tell_answer<O: Writer + Drop>(
     answer: Result<Answer, CommandFault>,
     output: O,
 ) -> (Result<(), CommandFault>, O)
-    ensures { IsTold answer (O.contents output) (O.contents result.1) result.0 }
+    ensures { IsTold answer (O.contents output) (O.contents result.1)
+        (∥ HasFailed O.may_answer result.1 ∥₁) result.0 }
 {
     match answer {
         Ok(answer) => {
@@ -185,9 +191,9 @@ fn end_by(answer: &Answer, written: Result<(), CommandFault>) -> Result<(), Comm
 }
 
 /// Writes an answer, so that it has left the program.
-pub(crate) fn print<O: Write + Drop>(answer: &Answer, output: O) -> (Result<(), CommandFault>, O)
-    ensures { IsPrinted (answer_text (response_of answer.now))
-        (O.contents output) (O.contents result.1) result.0 }
+pub(crate) fn print<O: Writer + Drop>(answer: &Answer, output: O) -> (Result<(), CommandFault>, O)
+    ensures { IsPrinted (answer_text (response_of answer.now)) (O.contents output)
+        (O.contents result.1) (∥ HasFailed O.may_answer result.1 ∥₁) result.0 }
 {
     let mut sink = Sink::new(output);
     let told = write_answer(answer, &mut sink);
@@ -195,9 +201,9 @@ pub(crate) fn print<O: Write + Drop>(answer: &Answer, output: O) -> (Result<(), 
     if let Err(fault) = told {
         return (Err(CommandFault::Report(fault)), output);
     }
-    match output.flush() {
+    match let_out(&mut output) {
         Ok(()) => (Ok(()), output),
-        Err(error) => (Err(CommandFault::from(error)), output),
+        Err(lost) => (Err(lost), output),
     }
 }
 

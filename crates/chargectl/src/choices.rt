@@ -2,6 +2,7 @@
 //! the books say, and then the output. The books are closed before their answers are written.
 
 ghost use Rattle.std.specs.Prelude.{◌≡◌, IfErr, IfOk};
+ghost use Rattle.streams.specs.Failures.{HasFailed};
 ghost use Rattle.office.specs.Choices as choices;
 ghost use Rattle.chargectl.specs.Choices as spec;
 ghost use Rattle.chargectl.specs.Choices.{AreAllOf, AreListed, ChoosesBy, ChoosesListed};
@@ -18,7 +19,8 @@ use office::{Answer, Chosen, answer_lines, choose_each};
 use program_output::{MAX_NAMES, NameList};
 use std::alloc::{AllocError, Global};
 use std::fs;
-use std::io::{BufReader, Read, Write};
+use std::io::{BufReader, Read};
+use streams::Writer;
 
 /// How many bytes of a list are read: one more than a list has that is as long as it may be, for each
 /// name its digits and the two bytes after them. So many have a line that is no name, or one too many.
@@ -57,7 +59,7 @@ pub(crate) struct ListAnswered {
 
 /// Chooses the records that a list names, one after the other up to the first refusal, and writes
 /// the answers.
-pub(crate) fn choose_listed<S: Repository, O: Write + Drop>(
+pub(crate) fn choose_listed<S: Repository, O: Writer + Drop>(
     rt: &HostRuntime,
     repository: &mut S,
     book: &str,
@@ -65,7 +67,7 @@ pub(crate) fn choose_listed<S: Repository, O: Write + Drop>(
     output: O,
 ) -> (Ended, O)
     ensures { ChoosesListed book.now (S.shelf repository.old) (S.shelf repository.new)
-        (O.contents output) (O.contents result.1) result.0 }
+        (O.contents output) (O.contents result.1) (∥ HasFailed O.may_answer result.1 ∥₁) result.0 }
 {
     let answered = ask_listed(rt, repository, book, file);
     tell_list(rt.alloc(), answered, output)
@@ -139,12 +141,13 @@ fn chosen_in(
 }
 
 /// Writes what came of a list, and says how the command ends.
-fn tell_list<O: Write + Drop>(
+fn tell_list<O: Writer + Drop>(
     alloc: Global,
     answered: Result<ListAnswered, CommandFault>,
     output: O,
 ) -> (Ended, O)
-    ensures { TellsList answered (O.contents output) (O.contents result.1) result.0 }
+    ensures { TellsList answered (O.contents output) (O.contents result.1)
+        (∥ HasFailed O.may_answer result.1 ∥₁) result.0 }
 {
     match answered {
         Ok(ListAnswered { chosen, has_log }) => {
@@ -161,12 +164,13 @@ fn tell_list<O: Write + Drop>(
     }
 }
 
-fn tell_choices<O: Write + Drop>(
+fn tell_choices<O: Writer + Drop>(
     alloc: Global,
     chosen: Result<Chosen, CommandFault>,
     output: O,
 ) -> (Result<(), CommandFault>, O)
-    ensures { TellsChoices chosen (O.contents output) (O.contents result.1) result.0 }
+    ensures { TellsChoices chosen (O.contents output) (O.contents result.1)
+        (∥ HasFailed O.may_answer result.1 ∥₁) result.0 }
 {
     match chosen {
         Ok(chosen) => tell_chosen(alloc, &chosen, output),
@@ -175,12 +179,13 @@ fn tell_choices<O: Write + Drop>(
 }
 
 /// Writes a line for each answer. A refusal is said also where they could not be written.
-fn tell_chosen<O: Write + Drop>(
+fn tell_chosen<O: Writer + Drop>(
     alloc: Global,
     chosen: &Chosen,
     output: O,
 ) -> (Result<(), CommandFault>, O)
-    ensures { EndsChoices chosen.now (O.contents output) (O.contents result.1) result.0 }
+    ensures { EndsChoices chosen.now (O.contents output) (O.contents result.1)
+        (∥ HasFailed O.may_answer result.1 ∥₁) result.0 }
 {
     let (written, output) = print_answers(alloc, &chosen.answers, output);
     (chosen_end(chosen, written), output)
@@ -197,13 +202,13 @@ fn chosen_end(chosen: &Chosen, written: Result<(), CommandFault>) -> Result<(), 
 }
 
 /// Writes a line for each answer, so that they have left the program.
-fn print_answers<O: Write + Drop>(
+fn print_answers<O: Writer + Drop>(
     alloc: Global,
     answers: &[Ruled],
     output: O,
 ) -> (Result<(), CommandFault>, O)
-    ensures { IsPrinted (choices.answer_lines answers.now) (O.contents output) (O.contents result.1)
-        result.0 }
+    ensures { IsPrinted (choices.answer_lines answers.now) (O.contents output)
+        (O.contents result.1) (∥ HasFailed O.may_answer result.1 ∥₁) result.0 }
 {
     match answer_lines(alloc, answers) {
         Ok(lines) => print(&Answer::Text(lines), output),

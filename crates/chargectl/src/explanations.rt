@@ -1,6 +1,7 @@
 //! What numbers and words mean, and what to do.
 
 ghost use Rattle.std.specs.Prelude.{◌≡◌, IfOk, string_bytes};
+ghost use Rattle.streams.specs.Failures.{HasFailed};
 ghost use Rattle.chargectl.specs.Faults.{IsPrinted};
 ghost use Rattle.chargectl.specs.Reading as spec;
 ghost use Rattle.chargectl.specs.Reading.{TellsOf};
@@ -11,17 +12,17 @@ use book_core::LedgerFault;
 use command_line::NumberKind;
 use program_output::{Explanation, FaultKind, WordKind, explained};
 use std::alloc::{AllocError, Global};
-use std::io::Write;
+use streams::Writer;
 
 /// Says what a number or a word means.
-pub(crate) fn explain<O: Write + Drop>(
+pub(crate) fn explain<O: Writer + Drop>(
     alloc: Global,
     kind: NumberKind,
     number: u16,
     output: &mut O,
 ) -> Result<(), CommandFault>
     ensures { TellsOf (spec.kind_of kind) number (O.contents output.old) (O.contents output.new)
-        result }
+        (∥ HasFailed O.may_answer output.new ∥₁) result }
 {
     let Some(Explanation { meaning, advice }) = explained(numbered(kind), number) else {
         return Err(CommandFault::Number);
@@ -30,14 +31,15 @@ pub(crate) fn explain<O: Write + Drop>(
 }
 
 /// Writes what a number means and what to do.
-fn tell_lines<O: Write + Drop>(
+fn tell_lines<O: Writer + Drop>(
     alloc: Global,
     meaning: &str,
     advice: &str,
     output: &mut O,
 ) -> Result<(), CommandFault>
     ensures { IsPrinted (spec.explanation_text meaning.now advice.now)
-        (O.contents output.old) (O.contents output.new) result }
+        (O.contents output.old) (O.contents output.new) (∥ HasFailed O.may_answer output.new ∥₁)
+        result }
 {
     match explanation_text(alloc, meaning, advice) {
         Ok(text) => print_text(text.as_str(), output),

@@ -1,8 +1,9 @@
 //! A text on its way to standard output.
 
-ghost use Rattle.std.specs.Prelude.{◌≡◌, OnErr, false, true};
+ghost use Rattle.std.specs.Prelude.{◌≡◌, IfErr, OnErr, false, true};
+ghost use Rattle.std.specs.Io.KnownBytes.{Keeps};
 ghost use Rattle.streams.specs.Failures.{HasFailed};
-ghost use Rattle.chargectl.specs.Faults.{IsPrinted};
+ghost use Rattle.chargectl.specs.Faults.{IsFileFault, IsPrinted};
 ghost use Rattle.chargectl.specs.ServedLines.{GainsBy};
 
 use crate::command_fault::CommandFault;
@@ -12,14 +13,16 @@ use streams::Writer;
 
 /// Writes a text, so that it has left the program. Where that fails the output has a prefix of it.
 pub(crate) fn print_text<O: Writer>(text: &str, output: &mut O) -> Result<(), CommandFault>
-    ensures { IsPrinted text.now (O.contents output.old) (O.contents output.new) result }
+    ensures { IsPrinted text.now (O.contents output.old) (O.contents output.new)
+        (∥ HasFailed O.may_answer output.new ∥₁) result }
 {
     print_bytes(text.as_bytes(), output)
 }
 
 /// Writes bytes, as a text is written.
 fn print_bytes<O: Writer>(bytes: &[u8], output: &mut O) -> Result<(), CommandFault>
-    ensures printed { IsPrinted bytes.now (O.contents output.old) (O.contents output.new) result }
+    ensures printed { IsPrinted bytes.now (O.contents output.old) (O.contents output.new)
+        (∥ HasFailed O.may_answer output.new ∥₁) result }
 
     // Only a write or a flush that failed is called a failure, and nothing was written after it.
     ensures failed { OnErr result (∥ HasFailed O.may_answer output.new ∥₁) }
@@ -29,6 +32,20 @@ fn print_bytes<O: Writer>(bytes: &[u8], output: &mut O) -> Result<(), CommandFau
     if written < size {
         return Err(CommandFault::Report(ReportFault::Write));
     }
+    match let_out(output) {
+        Ok(()) => Ok(()),
+        Err(fault) => Err(fault),
+    }
+}
+
+/// Sees to it that what was written has left the program.
+pub(crate) fn let_out<O: Writer>(output: &mut O) -> Result<(), CommandFault>
+    ensures kept { Keeps (O.contents output.old) (O.contents output.new) }
+    ensures fault { IfErr result IsFileFault }
+
+    // Only a flush that failed is called a failure.
+    ensures failed { OnErr result (∥ HasFailed O.may_answer output.new ∥₁) }
+{
     match output.let_go() {
         Ok(()) => Ok(()),
         Err(error) => Err(CommandFault::from(error)),

@@ -1,6 +1,7 @@
 //! What the program does with its words and streams.
 
 ghost use Rattle.std.specs.Prelude.{◌≡◌};
+ghost use Rattle.streams.specs.Failures.{HasFailed};
 ghost use Rattle.program_output.specs.Messages.{AreSaid};
 ghost use Rattle.chargectl.specs.Faults.{shelf_end};
 ghost use Rattle.chargectl.specs.Requests as requests;
@@ -25,7 +26,7 @@ use book_audit::AuditedRepository;
 use command_line::{ArgumentFault, BookRequest, Request, requested_by};
 use named_books::{RepositoryFault, WaitingRepository};
 use program_output::{PROGRAM, Status, out_of_memory, say};
-use std::io::{Read, Write};
+use std::io::Read;
 use streams::Writer;
 use tariff_rules::{MAX_RATE, Tariff};
 
@@ -35,7 +36,7 @@ const SERVICE_WAIT: u16 = 2;
 /// Does what the words ask for, the first of which is the program's name. Books are kept at a
 /// place. Why it was not done is said on standard error; where that is a terminal, a person is told
 /// more.
-pub fn command<S, I: Read + Drop, O: Write + Drop, E: Writer>(
+pub fn command<S, I: Read + Drop, O: Writer + Drop, E: Writer>(
     rt: &HostRuntime,
     repository: &mut S,
     words: &[String],
@@ -47,6 +48,7 @@ where
     S: AuditedRepository + WaitingRepository,
     ensures { CommandsBy S.shelf S.waits repository.old repository.new words.now
         (I.remaining input) (O.contents output) (O.contents result.1)
+        (∥ HasFailed O.may_answer result.1 ∥₁)
         (AreSaid E.contents E.may_answer) errors.old errors.new result.0 }
 {
     match requested_by(rt.alloc(), PROGRAM, words, MAX_RATE as u32) {
@@ -62,7 +64,7 @@ where
 }
 
 /// Does what is asked. Here alone it is set for how long openings wait.
-fn run<S: AuditedRepository + WaitingRepository, I: Read + Drop, O: Write + Drop>(
+fn run<S: AuditedRepository + WaitingRepository, I: Read + Drop, O: Writer + Drop>(
     rt: &HostRuntime,
     repository: &mut S,
     request: Request<'_>,
@@ -70,7 +72,7 @@ fn run<S: AuditedRepository + WaitingRepository, I: Read + Drop, O: Write + Drop
     mut output: O,
 ) -> (Ended, O)
     ensures { Runs S.shelf S.waits repository.old repository.new request.entry (I.remaining input)
-        (O.contents output) (O.contents result.1) result.0 }
+        (O.contents output) (O.contents result.1) (∥ HasFailed O.may_answer result.1 ∥₁) result.0 }
 {
     match request {
         Request::Trial {
@@ -108,7 +110,7 @@ fn wait_for(asked: &BookRequest<'_>, wait: u16) -> u16
 }
 
 /// Does what is asked of books.
-fn run_on_books<S: AuditedRepository, O: Write + Drop>(
+fn run_on_books<S: AuditedRepository, O: Writer + Drop>(
     rt: &HostRuntime,
     repository: &mut S,
     book: &str,
@@ -116,7 +118,7 @@ fn run_on_books<S: AuditedRepository, O: Write + Drop>(
     mut output: O,
 ) -> (Ended, O)
     ensures { Does S.shelf asked.entry book.now repository.old repository.new
-        (O.contents output) (O.contents result.1) result.0 }
+        (O.contents output) (O.contents result.1) (∥ HasFailed O.may_answer result.1 ∥₁) result.0 }
 {
     match asked {
         BookRequest::Init => (Ended::without_log(made(repository.make(book))), output),
@@ -159,12 +161,13 @@ fn made(answer: Result<(), RepositoryFault>) -> Result<(), CommandFault>
 }
 
 /// Says what was wrong with the words, or helps where help was asked for.
-fn refuse<O: Write + Drop, E: Writer>(
+fn refuse<O: Writer + Drop, E: Writer>(
     fault: &ArgumentFault,
     mut output: O,
     errors: &mut E,
 ) -> (Status, O)
     ensures { IsRefusedFor fault.now (O.contents output) (O.contents result.1)
+        (∥ HasFailed O.may_answer result.1 ∥₁)
         (λ lines. AreSaid E.contents E.may_answer lines errors.old errors.new) result.0 }
 {
     match fault {
@@ -178,8 +181,9 @@ fn refuse<O: Write + Drop, E: Writer>(
 }
 
 /// Writes help. Why it was not written is said as of any command.
-fn print_help<O: Write, E: Writer>(text: &str, output: &mut O, errors: &mut E) -> Status
+fn print_help<O: Writer, E: Writer>(text: &str, output: &mut O, errors: &mut E) -> Status
     ensures { Helps text.now (O.contents output.old) (O.contents output.new)
+        (∥ HasFailed O.may_answer output.new ∥₁)
         (λ lines. AreSaid E.contents E.may_answer lines errors.old errors.new) result }
 {
     let written = print_text(text, output);

@@ -1,6 +1,7 @@
 //! Books of an older form are brought over to the present one.
 
 ghost use Rattle.std.specs.Prelude.{◌≡◌, Ok};
+ghost use Rattle.streams.specs.Failures.{HasFailed};
 ghost use Rattle.chargectl.specs.Upgrades.{EndsUpgrade, UpgradesBy, upgrade_text};
 
 use crate::command_fault::CommandFault;
@@ -9,19 +10,20 @@ use crate::printed_text::print_text;
 use arrayvec::ArrayString;
 use itoa::Buffer;
 use named_books::{Opened, Repository, RepositoryFault, Upgraded};
-use std::io::Write;
+use streams::Writer;
 
 /// Room for the line of books that were brought over.
 type Line = ArrayString<32>;
 
 /// Brings the books of a name over, and says whether they had the present form before.
-pub(crate) fn upgrade<S: Repository, O: Write + Drop>(
+pub(crate) fn upgrade<S: Repository, O: Writer + Drop>(
     repository: &mut S,
     book: &str,
     output: &mut O,
 ) -> Result<Ended, CommandFault>
     ensures { UpgradesBy book.now (S.shelf repository.old) (S.shelf repository.new)
-        (O.contents output.old) (O.contents output.new) result }
+        (O.contents output.old) (O.contents output.new) (∥ HasFailed O.may_answer output.new ∥₁)
+        result }
 {
     repository.expect(book)?;
     let Opened { answer, has_log } = repository.upgrade(book);
@@ -34,11 +36,12 @@ pub(crate) fn upgrade<S: Repository, O: Write + Drop>(
 }
 
 /// Says what came of it.
-fn show_upgraded<O: Write + Drop>(
+fn show_upgraded<O: Writer + Drop>(
     upgraded: Result<Upgraded, RepositoryFault>,
     output: &mut O,
 ) -> Result<(), CommandFault>
-    ensures { EndsUpgrade upgraded (O.contents output.old) (O.contents output.new) result }
+    ensures { EndsUpgrade upgraded (O.contents output.old) (O.contents output.new)
+        (∥ HasFailed O.may_answer output.new ∥₁) result }
 {
     match upgraded {
         Ok(upgraded) => tell_upgraded(upgraded, output),
@@ -46,8 +49,9 @@ fn show_upgraded<O: Write + Drop>(
     }
 }
 
-fn tell_upgraded<O: Write>(upgraded: Upgraded, output: &mut O) -> Result<(), CommandFault>
-    ensures { EndsUpgrade (Ok upgraded) (O.contents output.old) (O.contents output.new) result }
+fn tell_upgraded<O: Writer>(upgraded: Upgraded, output: &mut O) -> Result<(), CommandFault>
+    ensures { EndsUpgrade (Ok upgraded) (O.contents output.old) (O.contents output.new)
+        (∥ HasFailed O.may_answer output.new ∥₁) result }
 {
     match upgraded {
         Upgraded::To(form) => {

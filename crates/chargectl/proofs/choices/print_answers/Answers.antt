@@ -1,7 +1,6 @@
 use Rattle.std.proofs.Common.{inl, refl}
 use Rattle.std.proofs.KnownBytes.{Appends-nil}
-use Rattle.std.specs.declared.io.ErrorKind.TheVariants.{OutOfMemory}
 use Rattle.chargectl.proofs.choices.print_answers.Goals as goal
 
 pub returns-in-Err : goal.returns-in-Err
-returns-in-Err g c = (inl (OutOfMemory, refl), 0, Appends-nil _)
+returns-in-Err g c = (inl refl, 0, Appends-nil _)
