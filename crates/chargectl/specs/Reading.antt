@@ -1,6 +1,6 @@
 -- What the commands do that ask no books: trials, checks and explanations.
-use Rattle.std.specs.Prelude.{◌≡◌, ◌↔◌, ◌⊎◌, Bool, ℕ, List, ◌++◌, codes, Option, Some, None, Result}
-use Rattle.std.specs.Prelude.{Ok, Err, IsSome, IfSome}
+use Rattle.std.specs.Prelude.{◌≡◌, ◌↔◌, ◌⊎◌, Bool, true, ℕ, List, ◌++◌, codes, Option, Some, None}
+use Rattle.std.specs.Prelude.{Result, Ok, Err, IsSome, IfSome}
 use Rattle.std.specs.Io.KnownBytes.{Keeps}
 use Rattle.std.specs.declared.io.ErrorKind.{ErrorKind}
 use Rattle.smf_frames.specs.declared.dump.Layout.{Layout}
@@ -14,6 +14,7 @@ use Rattle.book_import.specs.ReadLimits.{cut_by, most_reads}
 use Rattle.book_import.specs.declared.receipt.Receipt.{Receipt}
 use Rattle.book_import.specs.declared.receipt.Stop.{Stop}
 use Rattle.book_reports.specs.declared.fault.ReportFault.{ReportFault}
+use Rattle.book_reports.specs.Writing.{is_write_fault}
 use Rattle.command_line.specs.declared.request.NumberKind.{NumberKind}
 use Rattle.command_line.specs.declared.request.NumberKind.TheVariants as number
 use Rattle.program_output.specs.declared.explanations.Explanation.{Explanation}
@@ -41,8 +42,9 @@ check_end looked (Ok stop) = dump_end looked stop
 check_end looked (Err refused) = without_log (Err (fault.Report refused))
 
 -- A trial of standard input, with as many reads as an import has, once its first bytes were looked at.
-pub record Tries (layout : Layout) (terms : Terms) (had held holds : Option (List ℕ)) (ended : Ended)
-    : Type 0 where
+-- That a write failed is told only where the output has failed.
+pub record Tries (layout : Layout) (terms : Terms) (had held holds : Option (List ℕ)) (Failed : Type 0)
+    (ended : Ended) : Type 0 where
   pub looked : Bool
   pub look : IsLookedAt layout had looked
   pub input : Input
@@ -50,12 +52,15 @@ pub record Tries (layout : Layout) (terms : Terms) (had held holds : Option (Lis
   pub begun : Keeps had input.old.left
   pub trial : IsTrial terms (reading layout (cut_by input.new) most_reads input) held holds answer
   pub ends : ended ≡ trial_end looked answer
+  pub failed : is_write_fault answer ≡ true → Failed
 
 -- none is made where a rate is outside its limits
 abbrev pub TriesBy : Layout → Option Terms → Option (List ℕ) → Option (List ℕ) → Option (List ℕ)
-    → Ended → Type 0
-TriesBy layout (Some terms) had held holds ended = Tries layout terms had held holds ended
-TriesBy layout None had held holds ended = (holds ≡ held) × (ended ≡ without_log (Err fault.Usage))
+    → Type 0 → Ended → Type 0
+TriesBy layout (Some terms) had held holds Failed ended =
+    Tries layout terms had held holds Failed ended
+TriesBy layout None had held holds Failed ended =
+    (holds ≡ held) × (ended ≡ without_log (Err fault.Usage))
 
 -- one tariff with these rates for all records, if they are within their limits
 abbrev pub IsFlatTariff : ℕ → ℕ → ℕ → Option Terms → Type 0
@@ -64,10 +69,10 @@ IsFlatTariff cpu excp fee tariff = (IsSome tariff ↔ AreRates (rates_of cpu exc
 
 -- a trial at these rates
 pub record TriesAt (layout : Layout) (cpu excp fee : ℕ) (had held holds : Option (List ℕ))
-    (ended : Ended) : Type 0 where
+    (Failed : Type 0) (ended : Ended) : Type 0 where
   pub tariff : Option Terms
   pub flat : IsFlatTariff cpu excp fee tariff
-  pub tries : TriesBy layout tariff had held holds ended
+  pub tries : TriesBy layout tariff had held holds Failed ended
 
 -- the tariff of a text, in force on every day, if it is one
 abbrev pub lasting : Result Terms TariffFault → Result Terms CommandFault
@@ -82,19 +87,23 @@ IsTariffRead (Err why) = IsTextFault why ⊎ ((text : List ℕ) × (lasting (ter
 
 -- none is made where there is no tariff
 abbrev pub TriesWith : Layout → Result Terms CommandFault → Option (List ℕ) → Option (List ℕ)
-    → Option (List ℕ) → Ended → Type 0
-TriesWith layout (Ok terms) had held holds ended = Tries layout terms had held holds ended
-TriesWith layout (Err why) had held holds ended = (holds ≡ held) × (ended ≡ without_log (Err why))
+    → Option (List ℕ) → Type 0 → Ended → Type 0
+TriesWith layout (Ok terms) had held holds Failed ended =
+    Tries layout terms had held holds Failed ended
+TriesWith layout (Err why) had held holds Failed ended =
+    (holds ≡ held) × (ended ≡ without_log (Err why))
 
 -- a trial under the tariff of a file
-pub record TriesUnder (layout : Layout) (had held holds : Option (List ℕ)) (ended : Ended) : Type 0
-  where
-    pub tariff : Result Terms CommandFault
-    pub read : IsTariffRead tariff
-    pub tries : TriesWith layout tariff had held holds ended
+pub record TriesUnder (layout : Layout) (had held holds : Option (List ℕ)) (Failed : Type 0)
+    (ended : Ended) : Type 0 where
+  pub tariff : Result Terms CommandFault
+  pub read : IsTariffRead tariff
+  pub tries : TriesWith layout tariff had held holds Failed ended
 
 -- A check of what a reader had, with as many reads as an import has, once its first bytes were looked at.
-pub record Lists (layout : Layout) (had held holds : Option (List ℕ)) (ended : Ended) : Type 0 where
+-- That a write failed is told as of a trial.
+pub record Lists (layout : Layout) (had held holds : Option (List ℕ)) (Failed : Type 0) (ended : Ended)
+    : Type 0 where
   pub looked : Bool
   pub look : IsLookedAt layout had looked
   pub input : Input
@@ -102,6 +111,7 @@ pub record Lists (layout : Layout) (had held holds : Option (List ℕ)) (ended :
   pub begun : Keeps had input.old.left
   pub list : IsCheck (reading layout (cut_by input.new) most_reads input) held holds answer
   pub ends : ended ≡ check_end looked answer
+  pub failed : is_write_fault answer ≡ true → Failed
 
 -- the file was not opened, and nothing was written
 pub record IsUnopened (held holds : Option (List ℕ)) (ended : Ended) : Type 0 where
@@ -110,8 +120,9 @@ pub record IsUnopened (held holds : Option (List ℕ)) (ended : Ended) : Type 0 
   pub ends : ended ≡ without_log (Err (io_fault why))
 
 -- A check of a file. No contract says what the file holds.
-abbrev pub Checks : Layout → Option (List ℕ) → Option (List ℕ) → Ended → Type 0
-Checks layout held holds ended = Lists layout None held holds ended ⊎ IsUnopened held holds ended
+abbrev pub Checks : Layout → Option (List ℕ) → Option (List ℕ) → Type 0 → Ended → Type 0
+Checks layout held holds Failed ended =
+    Lists layout None held holds Failed ended ⊎ IsUnopened held holds ended
 
 -- what a number stands for, by its word, or a word that has none
 abbrev pub kind_of : NumberKind → FaultKind

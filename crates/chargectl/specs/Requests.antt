@@ -136,11 +136,11 @@ pub record WaitsAndDoes {S : Type 0} (shelf : S → Shelf) (waits : S → ℕ �
 abbrev pub Runs : {S : Type 0} → (S → Shelf) → (S → ℕ → Type 0) → S → S → Request
     → Option (List ℕ) → Option (List ℕ) → Option (List ℕ) → Type 0 → Ended → Type 0
 Runs shelf waits old new (request.Trial layout cpu excp fee) had held holds Failed ended =
-    (new ≡ old) × TriesAt layout cpu excp fee had held holds ended
+    (new ≡ old) × TriesAt layout cpu excp fee had held holds Failed ended
 Runs shelf waits old new (request.TrialUnder layout file) had held holds Failed ended =
-    (new ≡ old) × TriesUnder layout had held holds ended
+    (new ≡ old) × TriesUnder layout had held holds Failed ended
 Runs shelf waits old new (request.Check dump) had held holds Failed ended =
-    (new ≡ old) × Checks dump.layout held holds ended
+    (new ≡ old) × Checks dump.layout held holds Failed ended
 Runs shelf waits old new (request.Explain kind number) had held holds Failed ended =
     (new ≡ old) × EndsAt (TellsOf (kind_of kind) number held holds Failed) ended
 Runs shelf waits old new (request.OfBooks name wait asked) had held holds Failed ended =

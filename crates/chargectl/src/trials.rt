@@ -1,7 +1,10 @@
 //! Trials: a dump from standard input is priced in new books, which are not kept.
 
-ghost use Rattle.std.specs.Prelude.{◌≡◌, IfErr, IfOk, Ok};
+ghost use Rattle.std.specs.Prelude.{◌≡◌, IfErr, IfOk, Ok, true};
+ghost use Rattle.streams.specs.Failures.{HasFailed};
+ghost use Rattle.streams.specs.Sinks.{has_failed, writer_of};
 ghost use Rattle.tariff_rules.specs.TariffFile.{terms_in};
+ghost use Rattle.book_reports.specs.Writing.{is_write_fault};
 ghost use Rattle.chargectl.specs.Faults.{IsFaultIn};
 ghost use Rattle.chargectl.specs.Reading.{IsTariffRead, TriesBy, TriesUnder, lasting, trial_end};
 
@@ -15,11 +18,12 @@ use book_reports::ReportFault;
 use program_output::trial;
 use smf_frames::Layout;
 use std::alloc::Global;
-use std::io::{Read, Write};
+use std::io::Read;
+use streams::Writer;
 use tariff_rules::{Tariff, TariffFault};
 
 /// Prices the records of the input under one tariff. None means a rate outside its limits.
-pub(crate) fn run_trial<I: Read + Drop, O: Write + Drop>(
+pub(crate) fn run_trial<I: Read + Drop, O: Writer + Drop>(
     alloc: Global,
     layout: Layout,
     tariff: Option<Tariff>,
@@ -27,7 +31,7 @@ pub(crate) fn run_trial<I: Read + Drop, O: Write + Drop>(
     output: O,
 ) -> (Ended, O)
     ensures { TriesBy layout tariff (I.remaining input) (O.contents output) (O.contents result.1)
-        result.0 }
+        (∥ HasFailed O.may_answer result.1 ∥₁) result.0 }
 {
     let Some(tariff) = tariff else {
         return (Ended::without_log(Err(CommandFault::Usage)), output);
@@ -36,11 +40,25 @@ pub(crate) fn run_trial<I: Read + Drop, O: Write + Drop>(
     let mut source = Source::new(reader);
     let mut sink = Sink::new(output);
     let told = trial(alloc, &mut source, layout, MAX_READS, tariff, &mut sink);
+    end_trial(is_misread, told, sink)
+}
+
+/// How a trial ends that came to this, and the output as its texts left it.
+fn end_trial<O: Writer + Drop>(
+    is_misread: bool,
+    told: Result<Receipt, ReportFault>,
+    sink: Sink<O>,
+) -> (Ended, O)
+    requires { has_failed sink ≡ is_write_fault told }
+    ensures ended { result.0 ≡ trial_end is_misread told }
+    ensures writer { result.1 ≡ writer_of sink }
+    ensures failed { is_write_fault told ≡ true → ∥ HasFailed O.may_answer result.1 ∥₁ }
+{
     (trial_ended(is_misread, told), sink.into_inner())
 }
 
 /// Prices the records of the input under the tariff of a file, whatever its first day is.
-pub(crate) fn run_trial_under<I: Read + Drop, O: Write + Drop>(
+pub(crate) fn run_trial_under<I: Read + Drop, O: Writer + Drop>(
     rt: &HostRuntime,
     layout: Layout,
     file: &str,
@@ -48,7 +66,7 @@ pub(crate) fn run_trial_under<I: Read + Drop, O: Write + Drop>(
     output: O,
 ) -> (Ended, O)
     ensures { TriesUnder layout (I.remaining input) (O.contents output) (O.contents result.1)
-        result.0 }
+        (∥ HasFailed O.may_answer result.1 ∥₁) result.0 }
 {
     match read_tariff(rt, file) {
         Ok(tariff) => run_trial(rt.alloc(), layout, Some(tariff), input, output),
