@@ -326,7 +326,7 @@ module _ (history : List Event) (name : List ℕ) (old new : Shelf)
 
   -- a list was written, or why not
   list_written : (list : StreamedList) (book : List ℕ) (has holds : Option (List ℕ)) (ended : Ended)
-      → SettlesBy (ListsBy list book old new has holds) ended
+      → SettlesBy (ListsBy list book old new has holds (Unit {0})) ended
       → Step old.naming history name old new
       (Where book name (ListsOfHistory list old.naming history (Refuses book) has holds ended))
   list_written list book has holds ended does =
@@ -362,7 +362,8 @@ module _ (history : List Event) (name : List ℕ) (old new : Shelf)
           step_as (λ made is. (λ _. (follow book fault refused, same), is))
           (none_on old.naming history name old new answered held book none)
 
-      by_came : (came : Result Ended CommandFault) → ListsBy list book old new has holds came
+      by_came : (came : Result Ended CommandFault)
+          → ListsBy list book old new has holds (Unit {0}) came
           → Step old.naming history name old new
           (λ made. (book ≡ name
           → ListsHistoryBy list old.naming history (Refuses book) has holds came) × (made ≡ []))
@@ -387,7 +388,7 @@ module _ (history : List Event) (name : List ℕ) (old new : Shelf)
 
   -- one that words ask for
   list_asked : (asked : Option StreamedList) (book : List ℕ) (has holds : Option (List ℕ))
-      (ended : Ended) → SettlesBy (ListsAsked asked book old new has holds) ended
+      (ended : Ended) → SettlesBy (ListsAsked asked book old new has holds (Unit {0})) ended
       → Step old.naming history name old new
       (Where book name
       (ListsAskedOfHistory asked old.naming history (Refuses book) has holds ended))

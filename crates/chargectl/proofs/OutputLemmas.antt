@@ -1,14 +1,22 @@
 -- What is told of the output: that it failed, where a write or a flush of it has.
-use Rattle.std.proofs.Common.{◌≡◌, true, ℕ, List, [], Option, Result, Ok, Err, inr, refl, subst, take}
+use Rattle.std.proofs.Common.{◌≡◌, ◌∙◌, Bool, false, true, ℕ, List, [], Option, Result, Ok, Err}
+use Rattle.std.proofs.Common.{ap, inl, inr, refl, subst, sym, take}
+use Rattle.std.specs.Prelude.{IsErr}
 use Rattle.std.specs.declared.io.Error.{Error}
 use Rattle.std.specs.Io.KnownBytes.{Appends}
 use Rattle.streams.specs.Failures.{FailsToWrite, HasFailed}
 use Rattle.streams.specs.InputOutput.{Output}
 use Rattle.book_reports.specs.declared.fault.ReportFault.{ReportFault}
 use Rattle.book_reports.specs.declared.fault.ReportFault.TheVariants as report
+use Rattle.named_books.specs.declared.repository.RepositoryFault.{RepositoryFault}
+use Rattle.named_books.specs.declared.repository.RepositoryFault.TheVariants.{Unseen}
+use Rattle.named_books.specs.Shelves.{ComesBy}
 use Rattle.office.specs.Answers.{WritesText}
+use Rattle.chargectl.specs.declared.command_fault.CommandFault.{CommandFault}
 use Rattle.chargectl.specs.declared.command_fault.CommandFault.TheVariants as fault
+use Rattle.chargectl.specs.declared.streamed_lists.StreamedList.{StreamedList}
 use Rattle.chargectl.specs.Faults.{IsPrinted}
+use Rattle.chargectl.specs.StreamedLists.{ListsOpen, WritesSomeOf, list_end}
 
 module _ {O : Type 0} (may_answer : O → List ℕ → Result ℕ Error → O → Type 0) (old new : O) where
   -- by a write
@@ -35,3 +43,33 @@ not_written text output report.Write held holds Failed it old new lost =
           (subst (λ holds. Appends output.old.holds holds (take cut.0 text)) new cut.2),
     )
 not_written text output why held holds Failed it old new lost = absurd it.written
+
+-- ---- a list that was written while the books were open
+
+module _ (list : StreamedList) (held holds : Option (List ℕ)) (had has : Bool) (Same : Type 0) where
+  -- so much of it
+  pub some_open : (told : Result (Result (Unit {0}) ReportFault) RepositoryFault)
+      → ComesBy (ListsOpen list held holds had has) Same told
+      → ComesBy (WritesSomeOf list held holds) Same told
+  some_open (Ok written) came = came.some
+  some_open (Err Unseen) (inl came) = inl (came.0, came.1.some)
+  some_open (Err Unseen) (inr same) = inr same
+  some_open (Err fault) same = same
+
+  -- the sink is marked where a write of it failed
+  pub open_failed : (told : Result (Result (Unit {0}) ReportFault) RepositoryFault)
+      → ComesBy (ListsOpen list held holds had has) Same told → had ≡ false
+      → told ≡ Ok (Err report.Write) → has ≡ true
+  open_failed told came none lost =
+      let it : ListsOpen list held holds had has (Err report.Write) =
+      subst (λ told. ComesBy (ListsOpen list held holds had has) Same told) lost came in
+      it.failed none
+
+-- and so the output has failed, which is not flushed after that
+pub list_failed : {O : Type 0} (Failed : O → Type 0) (before after : O)
+    (told : Result (Result (Unit {0}) ReportFault) RepositoryFault)
+    (listed : Result (Unit {0}) CommandFault) → listed ≡ list_end told
+    → (IsErr listed → after ≡ before) → told ≡ Ok (Err report.Write) → Failed before → Failed after
+list_failed Failed before after told listed is same lost failed =
+    let bad : IsErr listed = subst (λ came. IsErr came) (sym (is ∙ ap list_end lost)) refl in
+    subst Failed (sym (same bad)) failed

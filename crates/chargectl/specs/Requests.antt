@@ -99,7 +99,7 @@ Does shelf (book.BackUp copy quiet) name old new held holds Failed ended =
 Does shelf (book.Serve port requests) name old new held holds Failed ended =
     SettlesBy (ServesBy shelf requests name old new held holds) ended
 Does shelf (book.List asked) name old new held holds Failed ended =
-    SettlesBy (ListsAsked (list_of asked) name (shelf old) (shelf new) held holds) ended
+    SettlesBy (ListsAsked (list_of asked) name (shelf old) (shelf new) held holds Failed) ended
 Does shelf (book.ChooseListed file) name old new held holds Failed ended =
     ChoosesListed name (shelf old) (shelf new) held holds Failed ended
 Does shelf (book.DryRun ruling) name old new held holds Failed ended =

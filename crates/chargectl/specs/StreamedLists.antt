@@ -1,19 +1,21 @@
 -- Lists that are written while the books are open: the details of a period, the rulings and the
 -- disputes. They are never held whole.
-use Rattle.std.specs.Prelude.{◌≡◌, false, ℕ, List, ◌++◌, Option, Some, None, Result}
-use Rattle.std.specs.Prelude.{Ok, Err, IfErr, OnOk}
+use Rattle.std.specs.Prelude.{◌≡◌, Bool, false, ℕ, List, ◌++◌, Option, Some, None, Result}
+use Rattle.std.specs.Prelude.{Ok, Err, IfErr, OnErr, OnOk}
 use Rattle.std.proofs.Common.{sym, subst}
 use Rattle.std.specs.Option.{option_map}
 use Rattle.book_model.specs.declared.fault.LedgerFault.{LedgerFault}
 use Rattle.book_model.specs.Words.{Book, IsMadeByCalls, Naming}
 use Rattle.book_core.specs.Follow.{MakesAnswered}
 use Rattle.book_reports.specs.declared.fault.ReportFault.{ReportFault}
+use Rattle.book_reports.specs.declared.fault.ReportFault.TheVariants.{Write}
 use Rattle.book_reports.specs.declared.what_if.StatementForm.{StatementForm}
 use Rattle.book_reports.specs.BookTexts.{ruling_text}
 use Rattle.book_reports.specs.StreamedAnswers.{WritesAnswerUntil, answered_by}
 use Rattle.book_reports.specs.StreamedDetails.{WritesSomeDetails, detail_answer}
 use Rattle.book_reports.specs.StreamedDisputes.{WritesSomeDisputes, dispute_report}
 use Rattle.book_reports.specs.StreamedRulings.{WritesSomeRulings}
+use Rattle.book_reports.specs.Writing.{is_write_fault}
 use Rattle.command_line.specs.declared.request.ListWords.{ListWords}
 use Rattle.command_line.specs.declared.request.ListWords.TheVariants as worded
 use Rattle.command_line.specs.declared.request.PeriodWords.{PeriodWords}
@@ -39,6 +41,12 @@ abbrev pub WritesSomeOf : StreamedList → Option (List ℕ) → Option (List �
 WritesSomeOf (list.Details report) = WritesSomeDetails report
 WritesSomeOf list.Rulings = WritesSomeRulings
 WritesSomeOf (list.Disputes form) = WritesSomeDisputes form
+
+-- so much was written while the books were open, and the sink is marked where a write of it failed
+pub record ListsOpen (list : StreamedList) (held holds : Option (List ℕ)) (had has : Bool)
+    (told : Result (Unit {0}) ReportFault) : Type 0 where
+  pub some : WritesSomeOf list held holds told
+  pub failed : had ≡ false → has ≡ is_write_fault told
 
 -- details in this form, of one centre or of the whole office
 abbrev pub details_for : StatementForm → ℕ → Option (List ℕ) → StreamedList
@@ -70,29 +78,34 @@ list_end (Ok (Err refused)) = Err (fault.Report refused)
 list_end (Err shelf) = Err (shelf_fault shelf)
 
 -- A list of the books was written while they were open, and then the output was flushed, where all
--- went well so far; that can fail only as an output does.
+-- went well so far; that can fail only as an output does. That a write failed, or the flush, is told
+-- only where the output has failed.
 pub record Lists (list : StreamedList) (book : List ℕ) (old new : Shelf)
-    (held holds : Option (List ℕ)) (ended : Ended) : Type 0 where
+    (held holds : Option (List ℕ)) (Failed : Type 0) (ended : Ended) : Type 0 where
   pub told : Result (Result (Unit {0}) ReportFault) RepositoryFault
   pub flushed : Result (Unit {0}) CommandFault
   pub done : IsOpened (WritesAnswerUntil (list_answer list) old.naming held holds) book old new told
   pub there : IsThere book old new told
   pub some : ComesBy (WritesSomeOf list held holds) (holds ≡ held) told
+  pub lost : told ≡ Ok (Err Write) → Failed
   pub ends : ended.came ≡ first_fault (list_end told) flushed
   pub output : OnOk (list_end told) (IfErr flushed IsFileFault)
+  pub failed : OnOk (list_end told) (OnErr flushed Failed)
   pub log : new.has_log book ended.has_log
   pub change : ended.is_change ≡ false
   pub notice : ended.notice ≡ None
 
 -- or the place refused them before
 abbrev pub ListsBy : StreamedList → List ℕ → Shelf → Shelf → Option (List ℕ) → Option (List ℕ)
-    → Result Ended CommandFault → Type 0
-ListsBy list book old new held holds (Ok ended) = Lists list book old new held holds ended
-ListsBy list book old new held holds (Err why) = IsRefusedBy book old new held holds why
+    → Type 0 → Result Ended CommandFault → Type 0
+ListsBy list book old new held holds Failed (Ok ended) =
+    Lists list book old new held holds Failed ended
+ListsBy list book old new held holds Failed (Err why) = IsRefusedBy book old new held holds why
 
 -- A list that words ask for; or a word is not what it has to be, and the books are not looked at.
 abbrev pub ListsAsked : Option StreamedList → List ℕ → Shelf → Shelf → Option (List ℕ)
-    → Option (List ℕ) → Result Ended CommandFault → Type 0
-ListsAsked (Some list) book old new held holds came = ListsBy list book old new held holds came
-ListsAsked None book old new held holds came =
+    → Option (List ℕ) → Type 0 → Result Ended CommandFault → Type 0
+ListsAsked (Some list) book old new held holds Failed came =
+    ListsBy list book old new held holds Failed came
+ListsAsked None book old new held holds Failed came =
     (came ≡ Err fault.Argument) × IsUntouched book old new × (holds ≡ held)

@@ -1,19 +1,22 @@
 //! Lists that are written while the books are open: the details of a period, the rulings and the
 //! disputes. With a million records or choices a list has 90 MB or more, and is never held whole.
 
-ghost use Rattle.std.specs.Prelude.{◌≡◌, Err, IfErr, IsErr, OnOk};
+ghost use Rattle.std.specs.Prelude.{◌≡◌, Err, IfErr, IsErr, OnErr, OnOk, false};
 ghost use Rattle.std.specs.Io.KnownBytes.{Keeps};
-ghost use Rattle.streams.specs.Sinks.{writer_of};
+ghost use Rattle.streams.specs.Failures.{HasFailed};
+ghost use Rattle.streams.specs.Sinks.{has_failed, writer_of};
 ghost use Rattle.book_core.specs.Calls.{Reopens};
 ghost use Rattle.book_core.specs.Transition.{IsTransition};
 ghost use Rattle.book_reports.specs.StreamedAnswers.{WritesAnswerUntil};
 ghost use Rattle.book_reports.specs.StreamedRulings.{refusal_in};
+ghost use Rattle.book_reports.specs.Writing.{is_write_fault};
 ghost use Rattle.chargectl.specs.Commands.{IsFileFault, first_fault};
 ghost use Rattle.chargectl.specs.StreamedLists as spec;
 ghost use Rattle.chargectl.specs.StreamedLists.{ListsAsked, ListsBy, WritesSomeOf, list_answer};
 
 use crate::command_fault::CommandFault;
 use crate::ended::Ended;
+use crate::printed_text::let_out;
 use crate::report_commands::asked_centre;
 use book_core::{Ledger, Sink};
 use book_reports::{
@@ -23,7 +26,6 @@ use command_line::{ListWords, PeriodWords};
 use named_books::{Opened, Repository, RepositoryFault, Visit};
 use office::StatementForm;
 use std::alloc::Global;
-use std::io::Write;
 use streams::Writer;
 
 /// A list that is written so.
@@ -79,6 +81,7 @@ fn write_of<L: Ledger, O: Writer + Drop>(
         (L.seen books.old).must_reopen (L.seen books.new).must_reopen }
     ensures some { WritesSomeOf list
         (O.contents (writer_of sink.old)) (O.contents (writer_of sink.new)) result }
+    ensures failed { has_failed sink.old ≡ false → has_failed sink.new ≡ is_write_fault result }
 {
     match list {
         StreamedList::Details(report) => write_details(alloc, books, report, sink),
@@ -91,14 +94,17 @@ impl<O: Writer + Drop> Visit for Listing<O> {
     ghost use Rattle.streams.specs.Sinks.{writer_of};
     ghost use Rattle.book_reports.specs.StreamedAnswers.{WritesAnswerUntil};
     ghost use Rattle.chargectl.specs.StreamedLists.{WritesSomeOf, list_answer, listing_answered};
+    ghost use Rattle.chargectl.specs.StreamedLists.{ListsOpen};
+    ghost use Rattle.streams.specs.Sinks.{has_failed};
 
     type Answer = Result<(), ReportFault>;
 
     ghost work = { λ naming it after told. WritesAnswerUntil (list_answer it.list) naming
         (O.contents (writer_of it.sink)) (O.contents (writer_of after.sink)) told };
 
-    ghost comes = { λ it after told. WritesSomeOf it.list
-        (O.contents (writer_of it.sink)) (O.contents (writer_of after.sink)) told };
+    ghost comes = { λ it after told. ListsOpen it.list
+        (O.contents (writer_of it.sink)) (O.contents (writer_of after.sink))
+        (has_failed it.sink) (has_failed after.sink) told };
 
     ghost answered = { λ naming it after told. listing_answered (list_answer it.list) naming
         (O.contents (writer_of it.sink)) (O.contents (writer_of after.sink)) told };
@@ -117,7 +123,7 @@ fn write_list<S: Repository, O: Writer + Drop>(
     output: O,
 ) -> (Result<Ended, CommandFault>, O)
     ensures { ListsBy list book.now (S.shelf repository.old) (S.shelf repository.new)
-        (O.contents output) (O.contents result.1) result.0 }
+        (O.contents output) (O.contents result.1) (∥ HasFailed O.may_answer result.1 ∥₁) result.0 }
 {
     if let Err(fault) = repository.expect(book) {
         return (Err(CommandFault::from(fault)), output);
@@ -149,7 +155,7 @@ pub(crate) fn list<S: Repository, O: Writer + Drop>(
 ) -> (Result<Ended, CommandFault>, O)
     ensures { ListsAsked (spec.list_of words.entry) book.now
         (S.shelf repository.old) (S.shelf repository.new)
-        (O.contents output) (O.contents result.1) result.0 }
+        (O.contents output) (O.contents result.1) (∥ HasFailed O.may_answer result.1 ∥₁) result.0 }
 {
     match list_of(words) {
         Some(list) => write_list(rt, repository, book, list, output),
@@ -169,15 +175,18 @@ fn list_end(told: Result<Result<(), ReportFault>, RepositoryFault>) -> Result<()
 }
 
 /// Sees to it that what was written has left the program, where all went well so far.
-fn flushed<O: Write>(came: Result<(), CommandFault>, output: &mut O) -> Result<(), CommandFault>
+fn flushed<O: Writer>(came: Result<(), CommandFault>, output: &mut O) -> Result<(), CommandFault>
     // An earlier fault comes first.
     ensures ends { result ≡ first_fault came result }
 
     // Only the output can fail after that.
     ensures output { OnOk came (IfErr result IsFileFault) }
+    ensures failed { OnOk came (OnErr result (∥ HasFailed O.may_answer output.new ∥₁)) }
     ensures kept { Keeps (O.contents output.old) (O.contents output.new) }
     ensures same { IsErr came → output.new ≡ output.old }
 {
-    came?;
-    Ok(output.flush()?)
+    match came {
+        Ok(()) => let_out(output),
+        Err(fault) => Err(fault),
+    }
 }
