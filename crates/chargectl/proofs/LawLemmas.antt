@@ -488,7 +488,8 @@ module _ {S : Type 0} (shelf : S → Shelf) (history : List Event) (name : List 
     → Refuses book fault) where
   -- connections in turn, or none
   serves_on : (book : List ℕ) (requests : ℕ) (has holds : Option (List ℕ))
-      (came : Result Ended CommandFault) → ServesBy shelf requests book before after has holds came
+      (came : Result Ended CommandFault)
+      → ServesBy shelf requests book before after has holds (Unit {0}) came
       → Step (shelf before).naming history name (shelf before) (shelf after)
       (Where book name (ServesOfHistory (shelf before).naming history))
   serves_on book requests has holds (Ok ended) it =

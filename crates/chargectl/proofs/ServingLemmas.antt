@@ -1,7 +1,7 @@
 -- How connections are served.
-use Rattle.std.proofs.Common.{◌≡◌, Bool, true, false, List, [], ◌∷◌, ◌++◌, ℕ, ◌+◌, refl, sym, subst}
+use Rattle.std.proofs.Common.{◌≡◌, ◌∙◌, Bool, true, false, List, [], ◌∷◌, ◌++◌, ℕ, ◌+◌, refl, sym}
 use Rattle.std.proofs.Common.{Option, Some, None, Result, Ok, Err, length}
-use Rattle.std.proofs.Common.{arith, inl, inr, unwrap_or}
+use Rattle.std.proofs.Common.{arith, inl, inr, subst, unwrap_or}
 use Rattle.std.specs.Prelude.{IfErr}
 use Rattle.streams.specs.InputOutput.{WriterSeen}
 use Rattle.book_model.specs.Words.{Event, IsMadeByCalls, Naming, book_after}
@@ -159,14 +159,15 @@ lines_written held holds first before after told begun said lines bytes =
 
 -- a service that ended with a fault
 cut_by : {S : Type 0} (shelf : S → Shelf) (Refuses : RepositoryFault → Type 0) (book : List ℕ)
-    (old new : S) (requests : ℕ) (held holds : Option (List ℕ)) (ended : Ended) (why : CommandFault)
-    (has_log : Bool) (told : List Served)
+    (old new : S) (requests : ℕ) (held holds : Option (List ℕ)) (Failed : Type 0) (ended : Ended)
+    (why : CommandFault) (has_log : Bool) (told : List Served)
     → ended ≡ record { came = Err why; has_log = has_log; is_change = true; notice = None }
     → IsServiceFault Refuses why → ServesInTurn shelf book old new told
     → WritesEarly told held holds → (shelf new).has_log book has_log
-    → Serves shelf Refuses requests book old new held holds ended
-cut_by shelf Refuses book old new requests held holds ended why has_log told is known turn wrote log =
-    subst (λ ended. Serves shelf Refuses requests book old new held holds ended) (sym is)
+    → Serves shelf Refuses requests book old new held holds Failed ended
+cut_by shelf Refuses book old new requests held holds Failed ended why has_log told is known turn wrote
+    log =
+    subst (λ ended. Serves shelf Refuses requests book old new held holds Failed ended) (sym is)
     (record {
       told = told;
       turn = turn;
@@ -183,16 +184,17 @@ cut_by shelf Refuses book old new requests held holds ended why has_log told is 
 -- a connection did not come
 pub serves_cut : {S C : Type 0} {may_come : Coming C} {left : C → ℕ} {from to : C}
     (shelf : S → Shelf) (Refuses : RepositoryFault → Type 0) (book : List ℕ) (old new : S)
-    (requests : ℕ) (held holds : Option (List ℕ)) (first before after : WriterSeen)
+    (requests : ℕ) (held holds : Option (List ℕ)) (Failed : Type 0) (first before after : WriterSeen)
     (ended : Ended) (why : CommandFault) (has_log : Bool)
     → first ≡ unfailed held → Gains first before ready → holds ≡ after.holds
     → ended ≡ record { came = Err why; has_log = has_log; is_change = true; notice = None }
     → IsServiceFault Refuses why → IsServing shelf may_come left from to book old new before after
     → (shelf new).has_log book has_log
-    → Serves shelf Refuses requests book old new held holds ended
-serves_cut shelf Refuses book old new requests held holds first before after ended why has_log
+    → Serves shelf Refuses requests book old new held holds Failed ended
+serves_cut shelf Refuses book old new requests held holds Failed first before after ended why has_log
     begun said bytes is known it log =
-    cut_by shelf Refuses book old new requests held holds ended why has_log it.told is known it.turn
+    cut_by shelf Refuses book old new requests held holds Failed ended why has_log it.told is known
+    it.turn
     (inl (
       after.has_failed,
       lines_written held holds first before after it.told begun said it.lines bytes,
@@ -201,16 +203,16 @@ serves_cut shelf Refuses book old new requests held holds first before after end
 
 -- or the books were refused, or the port was in the way
 pub serves_none : {S : Type 0} (shelf : S → Shelf) (book : List ℕ) (old new : S) (requests : ℕ)
-    (held : Option (List ℕ)) (ended : Ended) (why : CommandFault) (has_log : Bool)
+    (held : Option (List ℕ)) (Failed : Type 0) (ended : Ended) (why : CommandFault) (has_log : Bool)
     (opened : Result (Unit {0}) RepositoryFault)
     → ended ≡ record { came = Err why; has_log = has_log; is_change = true; notice = None }
     → IsServiceFault (λ fault. opened ≡ Err fault) why
     → IsOpened (λ told. NoEvent) book (shelf old) (shelf new) opened
     → (shelf new).has_log book has_log
-    → Serves shelf ((shelf old).refuses book) requests book old new held held ended
-serves_none shelf book old new requests held ended why has_log opened is known none log =
+    → Serves shelf ((shelf old).refuses book) requests book old new held held Failed ended
+serves_none shelf book old new requests held Failed ended why has_log opened is known none log =
     let Refuses = (shelf old).refuses book in
-    cut_by shelf Refuses book old new requests held held ended why has_log [] is
+    cut_by shelf Refuses book old new requests held held Failed ended why has_log [] is
     (either_as (λ fault. opened ≡ Err fault) Refuses
     (λ fault told. opened_refused (λ told. NoEvent) book (shelf old) (shelf new) opened fault none told)
     (IsFileFault why) why known)
@@ -219,10 +221,10 @@ serves_none shelf book old new requests held ended why has_log opened is known n
 -- a service of all connections, whose lines were written, or lost from one on
 pub serves_all : {S C : Type 0} {may_come : Coming C} {left : C → ℕ} {from to : C}
     (shelf : S → Shelf) (book : List ℕ) (old new : S) (requests : ℕ) (held holds : Option (List ℕ))
-    (first before after : WriterSeen) (failed : Bool) (ended : Ended) (has_log : Bool)
+    (Failed : Type 0) (first before after : WriterSeen) (failed : Bool) (ended : Ended) (has_log : Bool)
     → first ≡ unfailed held → Gains first before ready → left from ≡ requests → left to ≡ 0
     → IsServing shelf may_come left from to book old new before after
-    → holds ≡ after.holds → failed ≡ after.has_failed
+    → holds ≡ after.holds → failed ≡ after.has_failed → (after.has_failed ≡ true → Failed)
     → ended ≡ record {
       came = service_end (Ok failed);
       has_log = has_log;
@@ -230,10 +232,10 @@ pub serves_all : {S C : Type 0} {may_come : Coming C} {left : C → ℕ} {from t
       notice = None;
     }
     → (shelf new).has_log book has_log
-    → Serves shelf (λ _. ⊥) requests book old new held holds ended
-serves_all shelf book old new requests held holds first before after failed ended has_log begun said all
-    none it bytes flag is log =
-    subst (λ ended. Serves shelf (λ _. ⊥) requests book old new held holds ended) (sym is)
+    → Serves shelf (λ _. ⊥) requests book old new held holds Failed ended
+serves_all shelf book old new requests held holds Failed first before after failed ended has_log begun
+    said all none it bytes flag lost is log =
+    subst (λ ended. Serves shelf (λ _. ⊥) requests book old new held holds Failed ended) (sym is)
     (record {
       told = it.told;
       turn = it.turn;
@@ -242,6 +244,7 @@ serves_all shelf book old new requests held holds first before after failed ende
         (let counted = it.count in omega (arith, counted, all, none)),
         subst (λ failed. WritesLines it.told held holds failed) (sym flag)
             (lines_written held holds first before after it.told begun said it.lines bytes),
+        λ told. lost (sym flag ∙ told),
       );
       early = tt;
       cause = tt;
@@ -259,11 +262,11 @@ cause_after Refuses (Err why) cause =
     either_as (λ _. ⊥) Refuses (λ fault none. absurd none) (IsFileFault why) why cause
 
 pub serves_after : {S : Type 0} (shelf : S → Shelf) (book : List ℕ) (one two three : S)
-    (requests : ℕ) (held holds : Option (List ℕ)) (ended : Ended)
+    (requests : ℕ) (held holds : Option (List ℕ)) (Failed : Type 0) (ended : Ended)
     → IsUntouched book (shelf one) (shelf two)
-    → Serves shelf (λ _. ⊥) requests book two three held holds ended
-    → Serves shelf ((shelf one).refuses book) requests book one three held holds ended
-serves_after shelf book one two three requests held holds ended none it = record {
+    → Serves shelf (λ _. ⊥) requests book two three held holds Failed ended
+    → Serves shelf ((shelf one).refuses book) requests book one three held holds Failed ended
+serves_after shelf book one two three requests held holds Failed ended none it = record {
   told = it.told;
   turn = turn_after shelf book one two three it.told none it.turn;
   served = it.served;

@@ -56,14 +56,16 @@ WritesEarly told held holds =
     ((failed : Bool) × WritesLines told held holds failed) ⊎ ((told ≡ []) × (holds ≡ held))
 
 -- What a service came to: these connections were answered; and all that were due, with their lines, unless
--- one did not come or the books were in the way. A write of a line that failed is told at the end, and
--- ends nothing before. And whether a log is left.
+-- one did not come or the books were in the way. A write of a line that failed is told at the end, where
+-- the output has failed and not else, and ends nothing before. And whether a log is left.
 pub record Serves {S : Type 0} (shelf : S → Shelf) (Refuses : RepositoryFault → Type 0) (requests : ℕ)
-    (book : List ℕ) (old new : S) (held holds : Option (List ℕ)) (ended : Ended) : Type 0 where
+    (book : List ℕ) (old new : S) (held holds : Option (List ℕ)) (Failed : Type 0) (ended : Ended)
+    : Type 0 where
   pub told : List Served
   pub turn : ServesInTurn shelf book old new told
   pub served : Result Bool CommandFault
-  pub all : IfOk served (λ failed. (length told ≡ requests) × WritesLines told held holds failed)
+  pub all : IfOk served (λ failed. (length told ≡ requests) × WritesLines told held holds failed
+      × (failed ≡ true → Failed))
   pub early : OnErr served (WritesEarly told held holds)
   pub cause : IfErr served (IsServiceFault Refuses)
   pub ends : ended.came ≡ service_end served
@@ -73,10 +75,10 @@ pub record Serves {S : Type 0} (shelf : S → Shelf) (Refuses : RepositoryFault 
 
 -- or the place refused them before
 abbrev pub ServesBy : {S : Type 0} → (S → Shelf) → ℕ → List ℕ → S → S → Option (List ℕ)
-    → Option (List ℕ) → Result Ended CommandFault → Type 0
-ServesBy shelf requests book old new held holds (Ok ended) =
-    Serves shelf ((shelf old).refuses book) requests book old new held holds ended
-ServesBy shelf requests book old new held holds (Err why) =
+    → Option (List ℕ) → Type 0 → Result Ended CommandFault → Type 0
+ServesBy shelf requests book old new held holds Failed (Ok ended) =
+    Serves shelf ((shelf old).refuses book) requests book old new held holds Failed ended
+ServesBy shelf requests book old new held holds Failed (Err why) =
     IsRefusedBy book (shelf old) (shelf new) held holds why
 
 -- a command that may have found a fault before it opened any books
@@ -97,7 +99,7 @@ Does shelf (book.Audit quiet) name old new held holds Failed ended =
 Does shelf (book.BackUp copy quiet) name old new held holds Failed ended =
     SettlesBy (BacksUp name copy.now (shelf old) (shelf new) held holds Failed) ended
 Does shelf (book.Serve port requests) name old new held holds Failed ended =
-    SettlesBy (ServesBy shelf requests name old new held holds) ended
+    SettlesBy (ServesBy shelf requests name old new held holds Failed) ended
 Does shelf (book.List asked) name old new held holds Failed ended =
     SettlesBy (ListsAsked (list_of asked) name (shelf old) (shelf new) held holds Failed) ended
 Does shelf (book.ChooseListed file) name old new held holds Failed ended =

@@ -2,6 +2,7 @@
 
 ghost use Rattle.std.specs.Prelude.{◌≡◌, ◌++◌, codes, decimal, IfErr};
 ghost use Rattle.std.specs.Prelude.{Err, None, Ok, OnOk, true};
+ghost use Rattle.streams.specs.Failures.{HasFailed};
 ghost use Rattle.chargectl.specs.Requests.{IsServiceFault, Serves, ServesBy};
 ghost use Rattle.chargectl.specs.ServedLines.{Gains, seen_of};
 ghost use Rattle.chargectl.specs.Serving.{ServesUntil, line_of, ready, service_end};
@@ -34,7 +35,7 @@ pub(crate) fn serve<S: Repository, O: Writer + Drop>(
     output: O,
 ) -> (Result<Ended, CommandFault>, O)
     ensures { ServesBy S.shelf requests book.now repository.old repository.new
-        (O.contents output) (O.contents result.1) result.0 }
+        (O.contents output) (O.contents result.1) (∥ HasFailed O.may_answer result.1 ∥₁) result.0 }
 {
     if let Err(fault) = repository.expect(book) {
         return (Err(CommandFault::from(fault)), output);
@@ -105,7 +106,7 @@ fn serve_here<S: Repository, O: Writer + Drop>(
 
     // The books are not in the way any more.
     ensures { Serves S.shelf (λ _. ⊥) requests book.now repository.old repository.new
-        (O.contents output) (O.contents result.1) result.0 }
+        (O.contents output) (O.contents result.1) (∥ HasFailed O.may_answer result.1 ∥₁) result.0 }
 {
     let mut port = Port::over(rt, listener, requests);
     let mut lines = ServedLines::new(output);

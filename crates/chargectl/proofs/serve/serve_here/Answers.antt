@@ -1,5 +1,6 @@
 use Rattle.std.proofs.Common.{◌∙◌, inr, sym}
 use Rattle.std.specs.IoError.{error_kind}
+use Rattle.streams.specs.Failures.{HasFailed}
 use Rattle.chargectl.specs.ServedLines.{seen_of}
 use Rattle.chargectl.proofs.ServingLemmas.{serves_all, serves_cut}
 use Rattle.chargectl.proofs.serve.serve_here.Goals as goal
@@ -12,10 +13,11 @@ returns-in-Ok g c =
     let served = rw c.in-Ok.is at each.ensures.served in
     serves_all g.S.Repository.shelf c.args.book.now c.args.repository.now each.new.repository
     c.args.requests (contents c.args.output) (contents c.into_inner.result)
-    (seen c.new-lines.result) (seen c.say_ready.new.lines) (seen each.new.lines)
-    c.has_failed.result c.ended.result each.result.1 c.new-lines.ensures c.say_ready.ensures
-    c.over-port.ensures (sym served.count ∙ rw c.in-Ok.is at each.ensures.all) served.serving
-    c.into_inner.ensures.holds c.has_failed.ensures
+    (∥ HasFailed g.O.Writer.may_answer c.into_inner.result ∥₁) (seen c.new-lines.result)
+    (seen c.say_ready.new.lines) (seen each.new.lines) c.has_failed.result c.ended.result
+    each.result.1 c.new-lines.ensures c.say_ready.ensures c.over-port.ensures
+    (sym served.count ∙ rw c.in-Ok.is at each.ensures.all) served.serving
+    c.into_inner.ensures.holds c.has_failed.ensures c.into_inner.ensures.cause
     (rw c.told_end-came.ensures at c.ended.ensures) each.ensures.log
 
 pub returns-in-Err : goal.returns-in-Err
@@ -26,7 +28,9 @@ returns-in-Err g c =
     let served = rw c.in-Err.is at each.ensures.served in
     serves_cut g.S.Repository.shelf (λ _. ⊥) c.args.book.now c.args.repository.now
     each.new.repository c.args.requests (contents c.args.output)
-    (contents c.into_inner-in-Err.result) (seen c.new-lines.result) (seen c.say_ready.new.lines)
-    (seen each.new.lines) c.ended-in-Err.result c.from-fault.result each.result.1
-    c.new-lines.ensures c.say_ready.ensures c.into_inner-in-Err.ensures.holds c.ended-in-Err.ensures
+    (contents c.into_inner-in-Err.result)
+    (∥ HasFailed g.O.Writer.may_answer c.into_inner-in-Err.result ∥₁) (seen c.new-lines.result)
+    (seen c.say_ready.new.lines) (seen each.new.lines) c.ended-in-Err.result c.from-fault.result
+    each.result.1 c.new-lines.ensures c.say_ready.ensures c.into_inner-in-Err.ensures.holds
+    c.ended-in-Err.ensures
     (inr (error_kind c.in-Err.error, c.from-fault.ensures)) served.serving each.ensures.log
