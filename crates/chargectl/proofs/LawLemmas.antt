@@ -267,11 +267,12 @@ module _ (history : List Event) (name : List ℕ) (old new : Shelf)
       step_as (λ made is. (λ _. (nothing book request why comes.0, is), λ _. is))
       (none_on old.naming history name old new answered held book comes.1)
 
-  asks_on : (book : List ℕ) (request : BookRequest) (has holds : Option (List ℕ)) (ended : Ended)
-      → AsksAndTells request book old new has holds (Unit {0}) ended
+  asks_on : (book : List ℕ) (request : BookRequest) (has holds : Option (List ℕ)) (Failed : Type 0)
+      (ended : Ended) → AsksAndTells request book old new has holds Failed ended
       → Step old.naming history name old new
-      (Where book name (AsksOfHistory old.naming history (Refuses book) request has holds ended))
-  asks_on book request has holds ended it =
+      (Where book name
+      (AsksOfHistory old.naming history (Refuses book) request has holds Failed ended))
+  asks_on book request has holds Failed ended it =
       step_as (λ made so. (
         λ same. record { came = it.answered; asked = so.0 same; tells = it.tells },
         so.1,
@@ -307,11 +308,11 @@ module _ (history : List Event) (name : List ℕ) (old new : Shelf)
       ))
       (none_on old.naming history name old new answered held book comes.1)
 
-  list_on : (book : List ℕ) (has holds : Option (List ℕ)) (ended : Ended)
-      → ChoosesListed book old new has holds (Unit {0}) ended
+  list_on : (book : List ℕ) (has holds : Option (List ℕ)) (Failed : Type 0) (ended : Ended)
+      → ChoosesListed book old new has holds Failed ended
       → Step old.naming history name old new
-      (Where book name (ListOfHistory old.naming history (Refuses book) has holds ended))
-  list_on book has holds ended it =
+      (Where book name (ListOfHistory old.naming history (Refuses book) has holds Failed ended))
+  list_on book has holds Failed ended it =
       step_as (λ made so. (
         λ same. record { came = it.answered; listed = so.0 same; tells = it.tells },
         so.1,
@@ -325,11 +326,11 @@ module _ (history : List Event) (name : List ℕ) (old new : Shelf)
       (none_on old.naming history name old new answered held touched done)
 
   -- a list was written, or why not
-  list_written : (list : StreamedList) (book : List ℕ) (has holds : Option (List ℕ)) (ended : Ended)
-      → SettlesBy (ListsBy list book old new has holds (Unit {0})) ended
+  list_written : (list : StreamedList) (book : List ℕ) (has holds : Option (List ℕ)) (Failed : Type 0)
+      (ended : Ended) → SettlesBy (ListsBy list book old new has holds Failed) ended
       → Step old.naming history name old new
       (Where book name (ListsOfHistory list old.naming history (Refuses book) has holds ended))
-  list_written list book has holds ended does =
+  list_written list book has holds Failed ended does =
       step_as (λ made so. (
         λ same. record {
           came = does.came;
@@ -363,7 +364,7 @@ module _ (history : List Event) (name : List ℕ) (old new : Shelf)
           (none_on old.naming history name old new answered held book none)
 
       by_came : (came : Result Ended CommandFault)
-          → ListsBy list book old new has holds (Unit {0}) came
+          → ListsBy list book old new has holds Failed came
           → Step old.naming history name old new
           (λ made. (book ≡ name
           → ListsHistoryBy list old.naming history (Refuses book) has holds came) × (made ≡ []))
@@ -388,14 +389,15 @@ module _ (history : List Event) (name : List ℕ) (old new : Shelf)
 
   -- one that words ask for
   list_asked : (asked : Option StreamedList) (book : List ℕ) (has holds : Option (List ℕ))
-      (ended : Ended) → SettlesBy (ListsAsked asked book old new has holds (Unit {0})) ended
+      (Failed : Type 0) (ended : Ended)
+      → SettlesBy (ListsAsked asked book old new has holds Failed) ended
       → Step old.naming history name old new
       (Where book name
       (ListsAskedOfHistory asked old.naming history (Refuses book) has holds ended))
-  list_asked (Some list) book has holds ended does =
-      list_written list book has holds ended
+  list_asked (Some list) book has holds Failed ended does =
+      list_written list book has holds Failed ended
       (record { came = does.came; does = does.does; ends = does.ends })
-  list_asked None book has holds ended does =
+  list_asked None book has holds Failed ended does =
       step_as (λ made is. (
         λ _. (does.ends ∙ ap settled_as does.does.0, does.does.2, is),
         λ _. is,
@@ -423,11 +425,12 @@ module _ (history : List Event) (name : List ℕ) (old new : Shelf)
       step_as (λ made is. (λ _. tt, follow book fault tried.0, is))
       (none_on old.naming history name old new answered held book tried.1)
 
-  tries_on : (book : List ℕ) (ruling : Ruling) (has holds : Option (List ℕ)) (ended : Ended)
-      → TriesAndTells ruling book old new has holds (Unit {0}) ended
+  tries_on : (book : List ℕ) (ruling : Ruling) (has holds : Option (List ℕ)) (Failed : Type 0)
+      (ended : Ended) → TriesAndTells ruling book old new has holds Failed ended
       → Step old.naming history name old new
-      (Where book name (TriesOfHistory old.naming history (Refuses book) ruling has holds ended))
-  tries_on book ruling has holds ended it =
+      (Where book name
+      (TriesOfHistory old.naming history (Refuses book) ruling has holds Failed ended))
+  tries_on book ruling has holds Failed ended it =
       step_as (λ made so. (
         λ same. record {
           came = it.answered;
@@ -462,23 +465,23 @@ module _ (history : List Event) (name : List ℕ) (old new : Shelf)
           step_as (λ made is. (λ _. nothing book (asks.Rule ruling) why comes.0, is))
           (none_on old.naming history name old new answered held book comes.1)
 
-  upgrades_on : (book : List ℕ) (has holds : Option (List ℕ)) (came : Result Ended CommandFault)
-      → UpgradesBy book old new has holds (Unit {0}) came
+  upgrades_on : (book : List ℕ) (has holds : Option (List ℕ)) (Failed : Type 0)
+      (came : Result Ended CommandFault) → UpgradesBy book old new has holds Failed came
       → Step old.naming history name old new (Where book name (λ made. made ≡ []))
-  upgrades_on book has holds (Ok ended) it = still_on book book it.done
-  upgrades_on book has holds (Err why) it = still_on book book it.1
+  upgrades_on book has holds Failed (Ok ended) it = still_on book book it.done
+  upgrades_on book has holds Failed (Err why) it = still_on book book it.1
 
-  audits_on : (book : List ℕ) (has holds : Option (List ℕ)) (came : Result Ended CommandFault)
-      → AuditsBooks book old new has holds (Unit {0}) came
+  audits_on : (book : List ℕ) (has holds : Option (List ℕ)) (Failed : Type 0)
+      (came : Result Ended CommandFault) → AuditsBooks book old new has holds Failed came
       → Step old.naming history name old new (Where book name (λ made. made ≡ []))
-  audits_on book has holds (Ok ended) it = still_on book book it.done.0
-  audits_on book has holds (Err why) it = still_on book book it.1
+  audits_on book has holds Failed (Ok ended) it = still_on book book it.done.0
+  audits_on book has holds Failed (Err why) it = still_on book book it.1
 
-  backs_up_on : (book copy : List ℕ) (has holds : Option (List ℕ))
-      (came : Result Ended CommandFault) → BacksUp book copy old new has holds (Unit {0}) came
+  backs_up_on : (book copy : List ℕ) (has holds : Option (List ℕ)) (Failed : Type 0)
+      (came : Result Ended CommandFault) → BacksUp book copy old new has holds Failed came
       → Step old.naming history name old new (Where book name (λ made. made ≡ []))
-  backs_up_on book copy has holds (Ok ended) it = still_on book copy it.done.kept
-  backs_up_on book copy has holds (Err why) it = still_on book book it.1
+  backs_up_on book copy has holds Failed (Ok ended) it = still_on book copy it.done.kept
+  backs_up_on book copy has holds Failed (Err why) it = still_on book book it.1
 
 -- from one place to another
 module _ {S : Type 0} (shelf : S → Shelf) (history : List Event) (name : List ℕ) (before after : S)
@@ -487,12 +490,12 @@ module _ {S : Type 0} (shelf : S → Shelf) (history : List Event) (name : List 
     (follow : (book : List ℕ) (fault : RepositoryFault) → (shelf before).refuses book fault
     → Refuses book fault) where
   -- connections in turn, or none
-  serves_on : (book : List ℕ) (requests : ℕ) (has holds : Option (List ℕ))
+  serves_on : (book : List ℕ) (requests : ℕ) (has holds : Option (List ℕ)) (Failed : Type 0)
       (came : Result Ended CommandFault)
-      → ServesBy shelf requests book before after has holds (Unit {0}) came
+      → ServesBy shelf requests book before after has holds Failed came
       → Step (shelf before).naming history name (shelf before) (shelf after)
       (Where book name (ServesOfHistory (shelf before).naming history))
-  serves_on book requests has holds (Ok ended) it =
+  serves_on book requests has holds Failed (Ok ended) it =
       step_as (λ made so. (
         λ same.
             let made_it = so.0 same in
@@ -502,41 +505,41 @@ module _ {S : Type 0} (shelf : S → Shelf) (history : List Event) (name : List 
       (work_on (shelf before).naming history name (shelf before) (shelf after) answered held book
       (ServesEach (shelf before).naming it.told) (each_answered (shelf before).naming it.told)
       (turn_done shelf book before after it.told it.turn))
-  serves_on book requests has holds (Err why) it =
+  serves_on book requests has holds Failed (Err why) it =
       step_as (λ made is. (λ _. none_served (shelf before).naming history made is, λ _. is))
       (none_on (shelf before).naming history name (shelf before) (shelf after) answered held book it.1)
 
-  does_on : (book : List ℕ) (request : BookRequest) (has holds : Option (List ℕ)) (ended : Ended)
-      → Does shelf request book before after has holds (Unit {0}) ended
+  does_on : (book : List ℕ) (request : BookRequest) (has holds : Option (List ℕ)) (Failed : Type 0)
+      (ended : Ended) → Does shelf request book before after has holds Failed ended
       → Step (shelf before).naming history name (shelf before) (shelf after)
       (Where book name
-      (DoesToHistory (shelf before).naming history (Refuses book) request has holds ended))
-  does_on book asks.Init has holds ended does =
+      (DoesToHistory (shelf before).naming history (Refuses book) request has holds Failed ended))
+  does_on book asks.Init has holds Failed ended does =
       still_on history name (shelf before) (shelf after) answered held Refuses follow book book
       does.done.kept
-  does_on book asks.Upgrade has holds ended does =
+  does_on book asks.Upgrade has holds Failed ended does =
       upgrades_on history name (shelf before) (shelf after) answered held Refuses follow book has holds
-      does.came does.does
-  does_on book (asks.Audit quiet) has holds ended does =
+      Failed does.came does.does
+  does_on book (asks.Audit quiet) has holds Failed ended does =
       audits_on history name (shelf before) (shelf after) answered held Refuses follow book has holds
-      does.came does.does
-  does_on book (asks.BackUp copy quiet) has holds ended does =
-      backs_up_on history name (shelf before) (shelf after) answered held Refuses follow book copy.now has
-      holds does.came does.does
-  does_on book (asks.Serve port requests) has holds ended does =
-      serves_on book requests has holds does.came does.does
-  does_on book (asks.List asked) has holds ended does =
-      list_asked history name (shelf before) (shelf after) answered held Refuses follow (list_of asked) book
-      has holds ended does
-  does_on book (asks.ChooseListed file) has holds ended does =
-      list_on history name (shelf before) (shelf after) answered held Refuses follow book has holds ended
-      does
-  does_on book (asks.DryRun ruling) has holds ended does =
-      tries_on history name (shelf before) (shelf after) answered held Refuses follow book ruling has holds
-      ended does
-  does_on book request has holds ended does =
-      asks_on history name (shelf before) (shelf after) answered held Refuses follow book request has holds
-      ended does
+      Failed does.came does.does
+  does_on book (asks.BackUp copy quiet) has holds Failed ended does =
+      backs_up_on history name (shelf before) (shelf after) answered held Refuses follow book copy.now
+      has holds Failed does.came does.does
+  does_on book (asks.Serve port requests) has holds Failed ended does =
+      serves_on book requests has holds Failed does.came does.does
+  does_on book (asks.List asked) has holds Failed ended does =
+      list_asked history name (shelf before) (shelf after) answered held Refuses follow (list_of asked)
+      book has holds Failed ended does
+  does_on book (asks.ChooseListed file) has holds Failed ended does =
+      list_on history name (shelf before) (shelf after) answered held Refuses follow book has holds
+      Failed ended does
+  does_on book (asks.DryRun ruling) has holds Failed ended does =
+      tries_on history name (shelf before) (shelf after) answered held Refuses follow book ruling has
+      holds Failed ended does
+  does_on book request has holds Failed ended does =
+      asks_on history name (shelf before) (shelf after) answered held Refuses follow book request has
+      holds Failed ended does
 
 -- the place of the books is as it was
 same_place : {S : Type 0} (shelf : S → Shelf) (history : List Event) (name : List ℕ) (old new : S)
@@ -552,61 +555,65 @@ same_place shelf history name old new answered held same = record {
 
 runs_on : {S : Type 0} (shelf : S → Shelf) (waits : S → ℕ → Type 0) (history : List Event) (name : List ℕ)
     (old new : S) → IsMadeByCalls (shelf old).naming history → (shelf old).holds name history
-    → (asked : Result Request ArgumentFault) (had has holds : Option (List ℕ))
+    → (asked : Result Request ArgumentFault) (had has holds : Option (List ℕ)) (Failed : Type 0)
     (Says : List (List ℕ) → Type 0) (status : Status)
-    → DoesOrRefuses shelf waits old new asked had has holds (Unit {0}) Says status
+    → DoesOrRefuses shelf waits old new asked had has holds Failed Says status
     → Step (shelf old).naming history name (shelf old) (shelf new)
-    (RunsOn (shelf old).naming name history (shelf old).refuses asked has holds status)
+    (RunsOn (shelf old).naming name history (shelf old).refuses asked has holds Failed status)
 runs_on shelf waits history name old new answered held (Ok (request.OfBooks book wait asked)) had has
-    holds Says status done =
+    holds Failed Says status done =
     let it = done.1 in
     let same = it.same.naming in
     let calls = subst (λ naming. IsMadeByCalls naming history) (sym same) answered in
     let step = does_on shelf history name it.waiting new calls (it.same.holds name history held)
-    (shelf old).refuses it.same.refuses book.now asked has holds done.0 it.does in
+    (shelf old).refuses it.same.refuses book.now asked has holds Failed done.0 it.does in
     step_as (λ made so. record { ended = done.0; ends = done.2; here = so.0; elsewhere = so.1 })
     (subst (λ naming. Step naming history name (shelf old) (shelf new)
     (Where book.now name
-    (DoesToHistory naming history ((shelf old).refuses book.now) asked has holds done.0))) same
+    (DoesToHistory naming history ((shelf old).refuses book.now) asked has holds Failed done.0))) same
     (step_from same step))
-runs_on shelf waits history name old new answered held (Ok (request.Trial layout cpu excp fee)) had has holds
+runs_on shelf waits history name old new answered held (Ok (request.Trial layout cpu excp fee)) had has
+    holds Failed Says status done =
+    same_place shelf history name old new answered held done.1.0
+runs_on shelf waits history name old new answered held (Ok (request.TrialUnder layout file)) had has
+    holds Failed Says status done =
+    same_place shelf history name old new answered held done.1.0
+runs_on shelf waits history name old new answered held (Ok (request.Unclear why)) had has holds Failed
     Says status done =
     same_place shelf history name old new answered held done.1.0
-runs_on shelf waits history name old new answered held (Ok (request.TrialUnder layout file)) had has holds
+runs_on shelf waits history name old new answered held (Ok (request.Check dump)) had has holds Failed
     Says status done =
     same_place shelf history name old new answered held done.1.0
-runs_on shelf waits history name old new answered held (Ok (request.Unclear why)) had has holds Says status
+runs_on shelf waits history name old new answered held (Ok (request.Explain kind number)) had has
+    holds Failed Says status done =
+    same_place shelf history name old new answered held done.1.0
+runs_on shelf waits history name old new answered held (Err fault) had has holds Failed Says status
     done =
-    same_place shelf history name old new answered held done.1.0
-runs_on shelf waits history name old new answered held (Ok (request.Check dump)) had has holds Says status
-    done =
-    same_place shelf history name old new answered held done.1.0
-runs_on shelf waits history name old new answered held (Ok (request.Explain kind number)) had has holds
-    Says status done =
-    same_place shelf history name old new answered held done.1.0
-runs_on shelf waits history name old new answered held (Err fault) had has holds Says status done =
     same_place shelf history name old new answered held done.0
 
 -- commands in turn, at a place that names records so
-in_turn : {S E : Type 0} (shelf : S → Shelf) (waits : S → ℕ → Type 0)
-    (Says : List (List ℕ) → E → E → Type 0)
-    (naming : Naming) (name : List ℕ) (start : List Event) (before : S) (commands : List (Commanded S E))
+in_turn : {S O E : Type 0} (shelf : S → Shelf) (waits : S → ℕ → Type 0)
+    (contents : O → Option (List ℕ)) (Failed : O → Type 0) (Says : List (List ℕ) → E → E → Type 0)
+    (naming : Naming) (name : List ℕ) (start : List Event) (before : S)
+    (commands : List (Commanded S O E))
     → (shelf before).naming ≡ naming → IsMadeByCalls naming start → (shelf before).holds name start
-    → AreCommanded shelf waits Says before commands
-    → LeaveHistory shelf before naming name start commands (place_after before commands)
-in_turn shelf waits Says naming name start before [] names answered held done =
+    → AreCommanded shelf waits contents Failed Says before commands
+    → LeaveHistory shelf contents Failed before naming name start commands
+    (place_after before commands)
+in_turn shelf waits contents Failed Says naming name start before [] names answered held done =
     record { end = start; done = refl; held = held }
-in_turn shelf waits Says naming name start before (command ∷ later) names answered held done =
+in_turn shelf waits contents Failed Says naming name start before (command ∷ later) names answered held
+    done =
     let one = done.0 in
     let step = subst (λ naming. Step naming start name (shelf before) (shelf command.after)
-    (RunsOn naming name start (shelf before).refuses one.asked command.held command.holds
-    command.status)) names
+    (RunsOn naming name start (shelf before).refuses one.asked (contents command.held)
+    (contents command.holds) (Failed command.holds) command.status)) names
     (runs_on shelf waits start name before command.after
     (subst (λ naming. IsMadeByCalls naming start) (sym names) answered) held one.asked command.had
-    command.held command.holds (λ lines. Says lines command.quiet command.said) command.status
-    one.done) in
-    let rest = in_turn shelf waits Says naming name (step.made ++ start) command.after later (step.named ∙ names)
-    step.answered step.held done.1 in
+    (contents command.held) (contents command.holds) (Failed command.holds)
+    (λ lines. Says lines command.quiet command.said) command.status one.done) in
+    let rest = in_turn shelf waits contents Failed Says naming name (step.made ++ start) command.after
+    later (step.named ∙ names) step.answered step.held done.1 in
     record {
       end = rest.end;
       done = (
@@ -618,7 +625,9 @@ in_turn shelf waits Says naming name start before (command ∷ later) names answ
     }
 
 -- the headline
-pub commands_follow_history : {S E : Type 0} (shelf : S → Shelf) (waits : S → ℕ → Type 0)
-    (Says : List (List ℕ) → E → E → Type 0) → CommandsFollowHistory shelf waits Says
-commands_follow_history shelf waits Says name start before commands answered held done =
-    in_turn shelf waits Says (shelf before).naming name start before commands refl answered held done
+pub commands_follow_history : {S O E : Type 0} (shelf : S → Shelf) (waits : S → ℕ → Type 0)
+    (contents : O → Option (List ℕ)) (Failed : O → Type 0) (Says : List (List ℕ) → E → E → Type 0)
+    → CommandsFollowHistory shelf waits contents Failed Says
+commands_follow_history shelf waits contents Failed Says name start before commands answered held done =
+    in_turn shelf waits contents Failed Says (shelf before).naming name start before commands refl
+    answered held done

@@ -48,29 +48,29 @@ use Rattle.chargectl.specs.Serving.{AnswersSome, IsToldOf}
 
 -- a command: its words, its input, its output and standard error before and after it, its status, and
 -- the place of the books after it
-pub record Commanded (S E : Type 0) : Type 0 where
+pub record Commanded (S O E : Type 0) : Type 0 where
   pub words : List (String Global)
   pub had : Option (List ℕ)
-  pub held : Option (List ℕ)
-  pub holds : Option (List ℕ)
+  pub held : O
+  pub holds : O
   pub quiet : E
   pub said : E
   pub status : Status
   pub after : S
 
 -- the place after all of them
-abbrev pub place_after : {S E : Type 0} → S → List (Commanded S E) → S
+abbrev pub place_after : {S O E : Type 0} → S → List (Commanded S O E) → S
 place_after before [] = before
 place_after before (command ∷ later) = place_after command.after later
 
--- each kept its contract where the one before it left the books, whatever is known of its output
-abbrev pub AreCommanded : {S E : Type 0} → (S → Shelf) → (S → ℕ → Type 0)
-    → (List (List ℕ) → E → E → Type 0) → S → List (Commanded S E) → Type 0
-AreCommanded shelf waits Says before [] = Unit {0}
-AreCommanded shelf waits Says before (command ∷ later) =
-    CommandsBy shelf waits before command.after command.words command.had command.held command.holds
-    (Unit {0}) Says command.quiet command.said command.status
-    × AreCommanded shelf waits Says command.after later
+-- each kept its contract where the one before it left the books
+abbrev pub AreCommanded : {S O E : Type 0} → (S → Shelf) → (S → ℕ → Type 0) → (O → Option (List ℕ))
+    → (O → Type 0) → (List (List ℕ) → E → E → Type 0) → S → List (Commanded S O E) → Type 0
+AreCommanded shelf waits contents Failed Says before [] = Unit {0}
+AreCommanded shelf waits contents Failed Says before (command ∷ later) =
+    CommandsBy shelf waits before command.after command.words command.had (contents command.held)
+    (contents command.holds) (Failed command.holds) Says command.quiet command.said command.status
+    × AreCommanded shelf waits contents Failed Says command.after later
 
 -- After a history this was asked and told, and it made these events, the newest first. Unless a lack
 -- of memory or the store hindered it, that is what the definitions say of the history, looked at as
@@ -112,10 +112,10 @@ AskedBy naming history Refuses request (Err why) made =
 -- and that was written
 pub record AsksOfHistory (naming : Naming) (history : List Event)
     (Refuses : RepositoryFault → Type 0) (request : BookRequest) (held holds : Option (List ℕ))
-    (ended : Ended) (made : List Event) : Type 0 where
+    (Failed : Type 0) (ended : Ended) (made : List Event) : Type 0 where
   pub came : Result Answered CommandFault
   pub asked : AskedBy naming history Refuses request came made
-  pub tells : Tells came held holds (Unit {0}) ended
+  pub tells : Tells came held holds Failed ended
 
 -- What the words ask was tried on the books of a history, and so it was told and noticed: unless a lack of
 -- memory or the store hindered it, that is what the definitions say of the history.
@@ -140,10 +140,10 @@ TriedBy naming history Refuses request (Err why) = AsksNothing request Refuses w
 -- that was written, and no event was made
 pub record TriesOfHistory (naming : Naming) (history : List Event)
     (Refuses : RepositoryFault → Type 0) (ruling : Ruling) (held holds : Option (List ℕ))
-    (ended : Ended) (made : List Event) : Type 0 where
+    (Failed : Type 0) (ended : Ended) (made : List Event) : Type 0 where
   pub came : Result Answered CommandFault
   pub tried : TriedBy naming history Refuses (book.Rule ruling) came
-  pub tells : Tells came held holds (Unit {0}) ended
+  pub tells : Tells came held holds Failed ended
   pub none : made ≡ []
 
 -- After a history the records of these names were chosen, one after the other, which made these events.
@@ -176,11 +176,11 @@ ListBy naming history Refuses (Err why) made = ChoosesNothing Refuses why × (ma
 
 -- and that was written
 pub record ListOfHistory (naming : Naming) (history : List Event)
-    (Refuses : RepositoryFault → Type 0) (held holds : Option (List ℕ)) (ended : Ended)
-    (made : List Event) : Type 0 where
+    (Refuses : RepositoryFault → Type 0) (held holds : Option (List ℕ)) (Failed : Type 0)
+    (ended : Ended) (made : List Event) : Type 0 where
   pub came : Result ListAnswered CommandFault
   pub listed : ListBy naming history Refuses came made
-  pub tells : TellsList came held holds (Unit {0}) ended
+  pub tells : TellsList came held holds Failed ended
 
 -- One client was replied to, and these events were made; or the place refused the books, for any reason.
 pub record AnswersOrNot (naming : Naming) (what : Served) (was : Bool) (before : Book)
@@ -257,74 +257,79 @@ ListsAskedOfHistory None naming history Refuses held holds ended made =
 -- what each command on books does to the history that they hold, where the place refuses them for
 -- such reasons
 abbrev pub DoesToHistory : Naming → List Event → (RepositoryFault → Type 0) → BookRequest
-    → Option (List ℕ) → Option (List ℕ) → Ended → List Event → Type 0
-DoesToHistory naming history Refuses book.Init held holds ended made = made ≡ []
-DoesToHistory naming history Refuses book.Upgrade held holds ended made = made ≡ []
-DoesToHistory naming history Refuses (book.Audit quiet) held holds ended made = made ≡ []
-DoesToHistory naming history Refuses (book.BackUp copy quiet) held holds ended made = made ≡ []
-DoesToHistory naming history Refuses (book.Serve port requests) held holds ended made =
+    → Option (List ℕ) → Option (List ℕ) → Type 0 → Ended → List Event → Type 0
+DoesToHistory naming history Refuses book.Init held holds Failed ended made = made ≡ []
+DoesToHistory naming history Refuses book.Upgrade held holds Failed ended made = made ≡ []
+DoesToHistory naming history Refuses (book.Audit quiet) held holds Failed ended made = made ≡ []
+DoesToHistory naming history Refuses (book.BackUp copy quiet) held holds Failed ended made = made ≡ []
+DoesToHistory naming history Refuses (book.Serve port requests) held holds Failed ended made =
     ServesOfHistory naming history made
-DoesToHistory naming history Refuses (book.List asked) held holds ended made =
+DoesToHistory naming history Refuses (book.List asked) held holds Failed ended made =
     ListsAskedOfHistory (list_of asked) naming history Refuses held holds ended made
-DoesToHistory naming history Refuses (book.ChooseListed file) held holds ended made =
-    ListOfHistory naming history Refuses held holds ended made
-DoesToHistory naming history Refuses (book.DryRun ruling) held holds ended made =
-    TriesOfHistory naming history Refuses ruling held holds ended made
-DoesToHistory naming history Refuses asked held holds ended made =
-    AsksOfHistory naming history Refuses asked held holds ended made
+DoesToHistory naming history Refuses (book.ChooseListed file) held holds Failed ended made =
+    ListOfHistory naming history Refuses held holds Failed ended made
+DoesToHistory naming history Refuses (book.DryRun ruling) held holds Failed ended made =
+    TriesOfHistory naming history Refuses ruling held holds Failed ended made
+DoesToHistory naming history Refuses asked held holds Failed ended made =
+    AsksOfHistory naming history Refuses asked held holds Failed ended made
 
 -- it does so to the books that its words name, and nothing to others
 pub record OnBooks (naming : Naming) (name book : List ℕ) (history : List Event)
     (Refuses : RepositoryFault → Type 0) (request : BookRequest) (held holds : Option (List ℕ))
-    (status : Status) (made : List Event) : Type 0 where
+    (Failed : Type 0) (status : Status) (made : List Event) : Type 0 where
   pub ended : Ended
   pub ends : status ≡ status_by ended
-  pub here : book ≡ name → DoesToHistory naming history Refuses request held holds ended made
+  pub here : book ≡ name
+      → DoesToHistory naming history Refuses request held holds Failed ended made
   pub elsewhere : book ≢ name → made ≡ []
 
 -- so with all requests: only those on books do anything to them
 abbrev pub RunsOn : Naming → List ℕ → List Event → (List ℕ → RepositoryFault → Type 0)
-    → Result Request ArgumentFault → Option (List ℕ) → Option (List ℕ) → Status → List Event
-    → Type 0
-RunsOn naming name history Refuses (Ok (request.OfBooks book wait asked)) held holds status made =
-    OnBooks naming name book.now history (Refuses book.now) asked held holds status made
-RunsOn naming name history Refuses asked held holds status made = made ≡ []
+    → Result Request ArgumentFault → Option (List ℕ) → Option (List ℕ) → Type 0 → Status
+    → List Event → Type 0
+RunsOn naming name history Refuses (Ok (request.OfBooks book wait asked)) held holds Failed status
+    made =
+    OnBooks naming name book.now history (Refuses book.now) asked held holds Failed status made
+RunsOn naming name history Refuses asked held holds Failed status made = made ≡ []
 
 -- What a command did to the books of a name, which held this history, by its words, at a place that
 -- refuses books for such reasons; calls made all of what they hold now.
-pub record DoneAfter {S E : Type 0} (naming : Naming) (name : List ℕ) (history : List Event)
-    (Refuses : List ℕ → RepositoryFault → Type 0) (command : Commanded S E) (made : List Event)
+pub record DoneAfter {S O E : Type 0} (contents : O → Option (List ℕ)) (Failed : O → Type 0)
+    (naming : Naming) (name : List ℕ) (history : List Event)
+    (Refuses : List ℕ → RepositoryFault → Type 0) (command : Commanded S O E) (made : List Event)
     : Type 0 where
   pub asked : Result Request ArgumentFault
   pub read : AreReadAs program_name most_rate (as_texts command.words) asked
-  pub runs : RunsOn naming name history Refuses asked command.held command.holds command.status made
+  pub runs : RunsOn naming name history Refuses asked (contents command.held)
+      (contents command.holds) (Failed command.holds) command.status made
   pub answered : IsMadeByCalls naming (made ++ history)
 
 -- so it is with each, after the history that goes on with what those before it made, at the place
 -- that they left
-abbrev pub AreDoneAfter : {S E : Type 0} → (S → Shelf) → S → Naming → List ℕ → List Event
-    → List (Commanded S E) → List Event → Type 0
-AreDoneAfter shelf before naming name history [] end = end ≡ history
-AreDoneAfter shelf before naming name history (command ∷ later) end =
-    (made : List Event) × DoneAfter naming name history (shelf before).refuses command made
-    × AreDoneAfter shelf command.after naming name (made ++ history) later end
+abbrev pub AreDoneAfter : {S O E : Type 0} → (S → Shelf) → (O → Option (List ℕ)) → (O → Type 0) → S
+    → Naming → List ℕ → List Event → List (Commanded S O E) → List Event → Type 0
+AreDoneAfter shelf contents Failed before naming name history [] end = end ≡ history
+AreDoneAfter shelf contents Failed before naming name history (command ∷ later) end =
+    (made : List Event)
+    × DoneAfter contents Failed naming name history (shelf before).refuses command made
+    × AreDoneAfter shelf contents Failed command.after naming name (made ++ history) later end
 
 -- and the books hold the history with all of it
-pub record LeaveHistory {S E : Type 0} (shelf : S → Shelf) (before : S) (naming : Naming)
-    (name : List ℕ) (start : List Event) (commands : List (Commanded S E)) (after : S)
-    : Type 0 where
+pub record LeaveHistory {S O E : Type 0} (shelf : S → Shelf) (contents : O → Option (List ℕ))
+    (Failed : O → Type 0) (before : S) (naming : Naming) (name : List ℕ) (start : List Event)
+    (commands : List (Commanded S O E)) (after : S) : Type 0 where
   pub end : List Event
-  pub done : AreDoneAfter shelf before naming name start commands end
+  pub done : AreDoneAfter shelf contents Failed before naming name start commands end
   pub held : (shelf after).holds name end
 
 -- The headline: after any commands, the books of a name that held a history which calls made hold it
 -- with what the commands made of it; and each told what the definitions give for the whole history
 -- before it, or why the place that it found refused the books.
-abbrev pub CommandsFollowHistory : {S E : Type 0} → (S → Shelf) → (S → ℕ → Type 0)
-    → (List (List ℕ) → E → E → Type 0) → Type 0
-CommandsFollowHistory {S} {E} shelf waits Says =
-    (name : List ℕ) (start : List Event) (before : S) (commands : List (Commanded S E))
+abbrev pub CommandsFollowHistory : {S O E : Type 0} → (S → Shelf) → (S → ℕ → Type 0)
+    → (O → Option (List ℕ)) → (O → Type 0) → (List (List ℕ) → E → E → Type 0) → Type 0
+CommandsFollowHistory {S} {O} {E} shelf waits contents Failed Says =
+    (name : List ℕ) (start : List Event) (before : S) (commands : List (Commanded S O E))
     → IsMadeByCalls (shelf before).naming start → (shelf before).holds name start
-    → AreCommanded shelf waits Says before commands
-    → LeaveHistory shelf before (shelf before).naming name start commands
+    → AreCommanded shelf waits contents Failed Says before commands
+    → LeaveHistory shelf contents Failed before (shelf before).naming name start commands
     (place_after before commands)
