@@ -46,4 +46,5 @@ pub mod ReckoningLemmas
 pub mod AnswerLemmas
 pub mod ReportLemmas
 pub mod ImportLemmas
+pub mod ReceiptLemmas
 pub mod RunAnswerLemmas

@@ -1,9 +1,12 @@
--- The law of imports: a dump has one receipt, and leaves one book.
-use Rattle.std.specs.Prelude.{◌≡◌, Ok}
-use Rattle.book_model.specs.Words.{Naming, Book, after_all}
+-- The laws of imports: a dump has one receipt, and leaves one book; and what a receipt counts.
+use Rattle.std.specs.Prelude.{◌≡◌, ℕ, ◌+◌, List, length, Ok}
+use Rattle.book_model.specs.Words.{Naming, Book, after_all, members}
 use Rattle.book_core.specs.Words.{Books, Seen, IsOpenAt, books, IsTransition}
 use Rattle.book_import.specs.declared.receipt.Receipt.{Receipt}
+use Rattle.book_import.specs.declared.receipt.Stop.{Stop}
+use Rattle.book_import.specs.Receipts.{counted}
 use Rattle.book_import.specs.Imports.{Imports}
+use Rattle.book_import.specs.Laws.{book_after_import, import_of_records, IsUnrefused}
 use Rattle.book_import.specs.Repeats.{IsUnhindered}
 use Rattle.office.specs.Laws.{IsStillOpen}
 use Rattle.office.specs.Outcomes.{import_asked_outcome}
@@ -31,3 +34,15 @@ OneReceipt {L} seen =
     (naming : Naming) (start : Book) (old new : L) (dump : Dump) (receipt : Receipt)
     → IsImported naming start (books seen old new) dump receipt
     → ImportsAsDefined naming start (seen new) dump receipt
+
+-- A receipt counts as many records as came, if the books refused none and memory did not run out.
+-- And the books hold as many records more as it counts as kept, also where they refused one.
+pub record ReceiptsCountRecords : Type 0 where
+  pub counts :
+      (naming : Naming) (before : Book) (stop : Stop) (records : List (List ℕ))
+      → IsUnrefused (import_of_records naming before stop records)
+      → counted (import_of_records naming before stop records).receipt ≡ length records
+  pub grows :
+      (naming : Naming) (before : Book) (stop : Stop) (records : List (List ℕ))
+      → length (members (book_after_import naming before stop records).held)
+      ≡ length (members before.held) + (import_of_records naming before stop records).receipt.kept

@@ -2,7 +2,7 @@
 //! that does nothing.
 
 ghost use Rattle.book_laws.specs.AnswerLaws.{OneAnswer, OneBook, OneRefusal, RefusalChangesNothing};
-ghost use Rattle.book_laws.specs.ImportLaws.{OneReceipt};
+ghost use Rattle.book_laws.specs.ImportLaws.{OneReceipt, ReceiptsCountRecords};
 ghost use Rattle.book_laws.specs.ReportLaws.{OnePrefix, OneRefusedReport, OneText};
 ghost use Rattle.book_laws.specs.RunAnswers.{OneRun};
 
@@ -46,6 +46,12 @@ pub fn one_refused_report<L: Ledger>()
 /// The receipt of an import is the definitions' one, and so is the book after it.
 pub fn one_receipt<L: Ledger>()
     ensures { OneReceipt L.seen }
+{}
+
+/// A receipt counts as many records as came, if the books refused none and memory did not run out;
+/// and as kept as many as the books hold more than before, also where they refused one.
+pub fn receipts_count_records()
+    ensures { ReceiptsCountRecords }
 {}
 
 /// The answers to a list of requests are the definitions' ones, and so is the book after them.

@@ -19,7 +19,7 @@ pub use bills::{
 };
 pub use calls::{
     one_answer, one_book, one_prefix, one_receipt, one_refusal, one_refused_report, one_run,
-    one_text, refusal_changes_nothing,
+    one_text, receipts_count_records, refusal_changes_nothing,
 };
 pub use centres::centres_add_up;
 pub use details::{
