@@ -1,6 +1,7 @@
 -- Details that are gathered before they are sent.
-use Rattle.std.proofs.Common.{◌≡◌, ◌∙◌, ℕ, true, List, [], ◌++◌, refl, sym, ap, subst, inl, inr}
-use Rattle.std.proofs.Common.{Some, Result, Ok, Err, append-nil}
+use Rattle.std.proofs.Common.{◌≡◌, ◌∙◌, ◌≤◌, ℕ, true, List, [], ◌++◌, refl, sym, ap, subst, inl, inr}
+use Rattle.std.proofs.Common.{Some, Result, Ok, Err, append-nil, length}
+use Rattle.std.specs.Prelude.{IfOk}
 use Rattle.std.proofs.lemmas.Bool.{true≢false}
 use Rattle.book_model.specs.declared.fault.LedgerFault.{LedgerFault}
 use Rattle.book_model.specs.declared.fault.LedgerFault.TheVariants as fault
@@ -19,10 +20,13 @@ use Rattle.book_reports.specs.StreamedDetails.{detail_text_outcome}
 use Rattle.book_reports.specs.StreamedRulings.{is_hindrance, refusal_in}
 use Rattle.book_reports.proofs.ReadingLemmas.{IsAlike, Tells, fault_alike, goes_on, made}
 use Rattle.book_reports.proofs.ReadingLemmas.{reopens_alike}
+use Rattle.book_reports.proofs.WritingLemmas.{same_value}
 use Rattle.office.specs.Requests.{Response, Text, response_outcome}
-use Rattle.book_http.specs.Answer.{AnswersDetails, form_kind, gathered, office_reply}
+use Rattle.book_http.specs.declared.answer_head.BodyKind.{BodyKind}
+use Rattle.book_http.specs.declared.status.Status.TheVariants.{Done}
+use Rattle.book_http.specs.Answer.{AnswersDetails, form_kind, gathered, most_gathered, office_reply}
 use Rattle.book_http.specs.Replies.{Reply}
-use Rattle.book_http.specs.Served.{IsMeasured}
+use Rattle.book_http.specs.Served.{AreShort, IsMeasured}
 
 -- what may hinder any report tells nothing of it
 hindered_tells : (why : LedgerFault) (answer : Result Response LedgerFault)
@@ -114,6 +118,40 @@ measured_answered old mid new wanted size reply measured answers =
     (subst (λ events. Answering both.between before events is) all
     (subst (λ book. Answering both.between book both.late is)
     (ap (λ events. after_all events before) early) both.next)))
+    (work_then old mid new Measuring Answering measured
+    (subst (λ naming. IsTransition mid new (AnswersDetails naming wanted reply)) measured.naming
+    answers))
+
+-- ---- how long they are
+
+-- what the ledger refused is refused
+pub refused_status : (kind : BodyKind) (why : LedgerFault)
+    → (office_reply kind (Err why)).status ≡ Done → ⊥
+refused_status kind fault.NoSuchPeriod done = cc
+refused_status kind fault.NoSuchTariff done = cc
+refused_status kind fault.NoSuchRecord done = cc
+refused_status kind (fault.TariffRefused refused) done = cc
+refused_status kind fault.Full done = cc
+refused_status kind why done = cc
+
+-- a text that was measured is as long as was found
+shown_short : (said : Result (List ℕ) LedgerFault) (size : ℕ) → shown_by length said ≡ Ok size
+    → size ≤ most_gathered → IfOk said (λ text. length text ≤ most_gathered)
+shown_short (Ok text) size is few = subst (λ n. n ≤ most_gathered) (sym (same_value is)) few
+shown_short (Err why) size is few = tt
+
+-- details that were measured and found short are so, by the book that answers them
+pub measured_short : (old mid new : Seen) (wanted : DetailReport) (size : ℕ) (reply : Reply)
+    → size ≤ most_gathered → IsMeasured old mid wanted size
+    → IsTransition mid new (AnswersDetails mid.naming wanted reply)
+    → IsTransition old new (AreShort old.naming wanted)
+measured_short old mid new wanted size reply few measured answers =
+    let Measuring : Transition =
+    Calls (λ size. size) (detail_length_outcome wanted old.naming) (Ok size) in
+    let Answering : Transition = AnswersDetails old.naming wanted reply in
+    work_as old new (Then Measuring Answering) (AreShort old.naming wanted)
+    (λ was before events is both.
+    shown_short (detail_answer wanted old.naming before) size both.first.makes.0 few)
     (work_then old mid new Measuring Answering measured
     (subst (λ naming. IsTransition mid new (AnswersDetails naming wanted reply)) measured.naming
     answers))

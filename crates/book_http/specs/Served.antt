@@ -1,6 +1,6 @@
 -- What became of one request, however its bytes came.
-use Rattle.std.specs.Prelude.{◌≡◌, ◌⊎◌, ◌<◌, ℕ, Bool, true, false, List, [], ◌++◌, length, take}
-use Rattle.std.specs.Prelude.{Option, None, Result, Ok, Err}
+use Rattle.std.specs.Prelude.{◌≡◌, ◌⊎◌, ◌<◌, ◌≤◌, ℕ, Bool, true, false, List, [], ◌++◌, length, take}
+use Rattle.std.specs.Prelude.{IfOk, Option, None, Result, Ok, Err}
 use Rattle.std.specs.Io.KnownBytes.{Appends}
 use Rattle.httparse.specs.Grammar.{RequestHead}
 use Rattle.streams.specs.InputOutput.{Output}
@@ -69,6 +69,20 @@ abbrev pub Measures : Seen → Seen → DetailReport → Result ℕ Answer → T
 Measures old new wanted (Ok size) = IsMeasured old new wanted size
 Measures old new wanted (Err answer) =
     IsTransition old new (AnswersDetails old.naming wanted (reply_of answer))
+
+-- what was asked for is refused
+abbrev pub IsRefused : Answer → Type 0
+IsRefused answer = (reply_of answer).status ≡ Done → ⊥
+
+-- the text of these details, if the books have one, has no more bytes than are gathered
+abbrev pub AreShort : Naming → DetailReport → Transition
+AreShort naming wanted = λ was before events is.
+    IfOk (detail_answer wanted naming before) (λ text. length text ≤ most_gathered)
+
+-- details that were gathered are such
+abbrev pub IsGathered : Seen → Seen → DetailReport → Answer → Type 0
+IsGathered old new wanted answer =
+    (reply_of answer).status ≡ Done → IsTransition old new (AreShort old.naming wanted)
 
 -- A reply was written while its text was read: the whole; or, where a write, the books or memory failed,
 -- a prefix that is not the whole.

@@ -1,7 +1,7 @@
 //! What the office answers, as answers to requests: a report, what a period would have cost by the
 //! tariff that a body is, or the import of a body; and how many bytes the text of details has.
 
-ghost use Rattle.std.specs.Prelude.{◌≡◌, ◌<◌, IfOk};
+ghost use Rattle.std.specs.Prelude.{◌≡◌, ◌<◌, IfErr, IfOk};
 ghost use Rattle.book_core.specs.Transition.{IsTransition};
 ghost use Rattle.office.specs.Requests.{response_by};
 ghost use Rattle.book_http.specs.Answer as spec;
@@ -9,7 +9,7 @@ ghost use Rattle.book_http.specs.Answer.{AnswersDetails, AnswersImport, AnswersR
 ghost use Rattle.book_http.specs.Answer.{AnswersWhatIf, most_gathered, office_reply};
 ghost use Rattle.book_http.specs.Replies.{reply_of};
 ghost use Rattle.book_http.specs.Requested.{AnswersRequest, office_seen};
-ghost use Rattle.book_http.specs.Served.{Measures};
+ghost use Rattle.book_http.specs.Served.{IsGathered, IsRefused, Measures};
 
 use crate::answer::Answer;
 use crate::answer_head::BodyKind;
@@ -82,7 +82,8 @@ fn measure_details<L: Ledger>(
     ledger: &mut L,
     details: &DetailReport,
 ) -> Result<usize, Answer>
-    ensures { Measures (L.seen ledger.old) (L.seen ledger.new) details.now result }
+    ensures measured { Measures (L.seen ledger.old) (L.seen ledger.new) details.now result }
+    ensures refused { IfErr result IsRefused }
 {
     match details_length(alloc, ledger, *details) {
         Ok(size) => Ok(size),
@@ -124,10 +125,17 @@ pub fn ask_details<L: Ledger>(
 ) -> Result<usize, Answer>
     ensures asked { Measures (L.seen ledger.old) (L.seen ledger.new) details.now result }
     ensures long { IfOk result (λ size. most_gathered < size) }
+
+    // A longer text is not gathered.
+    ensures short { IfErr result (IsGathered (L.seen ledger.old) (L.seen ledger.new) details.now) }
 {
     match measure_details(alloc, ledger, details) {
-        Ok(size) if size > MOST_GATHERED => Ok(size),
-        Ok(_) => Err(gather_details(alloc, ledger, details)),
+        Ok(size) => {
+            if size > MOST_GATHERED {
+                return Ok(size);
+            }
+            Err(gather_details(alloc, ledger, details))
+        }
         Err(answer) => Err(answer),
     }
 }

@@ -1,12 +1,13 @@
-use Rattle.std.proofs.Common.{◌∙◌, ap, Err}
+use Rattle.std.proofs.Common.{◌∙◌, ap, sym, Err}
 use Rattle.book_core.proofs.TransitionLemmas.{work_as}
 use Rattle.book_http.specs.Answer.{AnswersDetails, office_reply}
 use Rattle.book_http.specs.Replies.{reply_of}
+use Rattle.book_http.proofs.GatherLemmas.{refused_status}
 use Rattle.book_http.proofs.StreamLemmas.{text_refused}
 use Rattle.book_http.proofs.office_answers.measure_details.Goals as goal
 
-pub returns-in-Err : goal.returns-in-Err
-returns-in-Err g c =
+pub returns-in-Err-clause-measured : goal.returns-in-Err-clause-measured
+returns-in-Err-clause-measured g c =
     let old = g.L.Ledger.seen c.args.ledger.now in
     let new = g.L.Ledger.seen c.details_length.new.ledger in
     let details = c.args.details.now in
@@ -19,3 +20,8 @@ returns-in-Err g c =
           ∙ ap (λ kind. office_reply kind (Err fault)) c.form_kind-kind.ensures;
     })
     (text_refused details old new fault c.in-Err.ensures).work
+
+pub returns-in-Err-clause-refused : goal.returns-in-Err-clause-refused
+returns-in-Err-clause-refused g c = λ done.
+    refused_status c.form_kind-kind.result c.in-Err.fault
+    (sym (ap (λ reply. reply.status) c.answer_of.ensures) ∙ done)
