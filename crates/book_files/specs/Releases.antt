@@ -1,8 +1,11 @@
 -- What is told of a session, once its files are dropped.
 use Rattle.std.specs.Prelude.{◌≡◌, ◌≢◌, if◌then◌else◌, Bool, Result, Ok, Err, ⊤}
+use Rattle.sqlite_disk.specs.declared.Disk.{Ghosts}
+use Rattle.sqlite_disk.specs.declared.files.Files.{Files}
 use Rattle.book_model.specs.declared.fault.LedgerFault.TheVariants as ledger
 use Rattle.book_trees.specs.declared.closing.LogLeft.{LogLeft}
 use Rattle.book_trees.specs.declared.closing.LogLeft.TheVariants.{Short, Unmoved}
+use Rattle.book_files.specs.Logs.{LooksShort}
 use Rattle.book_files.specs.declared.copies.CopyFault.{CopyFault}
 use Rattle.book_files.specs.declared.copies.CopyFault.TheVariants as copies
 use Rattle.book_files.specs.declared.session.Ended.{Ended}
@@ -31,3 +34,8 @@ IsMoved left = left ≢ Unmoved → left ≡ Short
 abbrev pub HasMovedLog : {D : Type 0} → Ended D → Type 0
 HasMovedLog (Closed closed) = IsMoved closed.log
 HasMovedLog (Refused files) = ⊤
+
+-- a log whose pages were not to be moved looks too short to hold any
+abbrev pub UnmovedLooksShort : {D : Type 0} → Ghosts D → LogLeft → Files D → Type 0
+UnmovedLooksShort g Unmoved files = LooksShort g files
+UnmovedLooksShort g left files = ⊤

@@ -1,7 +1,8 @@
 //! The log that lies beside a file of books while a command runs, and what a command leaves of it.
 
-ghost use Rattle.std.specs.Prelude.{◌≡◌, false, true, OnOk};
-ghost use Rattle.book_files.specs.Releases.{IsMoved};
+ghost use Rattle.std.specs.Prelude.{◌≡◌, false, true, IfSome, IsTrue, OnOk};
+ghost use Rattle.book_files.specs.Logs.{LooksShort};
+ghost use Rattle.book_files.specs.Releases.{IsMoved, UnmovedLooksShort};
 
 use crate::repository::{failed, refused};
 use book_trees::{Closed, LogLeft, is_short, is_unused, lock_at, needs_no_log};
@@ -112,6 +113,7 @@ impl<'a> Log<'a> {
     /// be moved is left as it was.
     pub(crate) fn release<D: Disk + Drop>(&self, closed: Closed<D>) -> bool
         ensures moved { result ≡ false → IsMoved closed.log }
+        ensures short { result ≡ false → UnmovedLooksShort D.Disk closed.log closed.files }
         ensures kept { result ≡ false → self.now.is_kept ≡ false }
     {
         match closed.log {
@@ -137,18 +139,44 @@ impl<'a> Log<'a> {
     /// the opening made is removed. Where there are no files another program may have them, and
     /// nothing is touched.
     pub(crate) fn leave<D: Disk + Drop>(&self, files: Option<Files<D>>) -> bool
-        ensures { result ≡ false → self.now.is_kept ≡ false }
+        ensures short { result ≡ false → IfSome files (LooksShort D.Disk) }
+        ensures kept { result ≡ false → self.now.is_kept ≡ false }
     {
-        let Some(mut files) = files else {
-            return self.is_kept;
-        };
-        let has_log = !is_short(&mut files.log);
-        if !has_log && !self.was_there {
+        match files {
+            Some(files) => self.leave_locked(files),
+            None => self.is_kept,
+        }
+    }
+
+    /// The same of files that nobody else has. A log that is not seen to be short is told of.
+    fn leave_locked<D: Disk + Drop>(&self, files: Files<D>) -> bool
+        ensures short { result ≡ false → LooksShort D.Disk files }
+        ensures kept { result ≡ false → self.now.is_kept ≡ false }
+    {
+        let mut files = files;
+        if looks_short(&mut files) {
+            self.remove_made();
+            drop(files);
+            self.is_kept
+        } else {
+            drop(files);
+            true
+        }
+    }
+
+    /// Takes a short log away that was not there before the opening.
+    fn remove_made(&self) {
+        if !self.was_there {
             self.remove_if_empty();
         }
-        drop(files);
-        has_log || self.is_kept
     }
+}
+
+/// Whether the log of files is seen to be too short to hold anything.
+fn looks_short<D: Disk>(files: &mut Files<D>) -> bool
+    ensures { IsTrue result → LooksShort D.Disk files.old }
+{
+    is_short(&mut files.log)
 }
 
 /// Whether a file begins as books do. What is not a regular file is not read: it might never end.
