@@ -1,5 +1,5 @@
 -- What is told of a session, once its files are dropped.
-use Rattle.std.specs.Prelude.{◌≡◌, ◌≢◌, if◌then◌else◌, Bool, Result, Ok, Err, ⊤}
+use Rattle.std.specs.Prelude.{◌≡◌, ◌≢◌, if◌then◌else◌, Bool, IfSome, Result, Ok, Err, ⊤}
 use Rattle.sqlite_disk.specs.declared.Disk.{Ghosts}
 use Rattle.sqlite_disk.specs.declared.files.Files.{Files}
 use Rattle.book_model.specs.declared.fault.LedgerFault.TheVariants as ledger
@@ -39,3 +39,8 @@ HasMovedLog (Refused files) = ⊤
 abbrev pub UnmovedLooksShort : {D : Type 0} → Ghosts D → LogLeft → Files D → Type 0
 UnmovedLooksShort g Unmoved files = LooksShort g files
 UnmovedLooksShort g left files = ⊤
+
+-- so does that of files which were left as they are: they were closed, or not opened
+abbrev pub LeftLooksShort : {D : Type 0} → Ghosts D → Ended D → Type 0
+LeftLooksShort g (Closed closed) = UnmovedLooksShort g closed.log closed.files
+LeftLooksShort g (Refused files) = IfSome files (LooksShort g)

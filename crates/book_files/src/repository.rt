@@ -3,7 +3,7 @@
 ghost use Rattle.std.specs.Prelude.{◌≡◌, false, Err, OnErr, OnOk};
 ghost use Rattle.std.specs.IoError.{error_kind};
 ghost use Rattle.book_files.specs.Faults.{file_fault, look_answer, open_fault};
-ghost use Rattle.book_files.specs.Releases.{HasMovedLog, seen_answer};
+ghost use Rattle.book_files.specs.Releases.{HasMovedLog, LeftLooksShort, seen_answer};
 ghost use Rattle.named_books.specs.Shelves.{ComesBy};
 
 use crate::log::{Log, begins_as_books};
@@ -204,7 +204,7 @@ impl AuditedRepository for Files<'_> {
 
 /// What came of a session, whose files are dropped. Where no memory was left to see that they hold
 /// books, that is said in place of an answer. Nothing is said of a log only where none is left that
-/// holds pages which were to be moved, and none was put aside.
+/// holds pages which were to be moved, one that was to stay looks short, and none was put aside.
 pub(crate) fn released<T: Drop, D: Disk + Drop>(
     log: &Log<'_>,
     answer: Result<T, RepositoryFault>,
@@ -212,6 +212,7 @@ pub(crate) fn released<T: Drop, D: Disk + Drop>(
 ) -> Opened<T>
     ensures told { result.answer ≡ seen_answer RepositoryFault.Unseen answer ended }
     ensures log { result.has_log ≡ false → HasMovedLog ended }
+    ensures short { result.has_log ≡ false → LeftLooksShort D.Disk ended }
     ensures kept { result.has_log ≡ false → log.now.is_kept ≡ false }
 {
     match ended {
@@ -245,6 +246,7 @@ fn released_upgraded<D: Disk + Drop>(
         (result.answer ≡ seen_answer RepositoryFault.Unseen upgraded ended) }
     ensures refused { OnErr upgraded (result.answer ≡ upgraded) }
     ensures log { result.has_log ≡ false → HasMovedLog ended }
+    ensures short { result.has_log ≡ false → LeftLooksShort D.Disk ended }
     ensures kept { result.has_log ≡ false → log.now.is_kept ≡ false }
 {
     let Opened { answer, has_log } = released(log, upgraded, ended);
