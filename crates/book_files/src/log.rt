@@ -1,13 +1,14 @@
 //! The log that lies beside a file of books while a command runs, and what a command leaves of it.
 
-ghost use Rattle.std.specs.Prelude.{◌≡◌, false, true, IfSome, IsTrue, OnOk};
-ghost use Rattle.book_files.specs.Logs.{LooksShort};
+ghost use Rattle.std.specs.Prelude.{◌≡◌, false, true, IfOk, IfSome, IsTrue, OnOk};
+ghost use Rattle.book_files.specs.Logs.{IsOfNoUse, LooksShort};
 ghost use Rattle.book_files.specs.Releases.{IsMoved, UnmovedLooksShort};
 
 use crate::repository::{failed, refused};
-use book_trees::{Closed, LogLeft, is_short, is_unused, lock_at, needs_no_log};
+use book_trees::{Closed, LogLeft, OpenFault, is_short, is_unused, lock_at, needs_no_log};
 use named_books::RepositoryFault;
 use sqlite_disk::{Disk, Files, Unknown};
+use std::alloc::Global;
 use std::fs::File;
 use std::io::{ErrorKind, Read};
 use std::{fs, io};
@@ -60,19 +61,27 @@ impl<'a> Log<'a> {
             Ok(files) => files,
             Err(fault) => return Err(refused(fault)),
         };
-        let is_unused = match is_unused(self.rt.alloc(), &mut files.log) {
+        self.keep_if_unused(&mut files.log)
+    }
+
+    /// The same of a log that nobody else has.
+    fn keep_if_unused<D: Disk>(&mut self, log: &mut D) -> Result<(), RepositoryFault>
+        requires { IsTrue (D.Disk.is_usable log.old) }
+    {
+        let is_unused = match is_of_no_use(self.rt.alloc(), log) {
             Ok(is_unused) => is_unused,
             Err(fault) => return Err(refused(fault)),
         };
         if is_unused {
-            return self.keep().map_err(|error| failed(&error));
+            return self.keep(log).map_err(|error| failed(&error));
         }
         Ok(())
     }
 
-    /// Renames the log, to a name that nothing has. The opening that follows syncs the folder too,
-    /// and fails where it can't.
-    fn keep(&mut self) -> io::Result<()>
+    /// Renames a log that is of no use to books, to a name that nothing has. No other place renames
+    /// one. The opening that follows syncs the folder too, and fails where it can't.
+    fn keep<D: Disk>(&mut self, _log: &D) -> io::Result<()>
+        requires { IsOfNoUse D.Disk _log.now }
         ensures { OnOk result (self.new.is_kept ≡ true) }
     {
         let kept = format!(in self.rt.alloc(); "{}-kept", self.path.as_str())?;
@@ -170,6 +179,14 @@ impl<'a> Log<'a> {
             self.remove_if_empty();
         }
     }
+}
+
+/// Whether a log is of no use to books.
+fn is_of_no_use<D: Disk>(alloc: Global, log: &mut D) -> Result<bool, OpenFault>
+    requires { IsTrue (D.Disk.is_usable log.old) }
+    ensures { IfOk result (λ is. IsTrue is → IsOfNoUse D.Disk log.new) }
+{
+    is_unused(alloc, log)
 }
 
 /// Whether the log of files is seen to be too short to hold anything.
