@@ -1,6 +1,7 @@
 //! The log that lies beside a file of books while a command runs, and what a command leaves of it.
 
-ghost use Rattle.std.specs.Prelude.{◌≡◌, false, true, IfOk, IfSome, IsTrue, OnOk};
+ghost use Rattle.std.specs.Prelude.{◌≡◌, ◌<◌, false, true, IfOk, IfSome, IsTrue, OnOk};
+ghost use Rattle.book_trees.specs.LedgerFiles.{shortest_log};
 ghost use Rattle.book_files.specs.Logs.{IsOfNoUse, LooksShort};
 ghost use Rattle.book_files.specs.Releases.{IsMoved, UnmovedLooksShort};
 
@@ -107,14 +108,21 @@ impl<'a> Log<'a> {
     /// program has this one. Nothing is lost: by `needs_no_log` the file alone holds the same
     /// books, and what was committed was synced there before the log was cut short.
     pub(crate) fn remove_if_empty(&self) -> bool {
-        let path = self.path.as_str();
-        match fs::symlink_metadata(self.rt, path) {
-            Ok(found) if found.is_file() && needs_no_log(found.len()) => {
-                fs::remove_file(self.rt, path).is_ok()
+        match fs::symlink_metadata(self.rt, self.path.as_str()) {
+            Ok(found) if found.is_file() => {
+                let len = found.len();
+                needs_no_log(len) && self.remove_short(len).is_ok()
             }
             Ok(_) => false,
             Err(error) => error.kind() == ErrorKind::NotFound,
         }
+    }
+
+    /// Deletes a log of so many bytes, which are too few to hold anything.
+    fn remove_short(&self, _len: u64) -> io::Result<()>
+        requires { _len < shortest_log }
+    {
+        fs::remove_file(self.rt, self.path.as_str())
     }
 
     /// Drops the files of books that were closed, with their log where it holds nothing, and says
