@@ -72,7 +72,7 @@ impl Files<'_> {
         begun: &str,
         seed: u64,
     ) -> (Result<(), CopyFault>, bool) {
-        let begun_log = match Log::of(self.rt, begun) {
+        let begun_log = match Log::of(self.rt, begun, true) {
             Ok(begun_log) => begun_log,
             Err(error) => return (Err(CopyFault::Refused(failed(&error))), log.is_kept()),
         };

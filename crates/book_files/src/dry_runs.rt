@@ -1,6 +1,6 @@
 //! What a visit would make of books is tried on a copy of them, which is removed.
 
-ghost use Rattle.std.specs.Prelude.{◌≡◌};
+ghost use Rattle.std.specs.Prelude.{◌≡◌, IfOk, IsTrue};
 ghost use Rattle.named_books.specs.Shelves.{ComesBy};
 
 use crate::copies::{Copied, tried_answer, visit_copy_at};
@@ -39,9 +39,11 @@ impl Files<'_> {
 
     /// Makes the file in which a copy is tried, and says its name and its log. Nothing may have that
     /// name: what a stopped dry run left there may be somebody's as well.
-    fn begin_trial(&self, book: &str) -> Result<(String, Log<'_>), RepositoryFault> {
+    fn begin_trial(&self, book: &str) -> Result<(String, Log<'_>), RepositoryFault>
+        ensures { IfOk result (λ begun. IsTrue begun.1.is_begun) }
+    {
         let begun = self.begin_beside(book, "try")?;
-        match Log::of(self.rt, begun.as_str()) {
+        match Log::of(self.rt, begun.as_str(), true) {
             Ok(begun_log) => Ok((begun, begun_log)),
             Err(error) => {
                 let _ = fs::remove_file(self.rt, begun.as_str());

@@ -23,6 +23,8 @@ pub(crate) struct Log<'a> {
     rt: &'a HostRuntime,
     path: String,
     was_there: bool,
+    /// This call began the file, so whatever the log holds is its own.
+    pub(crate) is_begun: bool,
     /// What was there held nothing of the books, and was given another name.
     pub(crate) is_kept: bool,
 }
@@ -33,7 +35,9 @@ impl<'a> Log<'a> {
     /// refuses it here, before there is a log that would stay. Where one is there already another
     /// program may be at work, which such a sync would hold up each time it is asked. Where the
     /// log's name is that of a file of books nothing is opened, since they would be taken for it.
-    pub(crate) fn of(rt: &'a HostRuntime, book: &str) -> io::Result<Log<'a>> {
+    pub(crate) fn of(rt: &'a HostRuntime, book: &str, is_begun: bool) -> io::Result<Log<'a>>
+        ensures { IfOk result (λ log. log.is_begun ≡ is_begun) }
+    {
         let real = fs::canonicalize(rt, book)?;
         let path = format!(in rt.alloc(); "{}-wal", real.as_str())?;
         let was_there = is_there(rt, path.as_str())?;
@@ -46,6 +50,7 @@ impl<'a> Log<'a> {
             rt,
             path,
             was_there,
+            is_begun,
             is_kept: false,
         })
     }
@@ -147,8 +152,10 @@ impl<'a> Log<'a> {
         }
     }
 
-    /// Takes the log of new books away, whatever it holds, where these could not be made.
-    pub(crate) fn remove(&self) {
+    /// Takes the log of a file that this call began away, whatever it holds.
+    pub(crate) fn remove(&self)
+        requires { IsTrue self.now.is_begun }
+    {
         let _ = fs::remove_file(self.rt, self.path.as_str());
     }
 

@@ -1,7 +1,7 @@
 //! New books are made under a second name, and get their own once they are whole: a stop at any
 //! moment leaves whole books under that name, or nothing.
 
-ghost use Rattle.std.specs.Prelude.{◌≡◌, IsOk, IsSome};
+ghost use Rattle.std.specs.Prelude.{◌≡◌, IsOk, IsSome, IsTrue};
 ghost use Rattle.book_files.specs.Releases.{seen_answer};
 ghost use Rattle.book_files.specs.Sessions.{AreOpened, files_in_hand};
 
@@ -24,7 +24,7 @@ impl Files<'_> {
         self.expect_none(book)?;
         let begun = beside(self.rt, book, "new").map_err(|error| failed(&error))?;
         let is_first = self.begin(begun.as_str())?;
-        let log = match Log::of(self.rt, begun.as_str()) {
+        let log = match Log::of(self.rt, begun.as_str(), is_first) {
             Ok(log) => log,
             Err(error) => {
                 if is_first {
@@ -39,7 +39,7 @@ impl Files<'_> {
             Err(fault) => Err(fault),
         };
         match named {
-            Err(fault) if is_first && fault != RepositoryFault::Busy => {
+            Err(fault) if log.is_begun && fault != RepositoryFault::Busy => {
                 self.remove_begun(begun.as_str(), &log, files.is_some());
                 drop(files);
             }
@@ -70,7 +70,9 @@ impl Files<'_> {
     /// Removes what this call began. While the file is locked it is emptied first: a stop on the
     /// way leaves an empty one, with which the next call begins. A file that was not opened is
     /// empty; another call that has opened it by now finds nothing to rename.
-    fn remove_begun(&self, begun: &str, log: &Log<'_>, is_locked: bool) {
+    fn remove_begun(&self, begun: &str, log: &Log<'_>, is_locked: bool)
+        requires { IsTrue log.now.is_begun }
+    {
         if is_locked {
             let _ = fs::write(self.rt, begun, b"".as_slice());
             log.remove();

@@ -50,7 +50,7 @@ impl<'a> Files<'a> {
             Ok(false) => return Err(RepositoryFault::Ledger(LedgerFault::NotBooks)),
             Err(error) => return Err(failed(&error)),
         }
-        Log::of(self.rt, book).map_err(|error| failed(&error))
+        Log::of(self.rt, book, false).map_err(|error| failed(&error))
     }
 
     /// What a session on a file that may hold books begins with: its log, and a number for the
