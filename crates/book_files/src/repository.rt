@@ -30,7 +30,9 @@ pub struct Files<'a> {
 
 impl<'a> Files<'a> {
     /// The files that this machine has. No opening waits.
-    pub fn of(rt: &'a HostRuntime) -> Files<'a> {
+    pub fn of(rt: &'a HostRuntime) -> Files<'a>
+        ensures { result.wait ≡ 0 }
+    {
         Files { rt, wait: 0 }
     }
 
