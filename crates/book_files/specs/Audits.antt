@@ -80,20 +80,20 @@ pub record ShowsOwn (found : View) : Type 0 where
 abbrev pub GivesUpBy : Type 0 → RepositoryFault → Type 0
 GivesUpBy Why fault = fault ≢ Ledger Memory → Why
 
--- Files that were looked through are given up only where memory ran out, or a call on them failed, or
--- met a limit of the format. Why others have no answer is said elsewhere (`WhyNotAudited`).
+-- Files that were looked through are given up only where memory ran out, or a call on them failed,
+-- or met a limit of the format. Why others have no answer is said elsewhere (`WhyNotAudited`).
 abbrev pub IsGivenUpBy : {D : Type 0} (g : Ghosts D) → Ended D → RepositoryFault → Type 0
 IsGivenUpBy g (Refused files) fault = ⊤
 IsGivenUpBy g (Closed closed) fault =
     AreClean g closed.files.log closed.files.db → GivesUpBy (HaveFailed g closed.files) fault
 
--- no tree of books in the files has more rows than an audit walks over
+-- no tree of books in the files has more rows than are walked over
 abbrev pub HaveFewRows : Image → Type 0
 HaveFewRows found =
     (held : HoldsBooks found) (tree : ℕ) → length (trees_held held tree) < too_many_rows
 
--- Files that hold the book of a history, which calls made, in trees of so few rows, are given up for no
--- other reason.
+-- Files that hold the book of a history, which calls made, in trees of so few rows, are given up
+-- for no other reason.
 abbrev pub WhyGivenUp : {D : Type 0} (g : Ghosts D) → Image → Ended D → RepositoryFault → Type 0
 WhyGivenUp g found ended fault =
     (history : List Event) → HoldsHistory file_names history found → HaveFewRows found

@@ -140,8 +140,8 @@ module _ {D : Type 0} (g : Ghosts D) (found : Image) (ended : Ended D) where
       (λ Failed. HasFaultCause ⊥ ⊥ ⊤) fault ended
 
   -- Why new books were not continued: the files hold none of this form, or a book that is not new;
-  -- or a call on them failed, or met a limit of the format; or memory ran out. Of files that hold no
-  -- book yet no more is said of a fault of the store.
+  -- or a call on them failed, or met a limit of the format; or memory ran out. Of files from
+  -- which no book can be read back no more is said of a fault of the store.
   abbrev pub WhyNotContinued : RepositoryFault → Type 0
   WhyNotContinued fault =
       HasNoAnswerFor g (AreFull g) (HasFaultCause ⊥ (¬ HoldsThisForm found))

@@ -152,7 +152,7 @@ impl<'a> Log<'a> {
         }
     }
 
-    /// Takes the log of a file that this call began away, whatever it holds.
+    /// Takes away the log of a file that this call began, whatever it holds.
     pub(crate) fn remove(&self)
         requires { IsTrue self.now.is_begun }
     {
@@ -188,7 +188,7 @@ impl<'a> Log<'a> {
         }
     }
 
-    /// Takes a short log away that was not there before the opening.
+    /// Takes away a short log that was not there before the opening.
     fn remove_made(&self) {
         if !self.was_there {
             self.remove_if_empty();

@@ -233,7 +233,8 @@ pub fn audit_at<S: Start, W: Watch>(
         (WhyUnsound ⟦<FileFrom<S> as Disk>⟧ (image_at S.Start) result.1) }
 
     // Nor are they given up once they were looked through, if they have few rows, but for want of
-    // memory, or since a call on them failed. Why files were not looked through `cause` says.
+    // memory, or since a call on them failed or met a limit. Why files were not looked through is
+    // said by `cause`.
     ensures ends { IfErr result.0
         (WhyGivenUp ⟦<FileFrom<S> as Disk>⟧ (image_at S.Start) result.1) }
     ensures cause { IfErr result.0
