@@ -91,11 +91,9 @@ fn write_of<L: Ledger, O: Writer + Drop>(
 }
 
 impl<O: Writer + Drop> Visit for Listing<O> {
-    ghost use Rattle.streams.specs.Sinks.{writer_of};
+    ghost use Rattle.streams.specs.Sinks.{has_failed, writer_of};
     ghost use Rattle.book_reports.specs.StreamedAnswers.{WritesAnswerUntil};
-    ghost use Rattle.chargectl.specs.StreamedLists.{WritesSomeOf, list_answer, listing_answered};
-    ghost use Rattle.chargectl.specs.StreamedLists.{ListsOpen};
-    ghost use Rattle.streams.specs.Sinks.{has_failed};
+    ghost use Rattle.chargectl.specs.StreamedLists.{ListsOpen, list_answer, listing_answered};
 
     type Answer = Result<(), ReportFault>;
 
