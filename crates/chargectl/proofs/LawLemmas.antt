@@ -4,6 +4,7 @@ use Rattle.std.proofs.Common.{◌++◌, Option, Some, None, Result, Ok, Err, ap,
 use Rattle.std.specs.Prelude.{IfErr, IfOk}
 use Rattle.std.specs.Cmp.Lexicographic.{bytes_decides}
 use Rattle.std.specs.declared.alloc.AllocError.{AllocError}
+use Rattle.streams.specs.Failures.{HasFailed}
 use Rattle.book_model.specs.Records.{same_bytes}
 use Rattle.book_model.specs.declared.fault.LedgerFault.{LedgerFault}
 use Rattle.book_model.specs.Words.{Book, Event, IsMadeByCalls, Naming, book_after, book_of}
@@ -47,7 +48,7 @@ use Rattle.chargectl.specs.CommandLaws.{ListsAskedOfHistory, ListsOfHistory, Ope
 use Rattle.chargectl.specs.CommandLaws.{ServesEach, ServesOfHistory}
 use Rattle.chargectl.specs.CommandLaws.{TriedBy, TriesOfHistory, place_after}
 use Rattle.chargectl.specs.DryRuns.{ComesOfDryRun, ShowsDry, TriesAndTells, TriesOnceBy}
-use Rattle.chargectl.specs.Requests.{Does, DoesOrRefuses, ServesBy, SettlesBy}
+use Rattle.chargectl.specs.Requests.{Answering, Does, DoesOrRefuses, ServesBy, SettlesBy}
 use Rattle.chargectl.specs.Faults.{settled_as}
 use Rattle.chargectl.specs.StreamedLists.{ListsAsked, ListsBy, WritesSomeOf, list_answer, list_of}
 use Rattle.chargectl.specs.StreamedLists.{listing_answered}
@@ -593,27 +594,29 @@ runs_on shelf waits history name old new answered held (Err fault) had has holds
 
 -- commands in turn, at a place that names records so
 in_turn : {S O E : Type 0} (shelf : S → Shelf) (waits : S → ℕ → Type 0)
-    (contents : O → Option (List ℕ)) (Failed : O → Type 0) (Says : List (List ℕ) → E → E → Type 0)
+    (contents : O → Option (List ℕ)) (may_answer : Answering O)
+    (Says : List (List ℕ) → E → E → Type 0)
     (naming : Naming) (name : List ℕ) (start : List Event) (before : S)
     (commands : List (Commanded S O E))
     → (shelf before).naming ≡ naming → IsMadeByCalls naming start → (shelf before).holds name start
-    → AreCommanded shelf waits contents Failed Says before commands
-    → LeaveHistory shelf contents Failed before naming name start commands
+    → AreCommanded shelf waits contents may_answer Says before commands
+    → LeaveHistory shelf contents may_answer before naming name start commands
     (place_after before commands)
-in_turn shelf waits contents Failed Says naming name start before [] names answered held done =
+in_turn shelf waits contents may_answer Says naming name start before [] names answered held done =
     record { end = start; done = refl; held = held }
-in_turn shelf waits contents Failed Says naming name start before (command ∷ later) names answered held
-    done =
+in_turn shelf waits contents may_answer Says naming name start before (command ∷ later) names answered
+    held done =
     let one = done.0 in
+    let Failed : Type 0 = ∥ HasFailed may_answer command.holds ∥₁ in
     let step = subst (λ naming. Step naming start name (shelf before) (shelf command.after)
     (RunsOn naming name start (shelf before).refuses one.asked (contents command.held)
-    (contents command.holds) (Failed command.holds) command.status)) names
+    (contents command.holds) Failed command.status)) names
     (runs_on shelf waits start name before command.after
     (subst (λ naming. IsMadeByCalls naming start) (sym names) answered) held one.asked command.had
-    (contents command.held) (contents command.holds) (Failed command.holds)
+    (contents command.held) (contents command.holds) Failed
     (λ lines. Says lines command.quiet command.said) command.status one.done) in
-    let rest = in_turn shelf waits contents Failed Says naming name (step.made ++ start) command.after
-    later (step.named ∙ names) step.answered step.held done.1 in
+    let rest = in_turn shelf waits contents may_answer Says naming name (step.made ++ start)
+    command.after later (step.named ∙ names) step.answered step.held done.1 in
     record {
       end = rest.end;
       done = (
@@ -626,8 +629,10 @@ in_turn shelf waits contents Failed Says naming name start before (command ∷ l
 
 -- the headline
 pub commands_follow_history : {S O E : Type 0} (shelf : S → Shelf) (waits : S → ℕ → Type 0)
-    (contents : O → Option (List ℕ)) (Failed : O → Type 0) (Says : List (List ℕ) → E → E → Type 0)
-    → CommandsFollowHistory shelf waits contents Failed Says
-commands_follow_history shelf waits contents Failed Says name start before commands answered held done =
-    in_turn shelf waits contents Failed Says (shelf before).naming name start before commands refl
+    (contents : O → Option (List ℕ)) (may_answer : Answering O)
+    (Says : List (List ℕ) → E → E → Type 0)
+    → CommandsFollowHistory shelf waits contents may_answer Says
+commands_follow_history shelf waits contents may_answer Says name start before commands answered held
+    done =
+    in_turn shelf waits contents may_answer Says (shelf before).naming name start before commands refl
     answered held done

@@ -4,6 +4,7 @@ use Rattle.std.specs.Prelude.{◌≡◌, ◌≢◌, Bool, false, ℕ, List, [], 
 use Rattle.std.specs.Prelude.{IfErr, IfOk, OnOk, Result, Ok, Err, String}
 use Rattle.std.specs.Global.{Global}
 use Rattle.std.specs.declared.alloc.AllocError.{AllocError}
+use Rattle.streams.specs.Failures.{HasFailed}
 use Rattle.streams.specs.InputOutput.{Input}
 use Rattle.tariff_rules.specs.Limits.{most_rate}
 use Rattle.book_model.specs.declared.fault.LedgerFault.{LedgerFault}
@@ -42,7 +43,7 @@ use Rattle.chargectl.specs.Commands.{AsksNothing, IsAskedBy, IsShelfFault, Tells
 use Rattle.chargectl.specs.Commands.{answer_told, first_fault, notice_of}
 use Rattle.chargectl.specs.DryRuns.{ShowsDry}
 use Rattle.chargectl.specs.Faults.{IsFileFault, settled_as, status_by}
-use Rattle.chargectl.specs.Requests.{CommandsBy}
+use Rattle.chargectl.specs.Requests.{Answering, CommandsBy}
 use Rattle.chargectl.specs.StreamedLists.{WritesSomeOf, list_answer, list_end, list_of}
 use Rattle.chargectl.specs.Serving.{AnswersSome, IsToldOf}
 
@@ -65,12 +66,12 @@ place_after before (command ∷ later) = place_after command.after later
 
 -- each kept its contract where the one before it left the books
 abbrev pub AreCommanded : {S O E : Type 0} → (S → Shelf) → (S → ℕ → Type 0) → (O → Option (List ℕ))
-    → (O → Type 0) → (List (List ℕ) → E → E → Type 0) → S → List (Commanded S O E) → Type 0
-AreCommanded shelf waits contents Failed Says before [] = Unit {0}
-AreCommanded shelf waits contents Failed Says before (command ∷ later) =
-    CommandsBy shelf waits before command.after command.words command.had (contents command.held)
-    (contents command.holds) (Failed command.holds) Says command.quiet command.said command.status
-    × AreCommanded shelf waits contents Failed Says command.after later
+    → Answering O → (List (List ℕ) → E → E → Type 0) → S → List (Commanded S O E) → Type 0
+AreCommanded shelf waits contents may_answer Says before [] = Unit {0}
+AreCommanded shelf waits contents may_answer Says before (command ∷ later) =
+    CommandsBy shelf waits before command.after command.words command.had contents may_answer
+    command.held command.holds Says command.quiet command.said command.status
+    × AreCommanded shelf waits contents may_answer Says command.after later
 
 -- After a history this was asked and told, and it made these events, the newest first. Unless a lack
 -- of memory or the store hindered it, that is what the definitions say of the history, looked at as
@@ -294,42 +295,42 @@ RunsOn naming name history Refuses asked held holds Failed status made = made �
 
 -- What a command did to the books of a name, which held this history, by its words, at a place that
 -- refuses books for such reasons; calls made all of what they hold now.
-pub record DoneAfter {S O E : Type 0} (contents : O → Option (List ℕ)) (Failed : O → Type 0)
+pub record DoneAfter {S O E : Type 0} (contents : O → Option (List ℕ)) (may_answer : Answering O)
     (naming : Naming) (name : List ℕ) (history : List Event)
     (Refuses : List ℕ → RepositoryFault → Type 0) (command : Commanded S O E) (made : List Event)
     : Type 0 where
   pub asked : Result Request ArgumentFault
   pub read : AreReadAs program_name most_rate (as_texts command.words) asked
   pub runs : RunsOn naming name history Refuses asked (contents command.held)
-      (contents command.holds) (Failed command.holds) command.status made
+      (contents command.holds) (∥ HasFailed may_answer command.holds ∥₁) command.status made
   pub answered : IsMadeByCalls naming (made ++ history)
 
 -- so it is with each, after the history that goes on with what those before it made, at the place
 -- that they left
-abbrev pub AreDoneAfter : {S O E : Type 0} → (S → Shelf) → (O → Option (List ℕ)) → (O → Type 0) → S
+abbrev pub AreDoneAfter : {S O E : Type 0} → (S → Shelf) → (O → Option (List ℕ)) → Answering O → S
     → Naming → List ℕ → List Event → List (Commanded S O E) → List Event → Type 0
-AreDoneAfter shelf contents Failed before naming name history [] end = end ≡ history
-AreDoneAfter shelf contents Failed before naming name history (command ∷ later) end =
+AreDoneAfter shelf contents may_answer before naming name history [] end = end ≡ history
+AreDoneAfter shelf contents may_answer before naming name history (command ∷ later) end =
     (made : List Event)
-    × DoneAfter contents Failed naming name history (shelf before).refuses command made
-    × AreDoneAfter shelf contents Failed command.after naming name (made ++ history) later end
+    × DoneAfter contents may_answer naming name history (shelf before).refuses command made
+    × AreDoneAfter shelf contents may_answer command.after naming name (made ++ history) later end
 
 -- and the books hold the history with all of it
 pub record LeaveHistory {S O E : Type 0} (shelf : S → Shelf) (contents : O → Option (List ℕ))
-    (Failed : O → Type 0) (before : S) (naming : Naming) (name : List ℕ) (start : List Event)
+    (may_answer : Answering O) (before : S) (naming : Naming) (name : List ℕ) (start : List Event)
     (commands : List (Commanded S O E)) (after : S) : Type 0 where
   pub end : List Event
-  pub done : AreDoneAfter shelf contents Failed before naming name start commands end
+  pub done : AreDoneAfter shelf contents may_answer before naming name start commands end
   pub held : (shelf after).holds name end
 
 -- The headline: after any commands, the books of a name that held a history which calls made hold it
 -- with what the commands made of it; and each told what the definitions give for the whole history
 -- before it, or why the place that it found refused the books.
 abbrev pub CommandsFollowHistory : {S O E : Type 0} → (S → Shelf) → (S → ℕ → Type 0)
-    → (O → Option (List ℕ)) → (O → Type 0) → (List (List ℕ) → E → E → Type 0) → Type 0
-CommandsFollowHistory {S} {O} {E} shelf waits contents Failed Says =
+    → (O → Option (List ℕ)) → Answering O → (List (List ℕ) → E → E → Type 0) → Type 0
+CommandsFollowHistory {S} {O} {E} shelf waits contents may_answer Says =
     (name : List ℕ) (start : List Event) (before : S) (commands : List (Commanded S O E))
     → IsMadeByCalls (shelf before).naming start → (shelf before).holds name start
-    → AreCommanded shelf waits contents Failed Says before commands
-    → LeaveHistory shelf contents Failed before (shelf before).naming name start commands
+    → AreCommanded shelf waits contents may_answer Says before commands
+    → LeaveHistory shelf contents may_answer before (shelf before).naming name start commands
     (place_after before commands)

@@ -2,6 +2,8 @@
 use Rattle.std.specs.Prelude.{◌≡◌, ◌⊎◌, Bool, true, ℕ, List, [], ◌∷◌, ◌++◌, length, Option, None}
 use Rattle.std.specs.Prelude.{IfErr, IfOk, OnErr, Result, Ok, Err, String, string_bytes}
 use Rattle.std.specs.Global.{Global}
+use Rattle.std.specs.declared.io.Error.{Error}
+use Rattle.streams.specs.Failures.{HasFailed}
 use Rattle.tariff_rules.specs.Limits.{most_rate}
 use Rattle.book_model.specs.declared.fault.LedgerFault.TheVariants as ledger
 use Rattle.book_http.specs.declared.served.Served.{Served}
@@ -179,12 +181,17 @@ DoesOrRefuses shelf waits old new (Ok request) had held holds Failed Says status
 DoesOrRefuses shelf waits old new (Err fault) had held holds Failed Says status =
     (new ≡ old) × IsRefusedFor fault held holds Failed Says status
 
+-- what a write of some bytes to an output may answer, and which output it leaves then
+abbrev pub Answering : Type 0 → Type 1
+Answering O = O → List ℕ → Result ℕ Error → O → Type 0
+
 -- The program: its words ask for something by the table of the commands, and that was done. These
 -- lines, and no others, were said on standard error; that the output failed is told only where it has.
-pub record CommandsBy {S E : Type 0} (shelf : S → Shelf) (waits : S → ℕ → Type 0) (old new : S)
-    (words : List (String Global)) (had held holds : Option (List ℕ)) (Failed : Type 0)
-    (Says : List (List ℕ) → E → E → Type 0) (quiet said : E) (status : Status) : Type 0 where
+pub record CommandsBy {S O E : Type 0} (shelf : S → Shelf) (waits : S → ℕ → Type 0) (old new : S)
+    (words : List (String Global)) (had : Option (List ℕ)) (contents : O → Option (List ℕ))
+    (may_answer : Answering O) (held holds : O) (Says : List (List ℕ) → E → E → Type 0)
+    (quiet said : E) (status : Status) : Type 0 where
   pub asked : Result Request ArgumentFault
   pub read : AreReadAs program_name most_rate (as_texts words) asked
-  pub done : DoesOrRefuses shelf waits old new asked had held holds Failed
-      (λ lines. Says lines quiet said) status
+  pub done : DoesOrRefuses shelf waits old new asked had (contents held) (contents holds)
+      (∥ HasFailed may_answer holds ∥₁) (λ lines. Says lines quiet said) status

@@ -1,6 +1,5 @@
 //! The law of the commands. It is the contract of a function that does nothing.
 
-ghost use Rattle.streams.specs.Failures.{HasFailed};
 ghost use Rattle.program_output.specs.Messages.{AreSaid};
 ghost use Rattle.chargectl.specs.CommandLaws.{CommandsFollowHistory};
 
@@ -11,6 +10,6 @@ use streams::Writer;
 /// hold it with what the commands made of it, and each told what the definitions give for the whole
 /// history before it.
 pub fn commands_follow_history<S: WaitingRepository, O: Writer, E: Writer>()
-    ensures { CommandsFollowHistory S.shelf S.waits
-        O.contents (λ output. ∥ HasFailed O.may_answer output ∥₁) (AreSaid E.contents E.may_answer) }
+    ensures { CommandsFollowHistory S.shelf S.waits O.contents O.may_answer
+        (AreSaid E.contents E.may_answer) }
 {}

@@ -47,8 +47,7 @@ pub fn command<S, I: Read + Drop, O: Writer + Drop, E: Writer>(
 where
     S: AuditedRepository + WaitingRepository,
     ensures { CommandsBy S.shelf S.waits repository.old repository.new words.now
-        (I.remaining input) (O.contents output) (O.contents result.1)
-        (∥ HasFailed O.may_answer result.1 ∥₁)
+        (I.remaining input) O.contents O.may_answer output result.1
         (AreSaid E.contents E.may_answer) errors.old errors.new result.0 }
 {
     match requested_by(rt.alloc(), PROGRAM, words, MAX_RATE as u32) {
