@@ -58,8 +58,8 @@ WritesEarly told held holds =
     ((failed : Bool) × WritesLines told held holds failed) ⊎ ((told ≡ []) × (holds ≡ held))
 
 -- What a service came to: these connections were answered; and all that were due, with their lines, unless
--- one did not come or the books were in the way. A write of a line that failed is told at the end, where
--- the output has failed and not else, and ends nothing before. And whether a log is left.
+-- one did not come or the books were in the way. That a write of a line failed is told at the end, and
+-- only where the output has failed; it ends nothing before. And whether a log is left.
 pub record Serves {S : Type 0} (shelf : S → Shelf) (Refuses : RepositoryFault → Type 0) (requests : ℕ)
     (book : List ℕ) (old new : S) (held holds : Option (List ℕ)) (Failed : Type 0) (ended : Ended)
     : Type 0 where
