@@ -177,7 +177,7 @@ report_some form naming book text is =
 -- they were not counted
 pub text_uncounted : (form : DisputeForm) (old new : Seen) (fault : LedgerFault)
     (held : Option (List ℕ))
-    → IsCall (λ count. count) old new (Err fault) (dispute_count_outcome old.naming)
+    → IsCall (λ (count : ℕ). count) old new (Err fault) (dispute_count_outcome old.naming)
     → IsTransition old new (WritesDisputes form old.naming held held (Err (report_fault_of fault)))
 text_uncounted form old new fault held call =
     answer_unread (λ book. refl) fault call (answered_by (dispute_report form)) held
