@@ -5,8 +5,8 @@ ghost use Rattle.smf_frames.specs.Framed as spec;
 use crate::descriptor::DESCRIPTOR_LEN;
 use std::alloc::{AllocError, Global};
 
-/// The most data that a record has, in bytes: with its descriptor, which names the length of both
-/// in two bytes, it has 65,535.
+/// The most data that a record has here, in bytes, a rule of this project: with its descriptor,
+/// which names the length of both in two bytes, it has 65,535.
 pub const MAX_DATA: usize = 65_531;
 
 /// The record with that data.
