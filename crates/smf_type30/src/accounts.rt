@@ -8,8 +8,8 @@ ghost use Rattle.smf_type30.specs.AccountWalk.{BeginsWith, BeginsWithNone, EndsB
 use crate::layout::{ACCOUNTING, Section};
 use crate::section::{count, offset};
 
-/// The first accounting field of a text, which is a length byte and that many bytes, and what
-/// follows it: nothing where the text ends before the field does.
+/// The first accounting field of a text, which is a length byte (SMF30ACL) and that many bytes
+/// (SMF30ACT), and what follows it: nothing where the text ends before the field does.
 pub fn split_account(text: &[u8]) -> Option<(&[u8], &[u8])>
     ensures none { IsNone result → BeginsWithNone text.now }
     ensures some { IfSome result (λ split. BeginsWith text.now split.0.now split.1.now) }

@@ -6,7 +6,7 @@ ghost use Rattle.smf_type30.specs.Section as spec;
 use crate::layout::{Field, Section};
 use crate::number::{number2, number4};
 
-/// The offset that a section's triplet gives.
+/// The offset that a section's triplet gives: bytes from the start of the record's descriptor.
 pub fn offset(bytes: &[u8], section: Section) -> usize
     requires { HasTriplet bytes.now section }
     ensures { result ≡ spec.offset_of bytes.now section }
@@ -18,7 +18,7 @@ pub fn offset(bytes: &[u8], section: Section) -> usize
     number4(bytes, field) as usize
 }
 
-/// The length that a section's triplet gives.
+/// The length that a section's triplet gives, in bytes.
 pub fn len(bytes: &[u8], section: Section) -> u16
     requires { HasTriplet bytes.now section }
     ensures { result ≡ spec.length_of bytes.now section }

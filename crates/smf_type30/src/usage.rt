@@ -78,8 +78,8 @@ impl<'a> Type30<'a> {
         }
     }
 
-    /// The fields of a record, its descriptor included, if its class is Usage: it is tested and read
-    /// in one go.
+    /// The fields of a record, its descriptor included, if its class is Usage: it is tested and
+    /// read in one go.
     #[tactic(auto, using(crate::proofs::UsageFacts::testing))]
     pub fn if_usage(bytes: &'a [u8]) -> Option<Type30<'a>>
         ensures usage { IsSome result ↔ IsUsage bytes.now }
@@ -97,7 +97,7 @@ impl<'a> Type30<'a> {
         })
     }
 
-    /// The subtype: 4 for a step, 5 for a job.
+    /// The subtype: 4 for a step, 5 for a job (SMF30STP).
     #[tactic(auto, using(crate::proofs::UsageFacts::usage), unfolding(crate::specs::Usage::subtype_of))]
     pub fn subtype(&self) -> u16
         ensures value { result ≡ spec.subtype_of self.now }
@@ -108,7 +108,8 @@ impl<'a> Type30<'a> {
     }
 
     /// The identity of the work: system, job name, reader's time and date, subtype, and the step
-    /// number, which is 0 for a job. Two records of one identity are taken for the same work.
+    /// number, which is 0 for a job (SMF30SID, SMF30JBN, SMF30RST, SMF30RSD, SMF30STP, SMF30STN).
+    /// Two records of one identity are taken for the same work.
     #[tactic(auto, using(crate::proofs::UsageFacts::usage))]
     pub fn identity(&self) -> [u8; 24]
         ensures value { result ≡ spec.identity_of self.now }
@@ -123,7 +124,8 @@ impl<'a> Type30<'a> {
         identity
     }
 
-    /// The identity by the second rule: that by the first, and the time and date of the initiation.
+    /// The identity by the second rule: that by the first, and the time and date of the initiation
+    /// (SMF30SIT, SMF30STD).
     #[tactic(auto, using(crate::proofs::UsageFacts::usage))]
     pub fn identity2(&self) -> [u8; 32]
         ensures value { result ≡ spec.identity2_of self.now }
@@ -136,7 +138,7 @@ impl<'a> Type30<'a> {
         identity
     }
 
-    /// The number of the step that ended, None where a job ended.
+    /// The number of the step that ended (SMF30STN), None where a job ended.
     #[tactic(auto, unfolding(crate::specs::Usage::ended_step_of))]
     pub fn ended_step(&self) -> Option<u16>
         ensures { result ≡ spec.ended_step_of self.now }
@@ -147,8 +149,8 @@ impl<'a> Type30<'a> {
         Some(BigEndian::read_u16(self.step()))
     }
 
-    /// When the work was initiated, as in the record: 4 bytes of time, in hundredths of a second
-    /// since midnight, and 4 of a packed date.
+    /// When the work was initiated, as in the record: 4 bytes of time (SMF30SIT), in hundredths of
+    /// a second since midnight, and 4 of a packed date (SMF30STD).
     #[tactic(auto, unfolding(crate::specs::Usage::initiation_of))]
     pub fn initiation(&self) -> &'a [u8]
         ensures value { result.now ≡ spec.initiation_of self.now }
@@ -157,7 +159,7 @@ impl<'a> Type30<'a> {
         self.identified(INITIATION)
     }
 
-    /// When the record was moved into the SMF buffer, by its header.
+    /// When the record was moved into the SMF buffer, by its header (SMF30DTE, SMF30TME).
     #[tactic(auto, using(crate::proofs::UsageFacts::usage), unfolding(crate::specs::Usage::day_of, crate::specs::Usage::time_of))]
     pub fn moment(&self) -> Moment
         ensures day { result.day ≡ spec.day_of self.now }
@@ -168,7 +170,7 @@ impl<'a> Type30<'a> {
         self.moment
     }
 
-    /// The CPU time, under TCBs and SRBs, in hundredths of a second.
+    /// The CPU time, under TCBs and SRBs together, in hundredths of a second (SMF30CPT, SMF30CPS).
     #[tactic(auto, using(crate::proofs::UsageFacts::usage))]
     pub fn cpu(&self) -> u64
         ensures value { result ≡ spec.cpu_of self.now }
@@ -178,7 +180,7 @@ impl<'a> Type30<'a> {
         u64::from(number4(processor, TCB_TIME)) + u64::from(number4(processor, SRB_TIME))
     }
 
-    /// The blocks transferred, the EXCP count: 0 without an I/O activity section.
+    /// The blocks transferred, the EXCP count (SMF30TEP): 0 without an I/O activity section.
     #[tactic(auto, using(crate::proofs::UsageFacts::usage), unfolding(crate::specs::Usage::excp_of))]
     pub fn excp(&self) -> u32
         ensures value { result ≡ spec.excp_of self.now }
@@ -189,7 +191,7 @@ impl<'a> Type30<'a> {
         number4(section_bytes(self.bytes, IO_ACTIVITY), BLOCKS)
     }
 
-    /// The name of the job: 8 bytes of EBCDIC.
+    /// The name of the job: 8 bytes of EBCDIC (SMF30JBN).
     #[tactic(auto, unfolding(crate::specs::Usage::job_of))]
     pub fn job(&self) -> &'a [u8]
         ensures value { result.now ≡ spec.job_of self.now }
@@ -198,7 +200,7 @@ impl<'a> Type30<'a> {
         self.identified(JOB_NAME)
     }
 
-    /// The name of the program: 8 bytes of EBCDIC.
+    /// The name of the program: 8 bytes of EBCDIC (SMF30PGM).
     #[tactic(auto, unfolding(crate::specs::Usage::program_of))]
     pub fn program(&self) -> &'a [u8]
         ensures value { result.now ≡ spec.program_of self.now }
@@ -207,7 +209,7 @@ impl<'a> Type30<'a> {
         self.identified(PROGRAM_NAME)
     }
 
-    /// The JES job identifier: 8 bytes of EBCDIC.
+    /// The JES job identifier: 8 bytes of EBCDIC (SMF30JNM).
     #[tactic(auto, unfolding(crate::specs::Usage::job_id_of))]
     pub fn job_id(&self) -> &'a [u8]
         ensures value { result.now ≡ spec.job_id_of self.now }
@@ -216,7 +218,7 @@ impl<'a> Type30<'a> {
         self.identified(JOB_ID)
     }
 
-    /// Accounting field n, the first being 1, None where the record has fewer.
+    /// Accounting field n, the first being 1 (SMF30ACT), None where the record has fewer.
     #[tactic(auto, using(crate::proofs::UsageFacts::usage))]
     pub fn account(&self, n: u16) -> Option<&'a [u8]>
         ensures value { option_copied result ≡ spec.account_of self.now n }
@@ -225,7 +227,7 @@ impl<'a> Type30<'a> {
         accounts::account(self.bytes, n)
     }
 
-    /// The number of accounting fields.
+    /// The number of accounting fields (SMF30AON).
     #[tactic(auto, using(crate::proofs::UsageFacts::usage))]
     pub fn account_count(&self) -> u16
         ensures { result ≡ count_of self.now accounting }
@@ -243,8 +245,8 @@ impl<'a> Type30<'a> {
         accounts::from_section(self.bytes, ACCOUNTING)
     }
 
-    /// The completion code and the termination indicator, 2 bytes each, None without a completion
-    /// section.
+    /// The completion code and the termination indicator (SMF30SCC, SMF30STI), 2 bytes each, None
+    /// without a completion section.
     #[tactic(auto, using(crate::proofs::UsageFacts::usage), unfolding(crate::specs::Usage::completion_of))]
     pub fn completion(&self) -> Option<[u8; 4]>
         ensures value { result ≡ spec.completion_of self.now }
