@@ -12,8 +12,7 @@ use sqlite_trees::error::StoreError;
 use sqlite_trees::store::Store;
 use sqlite_value::row::Row;
 
-/// Puts a row beside the others; one that is there already is left as it is. Nothing is committed;
-/// an error is the store's own.
+/// Puts a row beside the others; one that is there already is left as it is. Nothing is committed.
 pub fn add_row<S: Store>(store: &mut S, tree: u32, row: &Row) -> Result<(), StoreError>
     requires { IsSorted S.Store store.old tree }
     ensures done { OnOk result (IsClean (S.Store.view store.new)
@@ -27,8 +26,7 @@ pub fn add_row<S: Store>(store: &mut S, tree: u32, row: &Row) -> Result<(), Stor
     Ok(())
 }
 
-/// Takes a row out; one that is not there leaves the others as they are. Nothing is committed; an
-/// error is the store's own.
+/// Takes a row out; one that is not there leaves the others as they are. Nothing is committed.
 pub fn remove_row<S: Store>(store: &mut S, tree: u32, row: &Row) -> Result<(), StoreError>
     requires { IsSorted S.Store store.old tree }
     ensures done { OnOk result (IsClean (S.Store.view store.new)
@@ -43,8 +41,8 @@ pub fn remove_row<S: Store>(store: &mut S, tree: u32, row: &Row) -> Result<(), S
 }
 
 /// Removes a row, and puts another in its place. A row is its own key in its tree, so one that
-/// gets other values is removed first. Nothing is committed; an error is the store's own, and the
-/// row may be gone then until the transaction is rolled back.
+/// gets other values is removed first. Nothing is committed. After an error the row may be gone
+/// until the transaction is rolled back.
 pub fn change_row<S: Store>(
     store: &mut S,
     tree: u32,
@@ -64,8 +62,8 @@ pub fn change_row<S: Store>(
 }
 
 /// Puts a row in the place of the one that has its key, or beside the others where none has. The
-/// old one is read into `found`. Nothing is committed; an error is the store's own, and the old
-/// row may be gone then until the transaction is rolled back.
+/// old one is read into `found`. Nothing is committed. After an error the old row may be gone until
+/// the transaction is rolled back.
 #[tactic(auto, using(crate::proofs::Calls::calls_in_turn))]
 pub fn put_row<S: Store>(
     store: &mut S,
@@ -88,8 +86,8 @@ pub fn put_row<S: Store>(
 }
 
 /// Puts a row in the place of the one that has the key, if one has; `found` is where that is read
-/// to. Nothing is committed; an error is the store's own, and the old row may be gone then until
-/// the transaction is rolled back.
+/// to. Nothing is committed. After an error the old row may be gone until the transaction is rolled
+/// back.
 #[tactic(auto, using(crate::proofs::Calls::calls_in_turn))]
 pub fn replace_row<S: Store>(
     store: &mut S,
@@ -112,7 +110,7 @@ pub fn replace_row<S: Store>(
 }
 
 /// Takes the row that has the key, if one has; `found` is where it is read to. Nothing is
-/// committed; an error is the store's own.
+/// committed.
 pub fn drop_row<S: Store>(
     store: &mut S,
     tree: u32,
