@@ -69,9 +69,9 @@ pub fn list_first<S: Store, T: ReadRow + Drop>(
     Ok(all)
 }
 
-/// Reads all rows that begin with the columns of `part`, in order. More than `MOST_ROWS` are
-/// answered as a damaged file. Nothing is written to the store; an error is the store's own, or
-/// that of a row that was not read. What is in `row` is lost.
+/// Reads all rows that begin with the columns of `part`, in order. Nothing is written to the store.
+/// What is in `row` is lost. An error is the store's own, or that of a row that was not read; more
+/// than `MOST_ROWS` are an error too: `Corrupt`, which no clause names.
 pub fn list_run<S: Store, T: ReadRow + Drop>(
     store: &mut S,
     tree: u32,

@@ -121,7 +121,8 @@ impl<S: Store> TreeTables<S> {
         Ok(Some(read_choice(&self.row)?))
     }
 
-    /// The choice of a number that a row says. Where there is none, the file is damaged.
+    /// The choice of a number that a row says. Where there is none, it is an error: `Corrupt`,
+    /// which no clause names.
     fn choice_numbered(&mut self, number: u32) -> Result<StoredChoice, StoreError>
         ensures looks { Looks result (state_of self.old) (state_of self.new)
             (λ tables stored. FindsChoice number tables (Some stored)) }

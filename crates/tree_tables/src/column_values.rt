@@ -1,4 +1,5 @@
-//! Columns that are read into types of the books. What does not fit is an ill-formed row.
+//! Columns that are read into types of the books. A column that does not fit is an error:
+//! `Corrupt`, which no clause names.
 
 ghost use Rattle.std.specs.Prelude.{◌≡◌, ◌≢◌, ◌<◌, ◌+◌, ◌++◌, ◌^◌, IfErr, IfOk, IfSome, None, OnOk};
 ghost use Rattle.std.specs.Prelude.{ℤ, length, map, pos, slice_set, string_bytes};

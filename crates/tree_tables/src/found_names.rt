@@ -40,7 +40,8 @@ impl<S: Store> TreeTables<S> {
     ghost use Rattle.tree_tables.specs.Fits.{AllNamed, IsNamed};
     ghost use Rattle.tree_tables.specs.Steps.{FailsByStore, Looks};
 
-    /// The record of a name that a row says. Where there is none, the file is damaged.
+    /// The record of a name that a row says. Where there is none, it is an error: `Corrupt`, which
+    /// no clause names.
     pub fn record_named(&mut self, alloc: Global, name: &[u8]) -> Result<StoredRecord, StoreError>
         ensures looks { Looks result (state_of self.old) (state_of self.new)
             (λ tables stored. FindsRecord name.now tables (Some stored)) }

@@ -33,7 +33,7 @@ pub fn record_with(alloc: Global, data_bytes: &[u8]) -> Result<Vec<u8>, AllocErr
 }
 
 /// Writes the record with that data over `bytes`, so that a walk over many needs memory once. Data
-/// that are too long for a record are an ill-formed row.
+/// that are too long for a record are an error: `Corrupt`, which no clause names.
 pub fn put_data(bytes: &mut Vec<u8>, data_bytes: &[u8]) -> Result<(), StoreError>
     ensures bytes { OnOk result (bytes.new.items ≡ framed.record_with data_bytes.now) }
     ensures taken { IfErr result (λ error. IsUsageData data_bytes.now
@@ -46,7 +46,8 @@ pub fn put_data(bytes: &mut Vec<u8>, data_bytes: &[u8]) -> Result<(), StoreError
     Ok(())
 }
 
-/// The fields of a stored record. One that is no usage record is an ill-formed row.
+/// The fields of a stored record. One that is no usage record is an error: `Corrupt`, which no
+/// clause names.
 pub fn usage_in(bytes: &[u8]) -> Result<Type30<'_>, StoreError>
     ensures value { IfOk result (λ usage. usage ≡ bytes.now) }
     ensures usage { IsOk result ↔ IsUsage bytes.now }
@@ -58,7 +59,7 @@ pub fn usage_in(bytes: &[u8]) -> Result<Type30<'_>, StoreError>
 }
 
 /// Writes the usage record with that data over `bytes`. Data that are those of no usage record are
-/// an ill-formed row.
+/// an error: `Corrupt`, which no clause names.
 pub(crate) fn put_usage(bytes: &mut Vec<u8>, data_bytes: &[u8]) -> Result<(), StoreError>
     ensures bytes { OnOk result (bytes.new.items ≡ framed.record_with data_bytes.now) }
     ensures usage { OnOk result (IsUsage bytes.new.items) }
@@ -70,7 +71,8 @@ pub(crate) fn put_usage(bytes: &mut Vec<u8>, data_bytes: &[u8]) -> Result<(), St
     Ok(())
 }
 
-/// The usage record with that data. Data that are those of no usage record are an ill-formed row.
+/// The usage record with that data. Data that are those of no usage record are an error: `Corrupt`,
+/// which no clause names.
 pub fn usage_bytes(alloc: Global, data_bytes: &[u8]) -> Result<Vec<u8>, StoreError>
     ensures bytes { IfOk result (λ made. made.items ≡ framed.record_with data_bytes.now) }
     ensures usage { IfOk result (λ made. IsUsage made.items) }
