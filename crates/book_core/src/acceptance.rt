@@ -7,7 +7,7 @@ ghost use Rattle.book_model.specs.Records as spec;
 use crate::limits::{MAX_COST, MAX_HELD};
 use book_model::Naming;
 
-/// The name of a record: that of its data.
+/// The name of a record: that of its data, which follow the 4 bytes of its descriptor.
 pub fn name_of<N: Naming>(naming: &N, bytes: &[u8]) -> [u8; 32]
     requires { 4 ≤ length bytes.now }
     ensures { result ≡ spec.name_of (N.name_of naming.now) bytes.now }

@@ -20,8 +20,9 @@ use std::alloc::Global;
 use tariff_rules::Tariff;
 
 /// The books of an office, however they are kept. Each call is at most one change of them: it is
-/// made whole, or not at all. After `Store` every call answers `Reopen`, and only the next open of
-/// the books shows whether the change was made.
+/// made whole, or not at all. A refused call changes nothing; what refuses it is said at each, in
+/// the order of the tests. Any call may answer `Memory` or `Store` instead. After `Store` every
+/// call answers `Reopen`, and only the next open of the books shows whether the change was made.
 pub trait Ledger {
     /// What is seen of the books, and what a stop leaves of them.
     ghost seen: { Self → Seen };
@@ -29,12 +30,14 @@ pub trait Ledger {
     /// Submits a tariff file. Its tariff is in force from its first day on, where that day is
     /// later than the last close and every other tariff's; the records that are held and dated on
     /// it or after it are priced anew, where the books have room for what all of them cost then.
+    /// Refused: `TariffRefused`, `TariffExists`, `TariffDate`, `Full`.
     fn tariff(&mut self, text: &str) -> Result<Ruled, LedgerFault>
         ensures { IsCall (λ ruled. ruled) (seen self.old) (seen self.new) result
             (tariff_outcome text.now) };
 
     /// Closes the open period, which is to be this one, through a day later than the last close.
-    /// The day is counted from 1970-01-01.
+    /// The day is counted from 1970-01-01. Refused: `WrongPeriod` with the open one, `NotLater`,
+    /// and `Full` where no period may follow.
     fn close(&mut self, period: u16, through: i32) -> Result<Ruled, LedgerFault>
         requires { IsDay through }
         ensures { IsCall (λ ruled. ruled) (seen self.old) (seen self.new) result
@@ -42,19 +45,21 @@ pub trait Ledger {
 
     /// Chooses a record that is held, by its name, among those of its identity: it counts as
     /// undisputed from now on, the others stay uncharged. The choice that came last counts.
+    /// Refused: `NoSuchRecord`, `NotDisputed`, and `Full` where there is no room for a choice.
     fn choose(&mut self, name: [u8; 32]) -> Result<Ruled, LedgerFault>
         ensures { IsCall (λ ruled. ruled) (seen self.old) (seen self.new) result
             (choose_outcome (seen self.old).naming name) };
 
     /// Adopts a rule of identity, 1 or 2: by the second one two records measure the same work only
     /// where that began at the same moment. Books begin under the first rule, and adopt the second
-    /// once, for good; closed periods stay.
+    /// once, for good; closed periods stay. Refused: `OldRule`, for rule 1 where the second is in
+    /// force, and for any number that is no rule.
     fn adopt_identity(&mut self, rule: u8) -> Result<Ruled, LedgerFault>
         ensures { IsCall (λ ruled. ruled) (seen self.old) (seen self.new) result
             (adopt_outcome rule) };
 
     /// Submits a record, which is held from now on where it is new, a tariff is in force on its
-    /// day, and there is room for it.
+    /// day, and there is room for it. Refused: `DigestClash`, `Full`.
     fn accept(&mut self, bytes: &[u8]) -> Result<Accepted, LedgerFault>
         requires { IsUsageRecord bytes.now }
         ensures { IsCall (λ accepted. accepted) (seen self.old) (seen self.new) result
@@ -62,8 +67,8 @@ pub trait Ledger {
 
     /// Submits records in order, as one change of the books: the first, and as many after it as
     /// one change takes, up to the next that is refused. Answers those that it took, each as
-    /// `accept` would; or why the first is refused. After `Store` the next open finds some first
-    /// records of them, or none.
+    /// `accept` would; or why the first is refused, as `accept` says it. After `Store` the next
+    /// open finds some first records of them, or none.
     fn accept_many(&mut self, records: &[Vec<u8>]) -> Result<Vec<Accepted>, LedgerFault>
         requires some { 0 < length records.now }
         requires usage { All (λ one. IsUsageRecord one.items) records.now }
@@ -71,21 +76,21 @@ pub trait Ledger {
             (Takes (seen self.old).naming (records_in records.now) result) }
         ensures some { IfOk result (λ answers. 0 < length answers.items) };
 
-    /// The charge rows of a period, by day, then centre, then shift.
+    /// The charge rows of a period, by day, then centre, then shift. Refused: `NoSuchPeriod`.
     fn charges(&mut self, period: u16) -> Result<Vec<ChargeRow>, LedgerFault>
         ensures rows { IsCall (λ rows. rows.items) (seen self.old) (seen self.new) result
             (charges_outcome period) }
         ensures shown { IfOk result (λ rows. AreRows rows.items) };
 
     /// The charge rows that a period would have by another tariff: the records that it counts, each
-    /// by this tariff, whatever its first day. Where they cost more by it than books hold, that is
-    /// answered as for books that are full. Nothing is changed.
+    /// by this tariff, whatever its first day. Nothing is changed. Refused: `NoSuchPeriod`, and
+    /// `Full` where they cost more by it than books hold.
     fn charges_under(&mut self, period: u16, tariff: &Tariff) -> Result<Vec<ChargeRow>, LedgerFault>
         ensures rows { IsCall (λ rows. rows.items) (seen self.old) (seen self.new) result
             (what_if_outcome period tariff.now) }
         ensures shown { IfOk result (λ rows. AreRows rows.items) };
 
-    /// The adjustment lines of a period, by day, then name.
+    /// The adjustment lines of a period, by day, then name. Refused: `NoSuchPeriod`.
     fn adjustments(&mut self, period: u16) -> Result<Vec<Line>, LedgerFault>
         ensures lines { IsCall (λ lines. lines.items) (seen self.old) (seen self.new) result
             (adjustments_outcome (seen self.old).naming period) }
@@ -94,7 +99,7 @@ pub trait Ledger {
     /// The first of the details of a period that comes after one; `None` where there are no more.
     /// They are the records that the period counts, by day, centre, shift, time and name; where a
     /// centre is named, those of that centre alone. After none it is the first of all: so a list of
-    /// any length is read with one detail in memory.
+    /// any length is read with one detail in memory. Refused: `NoSuchPeriod`.
     fn next_detail(
         &mut self,
         period: u16,
@@ -106,7 +111,7 @@ pub trait Ledger {
         ensures shown { IfOk result ShowsDetail };
 
     /// The identities of two or more records that are held, where none was chosen, by their
-    /// bytes, each with its records by name.
+    /// bytes, each with its records by name. Never refused.
     fn disputes(&mut self) -> Result<Vec<Dispute>, LedgerFault>
         ensures disputes { IsCall (λ found. map dispute_shown found.items)
             (seen self.old) (seen self.new) result (disputes_outcome (seen self.old).naming) }
@@ -115,14 +120,15 @@ pub trait Ledger {
     /// The first of the disputes whose identity is these bytes or comes after them; `None` where
     /// there are no more. From no bytes on it is the first of all, and from an identity with a zero
     /// byte behind it the next one: so a list of any length is read with one dispute in memory.
+    /// Never refused.
     fn dispute_from(&mut self, from: &[u8]) -> Result<Option<Dispute>, LedgerFault>
         ensures dispute { IsCall (λ found. option_map dispute_shown found)
             (seen self.old) (seen self.new) result
             (dispute_outcome (seen self.old).naming from.now) }
         ensures shown { IfOk result ShowsDispute };
 
-    /// The days through which periods were closed, in order, from 1970-01-01. The open period comes
-    /// after them.
+    /// The days through which periods were closed, in order, counted from 1970-01-01. The open
+    /// period comes after them. Never refused.
     fn periods(&mut self) -> Result<Vec<i32>, LedgerFault>
         ensures days { IsCall (λ days. days.items) (seen self.old) (seen self.new) result
             periods_outcome }
@@ -130,7 +136,7 @@ pub trait Ledger {
 
     /// The ruling of a number, from 0, in the list of the office's rulings: the tariffs that came
     /// as texts, the closes, the choices, the adoption of the second rule of identity. `None` where
-    /// there are no more.
+    /// there are no more. Never refused.
     fn ruling(&mut self, number: u64) -> Result<Option<ListedRuling>, LedgerFault>
         ensures ruling { IsCall (λ found. option_map ruling_shown found)
             (seen self.old) (seen self.new) result
@@ -139,6 +145,7 @@ pub trait Ledger {
 
     /// The trail of the record that is held under a name: how its price came about, the other
     /// records of its identity and the choices among them, and what each period did with it.
+    /// Refused: `NoSuchRecord`.
     fn trail_of(&mut self, alloc: Global, name: &[u8; 32]) -> Result<Trail, LedgerFault>
         ensures trail { IsCall trail_shown (seen self.old) (seen self.new) result
             (trail_outcome (seen self.old).naming name.now) }
