@@ -1,4 +1,4 @@
-//! Days beside that of a close.
+//! Days beside that of a close, in days since 1970-01-01.
 
 ghost use Rattle.std.specs.Prelude.{◌≡◌};
 ghost use Rattle.book_model.specs.CloseDays as spec;

@@ -44,7 +44,7 @@ fn closes_before(closes: &[i32], day: &i32) -> usize
 pub struct Rulings {
     /// In the order of their first days.
     tariffs: Vec<AcceptedTariff>,
-    /// The days through which periods were closed, in order.
+    /// The days through which periods were closed, in order, counted from 1970-01-01.
     closes: Vec<i32>,
     /// The period that was open when the second rule of identity was adopted, if it was.
     adopted: Option<u16>,
@@ -98,7 +98,7 @@ impl Rulings {
         &self.tariffs
     }
 
-    /// The days through which periods were closed, in order.
+    /// The days through which periods were closed, in order, counted from 1970-01-01.
     pub fn closes(&self) -> &[i32]
         ensures { result.now ≡ (ruled_in self.now).closes }
     {
@@ -112,7 +112,7 @@ impl Rulings {
         self.adopted
     }
 
-    /// The day of the last close, if there was one.
+    /// The day of the last close, if there was one, in days since 1970-01-01.
     #[tactic(auto, using(crate::proofs::RulingLemmas::last_found))]
     pub fn last_close(&self) -> Option<i32>
         ensures { result ≡ ruling.last_close (ruled_in self.now) }
@@ -136,7 +136,7 @@ impl Rulings {
         closes_before(&self.closes, day) as u16 + 1
     }
 
-    /// The day through which a period was closed, if it was.
+    /// The day through which a period was closed, if it was, in days since 1970-01-01.
     pub fn through_of(&self, period: u16) -> Option<i32>
         ensures { result ≡ spec.through_of period (ruled_in self.now) }
     {

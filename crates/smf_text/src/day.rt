@@ -11,10 +11,10 @@ use jiff::civil;
 use jiff_core::civil::Date;
 use std::alloc::{AllocError, Global};
 
-/// The first day that this product knows, 1900-01-01.
+/// The first day that this product knows, 1900-01-01, in days since 1970-01-01.
 pub const FIRST_DAY: i32 = -25_567;
 
-/// The last day that this product knows, 2099-12-31.
+/// The last day that this product knows, 2099-12-31, in days since 1970-01-01.
 pub const LAST_DAY: i32 = 47_481;
 
 /// The date of a day.
