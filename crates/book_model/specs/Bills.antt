@@ -74,7 +74,7 @@ work_rows details = rows_of (map (λ detail. detail.priced) details)
 abbrev pub is_paid_by : Option (List ℕ) → Priced → Bool
 is_paid_by centre priced = option_map_or (same_bytes priced.centre) centre true
 
--- the period of the last charge in a life before a period, if there was one
+-- the period of the last charge in the life of one record before a period, if there was one
 abbrev pub charged_before : ℕ → List Turn → Option ℕ
 charged_before number life =
     option_map (λ (turn : Turn). turn.period)

@@ -22,7 +22,7 @@ use Rattle.consistent_tables.specs.DueRows.{due_entry, period_from}
 abbrev pub ruled : Tables → Rulings
 ruled tables = rulings_of_tables tables
 
--- the line of a record in a period: whether it adds the record
+-- the adjustment line of a record in a period: whether it adds the record
 abbrev pub line_at : Tables → List ℕ → ℕ → Option Bool
 line_at tables name period = get tables.lines (period, name)
 

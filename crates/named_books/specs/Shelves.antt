@@ -50,7 +50,8 @@ pub record OpenedAnew (Made : Transition) (was : Bool) (before : Book) (events :
   pub left : Bool
   pub made : Made false before events left
 
--- Books of this history now hold one that goes on with what such work made of it.
+-- Books of this history now hold one that goes on with what such work made of it. (`HoldsMore` of
+-- book_import is about the records of two books.)
 pub record HoldsMore (Made : Transition) (history : List Event) (Holds : List Event → Type 0) : Type 0
   where
     pub events : List Event

@@ -49,7 +49,7 @@ is_taken treatment = false
 abbrev pub line_of : Bool → Entry → Line
 line_of plus entry = line_with plus entry.0 (record_of entry.1) entry.1.priced
 
--- the line that a period has for it, if it adds the record or takes it back
+-- the adjustment line that a period has for it, if it adds the record or takes it back
 abbrev pub line_at : Option Treatment → Entry → Option Line
 line_at (Some Added) entry = Some (line_of true entry)
 line_at (Some Taken) entry = Some (line_of false entry)

@@ -29,7 +29,7 @@ program_name = codes "chargectl"
 abbrev pub line_of : List ℕ → List ℕ
 line_of what = program_name ++ codes ": " ++ what ++ newline
 
--- the same about the line of a file that has this number
+-- the same about the line of a text file that has this number
 abbrev pub line_at : List ℕ → ℕ → List ℕ
 line_at what number = line_of (what ++ codes " line " ++ decimal number)
 

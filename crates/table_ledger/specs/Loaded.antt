@@ -76,7 +76,8 @@ pub record AreCloses (rows : List Close) (closes : List ℤ) : Type 0 where
   pub days : All IsDay closes
   pub in_order : IsStrictlySortedBy int_cmp closes
 
--- rows are those of a book of these rulings with this many choices, within the office's limits
+-- The rows that are read at an open are those of a book of these rulings with this many choices,
+-- within the office's limits. (`AreRowsOf` of OtherPrices is about charge rows.)
 pub record AreRowsOf (row : Stored) (texts : List StoredTariff) (days : List Close) (choices : ℕ)
     (rulings : Rulings) : Type 0 where
   pub book : IsBookRow row

@@ -89,8 +89,8 @@ WantsMemory terms test row sums error =
     → SumsUp sums (costs_of terms test passed) true → length passed < most_held
     → RecordFits row → IsUsageData entry.1.data_bytes → error ≡ OutOfMemory
 
--- the charge rows of costs, which can be shown where there are no more costs than records may be
--- held; or none where they are too dear
+-- The charge rows of costs, which can be shown where there are no more costs than records may be
+-- held; or none where they are too dear. (`AreRowsOf` of Loaded is about what an open reads.)
 abbrev pub AreRowsOf : List Priced → Option (Vec ChargeRow Global) → Type 0
 AreRowsOf costs found =
     MatchOption found (rows_if_room costs ≡ Err Full)

@@ -15,8 +15,8 @@ use Rattle.table_ledger.specs.declared.trails.Kin.{Kin}
 use Rattle.table_ledger.specs.DisputeReads.{IsShownRow}
 use Rattle.table_ledger.specs.RecordReads.{CanBeRead}
 
--- What was charged before some periods, by what they did: before a charge the record was not
--- charged, and before a reversal it was.
+-- Whether one record was charged before some periods, by what they did with it: before a charge it
+-- was not, and before a reversal it was.
 abbrev pub charged_before : Bool → List Turn → Bool
 charged_before charged [] = charged
 charged_before charged (turn ∷ later) = not (is_charge turn.deed)

@@ -69,7 +69,7 @@ close_after (suc k) closes = slice_get closes k
 abbrev pub union_of : Records → Records → Records
 union_of one other = set_of by_bytes (members one ++ members other)
 
--- what was charged before a period that ended with these records charged
+-- the records that were charged before a period that ended with these charged
 abbrev pub charged_before : Period → Records → Records
 charged_before period charged =
     union_of (without (without charged period.counted) period.added) period.taken

@@ -63,7 +63,8 @@ CountsSharing identity tables count = count ≡ length (take 2 (rows_with identi
 abbrev pub ListsSharing : List ℕ → Tables → List StoredRecord → Type 0
 ListsSharing identity tables list = map stored_entry list ≡ rows_with identity tables.records
 
--- the record with the least name after one, or with the least of all, if there is such a record
+-- The record with the least name after one, or with the least of all, if there is such a record.
+-- (`FindsNext` of table_ledger is about identities in dispute.)
 abbrev pub FindsNext : Option (List ℕ) → Tables → Option StoredRecord → Type 0
 FindsNext last tables found =
     option_map stored_entry found ≡ slice_get (above last tables.records) 0
@@ -83,7 +84,8 @@ pub record IsUnchargedFrom (from : List ℕ) (tables : Tables) (row : List ℕ �
   pub uncharged : row.1.charged ≡ false
   pub reached : is_from from row.1.identity ≡ true
 
--- the least identity from some bytes on that a record has which is not charged
+-- the least identity from some bytes on that a record has which is not charged (`IsNextUncharged`
+-- of LateRecords is about records)
 pub record IsNextUncharged (from : List ℕ) (tables : Tables) (identity : List ℕ) : Type 0 where
   pub row : List ℕ × RecordRow
   pub uncharged : IsUnchargedFrom from tables row

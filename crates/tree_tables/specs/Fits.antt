@@ -82,7 +82,8 @@ pub record CloseFits (row : Row) : Type 0 where
   pub period : HasPeriod (column row 0)
   pub through : HasDay (column row 1)
 
--- a row has the number, the name and the period of a choice
+-- the columns of a row have the number, the name and the period of a choice (`ChoiceFits` of
+-- table_model is about its name)
 pub record ChoiceFits (row : Row) : Type 0 where
   pub number : HasChoiceNumber (column row 0)
   pub name : HasHash (column row 1)
@@ -112,7 +113,8 @@ pub record PriceFits (row : Row) : Type 0 where
   pub excp : HasCount (column row 7)
   pub amount : HasCount (column row 8)
 
--- a row has what is kept of a record
+-- the columns of a row have what is kept of a record (`RecordFits` of table_model is about what
+-- they say)
 pub record RecordFits (row : Row) : Type 0 where
   pub name : HasHash (column row 0)
   pub identity : HasBytes (column row 1)

@@ -32,7 +32,7 @@ comes_next last entry =
 abbrev pub is_uncharged_left : Option LateRecord → List ℕ × RecordRow → Bool
 is_uncharged_left last entry = is_uncharged entry && comes_next last entry
 
--- the first of these
+-- the first of these records (`IsNextUncharged` of Answers is about identities)
 pub record IsNextUncharged (last : Option LateRecord) (tables : Tables)
     (entry : List ℕ × RecordRow) : Type 0 where
   pub there : get tables.records entry.0 ≡ Some entry.1
