@@ -1,4 +1,4 @@
--- The rule of identity of books: what their row says of it, and whose work a record measures by it.
+-- The rule of identity of books: what their row says of it, and which work a record measures by it.
 use Rattle.std.specs.Prelude.{ℕ, Bool, true, false, ◌==◌, ◌&&◌, nat_le, nat_lt, List}
 use Rattle.std.specs.Prelude.{Option, Some, None, if◌then◌else◌}
 use Rattle.smf_type30.specs.Usage.{identity_of, identity2_of}
@@ -29,7 +29,7 @@ abbrev pub may_split : ℕ → IdentityRule → Bool
 may_split period First = false
 may_split period (SecondSince adopted) = nat_le period adopted
 
--- whose work a record measures
+-- which work a record measures
 abbrev pub identity_under : IdentityRule → List ℕ → List ℕ
 identity_under First bytes = identity_of bytes
 identity_under (SecondSince adopted) bytes = identity2_of bytes

@@ -42,7 +42,7 @@ fn known_or_clash(stored: &StoredRecord, bytes: &[u8]) -> Result<Accepted, Ledge
     }
 }
 
-/// Whose work a record measures by the rule in force, given its identity by the second rule. That
+/// Which work a record measures by the rule in force, given its identity by the second rule. That
 /// by the first rule is the beginning of it.
 fn identity_in_force(adopted: Option<u16>, second: &[u8; 32]) -> &[u8]
     ensures { result.now ≡ identity_in adopted second.now }

@@ -53,7 +53,7 @@ module _ (naming : Naming) (book : Book) (sound : IsSound naming book)
   abbrev new : List ℕ → Option Priced
   new = price_in ruled
 
-  -- what is charged, and whose work records measure
+  -- what is charged, and which work records measure
   abbrev charged : Records
   charged = charged_of book
 

@@ -11,7 +11,7 @@ use Rattle.book_model.specs.Words.{last_close, those, Priced}
 use Rattle.table_model.specs.PeriodRows.{numbered}
 use Rattle.table_model.specs.Tables.{BookRow, RecordRow, ChoiceRow, Tables, never_adopted}
 
--- The state of the records: what each of them costs, whose work it measures, and which are charged.
+-- The state of the records: what each of them costs, which work it measures, and which are charged.
 -- A ruling that touches many records leads from one such state to another, a record at a time.
 pub record RecordStatus : Type 0 where
   pub price : List ℕ → Option Priced

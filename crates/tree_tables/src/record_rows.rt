@@ -32,7 +32,7 @@ const MOST_SHARING: usize = 2;
 pub struct NewRecord<'a> {
     /// The name of the record's data.
     pub name: &'a [u8],
-    /// Whose work it measures, by the rule of identity in force: 24 bytes or 32.
+    /// Which work it measures, by the rule of identity in force: 24 bytes or 32.
     pub identity: &'a [u8],
     /// The data after the descriptor.
     pub data_bytes: &'a [u8],

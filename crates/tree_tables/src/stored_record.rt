@@ -23,7 +23,7 @@ use tariff_rules::Priced;
 pub struct StoredRecord {
     /// The name of the record's data.
     pub name: [u8; 32],
-    /// Whose work it measures, by the rule of identity in force.
+    /// Which work it measures, by the rule of identity in force.
     pub identity: Vec<u8>,
     /// The data after the descriptor.
     pub data_bytes: Vec<u8>,

@@ -117,7 +117,7 @@ which_rule rule adopted found is =
     )
     by_second false neither at = absurd (let e = at in cc)
 
--- and whose work a record measures
+-- and which work a record measures
 pub identity_said : (row : BookRow) (found : IdentityRule) (bytes : List ℕ)
     → rule_of row.rule row.adopted ≡ Some found
     → identity_under found bytes
