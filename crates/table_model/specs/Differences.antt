@@ -4,7 +4,7 @@ use Rattle.book_model.specs.Std.{get, AllByRecursion}
 use Rattle.book_model.specs.declared.row.RowKey.{RowKey}
 use Rattle.table_model.specs.Tables.{CountedTable, Tables}
 
--- the place of a row: its table and its key
+-- the place of a row: its table and its key, of each table but that of the names that are counted
 pub data TableKey : Type 0 where
   OfBook : TableKey
   OfTariff : ℤ → TableKey
@@ -30,7 +30,7 @@ DifferAt places one other =
     (place : TableKey) → AllByRecursion (λ changed. place ≢ changed) places
     → SameRow one other place
 
--- they differ in at most this many rows
+-- they differ in at most this many rows, but for the names that are counted
 abbrev pub DifferInAtMost : ℕ → Tables → Tables → Type 0
 DifferInAtMost most one other =
     (places : List TableKey) × (length places ≤ most) × DifferAt places one other

@@ -1,7 +1,7 @@
 -- What happens to one row, and so to the table that it stands in: to a charge row, which a price
 -- joins or leaves, and which a close may move; to a line; to the name of a record that the charge
--- rows count; and to a record's row, where the record
--- becomes charged or is so no more, costs something else, is posted, or gets another identity.
+-- rows count; and to a record's row, where the record becomes charged or is so no more, costs
+-- something else, is posted, or gets another identity.
 use Rattle.std.specs.Prelude.{ℕ, ℤ, suc, ◌-◌, ◌==◌, int_lt, Bool, true, false, ◌&&◌, if◌then◌else◌}
 use Rattle.std.specs.Prelude.{List, [], Option, Some, None, unwrap_or}
 use Rattle.book_model.specs.Std.{get, insert, remove, option_map_or}
