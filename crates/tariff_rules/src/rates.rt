@@ -46,7 +46,8 @@ impl Model for Rates {
 }
 
 impl Rates {
-    /// The three rates, or `None` where one is above the highest.
+    /// The three rates, in ten-thousandths of the money unit, or `None` where one is above the
+    /// highest.
     pub(crate) fn new(cpu: u64, excp: u64, record_fee: u64) -> Option<Rates>
         ensures succeeds { IsSome result ↔ AreRates (rates_of cpu excp record_fee) }
         ensures value { IfSome result (λ made. made ≡ rates_of cpu excp record_fee) }
@@ -61,21 +62,21 @@ impl Rates {
         })
     }
 
-    /// The rate of a CPU second.
+    /// The rate of a CPU second, in ten-thousandths of the money unit.
     pub fn cpu(self) -> u64
         ensures { result ≡ self.cpu }
     {
         self.cpu
     }
 
-    /// The rate of 1,000 blocks.
+    /// The rate of 1,000 blocks, in ten-thousandths of the money unit.
     pub fn excp(self) -> u64
         ensures { result ≡ self.excp }
     {
         self.excp
     }
 
-    /// The rate of the record itself.
+    /// The rate of the record itself, in ten-thousandths of the money unit.
     pub fn record_fee(self) -> u64
         ensures { result ≡ self.record_fee }
     {
