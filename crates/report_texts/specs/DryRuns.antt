@@ -73,14 +73,15 @@ adjustments_line period before after =
 unfoldable pub records_line : ℕ → ℕ → ℕ → List ℕ
 records_line period before after = count_line (figure_name (codes "RECORDS") period) before after
 
--- how many records a tariff prices anew, of those dated on its first day or later: none where it was
--- in force already
+-- How many records that the period counts a tariff prices anew, of those dated on its first day or
+-- later: none where it was in force already. (What is in dispute is priced anew too; no line of a
+-- dry run counts it.)
 abbrev pub priced_anew : Ruled → ℕ → ℕ
 priced_anew Done dated = dated
 priced_anew Already dated = 0
 
--- the line of the ruling: the records that a tariff prices anew, those of the period after the one
--- that is open, or the disputes
+-- the line of the ruling: the records of the period that a tariff prices anew, those of the period
+-- after the one that is open, or the disputes
 unfoldable pub own_line : TriedRuling → Ruled → ℕ → ℕ → ℕ → List ℕ
 own_line (Tariff first) answer period before after =
     count_line (codes "PRICED") 0 (priced_anew answer after)

@@ -162,7 +162,8 @@ fn push_records(
     push_count(alloc, out, name.as_str(), before, after)
 }
 
-/// How many records a tariff prices anew, of those dated on its first day or later.
+/// How many records that the period counts a tariff prices anew, of those dated on its first day
+/// or later.
 fn priced_anew(answer: Ruled, dated: u64) -> u64
     ensures { result ≡ spec.priced_anew answer dated }
 {
@@ -172,8 +173,8 @@ fn priced_anew(answer: Ruled, dated: u64) -> u64
     }
 }
 
-/// Appends the line of the ruling: the records that a tariff prices anew, those of the period after
-/// the one that is open, or the disputes.
+/// Appends the line of the ruling: the records of the period that a tariff prices anew, those of
+/// the period after the one that is open, or the disputes.
 #[tactic(auto, unfolding(crate::specs::DryRuns::own_line))]
 fn push_own(
     alloc: Global,
