@@ -6,9 +6,9 @@ ghost use Rattle.std.specs.Io.KnownBytes.{ReadConsumes};
 use std::io;
 use std::io::Read;
 
-/// A reader, with a word for what one read of it may answer. Where no more is known of a reader, a
-/// read alone shows such an answer; so a clause can say that there was one read, and that what it
-/// answered was passed on.
+/// A reader, with a word for what one read of it may answer. In code that knows a reader by this
+/// trait alone, a read alone shows such an answer; so a clause can say that there was one read, and
+/// that what it answered was passed on.
 pub trait Reader: Read {
     // A read with this room may answer so, and leave such a reader, with these bytes in the room.
     ghost may_answer: { Self → List ℕ → Result ℕ Error → Self → List ℕ → Type 0 };

@@ -6,9 +6,9 @@ ghost use Rattle.std.specs.Io.KnownBytes.{Keeps, WriteAppends};
 use std::io;
 use std::io::Write;
 
-/// A writer, with a word for what one write to it may answer. Where no more is known of a writer, a
-/// write alone shows such an answer; so a clause can say that there was one write, and that what it
-/// answered was passed on.
+/// A writer, with a word for what one write to it may answer. In code that knows a writer by this
+/// trait alone, a write alone shows such an answer; so a clause can say that there was one write,
+/// and that what it answered was passed on.
 pub trait Writer: Write {
     // A write of these bytes may answer so, and leave such a writer.
     ghost may_answer: { Self → List ℕ → Result ℕ Error → Self → Type 0 };
