@@ -17,8 +17,8 @@ pub enum LedgerFault {
     /// An earlier call was answered `Store`: the books are to be opened again.
     #[error("the books have to be opened again")]
     Reopen,
-    /// The books have no room: for a record, its amount, a period, or what records would cost under
-    /// a tariff.
+    /// The books have no room: for a record, its amount, a period, a choice, or what records would
+    /// cost under a tariff.
     #[error("the books are full")]
     Full,
     /// A record that is held has the name of this one, and other bytes.
