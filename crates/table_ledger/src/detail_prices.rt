@@ -28,7 +28,7 @@ struct DetailPrice {
 }
 
 /// What the record of a name costs by a tariff, whatever the tariff's first day. Where there is
-/// none, it is an error: `Corrupt`, which no clause names.
+/// none, it is an error: `Corrupt`.
 fn price_named<S: Store>(
     tables: &mut TreeTables<S>,
     alloc: Global,

@@ -18,8 +18,7 @@ pub(crate) struct RowSums {
     cost: u64,
 }
 
-/// A price joins the row of its key. Where 64 bits do not hold the sums, it is an error: `Corrupt`,
-/// which no clause names.
+/// A price joins the row of its key. Where 64 bits do not hold the sums, it is an error: `Corrupt`.
 fn add_price(rows: &mut BTreeMap<RowKey, ChargeRow>, priced: &Priced) -> Result<(), StoreError>
     ensures joined { OnOk result ((costs : Costs) → rows.old.entries ≡ keyed_rows costs
         → rows.new.entries ≡ keyed_rows (costs ++ priced.now ∷ [])) }

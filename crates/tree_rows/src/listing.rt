@@ -71,7 +71,7 @@ pub fn list_first<S: Store, T: ReadRow + Drop>(
 
 /// Reads all rows that begin with the columns of `part`, in order. Nothing is written to the store.
 /// What is in `row` is lost. An error is the store's own, or that of a row that was not read; more
-/// than `MOST_ROWS` are an error too: `Corrupt`, which no clause names.
+/// than `MOST_ROWS` are an error too: `Corrupt`.
 pub fn list_run<S: Store, T: ReadRow + Drop>(
     store: &mut S,
     tree: u32,

@@ -121,8 +121,7 @@ impl<S: Store> TreeTables<S> {
         Ok(Some(read_choice(&self.row)?))
     }
 
-    /// The choice of a number that a row says. Where there is none, it is an error: `Corrupt`,
-    /// which no clause names.
+    /// The choice of a number that a row says. Where there is none, it is an error: `Corrupt`.
     fn choice_numbered(&mut self, number: u32) -> Result<StoredChoice, StoreError>
         ensures looks { Looks result (state_of self.old) (state_of self.new)
             (λ tables stored. FindsChoice number tables (Some stored)) }

@@ -1,5 +1,5 @@
 //! Columns that are read into types of the books. A column that does not fit is an error:
-//! `Corrupt`, which no clause names.
+//! `Corrupt`.
 
 ghost use Rattle.std.specs.Prelude.{◌≡◌, ◌≢◌, ◌<◌, ◌+◌, ◌++◌, ◌^◌, IfErr, IfOk, IfSome, None, OnOk};
 ghost use Rattle.std.specs.Prelude.{ℤ, length, map, pos, slice_set, string_bytes};

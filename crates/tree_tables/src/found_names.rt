@@ -40,8 +40,7 @@ impl<S: Store> TreeTables<S> {
     ghost use Rattle.tree_tables.specs.Fits.{AllNamed, IsNamed};
     ghost use Rattle.tree_tables.specs.Steps.{FailsByStore, Looks};
 
-    /// The record of a name that a row says. Where there is none, it is an error: `Corrupt`, which
-    /// no clause names.
+    /// The record of a name that a row says. Where there is none, it is an error: `Corrupt`.
     pub fn record_named(&mut self, alloc: Global, name: &[u8]) -> Result<StoredRecord, StoreError>
         ensures looks { Looks result (state_of self.old) (state_of self.new)
             (λ tables stored. FindsRecord name.now tables (Some stored)) }

@@ -161,8 +161,7 @@ impl<S: Store> TreeTables<S> {
     }
 
     /// Each record has its identity by the second rule, and is found by it. A walk that does not
-    /// end, and data that are those of no usage record, are an error: `Corrupt`, which no clause
-    /// names.
+    /// end, and data that are those of no usage record, are an error: `Corrupt`.
     pub fn rename_records(&mut self, alloc: Global) -> Result<(), StoreError>
         ensures does { Does result (state_of self.old) (state_of self.new) Always step.rename_rows }
     {

@@ -171,7 +171,7 @@ impl<S: Store> TreeTables<S> {
     }
 
     /// The records that are dated on or before the day are posted as they are charged. A walk that
-    /// does not end is an error: `Corrupt`, which no clause names.
+    /// does not end is an error: `Corrupt`.
     #[tactic(auto, using(crate::proofs::Renewing::renewing_starts))]
     pub fn post_records(&mut self, through: i32) -> Result<(), StoreError>
         ensures does { Does result (state_of self.old) (state_of self.new) Always

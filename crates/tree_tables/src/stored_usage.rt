@@ -33,7 +33,7 @@ pub fn record_with(alloc: Global, data_bytes: &[u8]) -> Result<Vec<u8>, AllocErr
 }
 
 /// Writes the record with that data over `bytes`, so that a walk over many needs memory once. Data
-/// that are too long for a record are an error: `Corrupt`, which no clause names.
+/// that are too long for a record are an error: `Corrupt`.
 pub fn put_data(bytes: &mut Vec<u8>, data_bytes: &[u8]) -> Result<(), StoreError>
     ensures bytes { OnOk result (bytes.new.items ≡ framed.record_with data_bytes.now) }
     ensures taken { IfErr result (λ error. IsUsageData data_bytes.now
@@ -59,7 +59,7 @@ pub fn usage_in(bytes: &[u8]) -> Result<Type30<'_>, StoreError>
 }
 
 /// Writes the usage record with that data over `bytes`. Data that are those of no usage record are
-/// an error: `Corrupt`, which no clause names.
+/// an error: `Corrupt`.
 pub(crate) fn put_usage(bytes: &mut Vec<u8>, data_bytes: &[u8]) -> Result<(), StoreError>
     ensures bytes { OnOk result (bytes.new.items ≡ framed.record_with data_bytes.now) }
     ensures usage { OnOk result (IsUsage bytes.new.items) }
@@ -71,8 +71,7 @@ pub(crate) fn put_usage(bytes: &mut Vec<u8>, data_bytes: &[u8]) -> Result<(), St
     Ok(())
 }
 
-/// The usage record with that data. Data that are those of no usage record are an error: `Corrupt`,
-/// which no clause names.
+/// The usage record with that data. Data that are those of no usage record are an error: `Corrupt`.
 pub fn usage_bytes(alloc: Global, data_bytes: &[u8]) -> Result<Vec<u8>, StoreError>
     ensures bytes { IfOk result (λ made. made.items ≡ framed.record_with data_bytes.now) }
     ensures usage { IfOk result (λ made. IsUsage made.items) }
