@@ -146,7 +146,7 @@ io_fault kind = fault.Io
 abbrev pub IsFileFault : CommandFault → Type 0
 IsFileFault why = (kind : ErrorKind) × (why ≡ io_fault kind)
 
--- there was no memory for what is written; or the output has failed, which is told only then
+-- there was no memory for what is written; or this shows that the output has failed
 abbrev pub IsOutputFault : Type 0 → CommandFault → Type 0
 IsOutputFault Failed why = (why ≡ fault.Ledger ledger.Memory)
     ⊎ (Failed × (IsFileFault why ⊎ (why ≡ fault.Report report.Write)))

@@ -101,7 +101,7 @@ pub record TriesUnder (layout : Layout) (had held holds : Option (List ℕ)) (Fa
   pub tries : TriesWith layout tariff had held holds Failed ended
 
 -- A check of what a reader had, with as many reads as an import has, once its first bytes were looked at.
--- That a write failed is told as of a trial.
+-- That a write failed is told only where the output has failed.
 pub record Lists (layout : Layout) (had held holds : Option (List ℕ)) (Failed : Type 0) (ended : Ended)
     : Type 0 where
   pub looked : Bool
