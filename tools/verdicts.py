@@ -2,6 +2,7 @@
 and the sums of all that this verdict stands on. A verdict whose sums are not those of the files as they are is stale.
 
     CRATE/NAME OWN BELOW COMMIT GOAL
+    CRATE/NAME - - - not tried yet
 
 OWN is of the edit, and of its crate: its line of crates.txt, and the files of src, specs and proofs. BELOW is of the kit, and of
 what the crate can see of those below it: their specs, their lemmas, and src without the bodies of functions. So a body that
@@ -19,6 +20,7 @@ HEAD = """\
 # Of each wrong edit what its verdict stands on, the commit on which the prover last refused it, and the goal at which it did.
 # Written by tools/mistakes alone; tools/verdicts.py says what the words are.
 """
+UNTRIED = ("-", "-", "-", "not tried yet")
 # (the body of a const fn may stand in the value of a constant)
 FUNCTION = re.compile(r"^ *(?:pub(?:\(\w+\))? )?(?:unsafe )?fn (\w+)", re.M)
 CLAUSE = re.compile(r"\b(?:requires|ensures|decreases|ghost)\b[^{};]*$")
@@ -35,11 +37,11 @@ def read():
 
 
 def write(found):
-    """Keeps verdicts, in the order of crates.txt and then of names."""
+    """Keeps verdicts, a line for each edit, in the order of crates.txt and then of names."""
     order = {name: at for at, name in enumerate(crates.uses())}
-    names = sorted(found, key=lambda edit: (order.get(edit.split("/")[0], -1), edit))
+    names = sorted(edits(), key=lambda edit: (order.get(edit.split("/")[0], -1), edit))
     made = LIST.with_suffix(".new")
-    made.write_text(HEAD + "".join("%s %s\n" % (name, " ".join(found[name])) for name in names))
+    made.write_text(HEAD + "".join("%s %s\n" % (name, " ".join(found.get(name, UNTRIED))) for name in names))
     made.replace(LIST)
 
 
