@@ -1,0 +1,2 @@
+-- A step of the two proofs by hand.
+pub mod Walks

@@ -1,0 +1,2 @@
+-- What a table has, while it is written.
+pub mod Tables
