@@ -1,16 +1,16 @@
 //! Texts inside a page: the bytes that markup is made of are written as references to them.
 
-ghost use Rattle.std.specs.Prelude.{◌≡◌, ◌++◌, IfOk, OnOk, string_bytes};
+ghost use Rattle.std.specs.Prelude.{◌≡◌, ◌++◌, IfOk, string_bytes};
 ghost use Rattle.smf_text.specs.CodePage.{show_text};
 ghost use Rattle.html_text.specs.Escaping as spec;
 
 use smf_text::show;
 use std::alloc::{AllocError, Global};
+use text_drafts::Draft;
 
 /// Appends a byte as a page shows it.
-fn push_escaped(out: &mut String, byte: u8) -> Result<(), AllocError>
-    ensures { OnOk result (string_bytes out.new
-        ≡ string_bytes out.old ++ spec.escape_byte byte) }
+fn push_byte(out: &mut Draft, byte: u8)
+    ensures { out.new ≡ out.old ++ spec.escape_byte byte }
 {
     match byte {
         b'&' => out.push_str("&amp;"),
@@ -23,21 +23,40 @@ fn push_escaped(out: &mut String, byte: u8) -> Result<(), AllocError>
     }
 }
 
-/// A text as a page shows it.
+/// Appends a text as a page shows it.
 #[tactic(auto, using(std::proofs::lemmas::List::flat_map_more), unfolding(crate::specs::Escaping::escaped))]
+pub fn push_escaped(out: &mut Draft, text: &str)
+    ensures { out.new ≡ out.old ++ spec.escaped text.now }
+{
+    for byte in text.as_bytes() {
+        push_byte(out, *byte);
+    }
+}
+
+/// Appends bytes of a dump as a page shows them.
+pub fn push_shown(out: &mut Draft, bytes: &[u8])
+    ensures { out.new ≡ out.old ++ spec.escaped (show_text bytes.now) }
+{
+    match show(out.alloc(), bytes) {
+        Ok(text) => push_escaped(out, text.as_str()),
+        Err(_) => out.leave_out(&bytes),
+    }
+}
+
+/// A text as a page shows it.
 pub fn escaped(alloc: Global, text: &str) -> Result<String, AllocError>
     ensures { IfOk result (λ shown. string_bytes shown ≡ spec.escaped text.now) }
 {
-    let mut shown = String::new(alloc);
-    for byte in text.as_bytes() {
-        push_escaped(&mut shown, *byte)?;
-    }
-    Ok(shown)
+    let mut shown = Draft::new(alloc);
+    push_escaped(&mut shown, text);
+    shown.finish()
 }
 
 /// Bytes of a dump as a page shows them.
 pub fn shown(alloc: Global, bytes: &[u8]) -> Result<String, AllocError>
     ensures { IfOk result (λ text. string_bytes text ≡ spec.escaped (show_text bytes.now)) }
 {
-    escaped(alloc, show(alloc, bytes)?.as_str())
+    let mut shown = Draft::new(alloc);
+    push_shown(&mut shown, bytes);
+    shown.finish()
 }
