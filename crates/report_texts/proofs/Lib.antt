@@ -1,7 +1,6 @@
 pub mod ColumnLemmas
 pub mod PeriodLemmas
 pub mod TableLemmas
-pub mod MadeTables
 pub mod RowLemmas
 pub mod AmountLemmas
 pub mod CentreLemmas

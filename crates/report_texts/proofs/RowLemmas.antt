@@ -1,46 +1,11 @@
--- Rows of a table, one after the other; and the rows of disputes.
+-- The rows of disputes, one after the other.
 use Rattle.std.proofs.Common.{◌≡◌, ◌∙◌, ℕ, ◌+◌, ◌<◌, ◌≤◌, List, [], ◌∷◌, ◌++◌, length, map, take}
-use Rattle.std.proofs.Common.{get_or, arith, append_assoc, append-nil, ap, subst, sym, Vec, Global}
-use Rattle.std.proofs.Common.{inl, inr}
+use Rattle.std.proofs.Common.{get_or, arith, append_assoc, ap, subst, sym, inl, inr}
 use Rattle.std.proofs.lemmas.Grind.{common_steps}
-use Rattle.std.specs.List.{flat_map}
-use Rattle.std.proofs.lemmas.List.{flat_map_more, get_or-map, length-map, take_all, take_more}
-use Rattle.std.proofs.lemmas.List.{length-take-le}
-use Rattle.csv.specs.declared.writer.Writer.{Writer}
+use Rattle.std.proofs.lemmas.List.{get_or-map, length-map, length-take-le, take_more}
 use Rattle.book_model.specs.declared.dispute.Dispute.{Dispute}
 use Rattle.book_model.specs.Words.{AreDisputes, Disputed, IsDispute, dispute_shown, identity_length}
 use Rattle.report_texts.specs.DisputeTables.{dispute_rows, rows_from}
-use Rattle.report_texts.specs.Tables.{AddsRows, IsBetweenRows}
-
--- no row
-pub adds_none : (table : Writer (Vec ℕ Global)) → AddsRows table table []
-adds_none table bytes between = subst (IsBetweenRows table) (sym (append-nil bytes)) between
-
--- rows, and then more rows
-pub adds_more : (first second third : Writer (Vec ℕ Global)) (rows more : List ℕ)
-    → AddsRows first second rows → AddsRows second third more → AddsRows first third (rows ++ more)
-adds_more first second third rows more one other bytes between =
-    subst (IsBetweenRows third) (append_assoc bytes rows more)
-    (other (bytes ++ rows) (one bytes between))
-
--- the row of the next item is written after those of the items before it
-pub adds_next : {X : Type 0} (row : X → List ℕ) (items : List X) (i : ℕ) (item : X)
-    {first second third : Writer (Vec ℕ Global)} → i < length items → item ≡ get_or items i item
-    → AddsRows first second (flat_map row (take i items)) → AddsRows second third (row item)
-    → AddsRows first third (flat_map row (take (i + 1) items))
-adds_next row items i item {first} {second} {third} within is one other =
-    subst (AddsRows first third)
-    (flat_map_more row [] (take i items) item
-    ∙ ap (flat_map row) (ap (λ next. take i items ++ next ∷ []) is
-    ∙ sym (take_more items i item within)))
-    (adds_more first second third (flat_map row (take i items)) (row item) one other)
-
--- those of all items are written
-pub adds_all : {X : Type 0} (row : X → List ℕ) (items : List X) (i : ℕ)
-    {first last : Writer (Vec ℕ Global)} → length items ≤ i
-    → AddsRows first last (flat_map row (take i items)) → AddsRows first last (flat_map row items)
-adds_all row items i {first} {last} past written =
-    subst (λ all. AddsRows first last (flat_map row all)) (take_all i items past) written
 
 -- the identity of a dispute that can be shown has all its parts
 pub long_enough : (disputed : Disputed) → IsDispute disputed

@@ -12,8 +12,9 @@ use Rattle.csv.specs.Writing.{row_text}
 use Rattle.smf_text.specs.Day.{day_text_of}
 use Rattle.book_model.specs.Words.{date_of, IsName, is_name_character}
 use Rattle.report_texts.specs.Columns.{newline, digits_in, seconds_text, amount_text}
-use Rattle.report_texts.specs.StatementTables.{comma_line, table_heading}
-use Rattle.report_texts.specs.Tables.{IsPlain}
+use Rattle.book_model.specs.declared.row.ChargeRow.{ChargeRow}
+use Rattle.report_texts.specs.StatementTables.{comma_line, table_fields, table_heading, table_line}
+use Rattle.report_texts.specs.Tables.{IsPlain, fields_line}
 
 -- a byte after the comma calls for none
 plain_byte : (b : ℕ) → 44 < b → needs_byte default_writer b ≡ false
@@ -134,6 +135,35 @@ pub plain_row : (first second : List ℕ) (others : List (List ℕ))
 unfolding is_blank
 plain_row first second others plain =
     rw (plain_field first plain.0, plain_fields (second ∷ others) plain.1) refl
+
+-- the line of a charge row
+pub plain_line : (period : ℕ) (row : ChargeRow) → period < 2 ^ 64 → row.count < 2 ^ 64
+    → row.cpu < 2 ^ 64 → row.blocks < 2 ^ 64 → row.amount < 2 ^ 64
+    → IsName row.centre → IsName row.shift
+    → fields_line (table_fields period row) ≡ table_line period row
+unfolding fields_line table_line
+plain_line period row of_period of_count of_cpu of_blocks of_amount centre shift =
+    plain_row (decimal period) (day_text_of row.day)
+    (row.centre ∷ row.shift ∷ decimal row.count ∷ seconds_text row.cpu ∷ decimal row.blocks
+    ∷ amount_text row.amount ∷ []) (
+      plain_number period of_period,
+      (
+        plain_day row.day,
+        (
+          plain_name row.centre centre,
+          (
+            plain_name row.shift shift,
+            (
+              plain_number row.count of_count,
+              (
+                plain_seconds row.cpu of_cpu,
+                (plain_number row.blocks of_blocks, (plain_amount row.amount of_amount, tt)),
+              ),
+            ),
+          ),
+        ),
+      ),
+    )
 
 -- the names of the columns of charge rows, where that of the amounts calls for none
 pub plain_heading : (amounts : List ℕ) → IsPlain amounts

@@ -9,6 +9,11 @@ unfoldable pub head_text : Option ℤ → List ℕ
 head_text None = codes "OPEN"
 head_text (Some through) = codes "CLOSED THROUGH " ++ day_text_of through
 
+-- what comes after a report's name in its first line: the period's number and head
+unfoldable pub title_end : ℕ → Option ℤ → List ℕ
+title_end period through =
+    codes " PERIOD " ++ decimal period ++ codes " " ++ head_text through ++ newline
+
 -- the first line of a report on a period: what the report is, and the period's number and head
 unfoldable pub title_line : List ℕ → ℕ → Option ℤ → List ℕ
 title_line report period through =

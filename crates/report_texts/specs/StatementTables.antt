@@ -14,7 +14,13 @@ unfoldable pub table_heading : List ℕ → List ℕ
 table_heading amounts =
     codes "period,day,centre,shift,count,cpu,blocks," ++ amounts ++ newline
 
--- the line of a row of a period
+-- the fields of a row of a period
+abbrev pub table_fields : ℕ → ChargeRow → List (List ℕ)
+table_fields period row =
+    decimal period ∷ day_text_of row.day ∷ row.centre ∷ row.shift ∷ decimal row.count
+    ∷ seconds_text row.cpu ∷ decimal row.blocks ∷ amount_text row.amount ∷ []
+
+-- its line
 unfoldable pub table_line : ℕ → ChargeRow → List ℕ
 table_line period row =
     comma_line (decimal period)

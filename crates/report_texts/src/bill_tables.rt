@@ -1,24 +1,27 @@
 //! Bills as tables of comma-separated values.
 
-ghost use Rattle.std.specs.Prelude.{◌≡◌, ◌++◌, All, IfOk, OnOk, flat_map};
+ghost use Rattle.std.specs.Prelude.{◌≡◌, [], ◌++◌, All, IfOk, codes, flat_map};
+ghost use Rattle.std.specs.Fmt.{decimal};
 ghost use Rattle.book_model.specs.Words.{AreRows, IsDay, bill_shown};
-ghost use Rattle.csv.specs.Records.{fields_of};
 ghost use Rattle.report_texts.specs.BillTables as spec;
 ghost use Rattle.report_texts.specs.Charges.{FitCharges, IsBill};
-ghost use Rattle.report_texts.specs.Tables.{AddsRows, fields_line};
+ghost use Rattle.report_texts.specs.Columns.{seconds_text};
+ghost use Rattle.report_texts.specs.Tables.{fields_line};
 
 use crate::adjustment_lists::word_of;
-use crate::charges::{CentreCharges, Charges, office_charges, owed_text};
-use crate::columns::{number_text, seconds_text};
-use crate::fields::{add_amount, add_day, add_key, add_name, add_number, add_shown, add_signed};
-use crate::tables::{into_bytes, new_table, write_fields, write_row};
+use crate::charges::{CentreCharges, Charges, office_charges, push_owed};
+use crate::fields::{
+    add_amount, add_day, add_key, add_name, add_number, add_number_or_dash, add_seconds, add_shown,
+    add_signed,
+};
+use crate::tables::add_row;
 use book_model::{Bill, BilledLine, ChargeRow};
-use csv::{StringRecord, Writer};
 use std::alloc::{AllocError, Global};
+use text_drafts::{Draft, RowDraft, TableDraft};
 
-/// Writes the names of the columns of a centre's bill.
-fn write_heading(table: &mut Writer<Vec<u8>>) -> Result<(), AllocError>
-    ensures { OnOk result (AddsRows table.old table.new (fields_line spec.bill_heading)) }
+/// Adds the names of the columns of a centre's bill.
+fn add_heading(table: &mut TableDraft)
+    ensures { table.new ≡ table.old ++ fields_line spec.bill_heading }
 {
     let names: [&[u8]; 12] = [
         b"period",
@@ -34,159 +37,137 @@ fn write_heading(table: &mut Writer<Vec<u8>>) -> Result<(), AllocError>
         b"name",
         b"job",
     ];
-    write_fields(table, &names)?;
-    Ok(())
+    table.add_texts(&names);
 }
 
 /// Adds where a row of work is charged.
 #[tactic(auto, unfolding(crate::specs::BillTables::row_key_fields))]
-fn add_place(alloc: Global, fields: &mut StringRecord, row: &ChargeRow) -> Result<(), AllocError>
+fn add_place(fields: &mut RowDraft, row: &ChargeRow)
     requires { IsDay row.now.day }
-    ensures { OnOk result (fields_of fields.new
-        ≡ fields_of fields.old ++ spec.row_key_fields row.now) }
+    ensures { fields.new ≡ fields.old ++ spec.row_key_fields row.now }
 {
-    add_day(alloc, fields, row.day)?;
-    fields.push_field(row.centre.text())?;
-    fields.push_field(row.shift.text())
+    add_day(fields, row.day);
+    fields.add_str(row.centre.text());
+    fields.add_str(row.shift.text());
 }
 
-/// Adds what a row of work is and how much, and what it costs. It has no record of its own.
+/// Adds what a row of steps is and how much, and what it costs. It has no record of its own.
 #[tactic(auto, unfolding(crate::specs::BillTables::work_fields))]
-fn add_work(
-    alloc: Global,
-    fields: &mut StringRecord,
-    kind: &str,
-    cpu: &str,
-    blocks: &str,
-    row: &ChargeRow,
-) -> Result<(), AllocError>
-    ensures { OnOk result (fields_of fields.new
-        ≡ fields_of fields.old ++ spec.work_fields kind.now cpu.now blocks.now row.now) }
+fn add_steps(fields: &mut RowDraft, row: &ChargeRow)
+    ensures { fields.new ≡ fields.old ++ spec.work_fields
+        (codes "STEPS") (seconds_text row.now.cpu) (decimal row.now.blocks) row.now }
 {
-    fields.push_field(kind)?;
-    add_number(alloc, fields, row.count)?;
-    fields.push_field(cpu)?;
-    fields.push_field(blocks)?;
-    add_amount(alloc, fields, row.amount)?;
-    fields.push_field("")?;
-    fields.push_field("")?;
-    fields.push_field("")
+    fields.add_str("STEPS");
+    add_number(fields, row.count);
+    add_seconds(fields, row.cpu);
+    add_number(fields, row.blocks);
+    add_amount(fields, row.amount);
+    fields.add_str("");
+    fields.add_str("");
+    fields.add_str("");
 }
 
-/// Writes the row of a row of work.
-fn write_work(
-    alloc: Global,
-    table: &mut Writer<Vec<u8>>,
-    period: u16,
-    kind: &str,
-    cpu: &str,
-    blocks: &str,
-    row: &ChargeRow,
-) -> Result<(), AllocError>
+/// Adds the same of a row of jobs, whose CPU time and blocks are those of their steps.
+#[tactic(auto, unfolding(crate::specs::BillTables::work_fields))]
+fn add_jobs(fields: &mut RowDraft, row: &ChargeRow)
+    ensures { fields.new ≡ fields.old ++ spec.work_fields (codes "JOBS") [] [] row.now }
+{
+    fields.add_str("JOBS");
+    add_number(fields, row.count);
+    fields.add_str("");
+    fields.add_str("");
+    add_amount(fields, row.amount);
+    fields.add_str("");
+    fields.add_str("");
+    fields.add_str("");
+}
+
+/// Adds the row of a row of steps.
+#[tactic(auto, unfolding(crate::specs::BillTables::work_row))]
+fn add_steps_row(table: &mut TableDraft, period: u16, row: &ChargeRow)
     requires { IsDay row.now.day }
-    ensures { OnOk result (AddsRows table.old table.new
-        (spec.work_row period kind.now cpu.now blocks.now row.now)) }
+    ensures { table.new ≡ table.old ++ spec.step_row period row.now }
 {
-    let mut fields = StringRecord::new(alloc);
-    add_number(alloc, &mut fields, u64::from(period))?;
-    add_place(alloc, &mut fields, row)?;
-    add_work(alloc, &mut fields, kind, cpu, blocks, row)?;
-    write_row(table, &fields)
+    let mut fields = RowDraft::new(table.alloc());
+    add_number(&mut fields, u64::from(period));
+    add_place(&mut fields, row);
+    add_steps(&mut fields, row);
+    add_row(table, &fields);
 }
 
-/// Writes the rows of steps.
-fn write_steps(
-    alloc: Global,
-    table: &mut Writer<Vec<u8>>,
-    period: u16,
-    rows: &[ChargeRow],
-) -> Result<(), AllocError>
-    requires { AreRows rows.now }
-    ensures { OnOk result (AddsRows table.old table.new
-        (flat_map (spec.step_row period) rows.now)) }
+/// Adds the row of a row of jobs.
+#[tactic(auto, unfolding(crate::specs::BillTables::work_row))]
+fn add_jobs_row(table: &mut TableDraft, period: u16, row: &ChargeRow)
+    requires { IsDay row.now.day }
+    ensures { table.new ≡ table.old ++ spec.job_row period row.now }
 {
-    for row in rows {
-        let cpu = seconds_text(alloc, row.cpu)?;
-        let blocks = row.blocks.to_string(alloc)?;
-        write_work(
-            alloc,
-            table,
-            period,
-            "STEPS",
-            cpu.as_str(),
-            blocks.as_str(),
-            row,
-        )?;
-    }
-    Ok(())
+    let mut fields = RowDraft::new(table.alloc());
+    add_number(&mut fields, u64::from(period));
+    add_place(&mut fields, row);
+    add_jobs(&mut fields, row);
+    add_row(table, &fields);
 }
 
-/// Writes the rows of jobs, whose CPU time and blocks are those of their steps.
-fn write_jobs(
-    alloc: Global,
-    table: &mut Writer<Vec<u8>>,
-    period: u16,
-    rows: &[ChargeRow],
-) -> Result<(), AllocError>
+/// Adds the rows of steps.
+#[tactic(auto, using(std::proofs::lemmas::List::flat_map_more))]
+fn add_all_steps(table: &mut TableDraft, period: u16, rows: &[ChargeRow])
     requires { AreRows rows.now }
-    ensures { OnOk result (AddsRows table.old table.new
-        (flat_map (spec.job_row period) rows.now)) }
+    ensures { table.new ≡ table.old ++ flat_map (spec.step_row period) rows.now }
 {
     for row in rows {
-        write_work(alloc, table, period, "JOBS", "", "", row)?;
+        add_steps_row(table, period, row);
     }
-    Ok(())
+}
+
+/// Adds the rows of jobs.
+#[tactic(auto, using(std::proofs::lemmas::List::flat_map_more))]
+fn add_all_jobs(table: &mut TableDraft, period: u16, rows: &[ChargeRow])
+    requires { AreRows rows.now }
+    ensures { table.new ≡ table.old ++ flat_map (spec.job_row period) rows.now }
+{
+    for row in rows {
+        add_jobs_row(table, period, row);
+    }
 }
 
 /// Adds the amount of a line, the period that it speaks of, and which record it is of.
 #[tactic(auto, unfolding(crate::specs::BillTables::billed_fields))]
-fn add_line(alloc: Global, fields: &mut StringRecord, billed: &BilledLine) -> Result<(), AllocError>
-    ensures { OnOk result (fields_of fields.new
-        ≡ fields_of fields.old ++ spec.billed_fields billed.now) }
+fn add_line(fields: &mut RowDraft, billed: &BilledLine)
+    ensures { fields.new ≡ fields.old ++ spec.billed_fields billed.now }
 {
     let line = &billed.line;
-    fields.push_field(word_of(line))?;
-    fields.push_field("")?;
-    fields.push_field("")?;
-    fields.push_field("")?;
-    add_signed(alloc, fields, line)?;
-    fields.push_field(number_text(alloc, billed.period)?.as_str())?;
-    add_name(alloc, fields, &line.name)?;
-    add_shown(alloc, fields, &line.job)
+    fields.add_str(word_of(line));
+    fields.add_str("");
+    fields.add_str("");
+    fields.add_str("");
+    add_signed(fields, line);
+    add_number_or_dash(fields, billed.period);
+    add_name(fields, &line.name);
+    add_shown(fields, &line.job);
 }
 
-/// Writes the row of a line.
-fn write_billed(
-    alloc: Global,
-    table: &mut Writer<Vec<u8>>,
-    period: u16,
-    billed: &BilledLine,
-) -> Result<(), AllocError>
+/// Adds the row of a line.
+#[tactic(auto, unfolding(crate::specs::BillTables::billed_row))]
+fn add_billed(table: &mut TableDraft, period: u16, billed: &BilledLine)
     requires { IsDay billed.now.line.priced.day }
-    ensures { OnOk result (AddsRows table.old table.new (spec.billed_row period billed.now)) }
+    ensures { table.new ≡ table.old ++ spec.billed_row period billed.now }
 {
-    let mut fields = StringRecord::new(alloc);
-    add_number(alloc, &mut fields, u64::from(period))?;
-    add_key(alloc, &mut fields, &billed.line.priced)?;
-    add_line(alloc, &mut fields, billed)?;
-    write_row(table, &fields)
+    let mut fields = RowDraft::new(table.alloc());
+    add_number(&mut fields, u64::from(period));
+    add_key(&mut fields, &billed.line.priced);
+    add_line(&mut fields, billed);
+    add_row(table, &fields);
 }
 
-/// Writes the rows of lines.
-fn write_lines(
-    alloc: Global,
-    table: &mut Writer<Vec<u8>>,
-    period: u16,
-    billed: &[BilledLine],
-) -> Result<(), AllocError>
+/// Adds the rows of lines.
+#[tactic(auto, using(std::proofs::lemmas::List::flat_map_more))]
+fn add_lines(table: &mut TableDraft, period: u16, billed: &[BilledLine])
     requires { All (λ one. IsDay one.line.priced.day) billed.now }
-    ensures { OnOk result (AddsRows table.old table.new
-        (flat_map (spec.billed_row period) billed.now)) }
+    ensures { table.new ≡ table.old ++ flat_map (spec.billed_row period) billed.now }
 {
     for one in billed {
-        write_billed(alloc, table, period, one)?;
+        add_billed(table, period, one);
     }
-    Ok(())
 }
 
 /// The bill of a centre for a period as a table: a heading, and a row for each row of steps, each row
@@ -195,17 +176,17 @@ pub fn bill_table(alloc: Global, period: u16, bill: &Bill) -> Result<Vec<u8>, Al
     requires { IsBill (bill_shown bill.now) }
     ensures { IfOk result (λ table. table.items ≡ spec.bill_table period (bill_shown bill.now)) }
 {
-    let mut table = new_table(alloc);
-    write_heading(&mut table)?;
-    write_steps(alloc, &mut table, period, &bill.work.steps)?;
-    write_jobs(alloc, &mut table, period, &bill.work.jobs)?;
-    write_lines(alloc, &mut table, period, &bill.lines)?;
-    into_bytes(table)
+    let mut table = TableDraft::new(alloc);
+    add_heading(&mut table);
+    add_all_steps(&mut table, period, &bill.work.steps);
+    add_all_jobs(&mut table, period, &bill.work.jobs);
+    add_lines(&mut table, period, &bill.lines);
+    table.finish()
 }
 
-/// Writes the names of the columns of the office's bill.
-fn write_office_heading(table: &mut Writer<Vec<u8>>) -> Result<(), AllocError>
-    ensures { OnOk result (AddsRows table.old table.new (fields_line spec.office_columns)) }
+/// Adds the names of the columns of the office's bill.
+fn add_office_heading(table: &mut TableDraft)
+    ensures { table.new ≡ table.old ++ fields_line spec.office_columns }
 {
     let names: [&[u8]; 7] = [
         b"period",
@@ -216,60 +197,46 @@ fn write_office_heading(table: &mut Writer<Vec<u8>>) -> Result<(), AllocError>
         b"reversed",
         b"owed",
     ];
-    write_fields(table, &names)?;
-    Ok(())
+    table.add_texts(&names);
 }
 
 /// Adds what a centre is charged, and the sum that it owes.
 #[tactic(auto, unfolding(crate::specs::BillTables::charge_fields))]
-fn add_charges(
-    alloc: Global,
-    fields: &mut StringRecord,
-    charges: &Charges,
-) -> Result<(), AllocError>
+fn add_charges(fields: &mut RowDraft, charges: &Charges)
     requires { FitCharges charges.now }
-    ensures { OnOk result (fields_of fields.new
-        ≡ fields_of fields.old ++ spec.charge_fields charges.now) }
+    ensures { fields.new ≡ fields.old ++ spec.charge_fields charges.now }
 {
-    add_amount(alloc, fields, charges.steps)?;
-    add_amount(alloc, fields, charges.jobs)?;
-    add_amount(alloc, fields, charges.late)?;
-    add_amount(alloc, fields, charges.reversed)?;
-    fields.push_field(owed_text(alloc, charges)?.as_str())
+    let mut owed = Draft::new(fields.alloc());
+    push_owed(&mut owed, charges);
+    add_amount(fields, charges.steps);
+    add_amount(fields, charges.jobs);
+    add_amount(fields, charges.late);
+    add_amount(fields, charges.reversed);
+    fields.add_draft(&owed);
 }
 
-/// Writes the row of a centre.
-fn write_centre(
-    alloc: Global,
-    table: &mut Writer<Vec<u8>>,
-    period: u16,
-    own: &CentreCharges,
-) -> Result<(), AllocError>
+/// Adds the row of a centre.
+#[tactic(auto, unfolding(crate::specs::BillTables::centre_row))]
+fn add_centre(table: &mut TableDraft, period: u16, own: &CentreCharges)
     requires { FitCharges own.now.charges }
-    ensures { OnOk result (AddsRows table.old table.new (spec.centre_row period own.now)) }
+    ensures { table.new ≡ table.old ++ spec.centre_row period own.now }
 {
-    let mut fields = StringRecord::new(alloc);
-    add_number(alloc, &mut fields, u64::from(period))?;
-    fields.push_field(own.centre.text())?;
-    add_charges(alloc, &mut fields, &own.charges)?;
-    write_row(table, &fields)
+    let mut fields = RowDraft::new(table.alloc());
+    add_number(&mut fields, u64::from(period));
+    fields.add_str(own.centre.text());
+    add_charges(&mut fields, &own.charges);
+    add_row(table, &fields);
 }
 
-/// Writes the rows of centres.
-fn write_centres(
-    alloc: Global,
-    table: &mut Writer<Vec<u8>>,
-    period: u16,
-    each: &[CentreCharges],
-) -> Result<(), AllocError>
+/// Adds the rows of centres.
+#[tactic(auto, using(std::proofs::lemmas::List::flat_map_more))]
+fn add_centres(table: &mut TableDraft, period: u16, each: &[CentreCharges])
     requires { All (λ one. FitCharges one.charges) each.now }
-    ensures { OnOk result (AddsRows table.old table.new
-        (flat_map (spec.centre_row period) each.now)) }
+    ensures { table.new ≡ table.old ++ flat_map (spec.centre_row period) each.now }
 {
     for own in each {
-        write_centre(alloc, table, period, own)?;
+        add_centre(table, period, own);
     }
-    Ok(())
 }
 
 /// The bill of the office for a period as a table: a heading, and a row for each centre that has a
@@ -280,8 +247,8 @@ pub fn office_bill_table(alloc: Global, period: u16, bill: &Bill) -> Result<Vec<
         table.items ≡ spec.office_bill_table period (bill_shown bill.now)) }
 {
     let own = office_charges(alloc, bill)?;
-    let mut table = new_table(alloc);
-    write_office_heading(&mut table)?;
-    write_centres(alloc, &mut table, period, &own.each)?;
-    into_bytes(table)
+    let mut table = TableDraft::new(alloc);
+    add_office_heading(&mut table);
+    add_centres(&mut table, period, &own.each);
+    table.finish()
 }

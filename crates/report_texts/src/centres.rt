@@ -1,17 +1,20 @@
 //! Reports on one centre: of what a period has, what is charged to the centre.
 
-ghost use Rattle.std.specs.Prelude.{◌≡◌, IfOk, string_bytes};
+ghost use Rattle.std.specs.Prelude.{◌≡◌, ◌++◌, IfOk, string_bytes};
 ghost use Rattle.std.specs.Option.{ForSome};
 ghost use Rattle.book_model.specs.Words.{AreLines, AreRows, IsDay};
 ghost use Rattle.report_texts.specs.Centres as spec;
+ghost use Rattle.report_texts.specs.Periods.{title_line};
 
-use crate::adjustment_lists::titled_adjustments;
+use crate::adjustment_lists::{push_lines, push_sum};
 use crate::adjustment_tables::adjustment_table;
+use crate::periods::push_title_end;
 use crate::statement_tables::statement_table;
-use crate::statements::titled_statement;
+use crate::statements::push_row_lines;
 use book_model::{ChargeRow, Line};
 use smf_text::Name;
 use std::alloc::{AllocError, Global};
+use text_drafts::Draft;
 
 /// Keeps the rows of the centre, in their order.
 pub(crate) fn keep_rows(rows: &mut Vec<ChargeRow>, centre: Name)
@@ -31,15 +34,23 @@ pub fn keep_lines(lines: &mut Vec<Line>, centre: Name)
     lines.retain(|line| line.priced.centre == centre);
 }
 
-/// The title of a report on the centre.
-#[tactic(auto, unfolding(crate::specs::Centres::centre_title))]
-pub(crate) fn centre_title(alloc: Global, report: &str, centre: Name) -> Result<String, AllocError>
-    ensures { IfOk result (λ title. string_bytes title ≡ spec.centre_title report.now centre) }
+/// Appends the first line of a report on the centre in a period.
+#[tactic(auto, unfolding(crate::specs::Centres::centre_title, crate::specs::Periods::title_line, crate::specs::Periods::title_end))]
+pub(crate) fn push_centre_title(
+    out: &mut Draft,
+    report: &str,
+    centre: Name,
+    period: u16,
+    through: Option<i32>,
+)
+    requires { ForSome through IsDay }
+    ensures { out.new
+        ≡ out.old ++ title_line (spec.centre_title report.now centre) period through }
 {
-    let mut title = String::from_str(alloc, report)?;
-    title.push_str(" CENTRE ")?;
-    title.push_str(centre.text())?;
-    Ok(title)
+    out.push_str(report);
+    out.push_str(" CENTRE ");
+    out.push_str(centre.text());
+    push_title_end(out, period, through);
 }
 
 /// The statement of a centre for a period: by all charge rows of the period.
@@ -55,9 +66,11 @@ pub fn centre_statement_text(
     ensures { IfOk result (λ text.
         string_bytes text ≡ spec.centre_statement_text centre period through rows.items) }
 {
-    let title = centre_title(alloc, "STATEMENT", centre)?;
+    let mut out = Draft::new(alloc);
+    push_centre_title(&mut out, "STATEMENT", centre, period, through);
     keep_rows(&mut rows, centre);
-    titled_statement(alloc, title.as_str(), period, through, &rows)
+    push_row_lines(&mut out, &rows);
+    out.finish()
 }
 
 /// The same as a table: a heading, and a row for each charge row of the centre.
@@ -88,9 +101,12 @@ pub fn centre_adjustments_text(
     ensures { IfOk result (λ text.
         string_bytes text ≡ spec.centre_adjustments_text centre period through lines.items) }
 {
-    let title = centre_title(alloc, "ADJUSTMENTS", centre)?;
+    let mut out = Draft::new(alloc);
+    push_centre_title(&mut out, "ADJUSTMENTS", centre, period, through);
     keep_lines(&mut lines, centre);
-    titled_adjustments(alloc, title.as_str(), period, through, &lines)
+    push_lines(&mut out, &lines);
+    push_sum(&mut out, &lines);
+    out.finish()
 }
 
 /// The same as a table: a heading, and a row for each line of the centre.

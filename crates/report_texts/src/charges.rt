@@ -1,21 +1,22 @@
 //! What a bill charges, and what one centre has of that.
 
-ghost use Rattle.std.specs.Prelude.{◌≡◌, All, IfOk, map, string_bytes};
+ghost use Rattle.std.specs.Prelude.{◌≡◌, ◌++◌, All, IfOk, map};
 ghost use Rattle.book_model.specs.Words.{AreLines, AreRows, bill_shown};
 ghost use Rattle.report_texts.specs.Charges as spec;
 ghost use Rattle.report_texts.specs.Charges.{FitCharges, IsBill};
 
-use crate::adjustment_lists::signed_text;
+use crate::adjustment_lists::push_difference;
 use crate::centre_amounts::{centre_amounts, charges_among};
 use crate::{adjustment_lists, statements};
 use book_model::{Bill, BilledLine, ChargeRow, Line};
 use smf_text::Name;
 use std::alloc::{AllocError, Global};
 use std::collections::BTreeSet;
+use text_drafts::Draft;
 
 /// What is charged for steps and for jobs, what came late and what was reversed, in ten-thousandths of
 /// the money unit.
-#[derive(Clone, Copy, Debug)]
+#[derive(Clone, Copy)]
 pub struct Charges {
     /// For steps.
     pub steps: u64,
@@ -28,14 +29,14 @@ pub struct Charges {
 }
 
 /// What one centre is charged.
-#[derive(Clone, Copy, Debug)]
+#[derive(Clone, Copy)]
 pub(crate) struct CentreCharges {
     pub(crate) centre: Name,
     pub(crate) charges: Charges,
 }
 
 /// What each centre of a bill is charged, in the order of the centres, and what all of them are.
-#[derive(Debug, Drop)]
+#[derive(Drop)]
 pub(crate) struct OfficeCharges {
     pub(crate) each: Vec<CentreCharges>,
     pub(crate) all: Charges,
@@ -134,12 +135,12 @@ pub(crate) fn office_charges(alloc: Global, bill: &Bill) -> Result<OfficeCharges
     Ok(OfficeCharges { each, all })
 }
 
-/// The sum owed: all that is charged, less what is reversed.
+/// Appends the sum owed: all that is charged, less what is reversed.
 #[tactic(auto, unfolding(crate::specs::Charges::owed_text))]
-pub(crate) fn owed_text(alloc: Global, charges: &Charges) -> Result<String, AllocError>
+pub(crate) fn push_owed(out: &mut Draft, charges: &Charges)
     requires { FitCharges charges.now }
-    ensures { IfOk result (λ text. string_bytes text ≡ spec.owed_text charges.now) }
+    ensures { out.new ≡ out.old ++ spec.owed_text charges.now }
 {
     let charged = charges.steps + charges.jobs + charges.late;
-    signed_text(alloc, charged, charges.reversed)
+    push_difference(out, charged, charges.reversed);
 }

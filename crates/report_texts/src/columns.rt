@@ -5,60 +5,123 @@ ghost use Rattle.std.specs.Fmt.{decimal};
 ghost use Rattle.report_texts.specs.Columns as spec;
 
 use std::alloc::{AllocError, Global};
+use text_drafts::Draft;
 
 /// Appends blanks.
-fn push_blanks(out: &mut String, count: usize) -> Result<(), AllocError>
-    ensures { OnOk result (string_bytes out.new ≡ string_bytes out.old ++ spec.blanks count) }
+fn push_blanks(out: &mut Draft, count: usize)
+    ensures { out.new ≡ out.old ++ spec.blanks count }
 {
     for _ in 0..count {
-        out.push(' ')?;
+        out.push(' ');
     }
-    Ok(())
 }
 
 /// Appends a text at the left of a column, and the blank after the column. A text that is wider than
 /// the column is kept whole.
-pub(crate) fn push_left_aligned(
-    out: &mut String,
-    width: usize,
-    text: &str,
-) -> Result<(), AllocError>
-    ensures { OnOk result (string_bytes out.new
-        ≡ string_bytes out.old ++ spec.left_aligned width text.now ++ codes " ") }
+pub(crate) fn push_left_aligned(out: &mut Draft, width: usize, text: &str)
+    ensures { out.new ≡ out.old ++ spec.left_aligned width text.now ++ codes " " }
 {
-    out.push_str(text)?;
-    push_blanks(out, width.saturating_sub(text.len()))?;
-    out.push(' ')
+    out.push_str(text);
+    push_blanks(out, width.saturating_sub(text.len()));
+    out.push(' ');
 }
 
 /// Appends a text at the right of a column. A text that is wider than the column is kept whole.
-pub(crate) fn push_right_aligned(
-    out: &mut String,
-    width: usize,
-    text: &str,
-) -> Result<(), AllocError>
-    ensures { OnOk result (string_bytes out.new
-        ≡ string_bytes out.old ++ spec.right_aligned width text.now) }
+pub(crate) fn push_right_aligned(out: &mut Draft, width: usize, text: &str)
+    ensures { out.new ≡ out.old ++ spec.right_aligned width text.now }
 {
-    push_blanks(out, width.saturating_sub(text.len()))?;
-    out.push_str(text)
+    push_blanks(out, width.saturating_sub(text.len()));
+    out.push_str(text);
 }
 
-/// Appends a number in decimal digits.
+/// Appends what a draft says at the left of a column, and the blank after the column.
+pub(crate) fn push_left(out: &mut Draft, width: usize, text: &Draft)
+    ensures { out.new ≡ out.old ++ spec.left_aligned width text.now ++ codes " " }
+{
+    match text.whole() {
+        Some(text) => push_left_aligned(out, width, text),
+        None => out.leave_out(&(width, text)),
+    }
+}
+
+/// Appends what a draft says at the right of a column.
+pub(crate) fn push_right(out: &mut Draft, width: usize, text: &Draft)
+    ensures { out.new ≡ out.old ++ spec.right_aligned width text.now }
+{
+    match text.whole() {
+        Some(text) => push_right_aligned(out, width, text),
+        None => out.leave_out(&(width, text)),
+    }
+}
+
+/// Appends a number at the right of a column.
+pub(crate) fn push_count(out: &mut Draft, width: usize, number: u64)
+    ensures { out.new ≡ out.old ++ spec.right_aligned width (decimal number) }
+{
+    let mut text = Draft::new(out.alloc());
+    text.push_number(number);
+    push_right(out, width, &text);
+}
+
+/// Appends a number, or `-` where there is none.
+#[tactic(auto, unfolding(crate::specs::Columns::number_text))]
+pub(crate) fn push_number_or_dash(out: &mut Draft, number: Option<u16>)
+    ensures { out.new ≡ out.old ++ spec.number_text number }
+{
+    match number {
+        None => out.push('-'),
+        Some(number) => out.push_number(u64::from(number)),
+    }
+}
+
+/// Appends hundredths of a second, in seconds.
+pub fn push_seconds(out: &mut Draft, hundredths: u64)
+    ensures { out.new ≡ out.old ++ spec.seconds_text hundredths }
+{
+    let made = seconds_text(out.alloc(), hundredths);
+    out.push_made(&hundredths, made);
+}
+
+/// Appends hundredths of a second, in seconds, at the right of a column.
+pub(crate) fn push_time_used(out: &mut Draft, width: usize, hundredths: u64)
+    ensures { out.new ≡ out.old ++ spec.right_aligned width (spec.seconds_text hundredths) }
+{
+    let mut text = Draft::new(out.alloc());
+    push_seconds(&mut text, hundredths);
+    push_right(out, width, &text);
+}
+
+/// Appends ten-thousandths of the money unit, in units.
+pub fn push_amount(out: &mut Draft, amount: u64)
+    ensures { out.new ≡ out.old ++ spec.amount_text amount }
+{
+    let made = amount_text(out.alloc(), amount);
+    out.push_made(&amount, made);
+}
+
+/// Appends ten-thousandths of the money unit, in units, at the right of a column.
+pub(crate) fn push_money(out: &mut Draft, width: usize, amount: u64)
+    ensures { out.new ≡ out.old ++ spec.right_aligned width (spec.amount_text amount) }
+{
+    let mut text = Draft::new(out.alloc());
+    push_amount(&mut text, amount);
+    push_right(out, width, &text);
+}
+
+/// Appends a number in decimal digits to a text.
 pub fn push_number(out: &mut String, number: u64) -> Result<(), AllocError>
     ensures { OnOk result (string_bytes out.new ≡ string_bytes out.old ++ decimal number) }
 {
     write!(out, "{number}")
 }
 
-/// A number, or `-` where there is none.
-#[tactic(auto, unfolding(crate::specs::Columns::number_text))]
-pub(crate) fn number_text(alloc: Global, number: Option<u16>) -> Result<String, AllocError>
-    ensures { IfOk result (λ text. string_bytes text ≡ spec.number_text number) }
+/// Appends what a draft says to a text.
+pub(crate) fn push_draft(out: &mut String, draft: &Draft) -> Result<(), AllocError>
+    ensures { OnOk result (string_bytes out.new ≡ string_bytes out.old ++ draft.now) }
 {
-    match number {
-        None => String::from_str(alloc, "-"),
-        Some(number) => number.to_string(alloc),
+    match draft.whole() {
+        Some(text) => out.push_str(text),
+        None => Err(AllocError),
     }
 }
 
@@ -74,7 +137,7 @@ pub fn seconds_text(alloc: Global, hundredths: u64) -> Result<String, AllocError
 
 /// Ten-thousandths of the money unit, in units.
 #[tactic(auto, using(crate::proofs::ColumnLemmas::places_written), unfolding(crate::specs::Columns::amount_text))]
-pub(crate) fn amount_text(alloc: Global, amount: u64) -> Result<String, AllocError>
+fn amount_text(alloc: Global, amount: u64) -> Result<String, AllocError>
     ensures { IfOk result (λ text. string_bytes text ≡ spec.amount_text amount) }
 {
     let units = amount / 10_000;

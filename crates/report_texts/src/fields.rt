@@ -1,94 +1,100 @@
 //! Fields of rows: what each is shown as is made, and added to a row.
 
-ghost use Rattle.std.specs.Prelude.{◌≡◌, [], ◌∷◌, ◌++◌, OnOk};
+ghost use Rattle.std.specs.Prelude.{◌≡◌, [], ◌∷◌, ◌++◌};
 ghost use Rattle.std.specs.Fmt.{decimal};
-ghost use Rattle.csv.specs.Records.{fields_of};
 ghost use Rattle.hex.specs.Hex.{encode_lower};
 ghost use Rattle.book_model.specs.Words.{IsDay, day_text_of, show_text};
 ghost use Rattle.report_texts.specs.AdjustmentLists.{charged_amount, reversed_amount, signed_text};
-ghost use Rattle.report_texts.specs.Columns.{amount_text};
+ghost use Rattle.report_texts.specs.Columns.{amount_text, number_text, seconds_text};
 ghost use Rattle.report_texts.specs.Tables.{key_fields};
 
-use crate::adjustment_lists::{charged_amount, reversed_amount, signed_text};
-use crate::columns::amount_text;
+use crate::adjustment_lists::{charged_amount, push_difference, reversed_amount};
+use crate::columns::{push_amount, push_number_or_dash, push_seconds};
 use book_model::Line;
-use csv::StringRecord;
-use smf_text::{day_text, show};
-use std::alloc::{AllocError, Global};
 use tariff_rules::Priced;
+use text_drafts::{Draft, RowDraft};
 
 /// Adds a number.
-pub(crate) fn add_number(
-    alloc: Global,
-    row: &mut StringRecord,
-    number: u64,
-) -> Result<(), AllocError>
-    ensures { OnOk result (fields_of row.new ≡ fields_of row.old ++ decimal number ∷ []) }
+pub(crate) fn add_number(row: &mut RowDraft, number: u64)
+    ensures { row.new ≡ row.old ++ decimal number ∷ [] }
 {
-    row.push_field(number.to_string(alloc)?.as_str())
+    let mut text = Draft::new(row.alloc());
+    text.push_number(number);
+    row.add_draft(&text);
+}
+
+/// Adds a number, or `-` where there is none.
+pub(crate) fn add_number_or_dash(row: &mut RowDraft, number: Option<u16>)
+    ensures { row.new ≡ row.old ++ number_text number ∷ [] }
+{
+    let mut text = Draft::new(row.alloc());
+    push_number_or_dash(&mut text, number);
+    row.add_draft(&text);
+}
+
+/// Adds hundredths of a second, in seconds.
+pub(crate) fn add_seconds(row: &mut RowDraft, hundredths: u64)
+    ensures { row.new ≡ row.old ++ seconds_text hundredths ∷ [] }
+{
+    let mut text = Draft::new(row.alloc());
+    push_seconds(&mut text, hundredths);
+    row.add_draft(&text);
 }
 
 /// Adds bytes as they are shown.
-pub(crate) fn add_shown(
-    alloc: Global,
-    row: &mut StringRecord,
-    bytes: &[u8],
-) -> Result<(), AllocError>
-    ensures { OnOk result (fields_of row.new ≡ fields_of row.old ++ show_text bytes.now ∷ []) }
+pub(crate) fn add_shown(row: &mut RowDraft, bytes: &[u8])
+    ensures { row.new ≡ row.old ++ show_text bytes.now ∷ [] }
 {
-    row.push_field(show(alloc, bytes)?.as_str())
+    let mut text = Draft::new(row.alloc());
+    text.push_shown(bytes);
+    row.add_draft(&text);
 }
 
 /// Adds a day.
-pub(crate) fn add_day(alloc: Global, row: &mut StringRecord, day: i32) -> Result<(), AllocError>
+pub(crate) fn add_day(row: &mut RowDraft, day: i32)
     requires { IsDay day }
-    ensures { OnOk result (fields_of row.new ≡ fields_of row.old ++ day_text_of day ∷ []) }
+    ensures { row.new ≡ row.old ++ day_text_of day ∷ [] }
 {
-    row.push_field(day_text(alloc, day)?.as_str())
+    let mut text = Draft::new(row.alloc());
+    text.push_day(day);
+    row.add_draft(&text);
 }
 
 /// Adds where a record is charged: on which day, to which centre, and in which shift.
 #[tactic(auto, unfolding(crate::specs::Tables::key_fields))]
-pub(crate) fn add_key(
-    alloc: Global,
-    row: &mut StringRecord,
-    priced: &Priced,
-) -> Result<(), AllocError>
+pub(crate) fn add_key(row: &mut RowDraft, priced: &Priced)
     requires { IsDay priced.now.day }
-    ensures { OnOk result (fields_of row.new ≡ fields_of row.old ++ key_fields priced.now) }
+    ensures { row.new ≡ row.old ++ key_fields priced.now }
 {
-    add_day(alloc, row, priced.day)?;
-    row.push_field(priced.centre.text())?;
-    row.push_field(priced.shift.text())
+    add_day(row, priced.day);
+    row.add_str(priced.centre.text());
+    row.add_str(priced.shift.text());
 }
 
 /// Adds ten-thousandths of the money unit, in units.
-pub(crate) fn add_amount(
-    alloc: Global,
-    row: &mut StringRecord,
-    amount: u64,
-) -> Result<(), AllocError>
-    ensures { OnOk result (fields_of row.new ≡ fields_of row.old ++ amount_text amount ∷ []) }
+pub(crate) fn add_amount(row: &mut RowDraft, amount: u64)
+    ensures { row.new ≡ row.old ++ amount_text amount ∷ [] }
 {
-    row.push_field(amount_text(alloc, amount)?.as_str())
+    let mut text = Draft::new(row.alloc());
+    push_amount(&mut text, amount);
+    row.add_draft(&text);
 }
 
 /// Adds what a line charges or reverses.
-pub(crate) fn add_signed(
-    alloc: Global,
-    row: &mut StringRecord,
-    line: &Line,
-) -> Result<(), AllocError>
-    ensures { OnOk result (fields_of row.new ≡ fields_of row.old
-        ++ signed_text (charged_amount line.now) (reversed_amount line.now) ∷ []) }
+pub(crate) fn add_signed(row: &mut RowDraft, line: &Line)
+    ensures { row.new ≡ row.old
+        ++ signed_text (charged_amount line.now) (reversed_amount line.now) ∷ [] }
 {
-    let amount = signed_text(alloc, charged_amount(line), reversed_amount(line))?;
-    row.push_field(amount.as_str())
+    let mut text = Draft::new(row.alloc());
+    push_difference(&mut text, charged_amount(line), reversed_amount(line));
+    row.add_draft(&text);
 }
 
 /// Adds the name of a record, in hexadecimal digits of lower case.
-pub(crate) fn add_name(alloc: Global, row: &mut StringRecord, name: &[u8]) -> Result<(), AllocError>
-    ensures { OnOk result (fields_of row.new ≡ fields_of row.old ++ encode_lower name.now ∷ []) }
+pub(crate) fn add_name(row: &mut RowDraft, name: &[u8])
+    ensures { row.new ≡ row.old ++ encode_lower name.now ∷ [] }
 {
-    row.push_field(hex::encode(alloc, name)?.as_str())
+    let mut text = Draft::new(row.alloc());
+    text.push_lower_hex(name);
+    row.add_draft(&text);
 }

@@ -8,7 +8,7 @@ use crate::{adjustment_lists, statements};
 use book_model::{ChargeRow, Line};
 
 /// What books have of a period, as a dry run of a ruling shows it.
-#[derive(Clone, Copy, Debug, PartialEq, Eq)]
+#[derive(Clone, Copy)]
 pub struct Figures {
     /// What its statement comes to, in ten-thousandths of the money unit.
     pub statement: u64,

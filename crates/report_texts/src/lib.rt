@@ -19,7 +19,6 @@ mod figures;
 mod life_lines;
 mod moments;
 mod office_bills;
-mod parts;
 mod period_lists;
 mod periods;
 mod reckoning_lines;
@@ -41,16 +40,20 @@ pub use centres::{
     centre_statement_text, keep_lines,
 };
 pub use charges::Charges;
-pub use columns::{push_number, seconds_text};
+pub use columns::{push_amount, push_number, push_seconds, seconds_text};
 pub use detail_lists::{detail_head, detail_total, push_detail_line};
 pub use detail_tables::{detail_row, detail_table_head};
-pub use dispute_lists::{dispute_list_head, dispute_list_text, push_dispute, push_identity_line};
+pub use dispute_lists::{
+    dispute_list_head, dispute_list_text, push_completion, push_dispute, push_identity,
+    push_identity_line,
+};
 pub use dispute_tables::{dispute_rows, dispute_table, dispute_table_head};
 pub use dry_runs::{TriedRuling, dry_run_text};
 pub use figures::{Figures, figures_of, record_count, record_count_from};
 pub use life_lines::is_charge;
 pub use office_bills::office_bill_text;
 pub use period_lists::period_list_text;
+pub use periods::push_head;
 pub use record_texts::record_text;
 pub use ruling_lists::{push_ruling_line, ruling_list_head};
 pub use statement_tables::statement_table;

@@ -1,28 +1,26 @@
 //! The text of one record: what stands behind its price, and what became of it.
 
-ghost use Rattle.std.specs.Prelude.{◌≡◌, ◌++◌, All, IfOk, OnOk, flat_map, string_bytes};
+ghost use Rattle.std.specs.Prelude.{◌≡◌, ◌++◌, All, IfOk, string_bytes};
 ghost use Rattle.book_model.specs.Words.{IsDay, IsTrail, trail_shown};
 ghost use Rattle.report_texts.specs.RecordTexts as spec;
 
-use crate::columns::push_number;
 use crate::dispute_lists::push_members;
 use crate::life_lines::push_life;
-use crate::parts::push_name;
 use crate::reckoning_lines::push_reckoning;
 use crate::ruling_lists::push_period;
 use crate::usage_lines::push_usage;
 use book_model::{NamedChoice, Trail, Variant};
 use std::alloc::{AllocError, Global};
+use text_drafts::Draft;
 
 /// Appends the line of the record's name.
 #[tactic(auto, unfolding(crate::specs::RecordTexts::record_line))]
-fn push_record(alloc: Global, out: &mut String, name: &[u8]) -> Result<(), AllocError>
-    ensures { OnOk result (string_bytes out.new
-        ≡ string_bytes out.old ++ spec.record_line name.now) }
+fn push_record(out: &mut Draft, name: &[u8])
+    ensures { out.new ≡ out.old ++ spec.record_line name.now }
 {
-    out.push_str("RECORD ")?;
-    push_name(alloc, out, name)?;
-    out.push('\n')
+    out.push_str("RECORD ");
+    out.push_lower_hex(name);
+    out.push('\n');
 }
 
 /// Keeps the others than the record of a name, in their order.
@@ -36,56 +34,39 @@ fn keep_rivals(members: &mut Vec<Variant>, name: &[u8; 32])
 
 /// Appends the number of a record's rivals, and a line for each.
 #[tactic(auto, unfolding(crate::specs::RecordTexts::rival_lines))]
-fn push_rivals(alloc: Global, out: &mut String, rivals: &[Variant]) -> Result<(), AllocError>
+fn push_rivals(out: &mut Draft, rivals: &[Variant])
     requires { All (λ member. IsDay member.priced.day) rivals.now }
-    ensures { OnOk result (string_bytes out.new
-        ≡ string_bytes out.old ++ spec.rival_lines rivals.now) }
+    ensures { out.new ≡ out.old ++ spec.rival_lines rivals.now }
 {
-    out.push_str("RIVALS ")?;
-    push_number(out, rivals.len() as u64)?;
-    out.push('\n')?;
-    push_members(alloc, out, rivals)
+    out.push_str("RIVALS ");
+    out.push_number(rivals.len() as u64);
+    out.push('\n');
+    push_members(out, rivals);
 }
 
 /// Appends the line of a choice.
 #[tactic(auto, unfolding(crate::specs::RecordTexts::choice_line))]
-fn push_choice(alloc: Global, out: &mut String, choice: &NamedChoice) -> Result<(), AllocError>
-    ensures { OnOk result (string_bytes out.new
-        ≡ string_bytes out.old ++ spec.choice_line choice.now) }
+fn push_choice(out: &mut Draft, choice: &NamedChoice)
+    ensures { out.new ≡ out.old ++ spec.choice_line choice.now }
 {
-    out.push_str("  ")?;
-    push_period(out, choice.period)?;
-    out.push(' ')?;
-    push_name(alloc, out, &choice.name)?;
-    out.push('\n')
-}
-
-/// Appends the lines of choices.
-#[tactic(auto, using(std::proofs::lemmas::List::flat_map_more))]
-fn push_each_choice(
-    alloc: Global,
-    out: &mut String,
-    choices: &[NamedChoice],
-) -> Result<(), AllocError>
-    ensures { OnOk result (string_bytes out.new
-        ≡ string_bytes out.old ++ flat_map spec.choice_line choices.now) }
-{
-    for choice in choices {
-        push_choice(alloc, out, choice)?;
-    }
-    Ok(())
+    out.push_str("  ");
+    push_period(out, choice.period);
+    out.push(' ');
+    out.push_lower_hex(&choice.name);
+    out.push('\n');
 }
 
 /// Appends the number of choices, and a line for each.
-#[tactic(auto, unfolding(crate::specs::RecordTexts::choice_lines))]
-fn push_choices(alloc: Global, out: &mut String, choices: &[NamedChoice]) -> Result<(), AllocError>
-    ensures { OnOk result (string_bytes out.new
-        ≡ string_bytes out.old ++ spec.choice_lines choices.now) }
+#[tactic(auto, using(std::proofs::lemmas::List::flat_map_more), unfolding(crate::specs::RecordTexts::choice_lines))]
+fn push_choices(out: &mut Draft, choices: &[NamedChoice])
+    ensures { out.new ≡ out.old ++ spec.choice_lines choices.now }
 {
-    out.push_str("CHOICES ")?;
-    push_number(out, choices.len() as u64)?;
-    out.push('\n')?;
-    push_each_choice(alloc, out, choices)
+    out.push_str("CHOICES ");
+    out.push_number(choices.len() as u64);
+    out.push('\n');
+    for choice in choices {
+        push_choice(out, choice);
+    }
 }
 
 /// The text of the record of a name, by its trail.
@@ -94,13 +75,13 @@ pub fn record_text(alloc: Global, name: &[u8; 32], mut trail: Trail) -> Result<S
     ensures { IfOk result (λ text.
         string_bytes text ≡ spec.record_text name.now (trail_shown trail)) }
 {
-    let mut out = String::new(alloc);
-    push_record(alloc, &mut out, name)?;
-    push_usage(alloc, &mut out, &trail.bytes, trail.period)?;
-    push_reckoning(alloc, &mut out, &trail.reckoning)?;
+    let mut out = Draft::new(alloc);
+    push_record(&mut out, name);
+    push_usage(&mut out, &trail.bytes, trail.period);
+    push_reckoning(&mut out, &trail.reckoning);
     keep_rivals(&mut trail.members, name);
-    push_rivals(alloc, &mut out, &trail.members)?;
-    push_choices(alloc, &mut out, &trail.choices)?;
-    push_life(&mut out, &trail.life)?;
-    Ok(out)
+    push_rivals(&mut out, &trail.members);
+    push_choices(&mut out, &trail.choices);
+    push_life(&mut out, &trail.life);
+    out.finish()
 }

@@ -1,63 +1,57 @@
 //! Charge rows as tables of comma-separated values.
 
-ghost use Rattle.std.specs.Prelude.{◌≡◌, ◌++◌, ℕ, List, [], IfOk, OnOk};
-ghost use Rattle.book_model.specs.Words.{AreRows, IsDay};
+ghost use Rattle.std.specs.Prelude.{◌≡◌, ◌++◌, IfOk};
+ghost use Rattle.book_model.specs.Words.{AreRows, IsDay, IsName};
 ghost use Rattle.report_texts.specs.StatementTables as spec;
-ghost use Rattle.report_texts.specs.Tables.{IsBetweenRows, IsPlain};
+ghost use Rattle.report_texts.specs.Tables.{IsPlain};
 
-use crate::columns::{amount_text, seconds_text};
-use crate::tables::{into_bytes, new_table, write_fields};
+use crate::fields::{add_amount, add_day, add_number, add_seconds};
+use crate::tables::add_row;
 use book_model::ChargeRow;
-use csv::Writer;
-use smf_text::day_text;
 use std::alloc::{AllocError, Global};
+use text_drafts::{RowDraft, TableDraft};
 
-/// Writes the names of the columns, of which the last one has the amounts.
-fn write_heading(table: &mut Writer<Vec<u8>>, amounts: &[u8]) -> Result<(), AllocError>
+/// Adds the names of the columns, of which the last one has the amounts.
+fn add_heading(table: &mut TableDraft, amounts: &[u8])
     requires { IsPlain amounts.now }
-    ensures { OnOk result (IsBetweenRows table.old []
-        → IsBetweenRows table.new (spec.table_heading amounts.now)) }
+    ensures { table.new ≡ table.old ++ spec.table_heading amounts.now }
 {
     let names: [&[u8]; 8] = [
         b"period", b"day", b"centre", b"shift", b"count", b"cpu", b"blocks", amounts,
     ];
-    write_fields(table, &names)?;
-    Ok(())
+    table.add_texts(&names);
 }
 
-/// Writes the row of a charge row.
-fn write_row(
-    alloc: Global,
-    table: &mut Writer<Vec<u8>>,
-    period: u16,
-    row: ChargeRow,
-) -> Result<(), AllocError>
-    requires { IsDay row.day }
-    ensures { OnOk result ((bytes : List ℕ) → IsBetweenRows table.old bytes
-        → IsBetweenRows table.new (bytes ++ spec.table_line period row)) }
+/// Adds the fields of a charge row.
+fn add_fields(fields: &mut RowDraft, period: u16, row: &ChargeRow)
+    requires { IsDay row.now.day }
+    ensures fields { fields.new ≡ fields.old ++ spec.table_fields period row.now }
+    ensures centre { IsName row.now.centre }
+    ensures shift { IsName row.now.shift }
 {
-    let period = period.to_string(alloc)?;
-    let day = day_text(alloc, row.day)?;
-    let count = row.count.to_string(alloc)?;
-    let cpu = seconds_text(alloc, row.cpu)?;
-    let blocks = row.blocks.to_string(alloc)?;
-    let amount = amount_text(alloc, row.amount)?;
-    let fields = [
-        period.as_str().as_bytes(),
-        day.as_str().as_bytes(),
-        row.centre.text().as_bytes(),
-        row.shift.text().as_bytes(),
-        count.as_str().as_bytes(),
-        cpu.as_str().as_bytes(),
-        blocks.as_str().as_bytes(),
-        amount.as_str().as_bytes(),
-    ];
-    write_fields(table, &fields)?;
-    Ok(())
+    add_number(fields, u64::from(period));
+    add_day(fields, row.day);
+    fields.add_str(row.centre.text());
+    fields.add_str(row.shift.text());
+    add_number(fields, row.count);
+    add_seconds(fields, row.cpu);
+    add_number(fields, row.blocks);
+    add_amount(fields, row.amount);
+}
+
+/// Adds the row of a charge row.
+fn add_line(table: &mut TableDraft, period: u16, row: ChargeRow)
+    requires { IsDay row.day }
+    ensures { table.new ≡ table.old ++ spec.table_line period row }
+{
+    let mut fields = RowDraft::new(table.alloc());
+    add_fields(&mut fields, period, &row);
+    add_row(table, &fields);
 }
 
 /// Charge rows of a period as a table: a heading, whose last column has this name, and a row for
 /// each of them.
+#[tactic(auto, using(std::proofs::lemmas::List::flat_map_more))]
 pub(crate) fn row_table(
     alloc: Global,
     amounts: &[u8],
@@ -68,12 +62,12 @@ pub(crate) fn row_table(
     requires rows { AreRows rows.now }
     ensures { IfOk result (λ table. table.items ≡ spec.row_table amounts.now period rows.now) }
 {
-    let mut table = new_table(alloc);
-    write_heading(&mut table, amounts)?;
+    let mut table = TableDraft::new(alloc);
+    add_heading(&mut table, amounts);
     for row in rows {
-        write_row(alloc, &mut table, period, *row)?;
+        add_line(&mut table, period, *row);
     }
-    into_bytes(table)
+    table.finish()
 }
 
 /// The statement of a period as a table: a heading, and a row for each of its charge rows, in the

@@ -1,111 +1,123 @@
 //! Statements: what a period is charged.
 
-ghost use Rattle.std.specs.Prelude.{◌≡◌, ◌++◌, IfOk, OnOk, flat_map, string_bytes, sum_by};
+ghost use Rattle.std.specs.Prelude.{◌≡◌, ◌++◌, IfOk, codes, flat_map, string_bytes, sum_by};
 ghost use Rattle.std.specs.Option.{ForSome};
-ghost use Rattle.book_model.specs.Words.{IsDay, AreRows};
+ghost use Rattle.book_model.specs.Words.{IsDay, AreRows, day_text_of};
+ghost use Rattle.report_texts.specs.Columns.{amount_text, left_aligned};
 ghost use Rattle.report_texts.specs.Statements as spec;
 
-use crate::columns::{amount_text, push_left_aligned, push_right_aligned, seconds_text};
-use crate::periods::title_text;
+use crate::columns::{
+    push_amount, push_count, push_left, push_left_aligned, push_right, push_right_aligned,
+    push_time_used,
+};
+use crate::periods::push_title;
 use book_model::ChargeRow;
-use smf_text::day_text;
 use std::alloc::{AllocError, Global};
+use text_drafts::Draft;
 
 /// Appends the columns that say where work is charged.
 #[tactic(auto, unfolding(crate::specs::Statements::key_columns))]
-pub(crate) fn push_key(
-    out: &mut String,
-    day: &str,
-    centre: &str,
-    shift: &str,
-) -> Result<(), AllocError>
-    ensures { OnOk result (string_bytes out.new
-        ≡ string_bytes out.old ++ spec.key_columns day.now centre.now shift.now) }
+pub(crate) fn push_key(out: &mut Draft, day: &str, centre: &str, shift: &str)
+    ensures { out.new ≡ out.old ++ spec.key_columns day.now centre.now shift.now }
 {
-    push_left_aligned(out, 10, day)?;
-    push_left_aligned(out, 16, centre)?;
-    push_left_aligned(out, 16, shift)
+    push_left_aligned(out, 10, day);
+    push_left_aligned(out, 16, centre);
+    push_left_aligned(out, 16, shift);
+}
+
+/// Appends a day in its column.
+fn push_day_column(out: &mut Draft, day: i32)
+    requires { IsDay day }
+    ensures { out.new ≡ out.old ++ left_aligned 10 (day_text_of day) ++ codes " " }
+{
+    let mut text = Draft::new(out.alloc());
+    text.push_day(day);
+    push_left(out, 10, &text);
+}
+
+/// Appends the same columns, by the day.
+#[tactic(auto, unfolding(crate::specs::Statements::key_columns))]
+pub(crate) fn push_place(out: &mut Draft, day: i32, centre: &str, shift: &str)
+    requires { IsDay day }
+    ensures { out.new ≡ out.old ++ spec.key_columns (day_text_of day) centre.now shift.now }
+{
+    push_day_column(out, day);
+    push_left_aligned(out, 16, centre);
+    push_left_aligned(out, 16, shift);
 }
 
 /// Appends the columns that say how much work it is.
-pub(crate) fn push_work(
-    out: &mut String,
-    count: &str,
-    cpu: &str,
-    blocks: &str,
-) -> Result<(), AllocError>
-    ensures { OnOk result (string_bytes out.new
-        ≡ string_bytes out.old ++ spec.work_columns count.now cpu.now blocks.now) }
+pub(crate) fn push_work(out: &mut Draft, count: &str, cpu: &str, blocks: &str)
+    ensures { out.new ≡ out.old ++ spec.work_columns count.now cpu.now blocks.now }
 {
-    push_right_aligned(out, 8, count)?;
-    out.push(' ')?;
-    push_right_aligned(out, 19, cpu)?;
-    out.push(' ')?;
-    push_right_aligned(out, 18, blocks)?;
-    out.push(' ')
+    push_right_aligned(out, 8, count);
+    out.push(' ');
+    push_right_aligned(out, 19, cpu);
+    out.push(' ');
+    push_right_aligned(out, 18, blocks);
+    out.push(' ');
 }
 
 /// Appends the column that says what it costs, and ends the line.
-pub(crate) fn push_amount(out: &mut String, amount: &str) -> Result<(), AllocError>
-    ensures { OnOk result (string_bytes out.new
-        ≡ string_bytes out.old ++ spec.amount_column amount.now) }
+pub(crate) fn push_last(out: &mut Draft, amount: &str)
+    ensures { out.new ≡ out.old ++ spec.amount_column amount.now }
 {
-    push_right_aligned(out, 21, amount)?;
-    out.push('\n')
+    push_right_aligned(out, 21, amount);
+    out.push('\n');
+}
+
+/// Appends the same column of ten-thousandths of the money unit, and ends the line.
+pub(crate) fn push_cost(out: &mut Draft, amount: u64)
+    ensures { out.new ≡ out.old ++ spec.amount_column (amount_text amount) }
+{
+    let mut cost = Draft::new(out.alloc());
+    push_amount(&mut cost, amount);
+    push_right(out, 21, &cost);
+    out.push('\n');
 }
 
 /// Appends the columns of numbers: a count of records, their CPU time in hundredths of a second,
 /// their blocks, and what they cost in ten-thousandths of the money unit.
 #[tactic(auto, unfolding(crate::specs::Statements::number_columns))]
-pub(crate) fn push_numbers(
-    alloc: Global,
-    out: &mut String,
-    count: u64,
-    cpu: u64,
-    blocks: u64,
-    amount: u64,
-) -> Result<(), AllocError>
-    ensures { OnOk result (string_bytes out.new
-        ≡ string_bytes out.old ++ spec.number_columns count cpu blocks amount) }
+pub(crate) fn push_numbers(out: &mut Draft, count: u64, cpu: u64, blocks: u64, amount: u64)
+    ensures { out.new ≡ out.old ++ spec.number_columns count cpu blocks amount }
 {
-    let count = count.to_string(alloc)?;
-    let cpu = seconds_text(alloc, cpu)?;
-    let blocks = blocks.to_string(alloc)?;
-    let amount = amount_text(alloc, amount)?;
-    push_work(out, count.as_str(), cpu.as_str(), blocks.as_str())?;
-    push_amount(out, amount.as_str())
+    push_count(out, 8, count);
+    out.push(' ');
+    push_time_used(out, 19, cpu);
+    out.push(' ');
+    push_count(out, 18, blocks);
+    out.push(' ');
+    push_cost(out, amount);
 }
 
 /// Appends the line above the rows.
-fn push_heading(out: &mut String) -> Result<(), AllocError>
-    ensures { OnOk result (string_bytes out.new ≡ string_bytes out.old ++ spec.heading) }
+fn push_heading(out: &mut Draft)
+    ensures { out.new ≡ out.old ++ spec.heading }
 {
-    push_key(out, "DAY", "CENTRE", "SHIFT")?;
-    push_work(out, "COUNT", "CPU", "BLOCKS")?;
-    push_amount(out, "AMOUNT")
+    push_key(out, "DAY", "CENTRE", "SHIFT");
+    push_work(out, "COUNT", "CPU", "BLOCKS");
+    push_last(out, "AMOUNT");
 }
 
 /// Appends the line of a row.
-fn push_row(alloc: Global, out: &mut String, row: &ChargeRow) -> Result<(), AllocError>
+fn push_row(out: &mut Draft, row: &ChargeRow)
     requires { IsDay row.now.day }
-    ensures { OnOk result (string_bytes out.new ≡ string_bytes out.old ++ spec.row_line row.now) }
+    ensures { out.new ≡ out.old ++ spec.row_line row.now }
 {
-    let day = day_text(alloc, row.day)?;
-    push_key(out, day.as_str(), row.centre.text(), row.shift.text())?;
-    push_numbers(alloc, out, row.count, row.cpu, row.blocks, row.amount)
+    push_place(out, row.day, row.centre.text(), row.shift.text());
+    push_numbers(out, row.count, row.cpu, row.blocks, row.amount);
 }
 
 /// Appends the lines of rows.
 #[tactic(auto, using(std::proofs::lemmas::List::flat_map_more))]
-fn push_rows(alloc: Global, out: &mut String, rows: &[ChargeRow]) -> Result<(), AllocError>
+fn push_rows(out: &mut Draft, rows: &[ChargeRow])
     requires { AreRows rows.now }
-    ensures { OnOk result (string_bytes out.new
-        ≡ string_bytes out.old ++ flat_map spec.row_line rows.now) }
+    ensures { out.new ≡ out.old ++ flat_map spec.row_line rows.now }
 {
     for row in rows {
-        push_row(alloc, out, row)?;
+        push_row(out, row);
     }
-    Ok(())
 }
 
 /// The sums of rows: how many records there are, their CPU time, their blocks, and what they cost.
@@ -133,53 +145,23 @@ pub fn row_sums(rows: &[ChargeRow]) -> (u64, u64, u64, u64)
 }
 
 /// Appends a line below the rows: a word, and the sums of some rows.
-pub(crate) fn push_sums_line(
-    alloc: Global,
-    out: &mut String,
-    word: &str,
-    rows: &[ChargeRow],
-) -> Result<(), AllocError>
+pub(crate) fn push_sums_line(out: &mut Draft, word: &str, rows: &[ChargeRow])
     requires { AreRows rows.now }
-    ensures { OnOk result (string_bytes out.new
-        ≡ string_bytes out.old ++ spec.sums_line word.now rows.now) }
+    ensures { out.new ≡ out.old ++ spec.sums_line word.now rows.now }
 {
     let (count, cpu, blocks, amount) = row_sums(rows);
-    push_key(out, word, "", "")?;
-    push_numbers(alloc, out, count, cpu, blocks, amount)
+    push_key(out, word, "", "");
+    push_numbers(out, count, cpu, blocks, amount);
 }
 
 /// Appends the lines of rows: the one above them, their own, and the one of their sums.
-pub(crate) fn push_row_lines(
-    alloc: Global,
-    out: &mut String,
-    rows: &[ChargeRow],
-) -> Result<(), AllocError>
+pub(crate) fn push_row_lines(out: &mut Draft, rows: &[ChargeRow])
     requires { AreRows rows.now }
-    ensures { OnOk result (string_bytes out.new
-        ≡ string_bytes out.old ++ spec.row_lines rows.now) }
+    ensures { out.new ≡ out.old ++ spec.row_lines rows.now }
 {
-    push_heading(out)?;
-    push_rows(alloc, out, rows)?;
-    push_sums_line(alloc, out, "TOTAL", rows)
-}
-
-/// A statement under a title: of a period, by its number, the day that it was closed through, if it
-/// was, and rows in their order.
-pub(crate) fn titled_statement(
-    alloc: Global,
-    title: &str,
-    period: u16,
-    through: Option<i32>,
-    rows: &[ChargeRow],
-) -> Result<String, AllocError>
-    requires through { ForSome through IsDay }
-    requires rows { AreRows rows.now }
-    ensures { IfOk result (λ text.
-        string_bytes text ≡ spec.titled_statement title.now period through rows.now) }
-{
-    let mut out = title_text(alloc, title, period, through)?;
-    push_row_lines(alloc, &mut out, rows)?;
-    Ok(out)
+    push_heading(out);
+    push_rows(out, rows);
+    push_sums_line(out, "TOTAL", rows);
 }
 
 /// The statement of a period: by its number, the day that it was closed through, if it was, and its
@@ -195,5 +177,8 @@ pub fn statement_text(
     ensures { IfOk result (λ text.
         string_bytes text ≡ spec.statement_text period through rows.now) }
 {
-    titled_statement(alloc, "STATEMENT", period, through, rows)
+    let mut out = Draft::new(alloc);
+    push_title(&mut out, "STATEMENT", period, through);
+    push_row_lines(&mut out, rows);
+    out.finish()
 }

@@ -1,47 +1,39 @@
 //! What-ifs: what a period would have cost by another tariff.
 
-ghost use Rattle.std.specs.Prelude.{◌≡◌, ◌++◌, IfOk, OnOk, string_bytes};
+ghost use Rattle.std.specs.Prelude.{◌≡◌, ◌++◌, IfOk, string_bytes};
 ghost use Rattle.std.specs.Option.{ForSome};
 ghost use Rattle.book_model.specs.Words.{AreRows, IsDay};
 ghost use Rattle.report_texts.specs.WhatIfs as spec;
 
-use crate::centres::{centre_title, keep_rows};
-use crate::parts::push_name;
-use crate::periods::title_text;
+use crate::centres::{keep_rows, push_centre_title};
+use crate::periods::push_title;
 use crate::statement_tables::row_table;
 use crate::statements::{push_row_lines, push_sums_line};
 use book_model::ChargeRow;
 use smf_text::Name;
 use std::alloc::{AllocError, Global};
+use text_drafts::Draft;
 
 /// Appends the line that says which tariff it is, by the SHA-256 of its file.
 #[tactic(auto, unfolding(crate::specs::WhatIfs::digest_line))]
-fn push_tariff(alloc: Global, out: &mut String, digest: &[u8; 32]) -> Result<(), AllocError>
-    ensures { OnOk result (string_bytes out.new
-        ≡ string_bytes out.old ++ spec.digest_line digest.now) }
+fn push_tariff(out: &mut Draft, digest: &[u8; 32])
+    ensures { out.new ≡ out.old ++ spec.digest_line digest.now }
 {
-    out.push_str("TARIFF ")?;
-    push_name(alloc, out, digest)?;
-    out.push('\n')
+    out.push_str("TARIFF ");
+    out.push_lower_hex(digest);
+    out.push('\n');
 }
 
 /// Appends what stands below the title: the tariff, the rows by it, and the sums of what is charged.
 #[tactic(auto, unfolding(crate::specs::WhatIfs::what_if_lines))]
-fn push_what_if_lines(
-    alloc: Global,
-    out: &mut String,
-    digest: &[u8; 32],
-    rows: &[ChargeRow],
-    charged: &[ChargeRow],
-) -> Result<(), AllocError>
+fn push_what_if_lines(out: &mut Draft, digest: &[u8; 32], rows: &[ChargeRow], charged: &[ChargeRow])
     requires rows { AreRows rows.now }
     requires charged { AreRows charged.now }
-    ensures { OnOk result (string_bytes out.new
-        ≡ string_bytes out.old ++ spec.what_if_lines digest.now rows.now charged.now) }
+    ensures { out.new ≡ out.old ++ spec.what_if_lines digest.now rows.now charged.now }
 {
-    push_tariff(alloc, out, digest)?;
-    push_row_lines(alloc, out, rows)?;
-    push_sums_line(alloc, out, "CHARGED", charged)
+    push_tariff(out, digest);
+    push_row_lines(out, rows);
+    push_sums_line(out, "CHARGED", charged);
 }
 
 /// What a period would have cost by another tariff: the period by its number and the day that it
@@ -61,9 +53,10 @@ pub fn what_if_text(
     ensures { IfOk result (λ text. string_bytes text
         ≡ spec.what_if_text period through digest.now rows.now charged.now) }
 {
-    let mut out = title_text(alloc, "WHAT-IF", period, through)?;
-    push_what_if_lines(alloc, &mut out, digest, rows, charged)?;
-    Ok(out)
+    let mut out = Draft::new(alloc);
+    push_title(&mut out, "WHAT-IF", period, through);
+    push_what_if_lines(&mut out, digest, rows, charged);
+    out.finish()
 }
 
 /// The same as a table: a heading, and a row for each charge row by the other tariff.
@@ -91,12 +84,12 @@ pub fn centre_what_if_text(
     ensures { IfOk result (λ text. string_bytes text
         ≡ spec.centre_what_if_text centre period through digest.now rows.items charged.items) }
 {
-    let title = centre_title(alloc, "WHAT-IF", centre)?;
     keep_rows(&mut rows, centre);
     keep_rows(&mut charged, centre);
-    let mut out = title_text(alloc, title.as_str(), period, through)?;
-    push_what_if_lines(alloc, &mut out, digest, &rows, &charged)?;
-    Ok(out)
+    let mut out = Draft::new(alloc);
+    push_centre_title(&mut out, "WHAT-IF", centre, period, through);
+    push_what_if_lines(&mut out, digest, &rows, &charged);
+    out.finish()
 }
 
 /// The same as a table: a heading, and a row for each charge row of the centre by the other tariff.

@@ -18,8 +18,8 @@ charges_of-requires-clause-lines c =
     subst AreLines (sym c.requires.lines) c.requires.bill.lines
 
 -- and what it charges fits
-pub push_owed-requires : goal.push_owed-requires
-push_owed-requires c =
+pub push_owed_line-requires : goal.push_owed_line-requires
+push_owed_line-requires c =
     rw (
       c.charges_of.ensures,
       c.deref-5.ensures.value,

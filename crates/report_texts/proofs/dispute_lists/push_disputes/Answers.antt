@@ -4,8 +4,8 @@ use Rattle.book_model.specs.Words.{IsDispute, dispute_shown}
 use Rattle.report_texts.proofs.dispute_lists.push_disputes.Goals as goal
 
 -- the dispute at the loop's index is one that can be shown
-pub push_dispute-requires : goal.push_dispute-requires
-push_dispute-requires c =
+pub push_lines-requires : goal.push_lines-requires
+push_lines-requires c =
     let index = c.loop-dispute.dispute-index in
     let dispute = c.dispute-item.result in
     let inside = c.loop-dispute-test.true in

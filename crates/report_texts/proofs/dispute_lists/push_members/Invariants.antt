@@ -1,6 +1,5 @@
 use Rattle.std.proofs.Common.{◌≡◌, ◌++◌, take}
 use Rattle.std.specs.List.{flat_map}
-use Rattle.std.specs.String.{string_bytes}
 use Rattle.report_texts.specs.DisputeLists.{member_line}
 use Rattle.report_texts.proofs.dispute_lists.push_members.Given as goal
 
@@ -8,4 +7,4 @@ use Rattle.report_texts.proofs.dispute_lists.push_members.Given as goal
 abbrev pub invariant-loop-member : goal.invariant-loop-member
 invariant-loop-member l =
     let members = take l.member-index l.members in
-    string_bytes l.out ≡ string_bytes l.initial.out ++ flat_map member_line members
+    l.out ≡ l.initial.out ++ flat_map member_line members

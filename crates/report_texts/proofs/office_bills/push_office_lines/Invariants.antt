@@ -1,10 +1,9 @@
 use Rattle.std.proofs.Common.{◌≡◌, ◌++◌, take}
 use Rattle.std.specs.List.{flat_map}
-use Rattle.std.specs.String.{string_bytes}
 use Rattle.report_texts.specs.OfficeBills.{centre_line}
 use Rattle.report_texts.proofs.office_bills.push_office_lines.Given as goal
 
 -- the lines of the centres so far are appended
 abbrev pub invariant-loop-one : goal.invariant-loop-one
 invariant-loop-one l =
-    string_bytes l.out ≡ string_bytes l.initial.out ++ flat_map centre_line (take l.one-index l.each)
+    l.out ≡ l.initial.out ++ flat_map centre_line (take l.one-index l.each)

@@ -12,5 +12,5 @@ loop-before-preserved c =
     let inside = c.loop-before-test.true in
     let through = get_or closes before (pos 0) in
     let read = to_z-of_z w32 through (day_fits through (c.requires before (pos 0) inside)) in
-    let line = rw read at c.in_ok-push_period.ensures in
+    let line = rw read at c.push_period.ensures in
     rw (line, c.loop-before.invariant, one_more_period closes before (pos 0) inside) (simp append_assoc)

@@ -1,11 +1,9 @@
-use Rattle.std.proofs.Common.{take, ◌++◌}
+use Rattle.std.proofs.Common.{◌≡◌, ◌++◌, take}
 use Rattle.std.specs.List.{flat_map}
 use Rattle.report_texts.specs.StatementTables.{table_heading, table_line}
-use Rattle.report_texts.specs.Tables.{IsBetweenRows}
 use Rattle.report_texts.proofs.statement_tables.row_table.Given as goal
 
--- the heading and the rows so far are written
+-- the heading and the rows so far are there
 abbrev pub invariant-loop-row : goal.invariant-loop-row
 invariant-loop-row l =
-    IsBetweenRows l.table
-    (table_heading l.amounts ++ flat_map (table_line l.period) (take l.row-index l.rows))
+    l.table ≡ table_heading l.amounts ++ flat_map (table_line l.period) (take l.row-index l.rows)

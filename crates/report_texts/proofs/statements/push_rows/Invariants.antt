@@ -1,10 +1,9 @@
 use Rattle.std.proofs.Common.{◌≡◌, ◌++◌, take}
 use Rattle.std.specs.List.{flat_map}
-use Rattle.std.specs.String.{string_bytes}
 use Rattle.report_texts.specs.Statements.{row_line}
 use Rattle.report_texts.proofs.statements.push_rows.Given as goal
 
 -- the lines of the rows so far are appended
 abbrev pub invariant-loop-row : goal.invariant-loop-row
 invariant-loop-row l =
-    string_bytes l.out ≡ string_bytes l.initial.out ++ flat_map row_line (take l.row-index l.rows)
+    l.out ≡ l.initial.out ++ flat_map row_line (take l.row-index l.rows)

@@ -1,9 +1,0 @@
-use Rattle.std.proofs.Common.{[]}
-use Rattle.csv.specs.Writing.{fields_text, is_blank}
-use Rattle.report_texts.specs.AdjustmentTables.{line_heading}
-use Rattle.report_texts.proofs.adjustment_tables.write_heading.Goals as goal
-
--- the names call for no quotes
-pub returns : goal.returns
-unfolding line_heading fields_text is_blank
-returns c between = c.in_ok-write_fields.ensures [] between
