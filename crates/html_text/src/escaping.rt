@@ -1,11 +1,10 @@
 //! Texts inside a page: the bytes that markup is made of are written as references to them.
 
-ghost use Rattle.std.specs.Prelude.{◌≡◌, ◌++◌, IfOk, string_bytes};
+ghost use Rattle.std.specs.Prelude.{◌≡◌, ◌++◌};
 ghost use Rattle.smf_text.specs.CodePage.{show_text};
 ghost use Rattle.html_text.specs.Escaping as spec;
 
 use smf_text::show;
-use std::alloc::{AllocError, Global};
 use text_drafts::Draft;
 
 /// Appends a byte as a page shows it.
@@ -41,22 +40,4 @@ pub fn push_shown(out: &mut Draft, bytes: &[u8])
         Ok(text) => push_escaped(out, text.as_str()),
         Err(_) => out.leave_out(&bytes),
     }
-}
-
-/// A text as a page shows it.
-pub fn escaped(alloc: Global, text: &str) -> Result<String, AllocError>
-    ensures { IfOk result (λ shown. string_bytes shown ≡ spec.escaped text.now) }
-{
-    let mut shown = Draft::new(alloc);
-    push_escaped(&mut shown, text);
-    shown.finish()
-}
-
-/// Bytes of a dump as a page shows them.
-pub fn shown(alloc: Global, bytes: &[u8]) -> Result<String, AllocError>
-    ensures { IfOk result (λ text. string_bytes text ≡ spec.escaped (show_text bytes.now)) }
-{
-    let mut shown = Draft::new(alloc);
-    push_shown(&mut shown, bytes);
-    shown.finish()
 }
