@@ -21,7 +21,7 @@ const MAX_LETTERS: usize = 40;
 
 /// What stands in the head of a bill, where the tariff file says it: texts of 1 to 40 printable
 /// characters of ASCII. Any other value is as if it were not there.
-#[derive(Debug, Drop)]
+#[derive(Drop)]
 pub struct Letterhead {
     /// The name of the office, at the key `office`.
     pub office: Option<String>,

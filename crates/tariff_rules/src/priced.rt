@@ -8,7 +8,7 @@ use smf_text::Name;
 use smf_type30::Type30;
 
 /// What a record costs, where, and by what it measures.
-#[derive(Clone, Copy, Debug, PartialEq, Eq)]
+#[derive(Clone, Copy, PartialEq, Eq)]
 pub struct Priced {
     /// The day of the record's header, in days since 1970-01-01.
     pub day: i32,

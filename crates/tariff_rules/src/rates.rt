@@ -26,7 +26,7 @@ const RECORD_PARTS: u128 = 1000;
 
 /// The rates of one kind of record, in ten-thousandths of the money unit: of a CPU second, of
 /// 1,000 blocks, of the record itself.
-#[derive(Clone, Copy, Debug)]
+#[derive(Clone, Copy)]
 pub struct Rates {
     cpu: u64,
     excp: u64,

@@ -11,7 +11,7 @@ use smf_type30::Type30;
 
 /// How the price of a record came about: by which tariff, by which of its rules, and from which
 /// numbers. A rule's number is its place in the tariff's file, from 1.
-#[derive(Clone, Copy, Debug)]
+#[derive(Clone, Copy)]
 pub struct Reckoning {
     /// The first day of the tariff, in days since 1970-01-01.
     pub effective: i32,

@@ -17,7 +17,7 @@ use std::alloc::{AllocError, Global};
 use toml::{Table, Value};
 
 /// An entry of a tariff file's list of shifts or of centres, counted from 1.
-#[derive(Clone, Copy, Debug, PartialEq, Eq)]
+#[derive(Clone, Copy)]
 pub enum Entry {
     /// An entry of the array of shifts.
     Shift(u16),
