@@ -10,7 +10,7 @@ use smf_frames::Header;
 use smf_text::packed_day;
 
 /// When a record was moved into the SMF buffer.
-#[derive(Clone, Copy, Debug, PartialEq, Eq)]
+#[derive(Clone, Copy)]
 pub struct Moment {
     /// The day, counted from 1970-01-01.
     pub day: i32,

@@ -1,7 +1,7 @@
 use crate::damage::Damage;
 
 /// What a record is for the office, by its type and subtype (SA38-0667).
-#[derive(Clone, Copy, Debug, PartialEq, Eq)]
+#[derive(Clone, Copy, PartialEq, Eq)]
 pub enum Class {
     /// Begins a dump: type 2.
     DumpHeader,
