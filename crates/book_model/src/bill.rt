@@ -3,7 +3,7 @@ use crate::row::ChargeRow;
 use tariff_rules::{Letterhead, Rates};
 
 /// The charge rows of a period's records, those of steps and those of jobs apart.
-#[derive(Debug, Drop)]
+#[derive(Drop)]
 pub struct WorkRows {
     /// The rows of the steps that ended.
     pub steps: Vec<ChargeRow>,
@@ -12,7 +12,7 @@ pub struct WorkRows {
 }
 
 /// An adjustment line, as a bill shows it.
-#[derive(Clone, Copy, Debug, PartialEq, Eq)]
+#[derive(Clone, Copy)]
 pub struct BilledLine {
     pub line: Line,
     /// Of a plus line the number of the period that the record's day belongs to, of a minus line
@@ -21,7 +21,7 @@ pub struct BilledLine {
 }
 
 /// What is held back while it is in dispute.
-#[derive(Clone, Copy, Debug, PartialEq, Eq)]
+#[derive(Clone, Copy)]
 pub struct HeldBack {
     /// How many disputes there are.
     pub disputes: u64,
@@ -33,7 +33,7 @@ pub struct HeldBack {
 }
 
 /// A tariff that is in force on a day of the period, by its rates.
-#[derive(Clone, Copy, Debug)]
+#[derive(Clone, Copy)]
 pub struct BilledTariff {
     /// Its first day, in days since 1970-01-01.
     pub day: i32,
@@ -42,7 +42,7 @@ pub struct BilledTariff {
 }
 
 /// The bill of a period, for a centre or for the whole office.
-#[derive(Debug, Drop)]
+#[derive(Drop)]
 pub struct Bill {
     pub work: WorkRows,
     /// What came late, and what was reversed.

@@ -1,7 +1,7 @@
 use tariff_rules::Priced;
 
 /// A line of a period's adjustments: a record that was charged late, or is charged no more.
-#[derive(Clone, Copy, Debug, PartialEq, Eq)]
+#[derive(Clone, Copy)]
 pub struct Line {
     /// The period charges the record; else it takes the charge back.
     pub plus: bool,

@@ -1,5 +1,5 @@
 /// A ruling of the office, as the list of rulings shows it. Its days are counted from 1970-01-01.
-#[derive(Debug, Drop)]
+#[derive(Drop)]
 pub enum ListedRuling {
     /// A tariff that came as a text: its first day, and the text of its file.
     Tariff {

@@ -2,7 +2,7 @@ use crate::dispute::Variant;
 use tariff_rules::Reckoning;
 
 /// What a period did with a record.
-#[derive(Clone, Copy, Debug, PartialEq, Eq)]
+#[derive(Clone, Copy, PartialEq, Eq)]
 pub enum Deed {
     /// Its rows count the record.
     Charged,
@@ -13,21 +13,21 @@ pub enum Deed {
 }
 
 /// One of these, and the number of the period.
-#[derive(Clone, Copy, Debug, PartialEq, Eq)]
+#[derive(Clone, Copy)]
 pub struct Turn {
     pub period: u16,
     pub deed: Deed,
 }
 
 /// A choice: the period that was open then, and the name of the record that was chosen.
-#[derive(Clone, Copy, Debug, PartialEq, Eq)]
+#[derive(Clone, Copy)]
 pub struct NamedChoice {
     pub period: u16,
     pub name: [u8; 32],
 }
 
 /// What stands behind the price of a record that is held, and what became of the record.
-#[derive(Debug, Drop)]
+#[derive(Drop)]
 pub struct Trail {
     /// The record, its descriptor included.
     pub bytes: Vec<u8>,
