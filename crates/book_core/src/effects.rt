@@ -9,7 +9,7 @@ use crate::close_days::is_after;
 use tariff_rules::Priced;
 
 /// What a ledger looks at for a new record.
-#[derive(Clone, Copy, Debug, PartialEq, Eq)]
+#[derive(Clone, Copy)]
 pub struct View {
     /// The day of the last close, if there was one, in days since 1970-01-01.
     pub through: Option<i32>,
@@ -20,7 +20,7 @@ pub struct View {
 }
 
 /// A record that is held, as its row says.
-#[derive(Clone, Copy, Debug, PartialEq, Eq)]
+#[derive(Clone, Copy)]
 pub struct Member {
     /// The name of the record's data.
     pub name: [u8; 32],
@@ -32,7 +32,7 @@ pub struct Member {
 }
 
 /// What a new record changes, at most one of the open period's rows and lines.
-#[derive(Clone, Copy, Debug, PartialEq, Eq)]
+#[derive(Clone, Copy)]
 pub struct Effects {
     /// The new record is charged.
     pub charged: bool,
@@ -43,7 +43,7 @@ pub struct Effects {
 }
 
 /// A change of the open period's charge rows.
-#[derive(Clone, Copy, Debug, PartialEq, Eq)]
+#[derive(Clone, Copy)]
 pub enum DayChange {
     /// A price joins the row of its day, centre and shift.
     Add(Priced),
@@ -52,7 +52,7 @@ pub enum DayChange {
 }
 
 /// A change of the open period's adjustment lines, by the name of the record.
-#[derive(Clone, Copy, Debug, PartialEq, Eq)]
+#[derive(Clone, Copy)]
 pub enum LineChange {
     /// The period charges the record late.
     AddPlus([u8; 32]),
@@ -87,7 +87,7 @@ pub fn plan(view: &View, name: [u8; 32], priced: &Priced) -> Effects
 }
 
 /// What the choice of a record changes.
-#[derive(Clone, Copy, Debug, PartialEq, Eq)]
+#[derive(Clone, Copy)]
 pub struct ChoiceEffects {
     /// The record that was charged until now is charged no more, where there was one.
     pub withdrawn: Option<Effects>,
