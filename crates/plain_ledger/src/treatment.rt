@@ -6,7 +6,7 @@ ghost use Rattle.plain_ledger.specs.Treatments as spec;
 use std::collections::BTreeMap;
 
 /// A period has a record in one of three ways, or in none.
-#[derive(Clone, Copy, Debug, PartialEq, Eq)]
+#[derive(Clone, Copy)]
 pub(crate) enum Treatment {
     /// Its rows count the record.
     Counted,
