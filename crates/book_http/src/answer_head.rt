@@ -17,7 +17,7 @@ use itoa::Buffer;
 pub type AnswerText = ArrayString<512>;
 
 /// What the body of an answer is.
-#[derive(Clone, Copy, Debug, PartialEq, Eq)]
+#[derive(Clone, Copy)]
 pub enum BodyKind {
     /// A text for people.
     Text,

@@ -15,7 +15,7 @@ use office::{Report, WhatIf};
 use smf_frames::Layout;
 
 /// What the head of a request asks.
-#[derive(Clone, Copy, Debug, PartialEq, Eq)]
+#[derive(Clone, Copy)]
 pub enum Asked {
     /// A report.
     Report(Report),

@@ -15,7 +15,7 @@ use streams::{Reader, Source};
 pub const MAX_BODY: u64 = 16_777_216;
 
 /// Why there is no body.
-#[derive(Clone, Copy, Debug, PartialEq, Eq)]
+#[derive(Clone, Copy)]
 pub enum BodyFault {
     /// The input ended before it.
     Short,

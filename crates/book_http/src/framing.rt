@@ -8,7 +8,7 @@ use crate::decimal_value::decimal_value;
 use httparse::spans::HeaderSpan;
 
 /// What a head says of its body's length.
-#[derive(Clone, Copy, Debug, PartialEq, Eq)]
+#[derive(Clone, Copy)]
 pub enum Framing {
     /// No length is given, or the body comes in a transfer encoding.
     Unframed,

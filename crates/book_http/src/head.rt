@@ -20,7 +20,7 @@ pub const MAX_HEAD: usize = 16_384;
 pub const MAX_FIELDS: usize = 64;
 
 /// A head at the beginning of a buffer.
-#[derive(Clone, Copy, Debug)]
+#[derive(Clone, Copy)]
 pub struct WholeHead {
     /// How many bytes of the buffer were read: the head, and what came after it.
     pub filled: usize,
@@ -29,7 +29,7 @@ pub struct WholeHead {
 }
 
 /// The result of reading a head.
-#[derive(Clone, Copy, Debug)]
+#[derive(Clone, Copy)]
 pub enum HeadRead {
     /// The input ended before its first byte.
     Closed,

@@ -3,7 +3,7 @@
 use crate::method::Method;
 
 /// What an answer says beside its status and its body.
-#[derive(Clone, Copy, Debug, PartialEq, Eq)]
+#[derive(Clone, Copy)]
 pub enum Notice {
     /// The path takes this method.
     Allow(Method),

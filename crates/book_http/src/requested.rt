@@ -54,7 +54,7 @@ pub enum OfficeRequest {
 }
 
 /// A read failed before the request was whole.
-#[derive(Clone, Copy, Debug, PartialEq, Eq)]
+#[derive(Clone, Copy)]
 pub struct ReadFailed;
 
 /// What is asked without a whole body: nothing.

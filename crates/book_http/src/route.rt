@@ -17,7 +17,7 @@ use std::alloc::{AllocError, Global};
 use std::str;
 
 /// What a path is for.
-#[derive(Clone, Copy, Debug, PartialEq, Eq)]
+#[derive(Clone, Copy)]
 pub enum Route {
     /// A report is read there.
     Report(Report),
@@ -30,7 +30,7 @@ pub enum Route {
 }
 
 /// A path of the server, whatever period, centre, record and day it names.
-#[derive(Clone, Copy, Debug, PartialEq, Eq)]
+#[derive(Clone, Copy)]
 pub enum Endpoint {
     /// The page of the office.
     Office,

@@ -1,5 +1,5 @@
 /// What became of one request.
-#[derive(Clone, Copy, Debug, PartialEq, Eq)]
+#[derive(Clone, Copy, PartialEq, Eq)]
 pub enum Served {
     /// The input ended before its first byte.
     Closed,
@@ -14,7 +14,7 @@ pub enum Served {
 }
 
 /// Why a request is not answered.
-#[derive(Clone, Copy, Debug, PartialEq, Eq)]
+#[derive(Clone, Copy)]
 pub enum Unanswered {
     /// The input ended before its first byte.
     Closed,

@@ -6,7 +6,7 @@ ghost use Rattle.book_http.specs.Statuses.{status_code, phrase_of};
 use http::StatusCode;
 
 /// What became of a request.
-#[derive(Clone, Copy, Debug, PartialEq, Eq)]
+#[derive(Clone, Copy)]
 pub enum Status {
     /// It was done.
     Done,
