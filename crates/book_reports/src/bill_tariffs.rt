@@ -17,7 +17,7 @@ use std::alloc::{AllocError, Global};
 use tariff_rules::{Letterhead, TariffFault};
 
 /// The tariffs that are kept of those that were read, and the letterhead of the last of them.
-#[derive(Debug, Drop)]
+#[derive(Drop)]
 pub(crate) struct KeptTariffs {
     pub(crate) tariffs: Vec<BilledTariff>,
     pub(crate) letterhead: Letterhead,

@@ -26,7 +26,7 @@ use tariff_rules::Priced;
 const SIGNED_END: u64 = 1 << 63;
 
 /// What was worked in a period.
-#[derive(Debug, Drop)]
+#[derive(Drop)]
 pub(crate) struct PeriodWork {
     /// The day that the period was closed through, `None` if it is open.
     pub(crate) through: Option<i32>,

@@ -21,7 +21,7 @@ use smf_text::Name;
 use std::alloc::{AllocError, Global};
 
 /// A bill.
-#[derive(Debug, Drop)]
+#[derive(Drop)]
 struct PeriodBill {
     /// The day that its period was closed through, `None` if it is open.
     through: Option<i32>,

@@ -15,7 +15,7 @@ use report_texts::{Figures, TriedRuling, figures_of, record_count, record_count_
 use std::alloc::Global;
 
 /// The period of books that is open.
-#[derive(Clone, Copy, Debug, PartialEq, Eq)]
+#[derive(Clone, Copy)]
 pub struct OpenPeriod {
     /// Its number.
     pub number: u16,

@@ -9,7 +9,7 @@ use book_core::{Ledger, LedgerFault};
 use page_texts::close_of;
 
 /// The days of the closes of a period and of the one before it, counted from 1970-01-01.
-#[derive(Clone, Copy, Debug, PartialEq, Eq)]
+#[derive(Clone, Copy)]
 pub(crate) struct PeriodDays {
     /// The day that the period before it was closed through, if there is one.
     pub(crate) before: Option<i32>,

@@ -7,7 +7,7 @@ use crate::what_if::StatementForm;
 use smf_text::Name;
 
 /// What a period has, of the whole office and of each centre.
-#[derive(Clone, Copy, Debug, PartialEq, Eq)]
+#[derive(Clone, Copy)]
 pub enum PeriodReport {
     /// The statement.
     Statement,
@@ -20,7 +20,7 @@ pub enum PeriodReport {
 }
 
 /// A report of the books.
-#[derive(Clone, Copy, Debug, PartialEq, Eq)]
+#[derive(Clone, Copy)]
 pub enum Report {
     /// What a period has: of one centre, or where none is named of the whole office.
     OfPeriod {

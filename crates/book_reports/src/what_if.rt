@@ -24,7 +24,7 @@ pub enum StatementForm {
 }
 
 /// What is asked of a period beside a tariff: what it would have cost by that.
-#[derive(Clone, Copy, Debug, PartialEq, Eq)]
+#[derive(Clone, Copy)]
 pub struct WhatIf {
     /// How it is shown.
     pub form: StatementForm,
