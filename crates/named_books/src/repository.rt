@@ -46,7 +46,7 @@ pub struct Opened<T: Drop> {
 }
 
 /// Why there are no open books.
-#[derive(Clone, Copy, Debug, PartialEq, Eq)]
+#[derive(Clone, Copy, PartialEq, Eq)]
 pub enum RepositoryFault {
     /// The file failed, or is not there.
     Io,
@@ -61,7 +61,7 @@ pub enum RepositoryFault {
 }
 
 /// What came of books that were to be brought to the form that this program keeps.
-#[derive(Clone, Copy, Debug, PartialEq, Eq)]
+#[derive(Clone, Copy)]
 pub enum Upgraded {
     /// They are of the form of this number now.
     To(u32),
