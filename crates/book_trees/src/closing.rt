@@ -41,7 +41,7 @@ pub fn checkpoint_log<D: Disk>(store: &mut FileStore<D>) -> Result<(), StoreErro
 }
 
 /// What a close leaves of the log.
-#[derive(Clone, Copy, Debug, PartialEq, Eq)]
+#[derive(Clone, Copy)]
 pub enum LogLeft {
     /// It is too short to hold anything, and may be deleted: the file alone holds the books.
     Short,

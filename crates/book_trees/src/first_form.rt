@@ -34,7 +34,7 @@ use sqlite_trees::store::{Alter, Store};
 use std::alloc::Global;
 
 /// Why books of the first form were not opened.
-#[derive(Clone, Copy, Debug, PartialEq, Eq, Drop)]
+#[derive(Clone, Copy, Drop)]
 pub enum FirstFault {
     /// They are of this form already.
     Already,

@@ -27,7 +27,7 @@ use sqlite_store::{FileStore, OpenError, Unopened};
 use std::alloc::Global;
 
 /// Why files were not looked through, or what was found.
-#[derive(Clone, Copy, Debug, PartialEq, Eq, Drop)]
+#[derive(Clone, Copy, Drop)]
 pub enum LookFault {
     /// They list the tables of books, but their pages are not those of such a file.
     Pages,
