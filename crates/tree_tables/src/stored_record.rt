@@ -36,7 +36,7 @@ pub struct StoredRecord {
 }
 
 /// What tells of a record whether a period counts it.
-#[derive(Clone, Copy, Debug, PartialEq, Eq)]
+#[derive(Clone, Copy)]
 pub struct RecordMark {
     /// The name of the record's data.
     pub name: [u8; 32],
