@@ -2,3 +2,4 @@ pub mod ReadEachLemmas
 pub mod EntryLemmas
 pub mod RefusedLemmas
 pub mod FaultLemmas
+pub mod SearchLemmas

@@ -1,6 +1,6 @@
 //! Centres, and which records each pays for.
 
-ghost use Rattle.std.specs.Prelude.{◌≡◌, ◌<◌, ◌^◌, IfSome, find, position};
+ghost use Rattle.std.specs.Prelude.{◌≡◌};
 ghost use Rattle.std.specs.Option.{option_copied};
 ghost use Rattle.smf_text.specs.Names.{IsName};
 ghost use Rattle.tariff_rules.specs.Price as spec;
@@ -68,13 +68,6 @@ impl CentreRule {
     }
 }
 
-/// The first rule that applies to the record.
-fn rule_for<'r>(rules: &'r [CentreRule], usage: &Type30<'_>) -> Option<&'r CentreRule>
-    ensures { option_copied result ≡ find (spec.applies_to usage.now) rules.now }
-{
-    rules.iter().find(|rule| rule.applies_to(usage))
-}
-
 /// The centre of the records that no rule applies to.
 fn unassigned() -> Name
     ensures { result ≡ spec.unassigned }
@@ -87,26 +80,22 @@ pub(crate) fn centre_of(rules: &[CentreRule], usage: &Type30<'_>) -> Name
     ensures value { result ≡ spec.centre_of rules.now usage.now }
     ensures name { IsName result }
 {
-    match rule_for(rules, usage) {
-        Some(rule) => rule.centre,
-        None => unassigned(),
+    for rule in rules {
+        if rule.applies_to(usage) {
+            return rule.centre;
+        }
     }
-}
-
-/// The place of the first rule that applies to the record.
-fn place_for(rules: &[CentreRule], usage: &Type30<'_>) -> Option<usize>
-    ensures place { result ≡ position (spec.applies_to usage.now) rules.now }
-    ensures within { IfSome result (λ place. place < 2 ^ 63) }
-{
-    rules.iter().position(|rule| rule.applies_to(usage))
+    unassigned()
 }
 
 /// The number, from 1, of the first rule that applies to the record.
 pub(crate) fn centre_rule(rules: &[CentreRule], usage: &Type30<'_>) -> Option<u64>
     ensures { result ≡ rule_number (spec.applies_to usage.now) rules.now }
 {
-    match place_for(rules, usage) {
-        Some(place) => Some(place as u64 + 1),
-        None => None,
+    for (before, rule) in rules.iter().enumerate() {
+        if rule.applies_to(usage) {
+            return Some(before as u64 + 1);
+        }
     }
+    None
 }

@@ -1,7 +1,6 @@
 //! Shifts: what they charge, and when they are worked.
 
-ghost use Rattle.std.specs.Prelude.{◌≡◌, ◌<◌, ◌^◌, IfSome, find, position};
-ghost use Rattle.std.specs.Option.{option_copied};
+ghost use Rattle.std.specs.Prelude.{◌≡◌};
 ghost use Rattle.smf_text.specs.Day.{IsDay, weekday_of};
 ghost use Rattle.tariff_rules.specs.Price as spec;
 ghost use Rattle.tariff_rules.specs.Reckoning.{rule_number};
@@ -68,30 +67,12 @@ impl Model for ShiftRule {
 }
 
 impl ShiftRule {
-    fn has_weekday(&self, weekday: u8) -> bool
-        ensures { result ≡ spec.has_weekday weekday self.now }
-    {
-        self.days.contains(&weekday)
-    }
-
-    fn has_minute(&self, minute: u32) -> bool
-        ensures { result ≡ spec.has_minute minute self.now }
-    {
-        self.from <= minute && minute < self.to
-    }
-
+    /// Whether the shift is worked in that minute of that weekday.
     fn has_moment(&self, weekday: u8, minute: u32) -> bool
         ensures { result ≡ spec.has_moment weekday minute self.now }
     {
-        self.has_weekday(weekday) && self.has_minute(minute)
+        self.days.contains(&weekday) && self.from <= minute && minute < self.to
     }
-}
-
-/// The first rule that has the moment.
-fn rule_at(rules: &[ShiftRule], weekday: u8, minute: u32) -> Option<&ShiftRule>
-    ensures { option_copied result ≡ find (spec.has_moment weekday minute) rules.now }
-{
-    rules.iter().find(|rule| rule.has_moment(weekday, minute))
 }
 
 /// The shift of a moment: that of the first rule that has it.
@@ -100,21 +81,14 @@ pub(crate) fn shift_at(rules: &[ShiftRule], moment: Moment) -> Shift
     ensures value { result ≡ spec.shift_at rules.now moment.day moment.time }
     ensures shift { IsShift result }
 {
+    let day = weekday(moment.day);
     let minute = moment.time / HUNDREDTHS_PER_MINUTE;
-    match rule_at(rules, weekday(moment.day), minute) {
-        Some(rule) => rule.shift,
-        None => Shift::base(),
+    for rule in rules {
+        if rule.has_moment(day, minute) {
+            return rule.shift;
+        }
     }
-}
-
-/// The place of the first rule that has the moment.
-fn place_at(rules: &[ShiftRule], weekday: u8, minute: u32) -> Option<usize>
-    ensures place { result ≡ position (spec.has_moment weekday minute) rules.now }
-    ensures within { IfSome result (λ place. place < 2 ^ 63) }
-{
-    rules
-        .iter()
-        .position(|rule| rule.has_moment(weekday, minute))
+    Shift::base()
 }
 
 /// The number, from 1, of the first rule that has the moment.
@@ -123,9 +97,12 @@ pub(crate) fn shift_rule(rules: &[ShiftRule], moment: Moment) -> Option<u64>
     ensures { result ≡ rule_number
         (spec.has_moment (weekday_of moment.day) (spec.minute_of moment.time)) rules.now }
 {
+    let day = weekday(moment.day);
     let minute = moment.time / HUNDREDTHS_PER_MINUTE;
-    match place_at(rules, weekday(moment.day), minute) {
-        Some(place) => Some(place as u64 + 1),
-        None => None,
+    for (before, rule) in rules.iter().enumerate() {
+        if rule.has_moment(day, minute) {
+            return Some(before as u64 + 1);
+        }
     }
+    None
 }

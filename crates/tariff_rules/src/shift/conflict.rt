@@ -17,7 +17,12 @@ impl Shift {
     fn disagrees_with_any(&self, rules: &[ShiftRule]) -> bool
         ensures { result ≡ list_any (λ rule. spec.disagrees_with self.now rule.shift) rules.now }
     {
-        rules.iter().any(|rule| self.disagrees_with(&rule.shift))
+        for rule in rules {
+            if self.disagrees_with(&rule.shift) {
+                return true;
+            }
+        }
+        false
     }
 
     /// Whether the shift disagrees with `BASE`, or with the shift of some rule.
@@ -32,5 +37,10 @@ impl Shift {
 pub(crate) fn has_conflict(rules: &[ShiftRule]) -> bool
     ensures { result ≡ spec.has_conflict rules.now }
 {
-    rules.iter().any(|rule| rule.shift.conflicts_with(rules))
+    for rule in rules {
+        if rule.shift.conflicts_with(rules) {
+            return true;
+        }
+    }
+    false
 }

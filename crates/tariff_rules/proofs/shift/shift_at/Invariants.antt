@@ -1,0 +1,7 @@
+use Rattle.tariff_rules.specs.Price.{has_moment}
+use Rattle.tariff_rules.proofs.SearchLemmas.{AreFailed}
+use Rattle.tariff_rules.proofs.shift.shift_at.Given as goal
+
+-- no rule so far has the moment
+abbrev pub invariant-loop-rule : goal.invariant-loop-rule
+invariant-loop-rule l = AreFailed (has_moment l.day l.minute) l.rules l.rule-index
