@@ -3,3 +3,4 @@ pub mod EntryLemmas
 pub mod RefusedLemmas
 pub mod FaultLemmas
 pub mod SearchLemmas
+pub mod WeekdayLemmas

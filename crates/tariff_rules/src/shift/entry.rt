@@ -1,7 +1,6 @@
 //! What an entry of a tariff file's array of shifts says.
 
-ghost use Rattle.std.specs.Prelude.{◌≡◌, map, IfOk};
-ghost use Rattle.std.specs.List.{filter_map, list_all};
+ghost use Rattle.std.specs.Prelude.{◌≡◌, map, IfOk, option_map};
 ghost use Rattle.toml.specs.View.{table_view, view};
 ghost use Rattle.tariff_rules.specs.Document.{IsUnlessMemory, AreUnlessMemory};
 ghost use Rattle.tariff_rules.specs.ShiftEntry as spec;
@@ -28,36 +27,22 @@ fn weekday_in(value: &Value) -> Option<u8>
     }
 }
 
-fn is_weekday(value: &Value) -> bool
-    ensures { result ≡ spec.is_weekday (view value.now) }
+/// The weekdays that the entries are, in order, if these are one to seven weekdays.
+fn weekdays_of(alloc: Global, entries: &[Value]) -> Result<Option<Vec<u8>>, AllocError>
+    ensures { IfOk result (λ found. option_map (λ days. days.items) found
+        ≡ spec.weekdays_of (map view entries.now)) }
 {
-    weekday_in(value).is_some()
-}
-
-fn all_weekdays(entries: &[Value]) -> bool
-    ensures { result ≡ list_all (λ entry. spec.is_weekday (view entry)) entries.now }
-{
-    entries.iter().all(|entry| is_weekday(entry))
-}
-
-/// Whether the entries are one to seven weekdays.
-#[tactic(auto, using(crate::proofs::EntryLemmas::entry_lemmas))]
-fn are_weekdays(entries: &[Value]) -> bool
-    ensures { result ≡ spec.are_weekdays (map view entries.now) }
-{
-    !entries.is_empty() && entries.len() <= DAYS_PER_WEEK && all_weekdays(entries)
-}
-
-/// The weekdays among the entries, in order.
-#[tactic(auto, using(crate::proofs::EntryLemmas::entry_lemmas))]
-fn weekdays_of(alloc: Global, entries: &[Value]) -> Result<Vec<u8>, AllocError>
-    ensures { IfOk result
-        (λ days. days.items ≡ filter_map spec.weekday_in (map view entries.now)) }
-{
-    entries
-        .iter()
-        .filter_map(|entry| weekday_in(entry))
-        .collect(alloc)
+    if entries.is_empty() || entries.len() > DAYS_PER_WEEK {
+        return Ok(None);
+    }
+    let mut days = Vec::new(alloc);
+    for entry in entries {
+        match weekday_in(entry) {
+            Some(day) => days.push(day)?,
+            None => return Ok(None),
+        }
+    }
+    Ok(Some(days))
 }
 
 /// The weekdays at the key `days`.
@@ -66,10 +51,7 @@ fn days_at(alloc: Global, table: &Table) -> Result<Vec<u8>, TariffFault>
     ensures { AreUnlessMemory result (spec.days_at (table_view table.now)) }
 {
     let entries = entries_at(table, Key::Days)?;
-    if !are_weekdays(entries) {
-        return Err(TariffFault::Range(Key::Days));
-    }
-    Ok(weekdays_of(alloc, entries)?)
+    weekdays_of(alloc, entries)?.ok_or(TariffFault::Range(Key::Days))
 }
 
 /// The minute of the day at a key.
