@@ -27,57 +27,56 @@ pub(crate) fn value_at<'a>(table: &'a Table, key: Key) -> Option<&'a Value>
     member_at(table, key.text())
 }
 
-/// What the table has at a key that has to be there.
-#[tactic(auto, unfolding(crate::specs::Document::required_at))]
-pub(crate) fn required_at<'a>(table: &'a Table, key: Key) -> Result<&'a Value, TariffFault>
-    ensures { let wanted = spec.required_at (table_view table.now) key in
-        MatchResult result (λ value. wanted ≡ Ok (view value.now)) (λ fault. wanted ≡ Err fault) }
-{
-    value_at(table, key).ok_or(TariffFault::Missing(key))
-}
-
 /// The table at a key that has to be there.
-#[tactic(auto, unfolding(crate::specs::Document::read_at))]
+#[tactic(auto, unfolding(crate::specs::Document::read_at, crate::specs::Document::required_at))]
 pub(crate) fn table_at<'a>(table: &'a Table, key: Key) -> Result<&'a Table, TariffFault>
     ensures { let wanted = spec.read_at (table_view table.now) key as_table in
         MatchResult result
         (λ inner. wanted ≡ Ok (table_view inner.now))
         (λ fault. wanted ≡ Err fault) }
 {
-    let value = required_at(table, key)?;
-    value.as_table().ok_or(TariffFault::Range(key))
+    match value_at(table, key) {
+        Some(value) => value.as_table().ok_or(TariffFault::Range(key)),
+        None => Err(TariffFault::Missing(key)),
+    }
 }
 
 /// The text at a key that has to be there.
-#[tactic(auto, unfolding(crate::specs::Document::read_at))]
+#[tactic(auto, unfolding(crate::specs::Document::read_at, crate::specs::Document::required_at))]
 pub(crate) fn text_at<'a>(table: &'a Table, key: Key) -> Result<&'a str, TariffFault>
     ensures { let wanted = spec.text_at (table_view table.now) key in
         MatchResult result (λ text. wanted ≡ Ok text.now) (λ fault. wanted ≡ Err fault) }
 {
-    let value = required_at(table, key)?;
-    value.as_str().ok_or(TariffFault::Range(key))
+    match value_at(table, key) {
+        Some(value) => value.as_str().ok_or(TariffFault::Range(key)),
+        None => Err(TariffFault::Missing(key)),
+    }
 }
 
 /// The entries of the array at a key that has to be there.
-#[tactic(auto, unfolding(crate::specs::Document::read_at))]
+#[tactic(auto, unfolding(crate::specs::Document::read_at, crate::specs::Document::required_at))]
 pub(crate) fn entries_at<'a>(table: &'a Table, key: Key) -> Result<&'a [Value], TariffFault>
     ensures { let wanted = spec.read_at (table_view table.now) key spec.entries_in in
         MatchResult result
         (λ entries. wanted ≡ Ok (map view entries.now))
         (λ fault. wanted ≡ Err fault) }
 {
-    let value = required_at(table, key)?;
-    entries_in(value).ok_or(TariffFault::Range(key))
+    match value_at(table, key) {
+        Some(value) => entries_in(value).ok_or(TariffFault::Range(key)),
+        None => Err(TariffFault::Missing(key)),
+    }
 }
 
 /// The whole number at a key that has to be there.
-#[tactic(auto, unfolding(crate::specs::Document::read_at))]
+#[tactic(auto, unfolding(crate::specs::Document::read_at, crate::specs::Document::required_at))]
 pub(crate) fn integer_at(table: &Table, key: Key, least: u64, most: u64) -> Result<u64, TariffFault>
     ensures value { result ≡ spec.integer_at (table_view table.now) key least most }
     ensures bound { IfOk result (λ n. n ≤ most) }
 {
-    let value = required_at(table, key)?;
-    integer_in(value, least, most).ok_or(TariffFault::Range(key))
+    match value_at(table, key) {
+        Some(value) => integer_in(value, least, most).ok_or(TariffFault::Range(key)),
+        None => Err(TariffFault::Missing(key)),
+    }
 }
 
 /// The name of a shift or a centre.
