@@ -1,10 +1,10 @@
--- A loop up to the first element that passes a test.
+-- A loop up to the first element that passes a test, or fails it.
 use Rattle.std.proofs.Common.{◌≡◌, ℕ, zero, suc, ◌+◌, ◌<◌, ◌≤◌, Bool, true, false, cond, not, ◌||◌}
 use Rattle.std.proofs.Common.{nat_lt, List, [], ◌∷◌, length, take, take_all, get_or, Option, Some, None}
 use Rattle.std.proofs.Common.{refl, sym, ap, ◌∙◌, arith}
 use Rattle.std.proofs.lemmas.Bool.Decides.{nat_tests}
-use Rattle.std.proofs.lemmas.List.Folds.{list_any_at, list_any_more}
-use Rattle.std.specs.List.{find, list_any, position, position_or_len}
+use Rattle.std.proofs.lemmas.List.Folds.{list_all_at, list_all_more, list_any_at, list_any_more}
+use Rattle.std.specs.List.{find, list_all, list_any, position_or_len}
 use Rattle.tariff_rules.specs.Reckoning.{rule_number}
 
 module _ {A : Type 0} (test : A → Bool) where
@@ -20,6 +20,24 @@ module _ {A : Type 0} (test : A → Bool) where
 
   all_failed : (xs : List A) (i : ℕ) → length xs ≤ i → AreFailed xs i → list_any test xs ≡ false
   all_failed xs i all before = sym (ap (list_any test) (take_all i xs all)) ∙ before
+
+  -- all of the first i elements pass
+  abbrev pub ArePassed : List A → ℕ → Type 0
+  ArePassed xs i = list_all test (take i xs) ≡ true
+
+  -- one more element that passes
+  pub passes_more : (xs : List A) (i : ℕ) (d : A) → i < length xs → ArePassed xs i
+      → test (get_or xs i d) ≡ true → ArePassed xs (i + 1)
+  passes_more xs i d within before here =
+      list_all_more test xs i d within ∙ rw (before, here) refl
+
+  -- whether all pass
+  pub one_fails : (xs : List A) (i : ℕ) (d : A) → i < length xs → test (get_or xs i d) ≡ false
+      → false ≡ list_all test xs
+  one_fails xs i d within here = sym (list_all_at test xs i d within here)
+
+  pub all_pass : (xs : List A) (i : ℕ) → length xs ≤ i → ArePassed xs i → true ≡ list_all test xs
+  all_pass xs i all before = sym before ∙ ap (list_all test) (take_all i xs all)
 
   -- whether any passes
   pub any_passes : (xs : List A) (i : ℕ) (d : A) → i < length xs → test (get_or xs i d) ≡ true
