@@ -38,7 +38,7 @@ fn value_arg<'a>(alloc: Global, valued: ValuedArgument, highest: u32) -> Arg<'a>
     ensures own { IsOwn result }
 {
     Arg::new(alloc, valued.name)
-        .value_name(valued.shown)
+        .value_name(valued.help.shown())
         .help(valued.help.text())
         .action(ArgAction::Set)
         .value_parser(parser_of(valued.kind, highest))

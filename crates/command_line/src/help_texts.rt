@@ -1,5 +1,6 @@
 //! What help says of words and options. It stands apart from the table of the commands: that is
-//! proved to be the table of `Known.antt`, byte for byte, and no clause speaks of help.
+//! proved to be the table of `Known.antt`, byte for byte, and no clause speaks of help. To lend a
+//! table takes longer to prove with each text in it.
 
 /// A word or an option whose help it is.
 #[derive(Clone, Copy)]
@@ -69,6 +70,25 @@ impl Help {
             Help::Requests => "After how many connections to end, up to 1000000",
             Help::NumberKind => "What kind of number it is, or a word that has none",
             Help::Number => "The number on standard error or in a list; a word has none",
+        }
+    }
+    /// What help calls the value of a word or an option that has one.
+    pub(crate) fn shown(self) -> &'static str {
+        match self {
+            Help::Book => "BOOK",
+            Help::Dump | Help::Tariff | Help::Copy => "FILE",
+            Help::Names | Help::Prices | Help::OtherPrices => "FILE",
+            Help::Period => "PERIOD",
+            Help::Date | Help::FirstDay => "DATE",
+            Help::Sha256 | Help::RecordName => "SHA256",
+            Help::Layout => "LAYOUT",
+            Help::Wait => "SECONDS",
+            Help::Centre => "CENTRE",
+            Help::Cpu | Help::Excp | Help::Record => "RATE",
+            Help::Port => "PORT",
+            Help::Requests | Help::Number => "NUMBER",
+            Help::NumberKind => "KIND",
+            Help::Quiet | Help::DryRun | Help::Csv | Help::DisputeCsv => "",
         }
     }
 }

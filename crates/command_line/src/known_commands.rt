@@ -34,8 +34,6 @@ pub(crate) enum Argument {
 #[derive(Clone, Copy)]
 pub(crate) struct ValuedArgument {
     pub(crate) name: &'static str,
-    /// What help calls the value.
-    pub(crate) shown: &'static str,
     pub(crate) help: Help,
     pub(crate) kind: ValueKind,
 }
@@ -64,70 +62,60 @@ const MOST_REQUESTS: i64 = 1_000_000;
 
 const BOOK: Argument = Argument::InPlace(ValuedArgument {
     name: "book",
-    shown: "BOOK",
     help: Help::Book,
     kind: ValueKind::Text,
 });
 
 const DUMP: Argument = Argument::InPlace(ValuedArgument {
     name: "file",
-    shown: "FILE",
     help: Help::Dump,
     kind: ValueKind::Text,
 });
 
 const TARIFF: Argument = Argument::InPlace(ValuedArgument {
     name: "file",
-    shown: "FILE",
     help: Help::Tariff,
     kind: ValueKind::Text,
 });
 
 const COPY: Argument = Argument::InPlace(ValuedArgument {
     name: "file",
-    shown: "FILE",
     help: Help::Copy,
     kind: ValueKind::Text,
 });
 
 const PERIOD: Argument = Argument::InPlace(ValuedArgument {
     name: "period",
-    shown: "PERIOD",
     help: Help::Period,
     kind: ValueKind::AtMost(MOST_NUMBER),
 });
 
 const DATE: Argument = Argument::InPlace(ValuedArgument {
     name: "date",
-    shown: "DATE",
     help: Help::Date,
     kind: ValueKind::Text,
 });
 
 const FIRST_DAY: Argument = Argument::InPlace(ValuedArgument {
     name: "date",
-    shown: "DATE",
     help: Help::FirstDay,
     kind: ValueKind::Text,
 });
 
 const SHA256: Argument = Argument::InPlaceIfGiven(ValuedArgument {
     name: "sha256",
-    shown: "SHA256",
     help: Help::Sha256,
     kind: ValueKind::Text,
 });
 
 const RECORD_NAME: Argument = Argument::InPlace(ValuedArgument {
     name: "sha256",
-    shown: "SHA256",
     help: Help::RecordName,
     kind: ValueKind::Text,
 });
 
 const NAMES: Argument = Argument::NamedIfGiven(ValuedArgument {
     name: "from",
-    shown: "FILE",
     help: Help::Names,
     kind: ValueKind::Text,
 });
@@ -135,7 +123,6 @@ const NAMES: Argument = Argument::NamedIfGiven(ValuedArgument {
 const LAYOUT: Argument = Argument::NamedOr(
     ValuedArgument {
         name: "layout",
-        shown: "LAYOUT",
         help: Help::Layout,
         kind: ValueKind::OneOf(&["rdw", "bdw"]),
     },
@@ -165,7 +152,6 @@ const DISPUTE_CSV: Argument = Argument::Flag {
 const WAIT: Argument = Argument::NamedOr(
     ValuedArgument {
         name: "wait",
-        shown: "SECONDS",
         help: Help::Wait,
         kind: ValueKind::AtMost(MOST_WAIT),
     },
@@ -174,7 +160,6 @@ const WAIT: Argument = Argument::NamedOr(
 
 const CENTRE: Argument = Argument::NamedIfGiven(ValuedArgument {
     name: "centre",
-    shown: "CENTRE",
     help: Help::Centre,
     kind: ValueKind::Text,
 });
@@ -182,7 +167,6 @@ const CENTRE: Argument = Argument::NamedIfGiven(ValuedArgument {
 const CPU: Argument = Argument::NamedOr(
     ValuedArgument {
         name: "cpu",
-        shown: "RATE",
         help: Help::Cpu,
         kind: ValueKind::Rate,
     },
@@ -192,7 +176,6 @@ const CPU: Argument = Argument::NamedOr(
 const EXCP: Argument = Argument::NamedOr(
     ValuedArgument {
         name: "excp",
-        shown: "RATE",
         help: Help::Excp,
         kind: ValueKind::Rate,
     },
@@ -202,7 +185,6 @@ const EXCP: Argument = Argument::NamedOr(
 const RECORD: Argument = Argument::NamedOr(
     ValuedArgument {
         name: "record",
-        shown: "RATE",
         help: Help::Record,
         kind: ValueKind::Rate,
     },
@@ -211,35 +193,30 @@ const RECORD: Argument = Argument::NamedOr(
 
 const PRICES: Argument = Argument::NamedIfGiven(ValuedArgument {
     name: "tariff",
-    shown: "FILE",
     help: Help::Prices,
     kind: ValueKind::Text,
 });
 
 const OTHER_PRICES: Argument = Argument::NamedIfGiven(ValuedArgument {
     name: "tariff",
-    shown: "FILE",
     help: Help::OtherPrices,
     kind: ValueKind::Text,
 });
 
 const PORT: Argument = Argument::Named(ValuedArgument {
     name: "port",
-    shown: "PORT",
     help: Help::Port,
     kind: ValueKind::UpTo(65_535),
 });
 
 const REQUESTS: Argument = Argument::Named(ValuedArgument {
     name: "requests",
-    shown: "NUMBER",
     help: Help::Requests,
     kind: ValueKind::UpTo(MOST_REQUESTS),
 });
 
 const NUMBER_KIND: Argument = Argument::InPlace(ValuedArgument {
     name: "kind",
-    shown: "KIND",
     help: Help::NumberKind,
     kind: ValueKind::OneOf(&[
         "frame", "ledger", "tariff", "damaged", "io", "busy", "exists", "word", "unsound", "log",
@@ -250,7 +227,6 @@ const NUMBER_KIND: Argument = Argument::InPlace(ValuedArgument {
 const NUMBER: Argument = Argument::InPlaceOr(
     ValuedArgument {
         name: "number",
-        shown: "NUMBER",
         help: Help::Number,
         kind: ValueKind::AtMost(MOST_NUMBER),
     },
