@@ -43,7 +43,7 @@ pub struct DumpFile<'a> {
 }
 
 /// Words that do not say what is asked, alone or together.
-#[derive(Clone, Copy, Debug, PartialEq, Eq)]
+#[derive(Clone, Copy)]
 pub enum Unclear {
     /// Which records are chosen: a name and a list of names are given, or neither.
     Choice,
