@@ -24,7 +24,7 @@ use std::alloc::{AllocError, Global};
 use streams::Writer;
 
 /// Which details are asked for, and how they are shown.
-#[derive(Clone, Copy, Debug, PartialEq, Eq)]
+#[derive(Clone, Copy)]
 pub struct DetailReport {
     /// As a list for people, with sums, or as a table of comma-separated values.
     pub form: StatementForm,

@@ -20,7 +20,7 @@ use std::alloc::{AllocError, Global};
 use streams::Writer;
 
 /// How the disputes are written.
-#[derive(Clone, Copy, Debug, PartialEq, Eq)]
+#[derive(Clone, Copy)]
 pub enum DisputeForm {
     /// A list for people.
     List,

@@ -15,7 +15,7 @@ use smf_text::Name;
 use std::alloc::{AllocError, Global};
 
 /// How a statement is shown.
-#[derive(Clone, Copy, Debug, PartialEq, Eq)]
+#[derive(Clone, Copy)]
 pub enum StatementForm {
     /// As a text in columns, with sums.
     Text,
