@@ -1,14 +1,17 @@
 -- The rows of the tariffs, the closes and the choices, as a list of each.
-use Rattle.std.specs.Prelude.{◌≡◌, ◌+◌, ◌∷◌, [], ℕ, ℤ, All, List, None, Some, length, map, int_lt, true}
+use Rattle.std.specs.Prelude.{◌≡◌, ◌+◌, ◌∷◌, [], ℕ, ℤ, All, List, None, Ok, Some, length, map, int_lt}
+use Rattle.std.specs.Prelude.{true}
 use Rattle.std.specs.List.{AllByRecursion, last_or}
 use Rattle.std.specs.List.Sorted.{IsStrictlySortedBy}
 use Rattle.std.specs.Option.{option_map_or}
 use Rattle.std.specs.Ordering.{int_cmp}
+use Rattle.std.specs.Str.{IsUtf8}
 use Rattle.sqlite_value.specs.Order.{Row}
-use Rattle.book_model.specs.Words.{AcceptedTerms, IsDay, Terms}
+use Rattle.book_model.specs.Words.{AcceptedTerms, IsDay, Terms, terms_in}
 use Rattle.table_model.specs.Readable.{IsTexted}
 use Rattle.table_model.specs.TablesOf.{close_entries, tariff_entries}
 use Rattle.tree_tables.specs.Columns.{book_columns, closed_columns, tariff_columns}
+use Rattle.tree_tables.specs.Stored.{close_entry}
 use Rattle.tree_tables.specs.declared.closed_rows.Close.{Close}
 use Rattle.book_audit.specs.Rules.{rule_of}
 use Rattle.book_audit.specs.Walks.{AreRising}
@@ -20,6 +23,18 @@ pub record IsNextClose (days : List ℤ) (close : Close) : Type 0 where
   pub period : close.period ≡ length days + 1
   pub later : option_map_or (λ last. int_lt last close.through) (last_or None days) true ≡ true
   pub day : IsDay close.through
+
+-- a row is that of the next close after those of these days, which is through this day
+pub record IsCloseRow (days : List ℤ) (row : Row) (day : ℤ) : Type 0 where
+  pub close : Close
+  pub is : row ≡ closed_columns (close_entry close)
+  pub next : IsNextClose days close
+  pub through : day ≡ close.through
+
+-- the close of a row is the next one
+abbrev pub IsNextRow : List ℤ → Row → Type 0
+IsNextRow days row =
+    (close : Close) → row ≡ closed_columns (close_entry close) → IsNextClose days close
 
 -- the rows are those of closes through these days: from period 1 on, each later than the one before
 pub record AreClosed (rows : List Row) (days : List ℤ) : Type 0 where
@@ -44,6 +59,14 @@ pub record HasOneRow (rows : List Row) (book : BookRow) : Type 0 where
   pub row : Row
   pub one : rows ≡ row ∷ []
   pub is : IsBookRow row book
+
+-- a row is that of a tariff: it has the first day, and a text of characters that says the terms
+pub record IsTariffIn (row : Row) (terms : Terms) : Type 0 where
+  pub text : List ℕ
+  pub is : row ≡ tariff_columns (terms.effective, Some text)
+  pub characters : IsUtf8 text
+  pub said : terms_in text ≡ Ok terms
+  pub day : IsDay terms.effective
 
 -- The rows are those of tariffs, each with a text of characters that says its terms, under its first
 -- day, in the order of the days.

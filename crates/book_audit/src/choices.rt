@@ -1,12 +1,11 @@
 //! The choices: which record was chosen last of each identity.
 
-ghost use Rattle.std.specs.Prelude.{◌≡◌, ◌≤◌, ◌+◌, ◌||◌, IfErr, IfOk, None, OnOk, length};
-ghost use Rattle.tree_rows.specs.Calls.{CommitsNothing, OnlyLooks};
+ghost use Rattle.std.specs.Prelude.{◌≡◌, ◌≤◌, ◌+◌, ◌||◌, IfErr, IfOk, None, length};
 ghost use Rattle.tree_tables.specs.Columns.{choice_columns};
 ghost use Rattle.tree_tables.specs.Fits.{ChoiceFits};
 ghost use Rattle.book_audit.specs.ChoiceRows.{AreChoices, Chooses, IsChosenAmong, entry_of, row_of};
 ghost use Rattle.book_audit.specs.Entries.{AreCounted};
-ghost use Rattle.book_audit.specs.Looks.{IsFair, Tells};
+ghost use Rattle.book_audit.specs.Looks.{LooksIf, Tells};
 ghost use Rattle.book_audit.specs.Own.{AreOwn};
 ghost use Rattle.book_audit.specs.OwnChoices.{AreItsRulings, IsChoiceIn, IsNextIn};
 
@@ -139,21 +138,14 @@ fn chosen_identity<S: Store>(
 ) -> Result<Vec<u8>, Stop>
     ensures among { Tells result trees.old trees.new (λ all identity.
         IsChosenAmong all rule (row_of choice.now) identity.items) }
-    ensures own { IsFair result trees.old trees.new (λ all.
+    ensures looks { LooksIf result trees.old trees.new (λ all.
         (own : AreOwn all) → IsChoiceIn own.book rule choice.now) }
-    ensures same { OnOk result (OnlyLooks S.Store trees.old.store trees.new.store) }
-    ensures quiet { CommitsNothing S.Store trees.old.store trees.new.store }
 {
     let place = Place::Choice(choice.number);
-    let identity = trees
-        .identity_of(alloc, &choice.name)
-        .map_err(|error| met(Tree::Records, error))?;
-    let Some(identity) = identity else {
+    let Some(identity) = trees.identity_of(alloc, &choice.name)? else {
         return Err(unsound(place, Wrong::NotHeld));
     };
-    let is_shared = trees
-        .is_shared(&identity)
-        .map_err(|error| met(Tree::Identities, error))?;
+    let is_shared = trees.is_shared(&identity)?;
     if !may_be_chosen(rule.may_split(choice.period), is_shared) {
         return Err(unsound(place, Wrong::ChosenAlone));
     }
@@ -169,24 +161,17 @@ fn check_choice<S: Store>(
     chosen: &mut Chosen,
     choice: &Choice,
 ) -> Result<(), Stop>
-    ensures number { OnOk result (choice.now.number ≡ chosen.old.count + 1) }
-    ensures count { OnOk result (chosen.new.count ≡ choice.now.number) }
     ensures chooses { Tells result trees.old trees.new (λ all _.
         Chooses all rule open_period chosen.old chosen.new choice.now) }
-    ensures own { IsFair result trees.old trees.new (λ all.
+    ensures looks { LooksIf result trees.old trees.new (λ all.
         (own : AreOwn all) → IsNextIn own.book rule open_period chosen.old choice.now) }
-    ensures same { OnOk result (OnlyLooks S.Store trees.old.store trees.new.store) }
-    ensures quiet { CommitsNothing S.Store trees.old.store trees.new.store }
 {
     let place = Place::Choice(choice.number);
     if let Some(wrong) = chosen.wrong_with(choice, open_period) {
         return Err(unsound(place, wrong));
     }
     let identity = chosen_identity(alloc, trees, rule, choice)?;
-    if !trees
-        .has_choice_name(&choice.name, choice.number)
-        .map_err(|error| met(Tree::ChoiceNames, error))?
-    {
+    if !trees.has_choice_name(&choice.name, choice.number)? {
         return Err(unsound(place, Wrong::NoChoiceName));
     }
     chosen.put(identity, choice)?;
@@ -204,13 +189,10 @@ pub(crate) fn read_choices<S: Store, W: Watch>(
     watch: &mut W,
 ) -> Result<Chosen, Stop>
     ensures choices { Tells result trees.old trees.new (λ all chosen.
-        AreChoices all rule open_period chosen) }
-    ensures names { Tells result trees.old trees.new (λ all chosen.
-        AreCounted Tree.ChoiceNames (all 9) chosen.count) }
-    ensures own { IsFair result trees.old trees.new (λ all.
+        AreChoices all rule open_period chosen
+        × AreCounted Tree.ChoiceNames (all 9) chosen.count) }
+    ensures looks { LooksIf result trees.old trees.new (λ all.
         (own : AreOwn all) → AreItsRulings rule open_period own.book) }
-    ensures same { OnOk result (OnlyLooks S.Store trees.old.store trees.new.store) }
-    ensures quiet { CommitsNothing S.Store trees.old.store trees.new.store }
 {
     let tree = Tree::Choices;
     let mut walk = Walk::over(alloc, tree);
@@ -221,8 +203,10 @@ pub(crate) fn read_choices<S: Store, W: Watch>(
             check_entries(alloc, trees, Tree::ChoiceNames, count, watch)?;
             return Ok(chosen);
         }
-        let choice = choice_in(walk.row()).map_err(|error| met(tree, error))?;
-        check_choice(alloc, trees, rule, open_period, &mut chosen, &choice)?;
+        match choice_in(walk.row()) {
+            Ok(choice) => check_choice(alloc, trees, rule, open_period, &mut chosen, &choice)?,
+            Err(error) => return Err(met(tree, error)),
+        }
     }
     Err(unsound(Place::Tree(tree), Wrong::Choices))
 }

@@ -3,12 +3,11 @@
 ghost use Rattle.std.specs.BTreeMap.{values};
 ghost use Rattle.std.specs.Prelude.{◌≡◌, ◌≢◌, IfErr, IfOk, OnOk, false, length, true};
 ghost use Rattle.sqlite_value.specs.Order.{column};
-ghost use Rattle.tree_rows.specs.Calls.{CommitsNothing, OnlyLooks};
 ghost use Rattle.tree_tables.specs.Columns.{day_columns};
 ghost use Rattle.tree_tables.specs.Fits.{ChargeFits, HasPeriod};
 ghost use Rattle.consistent_tables.specs.DueRows.{due_entry};
 ghost use Rattle.book_audit.specs.Days.{AreDueRows, entry_of};
-ghost use Rattle.book_audit.specs.Looks.{IsFair, Tells};
+ghost use Rattle.book_audit.specs.Looks.{LooksIf, Tells};
 ghost use Rattle.book_audit.specs.Walks.{AreRising};
 
 use crate::finding::{Place, Tree, Wrong};
@@ -147,6 +146,34 @@ fn is_due(rulings: &Rulings, row: &DayRow, due: &ChargeRow) -> bool
     row.period == rulings.period_of(due.day) && row.sums == *due
 }
 
+/// A charge row is the one that is due.
+fn check_row(rulings: &Rulings, row: &Row, due: &ChargeRow) -> Result<(), Stop>
+    requires { length row.now ≡ 8 }
+    ensures due { OnOk result (row.now
+        ≡ day_columns (due_entry rulings.now.closes.items due.now)) }
+    ensures other { IfErr result (λ stop. HasPeriod (column row.now 0) → ChargeFits row.now
+        → row.now ≢ day_columns (due_entry rulings.now.closes.items due.now)) }
+{
+    let one = match row_in(row) {
+        Ok(one) => one,
+        Err(error) => return Err(met(Tree::Days, error)),
+    };
+    if !is_due(rulings, &one, due) {
+        return Err(wrong_with(rulings, &one, Some(due)));
+    }
+    Ok(())
+}
+
+/// What is wrong with a charge row where none is due.
+fn wrong_more(rulings: &Rulings, row: &Row) -> Stop
+    requires { length row.now ≡ 8 }
+{
+    match row_in(row) {
+        Ok(row) => wrong_with(rulings, &row, None),
+        Err(error) => met(Tree::Days, error),
+    }
+}
+
 /// Reads all charge rows, which must be these, one after the other: the period of a day is no later
 /// than that of a later day, so they are in the order of their places.
 fn read_rows<S: Store, W: Watch>(
@@ -157,12 +184,9 @@ fn read_rows<S: Store, W: Watch>(
     watch: &mut W,
 ) -> Result<(), Stop>
     ensures rows { Tells result trees.old trees.new (λ all _.
+        AreDueRows rulings.now.closes.items due.now (all 4) × AreRising Tree.Days (all 4)) }
+    ensures looks { LooksIf result trees.old trees.new (λ all.
         AreDueRows rulings.now.closes.items due.now (all 4)) }
-    ensures rising { Tells result trees.old trees.new (λ all _. AreRising Tree.Days (all 4)) }
-    ensures own { IsFair result trees.old trees.new (λ all.
-        AreDueRows rulings.now.closes.items due.now (all 4)) }
-    ensures same { OnOk result (OnlyLooks S.Store trees.old.store trees.new.store) }
-    ensures quiet { CommitsNothing S.Store trees.old.store trees.new.store }
 {
     let tree = Tree::Days;
     let mut walk = Walk::over(alloc, tree);
@@ -174,15 +198,11 @@ fn read_rows<S: Store, W: Watch>(
             let period = rulings.period_of(next.day);
             return Err(unsound(Place::Day(DayKey { period, place }), Wrong::NoRow));
         }
-        let row = row_in(walk.row()).map_err(|error| met(tree, error))?;
-        if !is_due(rulings, &row, next) {
-            return Err(wrong_with(rulings, &row, Some(next)));
-        }
+        check_row(rulings, walk.row(), next)?;
         count = count.saturating_add(1);
     }
     if walk.next(trees)? {
-        let row = row_in(walk.row()).map_err(|error| met(tree, error))?;
-        return Err(wrong_with(rulings, &row, None));
+        return Err(wrong_more(rulings, walk.row()));
     }
     Ok(())
 }
@@ -197,13 +217,11 @@ pub(crate) fn check_rows<S: Store, W: Watch>(
     watch: &mut W,
 ) -> Result<u64, Stop>
     ensures rows { Tells result trees.old trees.new (λ all _.
-        AreDueRows rulings.now.closes.items (values places.rows) (all 4)) }
-    ensures rising { Tells result trees.old trees.new (λ all _. AreRising Tree.Days (all 4)) }
-    ensures own { IsFair result trees.old trees.new (λ all.
-        AreDueRows rulings.now.closes.items (values places.rows) (all 4)) }
+        AreDueRows rulings.now.closes.items (values places.rows) (all 4)
+        × AreRising Tree.Days (all 4)) }
     ensures count { IfOk result (λ count. count ≡ length (values places.rows)) }
-    ensures same { OnOk result (OnlyLooks S.Store trees.old.store trees.new.store) }
-    ensures quiet { CommitsNothing S.Store trees.old.store trees.new.store }
+    ensures looks { LooksIf result trees.old trees.new (λ all.
+        AreDueRows rulings.now.closes.items (values places.rows) (all 4)) }
 {
     let due = places.into_rows(alloc)?;
     read_rows(alloc, trees, rulings, &due, watch)?;

@@ -1,15 +1,17 @@
 //! The details: a row for each record that some period counts.
 
 ghost use Rattle.std.specs.Prelude.{◌≡◌, ◌≢◌, IfErr, IfOk, IsTrue, None, OnOk, false, length, true};
+ghost use Rattle.smf_frames.specs.Framed.{record_with};
 ghost use Rattle.book_model.specs.Words as model;
+ghost use Rattle.book_model.specs.Words.{IsUsage};
 ghost use Rattle.table_model.specs.DetailsRead.{detail_shown};
-ghost use Rattle.tree_rows.specs.Calls.{CommitsNothing, OnlyLooks};
 ghost use Rattle.tree_tables.specs.Columns.{detail_columns};
 ghost use Rattle.tree_tables.specs.Fits.{DetailFits};
 ghost use Rattle.tree_tables.specs.Stored.{stored_entry};
+ghost use Rattle.tree_tables.specs.UsageData.{IsUsageData};
 ghost use Rattle.book_audit.specs.Details.{AreDetails, HasCost, IsCounted, ShowsCounted};
-ghost use Rattle.book_audit.specs.Looks.{IsFair, Tells, TellsIfSome};
-ghost use Rattle.book_audit.specs.Own.{AreOwn, IsOwnStop};
+ghost use Rattle.book_audit.specs.Looks.{Looks, LooksIf, Tells, TellsIfSome};
+ghost use Rattle.book_audit.specs.Own.{AreOwn};
 ghost use Rattle.book_audit.specs.OwnRecords.{AreOwnOf, IsCountedIn, IsShownIn};
 ghost use Rattle.book_audit.specs.Records.{detail_key, spot_of};
 ghost use Rattle.book_audit.specs.SoundTrees.{AreRuled};
@@ -23,7 +25,7 @@ use crate::trees::Trees;
 use crate::walk::{MOST_ROWS, Walk, endless};
 use crate::watch::Watch;
 use book_core::{detail_with, key_of};
-use book_model::Detail;
+use book_model::{Detail, LedgerFault};
 use smf_type30::Type30;
 use sqlite_trees::error::StoreError;
 use sqlite_trees::store::Store;
@@ -46,6 +48,22 @@ fn place_of(shown: &Detail) -> DetailKey
     }
 }
 
+/// Writes a record over `bytes`, by its data, which must be those of usage.
+fn put_usage(bytes: &mut Vec<u8>, data_bytes: &[u8]) -> Result<(), Stop>
+    ensures bytes { OnOk result (bytes.new.items ≡ record_with data_bytes.now) }
+    ensures usage { OnOk result (IsUsage bytes.new.items) }
+    ensures own { IfErr result (λ stop. IsUsageData data_bytes.now
+        → stop ≡ Stop.Fault LedgerFault.Memory) }
+{
+    if let Err(error) = put_data(bytes, data_bytes) {
+        return Err(met(Tree::Records, error));
+    }
+    match usage_in(bytes) {
+        Ok(_) => Ok(()),
+        Err(error) => Err(met(Tree::Records, error)),
+    }
+}
+
 /// A record that is counted has a row of details. What is in `bytes` is lost.
 pub(crate) fn check_has_detail<S: Store>(
     trees: &mut Trees<S>,
@@ -54,18 +72,13 @@ pub(crate) fn check_has_detail<S: Store>(
 ) -> Result<(), Stop>
     ensures shown { Tells result trees.old trees.new (λ all _.
         HasKey (detail_key (spot_of (detail_shown (stored_entry stored.now)))) (all 10)) }
-    ensures own { IsFair result trees.old trees.new (λ all.
+    ensures looks { LooksIf result trees.old trees.new (λ all.
         IsCountedIn all (stored_entry stored.now)) }
-    ensures same { OnOk result (OnlyLooks S.Store trees.old.store trees.new.store) }
-    ensures quiet { CommitsNothing S.Store trees.old.store trees.new.store }
 {
-    put_data(bytes, &stored.data_bytes).map_err(|error| met(Tree::Records, error))?;
-    let usage = usage_in(bytes).map_err(|error| met(Tree::Records, error))?;
+    put_usage(bytes, &stored.data_bytes)?;
+    let usage = Type30::of_usage(bytes);
     let shown = detail_with(&stored.name, &usage, stored.priced);
-    let found = trees
-        .has_detail(&place_of(&shown))
-        .map_err(|error| met(Tree::Details, error))?;
-    if found {
+    if trees.has_detail(&place_of(&shown))? {
         Ok(())
     } else {
         Err(unsound(Place::Record(stored.name), Wrong::NoDetail))
@@ -105,12 +118,10 @@ fn is_counted<S: Store>(
 ) -> Result<bool, Stop>
     ensures counted { Tells result trees.old trees.new (λ all counted.
         counted ≡ true → IsCounted (all 5) rulings.now.closes.items (stored_entry stored.now)) }
-    ensures own { IfErr result (IsOwnStop S.Store trees.old.store trees.new.store) }
     ensures other { Tells result trees.old trees.new (λ all counted.
         counted ≡ false → AreOwnOf all rulings.now (stored_entry stored.now)
         → ¬ IsCountedIn all (stored_entry stored.now)) }
-    ensures same { OnOk result (OnlyLooks S.Store trees.old.store trees.new.store) }
-    ensures quiet { CommitsNothing S.Store trees.old.store trees.new.store }
+    ensures looks { Looks result trees.old trees.new }
 {
     match past_in(trees, rulings, stored)? {
         Some(counted) => Ok(counted),
@@ -128,20 +139,15 @@ fn wrong_with<S: Store>(
 ) -> Result<Option<Wrong>, Stop>
     ensures counted { Tells result trees.old trees.new (λ all wrong.
         wrong ≡ None → ShowsCounted all rulings.now.closes.items shown.now) }
-    ensures own { IfErr result (IsOwnStop S.Store trees.old.store trees.new.store) }
     ensures other { TellsIfSome result trees.old trees.new (λ all wrong.
         AreOwn all → AreRuled all rulings.now → ¬ IsShownIn all shown.now) }
-    ensures same { OnOk result (OnlyLooks S.Store trees.old.store trees.new.store) }
-    ensures quiet { CommitsNothing S.Store trees.old.store trees.new.store }
+    ensures looks { Looks result trees.old trees.new }
 {
-    let record = trees
-        .record_of(alloc, &shown.name)
-        .map_err(|error| met(Tree::Records, error))?;
-    let Some(record) = record else {
+    let Some(record) = trees.record_of(alloc, &shown.name)? else {
         return Ok(Some(Wrong::NoRecord));
     };
-    put_data(bytes, &record.data_bytes).map_err(|error| met(Tree::Records, error))?;
-    let usage = usage_in(bytes).map_err(|error| met(Tree::Records, error))?;
+    put_usage(bytes, &record.data_bytes)?;
+    let usage = Type30::of_usage(bytes);
     if !shows(shown, &record, &usage) {
         return Ok(Some(Wrong::OtherDetail));
     }
@@ -161,10 +167,8 @@ fn check_shown<S: Store>(
 ) -> Result<(), Stop>
     ensures counted { Tells result trees.old trees.new (λ all _.
         ShowsCounted all rulings.now.closes.items shown.now) }
-    ensures own { IsFair result trees.old trees.new (λ all.
+    ensures looks { LooksIf result trees.old trees.new (λ all.
         AreRuled all rulings.now × IsShownIn all shown.now) }
-    ensures same { OnOk result (OnlyLooks S.Store trees.old.store trees.new.store) }
-    ensures quiet { CommitsNothing S.Store trees.old.store trees.new.store }
 {
     match wrong_with(alloc, trees, rulings, bytes, shown)? {
         Some(wrong) => Err(unsound(Place::Detail(place_of(shown)), wrong)),
@@ -213,9 +217,7 @@ pub(crate) fn check_details<S: Store, W: Watch>(
 ) -> Result<(), Stop>
     ensures details { Tells result trees.old trees.new (λ all _.
         AreDetails all rulings.now.closes.items) }
-    ensures own { IsFair result trees.old trees.new (λ all. AreRuled all rulings.now) }
-    ensures same { OnOk result (OnlyLooks S.Store trees.old.store trees.new.store) }
-    ensures quiet { CommitsNothing S.Store trees.old.store trees.new.store }
+    ensures looks { LooksIf result trees.old trees.new (λ all. AreRuled all rulings.now) }
 {
     let mut walk = Walk::over(alloc, Tree::Details);
     let mut bytes = Vec::new(alloc);
@@ -224,8 +226,10 @@ pub(crate) fn check_details<S: Store, W: Watch>(
         if !walk.next(trees)? {
             return Ok(());
         }
-        let shown = detail_in(walk.row()).map_err(|error| met(Tree::Details, error))?;
-        check_shown(alloc, trees, rulings, &mut bytes, &shown)?;
+        match detail_in(walk.row()) {
+            Ok(shown) => check_shown(alloc, trees, rulings, &mut bytes, &shown)?,
+            Err(error) => return Err(met(Tree::Details, error)),
+        }
     }
     Err(endless())
 }

@@ -1,12 +1,11 @@
 //! How many entries a tree has.
 
-ghost use Rattle.std.specs.Prelude.{◌≡◌, IfErr, OnOk, false, length, true};
+ghost use Rattle.std.specs.Prelude.{◌≡◌, false, length, true};
 ghost use Rattle.sqlite_value.specs.Order.{column};
-ghost use Rattle.tree_rows.specs.Calls.{CommitsNothing, OnlyLooks};
 ghost use Rattle.tree_tables.specs.Fits.{HasBytes, HasCount};
 ghost use Rattle.book_audit.specs.Entries.{AreCounted, IsEntry};
-ghost use Rattle.book_audit.specs.Looks.{IsFair, Tells};
-ghost use Rattle.book_audit.specs.Own.{AreOwn, IsOwnStop, is_index};
+ghost use Rattle.book_audit.specs.Looks.{Looks, LooksIf, Tells};
+ghost use Rattle.book_audit.specs.Own.{AreOwn, is_index};
 ghost use Rattle.book_audit.specs.Trees.{tree_number};
 ghost use Rattle.book_audit.specs.Walks.{width};
 
@@ -65,9 +64,7 @@ fn count_rows<S: Store, W: Watch>(
     requires { is_index tree ≡ true }
     ensures counted { Tells result trees.old trees.new (λ all count.
         AreCounted tree (all (tree_number tree)) count) }
-    ensures own { IfErr result (IsOwnStop S.Store trees.old.store trees.new.store) }
-    ensures same { OnOk result (OnlyLooks S.Store trees.old.store trees.new.store) }
-    ensures quiet { CommitsNothing S.Store trees.old.store trees.new.store }
+    ensures looks { Looks result trees.old trees.new }
 {
     let mut walk = Walk::over(alloc, tree);
     'entries: for count in 0..MOST_ROWS {
@@ -93,10 +90,8 @@ pub(crate) fn check_entries<S: Store, W: Watch>(
     requires { is_index tree ≡ true }
     ensures counted { Tells result trees.old trees.new (λ all _.
         AreCounted tree (all (tree_number tree)) rows) }
-    ensures own { IsFair result trees.old trees.new (λ all.
+    ensures looks { LooksIf result trees.old trees.new (λ all.
         AreOwn all → rows ≡ length (all (tree_number tree))) }
-    ensures same { OnOk result (OnlyLooks S.Store trees.old.store trees.new.store) }
-    ensures quiet { CommitsNothing S.Store trees.old.store trees.new.store }
 {
     let entries = count_rows(alloc, trees, tree, watch)?;
     if entries == rows {

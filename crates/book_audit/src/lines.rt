@@ -1,12 +1,11 @@
 //! The adjustment lines.
 
-ghost use Rattle.std.specs.Prelude.{◌≡◌, IfErr, IfOk, OnOk, length};
+ghost use Rattle.std.specs.Prelude.{◌≡◌, IfErr, IfOk, length};
 ghost use Rattle.sqlite_value.specs.Order.{column};
-ghost use Rattle.tree_rows.specs.Calls.{CommitsNothing, OnlyLooks};
 ghost use Rattle.tree_tables.specs.Columns.{line_columns};
 ghost use Rattle.tree_tables.specs.Fits.{HasPeriod, LineFits};
 ghost use Rattle.book_audit.specs.Lines.{AreLines, IsLateLine, line_entry};
-ghost use Rattle.book_audit.specs.Looks.{IsFair, Tells};
+ghost use Rattle.book_audit.specs.Looks.{LooksIf, Tells};
 ghost use Rattle.book_audit.specs.OwnRecords.{IsLineIn};
 ghost use Rattle.book_audit.specs.SoundTrees.{AreRuled};
 
@@ -55,16 +54,11 @@ fn check_line<S: Store>(
 ) -> Result<(), Stop>
     ensures late { Tells result trees.old trees.new (λ all _.
         IsLateLine (all 3) rulings.now.closes.items (line_entry line.now)) }
-    ensures own { IsFair result trees.old trees.new (λ all.
+    ensures looks { LooksIf result trees.old trees.new (λ all.
         AreRuled all rulings.now × IsLineIn all (line_entry line.now)) }
-    ensures same { OnOk result (OnlyLooks S.Store trees.old.store trees.new.store) }
-    ensures quiet { CommitsNothing S.Store trees.old.store trees.new.store }
 {
     let place = Place::Line(line.period, line.name);
-    let record = trees
-        .record_of(alloc, &line.name)
-        .map_err(|error| met(Tree::Records, error))?;
-    let Some(record) = record else {
+    let Some(record) = trees.record_of(alloc, &line.name)? else {
         return Err(unsound(place, Wrong::NoRecord));
     };
     let own = rulings.period_of(record.priced.day);
@@ -83,9 +77,7 @@ pub(crate) fn check_lines<S: Store, W: Watch>(
 ) -> Result<u64, Stop>
     ensures lines { Tells result trees.old trees.new (λ all count.
         AreLines all rulings.now.closes.items count) }
-    ensures own { IsFair result trees.old trees.new (λ all. AreRuled all rulings.now) }
-    ensures same { OnOk result (OnlyLooks S.Store trees.old.store trees.new.store) }
-    ensures quiet { CommitsNothing S.Store trees.old.store trees.new.store }
+    ensures looks { LooksIf result trees.old trees.new (λ all. AreRuled all rulings.now) }
 {
     let mut walk = Walk::over(alloc, Tree::Lines);
     'lines: for count in 0..MOST_ROWS {
@@ -93,8 +85,10 @@ pub(crate) fn check_lines<S: Store, W: Watch>(
         if !walk.next(trees)? {
             return Ok(count);
         }
-        let line = line_in(walk.row()).map_err(|error| met(Tree::Lines, error))?;
-        check_line(alloc, trees, rulings, &line)?;
+        match line_in(walk.row()) {
+            Ok(line) => check_line(alloc, trees, rulings, &line)?,
+            Err(error) => return Err(met(Tree::Lines, error)),
+        }
     }
     Err(endless())
 }

@@ -1,24 +1,22 @@
 //! The marks of a record, and the trees that find it.
 
-ghost use Rattle.std.specs.Prelude.{◌≡◌, ◌≤◌, ◌-◌, IfErr, None, OnOk, false, true};
+ghost use Rattle.std.specs.Prelude.{◌≡◌, ◌≤◌, ◌-◌, None, false, true};
 ghost use Rattle.book_model.specs.Words.{open_by};
 ghost use Rattle.consistent_tables.specs.Consistent.{AreInTurn, ruled};
 ghost use Rattle.table_model.specs.Tables.{Tables};
-ghost use Rattle.tree_rows.specs.Calls.{CommitsNothing, OnlyLooks};
 ghost use Rattle.tree_tables.specs.Holds.{Holds};
 ghost use Rattle.tree_tables.specs.Stored.{stored_entry};
-ghost use Rattle.book_audit.specs.Looks.{IsFair, Tells, TellsIfSome};
+ghost use Rattle.book_audit.specs.Looks.{Looks, LooksIf, Tells, TellsIfSome};
 ghost use Rattle.book_audit.specs.Marks as spec;
-ghost use Rattle.book_audit.specs.Own.{IsOwnStop};
 ghost use Rattle.book_audit.specs.OwnRecords.{AreOwnOf};
 ghost use Rattle.book_audit.specs.Records.{GoesBack, HasPast, IsChargedRight, IsFound, IsMarked};
 ghost use Rattle.book_audit.specs.Records.{IsPostedRight};
 ghost use Rattle.book_audit.specs.declared.rulings.Rulings.{Rulings as Ruled};
 
 use crate::choices::Chosen;
-use crate::finding::{Place, Tree, Wrong};
+use crate::finding::{Place, Wrong};
 use crate::rulings::Rulings;
-use crate::stop::{Stop, met, unsound};
+use crate::stop::{Stop, unsound};
 use crate::trees::Trees;
 use sqlite_trees::store::Store;
 use tree_tables::StoredRecord;
@@ -56,27 +54,17 @@ fn wrong_by_trees<S: Store>(
         wrong ≡ None → IsFound all (stored_entry stored.now)) }
     ensures charged { Tells result trees.old trees.new (λ all wrong.
         wrong ≡ None → IsChargedRight (all 6) chosen.now (stored_entry stored.now)) }
-    ensures own { IfErr result (IsOwnStop S.Store trees.old.store trees.new.store) }
     ensures other { TellsIfSome result trees.old trees.new (λ all wrong. (rulings : Ruled)
         → rulings.chosen ≡ chosen.now → ¬ AreOwnOf all rulings (stored_entry stored.now)) }
-    ensures same { OnOk result (OnlyLooks S.Store trees.old.store trees.new.store) }
-    ensures quiet { CommitsNothing S.Store trees.old.store trees.new.store }
+    ensures looks { Looks result trees.old trees.new }
 {
-    if !trees
-        .has_identity(stored)
-        .map_err(|error| met(Tree::Identities, error))?
-    {
+    if !trees.has_identity(stored)? {
         return Ok(Some(Wrong::NoIdentity));
     }
-    if !trees
-        .has_mark(stored)
-        .map_err(|error| met(Tree::Marks, error))?
-    {
+    if !trees.has_mark(stored)? {
         return Ok(Some(Wrong::NoMark));
     }
-    let is_shared = trees
-        .is_shared(&stored.identity)
-        .map_err(|error| met(Tree::Identities, error))?;
+    let is_shared = trees.is_shared(&stored.identity)?;
     let is_chosen = chosen.is_last(&stored.identity, &stored.name);
     if stored.charged != should_be_charged(is_shared, is_chosen) {
         return Ok(Some(Wrong::Charged));
@@ -92,15 +80,11 @@ fn is_posted_right<S: Store>(
 ) -> Result<bool, Stop>
     ensures posted { Tells result trees.old trees.new (λ all right.
         right ≡ true → IsPostedRight (all 5) rulings.now.closes.items (stored_entry stored.now)) }
-    ensures own { IfErr result (IsOwnStop S.Store trees.old.store trees.new.store) }
     ensures other { Tells result trees.old trees.new (λ all right.
         right ≡ false → ¬ AreOwnOf all rulings.now (stored_entry stored.now)) }
-    ensures same { OnOk result (OnlyLooks S.Store trees.old.store trees.new.store) }
-    ensures quiet { CommitsNothing S.Store trees.old.store trees.new.store }
+    ensures looks { Looks result trees.old trees.new }
 {
-    let line = trees
-        .line_of(rulings.open_period(), &stored.name)
-        .map_err(|error| met(Tree::Lines, error))?;
+    let line = trees.line_of(rulings.open_period(), &stored.name)?;
     let is_closed = rulings.is_closed(stored.priced.day);
     Ok(is_posted_so(stored, is_closed, line))
 }
@@ -118,18 +102,14 @@ fn past_of<S: Store>(
     requires { own ≤ last }
     ensures past { TellsIfSome result trees.old trees.new (λ all before.
         GoesBack (all 5) name.now last (last - own) charged before) }
-    ensures own { IfErr result (IsOwnStop S.Store trees.old.store trees.new.store) }
     ensures other { Tells result trees.old trees.new (λ all past.
         past ≡ None → (tables : Tables) → Holds all tables → last ≡ open_by (ruled tables)
         → ¬ AreInTurn tables name.now (last - own) charged) }
-    ensures same { OnOk result (OnlyLooks S.Store trees.old.store trees.new.store) }
-    ensures quiet { CommitsNothing S.Store trees.old.store trees.new.store }
+    ensures looks { Looks result trees.old trees.new }
 {
     let mut now = charged;
     for back in 0..last - own {
-        let line = trees
-            .line_of(last - back, name)
-            .map_err(|error| met(Tree::Lines, error))?;
+        let line = trees.line_of(last - back, name)?;
         if let Some(plus) = line {
             if plus != now {
                 return Ok(None);
@@ -149,11 +129,9 @@ pub(crate) fn past_in<S: Store>(
 ) -> Result<Option<bool>, Stop>
     ensures past { TellsIfSome result trees.old trees.new (λ all counted.
         HasPast (all 5) rulings.now.closes.items (stored_entry stored.now) counted) }
-    ensures own { IfErr result (IsOwnStop S.Store trees.old.store trees.new.store) }
     ensures other { Tells result trees.old trees.new (λ all past.
         past ≡ None → ¬ AreOwnOf all rulings.now (stored_entry stored.now)) }
-    ensures same { OnOk result (OnlyLooks S.Store trees.old.store trees.new.store) }
-    ensures quiet { CommitsNothing S.Store trees.old.store trees.new.store }
+    ensures looks { Looks result trees.old trees.new }
 {
     let open = rulings.open_period();
     let own = rulings.period_of(stored.priced.day);
@@ -172,10 +150,8 @@ pub(crate) fn check_marks<S: Store>(
         IsMarked all rulings.now (stored_entry stored.now)) }
     ensures past { Tells result trees.old trees.new (λ all counted.
         HasPast (all 5) rulings.now.closes.items (stored_entry stored.now) counted) }
-    ensures own { IsFair result trees.old trees.new (λ all.
+    ensures looks { LooksIf result trees.old trees.new (λ all.
         AreOwnOf all rulings.now (stored_entry stored.now)) }
-    ensures same { OnOk result (OnlyLooks S.Store trees.old.store trees.new.store) }
-    ensures quiet { CommitsNothing S.Store trees.old.store trees.new.store }
 {
     if let Some(wrong) = wrong_by_trees(trees, &rulings.chosen, stored)? {
         return Err(unsound(Place::Record(stored.name), wrong));

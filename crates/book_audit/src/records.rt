@@ -1,14 +1,12 @@
 //! The records.
 
-ghost use Rattle.std.specs.Prelude.{◌≡◌, [], IfOk, OnOk};
-ghost use Rattle.tree_rows.specs.Calls.{CommitsNothing, OnlyLooks};
+ghost use Rattle.std.specs.Prelude.{◌≡◌, []};
 ghost use Rattle.tree_tables.specs.Stored.{stored_entry};
 ghost use Rattle.book_core.specs.KeyedRows.{keyed_rows};
-ghost use Rattle.book_audit.specs.Entries.{AreCounted};
-ghost use Rattle.book_audit.specs.Looks.{IsFair, Tells};
+ghost use Rattle.book_audit.specs.Looks.{LooksIf, Tells};
 ghost use Rattle.book_audit.specs.OwnRecords.{AreOwnOf, HasRoomFor};
-ghost use Rattle.book_audit.specs.Records.{AreRecords, Counts, IsRight, IsTold, counted_price};
-ghost use Rattle.book_audit.specs.SoundTrees.{AreRuled};
+ghost use Rattle.book_audit.specs.Records.{AreRecords, IsChecked};
+ghost use Rattle.book_audit.specs.SoundTrees.{AreHeld, AreRuled};
 
 use crate::day_sums::Places;
 use crate::details::check_has_detail;
@@ -45,17 +43,12 @@ fn check_record<S: Store>(
     bytes: &mut Vec<u8>,
     stored: &StoredRecord,
 ) -> Result<bool, Stop>
-    ensures right { Tells result trees.old trees.new (λ all _.
-        IsRight all rulings.now (stored_entry stored.now)) }
-    ensures past { Tells result trees.old trees.new (λ all counted.
-        IsTold all rulings.now.closes.items (stored_entry stored.now, counted)) }
-    ensures placed { IfOk result (λ counted. Counts places.old.rows.entries
-        places.new.rows.entries (counted_price (stored_entry stored.now, counted))) }
-    ensures own { IsFair result trees.old trees.new (λ all.
+    ensures right { Tells result trees.old trees.new (λ all counted.
+        IsChecked all rulings.now places.old.rows.entries places.new.rows.entries
+        (stored_entry stored.now, counted)) }
+    ensures looks { LooksIf result trees.old trees.new (λ all.
         AreOwnOf all rulings.now (stored_entry stored.now)
         × HasRoomFor places.old.rows.entries stored.now.priced) }
-    ensures same { OnOk result (OnlyLooks S.Store trees.old.store trees.new.store) }
-    ensures quiet { CommitsNothing S.Store trees.old.store trees.new.store }
 {
     check_data(alloc, rulings, stored)?;
     let counted = check_marks(trees, rulings, stored)?;
@@ -79,10 +72,8 @@ fn read_records<S: Store, W: Watch>(
 ) -> Result<Held, Stop>
     ensures records { Tells result trees.old trees.new (λ all held. AreRecords all rulings.now
         held.records held.amount places.old.rows.entries places.new.rows.entries) }
-    ensures own { IsFair result trees.old trees.new (λ all.
+    ensures looks { LooksIf result trees.old trees.new (λ all.
         AreRuled all rulings.now × (places.old.rows.entries ≡ keyed_rows [])) }
-    ensures same { OnOk result (OnlyLooks S.Store trees.old.store trees.new.store) }
-    ensures quiet { CommitsNothing S.Store trees.old.store trees.new.store }
 {
     let tree = Tree::Records;
     let mut walk = Walk::over(alloc, tree);
@@ -93,7 +84,10 @@ fn read_records<S: Store, W: Watch>(
         if !walk.next(trees)? {
             return Ok(Held { records, amount });
         }
-        let record = record_in(alloc, walk.row()).map_err(|error| met(tree, error))?;
+        let record = match record_in(alloc, walk.row()) {
+            Ok(record) => record,
+            Err(error) => return Err(met(tree, error)),
+        };
         check_record(alloc, trees, rulings, places, &mut bytes, &record)?;
         if MAX_COST < record.priced.amount || MAX_COST - record.priced.amount < amount {
             return Err(unsound(Place::Tree(tree), Wrong::Limits));
@@ -111,18 +105,10 @@ pub(crate) fn check_records<S: Store, W: Watch>(
     places: &mut Places,
     watch: &mut W,
 ) -> Result<Held, Stop>
-    ensures held { IfOk result (λ held. held.records ≡ rulings.now.held) }
-    ensures amount { IfOk result (λ held. held.amount ≡ rulings.now.amount) }
-    ensures records { Tells result trees.old trees.new (λ all held. AreRecords all rulings.now
-        held.records held.amount places.old.rows.entries places.new.rows.entries) }
-    ensures identities { Tells result trees.old trees.new (λ all held.
-        AreCounted Tree.Identities (all 6) held.records) }
-    ensures marks { Tells result trees.old trees.new (λ all held.
-        AreCounted Tree.Marks (all 7) held.records) }
-    ensures own { IsFair result trees.old trees.new (λ all.
+    ensures records { Tells result trees.old trees.new (λ all held.
+        AreHeld all rulings.now held.records places.old.rows.entries places.new.rows.entries) }
+    ensures looks { LooksIf result trees.old trees.new (λ all.
         AreRuled all rulings.now × (places.old.rows.entries ≡ keyed_rows [])) }
-    ensures same { OnOk result (OnlyLooks S.Store trees.old.store trees.new.store) }
-    ensures quiet { CommitsNothing S.Store trees.old.store trees.new.store }
 {
     let held = read_records(alloc, trees, rulings, places, watch)?;
     check_entries(alloc, trees, Tree::Identities, held.records, watch)?;

@@ -1,9 +1,6 @@
 //! All rulings, read one tree after the other.
 
-ghost use Rattle.std.specs.Prelude.{IfErr, OnOk};
-ghost use Rattle.tree_rows.specs.Calls.{CommitsNothing, OnlyLooks};
-ghost use Rattle.book_audit.specs.Looks.{Tells};
-ghost use Rattle.book_audit.specs.Own.{IsOwnStop};
+ghost use Rattle.book_audit.specs.Looks.{Looks, Tells};
 ghost use Rattle.book_audit.specs.SoundTrees.{AreRuled};
 
 use crate::choices::read_choices;
@@ -22,9 +19,7 @@ pub(crate) fn read_rulings<S: Store, W: Watch>(
     watch: &mut W,
 ) -> Result<Rulings, Stop>
     ensures ruled { Tells result trees.old trees.new AreRuled }
-    ensures own { IfErr result (IsOwnStop S.Store trees.old.store trees.new.store) }
-    ensures same { OnOk result (OnlyLooks S.Store trees.old.store trees.new.store) }
-    ensures quiet { CommitsNothing S.Store trees.old.store trees.new.store }
+    ensures looks { Looks result trees.old trees.new }
 {
     let book = read_book(alloc, trees)?;
     let tariffs = read_tariffs(alloc, trees)?;

@@ -1,19 +1,18 @@
 //! The row of the book, the tariffs, the closes and the choices.
 
 ghost use Rattle.std.specs.List.{last_or};
-ghost use Rattle.std.specs.Prelude.{◌<◌, ◌≡◌, IfErr, IfOk, IfSome, None, Ok, OnOk, false, length};
+ghost use Rattle.std.specs.Prelude.{◌<◌, ◌≡◌, IfErr, IfOk, IfSome, None, Ok, false, length};
 ghost use Rattle.std.specs.Prelude.{string_bytes, true};
 ghost use Rattle.sqlite_value.specs.Order.{column};
-ghost use Rattle.tree_rows.specs.Calls.{CommitsNothing, OnlyLooks};
 ghost use Rattle.book_model.specs.Words.{IsDay, Terms, terms_in};
 ghost use Rattle.table_model.specs.Tables.{BookRow as Held};
 ghost use Rattle.tree_tables.specs.Columns.{book_columns, closed_columns, tariff_columns};
 ghost use Rattle.tree_tables.specs.Fits.{BookFits, CloseFits, HasCount, TariffFits};
 ghost use Rattle.tree_tables.specs.Stored.{close_entry, tariff_of};
-ghost use Rattle.book_audit.specs.Looks.{Tells};
-ghost use Rattle.book_audit.specs.Own.{IsOwnStop};
+ghost use Rattle.book_audit.specs.Looks.{Looks, Tells};
 ghost use Rattle.book_audit.specs.Rules.{rule_of};
-ghost use Rattle.book_audit.specs.Rulings.{AreClosed, AreTariffs, HasOneRow, IsBookRow, IsNextClose};
+ghost use Rattle.book_audit.specs.Rulings.{AreClosed, AreTariffs, HasOneRow, IsBookRow, IsCloseRow};
+ghost use Rattle.book_audit.specs.Rulings.{IsNextClose, IsNextRow, IsTariffIn};
 
 use crate::choices::Chosen;
 use crate::finding::{Place, Tree, Wrong};
@@ -85,16 +84,18 @@ fn book_in(row: &Row) -> Result<Option<BookRow>, StoreError>
 /// Reads the one row of the book. Trees without it hold no books.
 pub(crate) fn read_book<S: Store>(alloc: Global, trees: &mut Trees<S>) -> Result<BookRow, Stop>
     ensures book { Tells result trees.old trees.new (λ all book. HasOneRow (all 0) book) }
-    ensures own { IfErr result (IsOwnStop S.Store trees.old.store trees.new.store) }
-    ensures same { OnOk result (OnlyLooks S.Store trees.old.store trees.new.store) }
-    ensures quiet { CommitsNothing S.Store trees.old.store trees.new.store }
+    ensures looks { Looks result trees.old trees.new }
 {
     let tree = Tree::Book;
     let mut walk = Walk::over(alloc, tree);
     if !walk.next(trees)? {
         return Err(Stop::Fault(LedgerFault::NotBooks));
     }
-    let Some(book) = book_in(walk.row()).map_err(|error| met(tree, error))? else {
+    let read = match book_in(walk.row()) {
+        Ok(read) => read,
+        Err(error) => return Err(met(tree, error)),
+    };
+    let Some(book) = read else {
         return Err(unsound(Place::Tree(tree), Wrong::Rule));
     };
     if walk.next(trees)? {
@@ -135,6 +136,19 @@ fn parsed(alloc: Global, stored: &StoredTariff) -> Result<Tariff, Stop>
     Ok(tariff)
 }
 
+/// The tariff of a row.
+fn read_tariff(alloc: Global, row: &Row) -> Result<Tariff, Stop>
+    requires { length row.now ≡ 2 }
+    ensures says { IfOk result (IsTariffIn row.now) }
+    ensures own { IfErr result (λ stop. (terms : Terms) → IsTariffIn row.now terms
+        → stop ≡ Stop.Fault LedgerFault.Memory) }
+{
+    match tariff_in(alloc, row) {
+        Ok(stored) => parsed(alloc, &stored),
+        Err(error) => Err(met(Tree::Tariffs, error)),
+    }
+}
+
 /// Reads the tariffs, which have their first days as keys.
 pub(crate) fn read_tariffs<S: Store>(
     alloc: Global,
@@ -142,9 +156,7 @@ pub(crate) fn read_tariffs<S: Store>(
 ) -> Result<Vec<Tariff>, Stop>
     ensures tariffs { Tells result trees.old trees.new (λ all tariffs.
         AreTariffs (all 1) tariffs.items) }
-    ensures own { IfErr result (IsOwnStop S.Store trees.old.store trees.new.store) }
-    ensures same { OnOk result (OnlyLooks S.Store trees.old.store trees.new.store) }
-    ensures quiet { CommitsNothing S.Store trees.old.store trees.new.store }
+    ensures looks { Looks result trees.old trees.new }
 {
     let tree = Tree::Tariffs;
     let mut walk = Walk::over(alloc, tree);
@@ -153,9 +165,7 @@ pub(crate) fn read_tariffs<S: Store>(
         if !walk.next(trees)? {
             return Ok(tariffs);
         }
-        let stored = tariff_in(alloc, walk.row()).map_err(|error| met(tree, error))?;
-        let tariff = parsed(alloc, &stored)?;
-        tariffs.push(tariff)?;
+        tariffs.push(read_tariff(alloc, walk.row())?)?;
     }
     Err(endless())
 }
@@ -192,12 +202,27 @@ fn is_next(days: &[i32], close: &Close) -> bool
         && close.through <= LAST_DAY
 }
 
+/// The day of the close of a row, which is the next one after those of these days.
+fn next_close(days: &[i32], row: &Row) -> Result<i32, Stop>
+    requires { length row.now ≡ 2 }
+    ensures next { IfOk result (λ day. IsCloseRow days.now row.now day) }
+    ensures own { IfErr result (λ stop. CloseFits row.now
+        → ¬ IsNextRow days.now row.now) }
+{
+    let close = match close_in(row) {
+        Ok(close) => close,
+        Err(error) => return Err(met(Tree::Closes, error)),
+    };
+    if !is_next(days, &close) {
+        return Err(unsound(Place::Close(close.period), Wrong::CloseOrder));
+    }
+    Ok(close.through)
+}
+
 /// Reads the days of the closes.
 pub(crate) fn read_closes<S: Store>(alloc: Global, trees: &mut Trees<S>) -> Result<Vec<i32>, Stop>
     ensures closed { Tells result trees.old trees.new (λ all days. AreClosed (all 2) days.items) }
-    ensures own { IfErr result (IsOwnStop S.Store trees.old.store trees.new.store) }
-    ensures same { OnOk result (OnlyLooks S.Store trees.old.store trees.new.store) }
-    ensures quiet { CommitsNothing S.Store trees.old.store trees.new.store }
+    ensures looks { Looks result trees.old trees.new }
 {
     let tree = Tree::Closes;
     let mut walk = Walk::over(alloc, tree);
@@ -206,11 +231,7 @@ pub(crate) fn read_closes<S: Store>(alloc: Global, trees: &mut Trees<S>) -> Resu
         if !walk.next(trees)? {
             return Ok(days);
         }
-        let close = close_in(walk.row()).map_err(|error| met(tree, error))?;
-        if !is_next(&days, &close) {
-            return Err(unsound(Place::Close(close.period), Wrong::CloseOrder));
-        }
-        days.push(close.through)?;
+        days.push(next_close(&days, walk.row())?)?;
     }
     Err(endless())
 }

@@ -3,9 +3,10 @@
 ghost use Rattle.sqlite_trees.specs.View.{IsClean};
 ghost use Rattle.tree_tables.specs.Holds.{HasShapes};
 
-use crate::finding::{DetailKey, Tree};
+use crate::finding::{DetailKey, Place, Tree, Wrong};
 use crate::keys::{bytes_key, choice_name_key, detail_key, identity_key, line_key, mark_key};
 use crate::record_row::record_in;
+use crate::stop::{Stop, met, unsound};
 use sqlite_trees::error::StoreError;
 use sqlite_trees::store::Store;
 use sqlite_value::row::Row;
@@ -39,8 +40,7 @@ impl<S: Store> Trees<S> {
     ghost use Rattle.tree_tables.specs.Holds.{HasShapes};
     ghost use Rattle.tree_tables.specs.Stored.{stored_entry};
     ghost use Rattle.tree_tables.specs.Walks.{rows_past};
-    ghost use Rattle.book_audit.specs.Looks.{Tells, TellsIfSome};
-    ghost use Rattle.book_audit.specs.Own.{IsOwnCause};
+    ghost use Rattle.book_audit.specs.Looks.{Looks, Tells, TellsIfSome};
     ghost use Rattle.book_audit.specs.Records as spec;
     ghost use Rattle.book_audit.specs.Trees.{FindsTwo, tree_number};
 
@@ -85,37 +85,34 @@ impl<S: Store> Trees<S> {
     }
 
     /// Whether a row of a tree has the key; it is then found.
-    fn finds(&mut self, tree: Tree) -> Result<bool, StoreError>
+    fn finds(&mut self, tree: Tree) -> Result<bool, Stop>
         ensures found { Tells result self.old self.new (λ all hit.
             Finds self.old.key (all (tree_number tree)) self.new.found hit) }
-        ensures same { OnOk result (OnlyLooks S.Store self.old.store self.new.store) }
-        ensures cause { IfErr result (IsCausedByStore S.Store self.old.store self.new.store) }
-        ensures quiet { CommitsNothing S.Store self.old.store self.new.store }
+        ensures looks { Looks result self.old self.new }
     {
-        find_row(&mut self.store, tree.number(), &self.key, &mut self.found)
+        match find_row(&mut self.store, tree.number(), &self.key, &mut self.found) {
+            Ok(hit) => Ok(hit),
+            Err(error) => Err(met(tree, error)),
+        }
     }
 
     /// Whether a record is found by its identity.
-    pub(crate) fn has_identity(&mut self, stored: &StoredRecord) -> Result<bool, StoreError>
+    pub(crate) fn has_identity(&mut self, stored: &StoredRecord) -> Result<bool, Stop>
         ensures found { Tells result self.old self.new (λ all hit.
             Finds (Blob stored.now.identity.items ∷ Blob stored.now.name ∷ []) (all 6)
             self.new.found hit) }
-        ensures same { OnOk result (OnlyLooks S.Store self.old.store self.new.store) }
-        ensures cause { IfErr result (IsCausedByStore S.Store self.old.store self.new.store) }
-        ensures quiet { CommitsNothing S.Store self.old.store self.new.store }
+        ensures looks { Looks result self.old self.new }
     {
         identity_key(&mut self.key, stored)?;
         self.finds(Tree::Identities)
     }
 
     /// Whether a record is found by its mark and its identity.
-    pub(crate) fn has_mark(&mut self, stored: &StoredRecord) -> Result<bool, StoreError>
+    pub(crate) fn has_mark(&mut self, stored: &StoredRecord) -> Result<bool, Stop>
         ensures found { Tells result self.old self.new (λ all hit.
             Finds (Int (pos (flag stored.now.charged)) ∷ Blob stored.now.identity.items
             ∷ Blob stored.now.name ∷ []) (all 7) self.new.found hit) }
-        ensures same { OnOk result (OnlyLooks S.Store self.old.store self.new.store) }
-        ensures cause { IfErr result (IsCausedByStore S.Store self.old.store self.new.store) }
-        ensures quiet { CommitsNothing S.Store self.old.store self.new.store }
+        ensures looks { Looks result self.old self.new }
     {
         mark_key(&mut self.key, stored)?;
         self.finds(Tree::Marks)
@@ -126,24 +123,20 @@ impl<S: Store> Trees<S> {
         &mut self,
         name: &[u8; 32],
         number: u32,
-    ) -> Result<bool, StoreError>
+    ) -> Result<bool, Stop>
         ensures found { Tells result self.old self.new (λ all hit.
             Finds (Blob name.now ∷ Int (pos number) ∷ []) (all 9) self.new.found hit) }
-        ensures same { OnOk result (OnlyLooks S.Store self.old.store self.new.store) }
-        ensures cause { IfErr result (IsCausedByStore S.Store self.old.store self.new.store) }
-        ensures quiet { CommitsNothing S.Store self.old.store self.new.store }
+        ensures looks { Looks result self.old self.new }
     {
         choice_name_key(&mut self.key, name, number)?;
         self.finds(Tree::ChoiceNames)
     }
 
     /// Whether a row of details is at a place.
-    pub(crate) fn has_detail(&mut self, spot: &DetailKey) -> Result<bool, StoreError>
+    pub(crate) fn has_detail(&mut self, spot: &DetailKey) -> Result<bool, Stop>
         ensures found { Tells result self.old self.new (λ all hit.
             Finds (spec.detail_key spot.now) (all 10) self.new.found hit) }
-        ensures same { OnOk result (OnlyLooks S.Store self.old.store self.new.store) }
-        ensures cause { IfErr result (IsCausedByStore S.Store self.old.store self.new.store) }
-        ensures quiet { CommitsNothing S.Store self.old.store self.new.store }
+        ensures looks { Looks result self.old self.new }
     {
         detail_key(&mut self.key, spot)?;
         self.finds(Tree::Details)
@@ -151,16 +144,16 @@ impl<S: Store> Trees<S> {
 
     /// Whether two or more entries have an identity: whether the row after the first that has it
     /// has it too.
-    pub(crate) fn is_shared(&mut self, identity: &[u8]) -> Result<bool, StoreError>
+    pub(crate) fn is_shared(&mut self, identity: &[u8]) -> Result<bool, Stop>
         ensures found { Tells result self.old self.new (λ all shared.
             FindsTwo (Blob identity.now ∷ []) (all 6) self.new.found shared) }
-        ensures same { OnOk result (OnlyLooks S.Store self.old.store self.new.store) }
-        ensures cause { IfErr result (IsCausedByStore S.Store self.old.store self.new.store) }
-        ensures quiet { CommitsNothing S.Store self.old.store self.new.store }
+        ensures looks { Looks result self.old self.new }
     {
         bytes_key(&mut self.key, identity)?;
-        let there = first_after(&mut self.store, IDENTITIES, &self.key, &mut self.found)?;
-        Ok(there && has_key(&self.found, &self.key))
+        match first_after(&mut self.store, IDENTITIES, &self.key, &mut self.found) {
+            Ok(there) => Ok(there && has_key(&self.found, &self.key)),
+            Err(error) => Err(met(Tree::Identities, error)),
+        }
     }
 
     /// Whether a period's line for a record adds it, if there is a line.
@@ -168,20 +161,21 @@ impl<S: Store> Trees<S> {
         &mut self,
         period: u16,
         name: &[u8; 32],
-    ) -> Result<Option<bool>, StoreError>
+    ) -> Result<Option<bool>, Stop>
         ensures found { Tells result self.old self.new (λ all line.
             Finds (Int (pos period) ∷ Blob name.now ∷ []) (all 5) self.new.found (is_some line)) }
         ensures read { IfOk result (λ line. IfSome line (λ plus.
             column self.new.found 2 ≡ Int (pos (flag plus)))) }
-        ensures same { OnOk result (OnlyLooks S.Store self.old.store self.new.store) }
-        ensures own { IfErr result (IsOwnCause S.Store self.old.store self.new.store) }
-        ensures quiet { CommitsNothing S.Store self.old.store self.new.store }
+        ensures looks { Looks result self.old self.new }
     {
         line_key(&mut self.key, period, name)?;
         if !self.finds(Tree::Lines)? {
             return Ok(None);
         }
-        Ok(Some(mark_at(&self.found, 2)?))
+        match mark_at(&self.found, 2) {
+            Ok(plus) => Ok(Some(plus)),
+            Err(error) => Err(met(Tree::Lines, error)),
+        }
     }
 
     /// The identity of the record of a name, if there is one.
@@ -189,20 +183,21 @@ impl<S: Store> Trees<S> {
         &mut self,
         alloc: Global,
         name: &[u8; 32],
-    ) -> Result<Option<Vec<u8>>, StoreError>
+    ) -> Result<Option<Vec<u8>>, Stop>
         ensures found { Tells result self.old self.new (λ all identity.
             Finds (Blob name.now ∷ []) (all 3) self.new.found (is_some identity)) }
         ensures read { IfOk result (λ identity. IfSome identity (λ bytes.
             column self.new.found 1 ≡ Blob bytes.items)) }
-        ensures same { OnOk result (OnlyLooks S.Store self.old.store self.new.store) }
-        ensures own { IfErr result (IsOwnCause S.Store self.old.store self.new.store) }
-        ensures quiet { CommitsNothing S.Store self.old.store self.new.store }
+        ensures looks { Looks result self.old self.new }
     {
         bytes_key(&mut self.key, name)?;
         if !self.finds(Tree::Records)? {
             return Ok(None);
         }
-        Ok(Some(bytes_at(&self.found, 1, alloc)?))
+        match bytes_at(&self.found, 1, alloc) {
+            Ok(identity) => Ok(Some(identity)),
+            Err(error) => Err(met(Tree::Records, error)),
+        }
     }
 
     /// The record of a name, if there is one.
@@ -210,22 +205,23 @@ impl<S: Store> Trees<S> {
         &mut self,
         alloc: Global,
         name: &[u8; 32],
-    ) -> Result<Option<StoredRecord>, StoreError>
+    ) -> Result<Option<StoredRecord>, Stop>
         ensures read { TellsIfSome result self.old self.new (λ all stored.
             Finds (Blob name.now ∷ []) (all 3) (record_columns (stored_entry stored)) true) }
         ensures missing { Tells result self.old self.new (λ all held.
             held ≡ None → Finds (Blob name.now ∷ []) (all 3) self.new.found false) }
-        ensures same { OnOk result (OnlyLooks S.Store self.old.store self.new.store) }
-        ensures own { IfErr result (IsOwnCause S.Store self.old.store self.new.store) }
-        ensures quiet { CommitsNothing S.Store self.old.store self.new.store }
+        ensures looks { Looks result self.old self.new }
     {
         bytes_key(&mut self.key, name)?;
         if !self.finds(Tree::Records)? {
             return Ok(None);
         }
         if self.found.len() != Tree::Records.columns() {
-            return Err(StoreError::Corrupt);
+            return Err(unsound(Place::Tree(Tree::Records), Wrong::Unreadable));
         }
-        Ok(Some(record_in(alloc, &self.found)?))
+        match record_in(alloc, &self.found) {
+            Ok(record) => Ok(Some(record)),
+            Err(error) => Err(met(Tree::Records, error)),
+        }
     }
 }

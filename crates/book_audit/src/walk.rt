@@ -35,10 +35,9 @@ pub(crate) struct Walk {
 }
 
 impl Walk {
-    ghost use Rattle.std.specs.Prelude.{◌≡◌, [], IfOk, List, OnOk, length, true};
+    ghost use Rattle.std.specs.Prelude.{◌≡◌, [], IfOk, List, length, true};
     ghost use Rattle.sqlite_value.specs.Order.{Row as Columns};
-    ghost use Rattle.tree_rows.specs.Calls.{CommitsNothing, OnlyLooks};
-    ghost use Rattle.book_audit.specs.Looks.{IsFair, Tells};
+    ghost use Rattle.book_audit.specs.Looks.{LooksIf, Tells};
     ghost use Rattle.book_audit.specs.Walks.{GoesOn, HasWalked, IsWalkOf, width};
 
     /// Before the first row.
@@ -66,15 +65,14 @@ impl Walk {
         ensures next { Tells result trees.old trees.new (GoesOn self.old self.new) }
         ensures wide { IfOk result (λ there. there ≡ true
             → length self.new.row ≡ width self.old.tree) }
-        ensures own { IsFair result trees.old trees.new (IsWalkOf self.old) }
         ensures tree { self.new.tree ≡ self.old.tree }
-        ensures same { OnOk result (OnlyLooks S.Store trees.old.store trees.new.store) }
-        ensures quiet { CommitsNothing S.Store trees.old.store trees.new.store }
+        ensures looks { LooksIf result trees.old trees.new (IsWalkOf self.old) }
     {
         let tree = self.tree;
-        let there = trees
-            .row_past(tree, &self.key, &mut self.row)
-            .map_err(|error| met(tree, error))?;
+        let there = match trees.row_past(tree, &self.key, &mut self.row) {
+            Ok(there) => there,
+            Err(error) => return Err(met(tree, error)),
+        };
         if !there {
             return Ok(false);
         }

@@ -27,11 +27,12 @@ use Rattle.book_audit.specs.OfBook.{sha_names}
 use Rattle.book_audit.specs.Own.{AreOwn}
 use Rattle.book_audit.specs.OwnChoices.{AreItsRulings}
 use Rattle.book_audit.specs.Rules.{is_by, rule_of}
-use Rattle.book_audit.specs.Rulings.{AreClosed, HasOneRow, IsNextClose}
+use Rattle.book_audit.specs.Rulings.{AreClosed, HasOneRow, IsNextClose, IsTariffIn}
 use Rattle.book_audit.specs.declared.identity_rule.IdentityRule.{IdentityRule}
 use Rattle.book_audit.specs.declared.identity_rule.IdentityRule.TheVariants.{First, SecondSince}
 use Rattle.book_audit.specs.declared.rulings.BookRow.{BookRow as Read}
 use Rattle.book_audit.proofs.Rows.Columns.{same_values}
+use Rattle.book_audit.proofs.Rows.Rulings.{is_texted, texted}
 
 -- ---- the row of the book
 
@@ -117,6 +118,28 @@ own_tariffs trees own =
 -- such a row can be read,
 pub tariff_fits : (row : Row) → IsTariffRow row → TariffFits row
 tariff_fits row its = subst TariffFits (sym its.is) (row_fits its.tariff its.texted)
+
+-- what such a row says
+pub tariff_terms : (row : Row) → IsTariffRow row → (terms : Terms) × IsTariffIn row terms
+tariff_terms row its =
+    let texted = its.texted in (
+      its.tariff.terms,
+      record {
+        text = texted.text;
+        is = its.is ∙ ap (λ (text : Option (List ℕ)). tariff_columns (its.tariff.terms.effective, text))
+            texted.is;
+        characters = texted.characters;
+        said = texted.said;
+        day = texted.day;
+      },
+    )
+
+pub tariff_row : (row : Row) (terms : Terms) → IsTariffIn row terms → IsTariffRow row
+tariff_row row terms its = record {
+  tariff = texted its.text terms;
+  is = its.is;
+  texted = is_texted its.text terms its.characters its.said its.day;
+}
 
 -- and its text says the terms of a tariff with the row's day
 pub tariff_said : (row : Row) (day : ℤ) (text : List ℕ) → IsTariffRow row

@@ -1,9 +1,8 @@
 -- What stops an audit of books that calls made, over a store that is only looked at meanwhile; and
 -- where something is known of their trees.
 use Rattle.std.proofs.Common.{◌≡◌, ◌≢◌, ◌<◌, ◌≤◌, ◌∙◌, ◌++◌, ℕ, List, false, true≢false, Result, Ok}
-use Rattle.std.proofs.Common.{Err, IfErr, is_ok, ap, arith, length, length-append, refl, subst, sym}
-use Rattle.std.proofs.Common.{IsErrAnd, IfOk, MatchResult, ◌⊎◌, inl, inr}
-use Rattle.std.proofs.lemmas.Result.{IfErr-weaker}
+use Rattle.std.proofs.Common.{Err, IfErr, ap, arith, length, length-append, refl, subst, sym}
+use Rattle.std.proofs.Common.{IsErrAnd, ◌⊎◌, inl, inr}
 use Rattle.sqlite_disk.specs.Disk.{MoreFaults}
 use Rattle.sqlite_trees.specs.Tree.{Trees}
 use Rattle.sqlite_trees.specs.View.{HasCause, IsClean, View}
@@ -15,10 +14,11 @@ use Rattle.sqlite_value.specs.Order.{Row}
 use Rattle.book_model.specs.declared.fault.LedgerFault.{LedgerFault}
 use Rattle.book_model.specs.declared.fault.LedgerFault.TheVariants.{Memory, Store}
 use Rattle.table_model.specs.TablesOf.{tables_of}
-use Rattle.tree_rows.specs.Calls.{CommitsNothing, IsCausedByStore, OnlyLooks}
-use Rattle.tree_rows.proofs.Calls.{clean_before}
+use Rattle.tree_rows.specs.Calls.{CommitsNothing, OnlyLooks}
+use Rattle.tree_rows.proofs.Calls.{clean_before, quiet_both}
 use Rattle.tree_rows.proofs.Failing.{more_since}
 use Rattle.book_audit.specs.OfBook.{sha_names}
+use Rattle.book_audit.specs.Looks.{Ends, IsLook, IsStop}
 use Rattle.book_audit.specs.Own.{AreOwn, EndsForOwn, IsOwnCause, IsOwnStop, IsWhole, too_many_rows}
 use Rattle.book_audit.specs.Trees.{tree_number}
 use Rattle.book_audit.specs.Walks.{HasWalked, IsWalkOf}
@@ -27,57 +27,14 @@ use Rattle.book_audit.specs.declared.stop.Stop.{Stop}
 use Rattle.book_audit.specs.declared.stop.Stop.TheVariants.{Fault}
 use Rattle.book_audit.specs.declared.walk.Walk.{Walk}
 use Rattle.book_audit.proofs.Held.Walks.{CanBeWalked, held_walk}
-use Rattle.book_audit.proofs.Walks.Steps.{trees_stay}
+use Rattle.book_audit.proofs.Walks.Steps.{looks_on, trees_stay}
 
 -- the trees of books that calls made can be walked over
 pub own_walk : (trees : Trees) → AreOwn trees → (tree : Tree)
     → CanBeWalked tree (trees (tree_number tree))
 own_walk trees own = held_walk trees (tables_of sha_names own.book) own.holds
 
--- what is said of an error that came
-pub err_said : {A E : Type 0} {Said : E → Type 0} (found : Result A E) → is_ok found ≡ false
-    → IfErr found Said → (error : E) × Said error
-err_said (Ok value) refused said = absurd (true≢false refused)
-err_said (Err error) refused said = (error, said)
-
--- what is said of a value that came, where errors were told otherwise
-pub said_ok : {A E D : Type 0} (Stands : E → D → Type 0) (Said : A → Type 0) (found : Result A E)
-    (made : Result A D) (value : A)
-    → MatchResult found (λ one. made ≡ Ok one) (λ error. IsErrAnd made (Stands error))
-    → made ≡ Ok value → IfOk found Said → Said value
-said_ok Stands Said (Ok one) made value cases was said =
-    let same : one ≡ value = (let e = sym cases ∙ was in cc) in
-    subst Said same said
-said_ok {A = A} {D = D} Stands Said (Err error) made value cases was said =
-    absurd (subst (λ (other : Result A D). IsErrAnd other (Stands error)) was cases)
-
--- what is said of an error if a row fits, where it does
-pub err_fits : {A E Fits : Type 0} (Said : E → Type 0) (found : Result A E)
-    → IfErr found (λ error. Fits → Said error) → Fits → IfErr found Said
-err_fits Said (Err error) said fits = said fits
-err_fits Said (Ok value) said fits = tt
-
--- what holds of all errors
-pub each_err : {A E : Type 0} (Said : E → Type 0) (result : Result A E) → ((error : E) → Said error)
-    → IfErr result Said
-each_err Said (Err error) all = all error
-each_err Said (Ok value) all = tt
-
--- what stands for a lack of memory that a row could not be read for
-pub met_memory : {A : Type 0} {Stands : StoreError → Stop → Type 0} (found : Result A StoreError)
-    (said : Result A Stop) (stop : Stop)
-    → ((error : StoreError) (other : Stop) → Stands error other → error ≡ OutOfMemory
-    → other ≡ Fault Memory)
-    → MatchResult found (λ value. said ≡ Ok value) (λ error. IsErrAnd said (Stands error))
-    → said ≡ Err stop
-    → is_ok found ≡ false → IfErr found (λ error. error ≡ OutOfMemory) → stop ≡ Fault Memory
-met_memory (Ok value) said stop met cases was refused memory = absurd (true≢false refused)
-met_memory (Err error) (Err other) stop met cases was refused memory =
-    let same : other ≡ stop = (let e = was in cc) in
-    sym same ∙ met error other cases memory
-met_memory (Err error) (Ok value) stop met cases was refused memory = absurd cases
-
--- and of one that is passed on
+-- what holds of an error holds of one that is passed on
 pub err_passed : {A E : Type 0} (Said : E → Type 0) (error : E) (result : Result A E)
     → IsErrAnd result (λ other. other ≡ error) → Said error → IfErr result Said
 err_passed Said error (Err other) is said = subst Said (sym is) said
@@ -109,40 +66,7 @@ walk_ends view stop whole is tree done more read many =
     omega (arith, few, all, both, many)
 
 module _ {S : Type 0} (ghosts : Ghosts S) where
-  -- so it is with a look-up that failed, for causes that are known in books that calls made,
-  pub met_own : {A : Type 0} {Stands : StoreError → Stop → Type 0} (old new : S)
-      (found : Result A StoreError) (said : Result A Stop) (stop : Stop)
-      → ((error : StoreError) (other : Stop) → Stands error other → error ≡ OutOfMemory
-      → other ≡ Fault Memory)
-      → ((error : StoreError) (other : Stop) → Stands error other → error ≡ Broken
-      → other ≡ Fault Store)
-      → MatchResult found (λ value. said ≡ Ok value) (λ error. IsErrAnd said (Stands error))
-      → said ≡ Err stop → IfErr found (IsOwnCause ghosts old new) → IsOwnStop ghosts old new stop
-  met_own old new (Ok value) said stop memory broken cases was cause =
-      absurd (let e = sym cases ∙ was in cc)
-  met_own old new (Err error) (Ok value) stop memory broken cases was cause = absurd cases
-  met_own old new (Err error) (Err next) stop memory broken cases was cause = λ whole other clean own.
-      let same : next ≡ stop = (let e = was in cc) in
-      by_cause (ghosts.view old) (ghosts.faults old) (ghosts.faults new) error stop
-      (λ is. sym same ∙ memory error next cases is) (λ is. sym same ∙ broken error next cases is)
-      (cause own clean) whole other
-
-  -- or in any
-  pub met_cause : {A : Type 0} {Stands : StoreError → Stop → Type 0} (old new : S)
-      (found : Result A StoreError) (said : Result A Stop) (stop : Stop)
-      → ((error : StoreError) (other : Stop) → Stands error other → error ≡ OutOfMemory
-      → other ≡ Fault Memory)
-      → ((error : StoreError) (other : Stop) → Stands error other → error ≡ Broken
-      → other ≡ Fault Store)
-      → MatchResult found (λ value. said ≡ Ok value) (λ error. IsErrAnd said (Stands error))
-      → said ≡ Err stop → IfErr found (IsCausedByStore ghosts old new)
-      → IsOwnStop ghosts old new stop
-  met_cause old new found said stop memory broken cases was cause =
-      met_own old new found said stop memory broken cases was
-      (IfErr-weaker found (IsCausedByStore ghosts old new) (IsOwnCause ghosts old new)
-      (λ error caused own. caused) cause)
-
-  -- an error that is passed on stops so as well
+  -- an error that is passed on stops so
   pub stop_passed : {A : Type 0} (old new : S) (stop : Stop) (result : Result A Stop)
       → IsErrAnd result (λ other. other ≡ stop) → IsOwnStop ghosts old new stop
       → IfErr result (IsOwnStop ghosts old new)
@@ -210,18 +134,97 @@ module _ {S : Type 0} (ghosts : Ghosts S) where
             (sym (trees_stay ghosts start mid same back)) read.1),
       )))
 
-module _ {S A When : Type 0} (ghosts : Ghosts S) (old new : S) where
-  -- an error that is passed on stops so as well
-  pub passed_with : (stop : Stop) (result : Result A Stop) → IsErrAnd result (λ other. other ≡ stop)
-      → (When → IsOwnStop ghosts old new stop)
-      → IfErr result (λ stop. When → IsOwnStop ghosts old new stop)
-  passed_with stop result is own =
-      err_passed (λ (stop : Stop). When → IsOwnStop ghosts old new stop) stop result is own
+module _ {S : Type 0} (ghosts : Ghosts S) where
+  -- without a call nothing is changed
+  pub nothing : (store : S) → IsLook ghosts store store
+  nothing store = record {
+    same = λ clean. refl;
+    quiet = record {
+      shield = λ shielded. shielded;
+      clean = omega arith;
+      counts = omega arith;
+      closes = λ clean is_open. inl is_open;
+      outcomes = λ trees left. left;
+    };
+  }
 
-  -- where such trees can't come, all stops are so
-  pub never_with : (result : Result A Stop)
-      → (When → IsClean (ghosts.view new) → AreOwn (ghosts.view old).trees → ⊥)
-      → IfErr result (λ stop. When → IsOwnStop ghosts old new stop)
-  never_with result never =
-      each_err (λ (stop : Stop). When → IsOwnStop ghosts old new stop) result
-      (λ stop known whole other clean own. absurd (never known clean own))
+  -- one look after the other is a look,
+  pub looked_on : (start mid new : S) → IsLook ghosts start mid → IsLook ghosts mid new
+      → IsLook ghosts start new
+  looked_on start mid new before call = record {
+    same = looks_on ghosts start mid new before.same call.same;
+    quiet = quiet_both ghosts before.quiet call.quiet;
+  }
+
+  -- and what stops after looks stops so from the start, where it knows enough of the trees,
+  pub stopped_on : {Later When : Type 0} (start mid new : S) (stop : Stop) → IsLook ghosts start mid
+      → IsStop ghosts mid new Later stop
+      → ((IsClean (ghosts.view start) → When) → IsClean (ghosts.view mid) → Later)
+      → IsStop ghosts start new When stop
+  stopped_on start mid new stop before call knows = record {
+    quiet = quiet_both ghosts before.quiet call.quiet;
+    own = λ known. stop_on ghosts start mid new stop before.same before.quiet call.quiet
+        (call.own (knows known));
+  }
+
+  -- such as a walk that goes on
+  pub walk_stopped : {When : Type 0} (start mid new : S) (tree : Tree) (walk : Walk) (stop : Stop)
+      → walk.tree ≡ tree → IsLook ghosts start mid
+      → IsStop ghosts mid new (IsWalkOf walk (ghosts.view mid).trees) stop
+      → (IsClean (ghosts.view mid) → (done : List Row)
+      × HasWalked tree walk.key ((ghosts.view start).trees (tree_number tree)) done)
+      → IsStop ghosts start new When stop
+  walk_stopped start mid new tree walk stop is_tree before call walked = record {
+    quiet = quiet_both ghosts before.quiet call.quiet;
+    own = λ known. stop_walked ghosts start mid new tree walk stop is_tree before.same before.quiet
+        call.quiet call.own walked;
+  }
+
+  -- what stands for an error of the store has its cause
+  pub caused : {When : Type 0} (old new : S) (error : StoreError) (stop : Stop)
+      → (error ≡ OutOfMemory → stop ≡ Fault Memory) → (error ≡ Broken → stop ≡ Fault Store)
+      → IsOwnCause ghosts old new error → CommitsNothing ghosts old new
+      → IsStop ghosts old new When stop
+  caused old new error stop memory broken cause quiet = record {
+    quiet = quiet;
+    own = λ known whole other clean own.
+        by_cause (ghosts.view old) (ghosts.faults old) (ghosts.faults new) error stop memory broken
+        (cause own clean) whole other;
+  }
+
+  -- want of memory is no finding
+  pub for_memory : {When : Type 0} (old new : S) (stop : Stop) → stop ≡ Fault Memory
+      → CommitsNothing ghosts old new → IsStop ghosts old new When stop
+  for_memory old new stop memory quiet = record {
+    quiet = quiet;
+    own = λ known whole other clean own. absurd (other memory);
+  }
+
+  -- where own trees can't come, all stops are so
+  pub never : {When : Type 0} (old new : S) (stop : Stop) → CommitsNothing ghosts old new
+      → ((IsClean (ghosts.view old) → When) → IsClean (ghosts.view new) → AreOwn (ghosts.view old).trees
+      → ⊥)
+      → IsStop ghosts old new When stop
+  never old new stop quiet no = record {
+    quiet = quiet;
+    own = λ known whole other clean own. absurd (no known clean own);
+  }
+
+  -- a stop that is passed on
+  pub passed : {A When : Type 0} (old new : S) (stop : Stop) (result : Result A Stop)
+      → IsErrAnd result (λ other. other ≡ stop) → IsStop ghosts old new When stop
+      → Ends ghosts old new When result
+  passed {When = When} old new stop (Err other) is call =
+      subst (IsStop ghosts old new When) (sym is) call
+  passed old new stop (Ok value) is call = absurd is
+
+  -- and want of memory
+  pub no_memory : {A When : Type 0} (old new : S) (result : Result A Stop)
+      → IsErrAnd result (λ stop. stop ≡ Fault Memory) → CommitsNothing ghosts old new
+      → Ends ghosts old new When result
+  no_memory old new (Err stop) is quiet = for_memory old new stop is quiet
+  no_memory old new (Ok value) is quiet = absurd is
+
+  pub no_memory_yet : {A When : Type 0} (store : S) (result : Result A Stop)
+      → IsErrAnd result (λ stop. stop ≡ Fault Memory) → Ends ghosts store store When result
+  no_memory_yet store result is = no_memory store store result is (nothing store).quiet

@@ -1,7 +1,7 @@
 use Rattle.std.proofs.Common.{◌≡◌, List}
 use Rattle.sqlite_trees.specs.View.{IsClean}
-use Rattle.tree_rows.specs.Calls.{CommitsNothing, OnlyLooks}
 use Rattle.book_audit.specs.ChoiceRows.{AreMade, Made, made_rows, said}
+use Rattle.book_audit.specs.Looks.{IsLook}
 use Rattle.book_audit.specs.Walks.{HasWalked}
 use Rattle.book_audit.specs.declared.finding.Tree.TheVariants.{Choices}
 use Rattle.book_audit.proofs.Own.Choices.{since_from}
@@ -11,11 +11,10 @@ use Rattle.book_audit.proofs.choices.read_choices.Given as goal
 abbrev pub invariant-choices : goal.invariant-choices
 invariant-choices g l = record {
   tree : l.walk.tree ≡ Choices;
-  same : OnlyLooks g.S.Store l.fn.trees.store l.trees.store;
-  quiet : CommitsNothing g.S.Store l.fn.trees.store l.trees.store;
-  counted : l.chosen.count ≡ l.count;
+  looks : IsLook g.S.Store l.fn.trees.store l.trees.store;
   read : IsClean (g.S.Store.view l.trees.store) → (made : List Made)
       × HasWalked Choices l.walk.key ((g.S.Store.view l.fn.trees.store).trees 8) (made_rows made)
       × AreMade (g.S.Store.view l.fn.trees.store).trees l.rule l.open_period l.chosen made
-      × (l.chosen.since ≡ since_from 1 (said made));
+      × (l.chosen.since ≡ since_from 1 (said made))
+      × (l.chosen.count ≡ l.count);
 }

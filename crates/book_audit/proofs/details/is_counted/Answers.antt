@@ -4,6 +4,7 @@ use Rattle.sqlite_trees.specs.View.{IsClean}
 use Rattle.tree_tables.specs.Stored.{stored_entry}
 use Rattle.book_audit.specs.Records.{HasPast}
 use Rattle.book_audit.proofs.Own.Records.{own_counts}
+use Rattle.book_audit.proofs.Own.Stops.{passed}
 use Rattle.book_audit.proofs.details.is_counted.Goals as goal
 
 -- a record of own books that is counted is counted by its lines
@@ -18,3 +19,14 @@ returns-in-Some-clause-other g c clean none are is =
     search rules in
     true≢false (sym is.counted ∙ sym (own_counts trees rulings entry
     (record { own = is.own; ruled = are.ruled; held = are.held }) counted (told clean)) ∙ none)
+
+pub returns-in_err-counted-clause-looks : goal.returns-in_err-counted-clause-looks
+returns-in_err-counted-clause-looks g c =
+    passed g.S.Store c.args.trees.now.store c.past_in.new.trees.store c.in_err-counted.field-0.0 _
+    c.from_residual.ensures.1 c.in_err-counted.ensures.looks
+
+pub returns-in-Some-clause-looks : goal.returns-in-Some-clause-looks
+returns-in-Some-clause-looks g c = c.in_ok-counted.ensures.looks
+
+pub returns-in-None-clause-looks : goal.returns-in-None-clause-looks
+returns-in-None-clause-looks g c = c.in_ok-counted.ensures.looks

@@ -1,13 +1,10 @@
-use Rattle.std.proofs.Common.{IfSome, Option, ◌≡◌, ◌∙◌, ◌∷◌, [], List, ℕ, ap, false, true, rules}
-use Rattle.std.proofs.Common.{subst, sym, is_ok}
+use Rattle.std.proofs.Common.{◌≡◌, ◌∙◌, ◌∷◌, [], List, ℕ, false, true, rules, subst, sym}
 use Rattle.sqlite_trees.specs.Tree.{Trees}
 use Rattle.sqlite_trees.specs.View.{IsClean}
-use Rattle.sqlite_trees.specs.declared.error.StoreError.{StoreError}
-use Rattle.sqlite_trees.specs.declared.error.StoreError.TheVariants.{OutOfMemory}
 use Rattle.sqlite_value.specs.Order.{Row}
 use Rattle.sqlite_value.specs.declared.value.Value.TheVariants.{Blob}
 use Rattle.smf_frames.specs.Framed.{record_with}
-use Rattle.book_model.specs.Words.{IsUsage, detail_with}
+use Rattle.book_model.specs.Words.{detail_with}
 use Rattle.table_model.specs.Tables.{RecordRow}
 use Rattle.tree_rows.specs.Calls.{OnlyLooks}
 use Rattle.tree_rows.specs.Rows.{Finds}
@@ -15,14 +12,11 @@ use Rattle.tree_rows.proofs.Maps.{not_none}
 use Rattle.tree_tables.specs.Columns.{record_columns}
 use Rattle.tree_tables.specs.Stored.{stored_entry}
 use Rattle.tree_tables.specs.UsageData.{IsUsageData}
-use Rattle.tree_tables.specs.declared.stored_record.StoredRecord.{StoredRecord}
 use Rattle.book_audit.specs.Details.{IsCounted}
-use Rattle.book_audit.specs.Own.{IsOwnStop}
 use Rattle.book_audit.specs.OwnRecords.{AreOwnOf, IsCountedIn}
 use Rattle.book_audit.proofs.Held.Looks.{record_looked}
 use Rattle.book_audit.proofs.Own.Details.{own_row, own_shown_at, own_usage}
-use Rattle.book_audit.proofs.Own.Stops.{each_err, err_fits, met_memory, met_own, said_ok, stop_on}
-use Rattle.book_audit.proofs.Own.Stops.{stop_passed}
+use Rattle.book_audit.proofs.Own.Stops.{looked_on, passed, stopped_on}
 use Rattle.book_audit.proofs.Own.Tables.{own_tables}
 use Rattle.book_audit.proofs.Walks.Steps.{look_back, trees_stay}
 use Rattle.book_audit.proofs.details.wrong_with.Goals as goal
@@ -36,14 +30,11 @@ returns-clause-counted g c clean none =
     let shown = c.args.shown.now in
     let stored = c.in-Some.record in
     let entry : List ℕ × RecordRow = stored_entry stored in
-    let Read : Option StoredRecord → Type 0 = λ (found : Option StoredRecord).
-    IfSome found (λ (it : StoredRecord). IsClean (g.S.Store.view mid)
-    → Finds (Blob shown.name ∷ []) (trees 3) (record_columns (stored_entry it)) true) in
-    let held = subst Read c.in-Some.is (said_ok _ Read c.record_of.result c.map_err.result
-    c.in_ok-record.record c.map_err.ensures.cases c.in_ok-record.was c.record_of.ensures.read) in
-    let first : OnlyLooks g.S.Store start mid = search rules in
+    let held : IsClean (g.S.Store.view mid) → Finds (Blob shown.name ∷ []) (trees 3)
+    (record_columns (stored_entry stored)) true = search rules in
+    let first : OnlyLooks g.S.Store start mid = c.in_ok-record.ensures.looks.same in
     let back : IsClean (g.S.Store.view mid) =
-    look_back g.S.Store mid c.is_counted.new.trees.store c.in_ok-is_counted.ensures.same clean in
+    look_back g.S.Store mid c.is_counted.new.trees.store c.in_ok-is_counted.ensures.looks.same clean in
     let is : shown ≡ detail_with shown.name (record_with stored.data_bytes.items) stored.priced =
     search rules in
     let counted : c.in_ok-is_counted.field-0 ≡ true = search rules in
@@ -70,53 +61,30 @@ returns-in_default-clause-other g c clean own ruled is =
     ∙ record_looked trees (own_tables trees own) own.holds shown.name row false (finds clean))
 
 -- or the look-up fails for a cause,
-pub returns-in_err-record-clause-own : goal.returns-in_err-record-clause-own
-returns-in_err-record-clause-own g c =
-    let start = c.args.trees.now.store in
-    let new = c.record_of.new.self.store in
-    let stop = c.in_err-record.field-0.0 in
-    stop_passed g.S.Store start new stop c.from_residual.result c.from_residual.ensures.1
-    (met_own g.S.Store start new c.record_of.result c.map_err.result stop
-    (λ error stop stands. search rules) (λ error stop stands. search rules)
-    c.map_err.ensures.cases c.in_err-record.was c.record_of.ensures.own)
+pub returns-in_err-record-clause-looks : goal.returns-in_err-record-clause-looks
+returns-in_err-record-clause-looks g c =
+    passed g.S.Store c.args.trees.now.store c.record_of.new.self.store c.in_err-record.field-0.0 _
+    c.from_residual.ensures.1 c.in_err-record.ensures.looks
+
+pub returns-in_default-clause-looks : goal.returns-in_default-clause-looks
+returns-in_default-clause-looks g c = c.in_ok-record.ensures.looks
 
 -- whose data are those of usage,
-pub returns-in_err-map_err-clause-own : goal.returns-in_err-map_err-clause-own
-returns-in_err-map_err-clause-own g c =
+pub returns-in_err-put_usage-clause-looks : goal.returns-in_err-put_usage-clause-looks
+returns-in_err-put_usage-clause-looks g c =
     let start = c.args.trees.now.store in
     let new = c.record_of.new.self.store in
     let trees : Trees = (g.S.Store.view start).trees in
     let stored = c.in-Some.record in
-    let stop = c.in_err-map_err.field-0.0 in
+    let stop = c.in_err-put_usage.field-0.0 in
     let held : IsClean (g.S.Store.view new) → Finds (Blob c.args.shown.now.name ∷ []) (trees 3)
     (record_columns (stored_entry stored)) true = search rules in
-    let refused : is_ok c.put_data.result ≡ false =
-    sym c.map_err-2.ensures.variant ∙ ap is_ok c.in_err-map_err.was in
-    stop_passed g.S.Store start new stop c.from_residual-in_err-map_err.result
-    c.from_residual-in_err-map_err.ensures.1 (λ whole other clean own.
-    let memory = err_fits (λ (error : StoreError). error ≡ OutOfMemory) c.put_data.result
-    c.put_data.ensures.taken
-    (subst IsUsageData (sym c.deref.ensures.value)
-    (own_usage trees own c.args.shown.now.name (stored_entry stored) (held clean))) in
-    absurd (other (met_memory c.put_data.result c.map_err-2.result stop
-    (λ error stop stands. search rules) c.map_err-2.ensures.cases c.in_err-map_err.was refused memory)))
-
-pub returns-in_err-usage-clause-own : goal.returns-in_err-usage-clause-own
-returns-in_err-usage-clause-own g c =
-    let start = c.args.trees.now.store in
-    let new = c.record_of.new.self.store in
-    let trees : Trees = (g.S.Store.view start).trees in
-    let stored = c.in-Some.record in
-    let held : IsClean (g.S.Store.view new) → Finds (Blob c.args.shown.now.name ∷ []) (trees 3)
-    (record_columns (stored_entry stored)) true = search rules in
-    let refused : is_ok c.usage_in.result ≡ false =
-    sym c.map_err-3.ensures.variant ∙ ap is_ok c.in_err-usage.was in
-    each_err (IsOwnStop g.S.Store start new) _ (λ stop whole other clean own.
-    let bytes : c.deref-2.result.now ≡ record_with stored.data_bytes.items = search rules in
-    let usage : IsUsage c.deref-2.result.now = subst IsUsage (sym bytes)
-    (own_usage trees own c.args.shown.now.name (stored_entry stored) (held clean)).usage in
-    let there = c.usage_in.ensures.usage.1 usage in
-    absurd (search rules))
+    passed g.S.Store start new stop _ c.from_residual-in_err-put_usage.ensures.1 (record {
+      quiet = c.in_ok-record.ensures.looks.quiet;
+      own = λ known whole other clean own. absurd (other (c.in_err-put_usage.ensures.own
+          (subst IsUsageData (sym c.deref.ensures.value)
+          (own_usage trees own c.args.shown.now.name (stored_entry stored) (held clean)))));
+    })
 
 -- as its row says,
 pub returns-then-not-shows-clause-other : goal.returns-then-not-shows-clause-other
@@ -126,29 +94,37 @@ returns-then-not-shows-clause-other g c =
     let trees : Trees = (g.S.Store.view start).trees in
     let shown = c.args.shown.now in
     let stored = c.in-Some.record in
-    let Read : Option StoredRecord → Type 0 = λ (found : Option StoredRecord).
-    IfSome found (λ (it : StoredRecord). IsClean (g.S.Store.view new)
-    → Finds (Blob shown.name ∷ []) (trees 3) (record_columns (stored_entry it)) true) in
-    let held = subst Read c.in-Some.is (said_ok _ Read c.record_of.result c.map_err.result
-    c.in_ok-record.record c.map_err.ensures.cases c.in_ok-record.was c.record_of.ensures.read) in
+    let held : IsClean (g.S.Store.view new) → Finds (Blob shown.name ∷ []) (trees 3)
+    (record_columns (stored_entry stored)) true = search rules in
     let other : shown ≡ detail_with shown.name (record_with stored.data_bytes.items) stored.priced → ⊥ =
     search rules in
     λ clean own ruled is.
     other (own_row trees own shown (stored_entry stored) (is (own_tables trees own) own.holds)
     (held clean)).shows
 
+pub returns-then-not-shows-clause-looks : goal.returns-then-not-shows-clause-looks
+returns-then-not-shows-clause-looks g c = c.in_ok-record.ensures.looks
+
 -- and is counted
-pub returns-in_err-is_counted-clause-own : goal.returns-in_err-is_counted-clause-own
-returns-in_err-is_counted-clause-own g c =
+pub returns-in_err-is_counted-clause-looks : goal.returns-in_err-is_counted-clause-looks
+returns-in_err-is_counted-clause-looks g c =
     let start = c.args.trees.now.store in
     let mid = c.record_of.new.self.store in
     let new = c.is_counted.new.trees.store in
     let stop = c.in_err-is_counted.field-0.0 in
-    let first : OnlyLooks g.S.Store start mid = search rules in
-    stop_passed g.S.Store start new stop c.from_residual-in_err-is_counted.result
-    c.from_residual-in_err-is_counted.ensures.1
-    (stop_on g.S.Store start mid new stop first c.record_of.ensures.quiet c.is_counted.ensures.quiet
-    c.in_err-is_counted.ensures.own)
+    passed g.S.Store start new stop _ c.from_residual-in_err-is_counted.ensures.1
+    (stopped_on g.S.Store start mid new stop c.in_ok-record.ensures.looks
+    c.in_err-is_counted.ensures.looks (λ known clean. tt))
+
+pub returns-then-not-branch-clause-looks : goal.returns-then-not-branch-clause-looks
+returns-then-not-branch-clause-looks g c =
+    looked_on g.S.Store c.args.trees.now.store c.record_of.new.self.store c.is_counted.new.trees.store
+    c.in_ok-record.ensures.looks c.in_ok-is_counted.ensures.looks
+
+pub returns-clause-looks : goal.returns-clause-looks
+returns-clause-looks g c =
+    looked_on g.S.Store c.args.trees.now.store c.record_of.new.self.store c.is_counted.new.trees.store
+    c.in_ok-record.ensures.looks c.in_ok-is_counted.ensures.looks
 
 pub returns-then-not-branch-clause-other : goal.returns-then-not-branch-clause-other
 returns-then-not-branch-clause-other g c =
@@ -159,13 +135,10 @@ returns-then-not-branch-clause-other g c =
     let shown = c.args.shown.now in
     let stored = c.in-Some.record in
     let entry : List ℕ × RecordRow = stored_entry stored in
-    let Read : Option StoredRecord → Type 0 = λ (found : Option StoredRecord).
-    IfSome found (λ (it : StoredRecord). IsClean (g.S.Store.view mid)
-    → Finds (Blob shown.name ∷ []) (trees 3) (record_columns (stored_entry it)) true) in
-    let held = subst Read c.in-Some.is (said_ok _ Read c.record_of.result c.map_err.result
-    c.in_ok-record.record c.map_err.ensures.cases c.in_ok-record.was c.record_of.ensures.read) in
-    let first : OnlyLooks g.S.Store start mid = search rules in
-    let second : OnlyLooks g.S.Store mid new = c.in_ok-is_counted.ensures.same in
+    let held : IsClean (g.S.Store.view mid) → Finds (Blob shown.name ∷ []) (trees 3)
+    (record_columns (stored_entry stored)) true = search rules in
+    let first : OnlyLooks g.S.Store start mid = c.in_ok-record.ensures.looks.same in
+    let second : OnlyLooks g.S.Store mid new = c.in_ok-is_counted.ensures.looks.same in
     let none : c.in_ok-is_counted.field-0 ≡ false = search rules in
     λ clean own ruled is.
     let back : IsClean (g.S.Store.view mid) = look_back g.S.Store mid new second clean in

@@ -6,12 +6,11 @@ use Rattle.sqlite_value.specs.declared.value.Value.TheVariants.{Blob}
 use Rattle.sqlite_value.specs.Order.{Row}
 use Rattle.consistent_tables.specs.DueRows.{period_from}
 use Rattle.tree_rows.specs.Rows.{Finds}
-use Rattle.tree_rows.specs.Calls.{OnlyLooks}
 use Rattle.tree_tables.specs.Columns.{record_columns}
 use Rattle.tree_tables.specs.Stored.{stored_entry}
 use Rattle.book_audit.specs.Lines.{line_entry}
 use Rattle.book_audit.proofs.Own.Records.{own_line_found, own_line_late}
-use Rattle.book_audit.proofs.Own.Stops.{met_own, passed_with}
+use Rattle.book_audit.proofs.Own.Stops.{never, nothing, passed, stopped_on}
 use Rattle.book_audit.proofs.Walks.Steps.{look_back}
 use Rattle.book_audit.proofs.lines.check_line.Goals.{then-line-own-via-else-line-own+then-open_period-line}
 use Rattle.book_audit.proofs.lines.check_line.Goals.{then-line-own-via-then-line-own}
@@ -34,40 +33,43 @@ returns-clause-late g c clean =
     }
 
 -- a look-up fails for a cause
-pub returns-in_err-record-clause-own : goal.returns-in_err-record-clause-own
-returns-in_err-record-clause-own g c =
+pub returns-in_err-record-clause-looks : goal.returns-in_err-record-clause-looks
+returns-in_err-record-clause-looks g c =
     let start = c.args.trees.now.store in
     let new = c.record_of.new.self.store in
     let stop = c.in_err-record.field-0.0 in
-    passed_with g.S.Store start new stop _ c.from_residual.ensures.1 (λ known.
-    met_own g.S.Store start new c.record_of.result c.map_err.result stop
-    (λ error stop stands. search rules) (λ error stop stands. search rules)
-    c.map_err.ensures.cases c.in_err-record.was c.record_of.ensures.own)
+    passed g.S.Store start new stop _ c.from_residual.ensures.1
+    (stopped_on g.S.Store start start new stop (nothing g.S.Store start) c.in_err-record.ensures.looks
+    (λ known clean. tt))
+
+pub returns-clause-looks : goal.returns-clause-looks
+returns-clause-looks g c = c.in_ok-record.ensures.looks
 
 -- a line of own books names a record that is held,
-pub returns-in_default-clause-own : goal.returns-in_default-clause-own
-returns-in_default-clause-own g c premise whole other clean own =
+pub returns-in_default-clause-looks : goal.returns-in_default-clause-looks
+returns-in_default-clause-looks g c =
     let start = c.args.trees.now.store in
     let new = c.record_of.new.self.store in
+    never g.S.Store start new _ c.in_ok-record.ensures.looks.quiet (λ premise clean own.
     let trees : Trees = (g.S.Store.view start).trees in
     let row : Row = c.record_of.new.self.found in
-    let looks : OnlyLooks g.S.Store start new = search rules in
-    let known = premise (look_back g.S.Store start new looks clean) in
+    let known = premise (look_back g.S.Store start new c.in_ok-record.ensures.looks.same clean) in
     let finds : IsClean (g.S.Store.view new) → Finds (Blob c.args.line.now.name ∷ []) (trees 3) row false =
     search rules in
-    absurd (own_line_found trees own c.args.rulings.now known.0 (line_entry c.args.line.now) known.1 row
+    own_line_found trees own c.args.rulings.now known.0 (line_entry c.args.line.now) known.1 row
     (finds clean))
 
 -- and is in a period after that of its day
-pub returns-then-line-own-clause-own : goal.returns-then-line-own-clause-own
-returns-then-line-own-clause-own g c premise whole other clean own =
+pub returns-then-line-own-clause-looks : goal.returns-then-line-own-clause-looks
+returns-then-line-own-clause-looks g c =
     let start = c.args.trees.now.store in
     let new = c.record_of.new.self.store in
+    never g.S.Store start new _ c.in_ok-record.ensures.looks.quiet
+    (λ premise clean own.
     let trees : Trees = (g.S.Store.view start).trees in
     let stored = c.in-Some.record in
     let closes : List ℤ = c.args.rulings.now.closes.items in
-    let looks : OnlyLooks g.S.Store start new = search rules in
-    let known = premise (look_back g.S.Store start new looks clean) in
+    let known = premise (look_back g.S.Store start new c.in_ok-record.ensures.looks.same clean) in
     let held : IsClean (g.S.Store.view new) → Finds (Blob c.args.line.now.name ∷ []) (trees 3)
     (record_columns (stored_entry stored)) true = search rules in
     let period : c.period_of-own.result ≡ period_from 1 closes stored.priced.day = search rules in
@@ -79,4 +81,4 @@ returns-then-line-own-clause-own g c premise whole other clean own =
       | then-line-own-via-then-line-own w ↦ absurd (omega (arith, period, after, w.if-line-own.true))
       | then-line-own-via-else-line-own+then-open_period-line w ↦
           absurd (omega (arith, begun, w.open_period.ensures.number, w.if-open_period-line.true))
-    ]
+    ])

@@ -1,33 +1,30 @@
 use Rattle.std.proofs.Common.{◌≡◌, ◌∙◌, ◌++◌, ◌∷◌, [], ℕ, ℤ, Bool, List, length, map, ap, arith}
-use Rattle.std.proofs.Common.{length-append, refl, rules, subst, sym, is_ok}
+use Rattle.std.proofs.Common.{length-append, refl, rules, subst, sym}
 use Rattle.std.proofs.lemmas.List.{length-map, map-append}
 use Rattle.sqlite_trees.specs.Tree.{Trees}
 use Rattle.sqlite_trees.specs.View.{IsClean}
 use Rattle.sqlite_trees.proofs.ListLemmas.{all-append}
 use Rattle.sqlite_value.specs.Order.{Row, column}
 use Rattle.table_model.specs.Tables.{Tables}
-use Rattle.tree_rows.specs.Calls.{OnlyLooks}
-use Rattle.tree_rows.proofs.Calls.{quiet_both}
 use Rattle.tree_tables.specs.Columns.{line_columns}
 use Rattle.tree_tables.specs.Fits.{HasPeriod, LineFits}
 use Rattle.tree_tables.specs.Holds.{Holds}
 use Rattle.book_audit.specs.Lines.{IsLateLine, line_entry}
+use Rattle.book_audit.specs.Looks.{IsLook}
 use Rattle.book_audit.specs.Walks.{HasWalked}
 use Rattle.book_audit.specs.declared.finding.Tree.TheVariants.{Lines}
 use Rattle.book_audit.specs.SoundTrees.{AreRuled}
-use Rattle.book_audit.proofs.Walks.Steps.{its_row, look_back, looks_on, no_look, read_on}
-use Rattle.book_audit.proofs.Walks.Steps.{trees_stay}
+use Rattle.book_audit.proofs.Walks.Steps.{its_row, look_back, read_on, trees_stay}
 use Rattle.book_audit.proofs.Own.Records.{IsLineOf, line_had, line_row_fits, lines_of}
-use Rattle.book_audit.proofs.Own.Stops.{err_said, never_with, passed_with, stop_on, stop_walked}
-use Rattle.book_audit.proofs.Own.Stops.{walk_ends}
+use Rattle.book_audit.proofs.Own.Stops.{looked_on, never, nothing, passed, stopped_on, walk_ends}
+use Rattle.book_audit.proofs.Own.Stops.{walk_stopped}
 use Rattle.book_audit.proofs.Own.Tables.{own_tables}
 use Rattle.book_audit.proofs.lines.check_lines.Goals as goal
 
 pub lines-init : goal.lines-init
 lines-init g c = record {
   tree = c.over-walk.ensures.tree;
-  same = no_look g.S.Store c.args.trees.now.store;
-  quiet = search rules;
+  looks = nothing g.S.Store c.args.trees.now.store;
   read = λ clean. (
     [],
     c.over-walk.ensures.start ((g.S.Store.view c.args.trees.now.store).trees 5),
@@ -44,31 +41,29 @@ lines-preserved g c =
     let new = c.check_line.new.trees.store in
     let so_far = c.lines.invariant in
     let row : Row = c.next.new.self.row in
-    let entry : (ℕ × List ℕ) × Bool = line_entry c.in_ok-line.line in
+    let entry : (ℕ × List ℕ) × Bool = line_entry c.in-Ok.line in
     let is : row ≡ line_columns entry = search rules in
-    let looks : OnlyLooks g.S.Store mid next = c.in_ok-next.ensures.same in
-    let checks : OnlyLooks g.S.Store next new = c.in_ok-check_line.ensures.same in
-    let both : OnlyLooks g.S.Store start next = looks_on g.S.Store start mid next so_far.same looks in
+    let call : IsLook g.S.Store mid next = c.in_ok-next.ensures.looks in
+    let check : IsLook g.S.Store next new = c.in_ok-check_line.ensures.looks in
+    let both : IsLook g.S.Store start next = looked_on g.S.Store start mid next so_far.looks call in
     let closes : List ℤ = c.args.rulings.now.closes.items in
     record {
       tree = c.next.ensures.tree ∙ so_far.tree;
-      same = looks_on g.S.Store start next new both checks;
-      quiet = quiet_both g.S.Store (quiet_both g.S.Store so_far.quiet c.next.ensures.quiet)
-          c.check_line.ensures.quiet;
+      looks = looked_on g.S.Store start next new both check;
       read = λ clean.
-          let after : IsClean (g.S.Store.view next) = look_back g.S.Store next new checks clean in
-          let read = so_far.read (look_back g.S.Store mid next looks after) in
+          let after : IsClean (g.S.Store.view next) = look_back g.S.Store next new check.same clean in
+          let read = so_far.read (look_back g.S.Store mid next call.same after) in
           let long = length-append read.0 (entry ∷ []) in
           let so_many : c.lines.count ≡ length read.0 = read.2 in
           let late : IsLateLine ((g.S.Store.view start).trees 3) closes entry =
           subst (λ (all : Trees). IsLateLine (all 3) closes entry)
-          (trees_stay g.S.Store start next both after) (c.in_ok-check_line.ensures.late clean) in (
+          (trees_stay g.S.Store start next both.same after) (c.in_ok-check_line.ensures.late clean) in (
             read.0 ++ entry ∷ [],
             subst (HasWalked Lines c.next.new.self.key ((g.S.Store.view start).trees 5))
                 (ap (λ (r : Row). map line_columns read.0 ++ r ∷ []) is
                 ∙ sym (map-append line_columns read.0 (entry ∷ [])))
                 (read_on g.S.Store start mid next Lines c.lines.walk c.next.new.self
-                c.in_ok-next.field-0 so_far.tree so_far.same looks c.in_ok-next.ensures.next
+                c.in_ok-next.field-0 so_far.tree so_far.looks.same call.same c.in_ok-next.ensures.next
                 (λ back. let read = so_far.read back in (map line_columns read.0, read.1)) after
                 c.if-not-branch.false),
             omega (arith, so_many, long),
@@ -78,69 +73,78 @@ lines-preserved g c =
     }
 
 -- the rows of own books are all read,
-pub returns-in_err-next-clause-own : goal.returns-in_err-next-clause-own
-returns-in_err-next-clause-own g c =
+pub returns-in_err-next-clause-looks : goal.returns-in_err-next-clause-looks
+returns-in_err-next-clause-looks g c =
     let start = c.args.trees.now.store in
     let next = c.next.new.trees.store in
     let so_far = c.lines.invariant in
     let stop = c.in_err-next.field-0.0 in
-    passed_with g.S.Store start next stop _ c.from_residual.ensures.1 (λ known.
-    stop_walked g.S.Store start c.lines.trees.store next Lines c.lines.walk stop so_far.tree so_far.same
-    so_far.quiet c.next.ensures.quiet c.in_err-next.ensures.own
+    passed g.S.Store start next stop _ c.from_residual.ensures.1
+    (walk_stopped g.S.Store start c.lines.trees.store next Lines c.lines.walk stop so_far.tree
+    so_far.looks c.in_err-next.ensures.looks
     (λ back. let read = so_far.read back in (map line_columns read.0, read.1)))
 
+pub returns-then-not-branch-clause-looks : goal.returns-then-not-branch-clause-looks
+returns-then-not-branch-clause-looks g c =
+    looked_on g.S.Store c.args.trees.now.store c.lines.trees.store c.next.new.trees.store
+    c.lines.invariant.looks c.in_ok-next.ensures.looks
+
 -- are those of lines,
-pub returns-in_err-line-clause-own : goal.returns-in_err-line-clause-own
-returns-in_err-line-clause-own g c =
+pub returns-in-Err-clause-looks : goal.returns-in-Err-clause-looks
+returns-in-Err-clause-looks g c =
     let start = c.args.trees.now.store in
     let mid = c.lines.trees.store in
     let next = c.next.new.trees.store in
     let so_far = c.lines.invariant in
     let row : Row = c.next.new.self.row in
-    never_with g.S.Store start next _ (λ known clean own.
+    let call : IsLook g.S.Store mid next = c.in_ok-next.ensures.looks in
+    never g.S.Store start next _ (looked_on g.S.Store start mid next so_far.looks call).quiet
+    (λ known clean own.
     let trees : Trees = (g.S.Store.view start).trees in
     let tables : Tables = own_tables trees own in
     let is = its_row g.S.Store start mid next Lines c.lines.walk c.next.new.self
-    c.in_ok-next.field-0 so_far.tree so_far.same c.in_ok-next.ensures.same c.in_ok-next.ensures.next
+    c.in_ok-next.field-0 so_far.tree so_far.looks.same call.same c.in_ok-next.ensures.next
     (λ back. let read = so_far.read back in (map line_columns read.0, read.1)) clean
     c.if-not-branch.false (IsLineOf tables) (lines_of trees tables own.holds) in
     let fits = line_row_fits trees own row is in
-    let refused = err_said c.line_in.result
-    (sym c.map_err.ensures.variant ∙ ap is_ok c.in_err-line.was) c.line_in.ensures.taken in
     let shown = sym c.row.ensures in
-    refused.1 (subst (λ (r : Row). HasPeriod (column r 0)) shown fits.0) (subst LineFits shown fits.1))
+    c.in-Err.ensures.taken (subst (λ (r : Row). HasPeriod (column r 0)) shown fits.0)
+    (subst LineFits shown fits.1))
 
 -- and each of these is right
-pub returns-in_err-check_line-clause-own : goal.returns-in_err-check_line-clause-own
-returns-in_err-check_line-clause-own g c =
+pub returns-in_err-check_line-clause-looks : goal.returns-in_err-check_line-clause-looks
+returns-in_err-check_line-clause-looks g c =
     let start = c.args.trees.now.store in
     let mid = c.lines.trees.store in
     let next = c.next.new.trees.store in
+    let new = c.check_line.new.trees.store in
     let so_far = c.lines.invariant in
-    let entry : (ℕ × List ℕ) × Bool = line_entry c.in_ok-line.line in
+    let entry : (ℕ × List ℕ) × Bool = line_entry c.in-Ok.line in
     let is : c.next.new.self.row ≡ line_columns entry = search rules in
-    let looks : OnlyLooks g.S.Store mid next = c.in_ok-next.ensures.same in
-    let both : OnlyLooks g.S.Store start next = looks_on g.S.Store start mid next so_far.same looks in
+    let call : IsLook g.S.Store mid next = c.in_ok-next.ensures.looks in
+    let both : IsLook g.S.Store start next = looked_on g.S.Store start mid next so_far.looks call in
     let stop = c.in_err-check_line.field-0.0 in
-    passed_with g.S.Store start _ stop _ c.from_residual-in_err-check_line.ensures.1 (λ known.
-    stop_on g.S.Store start next c.check_line.new.trees.store stop both
-    (quiet_both g.S.Store so_far.quiet c.next.ensures.quiet) c.check_line.ensures.quiet
-    (c.in_err-check_line.ensures.own (λ back.
-    let stay = trees_stay g.S.Store start next both back in (
+    passed g.S.Store start new stop _ c.from_residual-in_err-check_line.ensures.1
+    (stopped_on g.S.Store start next new stop both c.in_err-check_line.ensures.looks (λ known back.
+    let stay = trees_stay g.S.Store start next both.same back in (
       subst (λ (all : Trees). AreRuled all c.args.rulings.now) (sym stay)
-          (known (look_back g.S.Store start next both back)),
+          (known (look_back g.S.Store start next both.same back)),
       λ tables holds. line_had tables entry (subst (IsLineOf tables) is
           (its_row g.S.Store start mid next Lines c.lines.walk c.next.new.self
-          c.in_ok-next.field-0 so_far.tree so_far.same looks c.in_ok-next.ensures.next
+          c.in_ok-next.field-0 so_far.tree so_far.looks.same call.same c.in_ok-next.ensures.next
           (λ back. let read = so_far.read back in (map line_columns read.0, read.1)) back
           c.if-not-branch.false (IsLineOf tables) (lines_of (g.S.Store.view start).trees tables
           (subst (λ (all : Trees). Holds all tables) stay holds)))),
-    ))))
+    )))
 
 -- and no tree is so long that it is not walked over
-pub returns-clause-own : goal.returns-clause-own
-returns-clause-own g c known whole other clean own =
-    let read = c.lines.invariant.read clean in
-    let long = length-map read.0 line_columns in
-    absurd (walk_ends (g.S.Store.view c.args.trees.now.store) c.endless.result whole c.endless.ensures
-    5 (map line_columns read.0) _ read.1.left (omega (arith, long, read.2, c.lines-test.false)))
+pub returns-clause-looks : goal.returns-clause-looks
+returns-clause-looks g c = record {
+  quiet = c.lines.invariant.looks.quiet;
+  own = λ known whole other clean own.
+      let read = c.lines.invariant.read clean in
+      let long = length-map read.0 line_columns in
+      absurd (walk_ends (g.S.Store.view c.args.trees.now.store) c.endless.result whole
+      c.endless.ensures 5 (map line_columns read.0) _ read.1.left
+      (omega (arith, long, read.2, c.lines-test.false)));
+}

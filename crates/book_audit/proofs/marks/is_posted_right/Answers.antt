@@ -11,19 +11,17 @@ use Rattle.book_audit.specs.Days.{is_closed}
 use Rattle.book_audit.specs.Marks.{is_posted_so}
 use Rattle.book_audit.specs.Records.{IsLine}
 use Rattle.book_audit.proofs.Own.Records.{own_posted}
-use Rattle.book_audit.proofs.Own.Stops.{met_own, stop_passed}
+use Rattle.book_audit.proofs.Own.Stops.{passed}
 use Rattle.book_audit.proofs.marks.is_posted_right.Goals as goal
 
 -- a look-up fails for a cause
-pub returns-in_err-line-clause-own : goal.returns-in_err-line-clause-own
-returns-in_err-line-clause-own g c =
-    let start = c.args.trees.now.store in
-    let new = c.line_of.new.self.store in
-    let stop = c.in_err-line.field-0.0 in
-    stop_passed g.S.Store start new stop c.from_residual.result c.from_residual.ensures.1
-    (met_own g.S.Store start new c.line_of.result c.map_err.result stop
-    (λ error stop stands. search rules) (λ error stop stands. search rules)
-    c.map_err.ensures.cases c.in_err-line.was c.line_of.ensures.own)
+pub returns-in_err-line-clause-looks : goal.returns-in_err-line-clause-looks
+returns-in_err-line-clause-looks g c =
+    passed g.S.Store c.args.trees.now.store c.line_of.new.self.store c.in_err-line.field-0.0 _
+    c.from_residual.ensures.1 c.in_err-line.ensures.looks
+
+pub returns-clause-looks : goal.returns-clause-looks
+returns-clause-looks g c = c.in_ok-line.ensures.looks
 
 -- a record of own books is posted as it is to be
 pub returns-clause-other : goal.returns-clause-other

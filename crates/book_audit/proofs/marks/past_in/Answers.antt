@@ -37,3 +37,6 @@ returns-clause-other g c =
     (sym (ap₂ (λ a b. a - b) number period))
     (own_turns trees rulings (stored_entry stored) are)))
     c.past_of.ensures.other
+
+pub returns-clause-looks : goal.returns-clause-looks
+returns-clause-looks g c = c.past_of.ensures.looks

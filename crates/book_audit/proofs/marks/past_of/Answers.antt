@@ -10,15 +10,14 @@ use Rattle.sqlite_value.specs.declared.value.Value.TheVariants.{Blob, Int}
 use Rattle.book_model.specs.Words.{open_by}
 use Rattle.consistent_tables.specs.Consistent.{charged_back, line_at, ruled}
 use Rattle.consistent_tables.proofs.ChargedSets.{in_turn}
-use Rattle.tree_rows.specs.Calls.{OnlyLooks}
 use Rattle.tree_rows.specs.Rows.{Finds}
-use Rattle.tree_rows.proofs.Calls.{quiet_both}
 use Rattle.tree_tables.specs.Columns.{flag}
+use Rattle.book_audit.specs.Looks.{IsLook}
 use Rattle.book_audit.specs.Records.{GoesBack, IsLine, Turns}
 use Rattle.book_audit.specs.Records.Turns.{Stays, Turned}
 use Rattle.book_audit.proofs.Held.Looks.{line_looked, went_back}
-use Rattle.book_audit.proofs.Own.Stops.{met_own, stop_on, stop_passed}
-use Rattle.book_audit.proofs.Walks.Steps.{look_back, looks_on, trees_stay}
+use Rattle.book_audit.proofs.Own.Stops.{looked_on, nothing, passed, stopped_on}
+use Rattle.book_audit.proofs.Walks.Steps.{look_back, trees_stay}
 use Rattle.book_audit.proofs.marks.past_of.Goals.{in-Some+else-plus-now, in_default}
 use Rattle.book_audit.proofs.marks.past_of.Goals as goal
 
@@ -52,6 +51,12 @@ goes_on lines name last k charged now before line so_far is turns =
     let step : suc k ≡ k + 1 = omega arith in
     subst (λ n. GoesBack lines name last n charged before) step (now, line, so_far, is, turns)
 
+pub loop-back-init : goal.loop-back-init
+loop-back-init g c = record {
+  looks = nothing g.S.Store c.args.trees.now.store;
+  back = λ clean. refl;
+}
+
 pub loop-back-preserved : goal.loop-back-preserved
 loop-back-preserved g c =
     let start = c.args.trees.now.store in
@@ -61,7 +66,7 @@ loop-back-preserved g c =
     let line = c.in_ok-line.line in
     let found : Row = c.line_of.new.self.found in
     let period : ℕ = c.args.last - c.loop-back.back in
-    let looks : OnlyLooks g.S.Store mid new = search rules in
+    let call : IsLook g.S.Store mid new = c.in_ok-line.ensures.looks in
     let finds : IsClean (g.S.Store.view new) → Finds (Int (pos period) ∷ Blob name ∷ [])
     ((g.S.Store.view mid).trees 5) found (is_some line) = search rules in
     let read : IfSome line (λ plus. column found 2 ≡ Int (pos (flag plus))) = search rules in
@@ -69,8 +74,8 @@ loop-back-preserved g c =
     λ clean. record {
       row = found;
       finds = subst (λ (all : Trees). Finds (Int (pos period) ∷ Blob name ∷ []) (all 5) found
-          (is_some line)) (trees_stay g.S.Store start mid c.loop-back.invariant.same
-          (look_back g.S.Store mid new looks clean)) (finds clean);
+          (is_some line)) (trees_stay g.S.Store start mid c.loop-back.invariant.looks.same
+          (look_back g.S.Store mid new call.same clean)) (finds clean);
       says = read;
     } in
     let so_far = c.loop-back.invariant in
@@ -82,26 +87,30 @@ loop-back-preserved g c =
           turns_none line c.loop-back.now c.match-line.now w.in_default.is w.now-is
     ] in
     record {
-      same = looks_on g.S.Store start mid new so_far.same looks;
-      quiet = quiet_both g.S.Store so_far.quiet c.line_of.ensures.quiet;
+      looks = looked_on g.S.Store start mid new so_far.looks call;
       back = λ clean. goes_on ((g.S.Store.view start).trees 5) name c.args.last c.loop-back.back
           c.args.charged c.loop-back.now c.match-line.now line
-          (so_far.back (look_back g.S.Store mid new looks clean)) (is clean) turns;
+          (so_far.back (look_back g.S.Store mid new call.same clean)) (is clean) turns;
     }
 
 -- a look-up fails for a cause
-pub returns-in_err-line-clause-own : goal.returns-in_err-line-clause-own
-returns-in_err-line-clause-own g c =
+pub returns-in_err-line-clause-looks : goal.returns-in_err-line-clause-looks
+returns-in_err-line-clause-looks g c =
     let start = c.args.trees.now.store in
     let mid = c.loop-back.trees.store in
     let new = c.line_of.new.self.store in
-    let so_far = c.loop-back.invariant in
     let stop = c.in_err-line.field-0.0 in
-    stop_passed g.S.Store start new stop c.from_residual.result c.from_residual.ensures.1
-    (stop_on g.S.Store start mid new stop so_far.same so_far.quiet c.line_of.ensures.quiet
-    (met_own g.S.Store mid new c.line_of.result c.map_err.result stop
-    (λ error stop stands. search rules) (λ error stop stands. search rules)
-    c.map_err.ensures.cases c.in_err-line.was c.line_of.ensures.own))
+    passed g.S.Store start new stop _ c.from_residual.ensures.1
+    (stopped_on g.S.Store start mid new stop c.loop-back.invariant.looks c.in_err-line.ensures.looks
+    (λ known clean. tt))
+
+pub returns-then-plus-now-clause-looks : goal.returns-then-plus-now-clause-looks
+returns-then-plus-now-clause-looks g c =
+    looked_on g.S.Store c.args.trees.now.store c.loop-back.trees.store c.line_of.new.self.store
+    c.loop-back.invariant.looks c.in_ok-line.ensures.looks
+
+pub returns-clause-looks : goal.returns-clause-looks
+returns-clause-looks g c = c.loop-back.invariant.looks
 
 -- a line that is in turn says what is charged
 pub returns-then-plus-now-clause-other : goal.returns-then-plus-now-clause-other
@@ -115,16 +124,16 @@ returns-then-plus-now-clause-other g c clean none tables holds last turns =
     let back = c.loop-back.back in
     let period : ℕ = c.args.last - back in
     let so_far = c.loop-back.invariant in
-    let looks : OnlyLooks g.S.Store mid new = search rules in
+    let call : IsLook g.S.Store mid new = c.in_ok-line.ensures.looks in
     let finds : IsClean (g.S.Store.view new) → Finds (Int (pos period) ∷ Blob name ∷ [])
     ((g.S.Store.view mid).trees 5) found (is_some line) = search rules in
     let read : IfSome line (λ plus. column found 2 ≡ Int (pos (flag plus))) = search rules in
-    let before : IsClean (g.S.Store.view mid) = look_back g.S.Store mid new looks clean in
+    let before : IsClean (g.S.Store.view mid) = look_back g.S.Store mid new call.same clean in
     let trees : Trees = (g.S.Store.view start).trees in
     let is : IsLine (trees 5) period name line = record {
       row = found;
       finds = subst (λ (all : Trees). Finds (Int (pos period) ∷ Blob name ∷ []) (all 5) found
-          (is_some line)) (trees_stay g.S.Store start mid so_far.same before) (finds clean);
+          (is_some line)) (trees_stay g.S.Store start mid so_far.looks.same before) (finds clean);
       says = read;
     } in
     let inside : back < c.args.last - c.args.own = search rules in

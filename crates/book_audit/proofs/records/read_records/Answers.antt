@@ -1,40 +1,40 @@
 use Rattle.std.proofs.Common.{◌≡◌, ◌≤◌, ◌+◌, ◌∙◌, ◌++◌, ◌∷◌, [], ℕ, List, Some, false, map}
-use Rattle.std.proofs.Common.{ap, arith, rules, subst, sym, is_ok}
+use Rattle.std.proofs.Common.{ap, arith, rules, subst, sym}
 use Rattle.std.specs.FinMap.{get}
 use Rattle.sqlite_trees.specs.Tree.{Trees}
 use Rattle.sqlite_trees.specs.View.{IsClean}
-use Rattle.sqlite_trees.specs.declared.error.StoreError.{StoreError}
-use Rattle.sqlite_trees.specs.declared.error.StoreError.TheVariants.{OutOfMemory}
 use Rattle.sqlite_trees.proofs.ListLemmas.{all_weaker}
 use Rattle.sqlite_value.specs.Order.{Row}
 use Rattle.book_model.specs.Words.{IsPriced}
 use Rattle.table_model.specs.Tables.{RecordRow, Tables}
-use Rattle.tree_rows.specs.Calls.{OnlyLooks}
 use Rattle.tree_rows.proofs.Calls.{quiet_both}
 use Rattle.tree_tables.specs.Columns.{record_columns}
 use Rattle.tree_tables.specs.Stored.{stored_entry}
 use Rattle.tree_tables.specs.Holds.{Holds}
 use Rattle.tree_tables.specs.Fits.{RecordFits}
+use Rattle.book_audit.specs.Looks.{IsLook}
 use Rattle.book_audit.specs.Records.{IsRight, IsTold, Told, counted_prices}
 use Rattle.book_audit.specs.Walks.{HasWalked}
 use Rattle.book_audit.specs.declared.finding.Tree.TheVariants.{Records}
 use Rattle.book_audit.specs.SoundTrees.{AreRuled}
 use Rattle.book_audit.proofs.Rows.Records.{counts_none, counts_on, entries_pushed, none_yet}
 use Rattle.book_audit.proofs.Rows.Records.{row_pushed}
-use Rattle.book_audit.proofs.Walks.Steps.{its_place, its_row, look_back, looks_on, no_look}
-use Rattle.book_audit.proofs.Walks.Steps.{read_on, trees_stay}
+use Rattle.book_audit.proofs.Walks.Steps.{its_place, its_row, look_back, read_on, trees_stay}
 use Rattle.book_audit.proofs.Own.Records.{IsRecordOf, record_had, record_row_fits, records_of}
-use Rattle.book_audit.proofs.Own.Stops.{err_fits, met_memory, own_still, passed_with, stop_on}
-use Rattle.book_audit.proofs.Own.Stops.{stop_walked}
+use Rattle.book_audit.proofs.Own.Stops.{looked_on, never, nothing, own_still, passed, stop_on}
+use Rattle.book_audit.proofs.Own.Stops.{walk_stopped}
 use Rattle.book_audit.proofs.Own.Sums.{own_cost, own_counted, own_few, so_many}
 use Rattle.book_audit.proofs.Own.Tables.{own_fit, own_tables}
 use Rattle.book_audit.proofs.records.read_records.Goals as goal
 
+-- the rows of records
+abbrev rows_of : List Told → List Row
+rows_of entries = map (λ (one : Told). record_columns one.0) entries
+
 pub records-init : goal.records-init
 records-init g c = record {
   tree = c.over-walk.ensures.tree;
-  same = no_look g.S.Store c.args.trees.now.store;
-  quiet = search rules;
+  looks = nothing g.S.Store c.args.trees.now.store;
   read = λ clean. (
     [],
     c.over-walk.ensures.start ((g.S.Store.view c.args.trees.now.store).trees 3),
@@ -51,167 +51,153 @@ records-preserved g c =
     let new = c.check_record.new.trees.store in
     let so_far = c.records.invariant in
     let row : Row = c.next.new.self.row in
-    let told : Told = (stored_entry c.in_ok-record.record, c.in_ok-check_record.field-0) in
+    let told : Told = (stored_entry c.in-Ok.record, c.in_ok-check_record.field-0) in
     let is : row ≡ record_columns told.0 = search rules in
-    let looks : OnlyLooks g.S.Store mid next = c.in_ok-next.ensures.same in
-    let checks : OnlyLooks g.S.Store next new = c.in_ok-check_record.ensures.same in
-    let both : OnlyLooks g.S.Store start next = looks_on g.S.Store start mid next so_far.same looks in
+    let call : IsLook g.S.Store mid next = c.in_ok-next.ensures.looks in
+    let check : IsLook g.S.Store next new = c.in_ok-check_record.ensures.looks in
+    let both : IsLook g.S.Store start next = looked_on g.S.Store start mid next so_far.looks call in
     record {
       tree = c.next.ensures.tree ∙ so_far.tree;
-      same = looks_on g.S.Store start next new both checks;
-      quiet = quiet_both g.S.Store (quiet_both g.S.Store so_far.quiet c.next.ensures.quiet)
-          c.check_record.ensures.quiet;
+      looks = looked_on g.S.Store start next new both check;
       read = λ clean.
-          let after : IsClean (g.S.Store.view next) = look_back g.S.Store next new checks clean in
-          let read = so_far.read (look_back g.S.Store mid next looks after) in
-          let stay = trees_stay g.S.Store start next both after in
+          let after : IsClean (g.S.Store.view next) = look_back g.S.Store next new check.same clean in
+          let read = so_far.read (look_back g.S.Store mid next call.same after) in
+          let stay = trees_stay g.S.Store start next both.same after in
+          let checked = c.in_ok-check_record.ensures.right clean in
           let right : IsRight (g.S.Store.view start).trees c.args.rulings.now told.0 =
-          subst (λ (all : Trees). IsRight all c.args.rulings.now told.0) stay
-          (c.in_ok-check_record.ensures.right clean) in
+          subst (λ (all : Trees). IsRight all c.args.rulings.now told.0) stay checked.right in
           let past : IsTold (g.S.Store.view start).trees c.args.rulings.now.closes.items told =
-          subst (λ (all : Trees). IsTold all c.args.rulings.now.closes.items told) stay
-          (c.in_ok-check_record.ensures.past clean) in (
+          subst (λ (all : Trees). IsTold all c.args.rulings.now.closes.items told) stay checked.past in (
             read.0 ++ told ∷ [],
             subst (HasWalked Records c.next.new.self.key ((g.S.Store.view start).trees 3))
                 (row_pushed read.0 told row is)
                 (read_on g.S.Store start mid next Records c.records.walk c.next.new.self
-                c.in_ok-next.field-0 so_far.tree so_far.same looks c.in_ok-next.ensures.next
-                (λ back. let read = so_far.read back in
-                (map (λ (one : Told). record_columns one.0) read.0, read.1)) after
+                c.in_ok-next.field-0 so_far.tree so_far.looks.same call.same c.in_ok-next.ensures.next
+                (λ back. let read = so_far.read back in (rows_of read.0, read.1)) after
                 c.if-not-branch.false),
             entries_pushed (g.S.Store.view start).trees c.args.rulings.now c.records.records
                 c.records.amount (c.records.amount + told.0.1.priced.amount) read.0 told read.2 right
                 past (search rules) (search rules),
             counts_on c.args.places.now.rows.entries c.records.places.rows.entries
-                c.check_record.new.places.rows.entries read.0 told read.3
-                c.in_ok-check_record.ensures.placed,
+                c.check_record.new.places.rows.entries read.0 told read.3 checked.placed,
           );
     }
 
-pub returns-in_err-check_record-clause-quiet : goal.returns-in_err-check_record-clause-quiet
-returns-in_err-check_record-clause-quiet g c =
-    quiet_both g.S.Store (quiet_both g.S.Store c.records.invariant.quiet c.next.ensures.quiet)
-    c.check_record.ensures.quiet
-
-pub returns-then-record-gt-MAX_COST-clause-quiet :
-    goal.returns-then-record-gt-MAX_COST-clause-quiet
-returns-then-record-gt-MAX_COST-clause-quiet g c =
-    quiet_both g.S.Store
-    (quiet_both g.S.Store c.records.invariant.quiet c.next.ensures.quiet)
-    c.check_record.ensures.quiet
-
 -- the rows of own books are all read
-pub returns-in_err-next-clause-own : goal.returns-in_err-next-clause-own
-returns-in_err-next-clause-own g c =
+pub returns-in_err-next-clause-looks : goal.returns-in_err-next-clause-looks
+returns-in_err-next-clause-looks g c =
     let start = c.args.trees.now.store in
-    let mid = c.records.trees.store in
     let next = c.next.new.trees.store in
     let so_far = c.records.invariant in
     let stop = c.in_err-next.field-0.0 in
-    passed_with g.S.Store start next stop _ c.from_residual.ensures.1 (λ known.
-    stop_walked g.S.Store start mid next Records c.records.walk stop so_far.tree so_far.same
-    so_far.quiet c.next.ensures.quiet c.in_err-next.ensures.own
-    (λ back. let read = so_far.read back in (map (λ (one : Told). record_columns one.0) read.0, read.1)))
+    passed g.S.Store start next stop _ c.from_residual.ensures.1
+    (walk_stopped g.S.Store start c.records.trees.store next Records c.records.walk stop so_far.tree
+    so_far.looks c.in_err-next.ensures.looks
+    (λ back. let read = so_far.read back in (rows_of read.0, read.1)))
+
+pub returns-then-not-branch-clause-looks : goal.returns-then-not-branch-clause-looks
+returns-then-not-branch-clause-looks g c =
+    looked_on g.S.Store c.args.trees.now.store c.records.trees.store c.next.new.trees.store
+    c.records.invariant.looks c.in_ok-next.ensures.looks
 
 -- and each of these is right
-pub returns-in_err-check_record-clause-own : goal.returns-in_err-check_record-clause-own
-returns-in_err-check_record-clause-own g c =
+pub returns-in_err-check_record-clause-looks : goal.returns-in_err-check_record-clause-looks
+returns-in_err-check_record-clause-looks g c =
     let start = c.args.trees.now.store in
     let mid = c.records.trees.store in
     let next = c.next.new.trees.store in
     let new = c.check_record.new.trees.store in
     let so_far = c.records.invariant in
     let row : Row = c.next.new.self.row in
-    let entry : List ℕ × RecordRow = stored_entry c.in_ok-record.record in
+    let entry : List ℕ × RecordRow = stored_entry c.in-Ok.record in
     let is : row ≡ record_columns entry = search rules in
-    let looks : OnlyLooks g.S.Store mid next = c.in_ok-next.ensures.same in
-    let both : OnlyLooks g.S.Store start next = looks_on g.S.Store start mid next so_far.same looks in
+    let call : IsLook g.S.Store mid next = c.in_ok-next.ensures.looks in
+    let both : IsLook g.S.Store start next = looked_on g.S.Store start mid next so_far.looks call in
     let stop = c.in_err-check_record.field-0.0 in
-    let rows : Told → Row = λ (one : Told). record_columns one.0 in
     let trees : Trees = (g.S.Store.view start).trees in
-    passed_with g.S.Store start new stop _ c.from_residual-in_err-check_record.ensures.1
-    (λ known whole other clean own.
-    stop_on g.S.Store start next new stop both
-    (quiet_both g.S.Store so_far.quiet c.next.ensures.quiet) c.check_record.ensures.quiet
-    (c.in_err-check_record.ensures.own (λ back.
-    let stay = trees_stay g.S.Store start next both back in
-    let read = so_far.read (look_back g.S.Store mid next looks back) in
-    let given = known (look_back g.S.Store start next both back) in
-    let its : (tables : Tables) → Holds trees tables → get tables.records entry.0 ≡ Some entry.1 =
-    λ tables holds. record_had tables entry (subst (IsRecordOf tables) is
-    (its_row g.S.Store start mid next Records c.records.walk c.next.new.self c.in_ok-next.field-0
-    so_far.tree so_far.same looks c.in_ok-next.ensures.next
-    (λ back. let read = so_far.read back in (map rows read.0, read.1)) back
-    c.if-not-branch.false (IsRecordOf tables) (records_of trees tables holds))) in
-    let place = its_place g.S.Store start mid next Records c.records.walk c.next.new.self
-    c.in_ok-next.field-0 so_far.tree so_far.same looks c.in_ok-next.ensures.next
-    (λ back. let read = so_far.read back in (map rows read.0, read.1)) back
-    c.if-not-branch.false in
-    let priced = (own_fit trees own).records entry.0 entry.1 (its (own_tables trees own) own.holds) in (
-      record {
-        own = own_still g.S.Store start next both back own;
-        ruled = subst (λ (all : Trees). AreRuled all c.args.rulings.now) (sym stay) given.0;
-        held = λ tables holds. its tables (subst (λ (all : Trees). Holds all tables) stay holds);
-      },
-      (
-        counted_prices read.0,
-        read.3 [] given.1,
-        own_counted trees own read.0 entry place.0
-            (place.1 ∙ ap (λ (r : Row). map rows read.0 ++ r ∷ place.0) is)
-            (all_weaker (λ (one : Told). IsRight trees c.args.rulings.now one.0)
-            (λ (one : Told). IsPriced one.0.1.priced) (λ one right. right.priced) read.0 read.2.right)
-            priced.priced,
-      ),
-    ))) whole other clean own)
+    passed g.S.Store start new stop _ c.from_residual-in_err-check_record.ensures.1 (record {
+      quiet = quiet_both g.S.Store both.quiet c.in_err-check_record.ensures.looks.quiet;
+      own = λ known whole other clean own.
+          stop_on g.S.Store start next new stop both.same both.quiet
+          c.in_err-check_record.ensures.looks.quiet (c.in_err-check_record.ensures.looks.own (λ back.
+          let stay = trees_stay g.S.Store start next both.same back in
+          let read = so_far.read (look_back g.S.Store mid next call.same back) in
+          let given = known (look_back g.S.Store start next both.same back) in
+          let its : (tables : Tables) → Holds trees tables → get tables.records entry.0 ≡ Some entry.1 =
+          λ tables holds. record_had tables entry (subst (IsRecordOf tables) is
+          (its_row g.S.Store start mid next Records c.records.walk c.next.new.self
+          c.in_ok-next.field-0 so_far.tree so_far.looks.same call.same c.in_ok-next.ensures.next
+          (λ back. let read = so_far.read back in (rows_of read.0, read.1)) back
+          c.if-not-branch.false (IsRecordOf tables) (records_of trees tables holds))) in
+          let place = its_place g.S.Store start mid next Records c.records.walk c.next.new.self
+          c.in_ok-next.field-0 so_far.tree so_far.looks.same call.same c.in_ok-next.ensures.next
+          (λ back. let read = so_far.read back in (rows_of read.0, read.1)) back
+          c.if-not-branch.false in
+          let priced = (own_fit trees own).records entry.0 entry.1 (its (own_tables trees own) own.holds) in (
+            record {
+              own = own_still g.S.Store start next both.same back own;
+              ruled = subst (λ (all : Trees). AreRuled all c.args.rulings.now) (sym stay) given.0;
+              held = λ tables holds. its tables (subst (λ (all : Trees). Holds all tables) stay holds);
+            },
+            (
+              counted_prices read.0,
+              read.3 [] given.1,
+              own_counted trees own read.0 entry place.0
+                  (place.1 ∙ ap (λ (r : Row). rows_of read.0 ++ r ∷ place.0) is)
+                  (all_weaker (λ (one : Told). IsRight trees c.args.rulings.now one.0)
+                  (λ (one : Told). IsPriced one.0.1.priced) (λ one right. right.priced) read.0
+                  read.2.right) priced.priced,
+            ),
+          ))) whole other clean own;
+    })
 
 -- its rows are those of records,
-pub returns-in_err-record-clause-own : goal.returns-in_err-record-clause-own
-returns-in_err-record-clause-own g c =
+pub returns-in-Err-clause-looks : goal.returns-in-Err-clause-looks
+returns-in-Err-clause-looks g c =
     let start = c.args.trees.now.store in
     let mid = c.records.trees.store in
     let next = c.next.new.trees.store in
     let so_far = c.records.invariant in
     let row : Row = c.next.new.self.row in
-    let rows : Told → Row = λ (one : Told). record_columns one.0 in
-    let stop = c.in_err-record.field-0.0 in
-    let refused : is_ok c.record_in.result ≡ false =
-    sym c.map_err.ensures.variant ∙ ap is_ok c.in_err-record.was in
-    passed_with g.S.Store start _ stop _ c.from_residual-in_err-record.ensures.1
-    (λ known whole other clean own.
-    let trees : Trees = (g.S.Store.view start).trees in
-    let tables : Tables = own_tables trees own in
-    let is = its_row g.S.Store start mid next Records c.records.walk c.next.new.self
-    c.in_ok-next.field-0 so_far.tree so_far.same c.in_ok-next.ensures.same c.in_ok-next.ensures.next
-    (λ back. let read = so_far.read back in (map rows read.0, read.1)) clean
-    c.if-not-branch.false (IsRecordOf tables) (records_of trees tables own.holds) in
-    let memory = err_fits (λ (error : StoreError). error ≡ OutOfMemory) c.record_in.result
-    c.record_in.ensures.taken (subst RecordFits (sym c.row.ensures) (record_row_fits trees own row is)) in
-    absurd (other (met_memory c.record_in.result c.map_err.result stop
-    (λ error stop stands. search rules) c.map_err.ensures.cases c.in_err-record.was refused memory)))
+    let call : IsLook g.S.Store mid next = c.in_ok-next.ensures.looks in
+    record {
+      quiet = (looked_on g.S.Store start mid next so_far.looks call).quiet;
+      own = λ known whole other clean own.
+          let trees : Trees = (g.S.Store.view start).trees in
+          let tables : Tables = own_tables trees own in
+          let is = its_row g.S.Store start mid next Records c.records.walk c.next.new.self
+          c.in_ok-next.field-0 so_far.tree so_far.looks.same call.same c.in_ok-next.ensures.next
+          (λ back. let read = so_far.read back in (rows_of read.0, read.1)) clean
+          c.if-not-branch.false (IsRecordOf tables) (records_of trees tables own.holds) in
+          absurd (other (c.met.ensures.memory (c.in-Err.ensures.taken
+          (subst RecordFits (sym c.row.ensures) (record_row_fits trees own row is)))));
+    }
 
 -- which cost no more together than books may hold,
-pub returns-then-record-gt-MAX_COST-clause-own : goal.returns-then-record-gt-MAX_COST-clause-own
-returns-then-record-gt-MAX_COST-clause-own g c known whole other clean own =
+pub returns-then-record-gt-MAX_COST-clause-looks : goal.returns-then-record-gt-MAX_COST-clause-looks
+returns-then-record-gt-MAX_COST-clause-looks g c =
     let start = c.args.trees.now.store in
     let mid = c.records.trees.store in
     let next = c.next.new.trees.store in
     let new = c.check_record.new.trees.store in
     let so_far = c.records.invariant in
+    let call : IsLook g.S.Store mid next = c.in_ok-next.ensures.looks in
+    let check : IsLook g.S.Store next new = c.in_ok-check_record.ensures.looks in
+    let both : IsLook g.S.Store start next = looked_on g.S.Store start mid next so_far.looks call in
+    never g.S.Store start new _ (looked_on g.S.Store start next new both check).quiet
+    (λ known clean own.
     let row : Row = c.next.new.self.row in
-    let rows : Told → Row = λ (one : Told). record_columns one.0 in
-    let entry : List ℕ × RecordRow = stored_entry c.in_ok-record.record in
+    let entry : List ℕ × RecordRow = stored_entry c.in-Ok.record in
     let is : row ≡ record_columns entry = search rules in
-    let looks : OnlyLooks g.S.Store mid next = c.in_ok-next.ensures.same in
-    let checks : OnlyLooks g.S.Store next new = c.in_ok-check_record.ensures.same in
     let trees : Trees = (g.S.Store.view start).trees in
-    let after : IsClean (g.S.Store.view next) = look_back g.S.Store next new checks clean in
-    let read = so_far.read (look_back g.S.Store mid next looks after) in
+    let after : IsClean (g.S.Store.view next) = look_back g.S.Store next new check.same clean in
+    let read = so_far.read (look_back g.S.Store mid next call.same after) in
     let place = its_place g.S.Store start mid next Records c.records.walk c.next.new.self
-    c.in_ok-next.field-0 so_far.tree so_far.same looks c.in_ok-next.ensures.next
-    (λ back. let read = so_far.read back in (map rows read.0, read.1)) after
+    c.in_ok-next.field-0 so_far.tree so_far.looks.same call.same c.in_ok-next.ensures.next
+    (λ back. let read = so_far.read back in (rows_of read.0, read.1)) after
     c.if-not-branch.false in
     let cost = own_cost trees own read.0 entry place.0
-    (place.1 ∙ ap (λ (r : Row). map rows read.0 ++ r ∷ place.0) is) in
+    (place.1 ∙ ap (λ (r : Row). rows_of read.0 ++ r ∷ place.0) is) in
     let summed = read.2.summed in
     let within : c.records.amount + entry.1.priced.amount ≤ 4000000000000000000 =
     omega (arith, cost, summed) in
@@ -220,16 +206,18 @@ returns-then-record-gt-MAX_COST-clause-own g c known whole other clean own =
           absurd (omega (arith, within, w.if-record-gt-MAX_COST.true))
       | goal.then-record-gt-MAX_COST-via-else-record-gt-MAX_COST+then-record-amount w ↦
           absurd (omega (arith, within, w.if-record-amount.true, w.if-record-gt-MAX_COST.false))
-    ]
+    ])
 
 -- and are no more
-pub returns-clause-own : goal.returns-clause-own
-returns-clause-own g c known whole other clean own =
+pub returns-clause-looks : goal.returns-clause-looks
+returns-clause-looks g c =
     let start = c.args.trees.now.store in
     let so_far = c.records.invariant in
+    never g.S.Store start c.records.trees.store _ so_far.looks.quiet
+    (λ known clean own.
     let trees : Trees = (g.S.Store.view start).trees in
     let read = so_far.read clean in
     let counted = read.2.counted in
     let few = own_few trees own in
     let many = so_many read.0 _ (trees 3) read.1.left in
-    absurd (omega (arith, counted, few, many, c.records-test.false))
+    absurd (omega (arith, counted, few, many, c.records-test.false)))

@@ -1,8 +1,8 @@
 use Rattle.std.proofs.Common.{◌≡◌, List, map}
 use Rattle.sqlite_trees.specs.View.{IsClean}
-use Rattle.tree_rows.specs.Calls.{CommitsNothing, OnlyLooks}
 use Rattle.tree_tables.specs.Columns.{record_columns}
 use Rattle.book_audit.specs.Records.{AreEntries, Counts, Told, counted_prices}
+use Rattle.book_audit.specs.Looks.{IsLook}
 use Rattle.book_audit.specs.Walks.{HasWalked}
 use Rattle.book_audit.specs.declared.finding.Tree.TheVariants.{Records}
 use Rattle.book_audit.proofs.records.read_records.Given as goal
@@ -11,8 +11,7 @@ use Rattle.book_audit.proofs.records.read_records.Given as goal
 abbrev pub invariant-records : goal.invariant-records
 invariant-records g l = record {
   tree : l.walk.tree ≡ Records;
-  same : OnlyLooks g.S.Store l.fn.trees.store l.trees.store;
-  quiet : CommitsNothing g.S.Store l.fn.trees.store l.trees.store;
+  looks : IsLook g.S.Store l.fn.trees.store l.trees.store;
   read : IsClean (g.S.Store.view l.trees.store) → (entries : List Told)
       × HasWalked Records l.walk.key ((g.S.Store.view l.fn.trees.store).trees 3)
       (map (λ told. record_columns told.0) entries)

@@ -4,8 +4,8 @@ use Rattle.sqlite_trees.specs.View.{IsClean}
 use Rattle.book_model.specs.Words.{AcceptedTerms}
 use Rattle.table_model.specs.Readable.{IsTexted}
 use Rattle.table_model.specs.TablesOf.{tariff_entries}
-use Rattle.tree_rows.specs.Calls.{CommitsNothing, OnlyLooks}
 use Rattle.tree_tables.specs.Columns.{tariff_columns}
+use Rattle.book_audit.specs.Looks.{IsLook}
 use Rattle.book_audit.specs.Walks.{HasWalked}
 use Rattle.book_audit.specs.declared.finding.Tree.TheVariants.{Tariffs}
 use Rattle.book_audit.proofs.rulings.read_tariffs.Given as goal
@@ -14,8 +14,7 @@ use Rattle.book_audit.proofs.rulings.read_tariffs.Given as goal
 abbrev pub invariant-tariffs : goal.invariant-tariffs
 invariant-tariffs g l = record {
   tree : l.walk.tree ≡ Tariffs;
-  same : OnlyLooks g.S.Store l.fn.trees.store l.trees.store;
-  quiet : CommitsNothing g.S.Store l.fn.trees.store l.trees.store;
+  looks : IsLook g.S.Store l.fn.trees.store l.trees.store;
   read : IsClean (g.S.Store.view l.trees.store) → (accepted : List AcceptedTerms)
       × HasWalked Tariffs l.walk.key ((g.S.Store.view l.fn.trees.store).trees 1)
       (map tariff_columns (tariff_entries accepted))
