@@ -18,15 +18,18 @@ use crate::records::check_records;
 use crate::ruled::read_rulings;
 use crate::stop::Stop;
 use crate::trees::Trees;
+use crate::walk::Walk;
 use crate::watch::Watch;
 use book_model::LedgerFault;
 use sqlite_trees::store::Store;
 use std::alloc::Global;
 
-/// Reads all trees.
+/// Reads all trees. What is in `bytes` is lost.
 fn read_trees<S: Store, W: Watch>(
     alloc: Global,
     trees: &mut Trees<S>,
+    walk: &mut Walk,
+    bytes: &mut Vec<u8>,
     watch: &mut W,
 ) -> Result<Counts, Stop>
     ensures sound { Tells result trees.old trees.new AreSound }
@@ -35,12 +38,12 @@ fn read_trees<S: Store, W: Watch>(
     ensures same { OnOk result (OnlyLooks S.Store trees.old.store trees.new.store) }
     ensures quiet { CommitsNothing S.Store trees.old.store trees.new.store }
 {
-    let rulings = read_rulings(alloc, trees, watch)?;
+    let rulings = read_rulings(alloc, trees, walk, watch)?;
     let mut places = Places::new(alloc);
-    let held = check_records(alloc, trees, &rulings, &mut places, watch)?;
-    let lines = check_lines(alloc, trees, &rulings, watch)?;
-    let rows = check_rows(alloc, trees, &rulings, places, watch)?;
-    check_details(alloc, trees, &rulings, watch)?;
+    let held = check_records(alloc, trees, walk, bytes, &rulings, &mut places, watch)?;
+    let lines = check_lines(alloc, trees, walk, &rulings, watch)?;
+    let rows = check_rows(alloc, trees, walk, &rulings, places, watch)?;
+    check_details(alloc, trees, walk, bytes, &rulings, watch)?;
     Ok(Counts {
         records: held.records,
         tariffs: rulings.tariffs.len() as u64,
@@ -72,7 +75,9 @@ pub fn audit_trees<S: Store, W: Watch>(
     ensures quiet { CommitsNothing S.Store store result.1 }
 {
     let mut trees = Trees::over(alloc, store);
-    let audited = match read_trees(alloc, &mut trees, watch) {
+    let mut walk = Walk::new(alloc);
+    let mut bytes = Vec::new(alloc);
+    let audited = match read_trees(alloc, &mut trees, &mut walk, &mut bytes, watch) {
         Ok(counts) => Ok(Audited::Sound(counts)),
         Err(Stop::Unsound(finding)) => Ok(Audited::Unsound(finding)),
         Err(Stop::Fault(fault)) => Err(fault),

@@ -184,6 +184,7 @@ fn check_choice<S: Store>(
 pub(crate) fn read_choices<S: Store, W: Watch>(
     alloc: Global,
     trees: &mut Trees<S>,
+    walk: &mut Walk,
     rule: IdentityRule,
     open_period: u16,
     watch: &mut W,
@@ -195,12 +196,12 @@ pub(crate) fn read_choices<S: Store, W: Watch>(
         (own : AreOwn all) → AreItsRulings rule open_period own.book) }
 {
     let tree = Tree::Choices;
-    let mut walk = Walk::over(alloc, tree);
+    walk.begin(tree);
     let mut chosen = Chosen::new(alloc);
     'choices: for count in 0..MAX_CHOICES + 1 {
         watch.read(tree, count);
         if !walk.next(trees)? {
-            check_entries(alloc, trees, Tree::ChoiceNames, count, watch)?;
+            check_entries(trees, walk, Tree::ChoiceNames, count, watch)?;
             return Ok(chosen);
         }
         match choice_in(walk.row()) {

@@ -177,8 +177,8 @@ fn wrong_more(rulings: &Rulings, row: &Row) -> Stop
 /// Reads all charge rows, which must be these, one after the other: the period of a day is no later
 /// than that of a later day, so they are in the order of their places.
 fn read_rows<S: Store, W: Watch>(
-    alloc: Global,
     trees: &mut Trees<S>,
+    walk: &mut Walk,
     rulings: &Rulings,
     due: &[ChargeRow],
     watch: &mut W,
@@ -189,7 +189,7 @@ fn read_rows<S: Store, W: Watch>(
         AreDueRows rulings.now.closes.items due.now (all 4)) }
 {
     let tree = Tree::Days;
-    let mut walk = Walk::over(alloc, tree);
+    walk.begin(tree);
     let mut count = 0u64;
     'rows: for next in due {
         watch.read(tree, count);
@@ -212,6 +212,7 @@ fn read_rows<S: Store, W: Watch>(
 pub(crate) fn check_rows<S: Store, W: Watch>(
     alloc: Global,
     trees: &mut Trees<S>,
+    walk: &mut Walk,
     rulings: &Rulings,
     places: Places,
     watch: &mut W,
@@ -224,6 +225,6 @@ pub(crate) fn check_rows<S: Store, W: Watch>(
         AreDueRows rulings.now.closes.items (values places.rows) (all 4)) }
 {
     let due = places.into_rows(alloc)?;
-    read_rows(alloc, trees, rulings, &due, watch)?;
+    read_rows(trees, walk, rulings, &due, watch)?;
     Ok(due.len() as u64)
 }

@@ -209,9 +209,12 @@ fn detail_in(row: &Row) -> Result<Detail, StoreError>
 }
 
 /// Reads all details, of records that are counted. That each of these has a row was seen before.
+/// What is in `bytes` is lost.
 pub(crate) fn check_details<S: Store, W: Watch>(
     alloc: Global,
     trees: &mut Trees<S>,
+    walk: &mut Walk,
+    bytes: &mut Vec<u8>,
     rulings: &Rulings,
     watch: &mut W,
 ) -> Result<(), Stop>
@@ -219,15 +222,14 @@ pub(crate) fn check_details<S: Store, W: Watch>(
         AreDetails all rulings.now.closes.items) }
     ensures looks { LooksIf result trees.old trees.new (λ all. AreRuled all rulings.now) }
 {
-    let mut walk = Walk::over(alloc, Tree::Details);
-    let mut bytes = Vec::new(alloc);
+    walk.begin(Tree::Details);
     'rows: for count in 0..MOST_ROWS {
         watch.read(Tree::Details, count);
         if !walk.next(trees)? {
             return Ok(());
         }
         match detail_in(walk.row()) {
-            Ok(shown) => check_shown(alloc, trees, rulings, &mut bytes, &shown)?,
+            Ok(shown) => check_shown(alloc, trees, rulings, bytes, &shown)?,
             Err(error) => return Err(met(Tree::Details, error)),
         }
     }

@@ -17,7 +17,6 @@ use crate::watch::Watch;
 use sqlite_trees::store::Store;
 use sqlite_value::row::Row;
 use sqlite_value::value::ValueRef;
-use std::alloc::Global;
 use tree_tables::count_at;
 
 /// Whether a column has bytes.
@@ -56,8 +55,8 @@ fn is_entry(tree: Tree, row: &Row) -> bool
 
 /// How many entries a tree has that finds the rows of a table.
 fn count_rows<S: Store, W: Watch>(
-    alloc: Global,
     trees: &mut Trees<S>,
+    walk: &mut Walk,
     tree: Tree,
     watch: &mut W,
 ) -> Result<u64, Stop>
@@ -66,7 +65,7 @@ fn count_rows<S: Store, W: Watch>(
         AreCounted tree (all (tree_number tree)) count) }
     ensures looks { Looks result trees.old trees.new }
 {
-    let mut walk = Walk::over(alloc, tree);
+    walk.begin(tree);
     'entries: for count in 0..MOST_ROWS {
         watch.read(tree, count);
         if !walk.next(trees)? {
@@ -81,8 +80,8 @@ fn count_rows<S: Store, W: Watch>(
 
 /// A tree that finds the rows of a table has an entry for each, which was looked up, and no other.
 pub(crate) fn check_entries<S: Store, W: Watch>(
-    alloc: Global,
     trees: &mut Trees<S>,
+    walk: &mut Walk,
     tree: Tree,
     rows: u64,
     watch: &mut W,
@@ -93,7 +92,7 @@ pub(crate) fn check_entries<S: Store, W: Watch>(
     ensures looks { LooksIf result trees.old trees.new (λ all.
         AreOwn all → rows ≡ length (all (tree_number tree))) }
 {
-    let entries = count_rows(alloc, trees, tree, watch)?;
+    let entries = count_rows(trees, walk, tree, watch)?;
     if entries == rows {
         Ok(())
     } else {

@@ -72,6 +72,7 @@ fn check_line<S: Store>(
 pub(crate) fn check_lines<S: Store, W: Watch>(
     alloc: Global,
     trees: &mut Trees<S>,
+    walk: &mut Walk,
     rulings: &Rulings,
     watch: &mut W,
 ) -> Result<u64, Stop>
@@ -79,7 +80,7 @@ pub(crate) fn check_lines<S: Store, W: Watch>(
         AreLines all rulings.now.closes.items count) }
     ensures looks { LooksIf result trees.old trees.new (λ all. AreRuled all rulings.now) }
 {
-    let mut walk = Walk::over(alloc, Tree::Lines);
+    walk.begin(Tree::Lines);
     'lines: for count in 0..MOST_ROWS {
         watch.read(Tree::Lines, count);
         if !walk.next(trees)? {

@@ -62,10 +62,12 @@ fn check_record<S: Store>(
     Ok(counted)
 }
 
-/// Reads all records, one at a time.
+/// Reads all records, one at a time. What is in `bytes` is lost.
 fn read_records<S: Store, W: Watch>(
     alloc: Global,
     trees: &mut Trees<S>,
+    walk: &mut Walk,
+    bytes: &mut Vec<u8>,
     rulings: &Rulings,
     places: &mut Places,
     watch: &mut W,
@@ -76,9 +78,8 @@ fn read_records<S: Store, W: Watch>(
         AreRuled all rulings.now × (places.old.rows.entries ≡ keyed_rows [])) }
 {
     let tree = Tree::Records;
-    let mut walk = Walk::over(alloc, tree);
+    walk.begin(tree);
     let mut amount = 0u64;
-    let mut bytes = Vec::new(alloc);
     'records: for records in 0..MAX_HELD as u64 + 1 {
         watch.read(tree, records);
         if !walk.next(trees)? {
@@ -88,7 +89,7 @@ fn read_records<S: Store, W: Watch>(
             Ok(record) => record,
             Err(error) => return Err(met(tree, error)),
         };
-        check_record(alloc, trees, rulings, places, &mut bytes, &record)?;
+        check_record(alloc, trees, rulings, places, bytes, &record)?;
         if MAX_COST < record.priced.amount || MAX_COST - record.priced.amount < amount {
             return Err(unsound(Place::Tree(tree), Wrong::Limits));
         }
@@ -97,10 +98,13 @@ fn read_records<S: Store, W: Watch>(
     Err(unsound(Place::Tree(tree), Wrong::Limits))
 }
 
-/// Reads all records and the trees that find them; the row of the book must be their sum.
+/// Reads all records and the trees that find them; the row of the book must be their sum. What is in
+/// `bytes` is lost.
 pub(crate) fn check_records<S: Store, W: Watch>(
     alloc: Global,
     trees: &mut Trees<S>,
+    walk: &mut Walk,
+    bytes: &mut Vec<u8>,
     rulings: &Rulings,
     places: &mut Places,
     watch: &mut W,
@@ -110,9 +114,9 @@ pub(crate) fn check_records<S: Store, W: Watch>(
     ensures looks { LooksIf result trees.old trees.new (λ all.
         AreRuled all rulings.now × (places.old.rows.entries ≡ keyed_rows [])) }
 {
-    let held = read_records(alloc, trees, rulings, places, watch)?;
-    check_entries(alloc, trees, Tree::Identities, held.records, watch)?;
-    check_entries(alloc, trees, Tree::Marks, held.records, watch)?;
+    let held = read_records(alloc, trees, walk, bytes, rulings, places, watch)?;
+    check_entries(trees, walk, Tree::Identities, held.records, watch)?;
+    check_entries(trees, walk, Tree::Marks, held.records, watch)?;
     if held.records != rulings.held {
         return Err(unsound(Place::Tree(Tree::Book), Wrong::Held));
     }

@@ -8,6 +8,7 @@ use crate::finding::{Place, Tree, Wrong};
 use crate::rulings::{BookRow, MAX_CLOSES, Rulings, read_book, read_closes, read_tariffs};
 use crate::stop::{Stop, unsound};
 use crate::trees::Trees;
+use crate::walk::Walk;
 use crate::watch::Watch;
 use sqlite_trees::store::Store;
 use std::alloc::Global;
@@ -16,14 +17,15 @@ use std::alloc::Global;
 pub(crate) fn read_rulings<S: Store, W: Watch>(
     alloc: Global,
     trees: &mut Trees<S>,
+    walk: &mut Walk,
     watch: &mut W,
 ) -> Result<Rulings, Stop>
     ensures ruled { Tells result trees.old trees.new AreRuled }
     ensures looks { Looks result trees.old trees.new }
 {
-    let book = read_book(alloc, trees)?;
-    let tariffs = read_tariffs(alloc, trees)?;
-    let closes = read_closes(alloc, trees)?;
+    let book = read_book(trees, walk)?;
+    let tariffs = read_tariffs(alloc, trees, walk)?;
+    let closes = read_closes(alloc, trees, walk)?;
     if closes.len() > MAX_CLOSES {
         return Err(unsound(Place::Tree(Tree::Closes), Wrong::Closes));
     }
@@ -32,7 +34,7 @@ pub(crate) fn read_rulings<S: Store, W: Watch>(
     if !rule.is_by(open) {
         return Err(unsound(Place::Tree(Tree::Book), Wrong::Rule));
     }
-    let chosen = read_choices(alloc, trees, rule, open, watch)?;
+    let chosen = read_choices(alloc, trees, walk, rule, open, watch)?;
     Ok(Rulings {
         rule,
         tariffs,

@@ -82,12 +82,15 @@ fn book_in(row: &Row) -> Result<Option<BookRow>, StoreError>
 }
 
 /// Reads the one row of the book. Trees without it hold no books.
-pub(crate) fn read_book<S: Store>(alloc: Global, trees: &mut Trees<S>) -> Result<BookRow, Stop>
+pub(crate) fn read_book<S: Store>(
+    trees: &mut Trees<S>,
+    walk: &mut Walk,
+) -> Result<BookRow, Stop>
     ensures book { Tells result trees.old trees.new (λ all book. HasOneRow (all 0) book) }
     ensures looks { Looks result trees.old trees.new }
 {
     let tree = Tree::Book;
-    let mut walk = Walk::over(alloc, tree);
+    walk.begin(tree);
     if !walk.next(trees)? {
         return Err(Stop::Fault(LedgerFault::NotBooks));
     }
@@ -153,13 +156,14 @@ fn read_tariff(alloc: Global, row: &Row) -> Result<Tariff, Stop>
 pub(crate) fn read_tariffs<S: Store>(
     alloc: Global,
     trees: &mut Trees<S>,
+    walk: &mut Walk,
 ) -> Result<Vec<Tariff>, Stop>
     ensures tariffs { Tells result trees.old trees.new (λ all tariffs.
         AreTariffs (all 1) tariffs.items) }
     ensures looks { Looks result trees.old trees.new }
 {
     let tree = Tree::Tariffs;
-    let mut walk = Walk::over(alloc, tree);
+    walk.begin(tree);
     let mut tariffs = Vec::new(alloc);
     'tariffs: for _count in 0..MOST_ROWS {
         if !walk.next(trees)? {
@@ -220,12 +224,16 @@ fn next_close(days: &[i32], row: &Row) -> Result<i32, Stop>
 }
 
 /// Reads the days of the closes.
-pub(crate) fn read_closes<S: Store>(alloc: Global, trees: &mut Trees<S>) -> Result<Vec<i32>, Stop>
+pub(crate) fn read_closes<S: Store>(
+    alloc: Global,
+    trees: &mut Trees<S>,
+    walk: &mut Walk,
+) -> Result<Vec<i32>, Stop>
     ensures closed { Tells result trees.old trees.new (λ all days. AreClosed (all 2) days.items) }
     ensures looks { Looks result trees.old trees.new }
 {
     let tree = Tree::Closes;
-    let mut walk = Walk::over(alloc, tree);
+    walk.begin(tree);
     let mut days = Vec::new(alloc);
     'closes: for _count in 0..MOST_ROWS {
         if !walk.next(trees)? {

@@ -26,7 +26,8 @@ fn take_key(key: &mut Row, row: &Row, columns: usize) -> Result<(), AllocError>
     Ok(())
 }
 
-/// How far a tree was walked: the row that was read last, and its key.
+/// How far a tree was walked: the row that was read last, and its key. One walk goes through all
+/// trees, one after the other.
 #[derive(Drop)]
 pub(crate) struct Walk {
     tree: Tree,
@@ -40,16 +41,22 @@ impl Walk {
     ghost use Rattle.book_audit.specs.Looks.{LooksIf, Tells};
     ghost use Rattle.book_audit.specs.Walks.{GoesOn, HasWalked, IsWalkOf, width};
 
-    /// Before the first row.
-    pub(crate) fn over(alloc: Global, tree: Tree) -> Walk
-        ensures tree { result.tree ≡ tree }
-        ensures start { (rows : List Columns) → HasWalked tree result.key rows [] }
-    {
+    /// No tree was walked yet.
+    pub(crate) fn new(alloc: Global) -> Walk {
         Walk {
-            tree,
+            tree: Tree::Book,
             key: Row::new(alloc),
             row: Row::new(alloc),
         }
+    }
+
+    /// Goes before the first row of a tree.
+    pub(crate) fn begin(&mut self, tree: Tree)
+        ensures tree { self.new.tree ≡ tree }
+        ensures start { (rows : List Columns) → HasWalked tree self.new.key rows [] }
+    {
+        self.tree = tree;
+        self.key.clear();
     }
 
     /// The row that was read last.

@@ -29,11 +29,11 @@ use Rattle.book_audit.proofs.choices.read_choices.Goals as goal
 
 pub choices-init : goal.choices-init
 choices-init g c = record {
-  tree = c.over-walk.ensures.tree;
+  tree = c.begin.ensures.tree;
   looks = nothing g.S.Store c.args.trees.now.store;
   read = λ clean. (
     [],
-    c.over-walk.ensures.start ((g.S.Store.view c.args.trees.now.store).trees 8),
+    c.begin.ensures.start ((g.S.Store.view c.args.trees.now.store).trees 8),
     none_made (g.S.Store.view c.args.trees.now.store).trees c.args.rule c.args.open_period
         c.new-chosen.result c.new-chosen.ensures.count c.new-chosen.ensures.since
         c.new-chosen.ensures.none,

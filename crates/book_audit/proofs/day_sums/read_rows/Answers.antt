@@ -19,9 +19,9 @@ first_due closes due n = map day_columns (map (due_entry closes) (take n due))
 
 pub rows-init : goal.rows-init
 rows-init g c = record {
-  tree = c.over-walk.ensures.tree;
+  tree = c.begin.ensures.tree;
   looks = nothing g.S.Store c.args.trees.now.store;
-  walked = λ clean. c.over-walk.ensures.start ((g.S.Store.view c.args.trees.now.store).trees 4);
+  walked = λ clean. c.begin.ensures.start ((g.S.Store.view c.args.trees.now.store).trees 4);
 }
 
 pub rows-preserved : goal.rows-preserved

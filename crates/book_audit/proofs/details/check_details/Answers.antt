@@ -28,11 +28,11 @@ shown_row one = detail_columns (one, tt)
 
 pub rows-init : goal.rows-init
 rows-init g c = record {
-  tree = c.over-walk.ensures.tree;
+  tree = c.begin.ensures.tree;
   looks = nothing g.S.Store c.args.trees.now.store;
   read = λ clean. (
     [],
-    c.over-walk.ensures.start ((g.S.Store.view c.args.trees.now.store).trees 10),
+    c.begin.ensures.start ((g.S.Store.view c.args.trees.now.store).trees 10),
     tt,
     refl,
   );

@@ -11,11 +11,11 @@ use Rattle.book_audit.proofs.entry_counts.count_rows.Goals as goal
 
 pub entries-init : goal.entries-init
 entries-init g c = record {
-  tree = c.over-walk.ensures.tree;
+  tree = c.begin.ensures.tree;
   looks = nothing g.S.Store c.args.trees.now.store;
   read = λ clean. (
     [],
-    c.over-walk.ensures.start
+    c.begin.ensures.start
         ((g.S.Store.view c.args.trees.now.store).trees (tree_number c.args.tree)),
     tt,
     refl,

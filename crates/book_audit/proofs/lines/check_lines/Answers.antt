@@ -23,11 +23,11 @@ use Rattle.book_audit.proofs.lines.check_lines.Goals as goal
 
 pub lines-init : goal.lines-init
 lines-init g c = record {
-  tree = c.over-walk.ensures.tree;
+  tree = c.begin.ensures.tree;
   looks = nothing g.S.Store c.args.trees.now.store;
   read = λ clean. (
     [],
-    c.over-walk.ensures.start ((g.S.Store.view c.args.trees.now.store).trees 5),
+    c.begin.ensures.start ((g.S.Store.view c.args.trees.now.store).trees 5),
     refl,
     tt,
   );

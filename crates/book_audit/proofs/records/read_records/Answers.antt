@@ -33,11 +33,11 @@ rows_of entries = map (λ (one : Told). record_columns one.0) entries
 
 pub records-init : goal.records-init
 records-init g c = record {
-  tree = c.over-walk.ensures.tree;
+  tree = c.begin.ensures.tree;
   looks = nothing g.S.Store c.args.trees.now.store;
   read = λ clean. (
     [],
-    c.over-walk.ensures.start ((g.S.Store.view c.args.trees.now.store).trees 3),
+    c.begin.ensures.start ((g.S.Store.view c.args.trees.now.store).trees 3),
     none_yet (g.S.Store.view c.args.trees.now.store).trees c.args.rulings.now,
     counts_none c.args.places.now.rows.entries,
   );

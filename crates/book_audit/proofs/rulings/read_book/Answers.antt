@@ -25,13 +25,13 @@ returns-clause-book g c clean =
     let second : IsLook g.S.Store next last = c.in_ok-next-2.ensures.looks in
     let after : IsClean (g.S.Store.view next) = look_back g.S.Store next last second.same clean in
     let one : HasWalked Book c.next.new.self.key rows (row ∷ []) =
-    read_on g.S.Store start start next Book c.over-walk.result c.next.new.self c.in_ok-next.field-0
-    c.over-walk.ensures.tree (no_look g.S.Store start) first.same c.in_ok-next.ensures.next
-    (λ back. ([], c.over-walk.ensures.start rows)) after c.if-not-branch.false in
+    read_on g.S.Store start start next Book c.begin.new.self c.next.new.self c.in_ok-next.field-0
+    c.begin.ensures.tree (no_look g.S.Store start) first.same c.in_ok-next.ensures.next
+    (λ back. ([], c.begin.ensures.start rows)) after c.if-not-branch.false in
     record {
       row = row;
       one = read_all g.S.Store start next last Book c.next.new.self c.next-2.new.self
-          c.in_ok-next-2.field-0 (c.next.ensures.tree ∙ c.over-walk.ensures.tree) first.same second.same
+          c.in_ok-next-2.field-0 (c.next.ensures.tree ∙ c.begin.ensures.tree) first.same second.same
           c.in_ok-next-2.ensures.next (λ back. (row ∷ [], one)) clean c.if-branch.false;
       is = search rules;
     }
@@ -48,9 +48,9 @@ returns-in_err-next-clause-looks g c =
     let next = c.next.new.trees.store in
     let rows : List Row = (g.S.Store.view start).trees 0 in
     passed g.S.Store start next c.in_err-next.field-0.0 _ c.from_residual.ensures.1
-    (walk_stopped g.S.Store start start next Book c.over-walk.result c.in_err-next.field-0.0
-    c.over-walk.ensures.tree (nothing g.S.Store start) c.in_err-next.ensures.looks
-    (λ back. ([], c.over-walk.ensures.start rows)))
+    (walk_stopped g.S.Store start start next Book c.begin.new.self c.in_err-next.field-0.0
+    c.begin.ensures.tree (nothing g.S.Store start) c.in_err-next.ensures.looks
+    (λ back. ([], c.begin.ensures.start rows)))
 
 -- which is there,
 pub returns-then-not-branch-clause-looks : goal.returns-then-not-branch-clause-looks
@@ -61,9 +61,9 @@ returns-then-not-branch-clause-looks g c =
     never g.S.Store start next _ first.quiet (λ known clean own.
     let rows : List Row = (g.S.Store.view start).trees 0 in
     let none : rows ≡ [] =
-    read_all g.S.Store start start next Book c.over-walk.result c.next.new.self c.in_ok-next.field-0
-    c.over-walk.ensures.tree (no_look g.S.Store start) first.same
-    c.in_ok-next.ensures.next (λ back. ([], c.over-walk.ensures.start rows)) clean
+    read_all g.S.Store start start next Book c.begin.new.self c.next.new.self c.in_ok-next.field-0
+    c.begin.ensures.tree (no_look g.S.Store start) first.same
+    c.in_ok-next.ensures.next (λ back. ([], c.begin.ensures.start rows)) clean
     c.if-not-branch.true in
     absurd (let e = sym none ∙ own.holds.book in cc))
 
@@ -75,10 +75,10 @@ returns-in-Err-clause-looks g c =
     never g.S.Store start next _ first.quiet (λ known clean own.
     let row : Row = c.next.new.self.row in
     let rows : List Row = (g.S.Store.view start).trees 0 in
-    let place = its_place g.S.Store start start next Book c.over-walk.result c.next.new.self
-    c.in_ok-next.field-0 c.over-walk.ensures.tree (no_look g.S.Store start)
+    let place = its_place g.S.Store start start next Book c.begin.new.self c.next.new.self
+    c.in_ok-next.field-0 c.begin.ensures.tree (no_look g.S.Store start)
     first.same c.in_ok-next.ensures.next
-    (λ back. ([], c.over-walk.ensures.start rows)) clean c.if-not-branch.false in
+    (λ back. ([], c.begin.ensures.start rows)) clean c.if-not-branch.false in
     let is = c.row.ensures ∙ (own_book_row (g.S.Store.view start).trees own row place.0 place.1).0 in
     let fits = book_fits c.row.result.now (tables_of sha_names own.book).book is in
     c.in-Err.ensures.taken fits.0 fits.1)
@@ -91,10 +91,10 @@ returns-in_default-clause-looks g c =
     never g.S.Store start next _ first.quiet (λ known clean own.
     let row : Row = c.next.new.self.row in
     let rows : List Row = (g.S.Store.view start).trees 0 in
-    let place = its_place g.S.Store start start next Book c.over-walk.result c.next.new.self
-    c.in_ok-next.field-0 c.over-walk.ensures.tree (no_look g.S.Store start)
+    let place = its_place g.S.Store start start next Book c.begin.new.self c.next.new.self
+    c.in_ok-next.field-0 c.begin.ensures.tree (no_look g.S.Store start)
     first.same c.in_ok-next.ensures.next
-    (λ back. ([], c.over-walk.ensures.start rows)) clean c.if-not-branch.false in
+    (λ back. ([], c.begin.ensures.start rows)) clean c.if-not-branch.false in
     let its : BookRow = (tables_of sha_names own.book).book in
     let is : c.row.result.now ≡ book_columns its =
     c.row.ensures ∙ (own_book_row (g.S.Store.view start).trees own row place.0 place.1).0 in
@@ -113,12 +113,12 @@ returns-in_err-next-2-clause-looks g c =
     let first : IsLook g.S.Store start next = c.in_ok-next.ensures.looks in
     passed g.S.Store start last c.in_err-next-2.field-0.0 _ c.from_residual-in_err-next-2.ensures.1
     (walk_stopped g.S.Store start next last Book c.next.new.self c.in_err-next-2.field-0.0
-    (c.next.ensures.tree ∙ c.over-walk.ensures.tree) first c.in_err-next-2.ensures.looks (λ back. (
+    (c.next.ensures.tree ∙ c.begin.ensures.tree) first c.in_err-next-2.ensures.looks (λ back. (
       row ∷ [],
-      read_on g.S.Store start start next Book c.over-walk.result c.next.new.self
-          c.in_ok-next.field-0 c.over-walk.ensures.tree (no_look g.S.Store start)
+      read_on g.S.Store start start next Book c.begin.new.self c.next.new.self
+          c.in_ok-next.field-0 c.begin.ensures.tree (no_look g.S.Store start)
           first.same c.in_ok-next.ensures.next
-          (λ before. ([], c.over-walk.ensures.start rows)) back c.if-not-branch.false,
+          (λ before. ([], c.begin.ensures.start rows)) back c.if-not-branch.false,
     )))
 
 pub returns-then-branch-clause-looks : goal.returns-then-branch-clause-looks
@@ -133,13 +133,13 @@ returns-then-branch-clause-looks g c =
     let row : Row = c.next.new.self.row in
     let rows : List Row = (g.S.Store.view start).trees 0 in
     let place = its_place g.S.Store start next last Book c.next.new.self c.next-2.new.self
-    c.in_ok-next-2.field-0 (c.next.ensures.tree ∙ c.over-walk.ensures.tree)
+    c.in_ok-next-2.field-0 (c.next.ensures.tree ∙ c.begin.ensures.tree)
     first.same second.same c.in_ok-next-2.ensures.next (λ back. (
       row ∷ [],
-      read_on g.S.Store start start next Book c.over-walk.result c.next.new.self
-          c.in_ok-next.field-0 c.over-walk.ensures.tree (no_look g.S.Store start)
+      read_on g.S.Store start start next Book c.begin.new.self c.next.new.self
+          c.in_ok-next.field-0 c.begin.ensures.tree (no_look g.S.Store start)
           first.same c.in_ok-next.ensures.next
-          (λ before. ([], c.over-walk.ensures.start rows)) back c.if-not-branch.false,
+          (λ before. ([], c.begin.ensures.start rows)) back c.if-not-branch.false,
     )) clean c.if-branch.true in
     let none = (own_book_row (g.S.Store.view start).trees own row (c.next-2.new.self.row ∷ place.0)
     place.1).1 in

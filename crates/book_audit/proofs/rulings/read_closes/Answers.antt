@@ -31,13 +31,13 @@ closed_rows days = map closed_columns (close_entries 1 days)
 pub closes-init : goal.closes-init
 unfolding IsStrictlySortedBy
 closes-init g c = record {
-  tree = c.over-walk.ensures.tree;
+  tree = c.begin.ensures.tree;
   looks = nothing g.S.Store c.args.trees.now.store;
   walked = λ clean.
       let rows = (g.S.Store.view c.args.trees.now.store).trees 2 in
       let none : c.new-days.result.items ≡ [] = c.new-days.ensures.items in
-      subst (λ days. HasWalked Closes c.over-walk.result.key rows
-      (map closed_columns (close_entries 1 days))) (sym none) (c.over-walk.ensures.start rows);
+      subst (λ days. HasWalked Closes c.begin.new.self.key rows
+      (map closed_columns (close_entries 1 days))) (sym none) (c.begin.ensures.start rows);
   counted = sym (ap length c.new-days.ensures.items);
   days = subst (All IsDay) (sym c.new-days.ensures.items) (All-nil IsDay);
   in_order = subst (IsStrictlySortedBy int_cmp) (sym c.new-days.ensures.items) tt;

@@ -24,11 +24,11 @@ tariff_rows accepted = map tariff_columns (tariff_entries accepted)
 
 pub tariffs-init : goal.tariffs-init
 tariffs-init g c = record {
-  tree = c.over-walk.ensures.tree;
+  tree = c.begin.ensures.tree;
   looks = nothing g.S.Store c.args.trees.now.store;
   read = λ clean. (
     [],
-    c.over-walk.ensures.start ((g.S.Store.view c.args.trees.now.store).trees 1),
+    c.begin.ensures.start ((g.S.Store.view c.args.trees.now.store).trees 1),
     sym c.new-tariffs.ensures.items,
     tt,
     refl,
