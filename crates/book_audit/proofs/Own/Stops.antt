@@ -2,7 +2,7 @@
 -- where something is known of their trees.
 use Rattle.std.proofs.Common.{◌≡◌, ◌≢◌, ◌<◌, ◌≤◌, ◌∙◌, ◌++◌, ℕ, List, false, true≢false, Result, Ok}
 use Rattle.std.proofs.Common.{Err, IfErr, ap, arith, length, length-append, refl, subst, sym}
-use Rattle.std.proofs.Common.{IsErrAnd, ◌⊎◌, inl, inr}
+use Rattle.std.proofs.Common.{Option, Some, None, IfSome, IsErrAnd, ◌⊎◌, inl, inr}
 use Rattle.sqlite_disk.specs.Disk.{MoreFaults}
 use Rattle.sqlite_trees.specs.Tree.{Trees}
 use Rattle.sqlite_trees.specs.View.{HasCause, IsClean, View}
@@ -39,6 +39,14 @@ pub err_passed : {A E : Type 0} (Said : E → Type 0) (error : E) (result : Resu
     → IsErrAnd result (λ other. other ≡ error) → Said error → IfErr result Said
 err_passed Said error (Err other) is said = subst Said (sym is) said
 err_passed Said error (Ok value) is said = absurd is
+
+-- what is said of something that was found
+pub some_said : {A : Type 0} (Said : A → Type 0) (found : Option A) (value : A) → found ≡ Some value
+    → IfSome found Said → Said value
+some_said Said (Some one) value is said =
+    let same : one ≡ value = (let e = is in cc) in
+    subst Said same said
+some_said Said None value is said = absurd (let e = is in cc)
 
 -- what stands for an error of a store that was whole has the error's cause
 by_cause : (view : View) (old new : ℕ) (error : StoreError) (stop : Stop)
@@ -193,7 +201,7 @@ module _ {S : Type 0} (ghosts : Ghosts S) where
   }
 
   -- want of memory is no finding
-  pub for_memory : {When : Type 0} (old new : S) (stop : Stop) → stop ≡ Fault Memory
+  for_memory : {When : Type 0} (old new : S) (stop : Stop) → stop ≡ Fault Memory
       → CommitsNothing ghosts old new → IsStop ghosts old new When stop
   for_memory old new stop memory quiet = record {
     quiet = quiet;

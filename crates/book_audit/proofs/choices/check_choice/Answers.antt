@@ -51,7 +51,8 @@ returns-then-not-branch-clause-looks g c =
     let found : Row = c.has_choice_name.new.self.found in
     let at_one : IsClean (g.S.Store.view one) = look_back g.S.Store one new second.same clean in
     let looked : Finds (Blob choice.name ∷ Int (pos choice.number) ∷ [])
-    ((g.S.Store.view one).trees 9) found c.in_ok-has_choice_name.field-0 = search rules in
+    ((g.S.Store.view one).trees 9) found c.in_ok-has_choice_name.field-0 =
+    c.in_ok-has_choice_name.ensures.found clean in
     chosen_found (g.S.Store.view start).trees own c.args.rule choice
     (given (look_back g.S.Store start one first.same at_one) own).one found
     (subst (λ (all : Trees). Finds (Blob choice.name ∷ Int (pos choice.number) ∷ []) (all 9) found false)

@@ -9,7 +9,7 @@ use Rattle.book_audit.specs.Looks.{IsLook}
 use Rattle.book_audit.specs.Rules.{may_split}
 use Rattle.book_audit.specs.Trees.{FindsTwo}
 use Rattle.book_audit.proofs.Own.Choices.{chosen_held, chosen_shares}
-use Rattle.book_audit.proofs.Own.Stops.{looked_on, never, nothing, passed, stopped_on}
+use Rattle.book_audit.proofs.Own.Stops.{looked_on, never, nothing, passed, some_said, stopped_on}
 use Rattle.book_audit.proofs.Walks.Steps.{look_back, trees_stay}
 use Rattle.book_audit.proofs.choices.chosen_identity.Goals as goal
 
@@ -68,10 +68,13 @@ returns-then-not-may_be_chosen-clause-looks g c =
     let identity : List ℕ = c.in-Some.identity.items in
     let next : Row = c.is_shared.new.self.found in
     let at_one : IsClean (g.S.Store.view one) = look_back g.S.Store one new second.same clean in
-    let finds : Finds (Blob choice.name ∷ []) (trees 3) found true = search rules in
-    let says : column found 1 ≡ Blob identity = search rules in
+    let finds : Finds (Blob choice.name ∷ []) (trees 3) found true =
+    subst (Finds (Blob choice.name ∷ []) (trees 3) found) (ap is_some c.in-Some.is)
+    (c.in_ok-identity.ensures.found at_one) in
+    let says : column found 1 ≡ Blob identity =
+    some_said _ _ _ c.in-Some.is c.in_ok-identity.ensures.read in
     let looked : FindsTwo (Blob identity ∷ []) ((g.S.Store.view one).trees 6) next c.in_ok-is_shared.is_shared =
-    search rules in
+    c.in_ok-is_shared.ensures.found clean in
     let shares = chosen_shares trees own c.args.rule choice
     (given (look_back g.S.Store start one first.same at_one) own) found identity next
     c.in_ok-is_shared.is_shared finds says

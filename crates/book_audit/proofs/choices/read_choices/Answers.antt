@@ -52,7 +52,7 @@ choices-preserved g c =
     let row : Row = c.next.new.self.row in
     let choice = c.in-Ok.choice in
     let entry : ℕ × ChoiceRow = entry_of choice in
-    let is : row ≡ choice_columns entry = search rules in
+    let is : row ≡ choice_columns entry = sym c.row.ensures ∙ c.in-Ok.ensures.read in
     let call : IsLook g.S.Store mid next = c.in_ok-next.ensures.looks in
     let check : IsLook g.S.Store next new = c.in_ok-check_choice.ensures.looks in
     let both : IsLook g.S.Store start next = looked_on g.S.Store start mid next so_far.looks call in
@@ -194,7 +194,7 @@ returns-in_err-check_choice-clause-looks g c =
     let row : Row = c.next.new.self.row in
     let choice = c.in-Ok.choice in
     let stop = c.in_err-check_choice.field-0.0 in
-    let is : row ≡ choice_columns (entry_of choice) = search rules in
+    let is : row ≡ choice_columns (entry_of choice) = sym c.row.ensures ∙ c.in-Ok.ensures.read in
     let call : IsLook g.S.Store mid next = c.in_ok-next.ensures.looks in
     let both : IsLook g.S.Store start next = looked_on g.S.Store start mid next so_far.looks call in
     passed g.S.Store start new stop _ c.from_residual-in_err-check_choice.ensures.1

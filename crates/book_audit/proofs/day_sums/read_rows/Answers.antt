@@ -1,11 +1,12 @@
-use Rattle.std.proofs.Common.{◌≡◌, ◌∙◌, ℕ, ℤ, List, map, take, rules, subst, sym}
+use Rattle.std.proofs.Common.{◌≡◌, ◌∙◌, ℕ, ℤ, List, ap, map, take, subst, sym}
+use Rattle.std.proofs.lemmas.List.{take_all}
 use Rattle.sqlite_value.specs.Order.{Row, column}
 use Rattle.book_model.specs.declared.row.ChargeRow.{ChargeRow}
 use Rattle.consistent_tables.specs.DueRows.{due_entry}
 use Rattle.tree_tables.specs.Fits.{ChargeFits, HasPeriod}
 use Rattle.tree_tables.specs.Columns.{day_columns}
 use Rattle.book_audit.specs.Looks.{IsLook}
-use Rattle.book_audit.specs.Walks.{HasWalked}
+use Rattle.book_audit.specs.Walks.{AreRising, HasWalked}
 use Rattle.book_audit.specs.declared.finding.Tree.TheVariants.{Days}
 use Rattle.book_audit.proofs.Own.Days.{no_fewer, no_further, own_days_fit, row_next}
 use Rattle.book_audit.proofs.Own.Stops.{looked_on, never, nothing, passed, walk_stopped}
@@ -32,7 +33,8 @@ rows-preserved g c =
     let so_far = c.rows.invariant in
     let row : Row = c.next.new.self.row in
     let closes : List ℤ = c.args.rulings.now.closes.items in
-    let is : row ≡ day_columns (due_entry closes c.next-item.result) = search rules in
+    let is : row ≡ day_columns (due_entry closes c.next-item.result) =
+    sym c.row.ensures ∙ c.in_ok-check_row.ensures.due in
     let call : IsLook g.S.Store mid next = c.in_ok-next.ensures.looks in
     let done : List Row = first_due closes c.args.due.now c.rows.next-index in
     record {
@@ -46,6 +48,27 @@ rows-preserved g c =
           so_far.tree so_far.looks.same call.same c.in_ok-next.ensures.next
           (λ back. (done, so_far.walked back)) clean c.if-not-branch.false);
     }
+
+-- all rows are those that are due where there are no more
+pub returns-clause-rows : goal.returns-clause-rows
+returns-clause-rows g c clean =
+    let start = c.args.trees.now.store in
+    let mid = c.rows.trees.store in
+    let next = c.next-2.new.trees.store in
+    let so_far = c.rows.invariant in
+    let call : IsLook g.S.Store mid next = c.in_ok-next-2.ensures.looks in
+    let closes : List ℤ = c.args.rulings.now.closes.items in
+    let due : List ChargeRow = c.args.due.now in
+    let done : List Row = first_due closes due c.rows.next-index in
+    let all : (g.S.Store.view start).trees 4 ≡ done =
+    read_all g.S.Store start mid next Days c.rows.walk c.next-2.new.self c.in_ok-next-2.field-0
+    so_far.tree so_far.looks.same call.same c.in_ok-next-2.ensures.next
+    (λ back. (done, so_far.walked back)) clean c.if-branch.false in (
+      all ∙ ap (λ (sums : List ChargeRow). map day_columns (map (due_entry closes) sums))
+          (take_all c.rows.next-index due c.rows-test.false),
+      subst (AreRising Days) (sym all)
+          (so_far.walked (look_back g.S.Store mid next call.same clean)).rising,
+    )
 
 -- the rows of own books are all read,
 pub returns-in_err-next-clause-looks : goal.returns-in_err-next-clause-looks

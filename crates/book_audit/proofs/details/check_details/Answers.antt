@@ -12,10 +12,10 @@ use Rattle.tree_tables.specs.Fits.{DetailFits}
 use Rattle.tree_tables.specs.Holds.{Holds}
 use Rattle.book_audit.specs.Details.{ShowsCounted}
 use Rattle.book_audit.specs.Looks.{IsLook}
-use Rattle.book_audit.specs.Walks.{HasWalked}
+use Rattle.book_audit.specs.Walks.{AreRising, HasWalked}
 use Rattle.book_audit.specs.declared.finding.Tree.TheVariants.{Details}
 use Rattle.book_audit.specs.SoundTrees.{AreRuled}
-use Rattle.book_audit.proofs.Walks.Steps.{its_row, look_back, read_on, trees_stay}
+use Rattle.book_audit.proofs.Walks.Steps.{its_row, look_back, read_all, read_on, trees_stay}
 use Rattle.book_audit.proofs.Own.Details.{IsShownOf, shown_had, shown_of, shown_row_fits}
 use Rattle.book_audit.proofs.Own.Stops.{looked_on, never, nothing, passed, stopped_on, walk_ends}
 use Rattle.book_audit.proofs.Own.Stops.{walk_stopped}
@@ -47,7 +47,7 @@ rows-preserved g c =
     let so_far = c.rows.invariant in
     let row : Row = c.next.new.self.row in
     let shown : Detail = c.in-Ok.shown in
-    let is : row ≡ detail_columns (shown, tt) = search rules in
+    let is : row ≡ detail_columns (shown, tt) = sym c.row.ensures ∙ c.in-Ok.ensures.read in
     let call : IsLook g.S.Store mid next = c.in_ok-next.ensures.looks in
     let check : IsLook g.S.Store next new = c.in_ok-check_shown.ensures.looks in
     let both : IsLook g.S.Store start next = looked_on g.S.Store start mid next so_far.looks call in
@@ -75,6 +75,26 @@ rows-preserved g c =
                 (counted, tt),
             omega (arith, so_many, long),
           );
+    }
+
+-- all rows are those of details where there are no more
+pub returns-then-not-branch-clause-details : goal.returns-then-not-branch-clause-details
+returns-then-not-branch-clause-details g c clean =
+    let start = c.args.trees.now.store in
+    let mid = c.rows.trees.store in
+    let next = c.next.new.trees.store in
+    let so_far = c.rows.invariant in
+    let call : IsLook g.S.Store mid next = c.in_ok-next.ensures.looks in
+    let back : IsClean (g.S.Store.view mid) = look_back g.S.Store mid next call.same clean in
+    let read = so_far.read back in
+    let all = read_all g.S.Store start mid next Details c.rows.walk c.next.new.self c.in_ok-next.field-0
+    so_far.tree so_far.looks.same call.same c.in_ok-next.ensures.next
+    (λ back. let read = so_far.read back in (map shown_row read.0, read.1)) clean c.if-not-branch.true in
+    record {
+      shown = read.0;
+      are = all;
+      rising = subst (AreRising Details) (sym all) read.1.rising;
+      each = read.2;
     }
 
 -- the rows of own books are all read
@@ -122,7 +142,8 @@ returns-in_err-check_shown-clause-looks g c =
     let new = c.check_shown.new.trees.store in
     let so_far = c.rows.invariant in
     let shown : Detail = c.in-Ok.shown in
-    let is : c.next.new.self.row ≡ detail_columns (shown, tt) = search rules in
+    let is : c.next.new.self.row ≡ detail_columns (shown, tt) =
+    sym c.row.ensures ∙ c.in-Ok.ensures.read in
     let call : IsLook g.S.Store mid next = c.in_ok-next.ensures.looks in
     let both : IsLook g.S.Store start next = looked_on g.S.Store start mid next so_far.looks call in
     let stop = c.in_err-check_shown.field-0.0 in

@@ -1,11 +1,10 @@
-use Rattle.std.proofs.Common.{rules}
 use Rattle.sqlite_trees.specs.Tree.{Trees}
 use Rattle.sqlite_trees.specs.View.{IsClean}
 use Rattle.book_audit.specs.Looks.{IsLook}
 use Rattle.book_audit.specs.Own.{AreOwn}
 use Rattle.book_audit.specs.OwnRecords.{IsShownIn}
 use Rattle.book_audit.specs.SoundTrees.{AreRuled}
-use Rattle.book_audit.proofs.Own.Stops.{never, nothing, passed, stopped_on}
+use Rattle.book_audit.proofs.Own.Stops.{never, nothing, passed, some_said, stopped_on}
 use Rattle.book_audit.proofs.Walks.Steps.{look_back}
 use Rattle.book_audit.proofs.details.check_shown.Goals as goal
 
@@ -30,7 +29,7 @@ returns-in-Some-clause-looks g c =
     let call : IsLook g.S.Store start new = c.in_ok-wrong.ensures.looks in
     let shown = c.args.shown.now in
     let refused : IsClean (g.S.Store.view new) → AreOwn trees → AreRuled trees c.args.rulings.now
-    → IsShownIn trees shown → ⊥ = search rules in
+    → IsShownIn trees shown → ⊥ = some_said _ _ _ c.in-Some.is c.in_ok-wrong.ensures.other in
     never g.S.Store start new _ call.quiet (λ known clean own.
     let its = known (look_back g.S.Store start new call.same clean) in
     refused clean own its.0 its.1)

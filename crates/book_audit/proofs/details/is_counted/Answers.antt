@@ -4,7 +4,7 @@ use Rattle.sqlite_trees.specs.View.{IsClean}
 use Rattle.tree_tables.specs.Stored.{stored_entry}
 use Rattle.book_audit.specs.Records.{HasPast}
 use Rattle.book_audit.proofs.Own.Records.{own_counts}
-use Rattle.book_audit.proofs.Own.Stops.{passed}
+use Rattle.book_audit.proofs.Own.Stops.{passed, some_said}
 use Rattle.book_audit.proofs.details.is_counted.Goals as goal
 
 -- a record of own books that is counted is counted by its lines
@@ -16,7 +16,7 @@ returns-in-Some-clause-other g c clean none are is =
     let entry = stored_entry c.args.stored.now in
     let counted = c.in-Some.counted in
     let told : IsClean (g.S.Store.view new) → HasPast (trees 5) rulings.closes.items entry counted =
-    search rules in
+    some_said _ _ _ c.in-Some.is c.in_ok-counted.ensures.past in
     true≢false (sym is.counted ∙ sym (own_counts trees rulings entry
     (record { own = is.own; ruled = are.ruled; held = are.held }) counted (told clean)) ∙ none)
 

@@ -16,7 +16,7 @@ use Rattle.book_audit.specs.Details.{IsCounted}
 use Rattle.book_audit.specs.OwnRecords.{AreOwnOf, IsCountedIn}
 use Rattle.book_audit.proofs.Held.Looks.{record_looked}
 use Rattle.book_audit.proofs.Own.Details.{own_row, own_shown_at, own_usage}
-use Rattle.book_audit.proofs.Own.Stops.{looked_on, passed, stopped_on}
+use Rattle.book_audit.proofs.Own.Stops.{looked_on, passed, some_said, stopped_on}
 use Rattle.book_audit.proofs.Own.Tables.{own_tables}
 use Rattle.book_audit.proofs.Walks.Steps.{look_back, trees_stay}
 use Rattle.book_audit.proofs.details.wrong_with.Goals as goal
@@ -31,13 +31,14 @@ returns-clause-counted g c clean none =
     let stored = c.in-Some.record in
     let entry : List ℕ × RecordRow = stored_entry stored in
     let held : IsClean (g.S.Store.view mid) → Finds (Blob shown.name ∷ []) (trees 3)
-    (record_columns (stored_entry stored)) true = search rules in
+    (record_columns (stored_entry stored)) true =
+    some_said _ _ _ c.in-Some.is c.in_ok-record.ensures.read in
     let first : OnlyLooks g.S.Store start mid = c.in_ok-record.ensures.looks.same in
     let back : IsClean (g.S.Store.view mid) =
     look_back g.S.Store mid c.is_counted.new.trees.store c.in_ok-is_counted.ensures.looks.same clean in
     let is : shown ≡ detail_with shown.name (record_with stored.data_bytes.items) stored.priced =
     search rules in
-    let counted : c.in_ok-is_counted.field-0 ≡ true = search rules in
+    let counted : c.in_ok-is_counted.field-0 ≡ true = c.if-not-branch.false in
     record {
       entry = entry;
       held = held back;
@@ -78,7 +79,8 @@ returns-in_err-put_usage-clause-looks g c =
     let stored = c.in-Some.record in
     let stop = c.in_err-put_usage.field-0.0 in
     let held : IsClean (g.S.Store.view new) → Finds (Blob c.args.shown.now.name ∷ []) (trees 3)
-    (record_columns (stored_entry stored)) true = search rules in
+    (record_columns (stored_entry stored)) true =
+    some_said _ _ _ c.in-Some.is c.in_ok-record.ensures.read in
     passed g.S.Store start new stop _ c.from_residual-in_err-put_usage.ensures.1 (record {
       quiet = c.in_ok-record.ensures.looks.quiet;
       own = λ known whole other clean own. absurd (other (c.in_err-put_usage.ensures.own
@@ -95,7 +97,8 @@ returns-then-not-shows-clause-other g c =
     let shown = c.args.shown.now in
     let stored = c.in-Some.record in
     let held : IsClean (g.S.Store.view new) → Finds (Blob shown.name ∷ []) (trees 3)
-    (record_columns (stored_entry stored)) true = search rules in
+    (record_columns (stored_entry stored)) true =
+    some_said _ _ _ c.in-Some.is c.in_ok-record.ensures.read in
     let other : shown ≡ detail_with shown.name (record_with stored.data_bytes.items) stored.priced → ⊥ =
     search rules in
     λ clean own ruled is.
@@ -136,10 +139,11 @@ returns-then-not-branch-clause-other g c =
     let stored = c.in-Some.record in
     let entry : List ℕ × RecordRow = stored_entry stored in
     let held : IsClean (g.S.Store.view mid) → Finds (Blob shown.name ∷ []) (trees 3)
-    (record_columns (stored_entry stored)) true = search rules in
+    (record_columns (stored_entry stored)) true =
+    some_said _ _ _ c.in-Some.is c.in_ok-record.ensures.read in
     let first : OnlyLooks g.S.Store start mid = c.in_ok-record.ensures.looks.same in
     let second : OnlyLooks g.S.Store mid new = c.in_ok-is_counted.ensures.looks.same in
-    let none : c.in_ok-is_counted.field-0 ≡ false = search rules in
+    let none : c.in_ok-is_counted.field-0 ≡ false = c.if-not-branch.true in
     λ clean own ruled is.
     let back : IsClean (g.S.Store.view mid) = look_back g.S.Store mid new second clean in
     let stay = trees_stay g.S.Store start mid first back in

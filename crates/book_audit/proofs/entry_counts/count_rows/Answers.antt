@@ -1,12 +1,13 @@
-use Rattle.std.proofs.Common.{◌∙◌, ◌++◌, ◌∷◌, [], arith, length-append, refl, rules}
+use Rattle.std.proofs.Common.{◌∙◌, ◌++◌, ◌∷◌, [], List, arith, length-append, refl, rules, subst, sym}
+use Rattle.sqlite_trees.specs.View.{IsClean}
 use Rattle.sqlite_trees.proofs.ListLemmas.{all-append}
 use Rattle.sqlite_value.specs.Order.{Row}
-use Rattle.book_audit.specs.Entries.{IsEntry}
+use Rattle.book_audit.specs.Entries.{AreCounted, IsEntry}
 use Rattle.book_audit.specs.Looks.{IsLook}
 use Rattle.book_audit.specs.Trees.{tree_number}
 use Rattle.book_audit.proofs.Own.Entries.{own_entries}
 use Rattle.book_audit.proofs.Own.Stops.{looked_on, never, nothing, passed, walk_ends, walk_stopped}
-use Rattle.book_audit.proofs.Walks.Steps.{its_row, look_back, read_on}
+use Rattle.book_audit.proofs.Walks.Steps.{its_row, look_back, read_all, read_on}
 use Rattle.book_audit.proofs.entry_counts.count_rows.Goals as goal
 
 pub entries-init : goal.entries-init
@@ -47,6 +48,22 @@ entries-preserved g c =
             omega (arith, so_many, long),
           );
     }
+
+-- all rows are entries where there are no more
+pub returns-then-not-branch-clause-counted : goal.returns-then-not-branch-clause-counted
+returns-then-not-branch-clause-counted g c clean =
+    let start = c.args.trees.now.store in
+    let mid = c.entries.trees.store in
+    let next = c.next.new.trees.store in
+    let so_far = c.entries.invariant in
+    let call : IsLook g.S.Store mid next = c.in_ok-next.ensures.looks in
+    let back : IsClean (g.S.Store.view mid) = look_back g.S.Store mid next call.same clean in
+    let read = so_far.read back in
+    let all = read_all g.S.Store start mid next c.args.tree c.entries.walk c.next.new.self c.in_ok-next.field-0
+    so_far.tree so_far.looks.same call.same c.in_ok-next.ensures.next
+    (λ back. ((so_far.read back).0, (so_far.read back).1)) clean c.if-not-branch.true in
+    subst (λ (rows : List Row). AreCounted c.args.tree rows c.entries.count) (sym all)
+    (record { each = read.2; wide = read.1.wide; rising = read.1.rising; are = read.3 })
 
 -- the rows of own books are all read,
 pub returns-in_err-next-clause-looks : goal.returns-in_err-next-clause-looks

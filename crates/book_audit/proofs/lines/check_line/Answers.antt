@@ -10,7 +10,7 @@ use Rattle.tree_tables.specs.Columns.{record_columns}
 use Rattle.tree_tables.specs.Stored.{stored_entry}
 use Rattle.book_audit.specs.Lines.{line_entry}
 use Rattle.book_audit.proofs.Own.Records.{own_line_found, own_line_late}
-use Rattle.book_audit.proofs.Own.Stops.{never, nothing, passed, stopped_on}
+use Rattle.book_audit.proofs.Own.Stops.{never, nothing, passed, some_said, stopped_on}
 use Rattle.book_audit.proofs.Walks.Steps.{look_back}
 use Rattle.book_audit.proofs.lines.check_line.Goals.{then-line-own-via-else-line-own+then-open_period-line}
 use Rattle.book_audit.proofs.lines.check_line.Goals.{then-line-own-via-then-line-own}
@@ -21,7 +21,8 @@ returns-clause-late g c clean =
     let stored = c.in-Some.record in
     let closes : List ℤ = c.args.rulings.now.closes.items in
     let held : Finds (Blob c.args.line.now.name ∷ []) ((g.S.Store.view c.args.trees.now.store).trees 3)
-    (record_columns (stored_entry stored)) true = search rules in
+    (record_columns (stored_entry stored)) true =
+    some_said _ _ _ c.in-Some.is c.in_ok-record.ensures.read in
     let own : c.period_of-own.result ≡ period_from 1 closes stored.priced.day = search rules in
     let after : c.period_of-own.result < c.args.line.now.period = search rules in
     let begun : c.args.line.now.period ≤ length closes + 1 = search rules in
@@ -71,7 +72,8 @@ returns-then-line-own-clause-looks g c =
     let closes : List ℤ = c.args.rulings.now.closes.items in
     let known = premise (look_back g.S.Store start new c.in_ok-record.ensures.looks.same clean) in
     let held : IsClean (g.S.Store.view new) → Finds (Blob c.args.line.now.name ∷ []) (trees 3)
-    (record_columns (stored_entry stored)) true = search rules in
+    (record_columns (stored_entry stored)) true =
+    some_said _ _ _ c.in-Some.is c.in_ok-record.ensures.read in
     let period : c.period_of-own.result ≡ period_from 1 closes stored.priced.day = search rules in
     let late = own_line_late trees own c.args.rulings.now known.0 (line_entry c.args.line.now) known.1
     (stored_entry stored) (held clean) in

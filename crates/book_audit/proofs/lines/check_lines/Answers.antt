@@ -11,10 +11,10 @@ use Rattle.tree_tables.specs.Fits.{HasPeriod, LineFits}
 use Rattle.tree_tables.specs.Holds.{Holds}
 use Rattle.book_audit.specs.Lines.{IsLateLine, line_entry}
 use Rattle.book_audit.specs.Looks.{IsLook}
-use Rattle.book_audit.specs.Walks.{HasWalked}
+use Rattle.book_audit.specs.Walks.{AreRising, HasWalked}
 use Rattle.book_audit.specs.declared.finding.Tree.TheVariants.{Lines}
 use Rattle.book_audit.specs.SoundTrees.{AreRuled}
-use Rattle.book_audit.proofs.Walks.Steps.{its_row, look_back, read_on, trees_stay}
+use Rattle.book_audit.proofs.Walks.Steps.{its_row, look_back, read_all, read_on, trees_stay}
 use Rattle.book_audit.proofs.Own.Records.{IsLineOf, line_had, line_row_fits, lines_of}
 use Rattle.book_audit.proofs.Own.Stops.{looked_on, never, nothing, passed, stopped_on, walk_ends}
 use Rattle.book_audit.proofs.Own.Stops.{walk_stopped}
@@ -42,7 +42,7 @@ lines-preserved g c =
     let so_far = c.lines.invariant in
     let row : Row = c.next.new.self.row in
     let entry : (ℕ × List ℕ) × Bool = line_entry c.in-Ok.line in
-    let is : row ≡ line_columns entry = search rules in
+    let is : row ≡ line_columns entry = sym c.row.ensures ∙ c.in-Ok.ensures.read in
     let call : IsLook g.S.Store mid next = c.in_ok-next.ensures.looks in
     let check : IsLook g.S.Store next new = c.in_ok-check_line.ensures.looks in
     let both : IsLook g.S.Store start next = looked_on g.S.Store start mid next so_far.looks call in
@@ -70,6 +70,27 @@ lines-preserved g c =
             all-append (IsLateLine ((g.S.Store.view start).trees 3) closes) read.0 (entry ∷ [])
                 read.3 (late, tt),
           );
+    }
+
+-- all rows are those of lines where there are no more
+pub returns-then-not-branch-clause-lines : goal.returns-then-not-branch-clause-lines
+returns-then-not-branch-clause-lines g c clean =
+    let start = c.args.trees.now.store in
+    let mid = c.lines.trees.store in
+    let next = c.next.new.trees.store in
+    let so_far = c.lines.invariant in
+    let call : IsLook g.S.Store mid next = c.in_ok-next.ensures.looks in
+    let back : IsClean (g.S.Store.view mid) = look_back g.S.Store mid next call.same clean in
+    let read = so_far.read back in
+    let all = read_all g.S.Store start mid next Lines c.lines.walk c.next.new.self c.in_ok-next.field-0
+    so_far.tree so_far.looks.same call.same c.in_ok-next.ensures.next
+    (λ back. let read = so_far.read back in (map line_columns read.0, read.1)) clean c.if-not-branch.true in
+    record {
+      lines = read.0;
+      are = all;
+      rising = subst (AreRising Lines) (sym all) read.1.rising;
+      each = read.3;
+      counted = read.2;
     }
 
 -- the rows of own books are all read,
@@ -120,7 +141,7 @@ returns-in_err-check_line-clause-looks g c =
     let new = c.check_line.new.trees.store in
     let so_far = c.lines.invariant in
     let entry : (ℕ × List ℕ) × Bool = line_entry c.in-Ok.line in
-    let is : c.next.new.self.row ≡ line_columns entry = search rules in
+    let is : c.next.new.self.row ≡ line_columns entry = sym c.row.ensures ∙ c.in-Ok.ensures.read in
     let call : IsLook g.S.Store mid next = c.in_ok-next.ensures.looks in
     let both : IsLook g.S.Store start next = looked_on g.S.Store start mid next so_far.looks call in
     let stop = c.in_err-check_line.field-0.0 in

@@ -1,10 +1,11 @@
-use Rattle.std.proofs.Common.{rules, subst, sym}
+use Rattle.std.proofs.Common.{◌≡◌, refl, subst, sym}
 use Rattle.sqlite_trees.specs.Tree.{Trees}
 use Rattle.sqlite_trees.specs.View.{IsClean}
 use Rattle.tree_tables.specs.Stored.{stored_entry}
 use Rattle.book_audit.specs.Looks.{IsLook}
 use Rattle.book_audit.specs.OwnRecords.{AreOwnOf}
-use Rattle.book_audit.proofs.Own.Stops.{looked_on, never, nothing, passed, stopped_on}
+use Rattle.book_audit.specs.declared.rulings.Rulings.{Rulings}
+use Rattle.book_audit.proofs.Own.Stops.{looked_on, never, nothing, passed, some_said, stopped_on}
 use Rattle.book_audit.proofs.Walks.Steps.{look_back, trees_stay}
 use Rattle.book_audit.proofs.marks.check_marks.Goals as goal
 
@@ -47,10 +48,11 @@ returns-in-Some-clause-looks g c =
     let trees : Trees = (g.S.Store.view start).trees in
     let rulings = c.args.rulings.now in
     let call : IsLook g.S.Store start new = c.in_ok-wrong.ensures.looks in
-    let refused : IsClean (g.S.Store.view new) → AreOwnOf trees rulings (stored_entry c.args.stored.now)
-    → ⊥ = search rules in
+    let other : IsClean (g.S.Store.view new) → (its : Rulings) → its.chosen ≡ rulings.chosen
+    → AreOwnOf trees its (stored_entry c.args.stored.now) → ⊥ =
+    some_said _ _ _ c.in-Some.is c.in_ok-wrong.ensures.other in
     never g.S.Store start new _ call.quiet (λ known clean own.
-    refused clean (known (look_back g.S.Store start new call.same clean)))
+    other clean rulings refl (known (look_back g.S.Store start new call.same clean)))
 
 -- it is posted as it is to be,
 pub returns-then-not-branch-clause-looks : goal.returns-then-not-branch-clause-looks

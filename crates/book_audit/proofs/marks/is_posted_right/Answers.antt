@@ -35,8 +35,8 @@ returns-clause-other g c clean wrong are =
     let row : Row = c.line_of.new.self.found in
     let period = length rulings.closes.items + 1 in
     let finds : IsClean (g.S.Store.view new) → Finds (Int (pos c.open_period.result)
-    ∷ Blob stored.name ∷ []) (trees 5) row (is_some line) = search rules in
-    let read : IfSome line (λ plus. column row 2 ≡ Int (pos (flag plus))) = search rules in
+    ∷ Blob stored.name ∷ []) (trees 5) row (is_some line) = c.in_ok-line.ensures.found in
+    let read : IfSome line (λ plus. column row 2 ≡ Int (pos (flag plus))) = c.in_ok-line.ensures.read in
     let number : c.open_period.result ≡ period = c.open_period.ensures.number in
     let is : IsLine (trees 5) period stored.name line = record {
       row = row;

@@ -68,8 +68,8 @@ loop-back-preserved g c =
     let period : ℕ = c.args.last - c.loop-back.back in
     let call : IsLook g.S.Store mid new = c.in_ok-line.ensures.looks in
     let finds : IsClean (g.S.Store.view new) → Finds (Int (pos period) ∷ Blob name ∷ [])
-    ((g.S.Store.view mid).trees 5) found (is_some line) = search rules in
-    let read : IfSome line (λ plus. column found 2 ≡ Int (pos (flag plus))) = search rules in
+    ((g.S.Store.view mid).trees 5) found (is_some line) = c.in_ok-line.ensures.found in
+    let read : IfSome line (λ plus. column found 2 ≡ Int (pos (flag plus))) = c.in_ok-line.ensures.read in
     let is : IsClean (g.S.Store.view new) → IsLine ((g.S.Store.view start).trees 5) period name line =
     λ clean. record {
       row = found;
@@ -126,8 +126,8 @@ returns-then-plus-now-clause-other g c clean none tables holds last turns =
     let so_far = c.loop-back.invariant in
     let call : IsLook g.S.Store mid new = c.in_ok-line.ensures.looks in
     let finds : IsClean (g.S.Store.view new) → Finds (Int (pos period) ∷ Blob name ∷ [])
-    ((g.S.Store.view mid).trees 5) found (is_some line) = search rules in
-    let read : IfSome line (λ plus. column found 2 ≡ Int (pos (flag plus))) = search rules in
+    ((g.S.Store.view mid).trees 5) found (is_some line) = c.in_ok-line.ensures.found in
+    let read : IfSome line (λ plus. column found 2 ≡ Int (pos (flag plus))) = c.in_ok-line.ensures.read in
     let before : IsClean (g.S.Store.view mid) = look_back g.S.Store mid new call.same clean in
     let trees : Trees = (g.S.Store.view start).trees in
     let is : IsLine (trees 5) period name line = record {

@@ -34,9 +34,12 @@ returns-clause-found g c clean none =
     let at_two : IsClean (g.S.Store.view two) = look_back g.S.Store two three third clean in
     let at_one : IsClean (g.S.Store.view one) = look_back g.S.Store one two second at_two in
     let identity : IsClean (g.S.Store.view one) → Finds (Blob stored.identity.items ∷ Blob stored.name ∷ [])
-    ((g.S.Store.view zero).trees 6) identity_row true = search rules in
+    ((g.S.Store.view zero).trees 6) identity_row true = λ at.
+    subst (Finds (Blob stored.identity.items ∷ Blob stored.name ∷ []) ((g.S.Store.view zero).trees 6)
+    identity_row) c.if-not-branch.false (c.in_ok-has_identity.ensures.found at) in
     let mark : IsClean (g.S.Store.view two) → Finds mark_key ((g.S.Store.view one).trees 7) mark_row true =
-    search rules in
+    λ at. subst (Finds mark_key ((g.S.Store.view one).trees 7) mark_row) c.if-not-branch-2.false
+    (c.in_ok-has_mark.ensures.found at) in
     record {
       identity = record { row = identity_row; finds = identity at_one };
       mark = record {
@@ -59,7 +62,7 @@ returns-clause-charged g c clean none =
     let second : OnlyLooks g.S.Store one two = c.in_ok-has_mark.ensures.looks.same in
     let third : OnlyLooks g.S.Store two three = c.in_ok-is_shared.ensures.looks.same in
     let looked : IsClean (g.S.Store.view three) → FindsTwo key ((g.S.Store.view two).trees 6) row shared =
-    search rules in
+    c.in_ok-is_shared.ensures.found in
     record {
       next = row;
       shared = shared;
@@ -133,7 +136,9 @@ returns-then-not-branch-clause-other g c clean rulings same are =
     let trees : Trees = (g.S.Store.view zero).trees in
     let row : Row = c.has_identity.new.self.found in
     let finds : IsClean (g.S.Store.view one) → Finds (Blob stored.identity.items ∷ Blob stored.name ∷ [])
-    (trees 6) row false = search rules in
+    (trees 6) row false = λ at.
+    subst (Finds (Blob stored.identity.items ∷ Blob stored.name ∷ []) (trees 6) row)
+    c.if-not-branch.true (c.in_ok-has_identity.ensures.found at) in
     identity_found trees (own_tables trees are.own) are.own.holds stored.name (stored_entry stored).1 row
     (are.held (own_tables trees are.own) are.own.holds) (finds clean)
 
@@ -149,8 +154,9 @@ returns-then-not-branch-2-clause-other g c clean rulings same are =
     let key : Row = Int (pos (flag stored.charged)) ∷ Blob stored.identity.items ∷ Blob stored.name ∷ [] in
     let first : OnlyLooks g.S.Store zero one = c.in_ok-has_identity.ensures.looks.same in
     let second : OnlyLooks g.S.Store one two = c.in_ok-has_mark.ensures.looks.same in
-    let finds : IsClean (g.S.Store.view two) → Finds key ((g.S.Store.view one).trees 7) row false =
-    search rules in
+    let finds : IsClean (g.S.Store.view two) → Finds key ((g.S.Store.view one).trees 7) row false = λ at.
+    subst (Finds key ((g.S.Store.view one).trees 7) row) c.if-not-branch-2.true
+    (c.in_ok-has_mark.ensures.found at) in
     mark_found trees (own_tables trees are.own) are.own.holds stored.name (stored_entry stored).1 row
     (are.held (own_tables trees are.own) are.own.holds)
     (subst (λ (all : Trees). Finds key (all 7) row false)
@@ -172,7 +178,7 @@ returns-then-stored-should_be_charged-clause-other g c clean rulings same are =
     let second : OnlyLooks g.S.Store one two = c.in_ok-has_mark.ensures.looks.same in
     let third : OnlyLooks g.S.Store two three = c.in_ok-is_shared.ensures.looks.same in
     let looked : IsClean (g.S.Store.view three) → FindsTwo key ((g.S.Store.view two).trees 6) row shared =
-    search rules in
+    c.in_ok-is_shared.ensures.found in
     let due = own_due (g.S.Store.view zero).trees rulings (stored_entry stored) row shared are
     (subst (λ (all : Trees). FindsTwo key (all 6) row shared)
     (trees_stay g.S.Store zero two (looks_on g.S.Store zero one two first second)

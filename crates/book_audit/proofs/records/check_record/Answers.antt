@@ -1,14 +1,57 @@
-use Rattle.std.proofs.Common.{◌≡◌, ◌∙◌, List, ℕ, true, rules, subst, sym}
+use Rattle.std.proofs.Common.{◌≡◌, ◌∙◌, Bool, List, ℕ, true, rules, subst, sym}
 use Rattle.sqlite_trees.specs.Tree.{Trees}
+use Rattle.sqlite_trees.specs.View.{IsClean}
+use Rattle.table_model.specs.DetailsRead.{detail_shown}
 use Rattle.table_model.specs.Tables.{RecordRow}
 use Rattle.tree_tables.specs.Stored.{stored_entry}
 use Rattle.book_audit.specs.Looks.{IsLook}
 use Rattle.book_audit.specs.OwnRecords.{IsCountedIn}
+use Rattle.book_audit.specs.Records.{HasPast, IsChecked, IsRight, detail_key, spot_of}
+use Rattle.book_audit.specs.Trees.{HasKey}
+use Rattle.book_audit.specs.declared.rulings.Rulings.{Rulings}
 use Rattle.book_audit.proofs.Own.Records.{own_counts, own_data}
 use Rattle.book_audit.proofs.Own.Stops.{looked_on, never, no_memory, nothing, passed, stopped_on}
 use Rattle.book_audit.proofs.Own.Tables.{own_tables}
 use Rattle.book_audit.proofs.Walks.Steps.{look_back, trees_stay}
 use Rattle.book_audit.proofs.records.check_record.Goals as goal
+
+-- a record that its row counts has its place and its details
+pub returns-clause-right : goal.returns-clause-right
+returns-clause-right g c clean =
+    let start = c.args.trees.now.store in
+    let mid = c.check_marks.new.trees.store in
+    let new = c.check_has_detail.new.trees.store in
+    let trees : Trees = (g.S.Store.view start).trees in
+    let rulings : Rulings = c.args.rulings.now in
+    let entry : List ℕ × RecordRow = stored_entry c.args.stored.now in
+    let counted : Bool = c.in_ok-counted.counted in
+    let yes : counted ≡ true = search rules in
+    let first : IsLook g.S.Store start mid = c.in_ok-counted.ensures.looks in
+    let second : IsLook g.S.Store mid new = c.in_ok-check_has_detail.ensures.looks in
+    let back : IsClean (g.S.Store.view mid) = look_back g.S.Store mid new second.same clean in
+    let data = c.in_ok-check_data.ensures in
+    let right : IsRight trees rulings entry = record {
+      name = data.name;
+      short = data.short;
+      usage = data.usage;
+      identity = data.identity;
+      price = data.price;
+      priced = data.priced;
+      marked = c.in_ok-counted.ensures.marked back;
+    } in
+    subst (λ (is : Bool). IsChecked trees rulings c.args.places.now.rows.entries
+    c.count.new.self.rows.entries (entry, is)) (sym yes) (record {
+      right = right;
+      past = record {
+        past = subst (HasPast (trees 5) rulings.closes.items entry) yes
+            (c.in_ok-counted.ensures.past back);
+        shown = λ same. subst (λ (all : Trees).
+            HasKey (detail_key (spot_of (detail_shown entry))) (all 10))
+            (trees_stay g.S.Store start mid first.same back)
+            (c.in_ok-check_has_detail.ensures.shown clean);
+      };
+      placed = c.in_ok-count.ensures.counts c.if-not-branch.false;
+    })
 
 -- the data of a record of own books are right,
 pub returns-in_err-check_data-clause-looks : goal.returns-in_err-check_data-clause-looks

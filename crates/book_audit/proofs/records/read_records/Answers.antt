@@ -14,12 +14,13 @@ use Rattle.tree_tables.specs.Holds.{Holds}
 use Rattle.tree_tables.specs.Fits.{RecordFits}
 use Rattle.book_audit.specs.Looks.{IsLook}
 use Rattle.book_audit.specs.Records.{IsRight, IsTold, Told, counted_prices}
-use Rattle.book_audit.specs.Walks.{HasWalked}
+use Rattle.book_audit.specs.Walks.{AreRising, HasWalked}
 use Rattle.book_audit.specs.declared.finding.Tree.TheVariants.{Records}
 use Rattle.book_audit.specs.SoundTrees.{AreRuled}
 use Rattle.book_audit.proofs.Rows.Records.{counts_none, counts_on, entries_pushed, none_yet}
 use Rattle.book_audit.proofs.Rows.Records.{row_pushed}
-use Rattle.book_audit.proofs.Walks.Steps.{its_place, its_row, look_back, read_on, trees_stay}
+use Rattle.book_audit.proofs.Walks.Steps.{its_place, its_row, look_back, read_all, read_on}
+use Rattle.book_audit.proofs.Walks.Steps.{trees_stay}
 use Rattle.book_audit.proofs.Own.Records.{IsRecordOf, record_had, record_row_fits, records_of}
 use Rattle.book_audit.proofs.Own.Stops.{looked_on, never, nothing, own_still, passed, stop_on}
 use Rattle.book_audit.proofs.Own.Stops.{walk_stopped}
@@ -52,7 +53,7 @@ records-preserved g c =
     let so_far = c.records.invariant in
     let row : Row = c.next.new.self.row in
     let told : Told = (stored_entry c.in-Ok.record, c.in_ok-check_record.field-0) in
-    let is : row ≡ record_columns told.0 = search rules in
+    let is : row ≡ record_columns told.0 = sym c.row.ensures ∙ c.in-Ok.ensures.read in
     let call : IsLook g.S.Store mid next = c.in_ok-next.ensures.looks in
     let check : IsLook g.S.Store next new = c.in_ok-check_record.ensures.looks in
     let both : IsLook g.S.Store start next = looked_on g.S.Store start mid next so_far.looks call in
@@ -83,6 +84,29 @@ records-preserved g c =
           );
     }
 
+-- all rows are those of records where there are no more
+pub returns-then-not-branch-clause-records : goal.returns-then-not-branch-clause-records
+returns-then-not-branch-clause-records g c clean =
+    let start = c.args.trees.now.store in
+    let mid = c.records.trees.store in
+    let next = c.next.new.trees.store in
+    let so_far = c.records.invariant in
+    let call : IsLook g.S.Store mid next = c.in_ok-next.ensures.looks in
+    let back : IsClean (g.S.Store.view mid) = look_back g.S.Store mid next call.same clean in
+    let read = so_far.read back in
+    let all = read_all g.S.Store start mid next Records c.records.walk c.next.new.self c.in_ok-next.field-0
+    so_far.tree so_far.looks.same call.same c.in_ok-next.ensures.next
+    (λ back. let read = so_far.read back in (rows_of read.0, read.1)) clean c.if-not-branch.true in
+    let inside = c.records-test.true in
+    record {
+      entries = read.0;
+      all = all;
+      rising = subst (AreRising Records) (sym all) read.1.rising;
+      are = read.2;
+      few = omega (arith, inside);
+      placed = read.3;
+    }
+
 -- the rows of own books are all read
 pub returns-in_err-next-clause-looks : goal.returns-in_err-next-clause-looks
 returns-in_err-next-clause-looks g c =
@@ -110,7 +134,7 @@ returns-in_err-check_record-clause-looks g c =
     let so_far = c.records.invariant in
     let row : Row = c.next.new.self.row in
     let entry : List ℕ × RecordRow = stored_entry c.in-Ok.record in
-    let is : row ≡ record_columns entry = search rules in
+    let is : row ≡ record_columns entry = sym c.row.ensures ∙ c.in-Ok.ensures.read in
     let call : IsLook g.S.Store mid next = c.in_ok-next.ensures.looks in
     let both : IsLook g.S.Store start next = looked_on g.S.Store start mid next so_far.looks call in
     let stop = c.in_err-check_record.field-0.0 in
@@ -188,7 +212,7 @@ returns-then-record-gt-MAX_COST-clause-looks g c =
     (λ known clean own.
     let row : Row = c.next.new.self.row in
     let entry : List ℕ × RecordRow = stored_entry c.in-Ok.record in
-    let is : row ≡ record_columns entry = search rules in
+    let is : row ≡ record_columns entry = sym c.row.ensures ∙ c.in-Ok.ensures.read in
     let trees : Trees = (g.S.Store.view start).trees in
     let after : IsClean (g.S.Store.view next) = look_back g.S.Store next new check.same clean in
     let read = so_far.read (look_back g.S.Store mid next call.same after) in

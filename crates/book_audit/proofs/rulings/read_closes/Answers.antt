@@ -21,7 +21,7 @@ use Rattle.book_audit.proofs.Rows.Rulings.{closes_pushed, is_later}
 use Rattle.book_audit.proofs.Own.Rulings.{own_closes_fit, own_next_close}
 use Rattle.book_audit.proofs.Own.Stops.{looked_on, never, no_memory, nothing, passed, walk_ends}
 use Rattle.book_audit.proofs.Own.Stops.{walk_stopped}
-use Rattle.book_audit.proofs.Walks.Steps.{its_place, its_row, read_on}
+use Rattle.book_audit.proofs.Walks.Steps.{its_place, its_row, read_all, read_on}
 use Rattle.book_audit.proofs.rulings.read_closes.Goals as goal
 
 -- the rows of the closes through these days
@@ -76,6 +76,19 @@ closes-preserved g c =
       in_order = subst (IsStrictlySortedBy int_cmp) (sym pushed) (rise_behind days day
           so_far.in_order (is_later (last_or None days) day next.later));
     }
+
+-- all rows are those of closes where there are no more
+pub returns-then-not-branch-clause-closed : goal.returns-then-not-branch-clause-closed
+returns-then-not-branch-clause-closed g c clean =
+    let start = c.args.trees.now.store in
+    let mid = c.closes.trees.store in
+    let next = c.next.new.trees.store in
+    let so_far = c.closes.invariant in
+    let call : IsLook g.S.Store mid next = c.in_ok-next.ensures.looks in
+    let all = read_all g.S.Store start mid next Closes c.closes.walk c.next.new.self c.in_ok-next.field-0
+    so_far.tree so_far.looks.same call.same c.in_ok-next.ensures.next
+    (λ back. (closed_rows c.closes.days.items, so_far.walked back)) clean c.if-not-branch.true in
+    record { are = all; valid = so_far.days; in_order = so_far.in_order }
 
 pub returns-in_err-next-clause-looks : goal.returns-in_err-next-clause-looks
 returns-in_err-next-clause-looks g c =

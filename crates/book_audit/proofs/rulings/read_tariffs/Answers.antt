@@ -1,6 +1,7 @@
 use Rattle.std.proofs.Common.{◌≡◌, ◌∙◌, ◌++◌, ◌∷◌, [], ℕ, ℤ, List, Option, map, arith, length}
 use Rattle.std.proofs.Common.{length-append, refl, rules, subst, sym}
 use Rattle.std.proofs.lemmas.List.{length-map}
+use Rattle.sqlite_trees.specs.View.{IsClean}
 use Rattle.sqlite_trees.proofs.ListLemmas.{all-append}
 use Rattle.sqlite_value.specs.Order.{Row}
 use Rattle.book_model.specs.Words.{AcceptedTerms, Terms}
@@ -9,13 +10,13 @@ use Rattle.table_model.specs.TablesOf.{tariff_entries}
 use Rattle.tree_tables.specs.Columns.{tariff_columns}
 use Rattle.book_audit.specs.Looks.{IsLook}
 use Rattle.book_audit.specs.Rulings.{IsTariffIn}
-use Rattle.book_audit.specs.Walks.{HasWalked}
+use Rattle.book_audit.specs.Walks.{AreRising, HasWalked}
 use Rattle.book_audit.specs.declared.finding.Tree.TheVariants.{Tariffs}
 use Rattle.book_audit.proofs.Rows.Rulings.{is_texted, tariff_pushed, terms_pushed, texted}
 use Rattle.book_audit.proofs.Own.Rulings.{IsTariffRow, own_tariffs, tariff_terms}
 use Rattle.book_audit.proofs.Own.Stops.{looked_on, no_memory, nothing, passed, walk_ends}
 use Rattle.book_audit.proofs.Own.Stops.{walk_stopped}
-use Rattle.book_audit.proofs.Walks.Steps.{its_row, look_back, read_on}
+use Rattle.book_audit.proofs.Walks.Steps.{its_row, look_back, read_all, read_on}
 use Rattle.book_audit.proofs.rulings.read_tariffs.Goals as goal
 
 -- the rows of tariffs
@@ -67,6 +68,27 @@ tariffs-preserved g c =
                 (is_texted text terms its.characters its.said its.day, tt),
             omega (arith, so_many, long),
           );
+    }
+
+-- all rows are those of tariffs where there are no more
+pub returns-then-not-branch-clause-tariffs : goal.returns-then-not-branch-clause-tariffs
+returns-then-not-branch-clause-tariffs g c clean =
+    let start = c.args.trees.now.store in
+    let mid = c.tariffs.trees.store in
+    let next = c.next.new.trees.store in
+    let so_far = c.tariffs.invariant in
+    let call : IsLook g.S.Store mid next = c.in_ok-next.ensures.looks in
+    let back : IsClean (g.S.Store.view mid) = look_back g.S.Store mid next call.same clean in
+    let read = so_far.read back in
+    let all = read_all g.S.Store start mid next Tariffs c.tariffs.walk c.next.new.self c.in_ok-next.field-0
+    so_far.tree so_far.looks.same call.same c.in_ok-next.ensures.next
+    (λ back. (tariff_rows (so_far.read back).0, (so_far.read back).1)) clean c.if-not-branch.true in
+    record {
+      accepted = read.0;
+      are = all;
+      terms = read.2;
+      texts = read.3;
+      rising = subst (AreRising Tariffs) (sym all) read.1.rising;
     }
 
 pub returns-in_err-next-clause-looks : goal.returns-in_err-next-clause-looks
