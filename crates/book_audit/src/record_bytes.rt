@@ -1,12 +1,10 @@
 //! The bytes of a record, and what they say.
 
-ghost use Rattle.std.specs.Prelude.{◌≡◌, ◌≢◌, ◌≤◌, IfErr, IfOk, IfSome, None, OnOk, Some, length};
+ghost use Rattle.std.specs.Prelude.{◌≡◌, ◌≢◌, IfErr, IfOk, IfSome, None, OnOk, Some};
 ghost use Rattle.sha2.specs.Sha256.{sha256};
-ghost use Rattle.smf_frames.specs.Framed.{most_data};
-ghost use Rattle.smf_type30.specs.Class.{IsUsage};
 ghost use Rattle.tariff_rules.specs.Price.{IsPriced};
 ghost use Rattle.book_model.specs.declared.fault.LedgerFault.TheVariants.{Memory};
-ghost use Rattle.book_audit.specs.Data.{stored_bytes, price_of};
+ghost use Rattle.book_audit.specs.Data.{price_of};
 ghost use Rattle.book_audit.specs.OwnRecords.{SaysData};
 ghost use Rattle.book_audit.specs.Rules.{identity_under};
 ghost use Rattle.book_audit.specs.declared.stop.Stop.TheVariants.{Fault};
@@ -52,13 +50,7 @@ fn wrong_by_data(
 ) -> Result<Option<Wrong>, AllocError>
     ensures name { IfOk result (λ wrong. wrong ≡ None
         → stored.now.name ≡ sha256 stored.now.data_bytes.items) }
-    ensures short { IfOk result (λ wrong. wrong ≡ None
-        → length stored.now.data_bytes.items ≤ most_data) }
-    ensures usage { IfOk result (λ wrong. wrong ≡ None → IsUsage (stored_bytes stored.now)) }
-    ensures identity { IfOk result (λ wrong. wrong ≡ None
-        → stored.now.identity.items ≡ identity_under rulings.now.rule (stored_bytes stored.now)) }
-    ensures price { IfOk result (λ wrong. wrong ≡ None
-        → price_of rulings.now.tariffs.items (stored_bytes stored.now) ≡ Some stored.now.priced) }
+    ensures says { IfOk result (λ wrong. wrong ≡ None → SaysData rulings.now stored.now) }
     ensures priced { IfOk result (λ wrong. wrong ≡ None → IsPriced stored.now.priced) }
     ensures other { IfOk result (λ wrong. IfSome wrong (λ it. ¬ SaysData rulings.now stored.now)) }
 {
@@ -82,13 +74,7 @@ pub(crate) fn check_data(
     rulings: &Rulings,
     stored: &StoredRecord,
 ) -> Result<(), Stop>
-    ensures name { OnOk result (stored.now.name ≡ sha256 stored.now.data_bytes.items) }
-    ensures short { OnOk result (length stored.now.data_bytes.items ≤ most_data) }
-    ensures usage { OnOk result (IsUsage (stored_bytes stored.now)) }
-    ensures identity { OnOk result
-        (stored.now.identity.items ≡ identity_under rulings.now.rule (stored_bytes stored.now)) }
-    ensures price { OnOk result (price_of rulings.now.tariffs.items (stored_bytes stored.now)
-        ≡ Some stored.now.priced) }
+    ensures says { OnOk result (SaysData rulings.now stored.now) }
     ensures priced { OnOk result (IsPriced stored.now.priced) }
     ensures own { IfErr result (λ stop. stop ≢ Fault Memory → ¬ SaysData rulings.now stored.now) }
 {

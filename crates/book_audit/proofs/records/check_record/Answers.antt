@@ -29,14 +29,14 @@ returns-clause-right g c clean =
     let first : IsLook g.S.Store start mid = c.in_ok-counted.ensures.looks in
     let second : IsLook g.S.Store mid new = c.in_ok-check_has_detail.ensures.looks in
     let back : IsClean (g.S.Store.view mid) = look_back g.S.Store mid new second.same clean in
-    let data = c.in_ok-check_data.ensures in
+    let data = c.in_ok-check_data.ensures.says in
     let right : IsRight trees rulings entry = record {
       name = data.name;
       short = data.short;
       usage = data.usage;
       identity = data.identity;
       price = data.price;
-      priced = data.priced;
+      priced = c.in_ok-check_data.ensures.priced;
       marked = c.in_ok-counted.ensures.marked back;
     } in
     subst (λ (is : Bool). IsChecked trees rulings c.args.places.now.rows.entries
