@@ -204,10 +204,11 @@ pub(crate) fn read_choices<S: Store, W: Watch>(
             check_entries(trees, walk, Tree::ChoiceNames, count, watch)?;
             return Ok(chosen);
         }
-        match choice_in(walk.row()) {
-            Ok(choice) => check_choice(alloc, trees, rule, open_period, &mut chosen, &choice)?,
+        let choice = match choice_in(walk.row()) {
+            Ok(choice) => choice,
             Err(error) => return Err(met(tree, error)),
-        }
+        };
+        check_choice(alloc, trees, rule, open_period, &mut chosen, &choice)?;
     }
     Err(unsound(Place::Tree(tree), Wrong::Choices))
 }

@@ -228,10 +228,11 @@ pub(crate) fn check_details<S: Store, W: Watch>(
         if !walk.next(trees)? {
             return Ok(());
         }
-        match detail_in(walk.row()) {
-            Ok(shown) => check_shown(alloc, trees, rulings, bytes, &shown)?,
+        let shown = match detail_in(walk.row()) {
+            Ok(shown) => shown,
             Err(error) => return Err(met(Tree::Details, error)),
-        }
+        };
+        check_shown(alloc, trees, rulings, bytes, &shown)?;
     }
     Err(endless())
 }

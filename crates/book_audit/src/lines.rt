@@ -86,10 +86,11 @@ pub(crate) fn check_lines<S: Store, W: Watch>(
         if !walk.next(trees)? {
             return Ok(count);
         }
-        match line_in(walk.row()) {
-            Ok(line) => check_line(alloc, trees, rulings, &line)?,
+        let line = match line_in(walk.row()) {
+            Ok(line) => line,
             Err(error) => return Err(met(Tree::Lines, error)),
-        }
+        };
+        check_line(alloc, trees, rulings, &line)?;
     }
     Err(endless())
 }

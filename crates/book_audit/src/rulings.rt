@@ -82,10 +82,7 @@ fn book_in(row: &Row) -> Result<Option<BookRow>, StoreError>
 }
 
 /// Reads the one row of the book. Trees without it hold no books.
-pub(crate) fn read_book<S: Store>(
-    trees: &mut Trees<S>,
-    walk: &mut Walk,
-) -> Result<BookRow, Stop>
+pub(crate) fn read_book<S: Store>(trees: &mut Trees<S>, walk: &mut Walk) -> Result<BookRow, Stop>
     ensures book { Tells result trees.old trees.new (λ all book. HasOneRow (all 0) book) }
     ensures looks { Looks result trees.old trees.new }
 {

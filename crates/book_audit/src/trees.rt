@@ -119,11 +119,7 @@ impl<S: Store> Trees<S> {
     }
 
     /// Whether a choice is found by the record that it names.
-    pub(crate) fn has_choice_name(
-        &mut self,
-        name: &[u8; 32],
-        number: u32,
-    ) -> Result<bool, Stop>
+    pub(crate) fn has_choice_name(&mut self, name: &[u8; 32], number: u32) -> Result<bool, Stop>
         ensures found { Tells result self.old self.new (λ all hit.
             Finds (Blob name.now ∷ Int (pos number) ∷ []) (all 9) self.new.found hit) }
         ensures looks { Looks result self.old self.new }
@@ -150,18 +146,18 @@ impl<S: Store> Trees<S> {
         ensures looks { Looks result self.old self.new }
     {
         bytes_key(&mut self.key, identity)?;
-        match first_after(&mut self.store, IDENTITIES, &self.key, &mut self.found) {
-            Ok(there) => Ok(there && has_key(&self.found, &self.key)),
-            Err(error) => Err(met(Tree::Identities, error)),
+        let there = match first_after(&mut self.store, IDENTITIES, &self.key, &mut self.found) {
+            Ok(there) => there,
+            Err(error) => return Err(met(Tree::Identities, error)),
+        };
+        if !there {
+            return Ok(false);
         }
+        Ok(has_key(&self.found, &self.key))
     }
 
     /// Whether a period's line for a record adds it, if there is a line.
-    pub(crate) fn line_of(
-        &mut self,
-        period: u16,
-        name: &[u8; 32],
-    ) -> Result<Option<bool>, Stop>
+    pub(crate) fn line_of(&mut self, period: u16, name: &[u8; 32]) -> Result<Option<bool>, Stop>
         ensures found { Tells result self.old self.new (λ all line.
             Finds (Int (pos period) ∷ Blob name.now ∷ []) (all 5) self.new.found (is_some line)) }
         ensures read { IfOk result (λ line. IfSome line (λ plus.

@@ -1,6 +1,6 @@
 -- What stops an audit of books that calls made, over a store that is only looked at meanwhile; and
 -- where something is known of their trees.
-use Rattle.std.proofs.Common.{◌≡◌, ◌≢◌, ◌<◌, ◌≤◌, ◌∙◌, ◌++◌, ℕ, List, false, true≢false, Result, Ok}
+use Rattle.std.proofs.Common.{◌≡◌, ◌≢◌, ◌<◌, ◌≤◌, ◌∙◌, ◌++◌, ℕ, List, true≢false, Result, Ok}
 use Rattle.std.proofs.Common.{Err, IfErr, ap, arith, length, length-append, refl, subst, sym}
 use Rattle.std.proofs.Common.{Option, Some, None, IfSome, IsErrAnd, ◌⊎◌, inl, inr}
 use Rattle.sqlite_disk.specs.Disk.{MoreFaults}
@@ -213,9 +213,9 @@ module _ {S : Type 0} (ghosts : Ghosts S) where
       → ((IsClean (ghosts.view old) → When) → IsClean (ghosts.view new) → AreOwn (ghosts.view old).trees
       → ⊥)
       → IsStop ghosts old new When stop
-  never old new stop quiet no = record {
+  never old new stop quiet cannot = record {
     quiet = quiet;
-    own = λ known whole other clean own. absurd (no known clean own);
+    own = λ known whole other clean own. absurd (cannot known clean own);
   }
 
   -- a stop that is passed on
@@ -227,12 +227,12 @@ module _ {S : Type 0} (ghosts : Ghosts S) where
   passed old new stop (Ok value) is call = absurd is
 
   -- and want of memory
-  pub no_memory : {A When : Type 0} (old new : S) (result : Result A Stop)
+  pub no_memory : {A : Type 0} (When : Type 0) (old new : S) (result : Result A Stop)
       → IsErrAnd result (λ stop. stop ≡ Fault Memory) → CommitsNothing ghosts old new
       → Ends ghosts old new When result
-  no_memory old new (Err stop) is quiet = for_memory old new stop is quiet
-  no_memory old new (Ok value) is quiet = absurd is
+  no_memory When old new (Err stop) is quiet = for_memory old new stop is quiet
+  no_memory When old new (Ok value) is quiet = absurd is
 
-  pub no_memory_yet : {A When : Type 0} (store : S) (result : Result A Stop)
+  pub no_memory_yet : {A : Type 0} (When : Type 0) (store : S) (result : Result A Stop)
       → IsErrAnd result (λ stop. stop ≡ Fault Memory) → Ends ghosts store store When result
-  no_memory_yet store result is = no_memory store store result is (nothing store).quiet
+  no_memory_yet When store result is = no_memory When store store result is (nothing store).quiet

@@ -1,4 +1,4 @@
-use Rattle.std.proofs.Common.{◌∷◌, [], false, pos, rules, subst}
+use Rattle.std.proofs.Common.{◌∷◌, [], false, pos, subst}
 use Rattle.sqlite_trees.specs.Tree.{Trees}
 use Rattle.sqlite_trees.specs.View.{IsClean}
 use Rattle.sqlite_value.specs.Order.{Row}
@@ -65,7 +65,7 @@ returns-in_err-put-clause-looks g c =
     let start = c.args.trees.now.store in
     let one = c.chosen_identity.new.trees.store in
     let new = c.has_choice_name.new.self.store in
-    no_memory g.S.Store start new _ c.from_residual-in_err-put.ensures.1
+    no_memory g.S.Store _ start new _ c.from_residual-in_err-put.ensures.1
     (looked_on g.S.Store start one new c.in_ok-identity.ensures.looks
     c.in_ok-has_choice_name.ensures.looks).quiet
 

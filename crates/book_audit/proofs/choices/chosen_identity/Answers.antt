@@ -74,7 +74,8 @@ returns-then-not-may_be_chosen-clause-looks g c =
     let says : column found 1 ≡ Blob identity =
     some_said _ _ _ c.in-Some.is c.in_ok-identity.ensures.read in
     let looked : FindsTwo (Blob identity ∷ []) ((g.S.Store.view one).trees 6) next c.in_ok-is_shared.is_shared =
-    c.in_ok-is_shared.ensures.found clean in
+    subst (λ bytes. FindsTwo (Blob bytes ∷ []) ((g.S.Store.view one).trees 6) next
+    c.in_ok-is_shared.is_shared) c.deref.ensures.value (c.in_ok-is_shared.ensures.found clean) in
     let shares = chosen_shares trees own c.args.rule choice
     (given (look_back g.S.Store start one first.same at_one) own) found identity next
     c.in_ok-is_shared.is_shared finds says

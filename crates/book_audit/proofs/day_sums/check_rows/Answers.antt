@@ -18,7 +18,7 @@ returns-clause-rows g c clean =
 
 pub returns-in_err-due-clause-looks : goal.returns-in_err-due-clause-looks
 returns-in_err-due-clause-looks g c =
-    no_memory_yet g.S.Store c.args.trees.now.store c.from_residual.result c.from_residual.ensures.1
+    no_memory_yet g.S.Store _ c.args.trees.now.store c.from_residual.result c.from_residual.ensures.1
 
 pub returns-in_err-read_rows-clause-looks : goal.returns-in_err-read_rows-clause-looks
 returns-in_err-read_rows-clause-looks g c =

@@ -22,7 +22,7 @@ returns-clause-late g c clean =
     let closes : List ℤ = c.args.rulings.now.closes.items in
     let held : Finds (Blob c.args.line.now.name ∷ []) ((g.S.Store.view c.args.trees.now.store).trees 3)
     (record_columns (stored_entry stored)) true =
-    some_said _ _ _ c.in-Some.is c.in_ok-record.ensures.read in
+    some_said _ _ _ c.in-Some.is c.in_ok-record.ensures.read clean in
     let own : c.period_of-own.result ≡ period_from 1 closes stored.priced.day = search rules in
     let after : c.period_of-own.result < c.args.line.now.period = search rules in
     let begun : c.args.line.now.period ≤ length closes + 1 = search rules in

@@ -62,7 +62,8 @@ returns-clause-charged g c clean none =
     let second : OnlyLooks g.S.Store one two = c.in_ok-has_mark.ensures.looks.same in
     let third : OnlyLooks g.S.Store two three = c.in_ok-is_shared.ensures.looks.same in
     let looked : IsClean (g.S.Store.view three) → FindsTwo key ((g.S.Store.view two).trees 6) row shared =
-    c.in_ok-is_shared.ensures.found in
+    λ at. subst (λ bytes. FindsTwo (Blob bytes ∷ []) ((g.S.Store.view two).trees 6) row shared)
+    c.deref.ensures.value (c.in_ok-is_shared.ensures.found at) in
     record {
       next = row;
       shared = shared;
@@ -178,7 +179,8 @@ returns-then-stored-should_be_charged-clause-other g c clean rulings same are =
     let second : OnlyLooks g.S.Store one two = c.in_ok-has_mark.ensures.looks.same in
     let third : OnlyLooks g.S.Store two three = c.in_ok-is_shared.ensures.looks.same in
     let looked : IsClean (g.S.Store.view three) → FindsTwo key ((g.S.Store.view two).trees 6) row shared =
-    c.in_ok-is_shared.ensures.found in
+    λ at. subst (λ bytes. FindsTwo (Blob bytes ∷ []) ((g.S.Store.view two).trees 6) row shared)
+    c.deref.ensures.value (c.in_ok-is_shared.ensures.found at) in
     let due = own_due (g.S.Store.view zero).trees rulings (stored_entry stored) row shared are
     (subst (λ (all : Trees). FindsTwo key (all 6) row shared)
     (trees_stay g.S.Store zero two (looks_on g.S.Store zero one two first second)

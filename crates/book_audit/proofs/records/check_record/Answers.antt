@@ -29,13 +29,13 @@ returns-clause-right g c clean =
     let first : IsLook g.S.Store start mid = c.in_ok-counted.ensures.looks in
     let second : IsLook g.S.Store mid new = c.in_ok-check_has_detail.ensures.looks in
     let back : IsClean (g.S.Store.view mid) = look_back g.S.Store mid new second.same clean in
-    let data = c.in_ok-check_data.ensures.says in
+    let says = c.in_ok-check_data.ensures.says in
     let right : IsRight trees rulings entry = record {
-      name = data.name;
-      short = data.short;
-      usage = data.usage;
-      identity = data.identity;
-      price = data.price;
+      name = says.name;
+      short = says.short;
+      usage = says.usage;
+      identity = says.identity;
+      price = says.price;
       priced = c.in_ok-check_data.ensures.priced;
       marked = c.in_ok-counted.ensures.marked back;
     } in
@@ -105,7 +105,7 @@ returns-in_err-count-clause-looks g c =
     let start = c.args.trees.now.store in
     let mid = c.check_marks.new.trees.store in
     let new = c.check_has_detail.new.trees.store in
-    no_memory g.S.Store start new _ c.from_residual-in_err-count.ensures.1
+    no_memory g.S.Store _ start new _ c.from_residual-in_err-count.ensures.1
     (looked_on g.S.Store start mid new c.in_ok-counted.ensures.looks
     c.in_ok-check_has_detail.ensures.looks).quiet
 

@@ -110,7 +110,7 @@ pub returns-in_err-push-clause-looks : goal.returns-in_err-push-clause-looks
 returns-in_err-push-clause-looks g c =
     let start = c.args.trees.now.store in
     let next = c.next.new.trees.store in
-    no_memory g.S.Store start next _ c.from_residual-in_err-push.ensures.1
+    no_memory g.S.Store _ start next _ c.from_residual-in_err-push.ensures.1
     (looked_on g.S.Store start c.closes.trees.store next c.closes.invariant.looks
     c.in_ok-next.ensures.looks).quiet
 

@@ -1,5 +1,5 @@
 use Rattle.std.proofs.Common.{◌≡◌, ◌∙◌, ◌++◌, ◌∷◌, [], ℕ, ℤ, List, Option, map, arith, length}
-use Rattle.std.proofs.Common.{length-append, refl, rules, subst, sym}
+use Rattle.std.proofs.Common.{length-append, refl, subst, sym}
 use Rattle.std.proofs.lemmas.List.{length-map}
 use Rattle.sqlite_trees.specs.View.{IsClean}
 use Rattle.sqlite_trees.proofs.ListLemmas.{all-append}
@@ -111,7 +111,7 @@ pub returns-in_err-push-clause-looks : goal.returns-in_err-push-clause-looks
 returns-in_err-push-clause-looks g c =
     let start = c.args.trees.now.store in
     let next = c.next.new.trees.store in
-    no_memory g.S.Store start next _ c.from_residual-in_err-push.ensures.1
+    no_memory g.S.Store _ start next _ c.from_residual-in_err-push.ensures.1
     (looked_on g.S.Store start c.tariffs.trees.store next c.tariffs.invariant.looks
     c.in_ok-next.ensures.looks).quiet
 

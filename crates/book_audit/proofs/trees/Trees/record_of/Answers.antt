@@ -12,7 +12,7 @@ use Rattle.book_audit.proofs.trees.Trees.record_of.Goals as goal
 
 pub returns-in_err-bytes_key-clause-looks : goal.returns-in_err-bytes_key-clause-looks
 returns-in_err-bytes_key-clause-looks g c =
-    no_memory_yet g.S.Store c.args.self.now.store c.from_residual.result c.from_residual.ensures.1
+    no_memory_yet g.S.Store _ c.args.self.now.store c.from_residual.result c.from_residual.ensures.1
 
 pub returns-in_err-finds-clause-looks : goal.returns-in_err-finds-clause-looks
 returns-in_err-finds-clause-looks g c =

@@ -40,7 +40,7 @@ returns-then-not-there-clause-looks g c =
 
 pub returns-in_err-take_key-clause-looks : goal.returns-in_err-take_key-clause-looks
 returns-in_err-take_key-clause-looks g c =
-    no_memory g.S.Store c.args.trees.now.store c.row_past.new.self.store c.from_residual.result
+    no_memory g.S.Store _ c.args.trees.now.store c.row_past.new.self.store c.from_residual.result
     c.from_residual.ensures.1 c.row_past.ensures.quiet
 
 -- a row that could not be read has a cause
