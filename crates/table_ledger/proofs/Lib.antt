@@ -61,3 +61,5 @@ mod IdleRecords
 mod TraceLemmas
 mod ChosenOrder
 mod TrailTries
+mod GivenUp
+mod LooksRefused

@@ -1,11 +1,12 @@
-use Rattle.std.proofs.Common.{◌≡◌, ◌∙◌, ap, sym, true, false, List}
+use Rattle.std.proofs.Common.{◌≡◌, ◌∙◌, ap, refl, sym, true, List}
 use Rattle.table_model.specs.Words.{lines_read, is_period, tables_of}
 use Rattle.table_model.proofs.ListLemmas.{lists_follow}
 use Rattle.table_ledger.proofs.Words.{StoredLine, lines_stored}
 use Rattle.book_core.specs.Words.{ruled_in}
 use Rattle.table_ledger.proofs.LineReadings.{lines_listed}
 use Rattle.table_ledger.proofs.ListReadings.{period_read}
-use Rattle.table_ledger.proofs.TryLemmas.{saw_found, saw_none, saw_then}
+use Rattle.table_ledger.proofs.GivenUp.{given_up}
+use Rattle.table_ledger.proofs.TryLemmas.{saw_found, saw_none, saw_then, try_refused}
 use Rattle.table_ledger.proofs.OwnBooks.{own_failed}
 use Rattle.table_ledger.proofs.BookLists.{own_lines, own_records, own_rise, own_shown}
 use Rattle.table_ledger.proofs.adjustments.try_adjustments.Goals as goal
@@ -56,3 +57,19 @@ returns-in_default-clause-own g c = λ naming wide clean book ready.
     let shown = own_shown ready number there c.in_ok-found.found.items
     c.in_ok-lines.lines.items known.0 read in
     absurd (c.sorted.ensures.refused c.in_default.is rise shown)
+
+-- ---- what is not read leaves all as it was
+
+pub returns-in_err-found-clause-tries : goal.returns-in_err-found-clause-tries
+returns-in_err-found-clause-tries g c = λ naming.
+    try_refused _ c.from_residual.ensures.0 saw_none c.in_err-found.ensures.looks
+
+pub returns-in_err-lines-clause-tries : goal.returns-in_err-lines-clause-tries
+returns-in_err-lines-clause-tries g c = λ naming.
+    try_refused _ c.from_residual-in_err-lines.ensures.0 (saw_found c.in_ok-found.ensures.looks)
+    c.in_err-lines.ensures.looks
+
+pub returns-in_default-clause-tries : goal.returns-in_default-clause-tries
+returns-in_default-clause-tries g c = λ naming.
+    given_up _ refl (saw_then (saw_found c.in_ok-found.ensures.looks)
+    (saw_found c.in_ok-lines.ensures.looks))

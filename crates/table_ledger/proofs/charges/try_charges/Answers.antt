@@ -1,4 +1,4 @@
-use Rattle.std.proofs.Common.{◌≡◌, ◌∙◌, sym, subst, true, false}
+use Rattle.std.proofs.Common.{◌≡◌, ◌∙◌, refl, sym, subst, true}
 use Rattle.book_model.specs.Words.{AreRows}
 use Rattle.table_model.specs.Words.{rows_read, tables_of, is_period}
 use Rattle.table_model.proofs.ListLemmas.{lists_follow}
@@ -6,7 +6,8 @@ use Rattle.book_core.specs.Words.{ruled_in}
 use Rattle.table_ledger.proofs.ListReadings.{period_read}
 use Rattle.table_ledger.proofs.BookLists.{own_days, own_rows}
 use Rattle.table_ledger.proofs.OwnBooks.{own_failed}
-use Rattle.table_ledger.proofs.TryLemmas.{saw_found, saw_none}
+use Rattle.table_ledger.proofs.GivenUp.{given_up}
+use Rattle.table_ledger.proofs.TryLemmas.{saw_found, saw_none, try_refused}
 use Rattle.table_ledger.proofs.charges.try_charges.Goals as goal
 
 pub returns-clause-tries : goal.returns-clause-tries
@@ -36,3 +37,13 @@ returns-then-not-can_show-clause-own g c = λ naming clean book ready.
     absurd (c.can_show.ensures.refused c.if-not-can_show.true
     (subst AreRows (sym c.deref.ensures.value)
     (own_rows ready number c.in_ok-rows.rows.items there lists)))
+
+-- ---- what is not read leaves all as it was
+
+pub returns-in_err-rows-clause-tries : goal.returns-in_err-rows-clause-tries
+returns-in_err-rows-clause-tries g c = λ naming.
+    try_refused _ c.from_residual.ensures.0 saw_none c.in_err-rows.ensures.looks
+
+pub returns-then-not-can_show-clause-tries : goal.returns-then-not-can_show-clause-tries
+returns-then-not-can_show-clause-tries g c = λ naming.
+    given_up _ refl (saw_found c.in_ok-rows.ensures.looks)

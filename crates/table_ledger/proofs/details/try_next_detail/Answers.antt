@@ -1,10 +1,11 @@
-use Rattle.std.proofs.Common.{◌∙◌, sym}
+use Rattle.std.proofs.Common.{◌∙◌, refl, sym}
 use Rattle.table_model.specs.TablesOf.{tables_of}
 use Rattle.table_ledger.proofs.BookLists.{own_records}
 use Rattle.table_ledger.proofs.DetailTries.{least_shown, next_found}
 use Rattle.table_ledger.proofs.DetailsRead.{details_fit}
 use Rattle.table_ledger.proofs.OwnBooks.{own_failed}
-use Rattle.table_ledger.proofs.TryLemmas.{saw_found, saw_none}
+use Rattle.table_ledger.proofs.GivenUp.{given_up}
+use Rattle.table_ledger.proofs.TryLemmas.{saw_found, saw_none, try_refused}
 use Rattle.table_ledger.proofs.details.try_next_detail.Goals as goal
 
 pub returns-clause-tries : goal.returns-clause-tries
@@ -28,3 +29,13 @@ returns-then-not-can_show-clause-own g c = λ naming wide clean book ready.
     ready.kept.holds in
     absurd (c.can_show.ensures.refused c.if-not-can_show.true
     (least_shown _ (tables_of naming book) _ (own_records ready wide) known))
+
+-- ---- what is not read leaves all as it was
+
+pub returns-in_err-found-clause-tries : goal.returns-in_err-found-clause-tries
+returns-in_err-found-clause-tries g c = λ naming.
+    try_refused _ c.from_residual.ensures.0 saw_none c.in_err-found.ensures.looks
+
+pub returns-then-not-can_show-clause-tries : goal.returns-then-not-can_show-clause-tries
+returns-then-not-can_show-clause-tries g c = λ naming.
+    given_up _ refl (saw_found c.in_ok-found.ensures.looks)

@@ -5,6 +5,7 @@ use Rattle.book_model.specs.Words.{AreDisputes, Disputed, dispute_shown}
 use Rattle.table_model.specs.Words.{rows_with, has_none_charged, join_last}
 use Rattle.table_ledger.proofs.Words.{Dispute, is_charged, stored_entry, StoredRecord, IsShownRow}
 use Rattle.table_ledger.proofs.JoinLemmas.{grouped_more}
+use Rattle.table_ledger.proofs.LooksRefused.{look_given_up, look_refused}
 use Rattle.table_ledger.proofs.OwnBooks.{fails_after_look}
 use Rattle.table_ledger.proofs.TryLemmas.{saw_found, saw_so, saw_then}
 use Rattle.table_ledger.proofs.disputes.grouped.Goals.{then-not-branch+in_ok-join, else-not-branch}
@@ -55,3 +56,14 @@ loop-stored-preserved g c =
             c.loop-stored.invariant.shown
       ];
     }
+
+-- a look that fails leaves all as it was
+pub returns-in_err-has_charged-clause-looks : goal.returns-in_err-has_charged-clause-looks
+returns-in_err-has_charged-clause-looks g c =
+    look_refused _ c.from_residual.ensures.0 c.loop-stored.invariant.saw
+    c.in_err-has_charged.ensures.looks
+
+pub returns-in_err-join-clause-looks : goal.returns-in_err-join-clause-looks
+returns-in_err-join-clause-looks g c =
+    look_given_up _ c.from_residual-in_err-join.ensures.0
+    (saw_then c.loop-stored.invariant.saw (saw_found c.in_ok-has_charged.ensures.looks))

@@ -1,7 +1,8 @@
-use Rattle.std.proofs.Common.{ap, subst, sym, ◌∙◌}
+use Rattle.std.proofs.Common.{ap, refl, subst, sym, ◌∙◌}
 use Rattle.book_model.proofs.Std.{list_any}
 use Rattle.table_model.specs.Words.{rows_with}
 use Rattle.table_ledger.proofs.DisputeTries.{PassedTo, next_is, passed_none, passed_on}
+use Rattle.table_ledger.proofs.LooksRefused.{look_given_up, look_refused}
 use Rattle.table_ledger.proofs.OwnBooks.{fails_after_look}
 use Rattle.table_ledger.proofs.TryLemmas.{looks_known, saw_found, saw_none, saw_so, saw_then}
 use Rattle.table_ledger.proofs.Words.{is_charged, Always}
@@ -49,3 +50,28 @@ identities-preserved g c =
     c.in_ok-push.ensures.items
     (ap (λ k. list_any is_charged (rows_with k tables.records)) (sym c.deref-in-identities.ensures.value)
     ∙ sym known.1 ∙ c.if-not-settled.false))
+
+-- ---- a look that fails leaves all as it was
+
+pub returns-in_err-reached-clause-looks : goal.returns-in_err-reached-clause-looks
+returns-in_err-reached-clause-looks g c = look_given_up _ c.from_residual.ensures.0 saw_none
+
+pub returns-in_err-identity-clause-looks : goal.returns-in_err-identity-clause-looks
+returns-in_err-identity-clause-looks g c =
+    look_refused _ c.from_residual-in_err-identity.ensures.0 c.identities.invariant
+    c.in_err-identity.ensures.looks
+
+pub returns-in_err-settled-clause-looks : goal.returns-in_err-settled-clause-looks
+returns-in_err-settled-clause-looks g c =
+    look_refused _ c.from_residual-in_err-settled.ensures.0
+    (saw_then c.identities.invariant (saw_found c.in_ok-identity.ensures.looks))
+    c.in_err-settled.ensures.looks
+
+pub returns-in_err-push-clause-looks : goal.returns-in_err-push-clause-looks
+returns-in_err-push-clause-looks g c =
+    look_given_up _ c.from_residual-in_err-push.ensures.0
+    (saw_then (saw_then c.identities.invariant (saw_found c.in_ok-identity.ensures.looks))
+    (saw_found c.in_ok-settled.ensures.looks))
+
+pub returns-clause-looks : goal.returns-clause-looks
+returns-clause-looks g c = look_given_up _ refl c.identities.invariant

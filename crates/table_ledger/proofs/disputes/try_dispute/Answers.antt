@@ -6,7 +6,8 @@ use Rattle.table_ledger.proofs.BookLists.{own_identity, own_records, own_sharing
 use Rattle.table_ledger.proofs.BookRows.{taken_shown, taken_usage}
 use Rattle.table_ledger.proofs.DisputeTries.{made_shows, none_left, one_left, own_memory}
 use Rattle.table_ledger.proofs.OwnBooks.{own_failed}
-use Rattle.table_ledger.proofs.TryLemmas.{saw_found, saw_none, saw_then, try_answered}
+use Rattle.table_ledger.proofs.GivenUp.{given_up}
+use Rattle.table_ledger.proofs.TryLemmas.{saw_found, saw_none, saw_then, try_answered, try_refused}
 use Rattle.table_model.specs.Words.{tables_of}
 use Rattle.table_ledger.proofs.disputes.try_dispute.Goals as goal
 
@@ -86,3 +87,29 @@ returns-clause-shown g c =
     (c.is_identity.ensures.is (c.if-not-is_identity.false)))
     (subst (All (λ (row : StoredRecord). IsShownRow (stored_entry row))) c.deref-3.ensures.value
     (c.can_show.ensures.shown c.if-not-can_show.false))
+
+-- ---- what is not read leaves all as it was
+
+pub returns-in_err-identity-clause-tries : goal.returns-in_err-identity-clause-tries
+returns-in_err-identity-clause-tries g c = λ naming.
+    try_refused _ c.from_residual.ensures.0 saw_none c.in_err-identity.ensures.looks
+
+pub returns-in_err-rows-clause-tries : goal.returns-in_err-rows-clause-tries
+returns-in_err-rows-clause-tries g c = λ naming.
+    try_refused _ c.from_residual-in_err-rows.ensures.0 (saw_found c.in_ok-identity.ensures.looks)
+    c.in_err-rows.ensures.looks
+
+pub returns-then-not-is_identity-clause-tries : goal.returns-then-not-is_identity-clause-tries
+returns-then-not-is_identity-clause-tries g c = λ naming.
+    given_up _ refl (saw_then (saw_found c.in_ok-identity.ensures.looks)
+    (saw_found c.in_ok-rows.ensures.looks))
+
+pub returns-then-not-can_show-clause-tries : goal.returns-then-not-can_show-clause-tries
+returns-then-not-can_show-clause-tries g c = λ naming.
+    given_up _ refl (saw_then (saw_found c.in_ok-identity.ensures.looks)
+    (saw_found c.in_ok-rows.ensures.looks))
+
+pub returns-in_err-dispute-clause-tries : goal.returns-in_err-dispute-clause-tries
+returns-in_err-dispute-clause-tries g c = λ naming.
+    given_up _ c.from_residual-in_err-dispute.ensures.0
+    (saw_then (saw_found c.in_ok-identity.ensures.looks) (saw_found c.in_ok-rows.ensures.looks))

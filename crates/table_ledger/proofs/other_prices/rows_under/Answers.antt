@@ -1,10 +1,11 @@
-use Rattle.std.proofs.Common.{◌++◌, ◌∷◌, [], arith, subst, sym}
+use Rattle.std.proofs.Common.{◌++◌, ◌∷◌, [], arith, refl, subst, sym}
 use Rattle.tree_tables.specs.Fits.{RecordFits}
 use Rattle.table_ledger.proofs.Words.{state, caused_memory, err_on, SumsUp, costs_of}
 use Rattle.table_ledger.proofs.OtherPriceLemmas.{entry_there, passed_all, passed_dear, passed_on}
 use Rattle.table_ledger.proofs.OtherPriceLemmas.{passed_with}
 use Rattle.table_ledger.proofs.OwnBooks.{fails_after_look}
-use Rattle.table_ledger.proofs.TryLemmas.{looks_known, saw_found, saw_so, saw_then}
+use Rattle.table_ledger.proofs.LooksRefused.{look_given_up, look_refused}
+use Rattle.table_ledger.proofs.TryLemmas.{looks_known, saw_found, saw_none, saw_so, saw_then}
 use Rattle.table_ledger.proofs.other_prices.rows_under.Goals as goal
 
 pub returns-in_err-start_pass-clause-cause : goal.returns-in_err-start_pass-clause-cause
@@ -89,3 +90,27 @@ records-preserved g c =
           subst (SumsUp more (costs_of terms test (passed ++ one ∷ [])))
           c.if-not-room.false (c.in_ok-room.ensures.counted passed one is are)));
     }
+
+-- ---- a look that fails leaves all as it was
+
+pub returns-in_err-start_pass-clause-looks : goal.returns-in_err-start_pass-clause-looks
+returns-in_err-start_pass-clause-looks g c =
+    look_refused _ c.from_residual.ensures.0 saw_none c.in_err-start_pass.ensures.looks
+
+pub returns-in_err-there-clause-looks : goal.returns-in_err-there-clause-looks
+returns-in_err-there-clause-looks g c =
+    look_refused _ c.from_residual-in_err-there.ensures.0 c.records.invariant.seen
+    c.in_err-there.ensures.looks
+
+pub returns-in_err-rows-clause-looks : goal.returns-in_err-rows-clause-looks
+returns-in_err-rows-clause-looks g c =
+    look_given_up _ c.from_residual-in_err-rows.ensures.0
+    (saw_then c.records.invariant.seen (saw_found c.in_ok-there.ensures.looks))
+
+pub returns-in_err-room-clause-looks : goal.returns-in_err-room-clause-looks
+returns-in_err-room-clause-looks g c =
+    look_given_up _ c.from_residual-in_err-room.ensures.0
+    (saw_then c.records.invariant.seen (saw_found c.in_ok-there.ensures.looks))
+
+pub returns-clause-looks : goal.returns-clause-looks
+returns-clause-looks g c = look_given_up _ refl c.records.invariant.seen

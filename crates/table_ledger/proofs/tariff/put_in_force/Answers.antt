@@ -1,12 +1,15 @@
 use Rattle.std.proofs.Common.{◌≡◌, ◌∙◌, refl, subst, Some}
 use Rattle.book_model.specs.Words.{IsDay, Terms, tariff_outcome, with_tariff}
+use Rattle.tree_rows.proofs.Calls.{kept_same}
 use Rattle.table_ledger.proofs.Answering.{makes_refused}
 use Rattle.table_ledger.proofs.CommitLemmas.{committed, uncommitted}
 use Rattle.table_ledger.proofs.Remembered.{remembers_same}
 use Rattle.table_ledger.proofs.TariffTries.{tariff_full, tariff_is_event}
 use Rattle.table_ledger.proofs.StageLemmas.{stage_steps}
-use Rattle.table_ledger.proofs.TryLemmas.{saw_found, saw_then, try_answered}
-use Rattle.table_ledger.proofs.Words.{Ruled, Full}
+use Rattle.table_ledger.proofs.SurvivalLemmas.{survives_so}
+use Rattle.table_ledger.proofs.TryLemmas.{saw_found, saw_none, saw_then, try_answered, try_refused}
+use Rattle.table_ledger.proofs.TryLemmas.{untried}
+use Rattle.table_ledger.proofs.Words.{Ruled, Full, kept_last}
 use Rattle.table_ledger.proofs.tariff.put_in_force.Goals as goal
 
 -- a tariff's first day is one, whichever way the tariff is seen
@@ -65,4 +68,29 @@ returns g c = record {
         held = refl;
         total = refl;
       });
+}
+
+-- what the records cost is not known
+pub returns-in_err-many : goal.returns-in_err-many
+returns-in_err-many g c = record {
+  tries = λ naming.
+      try_refused _ c.from_residual.ensures.0 saw_none c.in_err-many.ensures;
+}
+
+pub returns-in_err-amount : goal.returns-in_err-amount
+returns-in_err-amount g c = record {
+  tries = λ naming.
+      try_refused _ c.from_residual-in_err-amount.ensures.0 (saw_found c.in_ok-many.ensures)
+      c.in_err-amount.ensures.looks;
+}
+
+-- there is no memory for the tariff
+pub returns-in_err-own : goal.returns-in_err-own
+returns-in_err-own g c = record {
+  tries = λ naming.
+      let saw = saw_then (saw_found c.in_ok-many.ensures) (saw_found c.in_ok-amount.ensures.looks) in
+      untried _ c.from_residual-in_err-own.ensures.0
+      (survives_so saw.survives (λ clean trees none. absurd none))
+      (λ clean book ready. kept_last (kept_same (saw.seen clean).same))
+      (remembers_same c.in_err-own.ensures.same refl refl refl);
 }
