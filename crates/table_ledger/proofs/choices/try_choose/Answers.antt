@@ -11,6 +11,7 @@ use Rattle.table_ledger.proofs.CommitLemmas.{committed, uncommitted}
 use Rattle.table_ledger.proofs.IdleCalls.{idle_failed}
 use Rattle.table_ledger.proofs.SurvivalLemmas.{clean_before}
 use Rattle.table_ledger.proofs.TryLemmas.{saw_found, saw_none}
+use Rattle.table_ledger.proofs.TryLemmas.{saw_then, try_refused}
 use Rattle.table_ledger.proofs.choices.try_choose.Goals as goal
 
 -- the record of the name fits, if there is one
@@ -102,3 +103,21 @@ returns-clause-tries g c = λ naming.
     tests c.open_number.ensures.number c.last_close.ensures)
     c.in_ok-commit_written.ensures
     (record { rulings = refl; choices = refl; held = refl; total = refl })
+
+-- ---- what is not read leaves all as it was
+
+pub returns-in_err-stored-clause-tries : goal.returns-in_err-stored-clause-tries
+returns-in_err-stored-clause-tries g c = λ naming.
+    try_refused _ c.from_residual.ensures.0 saw_none
+    c.in_err-stored.ensures.looks
+
+pub returns-in_err-sharing-clause-tries : goal.returns-in_err-sharing-clause-tries
+returns-in_err-sharing-clause-tries g c = λ naming.
+    try_refused _ c.from_residual-in_err-sharing.ensures.0 (saw_found c.in_ok-stored.ensures.looks)
+    c.in_err-sharing.ensures.looks
+
+pub returns-in_err-effects-clause-tries : goal.returns-in_err-effects-clause-tries
+returns-in_err-effects-clause-tries g c = λ naming.
+    try_refused _ c.from_residual-in_err-effects.ensures.0
+    (saw_then (saw_found c.in_ok-stored.ensures.looks) (saw_found c.in_ok-sharing.ensures.looks))
+    c.in_err-effects.ensures.looks

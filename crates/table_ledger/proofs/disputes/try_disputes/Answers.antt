@@ -8,6 +8,9 @@ use Rattle.table_ledger.proofs.SurvivalLemmas.{clean_before}
 use Rattle.table_ledger.proofs.TryLemmas.{saw_found, saw_none, saw_then}
 use Rattle.table_ledger.proofs.BookLists.{own_records, own_uncharged}
 use Rattle.table_ledger.proofs.BookRows.{taken_shown, taken_usage}
+use Rattle.std.proofs.Common.{refl}
+use Rattle.table_ledger.proofs.GivenUp.{given_up}
+use Rattle.table_ledger.proofs.TryLemmas.{try_refused}
 use Rattle.table_ledger.proofs.disputes.try_disputes.Goals as goal
 
 pub returns-clause-tries : goal.returns-clause-tries
@@ -50,3 +53,19 @@ returns-in_err-grouped-clause-own g c = λ naming wide.
     subst (All (λ (row : StoredRecord). IsUsageData row.data_bytes.items))
     (sym c.deref-2.ensures.value)
     (taken_usage _ (own_uncharged ready wide c.in_ok-rows.rows.items lists)))
+
+-- ---- what is not read leaves all as it was
+
+pub returns-in_err-rows-clause-tries : goal.returns-in_err-rows-clause-tries
+returns-in_err-rows-clause-tries g c = λ naming.
+    try_refused _ c.from_residual.ensures.0 saw_none
+    c.in_err-rows.ensures.looks
+
+pub returns-then-not-can_show-clause-tries : goal.returns-then-not-can_show-clause-tries
+returns-then-not-can_show-clause-tries g c = λ naming.
+    given_up _ refl (saw_found c.in_ok-rows.ensures.looks)
+
+pub returns-in_err-grouped-clause-tries : goal.returns-in_err-grouped-clause-tries
+returns-in_err-grouped-clause-tries g c = λ naming.
+    try_refused _ c.from_residual-in_err-grouped.ensures.0 (saw_found c.in_ok-rows.ensures.looks)
+    c.in_err-grouped.ensures.looks

@@ -3,6 +3,8 @@ use Rattle.book_model.specs.Words.{ruling_outcome}
 use Rattle.table_ledger.proofs.OwnBooks.{own_failed}
 use Rattle.table_ledger.proofs.RulingReads.{choice_read, is_one, own_choice}
 use Rattle.table_ledger.proofs.TryLemmas.{saw_found, saw_none, try_answered}
+use Rattle.table_ledger.proofs.GivenUp.{given_up}
+use Rattle.table_ledger.proofs.TryLemmas.{try_refused}
 use Rattle.table_ledger.proofs.listed_rulings.try_ruling.Goals as goal
 
 -- it is read
@@ -27,3 +29,15 @@ returns-in_err-look_for_choice-in-Choice-clause-own g c = λ naming wide.
     c.in_err-look_for_choice-in-Choice.ensures.cause (λ clean book ready.
     own_choice ready wide c.in-Choice.place
     (is_one ready.remembers naming c.args.number c.in-Choice.place stands))
+
+-- ---- what is not read leaves all as it was
+
+pub returns-in_err-listed-clause-tries : goal.returns-in_err-listed-clause-tries
+returns-in_err-listed-clause-tries g c = λ naming.
+    given_up _ c.from_residual.ensures.0 saw_none
+
+pub returns-in_err-look_for_choice-in-Choice-clause-tries :
+    goal.returns-in_err-look_for_choice-in-Choice-clause-tries
+returns-in_err-look_for_choice-in-Choice-clause-tries g c = λ naming.
+    try_refused _ c.from_residual-in_err-look_for_choice-in-Choice.ensures.0 saw_none
+    c.in_err-look_for_choice-in-Choice.ensures.looks

@@ -4,6 +4,8 @@ use Rattle.tree_tables.specs.Stored.{book_entry, close_entry, tariff_of}
 use Rattle.table_ledger.proofs.OwnBooks.{fails_after_look}
 use Rattle.table_ledger.proofs.LoadLemmas.{recalled_by}
 use Rattle.table_ledger.proofs.TryLemmas.{looks_known, saw_found, saw_then}
+use Rattle.table_ledger.proofs.LooksRefused.{look_refused}
+use Rattle.table_ledger.proofs.TryLemmas.{saw_none}
 use Rattle.table_ledger.proofs.load.look_for_summary.Goals as goal
 
 pub returns-clause-looks : goal.returns-clause-looks
@@ -49,3 +51,28 @@ returns-in_err-choices-clause-cause g c =
     (saw_found c.in_ok-tariffs.ensures.looks)) (saw_found c.in_ok-closes.ensures.looks))
     c.in_err-choices.ensures.looks
     (λ clean tables holds when. c.in_err-choices.ensures.cause clean tables holds when.choices)
+
+-- ---- a look that fails leaves all as it was
+
+pub returns-in_err-row-clause-looks : goal.returns-in_err-row-clause-looks
+returns-in_err-row-clause-looks g c =
+    look_refused _ c.from_residual.ensures.0 saw_none c.in_err-row.ensures.looks
+
+pub returns-in_err-tariffs-clause-looks : goal.returns-in_err-tariffs-clause-looks
+returns-in_err-tariffs-clause-looks g c =
+    look_refused _ c.from_residual-in_err-tariffs.ensures.0
+    (saw_found c.in_ok-row.ensures.looks) c.in_err-tariffs.ensures.looks
+
+pub returns-in_err-closes-clause-looks : goal.returns-in_err-closes-clause-looks
+returns-in_err-closes-clause-looks g c =
+    look_refused _ c.from_residual-in_err-closes.ensures.0
+    (saw_then (saw_found c.in_ok-row.ensures.looks) (saw_found c.in_ok-tariffs.ensures.looks))
+    c.in_err-closes.ensures.looks
+
+pub returns-in_err-choices-clause-looks : goal.returns-in_err-choices-clause-looks
+returns-in_err-choices-clause-looks g c =
+    look_refused _ c.from_residual-in_err-choices.ensures.0
+    (saw_then (saw_then (saw_found c.in_ok-row.ensures.looks)
+    (saw_found c.in_ok-tariffs.ensures.looks))
+    (saw_found c.in_ok-closes.ensures.looks))
+    c.in_err-choices.ensures.looks

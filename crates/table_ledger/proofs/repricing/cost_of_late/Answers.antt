@@ -2,6 +2,8 @@ use Rattle.std.proofs.Common.{◌∙◌, ◌+◌, Some, ap}
 use Rattle.table_ledger.proofs.LateCosts.{cost_found, cost_full, sums_next}
 use Rattle.table_ledger.proofs.Repriced.{room}
 use Rattle.table_ledger.proofs.TryLemmas.{looks_known, saw_found, saw_so, saw_then}
+use Rattle.std.proofs.Common.{refl}
+use Rattle.table_ledger.proofs.LooksRefused.{look_given_up, look_refused}
 use Rattle.table_ledger.proofs.repricing.cost_of_late.Goals as goal
 
 -- none is left: that is the cost
@@ -51,3 +53,23 @@ records-preserved g c =
     ((room (c.records.cost + c.in_ok-amount.amount) more c.in-Some-cost_together.ensures.sum).1
     ∙ ap (λ n. c.records.cost + n) c.in_ok-amount.ensures.amount)
     c.in_ok-amount.ensures.can)
+
+-- ---- a look that fails leaves all as it was
+
+pub returns-in_err-late-clause-looks : goal.returns-in_err-late-clause-looks
+returns-in_err-late-clause-looks g c =
+    look_refused _ c.from_residual.ensures.0
+    c.records.invariant c.in_err-late.ensures.looks
+
+pub returns-in_default-checked_sub-clause-looks : goal.returns-in_default-checked_sub-clause-looks
+returns-in_default-checked_sub-clause-looks g c =
+    look_given_up _ refl (saw_then c.records.invariant
+    (saw_found (rw c.in-Some.is at c.in_ok-late.ensures.looks)))
+
+pub returns-in_err-amount-clause-looks : goal.returns-in_err-amount-clause-looks
+returns-in_err-amount-clause-looks g c =
+    look_given_up _ c.from_residual-in_err-amount.ensures.0 (saw_then c.records.invariant
+    (saw_found (rw c.in-Some.is at c.in_ok-late.ensures.looks)))
+
+pub returns-clause-looks : goal.returns-clause-looks
+returns-clause-looks g c = look_given_up _ refl c.records.invariant

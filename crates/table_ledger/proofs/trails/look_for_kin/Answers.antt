@@ -6,6 +6,9 @@ use Rattle.table_ledger.specs.TrailReads.{CanBeTraced}
 use Rattle.table_ledger.proofs.OwnBooks.{fails_after_look}
 use Rattle.table_ledger.proofs.TrailTries.{members_dated, sharing_shown, sharing_usage}
 use Rattle.table_ledger.proofs.TryLemmas.{saw_found}
+use Rattle.std.proofs.Common.{refl}
+use Rattle.table_ledger.proofs.LooksRefused.{look_given_up, look_refused}
+use Rattle.table_ledger.proofs.TryLemmas.{saw_none}
 use Rattle.table_ledger.proofs.trails.look_for_kin.Goals as goal
 
 pub returns-then-not-can_show-clause-cause : goal.returns-then-not-can_show-clause-cause
@@ -41,3 +44,22 @@ returns-clause-shown g c =
     (c.in_ok-members.ensures.made
     ∙ ap (λ rows. map variant_read (map stored_entry rows))
     (c.deref-2.ensures.value ∙ sym c.deref.ensures.value))
+
+-- ---- a look that fails leaves all as it was
+
+pub returns-in_err-rows-clause-looks : goal.returns-in_err-rows-clause-looks
+returns-in_err-rows-clause-looks g c =
+    look_refused _ c.from_residual.ensures.0 saw_none c.in_err-rows.ensures.looks
+
+pub returns-then-not-can_show-clause-looks : goal.returns-then-not-can_show-clause-looks
+returns-then-not-can_show-clause-looks g c =
+    look_given_up _ refl (saw_found c.in_ok-rows.ensures.looks)
+
+pub returns-in_err-members-clause-looks : goal.returns-in_err-members-clause-looks
+returns-in_err-members-clause-looks g c =
+    look_given_up _ c.from_residual-in_err-members.ensures.0 (saw_found c.in_ok-rows.ensures.looks)
+
+pub returns-in_err-choices-clause-looks : goal.returns-in_err-choices-clause-looks
+returns-in_err-choices-clause-looks g c =
+    look_refused _ c.from_residual-in_err-choices.ensures.0
+    (saw_found c.in_ok-rows.ensures.looks) c.in_err-choices.ensures.looks

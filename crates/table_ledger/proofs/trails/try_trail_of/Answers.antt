@@ -13,6 +13,7 @@ use Rattle.table_ledger.proofs.OwnBooks.{own_failed}
 use Rattle.table_ledger.proofs.TrailTries.{by_stored, is_trail, no_record, own_traced, reckoned_is}
 use Rattle.table_ledger.proofs.TryLemmas.{saw_then, saw_found, saw_none, try_answered, try_refused}
 use Rattle.table_ledger.proofs.Words.{FindsRecord, state, stored_entry, IsUsageData, opens}
+use Rattle.table_ledger.proofs.GivenUp.{given_up}
 use Rattle.table_ledger.proofs.trails.try_trail_of.Goals as goal
 
 pub returns-in_err-stored-clause-own : goal.returns-in_err-stored-clause-own
@@ -110,3 +111,14 @@ returns-clause-tries g c = λ naming.
     makes_answer trail_shown (trail_outcome naming name book) trail
     (is_trail at name stored trail known.0.0 reckoned bytes c.period_of_day.ensures.number
     kin.members kin.choices known.1) refl)
+
+-- ---- what is not read leaves all as it was
+
+pub returns-in_err-stored-clause-tries : goal.returns-in_err-stored-clause-tries
+returns-in_err-stored-clause-tries g c = λ naming.
+    try_refused _ c.from_residual.ensures.0 saw_none
+    c.in_err-stored.ensures.looks
+
+pub returns-in_err-bytes-clause-tries : goal.returns-in_err-bytes-clause-tries
+returns-in_err-bytes-clause-tries g c = λ naming.
+    given_up _ c.from_residual-in_err-bytes.ensures.0 (saw_found c.in_ok-stored.ensures.looks)
