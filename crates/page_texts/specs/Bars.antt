@@ -1,8 +1,8 @@
 -- Pictures: amounts as bars. A bar is as long as its amount is of the greatest one.
 use Rattle.std.specs.Prelude.{ℕ, ◌+◌, ◌*◌, ◌/◌, ◌%◌, ◌==◌, min, max, if◌then◌else◌}
-use Rattle.std.specs.Prelude.{List, [], ◌∷◌, ◌++◌, codes, map, unwrap_or}
+use Rattle.std.specs.Prelude.{List, [], ◌∷◌, ◌++◌, codes, map}
 use Rattle.std.specs.Fmt.{decimal}
-use Rattle.std.specs.List.{concat, reduce}
+use Rattle.std.specs.List.{concat, fold}
 use Rattle.report_texts.specs.CentreAmounts.{cost_among}
 use Rattle.report_texts.specs.Columns.{amount_text}
 use Rattle.html_text.specs.Escaping.{escaped}
@@ -18,7 +18,7 @@ most_colours = 8
 
 -- the greatest amount of some things, 0 of none
 abbrev pub greatest : {X : Type 0} → (X → ℕ) → List X → ℕ
-greatest amount things = unwrap_or (reduce max (map amount things)) 0
+greatest amount things = fold max 0 (map amount things)
 
 -- how long an amount is where the greatest has the whole width, in whole numbers
 unfoldable pub bar_length : ℕ → ℕ → ℕ

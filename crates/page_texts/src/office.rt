@@ -153,8 +153,15 @@ fn push_cost_rows(
 fn greatest_charged(periods: &[PeriodFigures]) -> u64
     ensures { result ≡ greatest (λ figures. figures.charged) (map figures_seen periods.now) }
 {
-    let greatest = periods.iter().map(|figures| figures.charged).max();
-    greatest.unwrap_or(0)
+    let mut most = 0;
+    for figures in periods {
+        most = if most < figures.charged {
+            figures.charged
+        } else {
+            most
+        };
+    }
+    most
 }
 
 /// Appends what stands above the rows of periods.

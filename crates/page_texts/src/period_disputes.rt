@@ -128,9 +128,12 @@ fn is_dated(before: Option<i32>, through: Option<i32>, members: &[Variant]) -> b
     ensures { result
         ≡ list_any (λ member. is_between before through member.priced.day) members.now }
 {
-    members
-        .iter()
-        .any(|member| is_between(before, through, member.priced.day))
+    for member in members {
+        if is_between(before, through, member.priced.day) {
+            return true;
+        }
+    }
+    false
 }
 
 /// Appends the rows of a dispute of which a record is dated so.

@@ -34,8 +34,11 @@ fn push_bars_head(out: &mut String, caption: &str, heading: &str) -> Result<(), 
 fn greatest_day(costs: &[(i32, u64)]) -> u64
     ensures { result ≡ greatest (λ cost. cost.1) costs.now }
 {
-    let greatest = costs.iter().map(|cost| cost.1).max();
-    greatest.unwrap_or(0)
+    let mut most = 0;
+    for cost in costs {
+        most = if most < cost.1 { cost.1 } else { most };
+    }
+    most
 }
 
 /// Appends the row of a day, by what it costs.
@@ -70,8 +73,11 @@ fn push_day_rows(alloc: Global, out: &mut String, costs: &[(i32, u64)]) -> Resul
 fn greatest_centre(costs: &[(Name, u64)]) -> u64
     ensures { result ≡ greatest (λ cost. cost.1) costs.now }
 {
-    let greatest = costs.iter().map(|cost| cost.1).max();
-    greatest.unwrap_or(0)
+    let mut most = 0;
+    for cost in costs {
+        most = if most < cost.1 { cost.1 } else { most };
+    }
+    most
 }
 
 /// Appends the rows of centres, by what each costs.
