@@ -42,12 +42,16 @@ picture label bars =
 unfoldable pub cost_title : List ℕ → ℕ → List ℕ
 cost_title label amount = label ++ codes " " ++ amount_text amount
 
+-- the picture of one bar, of the first colour, from the left on
+unfoldable pub bar_picture : ℕ → List ℕ → ℕ → List ℕ
+bar_picture long label amount =
+    let title = cost_title label amount in picture title (bar 0 0 long title)
+
 -- the row of what an amount is charged for: its text, its bar and the amount
 unfoldable pub bar_row : ℕ → List ℕ → ℕ → List ℕ
 bar_row most label amount =
-    let title = cost_title label amount in
     table_row
-    (label ∷ picture title (bar 0 0 (bar_length most amount) title) ∷ amount_text amount ∷ [])
+    (label ∷ bar_picture (bar_length most amount) label amount ∷ amount_text amount ∷ [])
 
 -- the bar of the centre of an index; one without cost has none
 unfoldable pub centre_bar : ℕ → ℕ → ℕ → List ℕ → ℕ → List ℕ

@@ -42,13 +42,16 @@ abbrev pub cost_picture : List ℕ → ℕ → List (List ℕ) → FiguresSeen �
 cost_picture label most centres figures =
     picture label (bars_from most figures.costs 0 0 centres)
 
+-- the text of that picture
+abbrev pub cost_label : ℕ → List ℕ
+cost_label period = codes "Period " ++ decimal period ++ codes " by centre"
+
 -- the row of a period: its number, its picture, and what its statement comes to
 unfoldable pub cost_row : ℕ → List (List ℕ) → ℕ → FiguresSeen → List ℕ
 cost_row most centres period figures =
-    let label = concat (codes "Period " ∷ decimal period ∷ codes " by centre" ∷ []) in
     table_row
-    (period_link period ∷ cost_picture label most centres figures ∷ amount_text figures.charged
-    ∷ [])
+    (period_link period ∷ cost_picture (cost_label period) most centres figures
+    ∷ amount_text figures.charged ∷ [])
 
 abbrev pub cost_rows : ℕ → List (List ℕ) → List FiguresSeen → List ℕ
 cost_rows most centres periods = last_first (cost_row most centres) 0 periods
@@ -106,12 +109,15 @@ office_foot =
     ++ codes "<a href='/disputes'>disputes</a>\n<a href='/disputes-csv'>disputes-csv</a>\n</nav>\n"
     ++ codes "</main>\n</body>\n</html>\n"
 
--- the pictures of all periods, and their legend
-unfoldable pub cost_part : List FiguresSeen → List ℕ
-cost_part periods =
+-- the pictures of all periods, of some centres, and their legend
+unfoldable pub cost_table : List (List ℕ) → List FiguresSeen → List ℕ
+cost_table centres periods =
     let most = greatest (λ figures. figures.charged) periods in
-    let centres = all_centres periods in
     cost_head ++ cost_rows most centres periods ++ table_end ++ legend centres
+
+-- the same, of all centres
+unfoldable pub cost_part : List FiguresSeen → List ℕ
+cost_part periods = cost_table (all_centres periods) periods
 
 -- the page, by the days that periods were closed through and by the figures of all periods from 1
 -- on, the open one last

@@ -26,11 +26,17 @@ abbrev pub centre_rows : List (List ℕ × ℕ) → List ℕ
 centre_rows costs =
     flat_map (λ cost. bar_row (greatest (λ one. one.1) costs) (escaped cost.0) cost.1) costs
 
--- the pictures of some rows
+-- the pictures of what days cost, and of what centres cost
+unfoldable pub day_table : List (ℤ × ℕ) → List ℕ
+day_table costs = bars_head (codes "Cost by day") (codes "Day") ++ day_rows costs ++ table_end
+
+unfoldable pub centre_table : List (List ℕ × ℕ) → List ℕ
+centre_table costs =
+    bars_head (codes "Cost by centre") (codes "Centre") ++ centre_rows costs ++ table_end
+
+-- those of some rows
 unfoldable pub day_part : List ChargeRow → List ℕ
-day_part rows =
-    bars_head (codes "Cost by day") (codes "Day") ++ day_rows (costs_by_day rows) ++ table_end
+day_part rows = day_table (costs_by_day rows)
 
 unfoldable pub centre_part : List ChargeRow → List ℕ
-centre_part rows =
-    bars_head (codes "Cost by centre") (codes "Centre") ++ centre_rows (costs_of rows) ++ table_end
+centre_part rows = centre_table (costs_of rows)

@@ -1,15 +1,16 @@
 //! Figures of a period: what it comes to, and what each centre and each day costs in it.
 
-ghost use Rattle.std.specs.Prelude.{◌≡◌, IfOk, string_bytes};
+ghost use Rattle.std.specs.Prelude.{◌≡◌, ◌++◌, IfOk};
 ghost use Rattle.book_model.specs.Words.{AreLines, AreRows};
 ghost use Rattle.page_texts.specs.Figures as spec;
 
-use crate::amounts::signed_text;
+use crate::amounts::push_signed;
 use book_model::{ChargeRow, Line};
 use report_texts::figures_of;
 use smf_text::Name;
 use std::alloc::{AllocError, Global};
 use std::collections::BTreeMap;
+use text_drafts::Draft;
 
 /// What a period comes to, and what each centre costs in it. Amounts are in ten-thousandths of the
 /// money unit.
@@ -86,12 +87,11 @@ pub fn period_figures(
     })
 }
 
-/// What is owed: what is charged and added, less what is reversed.
+/// Appends what is owed: what is charged and added, less what is reversed.
 #[tactic(auto, unfolding(crate::specs::Figures::owed_text))]
-pub(crate) fn owed_text(alloc: Global, figures: &PeriodFigures) -> Result<String, AllocError>
-    ensures { IfOk result (λ text.
-        string_bytes text ≡ spec.owed_text (spec.figures_seen figures.now)) }
+pub(crate) fn push_owed(out: &mut Draft, figures: &PeriodFigures)
+    ensures { out.new ≡ out.old ++ spec.owed_text (spec.figures_seen figures.now) }
 {
     let charged = u128::from(figures.charged) + u128::from(figures.added);
-    signed_text(alloc, charged, figures.reversed)
+    push_signed(out, charged, figures.reversed);
 }

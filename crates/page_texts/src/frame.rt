@@ -1,10 +1,9 @@
 //! What every page begins and ends with.
 
-ghost use Rattle.std.specs.Prelude.{◌≡◌, ◌++◌, IfOk, OnOk, map, string_bytes};
+ghost use Rattle.std.specs.Prelude.{◌≡◌, ◌++◌};
 ghost use Rattle.page_texts.specs.Frame as spec;
 
-use crate::markup::push_row;
-use std::alloc::{AllocError, Global};
+use text_drafts::Draft;
 
 /// What stands above the title.
 const HEAD_START: &str = "\
@@ -64,49 +63,36 @@ const STYLE: &str = "\
 
 /// Appends what stands above the title.
 #[tactic(auto, unfolding(crate::specs::Frame::head_start))]
-fn push_head_start(out: &mut String) -> Result<(), AllocError>
-    ensures { OnOk result (string_bytes out.new ≡ string_bytes out.old ++ spec.head_start) }
+fn push_head_start(out: &mut Draft)
+    ensures { out.new ≡ out.old ++ spec.head_start }
 {
-    out.push_str(HEAD_START)
+    out.push_str(HEAD_START);
 }
 
 /// Appends the style.
 #[tactic(auto, unfolding(crate::specs::Frame::style))]
-fn push_style(out: &mut String) -> Result<(), AllocError>
-    ensures { OnOk result (string_bytes out.new ≡ string_bytes out.old ++ spec.style) }
+fn push_style(out: &mut Draft)
+    ensures { out.new ≡ out.old ++ spec.style }
 {
-    out.push_str(STYLE)
+    out.push_str(STYLE);
 }
 
-/// A page under a title, up to where its own text begins.
+/// Appends a page under a title, up to where its own text begins.
 #[tactic(auto, unfolding(crate::specs::Frame::page_start))]
-pub(crate) fn page_start(alloc: Global, title: &str) -> Result<String, AllocError>
-    ensures { IfOk result (λ page. string_bytes page ≡ spec.page_start title.now) }
+pub(crate) fn push_page_start(out: &mut Draft, title: &Draft)
+    ensures { out.new ≡ out.old ++ spec.page_start title.now }
 {
-    let mut page = String::new(alloc);
-    push_head_start(&mut page)?;
-    page.push_str(title)?;
-    page.push_str("</title>\n<style>\n")?;
-    push_style(&mut page)?;
-    page.push_str("</style>\n</head>\n<body>\n<main>\n")?;
-    Ok(page)
+    push_head_start(out);
+    out.push_draft(title);
+    out.push_str("</title>\n<style>\n");
+    push_style(out);
+    out.push_str("</style>\n</head>\n<body>\n<main>\n");
 }
 
 /// Appends the end of a table without sums.
 #[tactic(auto, unfolding(crate::specs::Frame::table_end))]
-pub(crate) fn push_table_end(out: &mut String) -> Result<(), AllocError>
-    ensures { OnOk result (string_bytes out.new ≡ string_bytes out.old ++ spec.table_end) }
+pub(crate) fn push_table_end(out: &mut Draft)
+    ensures { out.new ≡ out.old ++ spec.table_end }
 {
-    out.push_str("</tbody>\n</table>\n</div>\n")
-}
-
-/// Appends the end of a table with the row of its sums.
-#[tactic(auto, unfolding(crate::specs::Frame::table_foot))]
-pub(crate) fn push_table_foot(out: &mut String, cells: &[&str]) -> Result<(), AllocError>
-    ensures { OnOk result (string_bytes out.new
-        ≡ string_bytes out.old ++ spec.table_foot (map (λ cell. cell.now) cells.now)) }
-{
-    out.push_str("</tbody>\n<tfoot>")?;
-    push_row(out, cells)?;
-    out.push_str("</tfoot>\n</table>\n</div>\n")
+    out.push_str("</tbody>\n</table>\n</div>\n");
 }

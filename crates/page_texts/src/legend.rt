@@ -1,60 +1,48 @@
 //! Which colour is whose, under the pictures of the office.
 
-ghost use Rattle.std.specs.Prelude.{◌≡◌, ◌++◌, OnOk, string_bytes, take};
+ghost use Rattle.std.specs.Prelude.{◌≡◌, ◌++◌, take};
 ghost use Rattle.page_texts.specs.OfficePage as spec;
 
 use crate::bars::COLOURS;
-use crate::markup::push_all;
-use html_text::escaped;
+use html_text::push_escaped;
 use smf_text::Name;
-use std::alloc::{AllocError, Global};
+use text_drafts::Draft;
 
 /// The most centres that the legend names.
 const MOST_NAMED: usize = 12;
 
 /// Appends the line of the centre of an index.
 #[tactic(auto, unfolding(crate::specs::OfficePage::legend_item))]
-fn push_item(alloc: Global, out: &mut String, index: usize, centre: Name) -> Result<(), AllocError>
-    ensures { OnOk result (string_bytes out.new
-        ≡ string_bytes out.old ++ spec.legend_item index centre) }
+fn push_item(out: &mut Draft, index: usize, centre: Name)
+    ensures { out.new ≡ out.old ++ spec.legend_item index centre }
 {
-    let colour = (index % COLOURS).to_string(alloc)?;
-    let name = escaped(alloc, centre.text())?;
-    let parts: [&str; 5] = [
-        "<li class='c",
-        colour.as_str(),
-        "'>",
-        name.as_str(),
-        "</li>\n",
-    ];
-    push_all(out, &parts)
+    out.push_str("<li class='c");
+    out.push_number((index % COLOURS) as u64);
+    out.push_str("'>");
+    push_escaped(out, centre.text());
+    out.push_str("</li>\n");
 }
 
 /// Appends the lines of centres.
-fn push_items(alloc: Global, out: &mut String, centres: &[Name]) -> Result<(), AllocError>
-    ensures { OnOk result (string_bytes out.new
-        ≡ string_bytes out.old ++ spec.legend_from 0 centres.now) }
+fn push_items(out: &mut Draft, centres: &[Name])
+    ensures { out.new ≡ out.old ++ spec.legend_from 0 centres.now }
 {
     for (index, centre) in centres.iter().enumerate() {
-        push_item(alloc, out, index, *centre)?;
+        push_item(out, index, *centre);
     }
-    Ok(())
 }
 
 /// Appends how many of so many it does not name, where there are such.
 #[tactic(auto, unfolding(crate::specs::OfficePage::legend_rest))]
-fn push_rest(alloc: Global, out: &mut String, count: usize) -> Result<(), AllocError>
-    ensures { OnOk result (string_bytes out.new
-        ≡ string_bytes out.old ++ spec.legend_rest count) }
+fn push_rest(out: &mut Draft, count: usize)
+    ensures { out.new ≡ out.old ++ spec.legend_rest count }
 {
     if count <= MOST_NAMED {
-        return Ok(());
+        return;
     }
-    let more = (count - MOST_NAMED).to_string(alloc)?;
-    push_all(
-        out,
-        &["<li class='more'>and ", more.as_str(), " more</li>\n"],
-    )
+    out.push_str("<li class='more'>and ");
+    out.push_number((count - MOST_NAMED) as u64);
+    out.push_str(" more</li>\n");
 }
 
 /// The first centres, as many as it names.
@@ -69,15 +57,11 @@ fn named(centres: &[Name]) -> &[Name]
 
 /// Appends the legend of centres.
 #[tactic(auto, unfolding(crate::specs::OfficePage::legend))]
-pub(crate) fn push_legend(
-    alloc: Global,
-    out: &mut String,
-    centres: &[Name],
-) -> Result<(), AllocError>
-    ensures { OnOk result (string_bytes out.new ≡ string_bytes out.old ++ spec.legend centres.now) }
+pub(crate) fn push_legend(out: &mut Draft, centres: &[Name])
+    ensures { out.new ≡ out.old ++ spec.legend centres.now }
 {
-    out.push_str("<ul>\n")?;
-    push_items(alloc, out, named(centres))?;
-    push_rest(alloc, out, centres.len())?;
-    out.push_str("</ul>\n")
+    out.push_str("<ul>\n");
+    push_items(out, named(centres));
+    push_rest(out, centres.len());
+    out.push_str("</ul>\n");
 }

@@ -1,80 +1,109 @@
-//! Pieces of pages: texts one after the other, rows of tables, and links.
+//! Cells of tables, and the links in them.
 
-ghost use Rattle.std.specs.Prelude.{◌≡◌, ◌++◌, IfOk, OnOk, flat_map, map, string_bytes};
+ghost use Rattle.std.specs.Prelude.{◌≡◌, ◌++◌};
+ghost use Rattle.std.specs.Fmt.{decimal};
+ghost use Rattle.book_model.specs.Words.{IsDay, day_text_of, show_text};
+ghost use Rattle.html_text.specs.Escaping as page;
+ghost use Rattle.report_texts.specs.Columns as columns;
 ghost use Rattle.page_texts.specs.Markup as spec;
 
-use std::alloc::{AllocError, Global};
+use crate::amounts::push_money;
+use html_text::{push_escaped, push_shown};
+use report_texts::seconds_text;
+use text_drafts::Draft;
 
-/// Appends texts, one after the other.
-#[tactic(auto, using(std::proofs::lemmas::List::flat_map_more))]
-pub(crate) fn push_all(out: &mut String, parts: &[&str]) -> Result<(), AllocError>
-    ensures { OnOk result (string_bytes out.new
-        ≡ string_bytes out.old ++ flat_map (λ part. part.now) parts.now) }
-{
-    for part in parts {
-        out.push_str(part)?;
-    }
-    Ok(())
-}
-
-/// Texts, one after the other.
-pub(crate) fn joined(alloc: Global, parts: &[&str]) -> Result<String, AllocError>
-    ensures { IfOk result (λ text. string_bytes text ≡ flat_map (λ part. part.now) parts.now) }
-{
-    let mut text = String::new(alloc);
-    push_all(&mut text, parts)?;
-    Ok(text)
-}
-
-/// Appends a cell of a table.
+/// Appends a cell of a page's text.
 #[tactic(auto, unfolding(crate::specs::Markup::cell))]
-fn push_cell(out: &mut String, text: &str) -> Result<(), AllocError>
-    ensures { OnOk result (string_bytes out.new ≡ string_bytes out.old ++ spec.cell text.now) }
+pub(crate) fn push_cell(out: &mut Draft, text: &str)
+    ensures { out.new ≡ out.old ++ spec.cell text.now }
 {
-    out.push_str("<td>")?;
-    out.push_str(text)?;
-    out.push_str("</td>")
+    out.push_str("<td>");
+    out.push_str(text);
+    out.push_str("</td>");
 }
 
-/// Appends cells.
-#[tactic(auto, using(std::proofs::lemmas::List::flat_map_more))]
-fn push_cells(out: &mut String, cells: &[&str]) -> Result<(), AllocError>
-    ensures { OnOk result (string_bytes out.new
-        ≡ string_bytes out.old ++ flat_map spec.cell (map (λ cell. cell.now) cells.now)) }
+/// Appends a cell of a text that is none of a page's.
+#[tactic(auto, unfolding(crate::specs::Markup::cell))]
+pub(crate) fn push_text_cell(out: &mut Draft, text: &str)
+    ensures { out.new ≡ out.old ++ spec.cell (page.escaped text.now) }
 {
-    for cell in cells {
-        push_cell(out, cell)?;
-    }
-    Ok(())
+    out.push_str("<td>");
+    push_escaped(out, text);
+    out.push_str("</td>");
 }
 
-/// Appends a row of cells.
-#[tactic(auto, unfolding(crate::specs::Markup::table_row))]
-pub(crate) fn push_row(out: &mut String, cells: &[&str]) -> Result<(), AllocError>
-    ensures { OnOk result (string_bytes out.new
-        ≡ string_bytes out.old ++ spec.table_row (map (λ cell. cell.now) cells.now)) }
+/// Appends a cell of bytes of a dump.
+#[tactic(auto, unfolding(crate::specs::Markup::cell))]
+pub(crate) fn push_shown_cell(out: &mut Draft, bytes: &[u8])
+    ensures { out.new ≡ out.old ++ spec.cell (page.escaped (show_text bytes.now)) }
 {
-    out.push_str("<tr>")?;
-    push_cells(out, cells)?;
-    out.push_str("</tr>\n")
+    out.push_str("<td>");
+    push_shown(out, bytes);
+    out.push_str("</td>");
 }
 
-/// A link to the page of a period.
-#[tactic(auto, unfolding(crate::specs::Markup::period_link))]
-pub(crate) fn period_link(alloc: Global, period: u64) -> Result<String, AllocError>
-    ensures { IfOk result (λ link. string_bytes link ≡ spec.period_link period) }
+/// Appends a cell of a day.
+#[tactic(auto, unfolding(crate::specs::Markup::cell))]
+pub(crate) fn push_day_cell(out: &mut Draft, day: i32)
+    requires { IsDay day }
+    ensures { out.new ≡ out.old ++ spec.cell (day_text_of day) }
 {
-    let number = period.to_string(alloc)?;
-    let number = number.as_str();
-    joined(alloc, &["<a href='/period/", number, "'>", number, "</a>"])
+    out.push_str("<td>");
+    out.push_day(day);
+    out.push_str("</td>");
 }
 
-/// A link to the text of the record of a name.
-#[tactic(auto, unfolding(crate::specs::Markup::record_link))]
-pub(crate) fn record_link(alloc: Global, name: &[u8]) -> Result<String, AllocError>
-    ensures { IfOk result (λ link. string_bytes link ≡ spec.record_link name.now) }
+/// Appends a cell of a number.
+#[tactic(auto, unfolding(crate::specs::Markup::cell))]
+pub(crate) fn push_number_cell(out: &mut Draft, number: u64)
+    ensures { out.new ≡ out.old ++ spec.cell (decimal number) }
 {
-    let name = hex::encode(alloc, name)?;
-    let name = name.as_str();
-    joined(alloc, &["<a href='/record/", name, "'>", name, "</a>"])
+    out.push_str("<td>");
+    out.push_number(number);
+    out.push_str("</td>");
+}
+
+/// Appends a cell of an amount.
+#[tactic(auto, unfolding(crate::specs::Markup::cell))]
+pub(crate) fn push_money_cell(out: &mut Draft, amount: u64)
+    ensures { out.new ≡ out.old ++ spec.cell (columns.amount_text amount) }
+{
+    out.push_str("<td>");
+    push_money(out, amount);
+    out.push_str("</td>");
+}
+
+/// Appends a cell of hundredths of a second, in seconds.
+#[tactic(auto, unfolding(crate::specs::Markup::cell))]
+pub(crate) fn push_seconds_cell(out: &mut Draft, hundredths: u64)
+    ensures { out.new ≡ out.old ++ spec.cell (columns.seconds_text hundredths) }
+{
+    out.push_str("<td>");
+    let made = seconds_text(out.alloc(), hundredths);
+    out.push_made(&hundredths, made);
+    out.push_str("</td>");
+}
+
+/// Appends a cell of a link to the page of a period.
+#[tactic(auto, unfolding(crate::specs::Markup::cell, crate::specs::Markup::period_link))]
+pub(crate) fn push_period_cell(out: &mut Draft, period: u64)
+    ensures { out.new ≡ out.old ++ spec.cell (spec.period_link period) }
+{
+    out.push_str("<td><a href='/period/");
+    out.push_number(period);
+    out.push_str("'>");
+    out.push_number(period);
+    out.push_str("</a></td>");
+}
+
+/// Appends a cell of a link to the text of the record of a name.
+#[tactic(auto, unfolding(crate::specs::Markup::cell, crate::specs::Markup::record_link))]
+pub(crate) fn push_record_cell(out: &mut Draft, name: &[u8])
+    ensures { out.new ≡ out.old ++ spec.cell (spec.record_link name.now) }
+{
+    out.push_str("<td><a href='/record/");
+    out.push_lower_hex(name);
+    out.push_str("'>");
+    out.push_lower_hex(name);
+    out.push_str("</a></td>");
 }

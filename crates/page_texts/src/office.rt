@@ -1,22 +1,23 @@
 //! The page of the office: its periods, the open one first, and what each centre costs in each.
 
-ghost use Rattle.std.specs.Prelude.{◌≡◌, ◌++◌, All, IfOk, OnOk, map, string_bytes};
+ghost use Rattle.std.specs.Prelude.{◌≡◌, ◌++◌, All, IfOk, map, string_bytes};
 ghost use Rattle.std.specs.Option.{ForSome};
 ghost use Rattle.book_model.specs.Words.{IsDay};
 ghost use Rattle.page_texts.specs.Bars.{greatest};
 ghost use Rattle.page_texts.specs.Figures.{figures_seen};
 ghost use Rattle.page_texts.specs.OfficePage as spec;
 
-use crate::amounts::{head_text, money};
-use crate::bars::{picture, push_centre_bars};
+use crate::amounts::push_head;
+use crate::bars::{PICTURE_START, push_centre_bars};
 use crate::centres::all_centres;
 use crate::closes::close_of;
-use crate::figures::{PeriodFigures, owed_text};
-use crate::frame::{page_start, push_table_end};
+use crate::figures::{PeriodFigures, push_owed};
+use crate::frame::{push_page_start, push_table_end};
 use crate::legend::push_legend;
-use crate::markup::{joined, period_link, push_row};
+use crate::markup::{push_money_cell, push_number_cell, push_period_cell};
 use smf_text::Name;
 use std::alloc::{AllocError, Global};
+use text_drafts::Draft;
 
 /// What stands above the rows of periods.
 const OFFICE_HEAD: &str = "\
@@ -40,113 +41,92 @@ const OFFICE_FOOT: &str = "\
 
 /// Appends the row of a period: its number, whether it is open, how many records it counts, and its
 /// amounts.
-#[tactic(auto, unfolding(crate::specs::OfficePage::office_row))]
-fn push_office_row(
-    alloc: Global,
-    out: &mut String,
-    period: u64,
-    through: Option<i32>,
-    figures: &PeriodFigures,
-) -> Result<(), AllocError>
+#[tactic(auto, unfolding(crate::specs::OfficePage::office_row, crate::specs::Markup::table_row, crate::specs::Markup::cell))]
+fn push_office_row(out: &mut Draft, period: u64, through: Option<i32>, figures: &PeriodFigures)
     requires { ForSome through IsDay }
-    ensures { OnOk result (string_bytes out.new
-        ≡ string_bytes out.old ++ spec.office_row period through (figures_seen figures.now)) }
+    ensures { out.new ≡ out.old ++ spec.office_row period through (figures_seen figures.now) }
 {
-    let link = period_link(alloc, period)?;
-    let head = head_text(alloc, through)?;
-    let records = figures.records.to_string(alloc)?;
-    let charged = money(alloc, figures.charged)?;
-    let added = money(alloc, figures.added)?;
-    let reversed = money(alloc, figures.reversed)?;
-    let owed = owed_text(alloc, figures)?;
-    let cells: [&str; 7] = [
-        link.as_str(),
-        head.as_str(),
-        records.as_str(),
-        charged.as_str(),
-        added.as_str(),
-        reversed.as_str(),
-        owed.as_str(),
-    ];
-    push_row(out, &cells)
+    out.push_str("<tr>");
+    push_period_cell(out, period);
+    out.push_str("<td>");
+    push_head(out, through);
+    out.push_str("</td>");
+    push_number_cell(out, figures.records);
+    push_money_cell(out, figures.charged);
+    push_money_cell(out, figures.added);
+    push_money_cell(out, figures.reversed);
+    out.push_str("<td>");
+    push_owed(out, figures);
+    out.push_str("</td></tr>\n");
 }
 
 /// Appends the rows of periods, the last one first.
-fn push_office_rows(
-    alloc: Global,
-    out: &mut String,
-    closes: &[i32],
-    periods: &[PeriodFigures],
-) -> Result<(), AllocError>
+fn push_office_rows(out: &mut Draft, closes: &[i32], periods: &[PeriodFigures])
     requires { All IsDay closes.now }
-    ensures { OnOk result (string_bytes out.new
-        ≡ string_bytes out.old ++ spec.office_rows closes.now (map figures_seen periods.now)) }
+    ensures { out.new
+        ≡ out.old ++ spec.office_rows closes.now (map figures_seen periods.now) }
 {
     let mut left = periods.len();
     while left > 0 {
         let through = close_of(closes, left);
         let figures = &periods[left - 1];
-        push_office_row(alloc, out, left as u64, through, figures)?;
+        push_office_row(out, left as u64, through, figures);
         left -= 1;
     }
-    Ok(())
 }
 
-/// The picture of a period: what each of these centres costs in it.
-fn cost_picture(
-    alloc: Global,
-    label: &str,
-    most: u64,
-    centres: &[Name],
-    figures: &PeriodFigures,
-) -> Result<String, AllocError>
-    ensures { IfOk result (λ text. string_bytes text
-        ≡ spec.cost_picture label.now most centres.now (figures_seen figures.now)) }
-{
-    let mut bars = String::new(alloc);
-    push_centre_bars(alloc, &mut bars, most, &figures.costs, centres)?;
-    picture(alloc, label, bars.as_str())
-}
-
-/// Appends the row of a period: its number, its picture, and what its statement comes to.
-#[tactic(auto, unfolding(crate::specs::OfficePage::cost_row))]
-fn push_cost_row(
-    alloc: Global,
-    out: &mut String,
+/// Appends the picture of a period: what each of these centres costs in it.
+#[tactic(auto, unfolding(crate::specs::Bars::picture))]
+fn push_cost_picture(
+    out: &mut Draft,
     most: u64,
     centres: &[Name],
     period: u64,
     figures: &PeriodFigures,
-) -> Result<(), AllocError>
-    ensures { OnOk result (string_bytes out.new
-        ≡ string_bytes out.old ++ spec.cost_row most centres.now period (figures_seen figures.now)) }
+)
+    ensures { out.new ≡ out.old
+        ++ spec.cost_picture (spec.cost_label period) most centres.now (figures_seen figures.now) }
 {
-    let number = period.to_string(alloc)?;
-    let label = joined(alloc, &["Period ", number.as_str(), " by centre"])?;
-    let picture = cost_picture(alloc, label.as_str(), most, centres, figures)?;
-    let link = period_link(alloc, period)?;
-    let charged = money(alloc, figures.charged)?;
-    push_row(out, &[link.as_str(), picture.as_str(), charged.as_str()])
+    out.push_str(PICTURE_START);
+    out.push_str("Period ");
+    out.push_number(period);
+    out.push_str(" by centre'>");
+    push_centre_bars(out, most, &figures.costs, centres);
+    out.push_str("</svg>");
+}
+
+/// Appends the row of a period: its number, its picture, and what its statement comes to.
+#[tactic(auto, unfolding(crate::specs::OfficePage::cost_row, crate::specs::Markup::table_row, crate::specs::Markup::cell))]
+fn push_cost_row(
+    out: &mut Draft,
+    most: u64,
+    centres: &[Name],
+    period: u64,
+    figures: &PeriodFigures,
+)
+    ensures { out.new
+        ≡ out.old ++ spec.cost_row most centres.now period (figures_seen figures.now) }
+{
+    out.push_str("<tr>");
+    push_period_cell(out, period);
+    out.push_str("<td>");
+    push_cost_picture(out, most, centres, period, figures);
+    out.push_str("</td>");
+    push_money_cell(out, figures.charged);
+    out.push_str("</tr>\n");
 }
 
 /// Appends the rows of periods, the last one first.
-fn push_cost_rows(
-    alloc: Global,
-    out: &mut String,
-    most: u64,
-    centres: &[Name],
-    periods: &[PeriodFigures],
-) -> Result<(), AllocError>
-    ensures { OnOk result (string_bytes out.new ≡ string_bytes out.old
-        ++ spec.cost_rows most centres.now (map figures_seen periods.now)) }
+fn push_cost_rows(out: &mut Draft, most: u64, centres: &[Name], periods: &[PeriodFigures])
+    ensures { out.new
+        ≡ out.old ++ spec.cost_rows most centres.now (map figures_seen periods.now) }
 {
     let mut left = periods.len();
     while left > 0 {
         let figures = &periods[left - 1];
-        push_cost_row(alloc, out, most, centres, left as u64, figures)?;
+        push_cost_row(out, most, centres, left as u64, figures);
         left -= 1;
     }
-    Ok(())
 }
 
 /// What the period that costs most is charged.
@@ -166,48 +146,43 @@ fn greatest_charged(periods: &[PeriodFigures]) -> u64
 
 /// Appends what stands above the rows of periods.
 #[tactic(auto, unfolding(crate::specs::OfficePage::office_head))]
-fn push_office_head(out: &mut String) -> Result<(), AllocError>
-    ensures { OnOk result (string_bytes out.new ≡ string_bytes out.old ++ spec.office_head) }
+fn push_office_head(out: &mut Draft)
+    ensures { out.new ≡ out.old ++ spec.office_head }
 {
-    out.push_str(OFFICE_HEAD)
+    out.push_str(OFFICE_HEAD);
 }
 
 /// Appends what stands above the pictures.
 #[tactic(auto, unfolding(crate::specs::OfficePage::cost_head))]
-fn push_cost_head(out: &mut String) -> Result<(), AllocError>
-    ensures { OnOk result (string_bytes out.new ≡ string_bytes out.old ++ spec.cost_head) }
+fn push_cost_head(out: &mut Draft)
+    ensures { out.new ≡ out.old ++ spec.cost_head }
 {
-    out.push_str(COST_HEAD)
+    out.push_str(COST_HEAD);
 }
 
 /// Appends the links to what is said of all periods, and the end of the page.
 #[tactic(auto, unfolding(crate::specs::OfficePage::office_foot))]
-fn push_office_foot(out: &mut String) -> Result<(), AllocError>
-    ensures { OnOk result (string_bytes out.new ≡ string_bytes out.old ++ spec.office_foot) }
+fn push_office_foot(out: &mut Draft)
+    ensures { out.new ≡ out.old ++ spec.office_foot }
 {
-    out.push_str(OFFICE_FOOT)
+    out.push_str(OFFICE_FOOT);
 }
 
-/// Appends the pictures of all periods, and their legend.
-#[tactic(auto, unfolding(crate::specs::OfficePage::cost_part))]
-fn push_cost_part(
-    alloc: Global,
-    out: &mut String,
-    periods: &[PeriodFigures],
-) -> Result<(), AllocError>
-    ensures { OnOk result (string_bytes out.new
-        ≡ string_bytes out.old ++ spec.cost_part (map figures_seen periods.now)) }
+/// Appends the pictures of all periods, of these centres, and their legend.
+#[tactic(auto, unfolding(crate::specs::OfficePage::cost_table))]
+fn push_cost_table(out: &mut Draft, centres: &[Name], periods: &[PeriodFigures])
+    ensures { out.new
+        ≡ out.old ++ spec.cost_table centres.now (map figures_seen periods.now) }
 {
-    let centres = all_centres(alloc, periods)?;
-    let most = greatest_charged(periods);
-    push_cost_head(out)?;
-    push_cost_rows(alloc, out, most, &centres, periods)?;
-    push_table_end(out)?;
-    push_legend(alloc, out, &centres)
+    push_cost_head(out);
+    push_cost_rows(out, greatest_charged(periods), centres, periods);
+    push_table_end(out);
+    push_legend(out, centres);
 }
 
 /// The page of the office: by the days through which periods were closed, in order, and the figures
 /// of all periods from 1 on, the open one last.
+#[tactic(auto, unfolding(crate::specs::OfficePage::cost_part))]
 pub fn office_page(
     alloc: Global,
     closes: &[i32],
@@ -217,11 +192,15 @@ pub fn office_page(
     ensures { IfOk result (λ page.
         string_bytes page ≡ spec.office_page_text closes.now (map figures_seen periods.now)) }
 {
-    let mut page = page_start(alloc, "Office")?;
-    push_office_head(&mut page)?;
-    push_office_rows(alloc, &mut page, closes, periods)?;
-    push_table_end(&mut page)?;
-    push_cost_part(alloc, &mut page, periods)?;
-    push_office_foot(&mut page)?;
-    Ok(page)
+    let centres = all_centres(alloc, periods)?;
+    let mut title = Draft::new(alloc);
+    title.push_str("Office");
+    let mut page = Draft::new(alloc);
+    push_page_start(&mut page, &title);
+    push_office_head(&mut page);
+    push_office_rows(&mut page, closes, periods);
+    push_table_end(&mut page);
+    push_cost_table(&mut page, &centres, periods);
+    push_office_foot(&mut page);
+    page.finish()
 }

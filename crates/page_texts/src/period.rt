@@ -5,19 +5,21 @@ ghost use Rattle.book_model.specs.Words.{AreDisputes, AreLines, AreRows, IsDay, 
 ghost use Rattle.page_texts.specs.PeriodPage as spec;
 
 use crate::closes::close_of;
-use crate::figures::period_figures;
-use crate::frame::page_start;
+use crate::figures::{centre_costs, day_costs, period_figures};
+use crate::frame::push_page_start;
 use crate::period_adjustments::push_adjustment_part;
 use crate::period_disputes::push_dispute_part;
 use crate::period_head::{period_title, push_period_foot, push_period_head};
-use crate::period_pictures::{push_centre_part, push_day_part};
+use crate::period_pictures::{push_centre_table, push_day_table};
 use crate::period_statement::push_statement_part;
 use book_model::{ChargeRow, Dispute, Line};
 use std::alloc::{AllocError, Global};
+use text_drafts::Draft;
 
 /// The page of a period: by its number, the days through which periods were closed, in order, its
 /// charge rows and its adjustment lines in the order in which the books give them, and all disputes
 /// of the office. It shows the disputes that have a record dated in the period.
+#[tactic(auto, unfolding(crate::specs::PeriodPictures::day_part, crate::specs::PeriodPictures::centre_part))]
 pub fn period_page(
     alloc: Global,
     period: u16,
@@ -37,14 +39,17 @@ pub fn period_page(
     let before = close_of(closes, number.saturating_sub(1));
     let through = close_of(closes, number);
     let figures = period_figures(alloc, rows, lines)?;
-    let title = period_title(alloc, period)?;
-    let mut page = page_start(alloc, title.as_str())?;
-    push_period_head(alloc, &mut page, title.as_str(), through, &figures)?;
-    push_day_part(alloc, &mut page, rows)?;
-    push_centre_part(alloc, &mut page, rows)?;
-    push_statement_part(alloc, &mut page, rows)?;
-    push_adjustment_part(alloc, &mut page, lines)?;
-    push_dispute_part(alloc, &mut page, before, through, disputes)?;
-    push_period_foot(alloc, &mut page, period)?;
-    Ok(page)
+    let days = day_costs(alloc, rows)?;
+    let centres = centre_costs(alloc, rows)?;
+    let title = period_title(alloc, period);
+    let mut page = Draft::new(alloc);
+    push_page_start(&mut page, &title);
+    push_period_head(&mut page, &title, through, &figures);
+    push_day_table(&mut page, &days);
+    push_centre_table(&mut page, &centres);
+    push_statement_part(&mut page, rows);
+    push_adjustment_part(&mut page, lines);
+    push_dispute_part(&mut page, before, through, disputes);
+    push_period_foot(&mut page, period);
+    page.finish()
 }

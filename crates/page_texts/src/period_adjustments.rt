@@ -1,18 +1,16 @@
 //! The adjustments on a period's page.
 
-ghost use Rattle.std.specs.Prelude.{◌≡◌, ◌++◌, IfOk, OnOk, flat_map, string_bytes};
+ghost use Rattle.std.specs.Prelude.{◌≡◌, ◌++◌, flat_map};
 ghost use Rattle.book_model.specs.Words.{AreLines, IsDay};
 ghost use Rattle.report_texts.specs.AdjustmentLists as lists;
+ghost use Rattle.page_texts.specs.Markup.{cell};
 ghost use Rattle.page_texts.specs.PeriodTables as spec;
 
-use crate::amounts::signed_text;
-use crate::frame::push_table_foot;
-use crate::markup::{push_row, record_link};
+use crate::amounts::push_signed;
+use crate::markup::{push_cell, push_day_cell, push_record_cell, push_shown_cell, push_text_cell};
 use book_model::Line;
-use html_text::{escaped, shown};
 use report_texts::{figures_of, word_of};
-use smf_text::day_text;
-use std::alloc::{AllocError, Global};
+use text_drafts::Draft;
 
 /// What stands above the rows.
 const HEAD: &str = "\
@@ -23,87 +21,83 @@ const HEAD: &str = "\
 
 /// Appends what stands above the rows.
 #[tactic(auto, unfolding(crate::specs::PeriodTables::adjustment_head))]
-fn push_head(out: &mut String) -> Result<(), AllocError>
-    ensures { OnOk result (string_bytes out.new ≡ string_bytes out.old ++ spec.adjustment_head) }
+fn push_head(out: &mut Draft)
+    ensures { out.new ≡ out.old ++ spec.adjustment_head }
 {
-    out.push_str(HEAD)
+    out.push_str(HEAD);
 }
 
-/// What a line charges, or a minus sign and what it takes back.
-fn amount_of(alloc: Global, line: &Line) -> Result<String, AllocError>
-    ensures { IfOk result (λ text. string_bytes text
-        ≡ lists.signed_text (lists.charged_amount line.now) (lists.reversed_amount line.now)) }
+/// Appends what a line charges, or a minus sign and what it takes back.
+fn push_amount(out: &mut Draft, line: &Line)
+    ensures { out.new ≡ out.old
+        ++ lists.signed_text (lists.charged_amount line.now) (lists.reversed_amount line.now) }
 {
     let amount = line.priced.amount;
     if line.plus {
-        signed_text(alloc, u128::from(amount), 0)
+        push_signed(out, u128::from(amount), 0);
     } else {
-        signed_text(alloc, 0, amount)
+        push_signed(out, 0, amount);
     }
 }
 
-/// Appends the row of an adjustment line.
-#[tactic(auto, unfolding(crate::specs::PeriodTables::adjustment_row))]
-fn push_line(alloc: Global, out: &mut String, line: &Line) -> Result<(), AllocError>
-    requires { IsDay line.now.priced.day }
-    ensures { OnOk result (string_bytes out.new
-        ≡ string_bytes out.old ++ spec.adjustment_row line.now) }
+/// Appends a cell of that amount.
+#[tactic(auto, unfolding(crate::specs::Markup::cell))]
+fn push_amount_cell(out: &mut Draft, line: &Line)
+    ensures { out.new ≡ out.old ++ cell
+        (lists.signed_text (lists.charged_amount line.now) (lists.reversed_amount line.now)) }
 {
-    let day = day_text(alloc, line.priced.day)?;
-    let centre = escaped(alloc, line.priced.centre.text())?;
-    let shift = escaped(alloc, line.priced.shift.text())?;
-    let amount = amount_of(alloc, line)?;
-    let link = record_link(alloc, &line.name)?;
-    let job = shown(alloc, &line.job)?;
-    let cells: [&str; 7] = [
-        word_of(line),
-        day.as_str(),
-        centre.as_str(),
-        shift.as_str(),
-        amount.as_str(),
-        link.as_str(),
-        job.as_str(),
-    ];
-    push_row(out, &cells)
+    out.push_str("<td>");
+    push_amount(out, line);
+    out.push_str("</td>");
+}
+
+/// Appends the row of an adjustment line.
+#[tactic(auto, unfolding(crate::specs::PeriodTables::adjustment_row, crate::specs::Markup::table_row))]
+fn push_line(out: &mut Draft, line: &Line)
+    requires { IsDay line.now.priced.day }
+    ensures { out.new ≡ out.old ++ spec.adjustment_row line.now }
+{
+    out.push_str("<tr>");
+    push_cell(out, word_of(line));
+    push_day_cell(out, line.priced.day);
+    push_text_cell(out, line.priced.centre.text());
+    push_text_cell(out, line.priced.shift.text());
+    push_amount_cell(out, line);
+    push_record_cell(out, &line.name);
+    push_shown_cell(out, &line.job);
+    out.push_str("</tr>\n");
 }
 
 /// Appends the rows of adjustment lines.
 #[tactic(auto, using(std::proofs::lemmas::List::flat_map_more))]
-fn push_lines(alloc: Global, out: &mut String, lines: &[Line]) -> Result<(), AllocError>
+fn push_lines(out: &mut Draft, lines: &[Line])
     requires { AreLines lines.now }
-    ensures { OnOk result (string_bytes out.new
-        ≡ string_bytes out.old ++ flat_map spec.adjustment_row lines.now) }
+    ensures { out.new ≡ out.old ++ flat_map spec.adjustment_row lines.now }
 {
     for line in lines {
-        push_line(alloc, out, line)?;
+        push_line(out, line);
     }
-    Ok(())
 }
 
 /// Appends the end of the adjustments, with their sum.
-#[tactic(auto, unfolding(crate::specs::PeriodTables::adjustment_foot))]
-fn push_foot(alloc: Global, out: &mut String, lines: &[Line]) -> Result<(), AllocError>
+#[tactic(auto, unfolding(crate::specs::PeriodTables::adjustment_foot, crate::specs::Frame::table_foot, crate::specs::Markup::table_row, crate::specs::Markup::cell))]
+fn push_foot(out: &mut Draft, lines: &[Line])
     requires { AreLines lines.now }
-    ensures { OnOk result (string_bytes out.new
-        ≡ string_bytes out.old ++ spec.adjustment_foot lines.now) }
+    ensures { out.new ≡ out.old ++ spec.adjustment_foot lines.now }
 {
     let sums = figures_of(&[], lines, 0);
-    let sum = signed_text(alloc, u128::from(sums.added), sums.reversed)?;
-    push_table_foot(out, &["Total", "", "", "", sum.as_str(), "", ""])
+    out.push_str("</tbody>\n<tfoot><tr><td>Total</td><td></td><td></td><td></td><td>");
+    push_signed(out, u128::from(sums.added), sums.reversed);
+    out.push_str("</td><td></td><td></td></tr>\n</tfoot>\n</table>\n</div>\n");
 }
 
 /// Appends the adjustments of lines.
 #[tactic(auto, unfolding(crate::specs::PeriodTables::adjustment_part))]
-pub(crate) fn push_adjustment_part(
-    alloc: Global,
-    out: &mut String,
-    lines: &[Line],
-) -> Result<(), AllocError>
+pub(crate) fn push_adjustment_part(out: &mut Draft, lines: &[Line])
     requires { AreLines lines.now }
-    ensures { OnOk result (string_bytes out.new
-        ≡ string_bytes out.old ++ spec.adjustment_part lines.now) }
+    ensures { out.new ≡ out.old ++ spec.adjustment_part lines.now }
 {
-    push_head(out)?;
-    push_lines(alloc, out, lines)?;
-    push_foot(alloc, out, lines)
+    push_head(out);
+    push_lines(out, lines);
+    push_foot(out, lines);
 }

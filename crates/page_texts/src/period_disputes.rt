@@ -1,21 +1,21 @@
 //! The disputes on a period's page.
 
-ghost use Rattle.std.specs.Prelude.{◌≡◌, ◌⊎◌, ◌++◌, All, IfOk, OnOk, flat_map, length, map, string_bytes};
+ghost use Rattle.std.specs.Prelude.{◌≡◌, ◌⊎◌, ◌++◌, All, IfOk, flat_map, length, map, string_bytes};
 ghost use Rattle.std.specs.List.{list_any};
 ghost use Rattle.book_model.specs.Words.{AreDisputes, IsDay, IsDispute, dispute_shown};
 ghost use Rattle.book_model.specs.Words.{identity2_length, identity_length, is_between};
 ghost use Rattle.report_texts.specs.DisputeLists as lists;
+ghost use Rattle.html_text.specs.Escaping as page;
 ghost use Rattle.page_texts.specs.PeriodTables as spec;
 
-use crate::amounts::money;
 use crate::closes::is_between;
 use crate::frame::push_table_end;
-use crate::markup::{push_all, push_row, record_link};
+use crate::markup::{push_day_cell, push_money_cell, push_record_cell, push_shown_cell};
 use book_model::{Dispute, Variant};
-use html_text::{escaped, shown};
+use html_text::push_escaped;
 use report_texts::push_identity_line;
-use smf_text::day_text;
 use std::alloc::{AllocError, Global};
+use text_drafts::Draft;
 
 /// What stands above the rows.
 const HEAD: &str = "\
@@ -26,61 +26,53 @@ const HEAD: &str = "\
 
 /// Appends what stands above the rows.
 #[tactic(auto, unfolding(crate::specs::PeriodTables::dispute_head))]
-fn push_head(out: &mut String) -> Result<(), AllocError>
-    ensures { OnOk result (string_bytes out.new ≡ string_bytes out.old ++ spec.dispute_head) }
+fn push_head(out: &mut Draft)
+    ensures { out.new ≡ out.old ++ spec.dispute_head }
 {
-    out.push_str(HEAD)
+    out.push_str(HEAD);
 }
 
-/// A completion code and a termination indicator.
+/// Appends a completion code and a termination indicator.
 #[tactic(auto, unfolding(report_texts::specs::DisputeLists::completion_text))]
-fn completion_text(alloc: Global, completion: Option<[u8; 4]>) -> Result<String, AllocError>
-    ensures { IfOk result (λ text. string_bytes text ≡ lists.completion_text completion) }
+fn push_completion(out: &mut Draft, completion: Option<[u8; 4]>)
+    ensures { out.new ≡ out.old ++ lists.completion_text completion }
 {
     let Some(bytes) = completion else {
-        return String::from_str(alloc, "----");
+        out.push_str("----");
+        return;
     };
-    let mut text = hex::encode_upper(alloc, &bytes[..2])?;
-    text.push('/')?;
-    text.push_str(hex::encode_upper(alloc, &bytes[2..])?.as_str())?;
-    Ok(text)
+    out.push_upper_hex(&bytes[..2]);
+    out.push_str("/");
+    out.push_upper_hex(&bytes[2..]);
 }
 
 /// Appends the row of a record in dispute.
-#[tactic(auto, unfolding(crate::specs::PeriodTables::member_row))]
-fn push_member(alloc: Global, out: &mut String, member: &Variant) -> Result<(), AllocError>
+#[tactic(auto, unfolding(crate::specs::PeriodTables::member_row, crate::specs::Markup::table_row, crate::specs::Markup::cell))]
+fn push_member(out: &mut Draft, member: &Variant)
     requires { IsDay member.now.priced.day }
-    ensures { OnOk result (string_bytes out.new
-        ≡ string_bytes out.old ++ spec.member_row member.now) }
+    ensures { out.new ≡ out.old ++ spec.member_row member.now }
 {
-    let link = record_link(alloc, &member.name)?;
-    let day = day_text(alloc, member.priced.day)?;
-    let amount = money(alloc, member.priced.amount)?;
-    let completion = completion_text(alloc, member.completion)?;
-    let job_id = shown(alloc, &member.job_id)?;
-    let program = shown(alloc, &member.program)?;
-    let cells: [&str; 6] = [
-        link.as_str(),
-        day.as_str(),
-        amount.as_str(),
-        completion.as_str(),
-        job_id.as_str(),
-        program.as_str(),
-    ];
-    push_row(out, &cells)
+    out.push_str("<tr>");
+    push_record_cell(out, &member.name);
+    push_day_cell(out, member.priced.day);
+    push_money_cell(out, member.priced.amount);
+    out.push_str("<td>");
+    push_completion(out, member.completion);
+    out.push_str("</td>");
+    push_shown_cell(out, &member.job_id);
+    push_shown_cell(out, &member.program);
+    out.push_str("</tr>\n");
 }
 
 /// Appends the rows of records in dispute.
 #[tactic(auto, using(std::proofs::lemmas::List::flat_map_more))]
-fn push_members(alloc: Global, out: &mut String, members: &[Variant]) -> Result<(), AllocError>
+fn push_members(out: &mut Draft, members: &[Variant])
     requires { All (λ member. IsDay member.priced.day) members.now }
-    ensures { OnOk result (string_bytes out.new
-        ≡ string_bytes out.old ++ flat_map spec.member_row members.now) }
+    ensures { out.new ≡ out.old ++ flat_map spec.member_row members.now }
 {
     for member in members {
-        push_member(alloc, out, member)?;
+        push_member(out, member);
     }
-    Ok(())
 }
 
 /// The line of an identity, as the list of disputes has it.
@@ -93,34 +85,26 @@ fn identity_line(alloc: Global, identity: &[u8]) -> Result<String, AllocError>
     Ok(text)
 }
 
-/// Appends the row of an identity.
-#[tactic(auto, unfolding(crate::specs::PeriodTables::identity_row))]
-fn push_identity(alloc: Global, out: &mut String, identity: &[u8]) -> Result<(), AllocError>
+/// Appends that line, as a page shows it.
+fn push_identity_text(out: &mut Draft, identity: &[u8])
     requires { (length identity.now ≡ identity_length) ⊎ (length identity.now ≡ identity2_length) }
-    ensures { OnOk result (string_bytes out.new
-        ≡ string_bytes out.old ++ spec.identity_row identity.now) }
+    ensures { out.new ≡ out.old ++ page.escaped (lists.identity_line identity.now) }
 {
-    let line = identity_line(alloc, identity)?;
-    let text = escaped(alloc, line.as_str())?;
-    push_all(
-        out,
-        &[
-            "<tr><th colspan='6' scope='rowgroup'>",
-            text.as_str(),
-            "</th></tr>\n",
-        ],
-    )
+    match identity_line(out.alloc(), identity) {
+        Ok(line) => push_escaped(out, line.as_str()),
+        Err(_) => out.leave_out(&identity),
+    }
 }
 
-/// Appends the rows of a dispute: its identity, and its records.
-#[tactic(auto, unfolding(crate::specs::PeriodTables::dispute_rows))]
-fn push_dispute_rows(alloc: Global, out: &mut String, dispute: &Dispute) -> Result<(), AllocError>
-    requires { IsDispute (dispute_shown dispute.now) }
-    ensures { OnOk result (string_bytes out.new
-        ≡ string_bytes out.old ++ spec.dispute_rows (dispute_shown dispute.now)) }
+/// Appends the row of an identity.
+#[tactic(auto, unfolding(crate::specs::PeriodTables::identity_row))]
+fn push_identity(out: &mut Draft, identity: &[u8])
+    requires { (length identity.now ≡ identity_length) ⊎ (length identity.now ≡ identity2_length) }
+    ensures { out.new ≡ out.old ++ spec.identity_row identity.now }
 {
-    push_identity(alloc, out, &dispute.identity)?;
-    push_members(alloc, out, &dispute.members)
+    out.push_str("<tr><th colspan='6' scope='rowgroup'>");
+    push_identity_text(out, identity);
+    out.push_str("</th></tr>\n");
 }
 
 /// One of the records is dated after a close, if there was one, and no later than another.
@@ -136,58 +120,50 @@ fn is_dated(before: Option<i32>, through: Option<i32>, members: &[Variant]) -> b
     false
 }
 
-/// Appends the rows of a dispute of which a record is dated so.
-#[tactic(auto, unfolding(crate::specs::PeriodTables::dated_rows))]
-fn push_dated(
-    alloc: Global,
-    out: &mut String,
-    before: Option<i32>,
-    through: Option<i32>,
-    dispute: &Dispute,
-) -> Result<(), AllocError>
+/// Appends the rows of a dispute of which a record is dated so: its identity, and its records.
+#[tactic(auto, unfolding(crate::specs::PeriodTables::dated_rows, crate::specs::PeriodTables::dispute_rows))]
+fn push_dated(out: &mut Draft, before: Option<i32>, through: Option<i32>, dispute: &Dispute)
     requires { IsDispute (dispute_shown dispute.now) }
-    ensures { OnOk result (string_bytes out.new
-        ≡ string_bytes out.old ++ spec.dated_rows before through (dispute_shown dispute.now)) }
+    ensures { out.new
+        ≡ out.old ++ spec.dated_rows before through (dispute_shown dispute.now) }
 {
     if !is_dated(before, through, &dispute.members) {
-        return Ok(());
+        return;
     }
-    push_dispute_rows(alloc, out, dispute)
+    push_identity(out, &dispute.identity);
+    push_members(out, &dispute.members);
 }
 
 /// Appends the rows of the disputes of which a record is dated so.
 #[tactic(auto, using(std::proofs::lemmas::List::flat_map_more))]
 fn push_disputes(
-    alloc: Global,
-    out: &mut String,
+    out: &mut Draft,
     before: Option<i32>,
     through: Option<i32>,
     disputes: &[Dispute],
-) -> Result<(), AllocError>
+)
     requires { AreDisputes (map dispute_shown disputes.now) }
-    ensures { OnOk result (string_bytes out.new ≡ string_bytes out.old
-        ++ flat_map (spec.dated_rows before through) (map dispute_shown disputes.now)) }
+    ensures { out.new ≡ out.old
+        ++ flat_map (spec.dated_rows before through) (map dispute_shown disputes.now) }
 {
     for dispute in disputes {
-        push_dated(alloc, out, before, through, dispute)?;
+        push_dated(out, before, through, dispute);
     }
-    Ok(())
 }
 
 /// Appends the disputes of the office that have a record dated in a period.
 #[tactic(auto, unfolding(crate::specs::PeriodTables::dispute_part))]
 pub(crate) fn push_dispute_part(
-    alloc: Global,
-    out: &mut String,
+    out: &mut Draft,
     before: Option<i32>,
     through: Option<i32>,
     disputes: &[Dispute],
-) -> Result<(), AllocError>
+)
     requires { AreDisputes (map dispute_shown disputes.now) }
-    ensures { OnOk result (string_bytes out.new ≡ string_bytes out.old
-        ++ spec.dispute_part before through (map dispute_shown disputes.now)) }
+    ensures { out.new ≡ out.old
+        ++ spec.dispute_part before through (map dispute_shown disputes.now) }
 {
-    push_head(out)?;
-    push_disputes(alloc, out, before, through, disputes)?;
-    push_table_end(out)
+    push_head(out);
+    push_disputes(out, before, through, disputes);
+    push_table_end(out);
 }

@@ -1,17 +1,15 @@
 //! The statement on a period's page.
 
-ghost use Rattle.std.specs.Prelude.{◌≡◌, ◌++◌, OnOk, flat_map, string_bytes};
+ghost use Rattle.std.specs.Prelude.{◌≡◌, ◌++◌, flat_map};
 ghost use Rattle.book_model.specs.Words.{AreRows, IsDay};
 ghost use Rattle.page_texts.specs.PeriodTables as spec;
 
-use crate::amounts::money;
-use crate::frame::push_table_foot;
-use crate::markup::push_row;
+use crate::markup::{
+    push_day_cell, push_money_cell, push_number_cell, push_seconds_cell, push_text_cell,
+};
 use book_model::ChargeRow;
-use html_text::escaped;
-use report_texts::{row_sums, seconds_text};
-use smf_text::day_text;
-use std::alloc::{AllocError, Global};
+use report_texts::row_sums;
+use text_drafts::Draft;
 
 /// What stands above the rows.
 const HEAD: &str = "\
@@ -22,87 +20,62 @@ const HEAD: &str = "\
 
 /// Appends what stands above the rows.
 #[tactic(auto, unfolding(crate::specs::PeriodTables::statement_head))]
-fn push_head(out: &mut String) -> Result<(), AllocError>
-    ensures { OnOk result (string_bytes out.new ≡ string_bytes out.old ++ spec.statement_head) }
+fn push_head(out: &mut Draft)
+    ensures { out.new ≡ out.old ++ spec.statement_head }
 {
-    out.push_str(HEAD)
+    out.push_str(HEAD);
 }
 
 /// Appends the row of a charge row.
-#[tactic(auto, unfolding(crate::specs::PeriodTables::statement_row))]
-fn push_charge_row(alloc: Global, out: &mut String, row: &ChargeRow) -> Result<(), AllocError>
+#[tactic(auto, unfolding(crate::specs::PeriodTables::statement_row, crate::specs::Markup::table_row))]
+fn push_charge_row(out: &mut Draft, row: &ChargeRow)
     requires { IsDay row.now.day }
-    ensures { OnOk result (string_bytes out.new
-        ≡ string_bytes out.old ++ spec.statement_row row.now) }
+    ensures { out.new ≡ out.old ++ spec.statement_row row.now }
 {
-    let day = day_text(alloc, row.day)?;
-    let centre = escaped(alloc, row.centre.text())?;
-    let shift = escaped(alloc, row.shift.text())?;
-    let count = row.count.to_string(alloc)?;
-    let cpu = seconds_text(alloc, row.cpu)?;
-    let blocks = row.blocks.to_string(alloc)?;
-    let amount = money(alloc, row.amount)?;
-    let cells: [&str; 7] = [
-        day.as_str(),
-        centre.as_str(),
-        shift.as_str(),
-        count.as_str(),
-        cpu.as_str(),
-        blocks.as_str(),
-        amount.as_str(),
-    ];
-    push_row(out, &cells)
+    out.push_str("<tr>");
+    push_day_cell(out, row.day);
+    push_text_cell(out, row.centre.text());
+    push_text_cell(out, row.shift.text());
+    push_number_cell(out, row.count);
+    push_seconds_cell(out, row.cpu);
+    push_number_cell(out, row.blocks);
+    push_money_cell(out, row.amount);
+    out.push_str("</tr>\n");
 }
 
 /// Appends the rows of charge rows.
 #[tactic(auto, using(std::proofs::lemmas::List::flat_map_more))]
-fn push_charge_rows(alloc: Global, out: &mut String, rows: &[ChargeRow]) -> Result<(), AllocError>
+fn push_charge_rows(out: &mut Draft, rows: &[ChargeRow])
     requires { AreRows rows.now }
-    ensures { OnOk result (string_bytes out.new
-        ≡ string_bytes out.old ++ flat_map spec.statement_row rows.now) }
+    ensures { out.new ≡ out.old ++ flat_map spec.statement_row rows.now }
 {
     for row in rows {
-        push_charge_row(alloc, out, row)?;
+        push_charge_row(out, row);
     }
-    Ok(())
 }
 
 /// Appends the end of the statement, with the sums of charge rows.
-#[tactic(auto, unfolding(crate::specs::PeriodTables::statement_foot))]
-fn push_foot(alloc: Global, out: &mut String, rows: &[ChargeRow]) -> Result<(), AllocError>
+#[tactic(auto, unfolding(crate::specs::PeriodTables::statement_foot, crate::specs::Frame::table_foot, crate::specs::Markup::table_row, crate::specs::Markup::cell))]
+fn push_foot(out: &mut Draft, rows: &[ChargeRow])
     requires { AreRows rows.now }
-    ensures { OnOk result (string_bytes out.new
-        ≡ string_bytes out.old ++ spec.statement_foot rows.now) }
+    ensures { out.new ≡ out.old ++ spec.statement_foot rows.now }
 {
     let (count, cpu, blocks, amount) = row_sums(rows);
-    let count = count.to_string(alloc)?;
-    let cpu = seconds_text(alloc, cpu)?;
-    let blocks = blocks.to_string(alloc)?;
-    let amount = money(alloc, amount)?;
-    let cells: [&str; 7] = [
-        "Total",
-        "",
-        "",
-        count.as_str(),
-        cpu.as_str(),
-        blocks.as_str(),
-        amount.as_str(),
-    ];
-    push_table_foot(out, &cells)
+    out.push_str("</tbody>\n<tfoot><tr><td>Total</td><td></td><td></td>");
+    push_number_cell(out, count);
+    push_seconds_cell(out, cpu);
+    push_number_cell(out, blocks);
+    push_money_cell(out, amount);
+    out.push_str("</tr>\n</tfoot>\n</table>\n</div>\n");
 }
 
 /// Appends the statement of charge rows.
 #[tactic(auto, unfolding(crate::specs::PeriodTables::statement_part))]
-pub(crate) fn push_statement_part(
-    alloc: Global,
-    out: &mut String,
-    rows: &[ChargeRow],
-) -> Result<(), AllocError>
+pub(crate) fn push_statement_part(out: &mut Draft, rows: &[ChargeRow])
     requires { AreRows rows.now }
-    ensures { OnOk result (string_bytes out.new
-        ≡ string_bytes out.old ++ spec.statement_part rows.now) }
+    ensures { out.new ≡ out.old ++ spec.statement_part rows.now }
 {
-    push_head(out)?;
-    push_charge_rows(alloc, out, rows)?;
-    push_foot(alloc, out, rows)
+    push_head(out);
+    push_charge_rows(out, rows);
+    push_foot(out, rows);
 }

@@ -1,10 +1,9 @@
 use Rattle.std.proofs.Common.{◌≡◌, ◌++◌, drop}
-use Rattle.std.specs.String.{string_bytes}
 use Rattle.page_texts.specs.OfficePage.{legend_from}
 use Rattle.page_texts.proofs.legend.push_items.Given as goal
 
 -- with the lines of the other centres it is all that is to be appended
 abbrev pub invariant-loop-index : goal.invariant-loop-index
 invariant-loop-index l =
-    string_bytes l.out ++ legend_from l.index (drop l.index l.centres)
-    ≡ string_bytes l.initial.out ++ legend_from 0 l.centres
+    l.out ++ legend_from l.index (drop l.index l.centres)
+    ≡ l.initial.out ++ legend_from 0 l.centres

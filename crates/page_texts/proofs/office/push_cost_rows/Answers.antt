@@ -1,5 +1,4 @@
 use Rattle.std.proofs.Common.{◌∙◌, ◌++◌, ap, arith}
-use Rattle.std.specs.String.{string_bytes}
 use Rattle.page_texts.specs.Figures.{figures_seen}
 use Rattle.page_texts.specs.OfficePage.{cost_row}
 use Rattle.page_texts.proofs.PageLemmas.{row_before}
@@ -14,9 +13,9 @@ loop-left-preserved c =
     let some = c.loop-left-test.true in
     let most = c.loop-left.invariant.within in
     record {
-      text = c.in_ok-push_cost_row.ensures
+      text = c.push_cost_row.ensures
           ∙ ap (λ out. out ++ row left (figures_seen figures)) c.loop-left.invariant.text
-          ∙ row_before row c.args.periods.now left figures (string_bytes c.args.out.now) (omega arith)
+          ∙ row_before row c.args.periods.now left figures c.args.out.now (omega arith)
           most c.index-periods-left.is;
       within = omega arith;
     }

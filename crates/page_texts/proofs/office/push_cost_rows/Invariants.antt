@@ -1,5 +1,4 @@
 use Rattle.std.proofs.Common.{◌≡◌, ◌≤◌, ◌++◌, drop, length, map}
-use Rattle.std.specs.String.{string_bytes}
 use Rattle.page_texts.specs.Figures.{figures_seen}
 use Rattle.page_texts.specs.OfficePage.{cost_row, last_first}
 use Rattle.page_texts.proofs.office.push_cost_rows.Given as goal
@@ -7,8 +6,8 @@ use Rattle.page_texts.proofs.office.push_cost_rows.Given as goal
 -- the rows of the periods after the ones that are left are appended
 abbrev pub invariant-loop-left : goal.invariant-loop-left
 invariant-loop-left l = record {
-  text : string_bytes l.out
-      ≡ string_bytes l.initial.out
+  text : l.out
+      ≡ l.initial.out
       ++ last_first (cost_row l.most l.centres) l.left (drop l.left (map figures_seen l.periods));
   within : l.left ≤ length l.periods;
 }

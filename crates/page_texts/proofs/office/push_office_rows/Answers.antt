@@ -1,5 +1,4 @@
 use Rattle.std.proofs.Common.{◌∙◌, ◌++◌, ℕ, List, ap, arith}
-use Rattle.std.specs.String.{string_bytes}
 use Rattle.book_model.specs.Words.{close_of}
 use Rattle.page_texts.specs.Figures.{FiguresSeen, figures_seen}
 use Rattle.page_texts.specs.OfficePage.{office_row}
@@ -16,11 +15,11 @@ loop-left-preserved c =
     let some = c.loop-left-test.true in
     let most = c.loop-left.invariant.within in
     record {
-      text = c.in_ok-push_office_row.ensures
-          ∙ ap (λ through. string_bytes c.loop-left.out ++ office_row left through (figures_seen figures))
+      text = c.push_office_row.ensures
+          ∙ ap (λ through. c.loop-left.out ++ office_row left through (figures_seen figures))
           c.close_of-through.ensures.close
           ∙ ap (λ out. out ++ row left (figures_seen figures)) c.loop-left.invariant.text
-          ∙ row_before row c.args.periods.now left figures (string_bytes c.args.out.now) (omega arith)
+          ∙ row_before row c.args.periods.now left figures c.args.out.now (omega arith)
           most c.index-periods-left.is;
       within = omega arith;
     }

@@ -1,6 +1,5 @@
 use Rattle.std.proofs.Common.{◌≡◌, ◌++◌, map, take}
 use Rattle.std.specs.List.{flat_map}
-use Rattle.std.specs.String.{string_bytes}
 use Rattle.book_model.specs.Words.{dispute_shown}
 use Rattle.page_texts.specs.PeriodTables.{dated_rows}
 use Rattle.page_texts.proofs.period_disputes.push_disputes.Given as goal
@@ -9,5 +8,5 @@ use Rattle.page_texts.proofs.period_disputes.push_disputes.Given as goal
 abbrev pub invariant-loop-dispute : goal.invariant-loop-dispute
 invariant-loop-dispute l =
     let shown = map dispute_shown (take l.dispute-index l.disputes) in
-    string_bytes l.out
-    ≡ string_bytes l.initial.out ++ flat_map (dated_rows l.before l.through) shown
+    l.out
+    ≡ l.initial.out ++ flat_map (dated_rows l.before l.through) shown
