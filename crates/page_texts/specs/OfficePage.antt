@@ -2,7 +2,8 @@
 use Rattle.std.specs.Prelude.{ℕ, ◌+◌, ◌-◌, ◌%◌, nat_le, ℤ, if◌then◌else◌, Option}
 use Rattle.std.specs.Prelude.{List, [], ◌∷◌, ◌++◌, codes, flat_map, length, map, take}
 use Rattle.std.specs.Fmt.{decimal}
-use Rattle.std.specs.List.{concat}
+use Rattle.std.specs.BTreeSet.{insert_key}
+use Rattle.std.specs.List.{concat, fold}
 use Rattle.book_model.specs.Words.{by_bytes, close_of, members, set_of}
 use Rattle.report_texts.specs.Columns.{amount_text}
 use Rattle.report_texts.specs.Periods.{head_text}
@@ -36,6 +37,10 @@ centres_in figures = map (λ cost. cost.0) figures.costs
 
 abbrev pub all_centres : List FiguresSeen → List (List ℕ)
 all_centres periods = members (set_of by_bytes (flat_map centres_in periods))
+
+-- names in order, and then those of a period, each in its place
+abbrev pub with_centres : List (List ℕ) → FiguresSeen → List (List ℕ)
+with_centres names figures = fold (insert_key by_bytes) names (centres_in figures)
 
 -- the picture of a period, with its text: what each of some centres costs in it
 abbrev pub cost_picture : List ℕ → ℕ → List (List ℕ) → FiguresSeen → List ℕ
