@@ -78,13 +78,14 @@ fn period_of_line<L: Ledger>(
 fn lines_alone(alloc: Global, lines: &[Line]) -> Result<Vec<BilledLine>, AllocError>
     ensures { IfOk result (λ billed. billed.items ≡ map words.line_alone lines.now) }
 {
-    lines
-        .iter()
-        .map(|line| BilledLine {
+    let mut billed = Vec::new(alloc);
+    for line in lines {
+        billed.push(BilledLine {
             line: *line,
             period: None,
-        })
-        .collect(alloc)
+        })?;
+    }
+    Ok(billed)
 }
 
 /// The lines of a period for the whole office.

@@ -48,9 +48,12 @@ fn amount_for(centre: &Option<Name>, member: &Variant) -> u64
 fn is_any_paid_by(centre: &Option<Name>, members: &[Variant]) -> bool
     ensures { result ≡ spec.is_any_paid_by centre.now members.now }
 {
-    members
-        .iter()
-        .any(|member| is_paid_by(centre, &member.priced))
+    for member in members {
+        if is_paid_by(centre, &member.priced) {
+            return true;
+        }
+    }
+    false
 }
 
 /// The least that it would pay for one of the records of a dispute.
