@@ -47,7 +47,6 @@ fn push_cost_title(out: &mut Draft, label: &Draft, amount: u64)
 }
 
 /// Appends a bar of a colour, from a place on. A pointer shows what is charged for what.
-#[tactic(auto, unfolding(crate::specs::Bars::bar))]
 fn push_bar(out: &mut Draft, colour: usize, start: u64, long: u64, label: &Draft, amount: u64)
     ensures { out.new
         ≡ out.old ++ spec.bar colour start long (spec.cost_title label.now amount) }
@@ -64,7 +63,6 @@ fn push_bar(out: &mut Draft, colour: usize, start: u64, long: u64, label: &Draft
 }
 
 /// Appends the picture of one bar, of the first colour.
-#[tactic(auto, unfolding(crate::specs::Bars::bar_picture, crate::specs::Bars::picture))]
 fn push_bar_picture(out: &mut Draft, long: u64, label: &Draft, amount: u64)
     ensures { out.new ≡ out.old ++ spec.bar_picture long label.now amount }
 {
@@ -91,14 +89,7 @@ pub(crate) fn push_bar_row(out: &mut Draft, most: u64, label: &Draft, amount: u6
 
 /// Appends the bar of the centre of an index. One without cost has none.
 #[tactic(auto, unfolding(crate::specs::Bars::centre_bar))]
-fn push_centre_bar(
-    out: &mut Draft,
-    index: usize,
-    start: u64,
-    long: u64,
-    centre: Name,
-    amount: u64,
-)
+fn push_centre_bar(out: &mut Draft, index: usize, start: u64, long: u64, centre: Name, amount: u64)
     ensures { out.new ≡ out.old ++ spec.centre_bar index start long centre amount }
 {
     if amount == 0 {

@@ -78,7 +78,6 @@ fn push_style(out: &mut Draft)
 }
 
 /// Appends a page under a title, up to where its own text begins.
-#[tactic(auto, unfolding(crate::specs::Frame::page_start))]
 pub(crate) fn push_page_start(out: &mut Draft, title: &Draft)
     ensures { out.new ≡ out.old ++ spec.page_start title.now }
 {

@@ -12,7 +12,6 @@ use text_drafts::Draft;
 const MOST_NAMED: usize = 12;
 
 /// Appends the line of the centre of an index.
-#[tactic(auto, unfolding(crate::specs::OfficePage::legend_item))]
 fn push_item(out: &mut Draft, index: usize, centre: Name)
     ensures { out.new ≡ out.old ++ spec.legend_item index centre }
 {

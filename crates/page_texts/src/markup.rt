@@ -85,7 +85,6 @@ pub(crate) fn push_seconds_cell(out: &mut Draft, hundredths: u64)
 }
 
 /// Appends a cell of a link to the page of a period.
-#[tactic(auto, unfolding(crate::specs::Markup::cell, crate::specs::Markup::period_link))]
 pub(crate) fn push_period_cell(out: &mut Draft, period: u64)
     ensures { out.new ≡ out.old ++ spec.cell (spec.period_link period) }
 {
@@ -97,7 +96,6 @@ pub(crate) fn push_period_cell(out: &mut Draft, period: u64)
 }
 
 /// Appends a cell of a link to the text of the record of a name.
-#[tactic(auto, unfolding(crate::specs::Markup::cell, crate::specs::Markup::record_link))]
 pub(crate) fn push_record_cell(out: &mut Draft, name: &[u8])
     ensures { out.new ≡ out.old ++ spec.cell (spec.record_link name.now) }
 {

@@ -3,8 +3,10 @@
 ghost use Rattle.std.specs.Prelude.{◌≡◌, ◌++◌, All, IfOk, map, string_bytes};
 ghost use Rattle.std.specs.Option.{ForSome};
 ghost use Rattle.book_model.specs.Words.{IsDay};
+ghost use Rattle.report_texts.specs.Periods.{head_text};
 ghost use Rattle.page_texts.specs.Bars.{greatest};
-ghost use Rattle.page_texts.specs.Figures.{figures_seen};
+ghost use Rattle.page_texts.specs.Figures.{figures_seen, owed_text};
+ghost use Rattle.page_texts.specs.Markup.{cell};
 ghost use Rattle.page_texts.specs.OfficePage as spec;
 
 use crate::amounts::push_head;
@@ -39,25 +41,43 @@ const OFFICE_FOOT: &str = "\
     <a href='/disputes'>disputes</a>\n<a href='/disputes-csv'>disputes-csv</a>\n</nav>\n\
     </main>\n</body>\n</html>\n";
 
+/// Appends a cell that says whether a period is open.
+#[tactic(auto, unfolding(crate::specs::Markup::cell))]
+fn push_state_cell(out: &mut Draft, through: Option<i32>)
+    requires { ForSome through IsDay }
+    ensures { out.new ≡ out.old ++ cell (head_text through) }
+{
+    out.push_str("<td>");
+    push_head(out, through);
+    out.push_str("</td>");
+}
+
+/// Appends a cell of what is owed.
+#[tactic(auto, unfolding(crate::specs::Markup::cell))]
+fn push_owed_cell(out: &mut Draft, figures: &PeriodFigures)
+    ensures { out.new ≡ out.old ++ cell (owed_text (figures_seen figures.now)) }
+{
+    out.push_str("<td>");
+    push_owed(out, figures);
+    out.push_str("</td>");
+}
+
 /// Appends the row of a period: its number, whether it is open, how many records it counts, and its
 /// amounts.
-#[tactic(auto, unfolding(crate::specs::OfficePage::office_row, crate::specs::Markup::table_row, crate::specs::Markup::cell))]
+#[tactic(auto, unfolding(crate::specs::OfficePage::office_row, crate::specs::Markup::table_row))]
 fn push_office_row(out: &mut Draft, period: u64, through: Option<i32>, figures: &PeriodFigures)
     requires { ForSome through IsDay }
     ensures { out.new ≡ out.old ++ spec.office_row period through (figures_seen figures.now) }
 {
     out.push_str("<tr>");
     push_period_cell(out, period);
-    out.push_str("<td>");
-    push_head(out, through);
-    out.push_str("</td>");
+    push_state_cell(out, through);
     push_number_cell(out, figures.records);
     push_money_cell(out, figures.charged);
     push_money_cell(out, figures.added);
     push_money_cell(out, figures.reversed);
-    out.push_str("<td>");
-    push_owed(out, figures);
-    out.push_str("</td></tr>\n");
+    push_owed_cell(out, figures);
+    out.push_str("</tr>\n");
 }
 
 /// Appends the rows of periods, the last one first.
@@ -76,7 +96,6 @@ fn push_office_rows(out: &mut Draft, closes: &[i32], periods: &[PeriodFigures])
 }
 
 /// Appends the picture of a period: what each of these centres costs in it.
-#[tactic(auto, unfolding(crate::specs::Bars::picture))]
 fn push_cost_picture(
     out: &mut Draft,
     most: u64,
@@ -97,13 +116,7 @@ fn push_cost_picture(
 
 /// Appends the row of a period: its number, its picture, and what its statement comes to.
 #[tactic(auto, unfolding(crate::specs::OfficePage::cost_row, crate::specs::Markup::table_row, crate::specs::Markup::cell))]
-fn push_cost_row(
-    out: &mut Draft,
-    most: u64,
-    centres: &[Name],
-    period: u64,
-    figures: &PeriodFigures,
-)
+fn push_cost_row(out: &mut Draft, most: u64, centres: &[Name], period: u64, figures: &PeriodFigures)
     ensures { out.new
         ≡ out.old ++ spec.cost_row most centres.now period (figures_seen figures.now) }
 {

@@ -27,28 +27,27 @@ fn push_head(out: &mut Draft)
     out.push_str(HEAD);
 }
 
-/// Appends what a line charges, or a minus sign and what it takes back.
-fn push_amount(out: &mut Draft, line: &Line)
-    ensures { out.new ≡ out.old
-        ++ lists.signed_text (lists.charged_amount line.now) (lists.reversed_amount line.now) }
+/// Appends a cell of what is charged less what is reversed.
+#[tactic(auto, unfolding(crate::specs::Markup::cell))]
+fn push_signed_cell(out: &mut Draft, charged: u64, taken: u64)
+    ensures { out.new ≡ out.old ++ cell (lists.signed_text charged taken) }
 {
-    let amount = line.priced.amount;
-    if line.plus {
-        push_signed(out, u128::from(amount), 0);
-    } else {
-        push_signed(out, 0, amount);
-    }
+    out.push_str("<td>");
+    push_signed(out, u128::from(charged), taken);
+    out.push_str("</td>");
 }
 
-/// Appends a cell of that amount.
-#[tactic(auto, unfolding(crate::specs::Markup::cell))]
+/// Appends a cell of what a line charges, or of a minus sign and what it takes back.
 fn push_amount_cell(out: &mut Draft, line: &Line)
     ensures { out.new ≡ out.old ++ cell
         (lists.signed_text (lists.charged_amount line.now) (lists.reversed_amount line.now)) }
 {
-    out.push_str("<td>");
-    push_amount(out, line);
-    out.push_str("</td>");
+    let amount = line.priced.amount;
+    if line.plus {
+        push_signed_cell(out, amount, 0);
+    } else {
+        push_signed_cell(out, 0, amount);
+    }
 }
 
 /// Appends the row of an adjustment line.
@@ -80,15 +79,20 @@ fn push_lines(out: &mut Draft, lines: &[Line])
 }
 
 /// Appends the end of the adjustments, with their sum.
-#[tactic(auto, unfolding(crate::specs::PeriodTables::adjustment_foot, crate::specs::Frame::table_foot, crate::specs::Markup::table_row, crate::specs::Markup::cell))]
 fn push_foot(out: &mut Draft, lines: &[Line])
     requires { AreLines lines.now }
     ensures { out.new ≡ out.old ++ spec.adjustment_foot lines.now }
 {
     let sums = figures_of(&[], lines, 0);
-    out.push_str("</tbody>\n<tfoot><tr><td>Total</td><td></td><td></td><td></td><td>");
-    push_signed(out, u128::from(sums.added), sums.reversed);
-    out.push_str("</td><td></td><td></td></tr>\n</tfoot>\n</table>\n</div>\n");
+    out.push_str("</tbody>\n<tfoot><tr>");
+    push_cell(out, "Total");
+    push_cell(out, "");
+    push_cell(out, "");
+    push_cell(out, "");
+    push_signed_cell(out, sums.added, sums.reversed);
+    push_cell(out, "");
+    push_cell(out, "");
+    out.push_str("</tr>\n</tfoot>\n</table>\n</div>\n");
 }
 
 /// Appends the adjustments of lines.

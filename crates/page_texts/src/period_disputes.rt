@@ -6,6 +6,7 @@ ghost use Rattle.book_model.specs.Words.{AreDisputes, IsDay, IsDispute, dispute_
 ghost use Rattle.book_model.specs.Words.{identity2_length, identity_length, is_between};
 ghost use Rattle.report_texts.specs.DisputeLists as lists;
 ghost use Rattle.html_text.specs.Escaping as page;
+ghost use Rattle.page_texts.specs.Markup.{cell};
 ghost use Rattle.page_texts.specs.PeriodTables as spec;
 
 use crate::closes::is_between;
@@ -46,8 +47,18 @@ fn push_completion(out: &mut Draft, completion: Option<[u8; 4]>)
     out.push_upper_hex(&bytes[2..]);
 }
 
+/// Appends a cell of these.
+#[tactic(auto, unfolding(crate::specs::Markup::cell))]
+fn push_completion_cell(out: &mut Draft, completion: Option<[u8; 4]>)
+    ensures { out.new ≡ out.old ++ cell (lists.completion_text completion) }
+{
+    out.push_str("<td>");
+    push_completion(out, completion);
+    out.push_str("</td>");
+}
+
 /// Appends the row of a record in dispute.
-#[tactic(auto, unfolding(crate::specs::PeriodTables::member_row, crate::specs::Markup::table_row, crate::specs::Markup::cell))]
+#[tactic(auto, unfolding(crate::specs::PeriodTables::member_row, crate::specs::Markup::table_row))]
 fn push_member(out: &mut Draft, member: &Variant)
     requires { IsDay member.now.priced.day }
     ensures { out.new ≡ out.old ++ spec.member_row member.now }
@@ -56,9 +67,7 @@ fn push_member(out: &mut Draft, member: &Variant)
     push_record_cell(out, &member.name);
     push_day_cell(out, member.priced.day);
     push_money_cell(out, member.priced.amount);
-    out.push_str("<td>");
-    push_completion(out, member.completion);
-    out.push_str("</td>");
+    push_completion_cell(out, member.completion);
     push_shown_cell(out, &member.job_id);
     push_shown_cell(out, &member.program);
     out.push_str("</tr>\n");
@@ -97,7 +106,6 @@ fn push_identity_text(out: &mut Draft, identity: &[u8])
 }
 
 /// Appends the row of an identity.
-#[tactic(auto, unfolding(crate::specs::PeriodTables::identity_row))]
 fn push_identity(out: &mut Draft, identity: &[u8])
     requires { (length identity.now ≡ identity_length) ⊎ (length identity.now ≡ identity2_length) }
     ensures { out.new ≡ out.old ++ spec.identity_row identity.now }
@@ -136,12 +144,7 @@ fn push_dated(out: &mut Draft, before: Option<i32>, through: Option<i32>, disput
 
 /// Appends the rows of the disputes of which a record is dated so.
 #[tactic(auto, using(std::proofs::lemmas::List::flat_map_more))]
-fn push_disputes(
-    out: &mut Draft,
-    before: Option<i32>,
-    through: Option<i32>,
-    disputes: &[Dispute],
-)
+fn push_disputes(out: &mut Draft, before: Option<i32>, through: Option<i32>, disputes: &[Dispute])
     requires { AreDisputes (map dispute_shown disputes.now) }
     ensures { out.new ≡ out.old
         ++ flat_map (spec.dated_rows before through) (map dispute_shown disputes.now) }

@@ -24,7 +24,6 @@ pub(crate) fn period_title(alloc: Global, period: u16) -> Draft
 
 /// Appends what stands above the parts of the page: under its title whether the period is open, and
 /// its sums.
-#[tactic(auto, unfolding(crate::specs::PeriodHead::period_head))]
 pub(crate) fn push_period_head(
     out: &mut Draft,
     title: &Draft,

@@ -16,7 +16,6 @@ const COLUMNS: &str =
     "</th><th scope='col'>Cost</th><th scope='col'>Charged</th></tr></thead>\n<tbody>";
 
 /// Appends what stands above the bars, under a caption and the heading of the first column.
-#[tactic(auto, unfolding(crate::specs::PeriodPictures::bars_head))]
 fn push_bars_head(out: &mut Draft, caption: &str, heading: &str)
     ensures { out.new ≡ out.old ++ spec.bars_head caption.now heading.now }
 {
@@ -88,7 +87,6 @@ pub(crate) fn push_day_table(out: &mut Draft, costs: &[(i32, u64)])
 }
 
 /// Appends the picture of what centres cost.
-#[tactic(auto, unfolding(crate::specs::PeriodPictures::centre_table))]
 pub(crate) fn push_centre_table(out: &mut Draft, costs: &[(Name, u64)])
     ensures { out.new ≡ out.old ++ spec.centre_table costs.now }
 {

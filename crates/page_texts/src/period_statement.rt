@@ -5,7 +5,7 @@ ghost use Rattle.book_model.specs.Words.{AreRows, IsDay};
 ghost use Rattle.page_texts.specs.PeriodTables as spec;
 
 use crate::markup::{
-    push_day_cell, push_money_cell, push_number_cell, push_seconds_cell, push_text_cell,
+    push_cell, push_day_cell, push_money_cell, push_number_cell, push_seconds_cell, push_text_cell,
 };
 use book_model::ChargeRow;
 use report_texts::row_sums;
@@ -55,13 +55,15 @@ fn push_charge_rows(out: &mut Draft, rows: &[ChargeRow])
 }
 
 /// Appends the end of the statement, with the sums of charge rows.
-#[tactic(auto, unfolding(crate::specs::PeriodTables::statement_foot, crate::specs::Frame::table_foot, crate::specs::Markup::table_row, crate::specs::Markup::cell))]
 fn push_foot(out: &mut Draft, rows: &[ChargeRow])
     requires { AreRows rows.now }
     ensures { out.new ≡ out.old ++ spec.statement_foot rows.now }
 {
     let (count, cpu, blocks, amount) = row_sums(rows);
-    out.push_str("</tbody>\n<tfoot><tr><td>Total</td><td></td><td></td>");
+    out.push_str("</tbody>\n<tfoot><tr>");
+    push_cell(out, "Total");
+    push_cell(out, "");
+    push_cell(out, "");
     push_number_cell(out, count);
     push_seconds_cell(out, cpu);
     push_number_cell(out, blocks);
