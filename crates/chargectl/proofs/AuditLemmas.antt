@@ -7,8 +7,8 @@ use Rattle.book_audit.specs.declared.audited.Audited.TheVariants.{Sound, Unsound
 use Rattle.book_audit.specs.declared.finding.Finding.{Finding}
 use Rattle.book_audit.specs.Findings.{unsound_text}
 use Rattle.book_audit.specs.Texts.{IsAuditText}
-use Rattle.chargectl.specs.declared.command_fault.CommandFault.{CommandFault}
-use Rattle.chargectl.specs.declared.command_fault.CommandFault.TheVariants as fault
+use Rattle.without_books.specs.declared.command_fault.CommandFault.{CommandFault}
+use Rattle.without_books.specs.declared.command_fault.CommandFault.TheVariants as fault
 use Rattle.chargectl.specs.Audits.{EndsAudit}
 use Rattle.chargectl.specs.Commands.{IsPrinted}
 

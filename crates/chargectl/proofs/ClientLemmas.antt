@@ -36,6 +36,12 @@ use Rattle.chargectl.specs.Serving.{AnswersSome, Fits, Replies, ServesOne, is_an
 
 -- ---- what is sent
 
+-- what was written by a writer was written by the one that it was taken from
+pub written_so : (Is : Option (List ℕ) → Option (List ℕ) → Type 0)
+    (old held has holds : Option (List ℕ)) → old ≡ held → holds ≡ has → Is old has → Is held holds
+written_so Is old held has holds one two is =
+    subst (λ held. Is held holds) one (subst (λ holds. Is old holds) (sym two) is)
+
 -- long details were answered, and sent while they were read
 pub details_open : (old new : Seen) (details : DetailReport) (size : ℕ)
     (held holds : Option (List ℕ)) (what : Served) → most_gathered < size

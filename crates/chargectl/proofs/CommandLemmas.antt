@@ -23,8 +23,8 @@ use Rattle.command_line.specs.declared.request.BookRequest.{BookRequest}
 use Rattle.command_line.specs.declared.request.BookRequest.TheVariants as to_books
 use Rattle.command_line.specs.declared.request.Ruling.TheVariants as ruling
 use Rattle.program_output.specs.Names.{name_in}
-use Rattle.chargectl.specs.declared.command_fault.CommandFault.{CommandFault}
-use Rattle.chargectl.specs.declared.ended.Answered.{Answered}
+use Rattle.without_books.specs.declared.command_fault.CommandFault.{CommandFault}
+use Rattle.chargectl.specs.declared.answered.Answered.{Answered}
 use Rattle.chargectl.specs.Commands.{AsksNothing, AsksOnceBy, ComesOf}
 use Rattle.chargectl.specs.Commands.{IsFileFault, IsShelfFault}
 use Rattle.chargectl.specs.Commands.{IsTariffFault, IsTextFault, IsWordFault, report_of}

@@ -39,9 +39,9 @@ use Rattle.office.specs.Requests.{response_outcome}
 use Rattle.office.specs.Runs.{AsksWithoutReader, dump_here}
 use Rattle.office.proofs.LawLemmas.{asks_done}
 use Rattle.command_line.specs.declared.request.BookRequest.{BookRequest}
-use Rattle.chargectl.specs.declared.command_fault.CommandFault.{CommandFault}
+use Rattle.without_books.specs.declared.command_fault.CommandFault.{CommandFault}
+use Rattle.without_books.specs.declared.notice.Notice.{Notice}
 use Rattle.chargectl.specs.declared.dated_rulings.DatedAnswer.{DatedAnswer}
-use Rattle.chargectl.specs.declared.notice.Notice.{Notice}
 use Rattle.chargectl.specs.Commands.{AsksNothing}
 use Rattle.chargectl.specs.DryRuns.{IsAskedFor, IsDryAnswer, IsNamedBy, IsRuled, IsShown, IsUnnamed}
 use Rattle.chargectl.specs.DryRuns.{ShowsDry, TellsDry, TriesOnce, TriesOnceBy, dated_by, ruled_told}

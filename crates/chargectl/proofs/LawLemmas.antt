@@ -31,11 +31,12 @@ use Rattle.command_line.specs.declared.request.Request.TheVariants as request
 use Rattle.command_line.specs.declared.request.Ruling.{Ruling}
 use Rattle.command_line.specs.declared.fault.ArgumentFault.{ArgumentFault}
 use Rattle.program_output.specs.declared.status.Status.{Status}
+use Rattle.without_books.specs.declared.command_fault.CommandFault.{CommandFault}
+use Rattle.without_books.specs.declared.ended.Ended.{Ended}
+use Rattle.without_books.specs.Faults.{settled_as}
 use Rattle.chargectl.specs.declared.choices.ListAnswered.{ListAnswered}
-use Rattle.chargectl.specs.declared.command_fault.CommandFault.{CommandFault}
 use Rattle.chargectl.specs.declared.dated_rulings.DatedAnswer.{DatedAnswer}
-use Rattle.chargectl.specs.declared.ended.Answered.{Answered}
-use Rattle.chargectl.specs.declared.ended.Ended.{Ended}
+use Rattle.chargectl.specs.declared.answered.Answered.{Answered}
 use Rattle.chargectl.specs.declared.streamed_lists.StreamedList.{StreamedList}
 use Rattle.chargectl.specs.Choices.{ChoosesBy, ChoosesListed, ComesOfList, IsListFault}
 use Rattle.chargectl.specs.Choices.{list_answered}
@@ -49,7 +50,6 @@ use Rattle.chargectl.specs.CommandLaws.{ServesEach, ServesOfHistory}
 use Rattle.chargectl.specs.CommandLaws.{TriedBy, TriesOfHistory, place_after}
 use Rattle.chargectl.specs.DryRuns.{ComesOfDryRun, ShowsDry, TriesAndTells, TriesOnceBy}
 use Rattle.chargectl.specs.Requests.{Answering, Does, DoesOrRefuses, ServesBy, SettlesBy}
-use Rattle.chargectl.specs.Faults.{settled_as}
 use Rattle.chargectl.specs.StreamedLists.{ListsAsked, ListsBy, WritesSomeOf, list_answer, list_of}
 use Rattle.chargectl.specs.StreamedLists.{listing_answered}
 use Rattle.chargectl.specs.Upgrades.{UpgradesBy}

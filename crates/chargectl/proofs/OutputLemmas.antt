@@ -1,10 +1,8 @@
--- What is told of the output: that it failed, where a write or a flush of it has.
-use Rattle.std.proofs.Common.{◌≡◌, ◌∙◌, Bool, false, true, ℕ, List, [], Option, Result, Ok, Err}
+-- What is told of the output of an answer or a list: that it failed, where a write or a flush of it has.
+use Rattle.std.proofs.Common.{◌≡◌, ◌∙◌, Bool, false, true, ℕ, List, Option, Result, Ok, Err}
 use Rattle.std.proofs.Common.{ap, inl, inr, refl, subst, sym, take}
 use Rattle.std.specs.Prelude.{IsErr}
-use Rattle.std.specs.declared.io.Error.{Error}
 use Rattle.std.specs.Io.KnownBytes.{Appends}
-use Rattle.streams.specs.Failures.{FailsToWrite, HasFailed}
 use Rattle.streams.specs.InputOutput.{Output}
 use Rattle.book_reports.specs.declared.fault.ReportFault.{ReportFault}
 use Rattle.book_reports.specs.declared.fault.ReportFault.TheVariants as report
@@ -12,25 +10,13 @@ use Rattle.named_books.specs.declared.repository.RepositoryFault.{RepositoryFaul
 use Rattle.named_books.specs.declared.repository.RepositoryFault.TheVariants.{Unseen}
 use Rattle.named_books.specs.Shelves.{ComesBy}
 use Rattle.office.specs.Answers.{WritesText}
-use Rattle.chargectl.specs.declared.command_fault.CommandFault.{CommandFault}
-use Rattle.chargectl.specs.declared.command_fault.CommandFault.TheVariants as fault
+use Rattle.without_books.specs.declared.command_fault.CommandFault.{CommandFault}
+use Rattle.without_books.specs.declared.command_fault.CommandFault.TheVariants as fault
+use Rattle.without_books.specs.Faults.{IsPrinted}
 use Rattle.chargectl.specs.declared.streamed_lists.StreamedList.{StreamedList}
-use Rattle.chargectl.specs.Faults.{IsPrinted}
 use Rattle.chargectl.specs.StreamedLists.{ListsOpen, WritesSomeOf, list_end}
 
-module _ {O : Type 0} (may_answer : O → List ℕ → Result ℕ Error → O → Type 0) (old new : O) where
-  -- by a write
-  pub write_failed : (bytes : List ℕ) → FailsToWrite may_answer bytes old new
-      → ∥ HasFailed may_answer new ∥₁
-  write_failed bytes fails = ∣ record { old = old; bytes = bytes; fails = fails } ∣₁
-
-  -- by a flush, which fails as a write of no bytes may
-  pub flush_failed : (error : Error) → may_answer old [] (Err error) new
-      → ∥ HasFailed may_answer new ∥₁
-  flush_failed error made =
-      write_failed [] (record { answer = Err error; made = made; failed = refl })
-
--- so it is with an answer that was not written
+-- an answer that was not written
 pub not_written : (text : List ℕ) (output : Output) (why : ReportFault) (held holds : Option (List ℕ))
     (Failed : Type 0) → WritesText text output (Err why) → output.old.holds ≡ held
     → output.new.holds ≡ holds → (output.new.has_failed ≡ true → Failed)

@@ -16,17 +16,17 @@ use Rattle.named_books.specs.declared.repository.RepositoryFault.TheVariants.{Un
 use Rattle.named_books.specs.Shelves.{Shelf, IsDoneTo, IsOpened, IsUntouched, OpenedAnew}
 use Rattle.named_books.proofs.ShelfLemmas.{done_after, done_as, done_then, opened_refused}
 use Rattle.named_books.proofs.ShelfLemmas.{opened_untouched}
-use Rattle.chargectl.specs.declared.command_fault.CommandFault.{CommandFault}
-use Rattle.chargectl.specs.declared.ended.Ended.{Ended}
+use Rattle.without_books.specs.declared.command_fault.CommandFault.{CommandFault}
+use Rattle.without_books.specs.declared.ended.Ended.{Ended}
+use Rattle.without_books.specs.Faults.{IsFileFault}
+use Rattle.without_books.specs.ServedLines.{Gains, unfailed}
+use Rattle.without_books.proofs.ServedLineLemmas.{gains_then}
 use Rattle.chargectl.specs.ClientRequests.{LeavesLog}
 use Rattle.chargectl.specs.CommandLaws.{AnswersOrNot, OpenedSo, ServesAny, ServesEach}
-use Rattle.chargectl.specs.Faults.{IsFileFault}
 use Rattle.chargectl.specs.Requests.{IsServiceFault, Serves, WritesEarly, WritesLines}
-use Rattle.chargectl.specs.ServedLines.{Gains, unfailed}
 use Rattle.chargectl.specs.Serving.{AnswersSome, Coming, IsServing, IsToldOf, ServesInTurn}
 use Rattle.chargectl.specs.Serving.{ServesOne, line_of, lines_of, ready, service_end}
 use Rattle.chargectl.proofs.CommandLemmas.{either_as}
-use Rattle.chargectl.proofs.ServedLineLemmas.{gains_then}
 
 -- ---- connections make events that the books answered
 

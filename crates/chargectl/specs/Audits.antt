@@ -9,11 +9,11 @@ use Rattle.book_audit.specs.Findings.{unsound_text}
 use Rattle.book_audit.specs.Texts.{sound_text}
 use Rattle.named_books.specs.declared.repository.RepositoryFault.{RepositoryFault}
 use Rattle.named_books.specs.Shelves.{Shelf, IsThere, IsUntouched}
-use Rattle.chargectl.specs.declared.command_fault.CommandFault.{CommandFault}
-use Rattle.chargectl.specs.declared.command_fault.CommandFault.TheVariants as fault
-use Rattle.chargectl.specs.declared.ended.Ended.{Ended}
+use Rattle.without_books.specs.declared.command_fault.CommandFault.{CommandFault}
+use Rattle.without_books.specs.declared.command_fault.CommandFault.TheVariants as fault
+use Rattle.without_books.specs.declared.ended.Ended.{Ended}
+use Rattle.without_books.specs.Faults.{shelf_fault}
 use Rattle.chargectl.specs.Commands.{IsPrinted, IsRefusedBy}
-use Rattle.chargectl.specs.Faults.{shelf_fault}
 
 -- Books that are unsound end the command so, whatever becomes of the line that says it: it is written, or
 -- the output fails, and has a prefix of it.

@@ -16,12 +16,12 @@ use Rattle.named_books.specs.Shelves.{Shelf, IsOpened, IsThere, IsUntouched}
 use Rattle.office.proofs.ChoiceLemmas.{choices_answered}
 use Rattle.program_output.specs.declared.names.NamesFault.{NamesFault}
 use Rattle.program_output.specs.Names.{names_in}
+use Rattle.without_books.specs.declared.command_fault.CommandFault.{CommandFault}
+use Rattle.without_books.specs.declared.command_fault.CommandFault.TheVariants as fault
+use Rattle.without_books.specs.declared.ended.Ended.{Ended}
+use Rattle.without_books.specs.Faults.{names_fault, shelf_fault, without_log}
 use Rattle.chargectl.specs.declared.choices.ListAnswered.{ListAnswered}
-use Rattle.chargectl.specs.declared.command_fault.CommandFault.{CommandFault}
-use Rattle.chargectl.specs.declared.command_fault.CommandFault.TheVariants as fault
-use Rattle.chargectl.specs.declared.ended.Ended.{Ended}
 use Rattle.chargectl.specs.Commands.{IsFileFault, IsPrinted, IsShelfFault, first_fault}
-use Rattle.chargectl.specs.Faults.{names_fault, shelf_fault, without_log}
 
 -- these are the names of the text that a file gave
 abbrev pub AreListed : List (List ℕ) → Type 0

@@ -31,18 +31,18 @@ use Rattle.command_line.specs.declared.fault.ArgumentFault.{ArgumentFault}
 use Rattle.command_line.specs.Known.{AreReadAs, as_texts}
 use Rattle.program_output.specs.declared.status.Status.{Status}
 use Rattle.program_output.specs.Messages.{program_name}
+use Rattle.without_books.specs.declared.command_fault.CommandFault.{CommandFault}
+use Rattle.without_books.specs.declared.command_fault.CommandFault.TheVariants as fault
+use Rattle.without_books.specs.declared.ended.Ended.{Ended}
+use Rattle.without_books.specs.Faults.{IsFileFault, settled_as, status_by}
 use Rattle.chargectl.specs.declared.choices.ListAnswered.{ListAnswered}
-use Rattle.chargectl.specs.declared.command_fault.CommandFault.{CommandFault}
-use Rattle.chargectl.specs.declared.command_fault.CommandFault.TheVariants as fault
 use Rattle.chargectl.specs.declared.dated_rulings.DatedAnswer.{DatedAnswer}
-use Rattle.chargectl.specs.declared.ended.Answered.{Answered}
-use Rattle.chargectl.specs.declared.ended.Ended.{Ended}
+use Rattle.chargectl.specs.declared.answered.Answered.{Answered}
 use Rattle.chargectl.specs.declared.streamed_lists.StreamedList.{StreamedList}
 use Rattle.chargectl.specs.Choices.{AreListed, ChoosesNothing, TellsList, chosen_of}
 use Rattle.chargectl.specs.Commands.{AsksNothing, IsAskedBy, IsShelfFault, Tells, answer_of}
 use Rattle.chargectl.specs.Commands.{answer_told, first_fault, notice_of}
 use Rattle.chargectl.specs.DryRuns.{ShowsDry}
-use Rattle.chargectl.specs.Faults.{IsFileFault, settled_as, status_by}
 use Rattle.chargectl.specs.Requests.{Answering, CommandsBy}
 use Rattle.chargectl.specs.StreamedLists.{WritesSomeOf, list_answer, list_end, list_of}
 use Rattle.chargectl.specs.Serving.{AnswersSome, IsToldOf}

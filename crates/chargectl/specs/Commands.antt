@@ -32,16 +32,16 @@ use Rattle.command_line.specs.declared.request.ReportWords.TheVariants as worded
 use Rattle.command_line.specs.declared.request.Ruling.{Ruling}
 use Rattle.command_line.specs.declared.request.Ruling.TheVariants as ruling
 use Rattle.program_output.specs.Names.{name_in}
-use Rattle.chargectl.specs.declared.command_fault.CommandFault.{CommandFault}
-use Rattle.chargectl.specs.declared.command_fault.CommandFault.TheVariants as fault
+use Rattle.without_books.specs.declared.command_fault.CommandFault.{CommandFault}
+use Rattle.without_books.specs.declared.command_fault.CommandFault.TheVariants as fault
+use Rattle.without_books.specs.declared.ended.Ended.{Ended}
+use Rattle.without_books.specs.declared.notice.Notice.{Notice}
+pub use Rattle.without_books.specs.Faults.{IsFileFault, IsPrinted, IsTextFault}
+use Rattle.without_books.specs.Faults.{end_of, shelf_fault, without_log}
+use Rattle.without_books.specs.FirstBytes.{IsLookedAt, layout_notice}
 use Rattle.chargectl.specs.declared.dated_rulings.DatedAnswer.{DatedAnswer}
-use Rattle.chargectl.specs.declared.ended.Answered.{Answered}
-use Rattle.chargectl.specs.declared.ended.Ended.{Ended}
-use Rattle.chargectl.specs.declared.notice.Notice.{Notice}
+use Rattle.chargectl.specs.declared.answered.Answered.{Answered}
 use Rattle.chargectl.specs.Far.{far_notice}
-pub use Rattle.chargectl.specs.Faults.{IsFileFault, IsPrinted, IsTextFault}
-use Rattle.chargectl.specs.Faults.{end_of, shelf_fault, without_log}
-use Rattle.chargectl.specs.FirstBytes.{IsLookedAt, layout_notice}
 
 -- the centre that is asked for, if that is a name; or none, for the whole office
 abbrev pub asked_centre : Option (Bor (List ℕ)) → Option (Option (List ℕ))

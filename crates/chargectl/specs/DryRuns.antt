@@ -30,11 +30,11 @@ use Rattle.office.proofs.LawLemmas.{asks_answered}
 use Rattle.command_line.specs.declared.request.BookRequest.{BookRequest}
 use Rattle.command_line.specs.declared.request.BookRequest.TheVariants as to_books
 use Rattle.command_line.specs.declared.request.Ruling.{Ruling}
-use Rattle.chargectl.specs.declared.command_fault.CommandFault.{CommandFault}
+use Rattle.without_books.specs.declared.command_fault.CommandFault.{CommandFault}
+use Rattle.without_books.specs.declared.ended.Ended.{Ended}
+use Rattle.without_books.specs.declared.notice.Notice.{Notice}
 use Rattle.chargectl.specs.declared.dated_rulings.DatedAnswer.{DatedAnswer}
-use Rattle.chargectl.specs.declared.ended.Answered.{Answered}
-use Rattle.chargectl.specs.declared.ended.Ended.{Ended}
-use Rattle.chargectl.specs.declared.notice.Notice.{Notice}
+use Rattle.chargectl.specs.declared.answered.Answered.{Answered}
 use Rattle.chargectl.specs.Commands.{AsksNothing, IsAskedBy, Tells, answer_of, answer_told, notice_of}
 use Rattle.chargectl.specs.Far.{far_notice, notice_by}
 

@@ -15,8 +15,8 @@ use Rattle.book_reports.specs.Figures.{open_in}
 use Rattle.office.specs.declared.request.Asked.{Asked}
 use Rattle.office.specs.declared.request.Asked.TheVariants.{Tariff, Close}
 use Rattle.office.specs.Requests.{Response, Ruling}
-use Rattle.chargectl.specs.declared.notice.Notice.{Notice}
-use Rattle.chargectl.specs.declared.notice.Notice.TheVariants as notice
+use Rattle.without_books.specs.declared.notice.Notice.{Notice}
+use Rattle.without_books.specs.declared.notice.Notice.TheVariants as notice
 
 -- a day is far after another where it is later by more than so many days, which a leap year has
 abbrev pub far_days : ℤ

@@ -19,19 +19,19 @@ use Rattle.command_line.specs.declared.fault.ArgumentFault.TheVariants as words
 use Rattle.program_output.specs.declared.status.Status.{Status}
 use Rattle.program_output.specs.declared.status.Status.TheVariants as status
 use Rattle.program_output.specs.Messages.{ledger_line, program_name}
-use Rattle.chargectl.specs.declared.command_fault.CommandFault.{CommandFault}
-use Rattle.chargectl.specs.declared.command_fault.CommandFault.TheVariants as fault
-use Rattle.chargectl.specs.declared.ended.Ended.{Ended}
+use Rattle.without_books.specs.declared.command_fault.CommandFault.{CommandFault}
+use Rattle.without_books.specs.declared.command_fault.CommandFault.TheVariants as fault
+use Rattle.without_books.specs.declared.ended.Ended.{Ended}
+use Rattle.without_books.specs.Faults.{IsFileFault, IsPrinted, came_lines, came_status, error_lines}
+use Rattle.without_books.specs.Faults.{settled_as, shelf_end, status_by, without_log}
+use Rattle.without_books.specs.Reading.{Checks, TellsOf, TriesAt, TriesUnder, kind_of}
+use Rattle.without_books.specs.ServedLines.{Gains, unfailed}
 use Rattle.chargectl.specs.Audits.{AuditsBooks, BacksUp}
 use Rattle.chargectl.specs.Choices.{ChoosesListed}
 use Rattle.chargectl.specs.Commands.{AsksAndTells, IsRefusedBy, IsShelfFault}
 use Rattle.chargectl.specs.DryRuns.{TriesAndTells}
-use Rattle.chargectl.specs.Faults.{IsFileFault, IsPrinted, came_lines, came_status, error_lines}
-use Rattle.chargectl.specs.Faults.{settled_as, shelf_end, status_by, without_log}
-use Rattle.chargectl.specs.Reading.{Checks, TellsOf, TriesAt, TriesUnder, kind_of}
 use Rattle.chargectl.specs.StreamedLists.{ListsAsked, list_of}
 use Rattle.chargectl.specs.Upgrades.{UpgradesBy}
-use Rattle.chargectl.specs.ServedLines.{Gains, unfailed}
 use Rattle.chargectl.specs.Serving.{ServesInTurn, lines_of, ready, service_end}
 
 -- new books were made, or not, and nothing was written

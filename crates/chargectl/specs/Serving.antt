@@ -5,9 +5,6 @@ use Rattle.std.specs.Prelude.{Result, Ok, Err}
 use Rattle.std.specs.declared.io.Error.{Error}
 use Rattle.std.specs.Fmt.{decimal}
 use Rattle.streams.specs.InputOutput.{WriterSeen}
-use Rattle.std.specs.Net.Addr.{IsLoopbackV4, MatchIp}
-use Rattle.std.specs.Net.Socket.{socket_ip}
-use Rattle.std.specs.declared.net.socket_addr.SocketAddr.{SocketAddr}
 use Rattle.book_model.specs.Words.{Book, Event, Naming}
 use Rattle.book_http.specs.declared.served.Served.{Served}
 use Rattle.book_http.specs.declared.served.Served.TheVariants as served
@@ -17,15 +14,11 @@ use Rattle.book_http.specs.Statuses.{status_code}
 use Rattle.book_reports.specs.declared.fault.ReportFault.TheVariants.{Write}
 use Rattle.named_books.specs.declared.repository.RepositoryFault.{RepositoryFault}
 use Rattle.named_books.specs.Shelves.{Shelf, IsOpened, IsUntouched}
+use Rattle.without_books.specs.declared.command_fault.CommandFault.{CommandFault}
+use Rattle.without_books.specs.declared.command_fault.CommandFault.TheVariants as fault
+use Rattle.without_books.specs.ServedLines.{Gains}
 use Rattle.chargectl.specs.declared.client_requests.Attended.{Attended}
-use Rattle.chargectl.specs.declared.command_fault.CommandFault.{CommandFault}
-use Rattle.chargectl.specs.declared.command_fault.CommandFault.TheVariants as fault
 use Rattle.chargectl.specs.ClientRequests.{LeavesLog, away_reply}
-use Rattle.chargectl.specs.ServedLines.{Gains}
-
--- an address of this machine alone
-abbrev pub IsLoopback : SocketAddr → Type 0
-IsLoopback address = MatchIp (socket_ip address) IsLoopbackV4 (λ _. ⊥)
 
 -- the status that is told of a connection is that of its reply
 abbrev pub Fits : Served → Reply → Type 0

@@ -21,13 +21,13 @@ use Rattle.command_line.specs.declared.request.ListWords.TheVariants as worded
 use Rattle.command_line.specs.declared.request.PeriodWords.{PeriodWords}
 use Rattle.named_books.specs.declared.repository.RepositoryFault.{RepositoryFault}
 use Rattle.named_books.specs.Shelves.{Shelf, ComesBy, IsOpened, IsThere, IsUntouched}
-use Rattle.chargectl.specs.declared.command_fault.CommandFault.{CommandFault}
-use Rattle.chargectl.specs.declared.command_fault.CommandFault.TheVariants as fault
-use Rattle.chargectl.specs.declared.ended.Ended.{Ended}
+use Rattle.without_books.specs.declared.command_fault.CommandFault.{CommandFault}
+use Rattle.without_books.specs.declared.command_fault.CommandFault.TheVariants as fault
+use Rattle.without_books.specs.declared.ended.Ended.{Ended}
+use Rattle.without_books.specs.Faults.{shelf_fault}
 use Rattle.chargectl.specs.declared.streamed_lists.StreamedList.{StreamedList}
 use Rattle.chargectl.specs.declared.streamed_lists.StreamedList.TheVariants as list
 use Rattle.chargectl.specs.Commands.{IsFileFault, IsRefusedBy, asked_centre, first_fault}
-use Rattle.chargectl.specs.Faults.{shelf_fault}
 
 -- the text of a list, or why the books have none: only of a period that is not there
 abbrev pub list_answer : StreamedList → Naming → Book → Result (List ℕ) LedgerFault

@@ -6,10 +6,10 @@ use Rattle.named_books.specs.declared.repository.RepositoryFault.{RepositoryFaul
 use Rattle.named_books.specs.declared.repository.Upgraded.{Upgraded}
 use Rattle.named_books.specs.declared.repository.Upgraded.TheVariants.{To, Already}
 use Rattle.named_books.specs.Shelves.{Shelf, IsThere, IsUntouched}
-use Rattle.chargectl.specs.declared.command_fault.CommandFault.{CommandFault}
-use Rattle.chargectl.specs.declared.ended.Ended.{Ended}
+use Rattle.without_books.specs.declared.command_fault.CommandFault.{CommandFault}
+use Rattle.without_books.specs.declared.ended.Ended.{Ended}
+use Rattle.without_books.specs.Faults.{IsPrinted, shelf_fault}
 use Rattle.chargectl.specs.Commands.{IsRefusedBy}
-use Rattle.chargectl.specs.Faults.{IsPrinted, shelf_fault}
 
 -- what is written of them, by what came of it: the number of the form that they have now, or that they
 -- had it before

@@ -3,13 +3,12 @@
 
 ghost use Rattle.chargectl.specs.DryRuns.{IsAskedFor};
 
-use crate::command_fault::CommandFault;
-use crate::tariff_texts::tariff_text;
 use command_line::{BookRequest, Ruling};
 use named_books::Repository;
 use office::Asked;
 use program_output::name_of_text;
 use smf_text::day_of_text;
+use without_books::{CommandFault, tariff_text};
 
 /// The rule of identity that can be adopted: books begin under the other one.
 const LATER_RULE: u8 = 2;

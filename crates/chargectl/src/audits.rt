@@ -4,15 +4,14 @@ ghost use Rattle.streams.specs.Failures.{HasFailed};
 ghost use Rattle.chargectl.specs.Audits.{AuditsBooks, BacksUp, EndsAudit};
 
 use crate::book_commands::print;
-use crate::command_fault::CommandFault;
-use crate::ended::Ended;
-use crate::progress::WatchedRows;
+use crate::watched_rows::WatchedRows;
 use book_audit::{Audited, AuditedRepository, audit_text};
 use named_books::{Opened, RepositoryFault};
 use office::Answer;
 use std::alloc::Global;
 use std::io::IsTerminal;
 use streams::Writer;
+use without_books::{CommandFault, Ended};
 
 /// Audits the whole file of books, and prints the result.
 pub(crate) fn audit<S: AuditedRepository, O: Writer + Drop>(

@@ -8,20 +8,15 @@ ghost use Rattle.book_core.specs.Transition.{IsTransition};
 ghost use Rattle.office.specs.Answers.{answer_text};
 ghost use Rattle.office.specs.Requests.{IsAskableUnread, response_by, response_of};
 ghost use Rattle.office.proofs.AskLemmas.{askable_once};
+ghost use Rattle.without_books.specs.FirstBytes.{left_of};
 ghost use Rattle.chargectl.specs.Commands as spec;
 ghost use Rattle.chargectl.specs.Commands.{AsksOnce, once_answered, ComesOf, IsAnswered, IsPrinted};
 ghost use Rattle.chargectl.specs.Commands.{IsTold, Tells, TellsAnswered, answer_of};
 ghost use Rattle.chargectl.specs.Commands.{ends_by};
-ghost use Rattle.chargectl.specs.FirstBytes.{left_of};
 
+use crate::answered::Answered;
 use crate::asked_rulings::asked_ruling;
-use crate::command_fault::{CommandFault, ended};
 use crate::dated_rulings::rule_on_day;
-use crate::ended::{Answered, Ended};
-use crate::first_bytes::{LookedAt, look_at};
-use crate::notice::{Notice, layout_notice};
-use crate::printed_text::let_out;
-use crate::progress::{WatchedReader, clear_line};
 use book_core::{Ledger, LedgerFault, Sink, Source};
 use command_line::{BookRequest, DumpFile, Ruling};
 use named_books::{Opened, Repository, RepositoryFault, Visit};
@@ -30,6 +25,10 @@ use std::alloc::Global;
 use std::io;
 use std::io::{IsTerminal, Read};
 use streams::Writer;
+use without_books::{
+    CommandFault, Ended, LookedAt, Notice, WatchedReader, clear_line, end_of, layout_notice,
+    let_out, look_at,
+};
 
 /// A request to the office, with the reader of its dump.
 #[derive(Drop)]
@@ -185,7 +184,7 @@ fn end_by(answer: &Answer, written: Result<(), CommandFault>) -> Result<(), Comm
     ensures { result ≡ ends_by answer.now written }
 {
     if let Answer::Receipt(receipt) = answer {
-        ended(receipt.stop)?;
+        end_of(receipt.stop)?;
     }
     written
 }

@@ -11,8 +11,6 @@ ghost use Rattle.chargectl.specs.Choices.{TellsChoices, TellsList, chosen_of, li
 ghost use Rattle.chargectl.specs.Commands.{IsPrinted};
 
 use crate::book_commands::print;
-use crate::command_fault::CommandFault;
-use crate::ended::Ended;
 use book_core::{Ledger, LedgerFault, Ruled};
 use named_books::{Opened, Repository, RepositoryFault, Visit};
 use office::{Answer, Chosen, answer_lines, choose_each};
@@ -21,6 +19,7 @@ use std::alloc::{AllocError, Global};
 use std::fs;
 use std::io::{BufReader, Read};
 use streams::Writer;
+use without_books::{CommandFault, Ended};
 
 /// How many bytes of a list are read: one more than a list has that is as long as it may be, for each
 /// name its digits and the two bytes after them. So many have a line that is no name, or one too many.

@@ -9,16 +9,15 @@ ghost use Rattle.chargectl.specs.Commands as spec;
 ghost use Rattle.chargectl.specs.Commands.{AsksDatedBy, IsAnswered, IsDated, answer_of, answer_told};
 ghost use Rattle.chargectl.specs.Commands.{dated_answered, notice_of};
 
+use crate::answered::Answered;
 use crate::book_commands::{answer_in, ask_with, may_change};
-use crate::command_fault::CommandFault;
-use crate::ended::Answered;
 use crate::far::{is_far_asked, notice_by};
-use crate::notice::Notice;
 use book_core::{Ledger, LedgerFault};
 use named_books::{Opened, Repository, RepositoryFault, Visit};
 use office::{Answer, Asked};
 use std::alloc::Global;
 use std::io;
+use without_books::{CommandFault, Notice};
 
 /// What the books answered to a ruling, and what was noticed of its day.
 #[derive(Drop)]

@@ -10,12 +10,10 @@ ghost use Rattle.chargectl.specs.DryRuns.{ComesOfDryRun, IsDryAnswer, IsNamedBy,
 ghost use Rattle.chargectl.specs.DryRuns.{IsTriedOnce, IsUnnamed, TriesOnceBy, dated_by};
 ghost use Rattle.chargectl.specs.DryRuns.{tried_answered};
 
+use crate::answered::Answered;
 use crate::asked_rulings::asked_ruling;
-use crate::command_fault::CommandFault;
 use crate::dated_rulings::{DatedAnswer, told_in};
-use crate::ended::Answered;
 use crate::far::{is_far_asked, notice_by};
-use crate::notice::Notice;
 use book_core::{Ledger, LedgerFault, Tariff};
 use book_reports::{open_period, period_figures};
 use command_line::{BookRequest, Ruling};
@@ -23,6 +21,7 @@ use named_books::{Opened, Repository, Visit};
 use office::{Answer, Asked, ask_without_reader};
 use report_texts::{Figures, TriedRuling, dry_run_text};
 use std::alloc::Global;
+use without_books::{CommandFault, Notice};
 
 /// A ruling that is to be tried.
 #[derive(Drop)]

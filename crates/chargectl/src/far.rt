@@ -9,12 +9,12 @@ ghost use Rattle.book_core.specs.Calls.{IsCall};
 ghost use Rattle.office.specs.Requests.{response_by};
 ghost use Rattle.chargectl.specs.Far as spec;
 
-use crate::notice::Notice;
 use book_core::{ChargeRow, Ledger, LedgerFault, Ruled, Tariff};
 use book_reports::{OpenPeriod, open_period, rows_of_period};
 use office::{Answer, Asked};
 use std::alloc::Global;
 use tariff_rules::TariffFault;
+use without_books::Notice;
 
 /// A day is far after another where it is later by more than so many days.
 const FAR_DAYS: i64 = 366;

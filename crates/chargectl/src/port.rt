@@ -4,7 +4,7 @@ ghost use Rattle.std.specs.Prelude.{◌≡◌, true};
 ghost use Rattle.streams.specs.Failures.{HasFailed};
 ghost use Rattle.book_http.specs.Served.{is_unanswered, is_write_fault};
 ghost use Rattle.chargectl.specs.ClientRequests.{IsServedByReads};
-ghost use Rattle.chargectl.specs.Serving.{Attends, IsLoopback, is_answered};
+ghost use Rattle.chargectl.specs.Serving.{Attends, is_answered};
 
 use crate::client_requests::{Attended, serve_request};
 use crate::connection::Client;
@@ -13,7 +13,7 @@ use book_http::Served;
 use named_books::Repository;
 use std::alloc::Global;
 use std::io;
-use std::net::{IpAddr, Ipv4Addr, SocketAddr, TcpListener, TcpStream};
+use std::net::{TcpListener, TcpStream};
 use streams::{Reader, Writer};
 
 /// A given number of connections, one after the other: those to a port, or any others.
@@ -65,19 +65,6 @@ pub trait Peer: Reader + Writer + Copy {
     fn drain(self) -> Self
         ensures drained { is_drained result ≡ true }
         ensures unwritten { Self.contents result ≡ Self.contents self };
-}
-
-/// Takes a port of this machine, to which no other machine can connect.
-pub(crate) fn listen_here(rt: &HostRuntime, port: u16) -> io::Result<TcpListener> {
-    let address = SocketAddr::new(IpAddr::V4(Ipv4Addr::new(127, 0, 0, 1)), port);
-    bind(rt, address)
-}
-
-/// The only place where an address is taken.
-fn bind(rt: &HostRuntime, address: SocketAddr) -> io::Result<TcpListener>
-    requires { IsLoopback address }
-{
-    TcpListener::bind(rt, address)
 }
 
 /// The connections to a port that are left to be answered.

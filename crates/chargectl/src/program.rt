@@ -3,24 +3,17 @@
 ghost use Rattle.std.specs.Prelude.{◌≡◌};
 ghost use Rattle.streams.specs.Failures.{HasFailed};
 ghost use Rattle.program_output.specs.Messages.{AreSaid};
-ghost use Rattle.chargectl.specs.Faults.{shelf_end};
+ghost use Rattle.without_books.specs.Faults.{shelf_end};
 ghost use Rattle.chargectl.specs.Requests as requests;
 ghost use Rattle.chargectl.specs.Requests.{CommandsBy, Does, Helps, IsRefusedFor, Runs};
 
 use crate::audits::{audit, back_up};
 use crate::book_commands::{import_dump, rule, tell};
-use crate::checks::check;
 use crate::choices::choose_listed;
-use crate::command_fault::CommandFault;
 use crate::dry_runs::dry_run;
-use crate::ended::{Ended, say_fault, settled};
-use crate::explanations::explain;
-use crate::help_lines::{Said, help};
-use crate::printed_text::print_text;
 use crate::report_commands::{report, what_if};
 use crate::serve::serve;
 use crate::streamed_lists::list;
-use crate::trials::{run_trial, run_trial_under};
 use crate::upgrades::upgrade;
 use book_audit::AuditedRepository;
 use command_line::{ArgumentFault, BookRequest, Request, requested_by};
@@ -29,6 +22,10 @@ use program_output::{PROGRAM, Status, out_of_memory, say};
 use std::io::Read;
 use streams::Writer;
 use tariff_rules::{MAX_RATE, Tariff};
+use without_books::{
+    CommandFault, Ended, Said, check, explain, help, print_text, run_trial, run_trial_under,
+    say_fault, settled,
+};
 
 /// For how many seconds a client of a service is kept waiting for books that others have in use.
 const SERVICE_WAIT: u16 = 2;

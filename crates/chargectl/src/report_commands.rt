@@ -8,16 +8,15 @@ ghost use Rattle.program_output.specs.Names.{name_in};
 ghost use Rattle.chargectl.specs.Commands as spec;
 ghost use Rattle.chargectl.specs.Commands.{ComesOf};
 
+use crate::answered::Answered;
 use crate::book_commands::ask_books;
-use crate::command_fault::CommandFault;
-use crate::ended::Answered;
-use crate::tariff_texts::tariff_text;
 use command_line::{BookRequest, PeriodWords, ReportWords};
 use named_books::Repository;
 use office::{Asked, Report, StatementForm, WhatIf, centre_named};
 use program_output::name_of_text;
 use smf_text::{Name, day_of_text};
 use std::io;
+use without_books::{CommandFault, tariff_text};
 
 /// Asks the books of a name for a report.
 pub(crate) fn report<S: Repository>(

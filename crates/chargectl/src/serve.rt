@@ -3,14 +3,11 @@
 ghost use Rattle.std.specs.Prelude.{◌≡◌, ◌++◌, codes, decimal, IfErr};
 ghost use Rattle.std.specs.Prelude.{Err, None, Ok, OnOk, true};
 ghost use Rattle.streams.specs.Failures.{HasFailed};
+ghost use Rattle.without_books.specs.ServedLines.{Gains, seen_of};
 ghost use Rattle.chargectl.specs.Requests.{IsServiceFault, Serves, ServesBy};
-ghost use Rattle.chargectl.specs.ServedLines.{Gains, seen_of};
 ghost use Rattle.chargectl.specs.Serving.{ServesUntil, line_of, ready, service_end};
 
-use crate::command_fault::CommandFault;
-use crate::ended::Ended;
-use crate::port::{Connections, Port, listen_here};
-use crate::served_lines::ServedLines;
+use crate::port::{Connections, Port};
 use arrayvec::ArrayString;
 use book_http::Served;
 use book_reports::ReportFault;
@@ -19,6 +16,7 @@ use named_books::{Look, Opened, Repository, RepositoryFault};
 use std::io;
 use std::net::TcpListener;
 use streams::Writer;
+use without_books::{CommandFault, Ended, ServedLines, listen_here};
 
 /// Room for the line of an answer.
 type Line = ArrayString<16>;

@@ -14,9 +14,6 @@ ghost use Rattle.chargectl.specs.Commands.{IsFileFault, first_fault};
 ghost use Rattle.chargectl.specs.StreamedLists as spec;
 ghost use Rattle.chargectl.specs.StreamedLists.{ListsAsked, ListsBy, WritesSomeOf, list_answer};
 
-use crate::command_fault::CommandFault;
-use crate::ended::Ended;
-use crate::printed_text::let_out;
 use crate::report_commands::asked_centre;
 use book_core::{Ledger, Sink};
 use book_reports::{
@@ -27,6 +24,7 @@ use named_books::{Opened, Repository, RepositoryFault, Visit};
 use office::StatementForm;
 use std::alloc::Global;
 use streams::Writer;
+use without_books::{CommandFault, Ended, let_out};
 
 /// A list that is written so.
 #[derive(Clone, Copy, Debug, PartialEq, Eq)]

@@ -4,13 +4,11 @@ ghost use Rattle.std.specs.Prelude.{◌≡◌, Ok};
 ghost use Rattle.streams.specs.Failures.{HasFailed};
 ghost use Rattle.chargectl.specs.Upgrades.{EndsUpgrade, UpgradesBy, upgrade_text};
 
-use crate::command_fault::CommandFault;
-use crate::ended::Ended;
-use crate::printed_text::print_text;
 use arrayvec::ArrayString;
 use itoa::Buffer;
 use named_books::{Opened, Repository, RepositoryFault, Upgraded};
 use streams::Writer;
+use without_books::{CommandFault, Ended, print_text};
 
 /// Room for the line of books that were brought over.
 type Line = ArrayString<32>;

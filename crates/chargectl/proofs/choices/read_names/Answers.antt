@@ -2,8 +2,8 @@ use Rattle.std.proofs.Common.{◌++◌, ◌∷◌, [], ◌∙◌, Some, ap}
 use Rattle.std.proofs.KnownBytes.{Consumes-nil}
 use Rattle.std.specs.Io.Iter.{bytes_remaining}
 use Rattle.program_output.proofs.NameLemmas.{fault_is}
+use Rattle.without_books.specs.Faults.{names_fault}
 use Rattle.chargectl.specs.Choices.{IsListFault}
-use Rattle.chargectl.specs.Faults.{names_fault}
 use Rattle.chargectl.proofs.ListLemmas.{byte_came, no_list}
 use Rattle.chargectl.proofs.choices.read_names.Goals as goal
 

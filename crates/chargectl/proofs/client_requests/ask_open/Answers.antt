@@ -7,8 +7,7 @@ use Rattle.book_http.proofs.ServeLemmas.{refuses}
 use Rattle.book_http.proofs.StreamLemmas.{sized_sent}
 use Rattle.chargectl.specs.declared.client_requests.Told.TheVariants as tells
 use Rattle.chargectl.specs.ClientRequests.{SendsLong, SendsOpen, StreamsAnswer}
-use Rattle.chargectl.proofs.ClientLemmas.{details_open}
-use Rattle.chargectl.proofs.FirstByteLemmas.{written_so}
+use Rattle.chargectl.proofs.ClientLemmas.{details_open, written_so}
 use Rattle.chargectl.proofs.client_requests.ask_open.Goals as goal
 
 pub returns-in-Settled-clause-done : goal.returns-in-Settled-clause-done

@@ -1,5 +1,5 @@
 use Rattle.std.proofs.Common.{refl, subst, sym}
-use Rattle.chargectl.specs.ServedLines.{seen_of}
+use Rattle.without_books.specs.ServedLines.{seen_of}
 use Rattle.chargectl.specs.Serving.{ServesInTurn}
 use Rattle.chargectl.proofs.ServingLemmas.{log_left, serving_more}
 use Rattle.chargectl.proofs.serve.serve_each.Goals as goal

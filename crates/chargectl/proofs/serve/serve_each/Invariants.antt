@@ -1,4 +1,4 @@
-use Rattle.chargectl.specs.ServedLines.{seen_of}
+use Rattle.without_books.specs.ServedLines.{seen_of}
 use Rattle.chargectl.specs.Serving.{IsServing}
 use Rattle.chargectl.proofs.serve.serve_each.Given as goal
 

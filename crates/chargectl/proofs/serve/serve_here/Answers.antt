@@ -1,7 +1,7 @@
 use Rattle.std.proofs.Common.{◌∙◌, inr, sym}
 use Rattle.std.specs.IoError.{error_kind}
 use Rattle.streams.specs.Failures.{HasFailed}
-use Rattle.chargectl.specs.ServedLines.{seen_of}
+use Rattle.without_books.specs.ServedLines.{seen_of}
 use Rattle.chargectl.proofs.ServingLemmas.{serves_all, serves_cut}
 use Rattle.chargectl.proofs.serve.serve_here.Goals as goal
 

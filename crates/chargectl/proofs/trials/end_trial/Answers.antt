@@ -1,6 +1,0 @@
-use Rattle.std.proofs.Common.{◌∙◌}
-use Rattle.chargectl.proofs.trials.end_trial.Goals as goal
-
--- a write failed
-pub returns-clause-failed : goal.returns-clause-failed
-returns-clause-failed g c = λ told. c.into_inner.ensures.cause (c.requires ∙ told)

@@ -1,0 +1,6 @@
+-- The lemmas: the first bytes of a dump, what is told of the output, the texts of tariffs, and how lines are
+-- written.
+pub mod FirstByteLemmas
+pub mod OutputLemmas
+pub mod TextLemmas
+pub mod ServedLineLemmas

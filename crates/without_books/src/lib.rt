@@ -1,0 +1,33 @@
+//! What the program does without books, and what it says of any command: trials, checks and
+//! explanations; why a command did not do what it was asked, what it noticed, and how far it is.
+#![tactic(auto)]
+
+mod causes;
+mod checks;
+mod command_fault;
+mod ended;
+mod explanations;
+mod first_bytes;
+mod help_lines;
+mod notice;
+mod places;
+mod ports;
+mod printed_text;
+mod progress;
+mod served_lines;
+mod tariff_texts;
+mod trials;
+
+pub use checks::check;
+pub use command_fault::{CommandFault, end_of};
+pub use ended::{Ended, say_fault, settled};
+pub use explanations::explain;
+pub use first_bytes::{LookedAt, Rest, look_at};
+pub use help_lines::{Said, help};
+pub use notice::{Notice, layout_notice};
+pub use ports::listen_here;
+pub use printed_text::{let_out, print_text};
+pub use progress::{ProgressLine, WatchedReader, clear_line};
+pub use served_lines::ServedLines;
+pub use tariff_texts::tariff_text;
+pub use trials::{run_trial, run_trial_under};
