@@ -1,8 +1,7 @@
 -- What is said of a fault to people, where standard error is a terminal: below the lines that the formats
 -- fix, and never in their place.
-use Rattle.std.specs.Prelude.{ℕ, List, [], ◌++◌, codes, Option, Some, None}
+use Rattle.std.specs.Prelude.{◌≡◌, ℕ, List, [], ◌++◌, codes, Option, Some, None}
 use Rattle.std.specs.Fmt.{decimal}
-use Rattle.std.specs.Io.KnownBytes.{Appends}
 use Rattle.std.specs.declared.io.ErrorKind.{ErrorKind}
 use Rattle.std.specs.declared.io.ErrorKind.TheVariants.{NotFound, NotADirectory, PermissionDenied}
 use Rattle.std.specs.declared.io.ErrorKind.TheVariants.{ReadOnlyFilesystem, IsADirectory, AddrInUse}
@@ -121,8 +120,8 @@ abbrev pub topic_lines : Option Explanation → List ℕ
 topic_lines (Some told) = help_line told.meaning.now ++ help_line told.advice.now
 topic_lines None = []
 
--- what `explain` says of a topic was written
-pub record TellsTopic (topic : Topic) (held holds : Option (List ℕ)) : Type 0 where
+-- what `explain` says of a topic was added
+pub record TellsTopic (topic : Topic) (held holds : List ℕ) : Type 0 where
   pub told : Option Explanation
   pub explains : Explains topic.kind topic.number told
-  pub lines : Appends held holds (topic_lines told)
+  pub lines : holds ≡ held ++ topic_lines told

@@ -13,6 +13,7 @@ use command_line::NumberKind;
 use program_output::{Explanation, FaultKind, WordKind, explained};
 use std::alloc::{AllocError, Global};
 use streams::Writer;
+use text_drafts::Draft;
 
 /// Says what a number or a word means.
 pub fn explain<O: Writer + Drop>(
@@ -52,11 +53,12 @@ fn explanation_text(alloc: Global, meaning: &str, advice: &str) -> Result<String
     ensures { IfOk result (λ text. string_bytes text
         ≡ spec.explanation_text meaning.now advice.now) }
 {
-    let mut text = String::from_str(alloc, meaning)?;
-    text.push('\n')?;
-    text.push_str(advice)?;
-    text.push('\n')?;
-    Ok(text)
+    let mut text = Draft::new(alloc);
+    text.push_str(meaning);
+    text.push_str("\n");
+    text.push_str(advice);
+    text.push_str("\n");
+    text.finish()
 }
 
 fn numbered(kind: NumberKind) -> FaultKind

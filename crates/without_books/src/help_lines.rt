@@ -1,8 +1,7 @@
 //! What a person is told of a fault besides the line that the formats fix: where it is, why, and what
 //! `explain` says of it. It is told on a terminal alone, so a script reads what it always read.
 
-ghost use Rattle.std.specs.Prelude.{◌≡◌, OnOk};
-ghost use Rattle.std.specs.Io.KnownBytes.{Appends};
+ghost use Rattle.std.specs.Prelude.{◌≡◌, ◌++◌};
 ghost use Rattle.without_books.specs.HelpLines as spec;
 ghost use Rattle.without_books.specs.HelpLines.{TellsTopic, entry_text, place_text, spot_line};
 ghost use Rattle.without_books.specs.HelpLines.{why_text};
@@ -16,9 +15,9 @@ use book_import::Stop;
 use book_reports::ReportFault;
 use command_line::Request;
 use program_output::{Cause, Explanation, FaultKind, WordKind, cause_text, explained};
-use std::io;
 use std::io::{IsTerminal, Write};
 use tariff_rules::Entry;
+use text_drafts::Draft;
 
 /// What a command says on standard error.
 #[derive(Clone, Copy)]
@@ -43,35 +42,36 @@ impl Said {
     }
 }
 
-/// Tells a person more of what was said, where standard error is a terminal. A line that can't be
-/// written there is dropped, as all of standard error is.
+/// Tells a person more of what was said, where standard error is a terminal. What can't be written
+/// there is dropped, as all of standard error is.
 pub fn help(rt: &HostRuntime, request: Request<'_>, said: Said) {
-    if rt.stderr().is_terminal() {
-        let _ = write_help(rt, request, said, &mut rt.stderr());
+    let mut terminal = rt.stderr();
+    if !terminal.is_terminal() {
+        return;
+    }
+    let mut out = Draft::new(rt.alloc());
+    push_help(&mut out, rt, request, said);
+    if let Some(text) = out.whole() {
+        let _ = terminal.write_all(text.as_bytes());
     }
 }
 
-fn write_help<W: Write>(
-    rt: &HostRuntime,
-    request: Request<'_>,
-    said: Said,
-    terminal: &mut W,
-) -> io::Result<()> {
+/// Adds the lines for a person.
+fn push_help(out: &mut Draft, rt: &HostRuntime, request: Request<'_>, said: Said) {
     if let Some(fault) = said.fault {
         if let Some(spot) = Places::of(request).spot_of(rt, fault) {
-            write_spot(terminal, spot)?;
+            push_spot(out, spot);
         }
         if let Some(topic) = fault_topic(fault) {
-            write_topic(terminal, topic)?;
+            push_topic(out, topic);
         }
     }
     if let Some(notice) = said.notice {
-        write_topic(terminal, notice_topic(notice))?;
+        push_topic(out, notice_topic(notice));
     }
     if said.has_log {
-        write_topic(terminal, word_topic(WordKind::Log))?;
+        push_topic(out, word_topic(WordKind::Log));
     }
-    Ok(())
 }
 
 /// What `explain` is asked.
@@ -158,62 +158,70 @@ fn notice_topic(notice: Notice) -> Topic
     }
 }
 
-/// Writes what `explain` says of a topic.
-fn write_topic<W: Write>(terminal: &mut W, topic: Topic) -> io::Result<()>
-    ensures { OnOk result
-        (TellsTopic topic (W.contents terminal.old) (W.contents terminal.new)) }
+/// Adds what `explain` says of a topic.
+fn push_topic(out: &mut Draft, topic: Topic)
+    ensures { TellsTopic topic out.old out.new }
 {
     let Some(Explanation { meaning, advice }) = explained(topic.kind, topic.number) else {
-        return Ok(());
+        return;
     };
-    writeln!(terminal, "  {meaning}\n  {advice}")
+    out.push_str("  ");
+    out.push_str(meaning);
+    out.push_str("\n  ");
+    out.push_str(advice);
+    out.push_str("\n");
 }
 
-/// Writes where a fault is, and why.
-fn write_spot<W: Write>(terminal: &mut W, spot: Spot<'_>) -> io::Result<()>
-    ensures { OnOk result
-        (Appends (W.contents terminal.old) (W.contents terminal.new) (spot_line spot.entry)) }
+/// Adds where a fault is, and why.
+fn push_spot(out: &mut Draft, spot: Spot<'_>)
+    ensures { out.new ≡ out.old ++ spot_line spot.entry }
 {
-    write!(terminal, "  ")?;
-    write_place(terminal, spot.place)?;
-    write_entry(terminal, spot.within)?;
-    write_cause(terminal, spot.cause)?;
-    writeln!(terminal)
+    out.push_str("  ");
+    push_place(out, spot.place);
+    push_entry(out, spot.within);
+    push_cause(out, spot.cause);
+    out.push_str("\n");
 }
 
-fn write_place<W: Write>(terminal: &mut W, place: Place<'_>) -> io::Result<()>
-    ensures { OnOk result
-        (Appends (W.contents terminal.old) (W.contents terminal.new) (place_text place.entry)) }
+fn push_place(out: &mut Draft, place: Place<'_>)
+    ensures { out.new ≡ out.old ++ place_text place.entry }
 {
     match place {
-        Place::File(path) => write!(terminal, "{path}"),
-        Place::Beside(path, ending) => write!(terminal, "{path}{ending}"),
-        Place::Port(number) => write!(terminal, "port {number}"),
-        Place::Input => write!(terminal, "standard input"),
-        Place::Output => write!(terminal, "standard output"),
+        Place::File(path) => out.push_str(path),
+        Place::Beside(path, ending) => {
+            out.push_str(path);
+            out.push_str(ending);
+        }
+        Place::Port(number) => {
+            out.push_str("port ");
+            out.push_number(u64::from(number));
+        }
+        Place::Input => out.push_str("standard input"),
+        Place::Output => out.push_str("standard output"),
     }
 }
 
-fn write_entry<W: Write>(terminal: &mut W, entry: Option<Entry>) -> io::Result<()>
-    ensures { OnOk result
-        (Appends (W.contents terminal.old) (W.contents terminal.new) (entry_text entry)) }
+fn push_entry(out: &mut Draft, entry: Option<Entry>)
+    ensures { out.new ≡ out.old ++ entry_text entry }
 {
     match entry {
-        Some(Entry::Shift(number)) => write!(terminal, ", shift {number}"),
-        Some(Entry::Centre(number)) => write!(terminal, ", centre {number}"),
-        None => Ok(()),
+        Some(Entry::Shift(number)) => {
+            out.push_str(", shift ");
+            out.push_number(u64::from(number));
+        }
+        Some(Entry::Centre(number)) => {
+            out.push_str(", centre ");
+            out.push_number(u64::from(number));
+        }
+        None => (),
     }
 }
 
-fn write_cause<W: Write>(terminal: &mut W, cause: Option<Cause>) -> io::Result<()>
-    ensures { OnOk result
-        (Appends (W.contents terminal.old) (W.contents terminal.new) (why_text cause)) }
+fn push_cause(out: &mut Draft, cause: Option<Cause>)
+    ensures { out.new ≡ out.old ++ why_text cause }
 {
-    match cause {
-        Some(cause) => {
-            let why = cause_text(cause);
-            write!(terminal, ": {why}")
-        }
-        None => Ok(()),
+    if let Some(cause) = cause {
+        out.push_str(": ");
+        out.push_str(cause_text(cause));
     }
 }
