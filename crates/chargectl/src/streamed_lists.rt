@@ -27,7 +27,7 @@ use streams::Writer;
 use without_books::{CommandFault, Ended, let_out};
 
 /// A list that is written so.
-#[derive(Clone, Copy, Debug, PartialEq, Eq)]
+#[derive(Clone, Copy)]
 pub(crate) enum StreamedList {
     Details(DetailReport),
     Rulings,

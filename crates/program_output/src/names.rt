@@ -12,7 +12,7 @@ use std::alloc::{AllocFailed, Global};
 pub const MAX_NAMES: usize = 1_000_000;
 
 /// Why there are no names of a list.
-#[derive(Clone, Copy, Debug, PartialEq, Eq)]
+#[derive(Clone, Copy)]
 pub enum NamesFault {
     /// There was no memory for them.
     Memory,

@@ -18,7 +18,7 @@ use std::io::ErrorKind;
 use streams::Writer;
 
 /// Why a command did not do what it was asked.
-#[derive(Clone, Copy, Debug)]
+#[derive(Clone, Copy)]
 pub enum CommandFault {
     /// A file or the output failed, or is not there.
     Io,

@@ -11,7 +11,7 @@ use streams::Writer;
 
 /// Something to look at before it costs money. It changes neither what a command does nor its exit
 /// status.
-#[derive(Clone, Copy, Debug, PartialEq, Eq)]
+#[derive(Clone, Copy)]
 pub enum Notice {
     /// The dump was read in one layout, and looks like one in the other.
     Layout,
