@@ -54,8 +54,9 @@ impl<'a> Spot<'a> {
         }
     }
 
-    fn of_file(path: Option<&'a str>, cause: Option<Cause>) -> Option<Spot<'a>> {
-        Some(Spot::at(Place::File(path?), cause))
+    /// In a file, whose fault its own line says.
+    fn in_file(path: Option<&'a str>) -> Option<Spot<'a>> {
+        Some(Spot::at(Place::File(path?), None))
     }
 }
 
@@ -127,10 +128,8 @@ impl<'a> Places<'a> {
             CommandFault::Busy => self.in_use(),
             CommandFault::Exists => self.in_the_way(rt),
             // Of an unsound copy nothing is left.
-            CommandFault::Unsound => Spot::of_file(self.books, None),
-            CommandFault::ArgumentAt(_) | CommandFault::LedgerAt(_, _) => {
-                Spot::of_file(self.read, None)
-            }
+            CommandFault::Unsound => Spot::in_file(self.books),
+            CommandFault::ArgumentAt(_) | CommandFault::LedgerAt(_, _) => Spot::in_file(self.read),
             CommandFault::Ledger(refused) => self.refused(rt, refused),
             CommandFault::Report(ReportFault::Ledger(refused)) => self.refused(rt, refused),
             CommandFault::Report(ReportFault::Write) => Some(output_failed()),
@@ -163,20 +162,26 @@ impl<'a> Places<'a> {
                 return Some(Spot::at(Place::Beside(path, ending), None));
             }
         }
-        Spot::of_file(self.new.or(self.books), None)
+        Spot::in_file(self.new.or(self.books))
     }
 
     /// The first of the places that a second look finds at fault. Where there is none, the file that
-    /// was to be made has failed, or else the output. A copy that has its name is whole.
+    /// was to be made has failed, or else the output.
     fn failed(self, rt: &HostRuntime) -> Spot<'a> {
-        if let Some(spot) = self.failed_books(rt) {
-            return spot;
+        if let Some(path) = self.books {
+            if let Some(cause) = cause_of_books(rt, path) {
+                return Spot::at(Place::File(path), Some(cause));
+            }
         }
-        if let Some(spot) = self.failed_read(rt) {
-            return spot;
+        if let Some(path) = self.read {
+            if let Some(cause) = cause_of_read(rt, path) {
+                return Spot::at(Place::File(path), Some(cause));
+            }
         }
-        if let Some(spot) = self.failed_port(rt) {
-            return spot;
+        if let Some(port) = self.port {
+            if let Some(cause) = cause_of_port(rt, port) {
+                return Spot::at(Place::Port(port), Some(cause));
+            }
         }
         match self.new {
             Some(path) => self.failed_new(rt, path),
@@ -184,6 +189,7 @@ impl<'a> Places<'a> {
         }
     }
 
+    /// A copy that has its name is whole.
     fn failed_new(self, rt: &HostRuntime, path: &'a str) -> Spot<'a> {
         if self.books.is_some() {
             if is_there(rt, path, "") {
@@ -192,24 +198,6 @@ impl<'a> Places<'a> {
         }
         let cause = cause_of_new(rt, path).unwrap_or(Cause::Failed);
         Spot::at(Place::File(path), Some(cause))
-    }
-
-    fn failed_books(self, rt: &HostRuntime) -> Option<Spot<'a>> {
-        let path = self.books?;
-        let cause = cause_of_books(rt, path)?;
-        Some(Spot::at(Place::File(path), Some(cause)))
-    }
-
-    fn failed_read(self, rt: &HostRuntime) -> Option<Spot<'a>> {
-        let path = self.read?;
-        let cause = cause_of_read(rt, path)?;
-        Some(Spot::at(Place::File(path), Some(cause)))
-    }
-
-    fn failed_port(self, rt: &HostRuntime) -> Option<Spot<'a>> {
-        let port = self.port?;
-        let cause = cause_of_port(rt, port)?;
-        Some(Spot::at(Place::Port(port), Some(cause)))
     }
 
     /// Where the books refused.
@@ -227,7 +215,7 @@ impl<'a> Places<'a> {
             | LedgerFault::Reopen
             | LedgerFault::NotBooks
             | LedgerFault::OldForm
-            | LedgerFault::NewForm => Spot::of_file(self.books.or(self.new), None),
+            | LedgerFault::NewForm => Spot::in_file(self.books.or(self.new)),
             _ => None,
         }
     }
@@ -237,10 +225,7 @@ impl<'a> Places<'a> {
         match stop {
             Stop::End => None,
             Stop::Frame(_) => Some(Spot::at(self.dump, None)),
-            Stop::Read | Stop::ReadLimit => {
-                let cause = self.dump_cause(rt);
-                Some(Spot::at(self.dump, Some(cause)))
-            }
+            Stop::Read | Stop::ReadLimit => Some(Spot::at(self.dump, Some(self.dump_cause(rt)))),
             Stop::Ledger(fault) => self.refused(rt, fault),
         }
     }
