@@ -11,7 +11,7 @@ ghost use Rattle.office.proofs.AskLemmas.{askable_once};
 ghost use Rattle.without_books.specs.FirstBytes.{left_of};
 ghost use Rattle.chargectl.specs.Commands as spec;
 ghost use Rattle.chargectl.specs.Commands.{AsksOnce, once_answered, ComesOf, IsAnswered, IsPrinted};
-ghost use Rattle.chargectl.specs.Commands.{IsTold, Tells, TellsAnswered, answer_of};
+ghost use Rattle.chargectl.specs.Commands.{IsTold, Tells, answer_of};
 ghost use Rattle.chargectl.specs.Commands.{ends_by};
 
 use crate::answered::Answered;
@@ -137,30 +137,25 @@ pub(crate) fn tell<O: Writer + Drop>(
         (∥ HasFailed O.may_answer result.1 ∥₁) result.0 }
 {
     match answered {
-        Ok(answered) => tell_answered(answered, output),
+        Ok(
+            Answered {
+                answer,
+                has_log,
+                is_change,
+                notice,
+            },
+        ) => {
+            let (came, output) = tell_answer(answer, output);
+            let ended = Ended {
+                came,
+                has_log,
+                is_change,
+                notice,
+            };
+            (ended, output)
+        }
         Err(fault) => (Ended::without_log(Err(fault)), output),
     }
-}
-
-/// The same, where the books were closed.
-fn tell_answered<O: Writer + Drop>(answered: Answered, output: O) -> (Ended, O)
-    ensures { TellsAnswered answered (O.contents output) (O.contents result.1)
-        (∥ HasFailed O.may_answer result.1 ∥₁) result.0 }
-{
-    let Answered {
-        answer,
-        has_log,
-        is_change,
-        notice,
-    } = answered;
-    let (came, output) = tell_answer(answer, output);
-    let ended = Ended {
-        came,
-        has_log,
-        is_change,
-        notice,
-    };
-    (ended, output)
 }
 
 fn tell_answer<O: Writer + Drop>(
