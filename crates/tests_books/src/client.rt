@@ -8,7 +8,7 @@ use std::alloc::Global;
 use std::cell::{Cell, RefCell};
 use std::io;
 use std::io::{Read, Write};
-use tests_requests::ScriptedClient;
+use tests_ledgers::ScriptedClient;
 use tests_scripts::{AnswerText, LimitedReader, LimitedWriter};
 
 /// How many reads are made of what a client still sends after its answer.

@@ -5,11 +5,19 @@
 //! |---|---|
 //! | `memory:` | on books in memory |
 //! | `tables:` | on books in the trees of a store, opened for each line and closed after it |
-//! | `commands:` | sessions of the program's commands, over files |
 //! | `stops:` | as those of `tables:`; it is separate because disks that stop take the longest |
 //!
-//! Rows on books are those of `tests_tables`, and may serve their books to clients, as the program
-//! does over HTTP, but that they are opened once for a line, and not for each client:
+//! A row on books begins with
+//!
+//! | Words | Books |
+//! |---|---|
+//! | `new` | new ones |
+//! | `one-name` | new ones that give every record one name |
+//! | `flat CPU BLOCKS`, `one-name CPU BLOCKS` | the same in memory, under a tariff of two rates |
+//! | `empty` | none, in trees without rows |
+//!
+//! Its lines are those of `tests_ledgers`. It may also serve its books to clients, as the program does
+//! over HTTP, but that they are opened once for a line, and not for each client:
 //!
 //! | A line on books | Is answered with |
 //! |---|---|
@@ -17,51 +25,63 @@
 //! | `serve refused COUNT`, with such a body | the same, by books that refuse the call after so many for lack of memory |
 //! | `serve room SIZE`, with such a body | the same, by way of an output that takes so many bytes, and fails then |
 //!
-//! In a session every word that begins with `@` is a file
-//! of this row alone:
+//! In tables there are also
 //!
 //! | A line | Is answered with |
 //! |---|---|
-//! | `file @NAME PARTS..`, `text-file @NAME NAMES..` | nothing: the file is written |
-//! | `copy FILE FILE` | nothing: the first is written to the second |
-//! | `input PARTS..`, `broken-input PARTS..` | nothing: what standard input gives from here on |
-//! | `room SIZE` | nothing: how many bytes standard output takes from here on |
-//! | `chargectl WORDS..` | its output, `!` and each line on standard error, its status if not 0 |
-//! | `first SIZE chargectl WORDS..` | the same, but no more than a given number of bytes of each |
-//! | `count-lines chargectl WORDS..`, or `count-bytes` | the same, but how many its output has |
-//! | `same FILE FILE`, `missing FILE` | whether they are |
-//! | `files` | the names of the row's files, in order |
+//! | `rows`, `lines`, `marks`, `closed`, `choices`, `tariffs`, `detail`, `book` | the rows of a table, in the order of their keys |
+//! | `identities` | of each record its name and its identity |
+//! | `index NAME` | the rows of a tree that finds others, by its name in the file |
+//! | `set day_sum.COLUMN NUMBER` | how many charge rows were changed behind the books' back |
+//! | `empty TABLE` | how many rows were removed behind the books' back |
+//! | `stops log`, `stops database` | what was found when the disk stopped at each call of that file, and lost what was not synced |
+//! | `stops FILE written` | the same, where what was written was not lost |
+//! | `stops FILE torn` | the same, where the first half of the write in progress got there |
+//! | `stops FILE twice`, also with `written` or `torn` after it | the same, where the disk stopped again at each call on the way back into the books |
+//! | `stops FILE all-again` | the same, where the books then got all commands once more, and not from the one in hand on |
+//! | `refuses memory` | what was found when the store answered each of its calls in turn that memory ran out |
+//! | `refuses memory files` | the same, where the books were in two files |
+//!
+//! The body of `stops` and of `refuses` is a run of commands. The row continues with the books
+//! after it. Each word of an import names one record there.
 #![tactic(auto)]
 
+mod changed_rows;
 mod client;
-mod command_output;
+mod empty_store;
+mod names;
 mod open_shelf;
-mod served_rows;
-mod session_streams;
-mod sessions;
+mod plain_books;
+mod refusals;
+mod refusing_store;
+mod restart;
+mod rows;
+mod run;
+mod serving;
+mod shown_rows;
+mod stopping_disk;
+mod stops;
+mod sweep;
+mod tree_books;
+mod tree_numbers;
+mod trees;
+mod uninterrupted;
 
+use names::Names;
 use plain_ledger::PlainLedger;
-use served_rows::ServedRows;
-use sessions::Sessions;
+use rows::BookRows;
+use std::env;
 use std::test::Fail;
-use std::{env, fs, process};
 use tests_scripts::play_files;
-use tests_tables::{Names, TreeBooks};
+use tree_books::TreeBooks;
 
 /// Plays the scripts of a section.
 fn play_section(rt: &HostRuntime, section: &str, names: &[String]) -> Result<(), Fail> {
     println!(rt; "{section}")?;
+    let alloc = rt.alloc();
     match section {
-        "memory:" => play_files(rt, ServedRows::<PlainLedger<Names>>::new(), names),
-        "tables:" | "stops:" => play_files(rt, ServedRows::<TreeBooks>::new(), names),
-        "commands:" => {
-            let within = env::temp_dir(rt)?;
-            let id = process::id(rt.process());
-            let folder = format!(in rt.alloc(); "{}/chargectl-{id}", within.as_path().display())?;
-            let played = play_files(rt, Sessions::new(rt, folder.as_str()), names);
-            let _ = fs::remove_dir_all(rt, folder.as_str());
-            played
-        }
+        "memory:" => play_files(rt, BookRows::<PlainLedger<Names>>::new(alloc), names),
+        "tables:" | "stops:" => play_files(rt, BookRows::<TreeBooks>::new(alloc), names),
         _ => Err("no section has this name")?,
     }
 }

@@ -1,16 +1,17 @@
 //! Lines on books.
 
 use crate::answers::{push_accepted, push_receipt, push_ruled};
-use crate::changed_texts::{ShownTexts, push_changes};
+use crate::changed_texts::push_changes;
 use crate::day::Day;
 use crate::dump_reading::Reading;
+use crate::each_call::answer_each_call;
 use crate::failing_reads::import_each_read;
+use crate::http_lines::answer_request;
 use crate::lines::BookLines;
-use crate::names::name_in;
-use crate::request_lists::{push_answers, push_repeated};
+use crate::refusing_ledger::RefusingLedger;
+use crate::request_lists::{push_answers, push_repeated, push_request};
 use crate::text_writing::push_text;
 use crate::texts::{BookText, TextOf};
-use crate::what_ifs::push_what_if;
 use book_core::{Ledger, Ruled, Source};
 use book_import::import;
 use smf_frames::{Layout, split};
@@ -54,46 +55,6 @@ fn close_each<L: Ledger>(ledger: &mut L, words: &[&str], out: &mut AnswerText) -
     let first = Day::of(day)?;
     let done = close_periods(ledger, from, end, first, out);
     out.value_line("DONE ", done);
-    Ok(())
-}
-
-/// Submits a tariff.
-fn push_tariff<L: Ledger>(
-    named: &Named,
-    ledger: &mut L,
-    ask: Ask<'_>,
-    out: &mut AnswerText,
-) -> LineResult {
-    let text = named.read_texts(ask.words, ask.body)?;
-    push_ruled(out, ledger.tariff(text.as_str()));
-    Ok(())
-}
-
-/// Closes a period through a day.
-fn push_close<L: Ledger>(ledger: &mut L, words: &[&str], out: &mut AnswerText) -> LineResult {
-    let [period, day] = words else {
-        return Err(LineFault::NotUnderstood);
-    };
-    let (period, day) = (period.parse::<u16>()?, Day::of(day)?);
-    push_ruled(out, ledger.close(period, day.number));
-    Ok(())
-}
-
-/// Chooses a record, or adopts a rule.
-fn push_choice<L: Ledger>(
-    named: &Named,
-    ledger: &mut L,
-    ask: Ask<'_>,
-    out: &mut AnswerText,
-) -> LineResult {
-    let [word] = ask.words else {
-        return Err(LineFault::NotUnderstood);
-    };
-    let answer = match ask.verb {
-        "choose" => ledger.choose(name_in(named, word)?),
-        _ => ledger.adopt_identity(word.parse::<u8>()?),
-    };
-    push_ruled(out, answer);
     Ok(())
 }
 
@@ -145,24 +106,6 @@ fn push_list<L: Ledger>(
 }
 
 impl BookLines {
-    /// Adds the texts that changed since they were last shown.
-    fn push_new_texts<L: Ledger>(
-        &mut self,
-        alloc: Global,
-        ledger: &mut L,
-        words: &[&str],
-        out: &mut AnswerText,
-    ) -> LineResult {
-        if !words.is_empty() {
-            return Err(LineFault::NotUnderstood);
-        }
-        let shown_texts = self
-            .shown_texts
-            .get_or_insert_with(|| ShownTexts::none(alloc));
-        push_changes(shown_texts, ledger, out);
-        Ok(())
-    }
-
     /// Adds a text.
     fn push_book_text<L: Ledger>(
         &self,
@@ -182,9 +125,8 @@ impl BookLines {
     }
 }
 
-/// Answers a line on books, each by one call of theirs but for `list`, `accept`, `changes` and what
-/// a row does many times.
-pub fn answer<L: Ledger>(
+/// Answers a line on books by calls of theirs.
+fn answer_by_calls<L: Ledger>(
     lines: &mut BookLines,
     named: &Named,
     ledger: &mut L,
@@ -193,16 +135,48 @@ pub fn answer<L: Ledger>(
 ) -> LineResult {
     let (alloc, reading, words) = (named.alloc(), lines.reading, ask.words);
     match ask.verb {
-        "tariff" => push_tariff(named, ledger, ask, out),
-        "close" => push_close(ledger, words, out),
-        "choose" | "adopt" => push_choice(named, ledger, ask, out),
-        "closes" => close_each(ledger, words, out),
         "import" => import_dump(named, ledger, reading, words, out),
-        "accept" => accept_each(alloc, ledger, &named.read_dump(words)?, out),
         "import-each-read" => import_each_read(named, ledger, reading, words, out),
+        "accept" => accept_each(alloc, ledger, &named.read_dump(words)?, out),
+        "closes" => close_each(ledger, words, out),
         "list" => push_list(named, reading.layout, ledger, ask, out),
-        "changes" => lines.push_new_texts(alloc, ledger, words, out),
-        "what-if" | "what-if-table" => push_what_if(named, ledger, ask, out),
+        "changes" => {
+            push_changes(&mut lines.shown_texts, ledger, out);
+            Ok(())
+        }
+        "tariff" | "close" | "choose" | "adopt" | "what-if" | "what-if-table" => {
+            push_request(named, reading.layout, ledger, ask, out)
+        }
         _ => lines.push_book_text(named, ledger, ask, out),
     }
+}
+
+/// Answers a line that is asked of books, by calls or by requests over HTTP.
+pub(crate) fn answer_once<L: Ledger>(
+    lines: &mut BookLines,
+    named: &Named,
+    ledger: &mut L,
+    ask: Ask<'_>,
+    out: &mut AnswerText,
+) -> LineResult {
+    match answer_by_calls(lines, named, ledger, ask, out) {
+        Err(LineFault::NotUnderstood) => {
+            answer_request(&mut lines.connection, named, ledger, ask, out)
+        }
+        answered => answered,
+    }
+}
+
+/// Answers a line that is asked of books, or `each-call` with such a line after it.
+pub fn answer<L: Ledger>(
+    lines: &mut BookLines,
+    named: &Named,
+    ledger: &mut L,
+    ask: Ask<'_>,
+    out: &mut AnswerText,
+) -> LineResult {
+    if ask.verb == "each-call" {
+        return answer_each_call(lines, named, ledger, ask, out);
+    }
+    answer_once(lines, named, &mut RefusingLedger::new(ledger, None), ask, out)
 }

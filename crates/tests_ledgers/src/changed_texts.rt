@@ -1,79 +1,51 @@
 //! Which texts of books changed.
 
 use crate::answers::push_fault;
-use crate::text_writing::Writes;
-use crate::texts::{BookText, TextOf};
-use book_core::{Ledger, LedgerFault};
-use book_reports::{PeriodReport, Report};
+use book_core::Ledger;
+use book_reports::{PeriodReport, Report, report_text};
 use std::alloc::Global;
 use std::collections::BTreeMap;
-use tests_scripts::{AnswerText, Limits};
+use tests_scripts::AnswerText;
 
-/// Texts of periods, as they were shown last.
-type PeriodTexts = BTreeMap<u16, AnswerText>;
+/// Texts of books, as they were shown last. The statement of a period is found by twice the number
+/// of that, its adjustments by one more, and the others by numbers that are higher than those.
+pub(crate) type ShownTexts = BTreeMap<u32, AnswerText>;
 
-/// The texts of books, as they were shown last.
-#[derive(Drop)]
-pub(crate) struct ShownTexts {
-    statements: PeriodTexts,
-    adjustments: PeriodTexts,
-    disputes: AnswerText,
-    periods: AnswerText,
-}
+const DISPUTES: u32 = 131_072;
 
-impl ShownTexts {
-    /// None was shown.
-    pub(crate) fn none(alloc: Global) -> ShownTexts {
-        ShownTexts {
-            statements: BTreeMap::new(alloc),
-            adjustments: BTreeMap::new(alloc),
-            disputes: AnswerText::new(alloc),
-            periods: AnswerText::new(alloc),
-        }
-    }
-}
+const PERIODS: u32 = 131_073;
 
-/// What the books say about a period that they do not have.
-fn no_text(alloc: Global) -> AnswerText {
-    let mut text = AnswerText::new(alloc);
-    push_fault(&mut text, LedgerFault::NoSuchPeriod);
-    text
-}
+/// What books say of a period that they do not have.
+const NO_PERIOD: &str = "chargectl: ledger 11\n";
 
-/// A text, or why there is none.
-fn text_now<L: Ledger>(alloc: Global, ledger: &mut L, text: BookText) -> AnswerText {
-    let written = TextOf { ledger, text }.write_to(alloc, Limits::none());
+/// A text of the office, or why there is none.
+fn text_now<L: Ledger>(alloc: Global, ledger: &mut L, report: Report) -> AnswerText {
     let mut now = AnswerText::new(alloc);
-    now.bytes(&written.writer.taken);
-    now.add(&written.message);
+    match report_text(alloc, ledger, report) {
+        Ok(text) => now.bytes(&text),
+        Err(fault) => push_fault(&mut now, fault),
+    }
     now
 }
 
-/// Adds a text, or why there is none, where that is not as it was shown last.
+/// Adds a text, or why there is none, where that is not as it was shown last. A period that the
+/// books do not have has no text to show.
 fn push_changed<L: Ledger>(
-    shown: &mut AnswerText,
+    shown_texts: &mut ShownTexts,
+    number: u32,
     ledger: &mut L,
-    text: BookText,
+    report: Report,
     out: &mut AnswerText,
 ) {
-    let now = text_now(out.alloc(), ledger, text);
-    if shown.as_bytes() != now.as_bytes() {
+    let now = text_now(out.alloc(), ledger, report);
+    let is_shown = match shown_texts.get(&number) {
+        Some(shown) => shown.as_bytes() == now.as_bytes(),
+        None => now.as_bytes() == NO_PERIOD.as_bytes(),
+    };
+    if !is_shown {
         out.add(&now);
-        *shown = now;
     }
-}
-
-/// The same, of a text of a period.
-fn push_changed_of<L: Ledger>(
-    shown_texts: &mut PeriodTexts,
-    period: u16,
-    ledger: &mut L,
-    text: BookText,
-    out: &mut AnswerText,
-) {
-    let mut shown = shown_texts.remove(&period).unwrap_or(no_text(out.alloc()));
-    push_changed(&mut shown, ledger, text, out);
-    if shown_texts.insert(period, shown).is_err() {
+    if shown_texts.insert(number, now).is_err() {
         out.cut();
     }
 }
@@ -86,28 +58,37 @@ fn period_after_open<L: Ledger>(ledger: &mut L) -> u16 {
     }
 }
 
+/// What a period has of the whole office.
+fn of_period(report: PeriodReport, period: u16) -> Report {
+    Report::OfPeriod {
+        report,
+        period,
+        centre: None,
+    }
+}
+
 /// Adds each text of the books that is not as it was shown last: the statement and the adjustments
-/// of each period, the disputes, the periods. A period that the books do not have, before the first
-/// and after the open one, has no text to show.
+/// of each period, also of those before the first and after the open one, the disputes, the periods.
 pub(crate) fn push_changes<L: Ledger>(
     shown_texts: &mut ShownTexts,
     ledger: &mut L,
     out: &mut AnswerText,
 ) {
     for period in 0..=period_after_open(ledger) {
-        let statement = BookText::of_period(PeriodReport::Statement, period);
-        let adjustments = BookText::of_period(PeriodReport::AdjustmentList, period);
-        push_changed_of(&mut shown_texts.statements, period, ledger, statement, out);
-        push_changed_of(
-            &mut shown_texts.adjustments,
-            period,
-            ledger,
-            adjustments,
-            out,
-        );
+        let number = u32::from(period).saturating_mul(2);
+        let statement = of_period(PeriodReport::Statement, period);
+        let adjustments = of_period(PeriodReport::AdjustmentList, period);
+        push_changed(shown_texts, number, ledger, statement, out);
+        push_changed(shown_texts, number.saturating_add(1), ledger, adjustments, out);
     }
-    let disputes = BookText::Report(Report::DisputeList);
-    push_changed(&mut shown_texts.disputes, ledger, disputes, out);
-    let periods = BookText::Report(Report::PeriodList);
-    push_changed(&mut shown_texts.periods, ledger, periods, out);
+    push_changed(shown_texts, DISPUTES, ledger, Report::DisputeList, out);
+    push_changed(shown_texts, PERIODS, ledger, Report::PeriodList, out);
+}
+
+/// Those texts of books, all of them.
+pub fn all_texts<L: Ledger>(alloc: Global, ledger: &mut L) -> AnswerText {
+    let mut texts = AnswerText::new(alloc);
+    let mut shown_texts = BTreeMap::new(alloc);
+    push_changes(&mut shown_texts, ledger, &mut texts);
+    texts
 }

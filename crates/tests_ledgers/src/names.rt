@@ -8,7 +8,7 @@ use smf_text::Name;
 use tests_scripts::{LineFault, LineResult, Named};
 
 /// The one record of the dump that a word names.
-pub(crate) fn record_in(named: &Named, word: &str) -> LineResult<Vec<u8>> {
+fn record_in(named: &Named, word: &str) -> LineResult<Vec<u8>> {
     let dump = named.read_dump(&[word])?;
     let mut parts = split(named.alloc(), Layout::Rdw, &dump)?;
     let record = parts.records.pop().ok_or(LineFault::NotUnderstood)?;
@@ -20,7 +20,7 @@ pub(crate) fn record_in(named: &Named, word: &str) -> LineResult<Vec<u8>> {
 }
 
 /// The name of a record.
-pub(crate) fn record_name(bytes: &[u8]) -> LineResult<[u8; 32]> {
+fn record_name(bytes: &[u8]) -> LineResult<[u8; 32]> {
     let (_descriptor, data) = bytes.split_at_checked(4).ok_or(LineFault::NotUnderstood)?;
     Ok(ShaNames.name(data))
 }

@@ -1,64 +1,35 @@
-//! Lists of requests.
+//! Requests, one alone and lists of them.
 
 ghost use Rattle.std.specs.Prelude.{All, IfOk};
 ghost use Rattle.office.specs.Runs.{IsAskableWithoutReader};
 
 use crate::answers::push_answer;
-use crate::day::Day;
-use crate::names::name_in;
+use crate::asked::{ask_of, asked_by};
 use book_core::Ledger;
-use office::{Asked, run};
+use office::{Asked, ask_without_reader, run};
 use smf_frames::Layout;
-use tests_scripts::{AnswerText, Cases, LineFault, LineResult, Named, words_of};
-
-/// The request to import the dump of parts.
-fn import_by(named: &Named, layout: Layout, parts: &[&str]) -> LineResult<Asked>
-    ensures { IfOk result IsAskableWithoutReader }
-{
-    let bytes = named.read_dump(parts)?;
-    Ok(Asked::ImportBytes { layout, bytes })
-}
-
-/// The request to close a period through a day.
-fn close_by(words: &[&str]) -> LineResult<Asked>
-    ensures { IfOk result IsAskableWithoutReader }
-{
-    let [period, day] = words else {
-        return Err(LineFault::NotUnderstood);
-    };
-    let (period, day) = (period.parse::<u16>()?, Day::of(day)?);
-    let through = day.number;
-    Ok(Asked::Close { period, through })
-}
-
-/// The request that a verb and one word make.
-fn asked_by_word(named: &Named, verb: &str, words: &[&str]) -> LineResult<Asked>
-    ensures { IfOk result IsAskableWithoutReader }
-{
-    let [word] = words else {
-        return Err(LineFault::NotUnderstood);
-    };
-    match verb {
-        "choose" => Ok(Asked::Choose(name_in(named, word)?)),
-        "adopt" => Ok(Asked::Adopt(word.parse::<u8>()?)),
-        _ => Err(LineFault::NotUnderstood),
-    }
-}
+use tests_scripts::{AnswerText, Ask, Cases, LineResult, Named, words_of};
 
 /// The request of a line.
 fn request_of(named: &Named, layout: Layout, line: &str) -> LineResult<Asked>
     ensures { IfOk result IsAskableWithoutReader }
 {
     let words = words_of(named.alloc(), line)?;
-    let [verb, words @ ..] = words.as_slice() else {
-        return Err(LineFault::NotUnderstood);
-    };
-    match *verb {
-        "tariff" => Ok(Asked::Tariff(named.read_texts(words, "")?)),
-        "import" => import_by(named, layout, words),
-        "close" => close_by(words),
-        verb => asked_by_word(named, verb, words),
-    }
+    asked_by(named, layout, ask_of(&words))
+}
+
+/// Asks the request of a line of books, and adds the answer.
+pub(crate) fn push_request<L: Ledger>(
+    named: &Named,
+    layout: Layout,
+    ledger: &mut L,
+    ask: Ask<'_>,
+    out: &mut AnswerText,
+) -> LineResult {
+    let asked = asked_by(named, layout, ask)?;
+    let answer = ask_without_reader(named.alloc(), ledger, &asked);
+    push_answer(out, &answer);
+    Ok(())
 }
 
 /// The requests of the lines of a body.

@@ -2,11 +2,9 @@
 
 use crate::dump_reading::Reading;
 use crate::dumps::push_split;
-use crate::effect_lines::answer_plan;
 use crate::layouts::push_layout;
 use crate::lines::BookLines;
 use crate::messages::push_message;
-use crate::prices::answer_price;
 use crate::receipts::{read_numbers, receipt_of};
 use crate::standalone_texts::StandaloneText;
 use crate::text_writing::{Writing, push_text};
@@ -68,8 +66,6 @@ pub fn answer_standalone(
         }
         "split" | "records" => push_dump(named, lines.reading.layout, ask, out),
         "layout" => push_layout(named, lines.reading.layout, ask.words, out),
-        "price" => answer_price(named, ask.words, out),
-        "plan" => answer_plan(named, ask.words, out),
         "say" => push_message(ask.words, out),
         _ => lines.push_standalone(named, ask, out),
     }

@@ -84,15 +84,6 @@ fn in_period(verb: &str, words: &[&str]) -> LineResult<BookText> {
 }
 
 impl BookText {
-    /// What a period has of the whole office.
-    pub(crate) fn of_period(report: PeriodReport, period: u16) -> BookText {
-        BookText::Report(Report::OfPeriod {
-            report,
-            period,
-            centre: None,
-        })
-    }
-
     /// The text that a line asks for.
     pub(crate) fn of(named: &Named, ask: Ask<'_>) -> LineResult<BookText> {
         match (ask.verb, ask.words) {

@@ -1,6 +1,7 @@
 //! What the lines of a row have set so far, and how each line is answered.
 
 use crate::dumps::{push_class, push_header, push_parts, push_work};
+use crate::effects::push_plan;
 use crate::fields::push_field;
 use crate::joiner_calls::push_joined;
 use crate::pieces::{push_pieces, split_of};
@@ -77,6 +78,7 @@ fn push_alone(named: &Named, out: &mut AnswerText, ask: Ask<'_>) -> LineResult {
         "header" | "class" | "work" => push_of_dump(named, out, ask),
         "field" | "price" => push_of_word(named, out, ask),
         "flat" => push_flat(named, out, ask.words),
+        "plan" => push_plan(named, out, ask.words),
         _ => push_of_texts(out, ask),
     }
 }

@@ -1,5 +1,6 @@
-//! Worked rows below the books: texts and days, dumps, records, tariff files, prices. Each word
-//! that is given names a script in the folder where the program runs.
+//! Worked rows below the books: texts and days, dumps, records, tariff files, prices, and what a new
+//! record changes in kept tables. Each word that is given names a script in the folder where the
+//! program runs.
 //!
 //! A DUMP is put together from parts, and so is a RECORD. A TEXT is the words of a line, a blank
 //! between two, where `\n` is a line's end and `\s` a blank.
@@ -30,10 +31,12 @@
 //! | `say memory` | what is said where there is no memory for a tariff file |
 //! | `flat CPU EXCP RECORD DUMP` | the tariff of three rates, and what records cost by it |
 //! | `price NAME DUMP` | what records cost by a tariff file |
+//! | `plan NAME CLOSE HELD.. new NEW..` | what each new record changes under a tariff file |
 #![tactic(auto)]
 
 mod dump_reader;
 mod dumps;
+mod effects;
 mod fields;
 mod joiner_calls;
 mod lines;

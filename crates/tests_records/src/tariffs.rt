@@ -4,9 +4,10 @@
 use crate::spelled_words::{split_words, text_of};
 use crate::texts::push_day_text;
 use smf_frames::{Layout, split};
+use smf_text::{FIRST_DAY, LAST_DAY};
 use smf_type30::{Class, Type30, class};
 use std::alloc::Global;
-use tariff_rules::{Entry, Tariff, TariffFault, price};
+use tariff_rules::{Entry, Priced, Tariff, TariffFault, price};
 use tests_scripts::{AnswerText, Ask, LineFault, LineResult, Named};
 
 /// The most copies of a piece.
@@ -131,26 +132,25 @@ pub(crate) fn push_entry_of(named: &Named, out: &mut AnswerText, ask: Ask<'_>) -
     Ok(())
 }
 
-/// Adds what a usage record costs by a tariff: the day, the centre, the shift, hundredths of a
-/// second of CPU time, blocks, and the amount in ten-thousandths.
-fn push_cost(out: &mut AnswerText, tariff: &Tariff, usage: &Type30<'_>) {
-    let priced = price(tariff, usage);
-    push_day_text(out, "", priced.day);
+/// The record, if it is of class Usage.
+pub(crate) fn usage_of(bytes: &[u8]) -> Option<Type30<'_>> {
+    match class(bytes) {
+        Class::Usage => Type30::read(bytes).ok(),
+        _ => None,
+    }
+}
+
+/// Adds a price: the day, the centre, the shift, hundredths of a second of CPU time, the blocks, and
+/// the amount in ten-thousandths.
+pub(crate) fn push_priced(out: &mut AnswerText, priced: &Priced) {
+    if FIRST_DAY <= priced.day && priced.day <= LAST_DAY {
+        push_day_text(out, "", priced.day);
+    }
     out.value(" ", priced.centre.text());
     out.value(" ", priced.shift.text());
     out.value(" ", priced.cpu);
     out.value(" ", priced.excp);
-    out.value_line(" ", priced.amount);
-}
-
-/// Adds what a record costs by a tariff, if it is a usage record.
-fn push_cost_of(out: &mut AnswerText, tariff: &Tariff, bytes: &[u8]) {
-    if class(bytes) != Class::Usage {
-        return;
-    }
-    if let Ok(usage) = Type30::read(bytes) {
-        push_cost(out, tariff, &usage);
-    }
+    out.value(" ", priced.amount);
 }
 
 /// Adds what each usage record of a dump costs by a tariff.
@@ -158,7 +158,10 @@ fn push_costs(out: &mut AnswerText, tariff: &Tariff, dump: &[u8]) {
     match split(out.alloc(), Layout::Rdw, dump) {
         Ok(parts) => {
             for bytes in &parts.records {
-                push_cost_of(out, tariff, bytes);
+                if let Some(usage) = usage_of(bytes) {
+                    push_priced(out, &price(tariff, &usage));
+                    out.text("\n");
+                }
             }
         }
         Err(_) => out.cut(),

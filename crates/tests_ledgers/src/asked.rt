@@ -1,0 +1,84 @@
+//! What a line asks of books, as a request of the office.
+
+ghost use Rattle.std.specs.Prelude.{IfOk};
+ghost use Rattle.office.specs.Runs.{IsAskableWithoutReader};
+
+use crate::day::Day;
+use crate::names::{centre_in, name_in};
+use office::{Asked, StatementForm, WhatIf};
+use smf_frames::Layout;
+use tests_scripts::{Ask, LineFault, LineResult, Named};
+
+/// What the words of a line ask.
+pub fn ask_of<'a>(words: &'a [&'a str]) -> Ask<'a> {
+    let (verb, words) = words.split_first().unwrap_or((&"", words));
+    Ask {
+        verb,
+        words,
+        body: "",
+    }
+}
+
+/// The request to close a period through a day.
+fn close_by(period: &str, day: &str) -> LineResult<Asked>
+    ensures { IfOk result IsAskableWithoutReader }
+{
+    let (period, day) = (period.parse::<u16>()?, Day::of(day)?);
+    let through = day.number;
+    Ok(Asked::Close { period, through })
+}
+
+/// What is asked of a period by another tariff: of all centres, or of the one that is named after a
+/// slash.
+fn what_if_of(verb: &str, place: &str) -> LineResult<WhatIf> {
+    let form = if verb == "what-if-table" {
+        StatementForm::Table
+    } else {
+        StatementForm::Text
+    };
+    let (period, centre) = match place.split_once('/') {
+        Some((period, centre)) => (period, Some(centre_in(centre)?)),
+        None => (place, None),
+    };
+    let period = period.parse::<u16>()?;
+    Ok(WhatIf {
+        form,
+        period,
+        centre,
+    })
+}
+
+/// The request that a verb makes of one word, and of the text of a tariff after it.
+fn asked_by_word(named: &Named, ask: Ask<'_>) -> LineResult<Asked>
+    ensures { IfOk result IsAskableWithoutReader }
+{
+    let [word, names @ ..] = ask.words else {
+        return Err(LineFault::NotUnderstood);
+    };
+    match ask.verb {
+        "choose" => Ok(Asked::Choose(name_in(named, word)?)),
+        "adopt" => Ok(Asked::Adopt(word.parse::<u8>()?)),
+        "what-if" | "what-if-table" => {
+            let report = what_if_of(ask.verb, word)?;
+            let tariff = named.read_texts(names, ask.body)?;
+            Ok(Asked::WhatIf { report, tariff })
+        }
+        _ => Err(LineFault::NotUnderstood),
+    }
+}
+
+/// The request of a line, with the bytes of its dump, if it has one. No line asks for a report so:
+/// a report may also be written to a limited writer.
+pub(crate) fn asked_by(named: &Named, layout: Layout, ask: Ask<'_>) -> LineResult<Asked>
+    ensures { IfOk result IsAskableWithoutReader }
+{
+    match (ask.verb, ask.words) {
+        ("tariff", names) => Ok(Asked::Tariff(named.read_texts(names, ask.body)?)),
+        ("import", parts) => {
+            let bytes = named.read_dump(parts)?;
+            Ok(Asked::ImportBytes { layout, bytes })
+        }
+        ("close", [period, day]) => close_by(period, day),
+        _ => asked_by_word(named, ask),
+    }
+}
