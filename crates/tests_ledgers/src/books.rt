@@ -178,5 +178,11 @@ pub fn answer<L: Ledger>(
     if ask.verb == "each-call" {
         return answer_each_call(lines, named, ledger, ask, out);
     }
-    answer_once(lines, named, &mut RefusingLedger::new(ledger, None), ask, out)
+    answer_once(
+        lines,
+        named,
+        &mut RefusingLedger::new(ledger, None),
+        ask,
+        out,
+    )
 }

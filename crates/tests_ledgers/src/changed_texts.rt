@@ -79,7 +79,13 @@ pub(crate) fn push_changes<L: Ledger>(
         let statement = of_period(PeriodReport::Statement, period);
         let adjustments = of_period(PeriodReport::AdjustmentList, period);
         push_changed(shown_texts, number, ledger, statement, out);
-        push_changed(shown_texts, number.saturating_add(1), ledger, adjustments, out);
+        push_changed(
+            shown_texts,
+            number.saturating_add(1),
+            ledger,
+            adjustments,
+            out,
+        );
     }
     push_changed(shown_texts, DISPUTES, ledger, Report::DisputeList, out);
     push_changed(shown_texts, PERIODS, ledger, Report::PeriodList, out);
