@@ -72,15 +72,25 @@ impl<B: Books> BookRows<B> {
         let Some(books) = self.books.take() else {
             return Err(LineFault::NotUnderstood);
         };
-        let (books, answered) = match books.answer_alone(named, ask, out) {
-            (books, Err(LineFault::NotUnderstood)) => {
-                let lines = &mut self.lines;
-                books.ask_open(named, &mut RowLine { lines, ask }, out)
-            }
-            answered => answered,
-        };
+        let (books, answered) = answer_by(books, &mut self.lines, named, ask, out);
         self.books = Some(books);
         answered
+    }
+}
+
+/// Answers a line that is asked of books, open or not, and gives them back.
+fn answer_by<B: Books>(
+    books: B,
+    lines: &mut BookLines,
+    named: &Named,
+    ask: Ask<'_>,
+    out: &mut AnswerText,
+) -> (B, LineResult) {
+    match books.answer_alone(named, ask, out) {
+        (books, Err(LineFault::NotUnderstood)) => {
+            books.ask_open(named, &mut RowLine { lines, ask }, out)
+        }
+        answered => answered,
     }
 }
 
