@@ -33,7 +33,6 @@ use Rattle.tree_rows.proofs.Maps.{then_assoc}
 use Rattle.tree_rows.proofs.Runs.{finds_run, run_by_front}
 use Rattle.tree_tables.specs.Answers.{FindsCharged, FindsRecord, HasCharged, charged_with, is_charged}
 use Rattle.tree_tables.specs.Columns.{charged_part, flag, mark_columns}
-use Rattle.tree_tables.specs.Fits.{EachFits, HasHash, IsNamed}
 use Rattle.tree_tables.specs.Holds.{mark_key, marks}
 use Rattle.tree_tables.specs.States.{state}
 use Rattle.tree_tables.specs.Steps.{Looks}
@@ -201,13 +200,6 @@ module _ (tables : Tables) (identity : List ℕ) (row : Row) {rows : List Row}
         ap (λ (r : Row). column r 2) one.3,
       )
 
-  -- so it can be read
-  pub charged_fits : IsFirst (run_of (charged_part identity) rows) row true → EachFits tables
-      → HasHash (column row 2)
-  charged_fits begins fit =
-      let it = charged_names begins in
-      subst HasHash (sym it.2) (fit it.0.0 it.1.row it.1.there).name
-
   -- what is read of it is the name
   pub charged_named : (name : List ℕ) → IsFirst (run_of (charged_part identity) rows) row true
       → column row 2 ≡ Blob name → NamesCharged identity tables name
@@ -223,10 +215,6 @@ module _ (tables : Tables) (identity name : List ℕ) (names : NamesCharged iden
     charged_is stored found =
         found ∙ ap (option_map (λ (row : RecordRow). (name, row))) names.there
         ∙ ap (λ es. slice_get es 0) (sym names.first)
-
-    -- which fits where each does
-    pub charged_is_named : EachFits tables → IsNamed name tables
-    charged_is_named fit = (names.row, names.there, fit name names.row names.there)
 
 -- what a look-up of these columns shows, if it shows something
 pub mark_found : (Clean : Type 0) (key part row : Row) (rows : List Row)

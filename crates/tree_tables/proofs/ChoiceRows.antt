@@ -1,5 +1,5 @@
 -- Choices: how one is written into the two trees, and what the last row of their own shows.
-use Rattle.std.proofs.Common.{◌≡◌, ◌∙◌, ◌<◌, ◌^◌, ℕ, pos, List, [], ◌∷◌, ◌++◌, Option, Some, None}
+use Rattle.std.proofs.Common.{◌≡◌, ◌∙◌, ℕ, pos, List, [], ◌∷◌, ◌++◌, Option, Some, None}
 use Rattle.std.proofs.Common.{false, true, map, refl, reverse, sym, ap, ap₂}
 use Rattle.std.specs.Prelude.{unwrap_or}
 use Rattle.std.specs.Cmp.{nat_cmp_total}
@@ -23,7 +23,6 @@ use Rattle.tree_rows.specs.Rows.{IsFirst, Rewrites}
 use Rattle.tree_rows.proofs.Maps.{inserted}
 use Rattle.tree_tables.specs.Answers.{last_number}
 use Rattle.tree_tables.specs.Columns.{choice_columns, choice_name_columns}
-use Rattle.tree_tables.specs.Fits.{HasChoiceNumber}
 use Rattle.tree_tables.specs.Holds.{Holds, by_chosen, choice_name_key}
 use Rattle.tree_tables.proofs.Holding.{apart, has_rows, have_but, holds_rows}
 use Rattle.tree_tables.proofs.Layouts.{by_chosen_exact, by_chosen_total}
@@ -108,11 +107,6 @@ module _ (choices : ChoiceTable) (rows : List Row) (row : Row)
       → n ≡ last_number choices
   number_read n first says =
       same_count n (last_number choices) (sym says ∙ number_shown first)
-
-  -- and where that is small it can be read
-  pub number_fits : IsFirst (reverse rows) row true → last_number choices < 2 ^ 32
-      → HasChoiceNumber (column row 0)
-  number_fits first small = (last_number choices, small, number_shown first)
 
   -- where there is no row, there is no number
   pub number_none : IsFirst (reverse rows) row false → 0 ≡ last_number choices

@@ -1,26 +1,23 @@
 -- The choices that name a record, as the tree of chosen names lists their numbers.
 use Rattle.std.proofs.Common.{◌≡◌, ◌∙◌, ◌+◌, ◌<◌, ℕ, List, [], ◌∷◌, ◌++◌, Some, map, pos, take}
-use Rattle.std.proofs.Common.{get_or, length, refl, sym, ap, subst, Bool, arith}
+use Rattle.std.proofs.Common.{get_or, length, refl, sym, ap, Bool}
 use Rattle.std.specs.Prelude.{filter}
 use Rattle.std.specs.Cmp.{nat_cmp_total}
 use Rattle.std.specs.FinMap.{entries, get, nat_cmp-IsAntisymmetric}
 use Rattle.std.specs.List.{AllByRecursion, AllZip}
 use Rattle.std.specs.Option.{option_map}
-use Rattle.std.proofs.lemmas.List.{length-map}
 use Rattle.std.proofs.lemmas.List.Elements.{All-filter, All-from_recursion, recursion_from_All}
-use Rattle.std.proofs.lemmas.List.Sums.{count_by-le-length, length-filter}
-use Rattle.sqlite_trees.proofs.ListLemmas.{all-get_or, map-map}
+use Rattle.sqlite_trees.proofs.ListLemmas.{map-map}
 use Rattle.sqlite_value.specs.Order.{Row, column}
 use Rattle.sqlite_value.specs.declared.value.Value.TheVariants.{Blob, Int}
 use Rattle.book_model.proofs.SetLemmas.{same_bytes-by_cmp}
 use Rattle.table_model.specs.Tables.{ChoiceRow, ChoiceTable, Tables}
 use Rattle.tree_rows.specs.Indexes.{indexed_by}
-use Rattle.tree_rows.specs.Runs.{RowsFit, run_of}
+use Rattle.tree_rows.specs.Runs.{run_of}
 use Rattle.tree_rows.proofs.RunsRead.{zipped_next}
 use Rattle.tree_rows.proofs.Taking.{some_is}
 use Rattle.tree_tables.specs.Answers.{FindsChoice, FindsNumbered, ListsChosen, names_it}
 use Rattle.tree_tables.specs.Columns.{choice_name_columns}
-use Rattle.tree_tables.specs.Fits.{AllNumbered, ChosenFit, HasNumber, IsNumbered}
 use Rattle.tree_tables.specs.Holds.{choice_name_key}
 use Rattle.tree_tables.specs.Stored.{choice_entry}
 use Rattle.tree_tables.specs.declared.choice_rows.StoredChoice.{StoredChoice}
@@ -46,13 +43,6 @@ pub numbered_more : (numbers : List ChosenNumber) (i : ℕ) (default : ChosenNum
 numbered_more numbers i default tables all more one within more_is so_far found =
     zipped_next (λ (its : ChosenNumber) stored. FindsChoice its.number tables (Some stored)) numbers
     i default all more one within more_is so_far found
-
--- where each of some numbers is that of a choice, one of them is
-pub one_numbered : (tables : Tables) (numbers : List ChosenNumber) (i : ℕ) (default : ChosenNumber)
-    → i < length numbers → AllNumbered numbers tables
-    → IsNumbered (get_or numbers i default).number tables
-one_numbered tables numbers i default within all =
-    all-get_or (λ (one : ChosenNumber). IsNumbered one.number tables) numbers i default all within
 
 -- the numbers that were read
 abbrev numbers_of : List ChosenNumber → List ℕ
@@ -80,21 +70,6 @@ found_are tables (e ∷ es) (one ∷ numbers) (stored ∷ found) same there all 
     ∙ ap (λ n. option_map (λ (row : ChoiceRow). (n, row)) (get tables.choices n)) number
     ∙ ap (option_map (λ (row : ChoiceRow). (e.0, row))) there.0) in
     λ i. own i ∷ found_are tables es numbers found rest there.1 all.1 i
-
--- and each of the numbers is that of a choice that fits
-numbers_fit : (tables : Tables) → ChosenFit tables → (es : List Entry)
-    (numbers : List ChosenNumber) → numbers_of numbers ≡ map (λ (e : Entry). e.0) es
-    → AllByRecursion (Had tables.choices) es → AllNumbered numbers tables
-numbers_fit tables fit [] [] same there = tt
-numbers_fit tables fit [] (one ∷ numbers) same there = absurd (let e = same in cc)
-numbers_fit tables fit (e ∷ es) [] same there = absurd (let e = same in cc)
-numbers_fit tables fit (e ∷ es) (one ∷ numbers) same there =
-    let number : one.number ≡ e.0 = (let e = same in cc) in
-    let rest : numbers_of numbers ≡ map (λ (e : Entry). e.0) es = (let e = same in cc) in
-    let own : get tables.choices one.number ≡ Some e.1 = ap (get tables.choices) number ∙ there.0 in (
-      (e.1, own, fit.each one.number e.1 own),
-      numbers_fit tables fit es numbers rest there.1,
-    )
 
 module _ (tables : Tables) (name : List ℕ) (part : Row) (part_is : part ≡ Blob name ∷ []) where
   -- the choices that name the record
@@ -141,28 +116,3 @@ module _ (tables : Tables) (name : List ℕ) (part : Row) (part_is : part ≡ Bl
       → FindsNumbered numbers tables found → ListsChosen name tables found
   chosen_listed numbers found says all =
       found_are tables chosen numbers found (chosen_numbers numbers says) chosen_had all
-
-  module _ (fit : ChosenFit tables) where
-    -- rows of choices that are there have numbers
-    rows_numbered : (es : List Entry) → AllByRecursion (Had tables.choices) es
-        → AllByRecursion HasNumber (map found_by es)
-    rows_numbered [] had = tt
-    rows_numbered (e ∷ es) had = ((fit.each e.0 e.1 had.0).number, rows_numbered es had.1)
-
-    -- so the run can be listed,
-    pub chosen_fit : RowsFit HasNumber (run_of part (name_rows tables.choices))
-    chosen_fit =
-        let few = fit.few in
-        let mapped = length-map chosen found_by in
-        let counted = length-filter (names_it name) (entries tables.choices) in
-        let some = count_by-le-length (names_it name) (entries tables.choices) in
-        subst (RowsFit HasNumber) (sym chosen_run) (record {
-          fit = rows_numbered chosen chosen_had;
-          few = omega (arith, few, mapped, counted, some);
-        })
-
-    -- and its numbers are those of choices that fit
-    pub chosen_numbered : (numbers : List ChosenNumber)
-        → SayNumbers (run_of part (name_rows tables.choices)) numbers → AllNumbered numbers tables
-    chosen_numbered numbers says =
-        numbers_fit tables fit chosen numbers (chosen_numbers numbers says) chosen_had

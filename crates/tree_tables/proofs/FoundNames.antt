@@ -1,5 +1,5 @@
 -- Records that are found by the names that an index gives.
-use Rattle.std.proofs.Common.{◌≡◌, ◌∙◌, ℕ, ◌+◌, ◌-◌, ◌<◌, List, [], ◌∷◌, ◌++◌, Option, None, Some}
+use Rattle.std.proofs.Common.{◌≡◌, ◌∙◌, ℕ, ◌+◌, ◌-◌, ◌<◌, List, [], ◌∷◌, ◌++◌, Option, Some}
 use Rattle.std.proofs.Common.{Bool, map, take, get_or, length, refl, sym, ap}
 use Rattle.std.specs.Prelude.{filter}
 use Rattle.std.specs.Cmp.Lexicographic.{nat_list_cmp_total}
@@ -7,16 +7,13 @@ use Rattle.std.specs.FinMap.{entries, get}
 use Rattle.std.specs.List.{All, AllByRecursion, AllZip, flat_map}
 use Rattle.std.specs.Option.{option_map, option_to_list}
 use Rattle.std.proofs.lemmas.List.Elements.{All-filter, All-from_recursion, recursion_from_All}
-use Rattle.sqlite_trees.proofs.ListLemmas.{all-get_or}
 use Rattle.sqlite_value.specs.Order.{Row, column}
 use Rattle.sqlite_value.specs.declared.value.Value.TheVariants.{Blob}
 use Rattle.table_model.specs.Tables.{RecordRow, RecordTable, Tables}
 use Rattle.tree_rows.specs.Indexes.{IsKeyOf}
 use Rattle.tree_rows.proofs.IndexOrders.{by_bytes_exact}
-use Rattle.tree_rows.proofs.Maps.{not_none}
 use Rattle.tree_rows.proofs.RunsRead.{zipped_next}
 use Rattle.tree_tables.specs.Answers.{FindsNamed, FindsRecord}
-use Rattle.tree_tables.specs.Fits.{AllNamed, EachFits, IsNamed}
 use Rattle.tree_tables.specs.Stored.{stored_entry}
 use Rattle.tree_tables.specs.declared.found_names.FoundName.{FoundName}
 use Rattle.tree_tables.specs.declared.stored_record.StoredRecord.{StoredRecord}
@@ -44,18 +41,6 @@ pub named_more : (names : List FoundName) (i : ℕ) (default : FoundName) (table
 named_more names i default tables all more one within more_is so_far found =
     zipped_next (λ (named : FoundName) stored. FindsRecord named.name tables (Some stored)) names i
     default all more one within more_is so_far found
-
--- where each of some names is that of a record, one of them is
-pub one_named : (tables : Tables) (names : List FoundName) (i : ℕ) (default : FoundName)
-    → i < length names → AllNamed names tables → IsNamed (get_or names i default).name tables
-one_named tables names i default within all =
-    all-get_or (λ (named : FoundName). IsNamed named.name tables) names i default all within
-
--- and is not missed
-pub never_missed : (tables : Tables) (name : List ℕ) → IsNamed name tables
-    → FindsRecord name tables None → ⊥
-never_missed tables name named missed =
-    not_none _ (sym (missed ∙ ap (option_map (λ (row : RecordRow). (name, row))) named.1))
 
 -- the records that were found are those of the names
 pub named_found : (names : List FoundName) (tables : Tables) (found : List StoredRecord)
@@ -119,21 +104,3 @@ some_had records test =
     let Had : Entry → Type 0 = λ e. get records e.0 ≡ Some e.1 in
     recursion_from_All Had (filter test (entries records))
     (All-filter test Had (entries records) (entries_had records))
-
--- names that are read of records of the tables are those of records that fit
-pub named_fit : {Q : Type 0} (tables : Tables) (name : Q → List ℕ) (There : Q → Type 0)
-    → ((q : Q) → There q → (row : RecordRow) × (get tables.records (name q) ≡ Some row))
-    → EachFits tables → (qs : List Q) (names : List FoundName) → names_of names ≡ map name qs
-    → AllByRecursion There qs → AllNamed names tables
-named_fit tables name There its fits [] [] same there = tt
-named_fit tables name There its fits [] (one ∷ names) same there =
-    absurd (let e = same in cc)
-named_fit tables name There its fits (q ∷ qs) [] same there = absurd (let e = same in cc)
-named_fit tables name There its fits (q ∷ qs) (one ∷ names) same there =
-    let here = its q there.0 in
-    let is : one.name ≡ name q = (let e = same in cc) in
-    let rest : names_of names ≡ map name qs = (let e = same in cc) in
-    let found : get tables.records one.name ≡ Some here.0 = ap (get tables.records) is ∙ here.1 in (
-      (here.0, found, fits one.name here.0 found),
-      named_fit tables name There its fits qs names rest there.1,
-    )

@@ -10,7 +10,6 @@ use Rattle.std.specs.Ordering.{eq_by_cmp, is_lt, nat_cmp, ordering_then}
 use Rattle.std.specs.declared.cmp.Ordering.{Ordering}
 use Rattle.std.specs.declared.cmp.Ordering.TheVariants.{Less, Equal, Greater}
 use Rattle.std.proofs.lemmas.List.{length-map, take-map}
-use Rattle.std.proofs.lemmas.List.Sums.{count_by-le-length, length-filter}
 use Rattle.std.proofs.lemmas.Map.Views.{tells_apart}
 use Rattle.sqlite_trees.proofs.ListLemmas.{map-map}
 use Rattle.sqlite_trees.specs.Tree.{from_key}
@@ -25,7 +24,7 @@ use Rattle.table_model.specs.Views.{rows_with}
 use Rattle.tree_rows.specs.Indexes.{IsKeyOf, by_both, by_bytes, by_mark, indexed_by}
 use Rattle.tree_rows.specs.Layouts.{row_of, rows_of}
 use Rattle.tree_rows.specs.Rows.{IsFirst}
-use Rattle.tree_rows.specs.Runs.{RowsFit, run_of}
+use Rattle.tree_rows.specs.Runs.{run_of}
 use Rattle.tree_rows.proofs.FromPart.{FindsFrom, finds_from}
 use Rattle.tree_rows.proofs.IndexOrders.{by_bytes_exact}
 use Rattle.tree_rows.proofs.Indexes.{index_has, index_names}
@@ -35,13 +34,12 @@ use Rattle.tree_rows.proofs.Runs.{run_named}
 use Rattle.tree_tables.specs.Answers.{FindsNamed, FindsUncharged, IsNextUncharged, IsUnchargedFrom}
 use Rattle.tree_tables.specs.Answers.{ListsSharing, NamesSharing}
 use Rattle.tree_tables.specs.Columns.{flag, identity_columns, uncharged_part}
-use Rattle.tree_tables.specs.Fits.{AllNamed, EndsInName, MarkFits, RecordsFit}
 use Rattle.tree_tables.specs.Holds.{identity_index, identity_key, mark_key, marks}
 use Rattle.tree_tables.specs.Stored.{SaysUncharged}
 use Rattle.tree_tables.specs.declared.found_names.FoundName.{FoundName}
 use Rattle.tree_tables.specs.declared.stored_record.StoredRecord.{StoredRecord}
 use Rattle.tree_tables.proofs.ChargedRows.{Key, by_front, front_of, fronts_compare}
-use Rattle.tree_tables.proofs.FoundNames.{Entry, at_name, entries_named, named_fit, named_found}
+use Rattle.tree_tables.proofs.FoundNames.{Entry, at_name, entries_named, named_found}
 use Rattle.tree_tables.proofs.FoundNames.{names_of, names_read, some_had}
 use Rattle.tree_tables.proofs.Layouts.{identity_layout, mark_layout}
 use Rattle.tree_tables.proofs.RecordIndexes.{mark_named}
@@ -120,17 +118,6 @@ module _ (from : List ℕ) where
       its_record : IsKeyOf mark_key (λ (q : Key). q.1.1) records key
       its_record =
           index_names mark_named records key (sym (get-entries (marks records) key) ∙ found.2)
-
-      -- so its row fits
-      pub mark_fits : MarkFits row
-      mark_fits = record {
-        mark = (
-          its_record.0.charged,
-          ap (λ r. column r 0) found.3
-              ∙ ap (λ (k : Key). Int (pos k.0)) (sym its_record.2),
-        );
-        identity = (key.1.0, ap (λ r. column r 1) found.3);
-      }
 
       -- what the row says of the mark
       same_mark : (mark : ℕ) → column row 0 ≡ Int (pos mark) → key.0 ≡ mark
@@ -249,30 +236,3 @@ module _ (tables : Tables) (identity : List ℕ) (part : Row) (part_is : part �
   two_names names ends =
       names_read found_by (λ e. e.0) (λ e. refl) (take 2 sharing) names
       (subst (λ some. EndIn some names) (ap (take 2) sharing_run ∙ take-map found_by 2 sharing) ends)
-
-  module _ (fit : RecordsFit tables) where
-    -- rows of records that are there end in names
-    rows_end : (es : List Entry) → AllByRecursion Had es
-        → AllByRecursion EndsInName (map found_by es)
-    rows_end [] had = tt
-    rows_end (e ∷ es) had = ((fit.each e.0 e.1 had.0).name, rows_end es had.1)
-
-    -- so the run can be listed,
-    pub sharing_fit : RowsFit EndsInName (run_of part (identity_rows tables.records))
-    sharing_fit =
-        let test : Entry → Bool = λ e. same_bytes e.1.identity identity in
-        let few = fit.few in
-        let mapped = length-map sharing found_by in
-        let counted = length-filter test (entries tables.records) in
-        let some = count_by-le-length test (entries tables.records) in
-        subst (RowsFit EndsInName) (sym sharing_run) (record {
-          fit = rows_end sharing sharing_had;
-          few = omega (arith, few, mapped, counted, some);
-        })
-
-    -- and its names are those of records that fit
-    pub sharing_named : (names : List FoundName)
-        → EndIn (run_of part (identity_rows tables.records)) names → AllNamed names tables
-    sharing_named names ends =
-        named_fit tables (λ (e : Entry). e.0) Had (λ e had. (e.1, had)) fit.each sharing names
-        (sharing_names names ends) sharing_had

@@ -24,7 +24,6 @@ use Rattle.tree_rows.proofs.Taking.{some_is}
 use Rattle.table_model.specs.DisputesRead.{by_identity}
 use Rattle.tree_tables.specs.Answers.{FindsRecord, is_uncharged}
 use Rattle.tree_tables.specs.Details.{FindsDetail, is_reached}
-use Rattle.tree_tables.specs.Fits.{EachFits, IsNamed}
 use Rattle.tree_tables.specs.LateRecords.{FindsCounted, FindsLate, FindsUnchargedLeft}
 use Rattle.tree_tables.specs.LateRecords.{IsNextCounted, IsNextUncharged, comes_next}
 use Rattle.tree_tables.specs.LateRecords.{is_counted_from, is_left, is_uncharged_left, start_after}
@@ -110,12 +109,7 @@ uncharged_above last tables late next other there apart =
 
 module _ (tables : Tables) (start : DetailStart) where
   module _ (detail : Detail) (next : FindsDetail start tables (Some detail)) where
-    -- the record of the next detail fits, where each does
-    pub counted_named : EachFits tables → IsNamed detail.name tables
-    counted_named fit =
-        (next.there.row, next.there.held, fit detail.name next.there.row next.there.held)
-
-    -- and is the next one
+    -- the record of the next detail is the next one
     pub counted_some : (stored : StoredRecord) → FindsRecord detail.name tables (Some stored)
         → FindsCounted start tables (Some (record { stored = stored; detail = Some detail }))
     counted_some stored found =

@@ -11,10 +11,8 @@ pub mod TheBook
 pub mod CountedRows
 pub mod NewTables
 pub mod Rulings
-pub mod RulingRows
 pub mod RecordIndexes
 pub mod DetailRows
-pub mod ShownDetails
 pub mod NextDetail
 pub mod ChoiceRows
 pub mod ChosenNames

@@ -17,7 +17,6 @@ use Rattle.tree_rows.proofs.Keyed.{row_found, rows_dropped}
 use Rattle.tree_rows.proofs.Runs.{run_numbered}
 use Rattle.tree_tables.specs.Answers.{FindsLine, ListsLines}
 use Rattle.tree_tables.specs.Columns.{flag, line_columns}
-use Rattle.tree_tables.specs.Fits.{HasMark}
 use Rattle.tree_tables.specs.Steps.{Always, Changes}
 use Rattle.tree_tables.specs.Stored.{SaysLine, signed_name}
 use Rattle.tree_tables.specs.declared.line_rows.StoredLine.{StoredLine}
@@ -71,12 +70,6 @@ module _ (period : ℕ) (name : List ℕ) (tables : Tables) {rows : List Row} {k
   line_there there =
       subst (Answers line_layout tables.lines (period, name) row) there
       (row_found line_layout tables.lines (period, name) finds held key_is)
-
-  -- which has a mark,
-  pub line_marked : hit ≡ true → HasMark (column row 2)
-  line_marked there =
-      let found = line_there there in
-      (found.0, ap (λ r. column r 2) found.2)
 
   -- and what is read of the mark is the line's
   pub line_found : (plus : Bool) → hit ≡ true → column row 2 ≡ Int (pos (flag plus))

@@ -2,22 +2,18 @@
 use Rattle.std.proofs.Common.{◌≡◌, ◌∙◌, ℕ, Bool, List, inl, inr, Result, Ok, Err, refl, sym}
 use Rattle.std.proofs.Common.{ap, subst, true≢false, arith}
 use Rattle.std.specs.Prelude.{IfErr, IsErr, IsErrAnd, IfOk, OnErr, OnOk}
-use Rattle.sqlite_disk.specs.Disk.{MoreFaults}
 use Rattle.sqlite_trees.specs.Tree.{Trees}
-use Rattle.sqlite_trees.specs.View.{View, HasCause, IsClean, IsFailure, KeepsCommitted, OnlyWrites}
+use Rattle.sqlite_trees.specs.View.{View, IsClean, IsFailure, KeepsCommitted, OnlyWrites}
 use Rattle.sqlite_value.specs.Order.{Row}
 use Rattle.sqlite_trees.specs.declared.error.StoreError.{StoreError}
-use Rattle.sqlite_trees.specs.declared.error.StoreError.TheVariants.{Broken, Corrupt, Full, Io}
-use Rattle.sqlite_trees.specs.declared.error.StoreError.TheVariants.{OutOfMemory, Unstorable}
 use Rattle.sqlite_trees.specs.declared.store.Store.{Ghosts}
 use Rattle.table_model.specs.Tables.{Tables}
 use Rattle.tree_rows.specs.Rows.{Finds, IsUnchanged, Rewrites}
 use Rattle.tree_rows.proofs.Calls.{Quiet, clean_before, closes_both, kept_after_look, kept_same}
 use Rattle.tree_rows.proofs.Calls.{quiet_both, unchanged_both}
-use Rattle.tree_rows.proofs.Failing.{caused_after, caused_by_memory}
 use Rattle.tree_tables.specs.Holds.{Holds}
 use Rattle.tree_tables.specs.States.{HasCleanDisk, State, Survives, state}
-use Rattle.tree_tables.specs.Steps.{Always, Changes, Does, IsCaused, KeepsLastCommit, Looks}
+use Rattle.tree_tables.specs.Steps.{Always, Changes, Does, KeepsLastCommit, Looks}
 pub use Rattle.tree_rows.proofs.Calls.{only_looks}
 pub use Rattle.tree_rows.proofs.Failing.{kept_after}
 
@@ -48,41 +44,6 @@ pub err_on : {A : Type 0} {error : StoreError} (Said : StoreError → Type 0)
     → IfErr result Said
 err_on Said (Ok answer) passed said = tt
 err_on Said (Err error) passed said = subst Said (sym passed) said
-
--- a lack of memory is a cause
-pub caused_memory : (old new : State) (error : StoreError) → error ≡ OutOfMemory
-    → IsCaused old new error
-caused_memory old new error is =
-    caused_by_memory old.view (MoreFaults old.faults new.faults) error is
-
--- what is said of an error where the disk is clean may be said of the error alone
-pub err_when : {A Clean : Type 0} (Said : StoreError → Type 0) (result : Result A StoreError)
-    → (Clean → IfErr result Said) → IfErr result (λ error. Clean → Said error)
-err_when Said (Ok answer) said = tt
-err_when Said (Err error) said = said
-
--- a row that can be stored is refused for a cause of the store alone
-stored_caused : (old : View) (fault Refused : Type 0) (e : StoreError) → (Refused → ⊥)
-    → HasCause old fault Refused e → HasCause old fault ⊥ e
-stored_caused old fault Refused OutOfMemory can cause = cause
-stored_caused old fault Refused Io can cause = cause
-stored_caused old fault Refused Corrupt can cause = cause
-stored_caused old fault Refused Full can cause = cause
-stored_caused old fault Refused Broken can cause = cause
-stored_caused old fault Refused Unstorable can cause = can cause
-
-pub err_stored : {A Clean When : Type 0} (old : View) (fault Refused : Type 0)
-    (result : Result A StoreError) → (Clean → IfErr result (HasCause old fault Refused))
-    → (When → Refused → ⊥) → IfErr result (λ error. Clean → When → HasCause old fault ⊥ error)
-err_stored old fault Refused (Ok answer) cause can = tt
-err_stored old fault Refused (Err error) cause can =
-    λ clean when. stored_caused old fault Refused error (can when) (cause clean)
-
--- what is said of an error may be said in other words
-pub err_so : {A : Type 0} {One Other : StoreError → Type 0} (result : Result A StoreError)
-    → IfErr result One → ((error : StoreError) → One error → Other error) → IfErr result Other
-err_so (Ok answer) one so = tt
-err_so (Err error) one so = so error one
 
 -- what a call makes that succeeds may be said in other words
 pub ok_so : {A One Other : Type 0} (result : Result A StoreError) → OnOk result One
@@ -151,21 +112,6 @@ pub looks_err : {A : Type 0} {Answers : Tables → A → Type 0} {old new : Stat
 looks_err (Ok value) failed survives kept = absurd (true≢false (sym failed))
 looks_err (Err error) failed survives kept =
     record { survives = survives; found = λ clean. tt; refused = kept }
-
--- what fails after a look has a cause of the store as it was before it
-pub fails_after_look : {A : Type 0} {old mid new : State} {Answers : Tables → A → Type 0} {answer : A}
-    {When : Tables → Type 0} (error : StoreError) → Looks (Ok answer) old mid Answers
-    → Survives mid new (λ trees. ⊥)
-    → (HasCleanDisk new → (tables : Tables) → Holds mid.view.trees tables
-    → Answers tables answer → When tables → IsCaused mid new error)
-    → HasCleanDisk new → (tables : Tables) → Holds old.view.trees tables → When tables
-    → IsCaused old new error
-fails_after_look {old = old} {mid = mid} {new = new} error looks survives cause clean tables holds
-    when =
-    let seen = looks.found (was_clean survives clean) in
-    caused_after old.view mid.view old.faults mid.faults new.faults error seen.same
-    looks.survives.counts
-    (cause clean tables (held_after_look old.view seen.same holds) (seen.known tables holds) when)
 
 -- what two looks have answered, put together
 pub looks_also : {A B C : Type 0} {First : Tables → A → Type 0} {Second : Tables → B → Type 0}

@@ -1,31 +1,28 @@
 -- The tables of new books, in trees that had no rows.
 use Rattle.std.proofs.Common.{◌≡◌, ◌<◌, ◌∙◌, ℕ, suc, List, [], ◌∷◌, Result, Ok, Err}
 use Rattle.std.proofs.Common.{Bool, true, false, cond, Option, None, length, map, refl, sym, ap}
-use Rattle.std.proofs.Common.{arith, subst}
+use Rattle.std.proofs.Common.{arith}
 use Rattle.std.proofs.lemmas.Bool.Decides.{nat_tests}
-use Rattle.std.proofs.lemmas.List.Elements.{All-from_recursion}
 use Rattle.std.specs.Prelude.{◌==◌, IfErr, OnOk}
 use Rattle.std.specs.List.{AllByRecursion}
 use Rattle.std.specs.Cmp.Lexicographic.{nat_list_cmp_total}
 use Rattle.std.specs.FinMap.{empty, entries, from_entries, get-empty}
-use Rattle.std.specs.Float.{NotNan}
-use Rattle.std.specs.Float.Ieee.{is_nan}
 use Rattle.std.specs.FinMap.{get-from_entries, same_map}
 use Rattle.std.specs.declared.cmp.Ordering.{Ordering}
 use Rattle.sqlite_trees.specs.Tree.{Trees, insert_entry, with_tree}
-use Rattle.sqlite_trees.specs.View.{View, IsClean, IsFailure, IsStorable, OnlyWrites, SetsTree}
+use Rattle.sqlite_trees.specs.View.{View, IsClean, IsFailure, OnlyWrites, SetsTree}
 use Rattle.sqlite_trees.specs.declared.error.StoreError.{StoreError}
 use Rattle.sqlite_trees.specs.declared.store.Store.{Ghosts}
-use Rattle.sqlite_value.specs.Order.{Row, number}
+use Rattle.sqlite_value.specs.Order.{Row}
 use Rattle.sqlite_value.specs.declared.keys.Order.{Order}
-use Rattle.table_model.specs.Tables.{BookRow, RecordRow}
+use Rattle.table_model.specs.Tables.{RecordRow}
 use Rattle.table_model.specs.TablesAfter.{new_tables}
 use Rattle.tree_rows.specs.Indexes.{IsIndexKey, by_bytes, index_of, indexed_by}
 use Rattle.tree_tables.specs.Columns.{book_columns, detail_columns}
 use Rattle.table_model.specs.DetailsRead.{detail_shown}
 use Rattle.tree_tables.specs.Holds.{Holds, by_shown, counted_among, detail_index}
 use Rattle.tree_tables.specs.States.{state}
-use Rattle.tree_tables.specs.Steps.{HasNoReals, HasNoRows, Makes}
+use Rattle.tree_tables.specs.Steps.{HasNoRows, Makes}
 use Rattle.tree_tables.proofs.Holding.{EachHas, SameBut, have_but, holds_rows, table_rows}
 use Rattle.tree_tables.proofs.Holding.{with_rows}
 use Rattle.tree_tables.proofs.ChoiceRows.{chosen_named}
@@ -104,24 +101,6 @@ module _ {old new : Trees} (order : Order) (row : Row) (none : HasNoRows old)
       (have_but {all = no_book} 0 others (ap (λ (trees : Trees). trees 0) now
       ∙ ap (insert_entry order row) (none.empty 0 (omega arith)) ∙ ap (λ row. row ∷ []) is)
       (record { each = have_none no_book only_book none.empty }) refl)
-
--- the row of a book can be stored where no column has the type REAL
-book_storable : (book : BookRow) → IsStorable 0 (book_columns book)
-unfolding is_nan
-book_storable book = record {
-  typed = λ c one. absurd (grind arith);
-  columns = (omega arith, omega arith);
-  numbers = All-from_recursion (λ v. NotNan (number v)) (book_columns book)
-      (tt, (tt, (tt, (tt, (tt, tt)))));
-  short = omega arith;
-}
-
--- so the row of new books can
-pub new_storable : (view : View) (row : Row) → row ≡ book_columns new_tables.book
-    → HasNoReals view 0 → IsStorable (view.reals 0) row
-new_storable view row is plain =
-    subst (λ reals. IsStorable reals row) (sym plain)
-    (subst (IsStorable 0) (sym is) (book_storable new_tables.book))
 
 -- a call that puts the row makes new books
 pub makes_by : {S T : Type 0} (ghosts : Ghosts S) (old new : S) (order : Order) (row : Row)

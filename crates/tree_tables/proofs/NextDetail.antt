@@ -26,8 +26,7 @@ use Rattle.tree_rows.proofs.Indexes.{index_names}
 use Rattle.tree_rows.proofs.Maps.{prefix_of}
 use Rattle.tree_rows.proofs.Passing.{passed}
 use Rattle.tree_tables.specs.Columns.{detail_columns}
-use Rattle.tree_tables.specs.Details.{DetailsFit, FindsDetail, is_reached, start_columns}
-use Rattle.tree_tables.specs.Fits.{DetailFits}
+use Rattle.tree_tables.specs.Details.{FindsDetail, is_reached, start_columns}
 use Rattle.table_model.specs.DetailsRead.{IsDetail, IsLeastDetail}
 use Rattle.tree_tables.specs.Holds.{by_work, counted_among, detail_index}
 use Rattle.tree_tables.specs.declared.detail_rows.DetailStart.{DetailStart}
@@ -224,10 +223,3 @@ module _ (tables : Tables) (start : DetailStart) {rows : List Row} {key : Row} (
               (it.5 other tt (in_tree tables other is)
               (not_so (is_lt (rank start other)) (sym (reached_is start other) ∙ reached)));
         })
-
-    -- it fits where all do
-    pub detail_fits : IsFirst (from_key plain key rows) row true → DetailsFit tables
-        → DetailFits row
-    detail_fits begins fits =
-        let it = shows true begins in
-        subst DetailFits (sym it.3) (fits it.0 (is_detail tables it.0 it.2))

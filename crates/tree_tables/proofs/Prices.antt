@@ -14,7 +14,6 @@ use Rattle.tree_rows.specs.Layouts.{rows_of}
 use Rattle.tree_rows.specs.Rows.{ChangesRow, IsFirst, rows_changed}
 use Rattle.tree_rows.proofs.Indexes.{index_same}
 use Rattle.tree_rows.proofs.Keyed.{rows_replaced}
-use Rattle.tree_rows.proofs.Passing.{first_there}
 use Rattle.tree_tables.proofs.CountedRows.{counted_by_there, counted_changed, counted_stays}
 use Rattle.tree_tables.proofs.CountedRows.{detail_named, row_counted, uncounted_by_missing}
 use Rattle.tree_tables.proofs.Holding.{apart, has_rows, have_but, holds_rows}
@@ -25,7 +24,6 @@ use Rattle.tree_tables.proofs.RecordIndexes.{row_changed}
 use Rattle.tree_tables.specs.Answers.{FindsNext}
 use Rattle.tree_tables.specs.Columns.{identity_columns, mark_columns, record_columns}
 use Rattle.tree_tables.specs.Details.{PricesDetail, shown_columns}
-use Rattle.tree_tables.specs.Fits.{EachFits, RecordFits}
 use Rattle.table_model.specs.DetailsRead.{detail_shown}
 use Rattle.tree_tables.specs.Holds.{Holds, by_shown, counted_among, detail_index}
 use Rattle.tree_tables.specs.Stored.{IsAsRead, priced_entry, stored_entry}
@@ -50,14 +48,6 @@ module _ (tables : Tables) (last : Option (List ℕ)) {rows : List Row} {key : R
     next_some stored begins says =
         let it = finds_next last tables.records key rows row true key_is held begins in
         ap Some (says (it.0, it.1) it.4) ∙ ap (λ left. slice_get left 0) (sym it.3)
-
-    -- it fits where each record does
-    pub next_fits : IsFirst (rows_past key rows) row true → EachFits tables → RecordFits row
-    next_fits begins fits =
-        let it = finds_next last tables.records key rows row true key_is held begins in
-        subst RecordFits (sym it.4) (fits it.0 it.1
-        (first_there record_layout.total record_layout.exact last tables.records it.0 it.1 it.2
-        it.3))
 
 -- A record has another price, which its detail shows too if it has one.
 module _ (counted : CountedTable) (records : RecordTable) (name : List ℕ) (row : RecordRow)

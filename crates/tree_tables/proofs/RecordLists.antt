@@ -1,7 +1,7 @@
 -- The records that are not charged, as the tree of marks lists them.
 use Rattle.std.proofs.Common.{◌≡◌, ◌∙◌, ℕ, ◌==◌, ◌-◌, List, [], ◌∷◌, Bool, true, false, not}
 use Rattle.std.proofs.Common.{map, pos, refl, sym, ap, subst, arith, length}
-use Rattle.std.specs.Prelude.{◌≤◌, filter}
+use Rattle.std.specs.Prelude.{filter}
 use Rattle.std.specs.Cmp.{nat_cmp_total, tied_itself}
 use Rattle.std.specs.FinMap.{entries, entries_sorted}
 use Rattle.std.specs.FinMap.Entries.{is_sorted-where_key}
@@ -10,29 +10,26 @@ use Rattle.std.specs.List.Sorted.{IsPermutation, IsStrictlySortedBy}
 use Rattle.std.specs.Ordering.{nat_cmp, ordering_then}
 use Rattle.std.specs.declared.cmp.Ordering.TheVariants.{Less}
 use Rattle.std.proofs.lemmas.Bool.Decides.{nat_tests}
-use Rattle.std.proofs.lemmas.List.{length-map}
 use Rattle.std.proofs.lemmas.List.Elements.{All-filter, filter_agree, filter_passes}
 use Rattle.std.proofs.lemmas.List.Elements.{recursion_from_All}
-use Rattle.std.proofs.lemmas.List.Sorted.{IsPermutation-map, length_permutation}
-use Rattle.std.proofs.lemmas.List.Sums.{count_by-le-length, length-filter}
+use Rattle.std.proofs.lemmas.List.Sorted.{IsPermutation-map}
 use Rattle.sqlite_trees.proofs.ListLemmas.{IsPermutation-flat_map, filter-map, map-map}
 use Rattle.sqlite_value.specs.Order.{Row, column}
 use Rattle.sqlite_value.specs.declared.value.Value.TheVariants.{Blob, Int}
 use Rattle.book_model.proofs.SetLemmas.{keys_rise}
 use Rattle.table_model.specs.Tables.{RecordTable, Tables}
 use Rattle.tree_rows.specs.Indexes.{IsKeyOf, by_both, by_mark}
-use Rattle.tree_rows.specs.Runs.{RowsFit, run_of}
+use Rattle.tree_rows.specs.Runs.{run_of}
 use Rattle.tree_rows.proofs.IndexLists.{index_names_all, index_permutes}
 use Rattle.tree_rows.proofs.Runs.{run_numbered}
 use Rattle.tree_tables.proofs.FoundNames.{Entry, at_name, entries_named, keys_named}
-use Rattle.tree_tables.proofs.FoundNames.{named_fit, named_found, names_of, names_read, some_had}
+use Rattle.tree_tables.proofs.FoundNames.{named_found, names_of, names_read, some_had}
 use Rattle.tree_tables.proofs.Layouts.{mark_layout}
 use Rattle.tree_tables.proofs.RecordIndexes.{mark_named}
 use Rattle.table_model.specs.DisputesRead.{by_identity}
 use Rattle.tree_tables.specs.Answers.{FindsNamed, ListsUncharged}
 use Rattle.tree_tables.specs.Answers.{is_uncharged}
 use Rattle.tree_tables.specs.Columns.{flag, identity_columns, mark_columns}
-use Rattle.tree_tables.specs.Fits.{AllNamed, EndsInName, RecordsFit}
 use Rattle.tree_tables.specs.Holds.{identity_index, mark_key, marks}
 use Rattle.tree_tables.specs.Stored.{stored_entry}
 use Rattle.tree_tables.specs.declared.found_names.FoundName.{FoundName}
@@ -127,18 +124,6 @@ module _ (records : RecordTable) where
       let all = map (λ (e : Key × Unit {0}). e.0) (entries (marks records)) in
       recursion_from_All Is keys (All-filter has_none Is all (index_names_all mark_named records))
 
-  -- there are no more of them than records
-  keys_few : length keys ≤ length (entries records)
-  keys_few =
-      let test : Entry → Bool = λ e. has_none (mark_key e) in
-      let some = filter test (entries records) in
-      let same = length_permutation keys (map mark_key some)
-      (index_permutes mark_named has_none records) in
-      let mapped = length-map some mark_key in
-      let counted = length-filter test (entries records) in
-      let few = count_by-le-length test (entries records) in
-      omega (arith, same, mapped, counted, few)
-
   -- the keys are those of the records that are found by their names
   found_keys : map mark_key (flat_map (at_name records) (map name_in keys)) ≡ keys
   found_keys = keys_named mark_key name_in records keys keys_each
@@ -200,45 +185,3 @@ uncharged_found tables part names found part_is ends all =
           (found_same records);
       sorted = subst (IsStrictlySortedBy by_identity) (sym are) (found_rise records);
     }
-
--- ---- where all records fit
-
-module _ (tables : Tables) (fit : RecordsFit tables) where
-  -- a key is that of a record
-  abbrev IsKey : Key → Type 0
-  IsKey = IsKeyOf mark_key (name_in tables.records) tables.records
-
-  -- rows of keys of records end in names
-  rows_end : (es : List (Key × Unit {0})) → AllByRecursion IsKey (map (λ e. e.0) es)
-      → AllByRecursion EndsInName (map mark_columns es)
-  rows_end [] are = tt
-  rows_end (e ∷ es) are =
-      let here = are.0 in
-      ((fit.each e.0.1.1 here.0 here.1).name, rows_end es are.1)
-
-  -- so the rows of the mark 0 can be listed
-  pub marks_fit : (part : Row) → part ≡ Int (pos 0) ∷ []
-      → RowsFit EndsInName (run_of part (mark_rows tables.records))
-  marks_fit part part_is =
-      let records = tables.records in
-      let few = fit.few in
-      let mapped = length-map (listed records) mark_columns in
-      let keyed = length-map (listed records) (λ (e : Key × Unit {0}). e.0) in
-      let same = ap length (listed_keys records) in
-      let less = keys_few records in
-      subst (RowsFit EndsInName) (sym (marks_run records part part_is)) (record {
-        fit = rows_end (listed records)
-            (subst (AllByRecursion IsKey) (sym (listed_keys records)) (keys_each records));
-        few = omega (arith, few, mapped, keyed, same, less);
-      })
-
-  -- and the names that are read of them are those of records that fit
-  pub all_named : (part : Row) (names : List FoundName) → part ≡ Int (pos 0) ∷ []
-      → EndIn (run_of part (mark_rows tables.records)) names → AllNamed names tables
-  all_named part names part_is ends =
-      let records = tables.records in
-      let read : names_of names ≡ map (λ e. e.0.1.1) (listed records) =
-      names_read mark_columns (λ e. e.0.1.1) (λ e. refl) (listed records) names
-      (subst (λ some. EndIn some names) (marks_run records part part_is) ends) in
-      named_fit tables (name_in records) IsKey (λ q is. (is.0, is.1)) fit.each (keys records) names
-      (read ∙ listed_names records) (keys_each records)

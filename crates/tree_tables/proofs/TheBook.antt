@@ -22,7 +22,6 @@ use Rattle.tree_tables.proofs.Holding.{has_rows, have_but, holds_rows}
 use Rattle.tree_tables.proofs.Looking.{does_after, only_looks, rewrites_after_look}
 use Rattle.tree_tables.proofs.RowsRead.{same_count}
 use Rattle.tree_tables.specs.Columns.{book_columns}
-use Rattle.tree_tables.specs.Fits.{BookFits}
 use Rattle.tree_tables.specs.Holds.{Holds, begin_with_book, has_book}
 use Rattle.tree_tables.specs.States.{state}
 use Rattle.tree_tables.specs.Steps.{Always, Does, HasNoRows}
@@ -84,15 +83,6 @@ unfolding has_book
 book_absent trees none =
     ap (λ rows. begin_with_book (from_key plain (Int (pos 1) ∷ []) rows))
     (none.empty 0 (omega arith))
-
--- the row of a book has its numbers
-pub book_fits : (book : BookRow) → BookFits (book_columns book)
-book_fits book = record {
-  rule = (book.rule, refl);
-  adopted = (book.adopted, refl);
-  held = (book.held, refl);
-  amount = (book.amount, refl);
-}
 
 -- it is the only one, so another in its place is the only one
 pub book_changed : (rows : List Row) (book : BookRow) (row : Row) → rows ≡ book_columns book ∷ []

@@ -26,7 +26,6 @@ use Rattle.tree_rows.proofs.Maps.{prefix_of}
 use Rattle.tree_rows.proofs.Taking.{some_is}
 use Rattle.tree_tables.specs.Answers.{FindsRecord}
 use Rattle.tree_tables.specs.Columns.{flag}
-use Rattle.tree_tables.specs.Fits.{EachFits, HasHash, HasMark, IsNamed}
 use Rattle.tree_tables.specs.Holds.{mark_key, marks}
 use Rattle.tree_tables.specs.LateRecords.{FindsUnchargedLeft, IsNextUncharged, SaysUnchargedName}
 use Rattle.tree_tables.specs.LateRecords.{comes_next, is_uncharged_left, mark_start}
@@ -150,18 +149,6 @@ module _ (last : Option LateRecord) (tables : Tables) {rows : List Row} {key : R
       name_is : column row 2 ≡ Blob mark.1.1
       name_is = ap (λ (r : Row). column r 2) found.3
 
-      -- so the row can be read
-      pub has_mark : HasMark (column row 0)
-      has_mark = (
-        its_record.0.charged,
-        ap (λ (r : Row). column r 0) found.3
-            ∙ ap (λ (k : Key). Int (pos k.0)) (sym its_record.2),
-      )
-
-      pub has_name : EachFits tables → HasHash (column row 2)
-      has_name fit =
-          subst HasHash (sym name_is) (fit mark.1.1 its_record.0 its_record.1).name
-
       -- what the row says of the mark
       same_mark : (n : ℕ) → column row 0 ≡ Int (pos n) → mark.0 ≡ n
       same_mark n says =
@@ -219,10 +206,6 @@ module _ (last : Option LateRecord) (tables : Tables) (name : List ℕ)
       subst (IsNextUncharged last tables)
       (sym (some_is (stored_entry stored) (name, next.0)
       (found ∙ ap (option_map (λ (row : RecordRow). (name, row))) next.1.there))) next.1
-
-  -- which fits where each does
-  pub uncharged_named : EachFits tables → IsNamed name tables
-  uncharged_named fit = (next.0, next.1.there, fit name next.0 next.1.there)
 
 -- a look at the marks that has found one and read its name
 pub uncharged_looked : {S : Type 0} (ghosts : Ghosts S) (old new : S) (last : Option LateRecord)

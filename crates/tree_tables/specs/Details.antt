@@ -9,11 +9,10 @@ use Rattle.sqlite_value.specs.declared.value.Value.TheVariants.{Blob, Int, Text}
 use Rattle.tariff_rules.specs.declared.priced.Priced.{Priced}
 use Rattle.book_model.specs.Words.{by_bytes, by_detail}
 use Rattle.book_model.specs.declared.detail.Detail.{Detail}
-use Rattle.table_model.specs.DetailsRead.{FindsLeast, IsDetail, detail_shown}
+use Rattle.table_model.specs.DetailsRead.{FindsLeast, detail_shown}
 use Rattle.table_model.specs.Tables.{RecordRow, Tables}
 use Rattle.tree_rows.specs.Rows.{Replaces}
 use Rattle.tree_tables.specs.Columns.{detail_columns}
-use Rattle.tree_tables.specs.Fits.{DetailFits}
 use Rattle.tree_tables.specs.Stored.{priced_entry, stored_entry}
 use Rattle.tree_tables.specs.declared.detail_rows.DetailStart.{DetailStart}
 use Rattle.tree_tables.specs.declared.detail_rows.DetailStart.TheVariants.{After, Centre, Day, First}
@@ -57,8 +56,3 @@ abbrev pub PricesDetail : View → View → StoredRecord → Priced → Type 0
 PricesDetail old new stored priced =
     Replaces old new 10 (shown_columns (stored_entry stored))
     (shown_columns (priced_entry stored priced))
-
--- all details fit
-abbrev pub DetailsFit : Tables → Type 0
-DetailsFit tables =
-    (detail : Detail) → IsDetail tables detail → DetailFits (detail_columns (detail, tt))

@@ -1,20 +1,13 @@
 -- Rows with the columns of a value: a row that fits is refused for a lack of memory alone.
-use Rattle.std.specs.Prelude.{◌≡◌, ◌≤◌, ◌<◌, ◌-◌, ◌^◌, ℕ, ℤ, pos, List, Bool, Option, Some, length}
-use Rattle.std.specs.Prelude.{IfSome, map}
-use Rattle.std.specs.FinMap.{entries, get}
-use Rattle.std.specs.List.{AllByRecursion}
+use Rattle.std.specs.Prelude.{◌≡◌, ◌<◌, ◌-◌, ◌^◌, ℕ, ℤ, pos, List, Bool, Option, length}
+use Rattle.std.specs.Prelude.{IfSome}
 use Rattle.std.specs.Str.{IsUtf8}
 use Rattle.sqlite_value.specs.Order.{Row, column}
 use Rattle.sqlite_value.specs.declared.value.Value.{Value}
 use Rattle.sqlite_value.specs.declared.value.Value.TheVariants.{Blob, Int, Text}
 use Rattle.book_model.specs.Words.{IsDay, IsName}
-use Rattle.table_model.specs.PeriodRows.{rows_under}
-use Rattle.table_model.specs.Tables.{ChoiceRow, RecordRow, Tables}
-use Rattle.tree_rows.specs.Runs.{RowsFit}
-use Rattle.tree_tables.specs.Columns.{choice_columns, day_columns, flag, line_columns}
-use Rattle.tree_tables.specs.Columns.{record_columns, step_value}
-use Rattle.tree_tables.specs.declared.chosen_numbers.ChosenNumber.{ChosenNumber}
-use Rattle.tree_tables.specs.declared.found_names.FoundName.{FoundName}
+use Rattle.tree_tables.specs.Columns.{flag}
+use Rattle.tree_tables.specs.Columns.{step_value}
 
 -- a column has a number that is not below 0
 abbrev pub HasCount : Value → Type 0
@@ -147,61 +140,6 @@ pub record MarkFits (row : Row) : Type 0 where
 abbrev pub EndsInName : Row → Type 0
 EndsInName row = HasHash (column row (length row - 1))
 
--- the choices fit
-abbrev pub ChoicesFit : Tables → Type 0
-ChoicesFit tables = RowsFit ChoiceFits (map choice_columns (entries tables.choices))
-
--- a number is that of a choice, which fits
-abbrev pub IsNumbered : ℕ → Tables → Type 0
-IsNumbered number tables =
-    (row : ChoiceRow) × (get tables.choices number ≡ Some row) × ChoiceFits (choice_columns (number, row))
-
--- the choice of a number, if there is one, fits
-abbrev pub NumberedFits : ℕ → Tables → Type 0
-NumberedFits number tables =
-    (row : ChoiceRow) → get tables.choices number ≡ Some row → ChoiceFits (choice_columns (number, row))
-
 -- a row has the number of a choice, after the name of its record
 abbrev pub HasNumber : Row → Type 0
 HasNumber row = HasChoiceNumber (column row 1)
-
--- each of some numbers is that of a choice, which fits
-abbrev pub AllNumbered : List ChosenNumber → Tables → Type 0
-AllNumbered numbers tables = AllByRecursion (λ one. IsNumbered one.number tables) numbers
-
--- each choice fits, and they are no more than are listed at once
-pub record ChosenFit (tables : Tables) : Type 0 where
-  pub each : (number : ℕ) → NumberedFits number tables
-  pub few : length (entries tables.choices) ≤ 2 ^ 32
-
--- the charge rows of a period fit
-abbrev pub DaysFit : ℕ → Tables → Type 0
-DaysFit period tables = RowsFit ChargeFits (map day_columns (rows_under period tables.days))
-
--- the lines of a period fit
-abbrev pub LinesFit : ℕ → Tables → Type 0
-LinesFit period tables = RowsFit LineFits (map line_columns (rows_under period tables.lines))
-
--- the record of a name, if there is one, fits
-abbrev pub NamedFits : List ℕ → Tables → Type 0
-NamedFits name tables =
-    (row : RecordRow) → get tables.records name ≡ Some row → RecordFits (record_columns (name, row))
-
--- a name is that of a record, which fits
-abbrev pub IsNamed : List ℕ → Tables → Type 0
-IsNamed name tables =
-    (row : RecordRow) × (get tables.records name ≡ Some row) × RecordFits (record_columns (name, row))
-
--- each record fits
-abbrev pub EachFits : Tables → Type 0
-EachFits tables = (name : List ℕ) → NamedFits name tables
-
--- each of some names is that of a record, which fits
-abbrev pub AllNamed : List FoundName → Tables → Type 0
-AllNamed names tables =
-    AllByRecursion (λ named. IsNamed named.name tables) names
-
--- all records fit, and they are no more than are listed at once
-pub record RecordsFit (tables : Tables) : Type 0 where
-  pub each : EachFits tables
-  pub few : length (entries tables.records) ≤ 2 ^ 32

@@ -13,8 +13,7 @@ use Rattle.table_model.specs.DisputesRead.{by_identity}
 use Rattle.table_model.specs.Tables.{RecordRow, Tables}
 use Rattle.tree_tables.specs.Answers.{is_uncharged}
 use Rattle.tree_tables.specs.Columns.{flag}
-use Rattle.tree_tables.specs.Details.{DetailsFit, is_reached}
-use Rattle.tree_tables.specs.Fits.{EachFits}
+use Rattle.tree_tables.specs.Details.{is_reached}
 use Rattle.tree_tables.specs.Stored.{IsAsRead, stored_entry}
 use Rattle.tree_tables.specs.declared.detail_rows.DetailStart.{DetailStart}
 use Rattle.tree_tables.specs.declared.detail_rows.DetailStart.TheVariants.{After, Day}
@@ -119,8 +118,3 @@ FindsLate first last tables None =
     (entry : List ℕ × RecordRow) → get tables.records entry.0 ≡ Some entry.1
     → is_left first last tables entry ≡ false
 FindsLate first last tables (Some late) = IsNextLate first last tables late
-
--- all records and all details fit
-pub record LateFit (tables : Tables) : Type 0 where
-  pub records : EachFits tables
-  pub details : DetailsFit tables

@@ -1,18 +1,16 @@
 -- What a look at the tables answers, and what a step inside the transaction does to them.
-use Rattle.std.specs.Prelude.{◌≡◌, ◌<◌, [], ℕ, List, false, IfErr, IfOk, IsTrue, OnErr, OnOk, Result}
+use Rattle.std.specs.Prelude.{◌≡◌, ◌<◌, [], ℕ, List, false, IfOk, IsTrue, OnErr, OnOk, Result}
 use Rattle.std.specs.Prelude.{Vec}
 use Rattle.std.specs.Global.{Global}
 use Rattle.std.specs.List.{AllZip}
-use Rattle.sqlite_disk.specs.Disk.{MoreFaults}
 use Rattle.sqlite_trees.specs.Tree.{Trees}
-use Rattle.sqlite_trees.specs.View.{View, HasCause, KeepsCommitted, OnlyWrites}
+use Rattle.sqlite_trees.specs.View.{View, KeepsCommitted, OnlyWrites}
 use Rattle.sqlite_trees.specs.declared.error.StoreError.{StoreError}
 use Rattle.sqlite_value.specs.Order.{Row}
 use Rattle.table_model.specs.TablesAfter.{new_tables}
 use Rattle.table_model.specs.Tables.{Tables}
 use Rattle.tree_rows.specs.Rows.{IsUnchanged}
-use Rattle.tree_rows.specs.Runs.{RowsFit}
-use Rattle.tree_tables.specs.Holds.{Holds, has_book, tree_count}
+use Rattle.tree_tables.specs.Holds.{Holds, tree_count}
 use Rattle.tree_tables.specs.States.{State, HasCleanDisk, Survives}
 
 -- this is said of the tables, which are left alone
@@ -29,24 +27,6 @@ pub record Looks {A : Type 0} (result : Result A StoreError) (old new : State)
       → IfOk result (λ answer. Sees old.view new.view (λ tables. Answers tables answer))
   pub refused : HasCleanDisk new → OnErr result (KeepsCommitted old.view new.view)
 
--- why a look failed: memory ran out, or the disk failed or refused meanwhile; or the store was
--- broken before
-abbrev pub IsCaused : State → State → StoreError → Type 0
-IsCaused old new = HasCause old.view (MoreFaults old.faults new.faults) ⊥
-
--- where the premise holds of the tables, a look fails for a cause of the store alone
-abbrev pub FailsByStore : {A : Type 0} → Result A StoreError → State → State → (Tables → Type 0)
-    → Type 0
-FailsByStore result old new When =
-    IfErr result (λ error. HasCleanDisk new → (tables : Tables) → Holds old.view.trees tables
-    → When tables → IsCaused old new error)
-
--- where the row of the book is not there, it does too
-abbrev pub FailsWithoutBook : {A : Type 0} → Result A StoreError → State → State → Type 0
-FailsWithoutBook result old new =
-    IfErr result (λ error. HasCleanDisk new → has_book old.view.trees ≡ false
-    → IsCaused old new error)
-
 -- the tree has these rows of the tables that are held
 abbrev pub HasRowsOf : View → ℕ → (Tables → List Row) → Type 0
 HasRowsOf view tree rows =
@@ -58,13 +38,6 @@ abbrev pub ReadsTree : {A : Type 0} → Result (Vec A Global) StoreError → Sta
 ReadsTree result old new tree Says =
     (rows : Tables → List Row) → HasRowsOf old.view tree rows
     → Looks result old new (λ tables all. AllZip Says (rows tables) all.items)
-
--- where all rows of the tree fit, it fails for a cause of the store alone
-abbrev pub FailsToRead : {A : Type 0} → Result A StoreError → State → State → ℕ
-    → (Row → Type 0) → Type 0
-FailsToRead result old new tree Fits =
-    (rows : Tables → List Row) → HasRowsOf old.view tree rows
-    → FailsByStore result old new (λ tables. RowsFit Fits (rows tables))
 
 -- tables that the premise holds of are changed so, and nothing else is
 pub record Changes (old new : View) (When : Tables → Type 0) (change : Tables → Tables) : Type 0
@@ -95,10 +68,6 @@ pub record Makes {T : Type 0} (result : Result T StoreError) (old new : State) :
   pub done : HasCleanDisk new → OnOk result (OnlyWrites old.view new.view
       × (HasNoRows old.view.trees → Holds new.view.trees new_tables))
   pub refused : HasCleanDisk new → OnErr result (KeepsCommitted old.view new.view)
-
--- no column of a tree has the type REAL, which whole numbers cannot be stored under
-abbrev pub HasNoReals : View → ℕ → Type 0
-HasNoReals view tree = view.reals tree ≡ 0
 
 -- the last commit stays, as long as the store is open
 pub record KeepsLastCommit (old new : View) : Type 0 where

@@ -122,24 +122,20 @@ fn with_rule(book: &StoredBook, rule: u64, period: u16) -> StoredBook
 }
 
 impl<S: Store> TreeTables<S> {
-    ghost use Rattle.std.specs.Prelude.{◌≡◌, ◌<◌, ◌^◌, is_some, IfErr, IfOk};
+    ghost use Rattle.std.specs.Prelude.{◌≡◌, ◌<◌, ◌^◌, is_some, IfOk};
     ghost use Rattle.table_model.specs.Steps as step;
     ghost use Rattle.tree_tables.specs.Answers.{FindsBook};
     ghost use Rattle.tree_tables.specs.Holds.{has_book};
     ghost use Rattle.tree_tables.specs.States.{HasCleanDisk, state_of};
-    ghost use Rattle.tree_tables.specs.Steps.{Always, Does, FailsByStore, FailsWithoutBook, Looks};
-    ghost use Rattle.tree_tables.specs.Steps.{HasNoReals, IsCaused, Makes};
+    ghost use Rattle.tree_tables.specs.Steps.{Always, Does, Looks, Makes};
 
     /// The row of the book, if it is there.
-    #[tactic(auto, using(crate::proofs::Looking::caused_memory))]
     pub fn find_book(&mut self) -> Result<Option<StoredBook>, StoreError>
         ensures looks { Looks result (state_of self.old) (state_of self.new) FindsBook }
-        ensures cause { FailsByStore result (state_of self.old) (state_of self.new) Always }
 
         // Whatever the trees hold, it says whether the row is there.
         ensures row { IfOk result (λ found. HasCleanDisk (state_of self.new)
             → is_some found ≡ has_book (state_of self.old).view.trees) }
-        ensures absent { FailsWithoutBook result (state_of self.old) (state_of self.new) }
     {
         number_key(&mut self.key, FIRST)?;
         if !find_row(&mut self.store, BOOK, &self.key, &mut self.row)? {
@@ -149,14 +145,8 @@ impl<S: Store> TreeTables<S> {
     }
 
     /// The row of new books joins trees that have no rows.
-    #[tactic(auto, using(crate::proofs::Looking::caused_memory))]
     pub fn make_book(&mut self) -> Result<(), StoreError>
         ensures makes { Makes result (state_of self.old) (state_of self.new) }
-
-        // Where no column is made for real numbers, it can be stored.
-        ensures cause { IfErr result (λ error. HasCleanDisk (state_of self.new)
-            → HasNoReals (state_of self.old).view 0
-            → IsCaused (state_of self.old) (state_of self.new) error) }
     {
         let book = StoredBook {
             rule: FIRST_RULE,

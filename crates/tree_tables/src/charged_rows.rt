@@ -27,16 +27,14 @@ fn charged_key(key: &mut Row, identity: &[u8]) -> Result<(), StoreError>
 }
 
 impl<S: Store> TreeTables<S> {
-    ghost use Rattle.std.specs.Prelude.{IfErr, IfOk, OnErr, OnOk};
+    ghost use Rattle.std.specs.Prelude.{IfOk, OnErr, OnOk};
     ghost use Rattle.sqlite_trees.specs.View.{IsClean};
-    ghost use Rattle.tree_rows.specs.Calls.{CommitsNothing, IsCausedByStore, LeavesCommitted};
-    ghost use Rattle.tree_rows.specs.Calls.{OnlyLooks};
+    ghost use Rattle.tree_rows.specs.Calls.{CommitsNothing, LeavesCommitted, OnlyLooks};
     ghost use Rattle.tree_rows.specs.Rows.{IsFirst};
     ghost use Rattle.tree_rows.specs.Runs.{run_of};
     ghost use Rattle.tree_tables.specs.Answers.{FindsCharged, HasCharged};
-    ghost use Rattle.tree_tables.specs.Fits.{EachFits};
     ghost use Rattle.tree_tables.specs.States.{state_of};
-    ghost use Rattle.tree_tables.specs.Steps.{Always, FailsByStore, Looks};
+    ghost use Rattle.tree_tables.specs.Steps.{Looks};
 
     /// Writes the first mark of a charged record that has the identity over `row`, or answers that
     /// there is none.
@@ -46,7 +44,6 @@ impl<S: Store> TreeTables<S> {
             ((S.Store.view self.old.store).trees MARKS)) self.new.row there) }
         ensures same { OnOk result (OnlyLooks S.Store self.old.store self.new.store) }
         ensures kept { OnErr result (LeavesCommitted S.Store self.old.store self.new.store) }
-        ensures cause { IfErr result (IsCausedByStore S.Store self.old.store self.new.store) }
         ensures quiet { CommitsNothing S.Store self.old.store self.new.store }
     {
         charged_key(&mut self.key, identity)?;
@@ -57,7 +54,6 @@ impl<S: Store> TreeTables<S> {
     pub fn has_charged(&mut self, identity: &[u8]) -> Result<bool, StoreError>
         ensures looks { Looks result (state_of self.old) (state_of self.new)
             (HasCharged identity.now) }
-        ensures cause { FailsByStore result (state_of self.old) (state_of self.new) Always }
     {
         self.find_mark(identity)
     }
@@ -71,7 +67,6 @@ impl<S: Store> TreeTables<S> {
     ) -> Result<Option<StoredRecord>, StoreError>
         ensures looks { Looks result (state_of self.old) (state_of self.new)
             (FindsCharged identity.now) }
-        ensures cause { FailsByStore result (state_of self.old) (state_of self.new) EachFits }
     {
         if !self.find_mark(identity)? {
             return Ok(None);

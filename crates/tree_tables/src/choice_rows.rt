@@ -72,16 +72,14 @@ impl ReadRow for StoredChoice {
 }
 
 impl<S: Store> TreeTables<S> {
-    ghost use Rattle.std.specs.Prelude.{◌≡◌, ◌<◌, ◌^◌, None};
+    ghost use Rattle.std.specs.Prelude.{◌≡◌, None};
     ghost use Rattle.std.specs.FinMap.{get};
     ghost use Rattle.table_model.specs.Steps as step;
     ghost use Rattle.std.specs.Prelude.{Some};
     ghost use Rattle.tree_tables.specs.Answers.{FindsChoice, HasChoice, ListsChoices, ListsChosen};
     ghost use Rattle.tree_tables.specs.Answers.{FindsNumbered, last_number};
-    ghost use Rattle.tree_tables.specs.Fits.{AllNumbered, ChoicesFit, ChosenFit, IsNumbered};
-    ghost use Rattle.tree_tables.specs.Fits.{NumberedFits};
     ghost use Rattle.tree_tables.specs.States.{state_of};
-    ghost use Rattle.tree_tables.specs.Steps.{Always, Does, FailsByStore, Looks};
+    ghost use Rattle.tree_tables.specs.Steps.{Does, Looks};
 
     /// A record that was chosen, by its name, and the period that was open then are kept under the
     /// number of the choice, which is new, and the choice is found by the name. What is under the
@@ -101,18 +99,14 @@ impl<S: Store> TreeTables<S> {
     /// many there are.
     pub fn has_choice(&mut self, name: &[u8]) -> Result<bool, StoreError>
         ensures looks { Looks result (state_of self.old) (state_of self.new) (HasChoice name.now) }
-        ensures cause { FailsByStore result (state_of self.old) (state_of self.new) Always }
     {
         bytes_key(&mut self.key, name)?;
         find_row(&mut self.store, CHOICE_NAMES, &self.key, &mut self.row)
     }
 
     /// The choice of a number, if there is one: one look, however many there are.
-    #[tactic(auto, using(crate::proofs::Looking::caused_memory))]
     pub fn find_choice(&mut self, number: u32) -> Result<Option<StoredChoice>, StoreError>
         ensures looks { Looks result (state_of self.old) (state_of self.new) (FindsChoice number) }
-        ensures cause { FailsByStore result (state_of self.old) (state_of self.new)
-            (NumberedFits number) }
     {
         choice_key(&mut self.key, number)?;
         if !find_row(&mut self.store, CHOICES, &self.key, &mut self.row)? {
@@ -125,8 +119,6 @@ impl<S: Store> TreeTables<S> {
     fn choice_numbered(&mut self, number: u32) -> Result<StoredChoice, StoreError>
         ensures looks { Looks result (state_of self.old) (state_of self.new)
             (λ tables stored. FindsChoice number tables (Some stored)) }
-        ensures cause { FailsByStore result (state_of self.old) (state_of self.new)
-            (IsNumbered number) }
     {
         let Some(choice) = self.find_choice(number)? else {
             return Err(StoreError::Corrupt);
@@ -142,8 +134,6 @@ impl<S: Store> TreeTables<S> {
     ) -> Result<Vec<StoredChoice>, StoreError>
         ensures looks { Looks result (state_of self.old) (state_of self.new)
             (λ tables found. FindsNumbered numbers.now tables found.items) }
-        ensures cause { FailsByStore result (state_of self.old) (state_of self.new)
-            (AllNumbered numbers.now) }
     {
         let mut all = Vec::new(alloc);
         for one in numbers {
@@ -155,7 +145,6 @@ impl<S: Store> TreeTables<S> {
 
     /// The choices that name the record of a name, by their numbers: they are found by the name,
     /// and no others are read.
-    #[tactic(auto, using(crate::proofs::Looking::caused_memory))]
     pub fn list_chosen(
         &mut self,
         alloc: Global,
@@ -163,7 +152,6 @@ impl<S: Store> TreeTables<S> {
     ) -> Result<Vec<StoredChoice>, StoreError>
         ensures looks { Looks result (state_of self.old) (state_of self.new)
             (λ tables list. ListsChosen name.now tables list.items) }
-        ensures cause { FailsByStore result (state_of self.old) (state_of self.new) ChosenFit }
     {
         bytes_key(&mut self.key, name)?;
         let numbers = list_run(
@@ -180,7 +168,6 @@ impl<S: Store> TreeTables<S> {
     pub fn list_choices(&mut self, alloc: Global) -> Result<Vec<StoredChoice>, StoreError>
         ensures looks { Looks result (state_of self.old) (state_of self.new)
             (λ tables list. ListsChoices tables list.items) }
-        ensures cause { FailsByStore result (state_of self.old) (state_of self.new) ChoicesFit }
     {
         self.list_all(CHOICES, alloc)
     }
@@ -190,8 +177,6 @@ impl<S: Store> TreeTables<S> {
     pub fn last_choice(&mut self) -> Result<u32, StoreError>
         ensures looks { Looks result (state_of self.old) (state_of self.new)
             (λ tables number. number ≡ last_number tables.choices) }
-        ensures cause { FailsByStore result (state_of self.old) (state_of self.new)
-            (λ tables. last_number tables.choices < 2 ^ 32) }
     {
         if !last_row(&mut self.store, CHOICES, &mut self.row)? {
             return Ok(0);

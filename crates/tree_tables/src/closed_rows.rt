@@ -59,14 +59,9 @@ impl ReadRow for Close {
 
 impl<S: Store> TreeTables<S> {
     ghost use Rattle.table_model.specs.Steps as step;
-    ghost use Rattle.tree_rows.specs.Runs.{RowsFit};
     ghost use Rattle.tree_tables.specs.Answers.{ListsCloses};
     ghost use Rattle.tree_tables.specs.States.{state_of};
-    ghost use Rattle.tree_tables.specs.Steps.{Always, Does, FailsByStore, Looks};
-    ghost use Rattle.std.specs.FinMap.{entries};
-    ghost use Rattle.std.specs.Prelude.{map};
-    ghost use Rattle.tree_tables.specs.Columns.{closed_columns};
-    ghost use Rattle.tree_tables.specs.Fits.{CloseFits};
+    ghost use Rattle.tree_tables.specs.Steps.{Always, Does, Looks};
 
     /// The day of a close is kept under its period.
     pub fn put_close(&mut self, close: &Close) -> Result<(), StoreError>
@@ -88,8 +83,6 @@ impl<S: Store> TreeTables<S> {
     pub fn list_closes(&mut self, alloc: Global) -> Result<Vec<Close>, StoreError>
         ensures looks { Looks result (state_of self.old) (state_of self.new)
             (λ tables list. ListsCloses tables list.items) }
-        ensures cause { FailsByStore result (state_of self.old) (state_of self.new)
-            (λ tables. RowsFit CloseFits (map closed_columns (entries tables.closes))) }
     {
         self.list_all(CLOSES, alloc)
     }

@@ -187,9 +187,8 @@ impl<S: Store> TreeTables<S> {
     ghost use Rattle.table_model.specs.Steps as step;
     ghost use Rattle.tree_tables.specs.Answers.{FindsDay, ListsDays};
     ghost use Rattle.tree_tables.specs.Days.{MovesSome, NoneLater, NoneNext};
-    ghost use Rattle.tree_tables.specs.Fits.{DaysFit};
     ghost use Rattle.tree_tables.specs.States.{state_of};
-    ghost use Rattle.tree_tables.specs.Steps.{Does, FailsByStore, Looks};
+    ghost use Rattle.tree_tables.specs.Steps.{Does, Looks};
 
     /// A period's charge row at a place, if there is one.
     pub fn find_day(&mut self, spot: &DayKey) -> Result<Option<ChargeRow>, StoreError>
@@ -204,12 +203,9 @@ impl<S: Store> TreeTables<S> {
     }
 
     /// The charge rows of a period, by day, then centre, then shift.
-    #[tactic(auto, using(crate::proofs::Looking::caused_memory))]
     pub fn list_days(&mut self, alloc: Global, period: u16) -> Result<Vec<ChargeRow>, StoreError>
         ensures looks { Looks result (state_of self.old) (state_of self.new)
             (λ tables list. ListsDays period tables list.items) }
-        ensures cause { FailsByStore result (state_of self.old) (state_of self.new)
-            (DaysFit period) }
     {
         period_key(&mut self.key, period)?;
         let days = list_run(&mut self.store, DAYS, &self.key, &mut self.row, alloc)?;

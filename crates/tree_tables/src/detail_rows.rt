@@ -155,16 +155,14 @@ fn start_key(key: &mut Row, start: &DetailStart) -> Result<(), StoreError>
 }
 
 impl<S: Store> TreeTables<S> {
-    ghost use Rattle.tree_tables.specs.Details.{DetailsFit, FindsDetail};
+    ghost use Rattle.tree_tables.specs.Details.{FindsDetail};
     ghost use Rattle.tree_tables.specs.States.{state_of};
-    ghost use Rattle.tree_tables.specs.Steps.{FailsByStore, Looks};
+    ghost use Rattle.tree_tables.specs.Steps.{Looks};
 
     /// The first detail from a start on, if there is one: one look.
-    #[tactic(auto, using(crate::proofs::Looking::caused_memory))]
     pub fn next_detail(&mut self, start: &DetailStart) -> Result<Option<Detail>, StoreError>
         ensures looks { Looks result (state_of self.old) (state_of self.new)
             (FindsDetail start.now) }
-        ensures cause { FailsByStore result (state_of self.old) (state_of self.new) DetailsFit }
     {
         start_key(&mut self.key, start)?;
         if !first_from(&mut self.store, DETAILS, &self.key, &mut self.row)? {

@@ -37,15 +37,12 @@ impl<S: Store> TreeTables<S> {
     ghost use Rattle.std.specs.Prelude.{Some};
     ghost use Rattle.tree_tables.specs.Answers.{FindsNamed, FindsRecord};
     ghost use Rattle.tree_tables.specs.States.{state_of};
-    ghost use Rattle.tree_tables.specs.Fits.{AllNamed, IsNamed};
-    ghost use Rattle.tree_tables.specs.Steps.{FailsByStore, Looks};
+    ghost use Rattle.tree_tables.specs.Steps.{Looks};
 
     /// The record of a name that a row says. Where there is none, it is an error: `Corrupt`.
     pub fn record_named(&mut self, alloc: Global, name: &[u8]) -> Result<StoredRecord, StoreError>
         ensures looks { Looks result (state_of self.old) (state_of self.new)
             (λ tables stored. FindsRecord name.now tables (Some stored)) }
-        ensures cause { FailsByStore result (state_of self.old) (state_of self.new)
-            (IsNamed name.now) }
     {
         let Some(record) = self.find_record(alloc, name)? else {
             return Err(StoreError::Corrupt);
@@ -61,8 +58,6 @@ impl<S: Store> TreeTables<S> {
     ) -> Result<Vec<StoredRecord>, StoreError>
         ensures looks { Looks result (state_of self.old) (state_of self.new)
             (λ tables found. FindsNamed names.now tables found.items) }
-        ensures cause { FailsByStore result (state_of self.old) (state_of self.new)
-            (AllNamed names.now) }
     {
         let mut all = Vec::new(alloc);
         for named in names {

@@ -43,13 +43,11 @@ fn read_uncharged(row: &Row, alloc: Global) -> Result<Option<Vec<u8>>, StoreErro
 
 impl<S: Store> TreeTables<S> {
     ghost use Rattle.tree_tables.specs.Answers.{FindsUncharged, ListsSharing};
-    ghost use Rattle.tree_tables.specs.Fits.{RecordsFit};
     ghost use Rattle.tree_tables.specs.States.{state_of};
-    ghost use Rattle.tree_tables.specs.Steps.{Always, FailsByStore, Looks};
+    ghost use Rattle.tree_tables.specs.Steps.{Looks};
 
     /// The least identity that is these bytes or comes after them, of the identities of records
     /// that are not charged: one look, however many there are.
-    #[tactic(auto, using(crate::proofs::Looking::caused_memory))]
     pub fn find_uncharged(
         &mut self,
         alloc: Global,
@@ -57,7 +55,6 @@ impl<S: Store> TreeTables<S> {
     ) -> Result<Option<Vec<u8>>, StoreError>
         ensures looks { Looks result (state_of self.old) (state_of self.new)
             (FindsUncharged from.now) }
-        ensures cause { FailsByStore result (state_of self.old) (state_of self.new) Always }
     {
         uncharged_key(&mut self.key, from)?;
         if !first_from(&mut self.store, MARKS, &self.key, &mut self.row)? {
@@ -67,7 +64,6 @@ impl<S: Store> TreeTables<S> {
     }
 
     /// All records that have an identity, by name.
-    #[tactic(auto, using(crate::proofs::Looking::caused_memory))]
     pub fn list_sharing(
         &mut self,
         alloc: Global,
@@ -75,7 +71,6 @@ impl<S: Store> TreeTables<S> {
     ) -> Result<Vec<StoredRecord>, StoreError>
         ensures looks { Looks result (state_of self.old) (state_of self.new)
             (λ tables list. ListsSharing identity.now tables list.items) }
-        ensures cause { FailsByStore result (state_of self.old) (state_of self.new) RecordsFit }
     {
         bytes_key(&mut self.key, identity)?;
         let names = list_run(&mut self.store, IDENTITIES, &self.key, &mut self.row, alloc)?;

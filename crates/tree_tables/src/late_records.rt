@@ -70,15 +70,12 @@ fn read_uncharged_name(row: &Row) -> Result<Option<[u8; 32]>, StoreError>
 }
 
 impl<S: Store> TreeTables<S> {
-    ghost use Rattle.tree_tables.specs.Fits.{EachFits};
     ghost use Rattle.tree_tables.specs.LateRecords.{FindsCounted, FindsLate, FindsUnchargedLeft};
-    ghost use Rattle.tree_tables.specs.LateRecords.{LateFit};
     ghost use Rattle.tree_tables.specs.States.{state_of};
-    ghost use Rattle.tree_tables.specs.Steps.{FailsByStore, Looks};
+    ghost use Rattle.tree_tables.specs.Steps.{Looks};
 
     /// The next of the records that are not charged, by identity and name: one look for its name,
     /// and one for the record.
-    #[tactic(auto, using(crate::proofs::Looking::caused_memory))]
     fn next_uncharged(
         &mut self,
         alloc: Global,
@@ -86,7 +83,6 @@ impl<S: Store> TreeTables<S> {
     ) -> Result<Option<StoredRecord>, StoreError>
         ensures looks { Looks result (state_of self.old) (state_of self.new)
             (FindsUnchargedLeft last.now) }
-        ensures cause { FailsByStore result (state_of self.old) (state_of self.new) EachFits }
     {
         mark_key(&mut self.key, last)?;
         if !first_from(&mut self.store, MARKS, &self.key, &mut self.row)? {
@@ -106,7 +102,6 @@ impl<S: Store> TreeTables<S> {
     ) -> Result<Option<LateRecord>, StoreError>
         ensures looks { Looks result (state_of self.old) (state_of self.new)
             (FindsCounted start.now) }
-        ensures cause { FailsByStore result (state_of self.old) (state_of self.new) LateFit }
     {
         let Some(detail) = self.next_detail(start)? else {
             return Ok(None);
@@ -128,7 +123,6 @@ impl<S: Store> TreeTables<S> {
     ) -> Result<Option<LateRecord>, StoreError>
         ensures looks { Looks result (state_of self.old) (state_of self.new)
             (FindsLate first last.now) }
-        ensures cause { FailsByStore result (state_of self.old) (state_of self.new) LateFit }
     {
         if let Some(start) = next_start(last) {
             return self.next_counted(alloc, &start);

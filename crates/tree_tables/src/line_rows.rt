@@ -101,10 +101,8 @@ impl<S: Store> TreeTables<S> {
     ghost use Rattle.table_model.specs.Steps as step;
     ghost use Rattle.tree_tables.specs.Answers.{FindsLine, ListsLines};
     ghost use Rattle.tree_tables.specs.States.{state_of};
-    ghost use Rattle.tree_tables.specs.Fits.{LinesFit};
-    ghost use Rattle.tree_tables.specs.Steps.{Always, Does, FailsByStore, Looks};
+    ghost use Rattle.tree_tables.specs.Steps.{Always, Does, Looks};
     ghost use Rattle.table_model.specs.PeriodLists.{line_read};
-    ghost use Rattle.tree_tables.specs.UsageData.{EachReads};
 
     /// A line is kept under its period and the name of its record: it adds the record, or reverses
     /// it.
@@ -134,11 +132,9 @@ impl<S: Store> TreeTables<S> {
 
     /// Whether a period's line for a record, if there is one, adds the record: one look, however
     /// many lines there are.
-    #[tactic(auto, using(crate::proofs::Looking::caused_memory))]
     pub fn find_line(&mut self, spot: &LineKey<'_>) -> Result<Option<bool>, StoreError>
         ensures looks { Looks result (state_of self.old) (state_of self.new)
             (FindsLine spot.now.period spot.now.name.now) }
-        ensures cause { FailsByStore result (state_of self.old) (state_of self.new) Always }
     {
         line_key(&mut self.key, spot)?;
         if !find_row(&mut self.store, LINES, &self.key, &mut self.row)? {
@@ -149,12 +145,9 @@ impl<S: Store> TreeTables<S> {
     }
 
     /// The lines of a period, by name.
-    #[tactic(auto, using(crate::proofs::Looking::caused_memory))]
     pub fn list_lines(&mut self, alloc: Global, period: u16) -> Result<Vec<StoredLine>, StoreError>
         ensures looks { Looks result (state_of self.old) (state_of self.new)
             (λ tables list. ListsLines period tables list.items) }
-        ensures cause { FailsByStore result (state_of self.old) (state_of self.new)
-            (LinesFit period) }
     {
         period_key(&mut self.key, period)?;
         list_run(&mut self.store, LINES, &self.key, &mut self.row, alloc)
@@ -162,12 +155,10 @@ impl<S: Store> TreeTables<S> {
 
     /// The line that a stored line makes with the record of its name, if there is one: neither the
     /// identity nor the data of the record is copied out of its row.
-    #[tactic(auto, using(crate::proofs::Looking::caused_memory))]
     pub fn read_line(&mut self, stored: &StoredLine) -> Result<Option<Line>, StoreError>
         ensures looks { Looks result (state_of self.old) (state_of self.new)
             (λ tables line.
             line ≡ line_read tables.records ((0, stored.now.name), stored.now.plus)) }
-        ensures cause { FailsByStore result (state_of self.old) (state_of self.new) EachReads }
     {
         bytes_key(&mut self.key, &stored.name)?;
         if !find_row(&mut self.store, RECORDS, &self.key, &mut self.before)? {

@@ -142,12 +142,10 @@ impl<S: Store> TreeTables<S> {
     ghost use Rattle.tree_tables.specs.Answers.{CountsSharing, FindsRecord, ListsUncharged};
     ghost use Rattle.tree_tables.specs.Answers.{NamesSharing};
     ghost use Rattle.tree_tables.specs.States.{state_of};
-    ghost use Rattle.tree_tables.specs.Fits.{NamedFits, RecordsFit};
-    ghost use Rattle.tree_tables.specs.Steps.{Always, Does, FailsByStore, Looks};
+    ghost use Rattle.tree_tables.specs.Steps.{Always, Does, Looks};
     ghost use Rattle.tree_tables.specs.Stored.{IsAsRead, IsFree, new_entry};
 
     /// The record of a name, if there is one.
-    #[tactic(auto, using(crate::proofs::Looking::caused_memory))]
     pub fn find_record(
         &mut self,
         alloc: Global,
@@ -155,8 +153,6 @@ impl<S: Store> TreeTables<S> {
     ) -> Result<Option<StoredRecord>, StoreError>
         ensures looks { Looks result (state_of self.old) (state_of self.new)
             (FindsRecord name.now) }
-        ensures cause { FailsByStore result (state_of self.old) (state_of self.new)
-            (NamedFits name.now) }
     {
         bytes_key(&mut self.key, name)?;
         if !find_row(&mut self.store, RECORDS, &self.key, &mut self.row)? {
@@ -167,7 +163,6 @@ impl<S: Store> TreeTables<S> {
 
     /// The names of the first two of the records that have an identity, in their order: more are
     /// not looked at, however many there are, and no record is read.
-    #[tactic(auto, using(crate::proofs::Looking::caused_memory))]
     pub fn names_sharing(
         &mut self,
         alloc: Global,
@@ -175,7 +170,6 @@ impl<S: Store> TreeTables<S> {
     ) -> Result<Vec<FoundName>, StoreError>
         ensures looks { Looks result (state_of self.old) (state_of self.new)
             (λ tables names. NamesSharing identity.now tables names.items) }
-        ensures cause { FailsByStore result (state_of self.old) (state_of self.new) RecordsFit }
     {
         bytes_key(&mut self.key, identity)?;
         list_first(
@@ -192,18 +186,15 @@ impl<S: Store> TreeTables<S> {
     pub fn count_sharing(&mut self, alloc: Global, identity: &[u8]) -> Result<usize, StoreError>
         ensures looks { Looks result (state_of self.old) (state_of self.new)
             (CountsSharing identity.now) }
-        ensures cause { FailsByStore result (state_of self.old) (state_of self.new) RecordsFit }
     {
         let names = self.names_sharing(alloc, identity)?;
         Ok(names.len())
     }
 
     /// The records that are not charged, by identity, then name.
-    #[tactic(auto, using(crate::proofs::Looking::caused_memory))]
     pub fn list_uncharged(&mut self, alloc: Global) -> Result<Vec<StoredRecord>, StoreError>
         ensures looks { Looks result (state_of self.old) (state_of self.new)
             (λ tables list. ListsUncharged tables list.items) }
-        ensures cause { FailsByStore result (state_of self.old) (state_of self.new) RecordsFit }
     {
         number_key(&mut self.key, NOT_CHARGED)?;
         let names = list_run(&mut self.store, MARKS, &self.key, &mut self.row, alloc)?;

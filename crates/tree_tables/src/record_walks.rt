@@ -6,8 +6,7 @@ ghost use Rattle.std.specs.Prelude.{slice_set};
 ghost use Rattle.sqlite_trees.specs.View.{IsClean, KeepsSchema};
 ghost use Rattle.sqlite_value.specs.Order.{column};
 ghost use Rattle.table_model.specs.RowChanges.{post_by};
-ghost use Rattle.tree_rows.specs.Calls.{CommitsNothing, IsCausedByStore, IsSorted, LeavesCommitted};
-ghost use Rattle.tree_rows.specs.Calls.{OnlyLooks};
+ghost use Rattle.tree_rows.specs.Calls.{CommitsNothing, IsSorted, LeavesCommitted, OnlyLooks};
 ghost use Rattle.tree_rows.specs.Rows.{IsFirst};
 ghost use Rattle.tree_tables.specs.Walks.{RenewsRow, last_name_key, rows_past};
 
@@ -40,7 +39,6 @@ pub(crate) fn first_past<S: Store>(
     ensures same { OnOk result (OnlyLooks S.Store store.old store.new) }
     ensures schema { KeepsSchema (S.Store.view store.old) (S.Store.view store.new) }
     ensures kept { OnErr result (LeavesCommitted S.Store store.old store.new) }
-    ensures cause { IfErr result (IsCausedByStore S.Store store.old store.new) }
     ensures quiet { CommitsNothing S.Store store.old store.new }
 {
     if key.is_empty() {
@@ -104,22 +102,19 @@ impl<S: Store> TreeTables<S> {
     ghost use Rattle.table_model.specs.RowChanges.{post_by};
     ghost use Rattle.table_model.specs.Steps as step;
     ghost use Rattle.tree_tables.specs.Answers.{FindsNext};
-    ghost use Rattle.tree_tables.specs.Fits.{EachFits};
     ghost use Rattle.tree_tables.specs.Passes.{HasRecordsLeft, TakesNext};
     ghost use Rattle.tree_tables.specs.States.{state_of};
-    ghost use Rattle.tree_tables.specs.Steps.{Always, Does, FailsByStore, Looks};
+    ghost use Rattle.tree_tables.specs.Steps.{Always, Does, Looks};
     ghost use Rattle.tree_tables.specs.Walks.{RenewsNext};
 
     /// The record with the least name after one, or with the least of all where there is none: a
     /// step of a walk over all records, which holds no more than one of them at a time.
-    #[tactic(auto, using(crate::proofs::Looking::caused_memory))]
     pub fn find_next(
         &mut self,
         alloc: Global,
         last: Option<[u8; 32]>,
     ) -> Result<Option<StoredRecord>, StoreError>
         ensures looks { Looks result (state_of self.old) (state_of self.new) (FindsNext last) }
-        ensures cause { FailsByStore result (state_of self.old) (state_of self.new) EachFits }
     {
         walk_key(&mut self.key, last)?;
         if !first_past(&mut self.store, RECORDS, &self.key, &mut self.before)? {
@@ -134,7 +129,6 @@ impl<S: Store> TreeTables<S> {
         ensures looks { Looks result (state_of self.old) (state_of self.new)
             (λ tables started.
             HasRecordsLeft (state_of self.new).view (entries tables.records)) }
-        ensures cause { FailsByStore result (state_of self.old) (state_of self.new) Always }
     {
         start_pass(&mut self.store, RECORDS, &mut self.before)
     }
@@ -146,7 +140,6 @@ impl<S: Store> TreeTables<S> {
         ensures looks { Looks result (state_of self.old) (state_of self.new)
             (λ tables there.
             TakesNext (state_of self.old).view (state_of self.new).view row.new there) }
-        ensures cause { FailsByStore result (state_of self.old) (state_of self.new) Always }
     {
         next_row(&mut self.store, row)
     }

@@ -26,12 +26,12 @@ pub struct TreeTables<S: Store> {
 }
 
 impl<S: Store> TreeTables<S> {
-    ghost use Rattle.std.specs.Prelude.{◌≡◌, IfErr, OnErr, OnOk};
+    ghost use Rattle.std.specs.Prelude.{◌≡◌, OnErr, OnOk};
     ghost use Rattle.sqlite_trees.specs.View.{Commits, IsClean};
     ghost use Rattle.tree_rows.specs.Calls.{IsSorted};
     ghost use Rattle.tree_tables.specs.Holds.{HasShapes};
     ghost use Rattle.tree_tables.specs.States.{Survives, state_of};
-    ghost use Rattle.tree_tables.specs.Steps.{FailsToRead, IsCaused, IsUndone, MayCommit};
+    ghost use Rattle.tree_tables.specs.Steps.{IsUndone, MayCommit};
     ghost use Rattle.tree_tables.specs.Steps.{ReadsTree};
 
     /// The tables in a store that has their trees.
@@ -65,8 +65,6 @@ impl<S: Store> TreeTables<S> {
         requires { IsSorted S.Store self.old.store tree }
         ensures looks { ReadsTree result (state_of self.old) (state_of self.new) tree
             T.ReadRow.says }
-        ensures cause { FailsToRead result (state_of self.old) (state_of self.new) tree
-            T.ReadRow.fits }
     {
         self.key.clear();
         list_run(&mut self.store, tree, &self.key, &mut self.row, alloc)
@@ -78,10 +76,6 @@ impl<S: Store> TreeTables<S> {
             → Commits (S.Store.view self.old.store) (S.Store.view self.new.store)) }
         ensures refused { OnErr result (IsClean (S.Store.view self.new.store)
             → IsUndone (S.Store.view self.old.store) (S.Store.view self.new.store)) }
-
-        // One that fails has a cause in the store.
-        ensures cause { IfErr result (λ error. IsClean (S.Store.view self.new.store)
-            → IsCaused (state_of self.old) (state_of self.new) error) }
         ensures survives { Survives (state_of self.old) (state_of self.new)
             (MayCommit (S.Store.view self.old.store)) }
     {

@@ -65,14 +65,10 @@ impl ReadRow for StoredTariff {
 
 impl<S: Store> TreeTables<S> {
     ghost use Rattle.table_model.specs.Steps as step;
-    ghost use Rattle.tree_rows.specs.Runs.{RowsFit};
     ghost use Rattle.tree_tables.specs.Answers.{ListsTariffs};
     ghost use Rattle.tree_tables.specs.States.{state_of};
-    ghost use Rattle.tree_tables.specs.Steps.{Always, Does, FailsByStore, Looks};
-    ghost use Rattle.std.specs.FinMap.{entries};
-    ghost use Rattle.std.specs.Prelude.{map, Some};
-    ghost use Rattle.tree_tables.specs.Columns.{tariff_columns};
-    ghost use Rattle.tree_tables.specs.Fits.{TariffFits};
+    ghost use Rattle.tree_tables.specs.Steps.{Always, Does, Looks};
+    ghost use Rattle.std.specs.Prelude.{Some};
 
     /// The text of a tariff is kept under its first day.
     pub fn put_tariff(&mut self, tariff: &TariffText<'_>) -> Result<(), StoreError>
@@ -94,8 +90,6 @@ impl<S: Store> TreeTables<S> {
     pub fn list_tariffs(&mut self, alloc: Global) -> Result<Vec<StoredTariff>, StoreError>
         ensures looks { Looks result (state_of self.old) (state_of self.new)
             (λ tables list. ListsTariffs tables list.items) }
-        ensures cause { FailsByStore result (state_of self.old) (state_of self.new)
-            (λ tables. RowsFit TariffFits (map tariff_columns (entries tables.tariffs))) }
     {
         self.list_all(TARIFFS, alloc)
     }

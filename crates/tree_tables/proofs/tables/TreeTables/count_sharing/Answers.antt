@@ -4,8 +4,10 @@ use Rattle.tree_tables.proofs.Looking.{looks_so}
 use Rattle.tree_tables.proofs.tables.TreeTables.count_sharing.Goals as goal
 
 -- there are as many names as records
-pub returns-clause-looks : goal.returns-clause-looks
-returns-clause-looks g c =
+pub returns : goal.returns
+returns g c =
     let names = c.in_ok-names.names in
-    looks_so c.in_ok-names.ensures.looks (λ tables named. c.len.ensures ∙ names.ok.0
-    ∙ sharing_counted c.args.identity.now tables names.items named)
+    record {
+      looks = looks_so c.in_ok-names.ensures.looks (λ tables named. c.len.ensures ∙ names.ok.0
+          ∙ sharing_counted c.args.identity.now tables names.items named);
+    }

@@ -1,6 +1,5 @@
-use Rattle.tree_tables.specs.States.{state}
-use Rattle.tree_tables.proofs.Looking.{caused_memory, err_on, looks_found}
-use Rattle.tree_tables.proofs.Prices.{next_fits, next_none, next_some}
+use Rattle.tree_tables.proofs.Looking.{looks_found}
+use Rattle.tree_tables.proofs.Prices.{next_none, next_some}
 use Rattle.tree_tables.proofs.tables.TreeTables.find_next.Goals as goal
 
 -- no record is left
@@ -10,7 +9,6 @@ returns-then-not-branch g c = record {
       (λ clean tables holds. next_none tables c.args.last c.first_past.new.row holds.records
       c.in_ok-walk_key.ensures.made
       (rw c.if-not-branch.true at (c.in_ok-first_past.ensures.found clean)));
-  cause = tt;
 }
 
 -- the row of the next one is read
@@ -21,15 +19,4 @@ returns g c = record {
       c.in_ok-walk_key.ensures.made c.in_ok-read_record.field-0
       (rw c.if-not-branch.false at (c.in_ok-first_past.ensures.found clean))
       c.in_ok-read_record.ensures.read);
-  cause = tt;
 }
-
--- a row that fits is read
-pub returns-in_err-read_record-clause-cause : goal.returns-in_err-read_record-clause-cause
-returns-in_err-read_record-clause-cause g c =
-    err_on _ c.from_residual-in_err-read_record.result
-    c.from_residual-in_err-read_record.ensures.1 (λ clean tables holds fits.
-    caused_memory (state g.S.Store c.args.self.now.store) (state g.S.Store c.first_past.new.store) _
-    (c.in_err-read_record.ensures.taken
-    (next_fits tables c.args.last c.first_past.new.row holds.records c.in_ok-walk_key.ensures.made
-    (rw c.if-not-branch.false at (c.in_ok-first_past.ensures.found clean)) fits)))

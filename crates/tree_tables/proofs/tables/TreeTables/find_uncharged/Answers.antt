@@ -1,7 +1,6 @@
 use Rattle.std.proofs.Common.{false, true}
-use Rattle.tree_tables.specs.States.{state}
-use Rattle.tree_tables.proofs.IdentityLooks.{mark_fits, shows, uncharged_none, uncharged_read}
-use Rattle.tree_tables.proofs.Looking.{caused_memory, err_so, looks_found, looks_read}
+use Rattle.tree_tables.proofs.IdentityLooks.{shows, uncharged_none, uncharged_read}
+use Rattle.tree_tables.proofs.Looking.{looks_found, looks_read}
 use Rattle.tree_tables.proofs.tables.TreeTables.find_uncharged.Goals as goal
 
 -- no mark is from there on
@@ -12,10 +11,9 @@ returns-then-not-branch g c = record {
       (shows c.args.from.now tables.records _ c.uncharged_key.new.key c.first_from.new.row false
       holds.marks c.in_ok-uncharged_key.ensures.made
       (rw c.if-not-branch.true at (c.in_ok-first_from.ensures.found clean))));
-  cause = tt;
 }
 
--- the first one is read, which fits
+-- the first one is read
 pub returns : goal.returns
 returns g c =
     let from = c.args.from.now in
@@ -27,12 +25,4 @@ returns g c =
           (shows from tables.records _ c.uncharged_key.new.key row true holds.marks
           c.in_ok-uncharged_key.ensures.made
           (rw c.if-not-branch.false at (c.in_ok-first_from.ensures.found clean))) read says);
-      cause = err_so c.read_uncharged.result c.read_uncharged.ensures.taken
-          (λ error taken clean tables holds always.
-          caused_memory (state g.S.Store c.args.self.now.store)
-          (state g.S.Store c.first_from.new.store) error
-          (taken (mark_fits from tables row
-          (shows from tables.records _ c.uncharged_key.new.key row true holds.marks
-          c.in_ok-uncharged_key.ensures.made
-          (rw c.if-not-branch.false at (c.in_ok-first_from.ensures.found clean))))));
     }

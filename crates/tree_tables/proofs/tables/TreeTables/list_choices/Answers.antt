@@ -7,5 +7,4 @@ pub returns : goal.returns
 returns g c = record {
   looks = looks_told c.list_all.result (c.list_all.ensures.looks _ (λ tables holds. holds.choices))
       (λ tables all. choices_said (entries tables.choices) all.items);
-  cause = c.list_all.ensures.cause _ (λ tables holds. holds.choices);
 }

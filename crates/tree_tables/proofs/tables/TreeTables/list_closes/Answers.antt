@@ -7,5 +7,4 @@ pub returns : goal.returns
 returns g c = record {
   looks = looks_told c.list_all.result (c.list_all.ensures.looks _ (λ tables holds. holds.closes))
       (λ tables all. closes_said (entries tables.closes) all.items);
-  cause = c.list_all.ensures.cause _ (λ tables holds. holds.closes);
 }

@@ -7,5 +7,4 @@ pub returns : goal.returns
 returns g c = record {
   looks = looks_told c.list_all.result (c.list_all.ensures.looks _ (λ tables holds. holds.tariffs))
       (λ tables all. tariffs_said (entries tables.tariffs) all.items);
-  cause = c.list_all.ensures.cause _ (λ tables holds. holds.tariffs);
 }
