@@ -31,8 +31,6 @@ impl ReadRow for WholeRow {
 
     ghost says = { λ columns whole. whole.0 ≡ columns };
 
-    ghost fits = { λ columns. Unit {0} };
-
     fn read(row: &Row, alloc: Global) -> Result<WholeRow, StoreError> {
         Ok(WholeRow(row.copy(alloc)?))
     }

@@ -2,13 +2,13 @@
 use Rattle.std.proofs.Common.{◌≡◌, ◌≤◌, ◌⊎◌, ◌∙◌, ℕ, List, Option, inl, inr, ap, refl, subst, sym, arith, rules}
 use Rattle.sqlite_disk.specs.Disk.{MoreFaults}
 use Rattle.sqlite_trees.specs.Tree.{Trees}
-use Rattle.sqlite_trees.specs.View.{View, HasCause, IsClean, IsFailure, IsQuiet}
+use Rattle.sqlite_trees.specs.View.{View, IsClean, IsFailure, IsQuiet}
 use Rattle.sqlite_trees.specs.View.{KeepsCommitted, KeepsSchema, Moves, OnlyWrites}
 use Rattle.sqlite_trees.specs.declared.error.StoreError.{StoreError}
 use Rattle.sqlite_trees.specs.declared.store.Store.{Ghosts}
 use Rattle.sqlite_value.specs.Order.{Row}
 use Rattle.tree_rows.specs.Rows.{IsUnchanged}
-use Rattle.tree_rows.proofs.Failing.{caused_after, failed_after, kept_after, more_since}
+use Rattle.tree_rows.proofs.Failing.{failed_after, kept_after, more_since}
 
 -- a cursor that is placed leaves all else
 pub unchanged_but : (old : View) {new : View} {cursors : ℕ → Option (List Row)}
@@ -129,17 +129,6 @@ module _ {S : Type 0} (ghosts : Ghosts S) where
       failed_after (ghosts.view old) (ghosts.view mid) (ghosts.view new) (ghosts.view mid).cursors
       error (before (clean_before call clean)) failed
 
-  -- why a call failed after looks
-  pub caused_on : (old : S) {mid new : S} (error : StoreError) → Quiet old mid
-      → (IsClean (ghosts.view mid) → IsUnchanged (ghosts.view old) (ghosts.view mid))
-      → Quiet mid new
-      → HasCause (ghosts.view mid) (MoreFaults (ghosts.faults mid) (ghosts.faults new)) ⊥ error
-      → IsClean (ghosts.view new)
-      → HasCause (ghosts.view old) (MoreFaults (ghosts.faults old) (ghosts.faults new)) ⊥ error
-  caused_on old {mid} {new} error first before call cause clean =
-      caused_after (ghosts.view old) (ghosts.view mid) (ghosts.faults old) (ghosts.faults mid)
-      (ghosts.faults new) error (before (clean_before call clean)) first.counts cause
-
 -- what holds after two calls, one after the other
 pub ruleset calls_in_turn =
-    (schema_both, quiet_both, unchanged_but, unchanged_next, unchanged_on, kept_on, failed_on, caused_on)
+    (schema_both, quiet_both, unchanged_but, unchanged_next, unchanged_on, kept_on, failed_on)

@@ -2,7 +2,7 @@
 use Rattle.std.proofs.Common.{◌≡◌, ℕ, ◌<◌, ◌≤◌, List, [], ◌∷◌, ◌++◌, length, take, Some}
 use Rattle.std.proofs.Common.{true, false, cond, take_while, slice_index_or, ◌+◌}
 use Rattle.std.proofs.Common.{refl, sym, ap, subst, ◌∙◌, arith, append_assoc}
-use Rattle.std.specs.List.{AllByRecursion, AllZip}
+use Rattle.std.specs.List.{AllZip}
 use Rattle.std.proofs.Math.Seq.{take-append_seam}
 use Rattle.std.proofs.lemmas.List.{append-nil, length-take, take_all, take_more}
 use Rattle.std.proofs.lemmas.List.Sums.{take_while-cons}
@@ -33,18 +33,6 @@ all_read says rows all most read few =
     let long : length rows ≤ most =
     omega (arith, AllZip-long says (take most rows) all read, length-take most rows, few) in
     subst (λ front. AllZip says front all) (take_all most rows long) read
-
--- what holds of all of two lists holds of the second
-all_behind : (Fits : Row → Type 0) (front rows : List Row) → AllByRecursion Fits (front ++ rows)
-    → AllByRecursion Fits rows
-all_behind Fits [] rows all = all
-all_behind Fits (row ∷ front) rows all = all_behind Fits front rows all.1
-
--- where a list has no more rows than were asked for, no more values were read of it
-pub no_more : {A : Type 0} (says : Row → A → Type 0) (rows : List Row) (all : List A) (most : ℕ)
-    → AllZip says (take most rows) all → length all ≤ length rows
-no_more says rows all most read =
-    omega (arith, AllZip-long says (take most rows) all read, length-take most rows)
 
 module _ {A : Type 0} (says : Row → A → Type 0) (part : Row) (rows : List Row) where
   -- the values so far are those of the start of the run, and the cursor has the rest of the run
@@ -91,18 +79,6 @@ module _ {A : Type 0} (says : Row → A → Type 0) (part : Row) (rows : List Ro
             ∙ sym (append_assoc so_far.done (row ∷ []) rest);
         read = all_zipped_more says so_far.done all row one so_far.read is;
       }
-
-  -- so what holds of each row of the run holds of it
-  pub next_fits : (Fits : Row → Type 0) (old new : View) (row : Row) (all : List A)
-      → HasRead old all → Advances old new LIST row true → has_part part row ≡ true
-      → AllByRecursion Fits (run_of part rows) → Fits row
-  next_fits Fits old new row all so_far it begins fits =
-      let left = subst (AllByRecursion Fits) so_far.run fits in
-      let rest = all_behind Fits so_far.done (take_while (has_part part) so_far.left) left in
-      let here : AllByRecursion Fits (row ∷ take_while (has_part part) it.0) =
-      subst (AllByRecursion Fits) (next_is old new row all so_far it
-      ∙ ap (λ b. cond b (row ∷ take_while (has_part part) it.0) []) begins) rest in
-      here.0
 
   -- as many values as are asked for are read
   pub ends_full : (now : View) (all : List A) (most : ℕ) → HasRead now all → most ≤ length all

@@ -1,8 +1,7 @@
 -- What a call says of its store, by what the store shows before the call and after it: all but the
 -- last where the disk has returned what was written to it.
 use Rattle.std.specs.Prelude.{◌≡◌, ℕ}
-use Rattle.sqlite_disk.specs.Disk.{MoreFaults}
-use Rattle.sqlite_trees.specs.View.{HasCause, IsClean, IsFailure, IsQuiet, KeepsCommitted}
+use Rattle.sqlite_trees.specs.View.{IsClean, IsFailure, IsQuiet, KeepsCommitted}
 use Rattle.sqlite_trees.specs.declared.error.StoreError.{StoreError}
 use Rattle.sqlite_trees.specs.declared.store.Shape.TheVariants.{Index}
 use Rattle.sqlite_trees.specs.declared.store.Store.{Ghosts}
@@ -28,18 +27,6 @@ LeavesCommitted ghosts old new =
 abbrev pub FailsAsStore : {S : Type 0} → Ghosts S → S → S → StoreError → Type 0
 FailsAsStore ghosts old new error =
     IsClean (ghosts.view new) → IsFailure (ghosts.view old) (ghosts.view new) error
-
--- memory ran out, the disk failed or refused during the call, or the store was broken before
-abbrev pub IsCausedByStore : {S : Type 0} → Ghosts S → S → S → StoreError → Type 0
-IsCausedByStore ghosts old new error =
-    IsClean (ghosts.view new)
-    → HasCause (ghosts.view old) (MoreFaults (ghosts.faults old) (ghosts.faults new)) ⊥ error
-
--- where the premise holds, there is no other cause than these
-abbrev pub IsCausedWhere : {S : Type 0} → Ghosts S → S → S → Type 0 → StoreError → Type 0
-IsCausedWhere ghosts old new When error =
-    IsClean (ghosts.view new) → When
-    → HasCause (ghosts.view old) (MoreFaults (ghosts.faults old) (ghosts.faults new)) ⊥ error
 
 -- the call commits nothing and forgets no fault
 abbrev pub CommitsNothing : {S : Type 0} → Ghosts S → S → S → Type 0

@@ -1,6 +1,5 @@
--- The rows of a tree that begin with given columns, and rows that can be read.
-use Rattle.std.specs.Prelude.{◌≤◌, ◌^◌, ℕ, Bool, List, length, take_while}
-use Rattle.std.specs.List.{AllByRecursion}
+-- The rows of a tree that begin with given columns.
+use Rattle.std.specs.Prelude.{ℕ, Bool, List, take_while}
 use Rattle.std.specs.Ordering.{is_eq}
 use Rattle.sqlite_trees.specs.Tree.{from_key}
 use Rattle.sqlite_trees.specs.declared.store.Store.{Ghosts}
@@ -18,8 +17,3 @@ run_of part rows = take_while (has_part part) (from_key plain part rows)
 -- those of a tree of a store
 abbrev pub run_in : {S : Type 0} → Ghosts S → S → ℕ → Row → List Row
 run_in ghosts store tree part = run_of part ((ghosts.view store).trees tree)
-
--- all of some rows fit, and they are no more than are listed at once
-pub record RowsFit (Fits : Row → Type 0) (rows : List Row) : Type 0 where
-  pub fit : AllByRecursion Fits rows
-  pub few : length rows ≤ 2 ^ 32

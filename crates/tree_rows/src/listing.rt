@@ -1,12 +1,11 @@
 //! The rows that begin alike, read in order into values.
 
-ghost use Rattle.std.specs.Prelude.{◌≡◌, take, IfOk, IfErr, OnErr, OnOk};
-ghost use Rattle.std.specs.List.{AllByRecursion, AllZip};
+ghost use Rattle.std.specs.Prelude.{take, IfOk, OnErr, OnOk};
+ghost use Rattle.std.specs.List.{AllZip};
 ghost use Rattle.sqlite_trees.specs.View.{IsClean, KeepsSchema};
 ghost use Rattle.sqlite_value.specs.Order.{Row as Columns};
-ghost use Rattle.tree_rows.specs.Calls.{CommitsNothing, IsCausedWhere, IsSorted, LeavesCommitted};
-ghost use Rattle.tree_rows.specs.Calls.{OnlyLooks};
-ghost use Rattle.tree_rows.specs.Runs.{RowsFit, run_in};
+ghost use Rattle.tree_rows.specs.Calls.{CommitsNothing, IsSorted, LeavesCommitted, OnlyLooks};
+ghost use Rattle.tree_rows.specs.Runs.{run_in};
 
 use crate::lookup::has_key;
 use sqlite_trees::error::StoreError;
@@ -25,18 +24,14 @@ pub trait ReadRow: Sized {
     // what the columns of its row say
     ghost says: { Columns → Self → Type 0 };
 
-    // the columns of a row are those of a value
-    ghost fits: { Columns → Type 0 };
-
     /// Reads the value of a row, or answers that the row has none.
     fn read(row: &Row, alloc: Global) -> Result<Self, StoreError>
-        ensures read { IfOk result (says row.now) }
-        ensures taken { IfErr result (λ error. fits row.now → error ≡ StoreError.OutOfMemory) };
+        ensures read { IfOk result (says row.now) };
 }
 
 /// Reads the first rows that begin with the columns of `part`, in order and as many as there are
 /// up to `most`. Nothing is written to the store; an error is the store's own, or that of a row
-/// that was not read: where all of them fit, it has a cause of the store. What is in `row` is lost.
+/// that was not read. What is in `row` is lost.
 #[tactic(auto, using(crate::proofs::Calls::calls_in_turn))]
 pub fn list_first<S: Store, T: ReadRow + Drop>(
     store: &mut S,
@@ -52,8 +47,6 @@ pub fn list_first<S: Store, T: ReadRow + Drop>(
     ensures same { OnOk result (OnlyLooks S.Store store.old store.new) }
     ensures schema { KeepsSchema (S.Store.view store.old) (S.Store.view store.new) }
     ensures kept { OnErr result (LeavesCommitted S.Store store.old store.new) }
-    ensures cause { IfErr result (IsCausedWhere S.Store store.old store.new
-        (AllByRecursion T.ReadRow.fits (run_in S.Store store.old tree part.now))) }
     ensures quiet { CommitsNothing S.Store store.old store.new }
 {
     store.seek(LIST, tree, part, Direction::Forward)?;
@@ -85,8 +78,6 @@ pub fn list_run<S: Store, T: ReadRow + Drop>(
     ensures same { OnOk result (OnlyLooks S.Store store.old store.new) }
     ensures schema { KeepsSchema (S.Store.view store.old) (S.Store.view store.new) }
     ensures kept { OnErr result (LeavesCommitted S.Store store.old store.new) }
-    ensures cause { IfErr result (IsCausedWhere S.Store store.old store.new
-        (RowsFit T.ReadRow.fits (run_in S.Store store.old tree part.now))) }
     ensures quiet { CommitsNothing S.Store store.old store.new }
 {
     // One more is asked for, to find out whether there are more.

@@ -5,7 +5,7 @@ ghost use Rattle.sqlite_trees.specs.Tree.{from_key};
 ghost use Rattle.sqlite_trees.specs.View.{IsClean, KeepsSchema};
 ghost use Rattle.sqlite_value.specs.Keys.{plain, prefix_cmp};
 ghost use Rattle.std.specs.Ordering.{is_eq};
-ghost use Rattle.tree_rows.specs.Calls.{CommitsNothing, FailsAsStore, IsCausedByStore};
+ghost use Rattle.tree_rows.specs.Calls.{CommitsNothing, FailsAsStore};
 ghost use Rattle.tree_rows.specs.Calls.{IsSorted, LeavesCommitted, OnlyLooks};
 ghost use Rattle.tree_rows.specs.Rows.{Finds, IsFirst, past_key};
 
@@ -35,7 +35,6 @@ pub fn first_from<S: Store>(
     ensures same { OnOk result (OnlyLooks S.Store store.old store.new) }
     ensures schema { KeepsSchema (S.Store.view store.old) (S.Store.view store.new) }
     ensures err { IfErr result (FailsAsStore S.Store store.old store.new) }
-    ensures cause { IfErr result (IsCausedByStore S.Store store.old store.new) }
     ensures quiet { CommitsNothing S.Store store.old store.new }
 {
     store.seek(LOOK, tree, key, Direction::Forward)?;
@@ -59,7 +58,6 @@ pub fn find_row<S: Store>(
     ensures same { OnOk result (OnlyLooks S.Store store.old store.new) }
     ensures schema { KeepsSchema (S.Store.view store.old) (S.Store.view store.new) }
     ensures err { IfErr result (FailsAsStore S.Store store.old store.new) }
-    ensures cause { IfErr result (IsCausedByStore S.Store store.old store.new) }
     ensures quiet { CommitsNothing S.Store store.old store.new }
 {
     let there = first_from(store, tree, key, row)?;
@@ -83,7 +81,6 @@ pub fn first_after<S: Store>(
     ensures same { OnOk result (OnlyLooks S.Store store.old store.new) }
     ensures kept { OnErr result (LeavesCommitted S.Store store.old store.new) }
     ensures schema { KeepsSchema (S.Store.view store.old) (S.Store.view store.new) }
-    ensures cause { IfErr result (IsCausedByStore S.Store store.old store.new) }
     ensures quiet { CommitsNothing S.Store store.old store.new }
 {
     store.seek(WALK, tree, key, Direction::Forward)?;
@@ -110,7 +107,6 @@ pub fn last_row<S: Store>(store: &mut S, tree: u32, row: &mut Row) -> Result<boo
     ensures same { OnOk result (OnlyLooks S.Store store.old store.new) }
     ensures kept { OnErr result (LeavesCommitted S.Store store.old store.new) }
     ensures schema { KeepsSchema (S.Store.view store.old) (S.Store.view store.new) }
-    ensures cause { IfErr result (IsCausedByStore S.Store store.old store.new) }
     ensures quiet { CommitsNothing S.Store store.old store.new }
 {
     // No row is above the key of no columns, so the walk back begins with the last of all.

@@ -1,10 +1,9 @@
 //! A pass over all rows of a tree: one cursor goes on from row to row, so that a page is looked for
 //! once and not once for each of its rows.
 
-ghost use Rattle.std.specs.Prelude.{IfErr, IfOk, OnErr, OnOk};
+ghost use Rattle.std.specs.Prelude.{IfOk, OnErr, OnOk};
 ghost use Rattle.sqlite_trees.specs.View.{Advances, IsClean, KeepsSchema};
-ghost use Rattle.tree_rows.specs.Calls.{CommitsNothing, IsCausedByStore, IsSorted, LeavesCommitted};
-ghost use Rattle.tree_rows.specs.Calls.{OnlyLooks};
+ghost use Rattle.tree_rows.specs.Calls.{CommitsNothing, IsSorted, LeavesCommitted, OnlyLooks};
 ghost use Rattle.tree_rows.specs.Passes.{HasLeft, IsPassing};
 
 use sqlite_trees::error::StoreError;
@@ -24,7 +23,6 @@ pub fn start_pass<S: Store>(store: &mut S, tree: u32, row: &mut Row) -> Result<(
     ensures same { OnOk result (OnlyLooks S.Store store.old store.new) }
     ensures schema { KeepsSchema (S.Store.view store.old) (S.Store.view store.new) }
     ensures kept { OnErr result (LeavesCommitted S.Store store.old store.new) }
-    ensures cause { IfErr result (IsCausedByStore S.Store store.old store.new) }
     ensures quiet { CommitsNothing S.Store store.old store.new }
 {
     // No row is below the key of no columns.
@@ -42,7 +40,6 @@ pub fn next_row<S: Store>(store: &mut S, row: &mut Row) -> Result<bool, StoreErr
     ensures same { OnOk result (OnlyLooks S.Store store.old store.new) }
     ensures schema { KeepsSchema (S.Store.view store.old) (S.Store.view store.new) }
     ensures kept { OnErr result (LeavesCommitted S.Store store.old store.new) }
-    ensures cause { IfErr result (IsCausedByStore S.Store store.old store.new) }
     ensures quiet { CommitsNothing S.Store store.old store.new }
 {
     store.next(PASS, row)

@@ -64,8 +64,6 @@ fn read_choice(row: &Row) -> Result<StoredChoice, StoreError>
 impl ReadRow for StoredChoice {
     ghost says = { SaysChoice };
 
-    ghost fits = { ChoiceFits };
-
     fn read(row: &Row, _alloc: Global) -> Result<StoredChoice, StoreError> {
         read_choice(row)
     }

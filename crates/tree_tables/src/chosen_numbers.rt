@@ -3,7 +3,6 @@
 ghost use Rattle.std.specs.Prelude.{◌≡◌, pos};
 ghost use Rattle.sqlite_value.specs.Order.{column};
 ghost use Rattle.sqlite_value.specs.declared.value.Value.TheVariants.{Int};
-ghost use Rattle.tree_tables.specs.Fits.{HasNumber};
 
 use crate::column_values::number_at;
 use crate::columns::CHOSEN_NUMBER;
@@ -20,8 +19,6 @@ pub(crate) struct ChosenNumber {
 
 impl ReadRow for ChosenNumber {
     ghost says = { λ row found. column row 1 ≡ Int (pos found.number) };
-
-    ghost fits = { HasNumber };
 
     fn read(row: &Row, _alloc: Global) -> Result<ChosenNumber, StoreError> {
         Ok(ChosenNumber {

@@ -42,12 +42,9 @@ impl ReadRow for Close {
     ghost use Rattle.std.specs.Prelude.{◌≡◌, pos};
     ghost use Rattle.sqlite_value.specs.Order.{column};
     ghost use Rattle.sqlite_value.specs.declared.value.Value.TheVariants.{Int};
-    ghost use Rattle.tree_tables.specs.Fits.{CloseFits};
 
     ghost says = { λ row close. (column row 0 ≡ Int (pos close.period))
         × (column row 1 ≡ Int close.through) };
-
-    ghost fits = { CloseFits };
 
     fn read(row: &Row, _alloc: Global) -> Result<Close, StoreError> {
         Ok(Close {

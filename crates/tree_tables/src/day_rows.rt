@@ -159,8 +159,6 @@ struct StoredDay {
 impl ReadRow for StoredDay {
     ghost says = { λ row day. SaysDay row day.charge };
 
-    ghost fits = { ChargeFits };
-
     fn read(row: &Row, alloc: Global) -> Result<StoredDay, StoreError> {
         Ok(StoredDay {
             charge: read_day(row)?,

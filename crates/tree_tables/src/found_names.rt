@@ -3,7 +3,6 @@
 ghost use Rattle.std.specs.Prelude.{◌≡◌, length, ◌-◌};
 ghost use Rattle.sqlite_value.specs.Order.{column};
 ghost use Rattle.sqlite_value.specs.declared.value.Value.TheVariants.{Blob};
-ghost use Rattle.tree_tables.specs.Fits.{EndsInName};
 
 use crate::column_values::hash_at;
 use crate::stored_record::StoredRecord;
@@ -23,8 +22,6 @@ pub struct FoundName {
 
 impl ReadRow for FoundName {
     ghost says = { λ row found. column row (length row - 1) ≡ Blob found.name };
-
-    ghost fits = { EndsInName };
 
     fn read(row: &Row, _alloc: Global) -> Result<FoundName, StoreError> {
         Ok(FoundName {

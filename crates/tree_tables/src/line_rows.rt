@@ -5,7 +5,7 @@ ghost use Rattle.sqlite_value.specs.declared.value.Value.TheVariants.{Blob, Int}
 ghost use Rattle.book_model.specs.Words.{line_with, record_with};
 ghost use Rattle.table_model.specs.Tables.{RecordRow};
 ghost use Rattle.tree_tables.specs.Columns.{line_columns, record_columns};
-ghost use Rattle.tree_tables.specs.Fits.{LineFits, RecordFits};
+ghost use Rattle.tree_tables.specs.Fits.{RecordFits};
 ghost use Rattle.tree_tables.specs.Stored.{SaysLine};
 ghost use Rattle.tree_tables.specs.UsageData.{IsUsageData};
 
@@ -86,8 +86,6 @@ fn line_of(row: &Row, bytes: &mut Vec<u8>, stored: &StoredLine) -> Result<Line, 
 
 impl ReadRow for StoredLine {
     ghost says = { SaysLine };
-
-    ghost fits = { LineFits };
 
     fn read(row: &Row, _alloc: Global) -> Result<StoredLine, StoreError> {
         Ok(StoredLine {

@@ -48,12 +48,9 @@ impl ReadRow for StoredTariff {
     ghost use Rattle.std.specs.Prelude.{◌≡◌, string_bytes};
     ghost use Rattle.sqlite_value.specs.Order.{column};
     ghost use Rattle.sqlite_value.specs.declared.value.Value.TheVariants.{Int, Text};
-    ghost use Rattle.tree_tables.specs.Fits.{TariffFits};
 
     ghost says = { λ row tariff. (column row 0 ≡ Int tariff.day)
         × (column row 1 ≡ Text (string_bytes tariff.body)) };
-
-    ghost fits = { TariffFits };
 
     fn read(row: &Row, alloc: Global) -> Result<StoredTariff, StoreError> {
         Ok(StoredTariff {

@@ -1,12 +1,7 @@
-use Rattle.std.proofs.Common.{◌≡◌, List, true, false, arith, rules, length-append}
-use Rattle.std.specs.List.{AllByRecursion}
-use Rattle.sqlite_disk.specs.Disk.{MoreFaults}
-use Rattle.sqlite_trees.specs.View.{HasCause, IsClean}
-use Rattle.sqlite_value.specs.Order.{Row}
-use Rattle.tree_rows.specs.Runs.{has_part, run_of}
+use Rattle.std.proofs.Common.{◌≡◌, true, false, arith, rules, length-append}
+use Rattle.tree_rows.specs.Runs.{has_part}
 use Rattle.tree_rows.proofs.Calls.{quiet_both, schema_both, unchanged_but, unchanged_on}
-use Rattle.tree_rows.proofs.Failing.{caused_by_memory}
-use Rattle.tree_rows.proofs.RunsRead.{next_fits, starts, reads_on}
+use Rattle.tree_rows.proofs.RunsRead.{starts, reads_on}
 use Rattle.tree_rows.proofs.RunsRead.{ends_full, ends_with_rows, ends_before}
 use Rattle.tree_rows.proofs.listing.list_first.Goals as goal
 
@@ -70,23 +65,3 @@ returns-clause-found g c clean =
     ends_full g.T.ReadRow.says c.args.part.now _ (g.S.Store.view c.rows.store) c.rows.all.items
     c.args.most (c.rows.invariant.read clean) (omega (arith, c.len.ensures, c.rows-test.false))
     c.rows.invariant.few
-
--- a row of the run that fits is refused for a lack of memory alone
-pub returns-in_err-one-clause-cause : goal.returns-in_err-one-clause-cause
-returns-in_err-one-clause-cause g c =
-    let old = g.S.Store.view c.args.store.now in
-    let now = g.S.Store.view c.next.new.self in
-    let run : List Row = run_of c.args.part.now (old.trees c.args.tree) in
-    let fault : Type 0 =
-    MoreFaults (g.S.Store.faults c.args.store.now) (g.S.Store.faults c.next.new.self) in
-    let error = c.in_err-one.field-0.0 in
-    let cause : IsClean now → AllByRecursion g.T.ReadRow.fits run → HasCause old fault ⊥ error =
-    λ clean fit.
-    let before = g.S.Store.view c.rows.store in
-    let so_far = c.rows.invariant.read (omega (arith, clean, c.next.ensures.quiet.clean)) in
-    let it = rw c.if-not-branch.false at (c.in_ok-next.ensures.ok clean) in
-    let begins : has_part c.args.part.now c.next.new.row ≡ true = search rules in
-    caused_by_memory old fault error (c.in_err-one.ensures.taken
-    (next_fits g.T.ReadRow.says c.args.part.now (old.trees c.args.tree) g.T.ReadRow.fits before
-    now c.next.new.row c.rows.all.items so_far it begins fit)) in
-    search rules
