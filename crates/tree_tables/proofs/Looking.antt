@@ -1,7 +1,7 @@
 -- Looks at the tables, and steps of them, by what calls on rows say.
 use Rattle.std.proofs.Common.{◌≡◌, ◌∙◌, ℕ, Bool, List, inl, inr, Result, Ok, Err, refl, sym}
 use Rattle.std.proofs.Common.{ap, subst, true≢false, arith}
-use Rattle.std.specs.Prelude.{IfErr, IsErr, IsErrAnd, IfOk, OnErr, OnOk}
+use Rattle.std.specs.Prelude.{IfErr, IsErr, IfOk, OnErr, OnOk}
 use Rattle.sqlite_trees.specs.Tree.{Trees}
 use Rattle.sqlite_trees.specs.View.{View, IsClean, IsFailure, KeepsCommitted, OnlyWrites}
 use Rattle.sqlite_value.specs.Order.{Row}
@@ -31,19 +31,6 @@ rewrites_after_look {old} same rewrites = record {
   others = λ other apart. rewrites.others other apart ∙ ap (λ (v : View). v.trees other) same;
   only = only_both old (only_looks old same) rewrites.only;
 }
-
--- what is said of any error is said of one
-pub any_err : {A : Type 0} {Said : StoreError → Type 0} (result : Result A StoreError)
-    → ((error : StoreError) → Said error) → IfErr result Said
-any_err (Ok answer) said = tt
-any_err (Err error) said = said error
-
--- what is said of the error of a call is said of the one that it is passed on as
-pub err_on : {A : Type 0} {error : StoreError} (Said : StoreError → Type 0)
-    (result : Result A StoreError) → IsErrAnd result (λ passed. passed ≡ error) → Said error
-    → IfErr result Said
-err_on Said (Ok answer) passed said = tt
-err_on Said (Err error) passed said = subst Said (sym passed) said
 
 -- what a call makes that succeeds may be said in other words
 pub ok_so : {A One Other : Type 0} (result : Result A StoreError) → OnOk result One

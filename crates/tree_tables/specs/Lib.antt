@@ -1,12 +1,9 @@
--- Read in this order: the columns of the rows of the tables, and
--- rows that have them, and the data of usage records; the trees that hold the tables;
--- what a store shows, and what becomes of it; what a look at the tables answers, and what a step
--- does to them; what is asked of charge rows; rows as code passes them on and gets them back; what
--- each look answers, and which detail is the next; the records that a later tariff may be for;
--- walks over all records that change them, and passes that do not.
+-- Read in this order: the columns of the rows of the tables; the trees that hold the tables; what a
+-- store shows, and what becomes of it; what a look at the tables answers, and what a step does to
+-- them; what is asked of charge rows; rows as code passes them on and gets them back; what each
+-- look answers, and which detail is the next; the records that a later tariff may be for; walks
+-- over all records that change them, and passes that do not.
 pub mod Columns
-pub mod Fits
-pub mod UsageData
 pub mod Holds
 pub mod Forms
 pub mod States

@@ -4,7 +4,6 @@ ghost use Rattle.std.specs.Prelude.{◌≡◌, ◌<◌, ◌^◌, IfErr, IfOk, On
 ghost use Rattle.sqlite_value.specs.Order.{column};
 ghost use Rattle.sqlite_value.specs.declared.value.Value.TheVariants.{Int};
 ghost use Rattle.tree_tables.specs.Columns.{book_columns};
-ghost use Rattle.tree_tables.specs.Fits.{BookFits};
 ghost use Rattle.tree_tables.specs.Stored.{book_entry};
 
 use crate::column_values::{count_at, make_row};
@@ -81,7 +80,6 @@ fn read_book(row: &Row) -> Result<StoredBook, StoreError>
     ensures amount { IfOk result (λ book. column row.now 4 ≡ Int (pos book.amount)) }
     ensures small { IfOk result (λ book. (book.rule < 2 ^ 63) × (book.adopted < 2 ^ 63)) }
     ensures few { IfOk result (λ book. (book.held < 2 ^ 63) × (book.amount < 2 ^ 63)) }
-    ensures taken { IfErr result (λ error. ¬ BookFits row.now) }
 {
     Ok(StoredBook {
         rule: count_at(row, BOOK_RULE)?,

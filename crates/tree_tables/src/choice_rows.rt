@@ -1,8 +1,7 @@
 //! Choices by their numbers, and the tree that finds them by the names of the records.
 
-ghost use Rattle.std.specs.Prelude.{◌≡◌, IfErr, IfOk, OnOk};
+ghost use Rattle.std.specs.Prelude.{◌≡◌, IfOk, OnOk};
 ghost use Rattle.tree_tables.specs.Columns.{choice_columns, choice_name_columns};
-ghost use Rattle.tree_tables.specs.Fits.{ChoiceFits};
 ghost use Rattle.tree_tables.specs.Stored.{SaysChoice};
 
 use crate::chosen_numbers::ChosenNumber;
@@ -52,7 +51,6 @@ fn choice_name_row(row: &mut Row, name: &[u8], number: u32) -> Result<(), StoreE
 /// What the row of a choice says.
 fn read_choice(row: &Row) -> Result<StoredChoice, StoreError>
     ensures says { IfOk result (SaysChoice row.now) }
-    ensures taken { IfErr result (λ error. ¬ ChoiceFits row.now) }
 {
     Ok(StoredChoice {
         number: number_at(row, CHOICE_NUMBER)?,

@@ -1,14 +1,12 @@
 //! Columns that are read into types of the books. A column that does not fit is an error:
 //! `Corrupt`.
 
-ghost use Rattle.std.specs.Prelude.{◌≡◌, ◌≢◌, ◌<◌, ◌+◌, ◌++◌, ◌^◌, IfErr, IfOk, IfSome, None, OnOk};
-ghost use Rattle.std.specs.Prelude.{ℤ, length, map, pos, slice_set, string_bytes};
+ghost use Rattle.std.specs.Prelude.{◌≡◌, ◌<◌, ◌+◌, ◌++◌, ◌^◌, IfErr, IfOk, IfSome, OnOk, map, pos};
+ghost use Rattle.std.specs.Prelude.{slice_set, string_bytes};
 ghost use Rattle.sqlite_value.specs.Order.{column};
 ghost use Rattle.sqlite_value.specs.Value.{owned};
 ghost use Rattle.sqlite_value.specs.declared.value.Value.TheVariants.{Blob, Int, Text};
 ghost use Rattle.tree_tables.specs.Columns.{flag, step_value};
-ghost use Rattle.tree_tables.specs.Fits.{HasBytes, HasCount, HasDay, HasHash, HasMark, HasName};
-ghost use Rattle.tree_tables.specs.Fits.{HasChoiceNumber, HasEight, HasPeriod, HasStep, HasText};
 
 use smf_text::Name;
 use sqlite_trees::error::StoreError;
@@ -19,7 +17,6 @@ use std::alloc::Global;
 /// The number in a column.
 fn int_at(row: &Row, at: usize) -> Result<i64, StoreError>
     ensures read { IfOk result (λ n. column row.now at ≡ Int n) }
-    ensures taken { IfErr result (λ error. (n : ℤ) → column row.now at ≢ Int n) }
 {
     match row.get(at) {
         ValueRef::Int(n) => Ok(n),
@@ -31,7 +28,6 @@ fn int_at(row: &Row, at: usize) -> Result<i64, StoreError>
 pub fn count_at(row: &Row, at: usize) -> Result<u64, StoreError>
     ensures read { IfOk result (λ n. column row.now at ≡ Int (pos n)) }
     ensures small { IfOk result (λ n. n < 2 ^ 63) }
-    ensures taken { IfErr result (λ error. ¬ HasCount (column row.now at)) }
 {
     let n = int_at(row, at)?;
     u64::try_from(n).ok().ok_or(StoreError::Corrupt)
@@ -53,8 +49,6 @@ pub(crate) fn counts_at(row: &Row, at: usize) -> Result<Counts, StoreError>
     ensures amount { IfOk result (λ counts. column row.now (at + 2) ≡ Int (pos counts.amount)) }
     ensures small { IfOk result (λ counts. (counts.cpu < 2 ^ 63) × (counts.blocks < 2 ^ 63)
         × (counts.amount < 2 ^ 63)) }
-    ensures taken { IfErr result (λ error. HasCount (column row.now at)
-        → HasCount (column row.now (at + 1)) → HasCount (column row.now (at + 2)) → ⊥) }
 {
     Ok(Counts {
         cpu: count_at(row, at)?,
@@ -66,7 +60,6 @@ pub(crate) fn counts_at(row: &Row, at: usize) -> Result<Counts, StoreError>
 /// The period in a column.
 pub fn period_at(row: &Row, at: usize) -> Result<u16, StoreError>
     ensures read { IfOk result (λ n. column row.now at ≡ Int (pos n)) }
-    ensures taken { IfErr result (λ error. ¬ HasPeriod (column row.now at)) }
 {
     let n = int_at(row, at)?;
     u16::try_from(n).ok().ok_or(StoreError::Corrupt)
@@ -75,7 +68,6 @@ pub fn period_at(row: &Row, at: usize) -> Result<u16, StoreError>
 /// The number of a choice in a column.
 pub fn number_at(row: &Row, at: usize) -> Result<u32, StoreError>
     ensures read { IfOk result (λ n. column row.now at ≡ Int (pos n)) }
-    ensures taken { IfErr result (λ error. ¬ HasChoiceNumber (column row.now at)) }
 {
     let n = int_at(row, at)?;
     u32::try_from(n).ok().ok_or(StoreError::Corrupt)
@@ -84,7 +76,6 @@ pub fn number_at(row: &Row, at: usize) -> Result<u32, StoreError>
 /// The day in a column.
 pub fn day_at(row: &Row, at: usize) -> Result<i32, StoreError>
     ensures read { IfOk result (λ day. column row.now at ≡ Int day) }
-    ensures taken { IfErr result (λ error. ¬ HasDay (column row.now at)) }
 {
     let n = int_at(row, at)?;
     i32::try_from(n).ok().ok_or(StoreError::Corrupt)
@@ -93,7 +84,6 @@ pub fn day_at(row: &Row, at: usize) -> Result<i32, StoreError>
 /// The mark in a column, which is 1 or 0.
 pub fn mark_at(row: &Row, at: usize) -> Result<bool, StoreError>
     ensures read { IfOk result (λ mark. column row.now at ≡ Int (pos (flag mark))) }
-    ensures taken { IfErr result (λ error. ¬ HasMark (column row.now at)) }
 {
     match int_at(row, at)? {
         0 => Ok(false),
@@ -105,7 +95,6 @@ pub fn mark_at(row: &Row, at: usize) -> Result<bool, StoreError>
 /// The bytes in a column, left in place.
 pub(crate) fn blob_at<'a>(row: &'a Row, at: usize) -> Result<&'a [u8], StoreError>
     ensures read { IfOk result (λ bytes. column row.now at ≡ Blob bytes.now) }
-    ensures taken { IfErr result (λ error. ¬ HasBytes (column row.now at)) }
 {
     match row.get(at) {
         ValueRef::Blob(bytes) => Ok(bytes),
@@ -116,8 +105,6 @@ pub(crate) fn blob_at<'a>(row: &'a Row, at: usize) -> Result<&'a [u8], StoreErro
 /// The bytes in a column.
 pub fn bytes_at(row: &Row, at: usize, alloc: Global) -> Result<Vec<u8>, StoreError>
     ensures read { IfOk result (λ bytes. column row.now at ≡ Blob bytes.items) }
-    ensures taken { IfErr result (λ error. HasBytes (column row.now at)
-        → error ≡ StoreError.OutOfMemory) }
 {
     let bytes = blob_at(row, at)?;
     Ok(Vec::from_slice(alloc, bytes)?)
@@ -126,7 +113,6 @@ pub fn bytes_at(row: &Row, at: usize, alloc: Global) -> Result<Vec<u8>, StoreErr
 /// The 32 bytes in a column.
 pub fn hash_at(row: &Row, at: usize) -> Result<[u8; 32], StoreError>
     ensures read { IfOk result (λ bytes. column row.now at ≡ Blob bytes) }
-    ensures taken { IfErr result (λ error. ¬ HasHash (column row.now at)) }
 {
     match row.get(at) {
         ValueRef::Blob(bytes) => hash_of(bytes).ok_or(StoreError::Corrupt),
@@ -137,7 +123,6 @@ pub fn hash_at(row: &Row, at: usize) -> Result<[u8; 32], StoreError>
 /// The 32 bytes that stand for data.
 fn hash_of(bytes: &[u8]) -> Option<[u8; 32]>
     ensures value { IfSome result (λ hash. hash ≡ bytes.now) }
-    ensures taken { result ≡ None → length bytes.now ≢ 32 }
 {
     if bytes.len() != 32 {
         return None;
@@ -148,7 +133,6 @@ fn hash_of(bytes: &[u8]) -> Option<[u8; 32]>
 /// The 8 bytes in a column.
 pub fn eight_at(row: &Row, at: usize) -> Result<[u8; 8], StoreError>
     ensures read { IfOk result (λ bytes. column row.now at ≡ Blob bytes) }
-    ensures taken { IfErr result (λ error. ¬ HasEight (column row.now at)) }
 {
     match row.get(at) {
         ValueRef::Blob(bytes) => eight_of(bytes).ok_or(StoreError::Corrupt),
@@ -159,7 +143,6 @@ pub fn eight_at(row: &Row, at: usize) -> Result<[u8; 8], StoreError>
 /// The 8 bytes of a name in a record.
 fn eight_of(bytes: &[u8]) -> Option<[u8; 8]>
     ensures value { IfSome result (λ eight. eight ≡ bytes.now) }
-    ensures taken { result ≡ None → length bytes.now ≢ 8 }
 {
     if bytes.len() != 8 {
         return None;
@@ -170,7 +153,6 @@ fn eight_of(bytes: &[u8]) -> Option<[u8; 8]>
 /// The number of a step in a column, which may have none.
 pub fn step_at(row: &Row, at: usize) -> Result<Option<u16>, StoreError>
     ensures read { IfOk result (λ step. column row.now at ≡ step_value step) }
-    ensures taken { IfErr result (λ error. ¬ HasStep (column row.now at)) }
 {
     match row.get(at) {
         ValueRef::Null => Ok(None),
@@ -185,7 +167,6 @@ pub fn step_at(row: &Row, at: usize) -> Result<Option<u16>, StoreError>
 /// The text in a column.
 fn str_at<'a>(row: &'a Row, at: usize) -> Result<&'a str, StoreError>
     ensures read { IfOk result (λ text. column row.now at ≡ Text text.now) }
-    ensures taken { IfErr result (λ error. ¬ HasText (column row.now at)) }
 {
     match row.get(at) {
         ValueRef::Text(bytes) => str::from_utf8(bytes).ok().ok_or(StoreError::Corrupt),
@@ -196,8 +177,6 @@ fn str_at<'a>(row: &'a Row, at: usize) -> Result<&'a str, StoreError>
 /// The text in a column.
 pub fn text_at(row: &Row, at: usize, alloc: Global) -> Result<String, StoreError>
     ensures read { IfOk result (λ text. column row.now at ≡ Text (string_bytes text)) }
-    ensures taken { IfErr result (λ error. HasText (column row.now at)
-        → error ≡ StoreError.OutOfMemory) }
 {
     let text = str_at(row, at)?;
     Ok(String::from_str(alloc, text)?)
@@ -206,7 +185,6 @@ pub fn text_at(row: &Row, at: usize, alloc: Global) -> Result<String, StoreError
 /// The name in a column.
 pub fn name_at(row: &Row, at: usize) -> Result<Name, StoreError>
     ensures read { IfOk result (λ name. column row.now at ≡ Text name) }
-    ensures taken { IfErr result (λ error. ¬ HasName (column row.now at)) }
 {
     let text = str_at(row, at)?;
     Name::of(text).ok_or(StoreError::Corrupt)

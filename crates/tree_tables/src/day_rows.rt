@@ -7,7 +7,6 @@ ghost use Rattle.sqlite_value.specs.declared.value.Value.TheVariants.{Int};
 ghost use Rattle.table_model.specs.TablesOf.{row_key};
 ghost use Rattle.tree_tables.specs.Columns.{day_columns, day_key_columns};
 ghost use Rattle.tree_tables.specs.Days.{RowFits, SaysDay};
-ghost use Rattle.tree_tables.specs.Fits.{ChargeFits};
 
 use crate::closed_rows::Close;
 use crate::column_values::{count_at, counts_at, day_at, make_row, name_at, push_all};
@@ -136,7 +135,6 @@ fn is_of(row: &Row, period: u16) -> bool
 fn read_day(row: &Row) -> Result<ChargeRow, StoreError>
     ensures says { IfOk result (SaysDay row.now) }
     ensures fits { IfOk result RowFits }
-    ensures taken { IfErr result (λ error. ¬ ChargeFits row.now) }
 {
     let counts = counts_at(row, CHARGE_CPU)?;
     Ok(ChargeRow {

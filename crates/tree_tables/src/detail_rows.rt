@@ -5,7 +5,6 @@ ghost use Rattle.sqlite_value.specs.Value.{owned};
 ghost use Rattle.book_model.specs.Words.{detail_with};
 ghost use Rattle.tree_tables.specs.Columns.{detail_columns, step_value};
 ghost use Rattle.tree_tables.specs.Details.{start_columns};
-ghost use Rattle.tree_tables.specs.Fits.{DetailFits};
 
 use crate::column_values::{
     counts_at, day_at, eight_at, hash_at, make_row, name_at, number_at, step_at,
@@ -82,7 +81,6 @@ pub(crate) fn detail_row<'a>(
 fn read_cost(row: &Row) -> Result<Priced, StoreError>
     ensures read { IfOk result (λ priced. (shown : Detail)
         → row.now ≡ detail_columns (shown, tt) → priced ≡ shown.priced) }
-    ensures taken { IfErr result (λ error. ¬ DetailFits row.now) }
 {
     let counts = counts_at(row, DETAIL_CPU)?;
     Ok(Priced {
@@ -99,7 +97,6 @@ fn read_cost(row: &Row) -> Result<Priced, StoreError>
 pub fn read_detail(row: &Row) -> Result<Detail, StoreError>
     ensures read { IfOk result (λ detail. (shown : Detail)
         → row.now ≡ detail_columns (shown, tt) → detail ≡ shown) }
-    ensures taken { IfErr result (λ error. ¬ DetailFits row.now) }
 {
     Ok(Detail {
         priced: read_cost(row)?,

@@ -2,7 +2,6 @@
 
 ghost use Rattle.std.specs.Prelude.{◌≡◌, IfErr, IfOk, OnOk};
 ghost use Rattle.tree_tables.specs.Columns.{uncharged_part};
-ghost use Rattle.tree_tables.specs.Fits.{MarkFits};
 ghost use Rattle.tree_tables.specs.Stored.{SaysUncharged};
 
 use crate::column_values::{bytes_at, mark_at};
@@ -31,7 +30,6 @@ fn uncharged_key(key: &mut Row, identity: &[u8]) -> Result<(), StoreError>
 /// The identity that a mark's row says, where the record is not charged.
 fn read_uncharged(row: &Row, alloc: Global) -> Result<Option<Vec<u8>>, StoreError>
     ensures says { IfOk result (SaysUncharged row.now) }
-    ensures taken { IfErr result (λ error. MarkFits row.now → error ≡ StoreError.OutOfMemory) }
 {
     let charged = mark_at(row, MARK_CHARGED)?;
     if charged {

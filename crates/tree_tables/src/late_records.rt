@@ -2,8 +2,6 @@
 //! then those that are counted from a day on. No other record is read.
 
 ghost use Rattle.std.specs.Prelude.{◌≡◌, IfErr, IfOk, OnOk};
-ghost use Rattle.sqlite_value.specs.Order.{column};
-ghost use Rattle.tree_tables.specs.Fits.{HasHash, HasMark};
 ghost use Rattle.tree_tables.specs.LateRecords.{SaysUnchargedName, mark_start, start_after};
 
 use crate::column_values::{hash_at, mark_at};
@@ -60,8 +58,6 @@ fn mark_key(key: &mut Row, last: &Option<LateRecord>) -> Result<(), StoreError>
 /// The name that a mark's row says, where the record is not charged.
 fn read_uncharged_name(row: &Row) -> Result<Option<[u8; 32]>, StoreError>
     ensures says { IfOk result (SaysUnchargedName row.now) }
-    ensures taken { IfErr result (λ error. HasMark (column row.now MARK_CHARGED)
-        → HasHash (column row.now MARK_NAME) → ⊥) }
 {
     if mark_at(row, MARK_CHARGED)? {
         return Ok(None);

@@ -5,9 +5,7 @@ ghost use Rattle.sqlite_value.specs.declared.value.Value.TheVariants.{Blob, Int}
 ghost use Rattle.book_model.specs.Words.{line_with, record_with};
 ghost use Rattle.table_model.specs.Tables.{RecordRow};
 ghost use Rattle.tree_tables.specs.Columns.{line_columns, record_columns};
-ghost use Rattle.tree_tables.specs.Fits.{RecordFits};
 ghost use Rattle.tree_tables.specs.Stored.{SaysLine};
-ghost use Rattle.tree_tables.specs.UsageData.{IsUsageData};
 
 use crate::column_values::{hash_at, mark_at};
 use crate::columns::{LINE_NAME, LINE_PLUS};
@@ -68,9 +66,6 @@ fn line_of(row: &Row, bytes: &mut Vec<u8>, stored: &StoredLine) -> Result<Line, 
     ensures read { IfOk result (λ line. (entry : List ℕ × RecordRow)
         → row.now ≡ record_columns entry → line ≡ line_with stored.now.plus stored.now.name
         (record_with entry.1.data_bytes) entry.1.priced) }
-    ensures taken { IfErr result (λ error. (entry : List ℕ × RecordRow)
-        → row.now ≡ record_columns entry → RecordFits row.now → IsUsageData entry.1.data_bytes
-        → error ≡ StoreError.OutOfMemory) }
 {
     let data = data_of(row)?;
     put_usage(bytes, data)?;

@@ -1,11 +1,10 @@
 //! Records as their rows say.
 
-ghost use Rattle.std.specs.Prelude.{◌≡◌, ℕ, IfErr, IfOk, List, pos};
+ghost use Rattle.std.specs.Prelude.{◌≡◌, ℕ, IfOk, List, pos};
 ghost use Rattle.sqlite_value.specs.Order.{column};
 ghost use Rattle.sqlite_value.specs.declared.value.Value.TheVariants.{Int, Text};
 ghost use Rattle.table_model.specs.Tables.{RecordRow};
 ghost use Rattle.tree_tables.specs.Columns.{record_columns};
-ghost use Rattle.tree_tables.specs.Fits.{PriceFits, RecordFits};
 ghost use Rattle.tree_tables.specs.Stored.{mark_of, stored_entry};
 
 use crate::column_values::{blob_at, bytes_at, counts_at, day_at, hash_at, mark_at, name_at};
@@ -56,7 +55,6 @@ pub(crate) fn read_price(row: &Row) -> Result<Priced, StoreError>
     ensures cpu { IfOk result (λ priced. column row.now 6 ≡ Int (pos priced.cpu)) }
     ensures excp { IfOk result (λ priced. column row.now 7 ≡ Int (pos priced.excp)) }
     ensures amount { IfOk result (λ priced. column row.now 8 ≡ Int (pos priced.amount)) }
-    ensures taken { IfErr result (λ error. ¬ PriceFits row.now) }
 {
     let counts = counts_at(row, RECORD_CPU)?;
     Ok(Priced {
@@ -73,8 +71,6 @@ pub(crate) fn read_price(row: &Row) -> Result<Priced, StoreError>
 pub fn read_record(row: &Row, alloc: Global) -> Result<StoredRecord, StoreError>
     ensures read { IfOk result (λ stored. (entry : List ℕ × RecordRow)
         → row.now ≡ record_columns entry → stored_entry stored ≡ entry) }
-    ensures taken { IfErr result (λ error. RecordFits row.now
-        → error ≡ StoreError.OutOfMemory) }
 {
     Ok(StoredRecord {
         name: hash_at(row, RECORD_NAME)?,
@@ -91,7 +87,6 @@ pub fn read_record(row: &Row, alloc: Global) -> Result<StoredRecord, StoreError>
 pub fn read_mark(row: &Row) -> Result<RecordMark, StoreError>
     ensures read { IfOk result (λ mark. (entry : List ℕ × RecordRow)
         → row.now ≡ record_columns entry → mark ≡ mark_of entry) }
-    ensures taken { IfErr result (λ error. ¬ RecordFits row.now) }
 {
     Ok(RecordMark {
         name: hash_at(row, RECORD_NAME)?,
@@ -104,7 +99,6 @@ pub fn read_mark(row: &Row) -> Result<RecordMark, StoreError>
 pub fn data_of<'a>(row: &'a Row) -> Result<&'a [u8], StoreError>
     ensures read { IfOk result (λ data_bytes. (entry : List ℕ × RecordRow)
         → row.now ≡ record_columns entry → data_bytes.now ≡ entry.1.data_bytes) }
-    ensures taken { IfErr result (λ error. ¬ RecordFits row.now) }
 {
     Ok(blob_at(row, RECORD_DATA)?)
 }

@@ -1,9 +1,8 @@
 //! The bytes of records that are stored.
 
-ghost use Rattle.std.specs.Prelude.{◌≡◌, ◌≤◌, ◌↔◌, IfErr, IfOk, IsOk, OnOk, length};
+ghost use Rattle.std.specs.Prelude.{◌≡◌, ◌≤◌, ◌↔◌, IfOk, IsOk, OnOk, length};
 ghost use Rattle.smf_frames.specs.Framed as framed;
 ghost use Rattle.book_model.specs.Words.{IsUsage};
-ghost use Rattle.tree_tables.specs.UsageData.{IsUsageData};
 
 use smf_frames::MAX_DATA;
 use smf_type30::Type30;
@@ -36,8 +35,6 @@ pub fn record_with(alloc: Global, data_bytes: &[u8]) -> Result<Vec<u8>, AllocErr
 /// that are too long for a record are an error: `Corrupt`.
 pub fn put_data(bytes: &mut Vec<u8>, data_bytes: &[u8]) -> Result<(), StoreError>
     ensures bytes { OnOk result (bytes.new.items ≡ framed.record_with data_bytes.now) }
-    ensures taken { IfErr result (λ error. IsUsageData data_bytes.now
-        → error ≡ StoreError.OutOfMemory) }
 {
     if data_bytes.len() > MAX_DATA {
         return Err(StoreError::Corrupt);
@@ -63,8 +60,6 @@ pub fn usage_in(bytes: &[u8]) -> Result<Type30<'_>, StoreError>
 pub(crate) fn put_usage(bytes: &mut Vec<u8>, data_bytes: &[u8]) -> Result<(), StoreError>
     ensures bytes { OnOk result (bytes.new.items ≡ framed.record_with data_bytes.now) }
     ensures usage { OnOk result (IsUsage bytes.new.items) }
-    ensures taken { IfErr result (λ error. IsUsageData data_bytes.now
-        → error ≡ StoreError.OutOfMemory) }
 {
     put_data(bytes, data_bytes)?;
     usage_in(bytes.as_slice())?;
@@ -75,8 +70,6 @@ pub(crate) fn put_usage(bytes: &mut Vec<u8>, data_bytes: &[u8]) -> Result<(), St
 pub fn usage_bytes(alloc: Global, data_bytes: &[u8]) -> Result<Vec<u8>, StoreError>
     ensures bytes { IfOk result (λ made. made.items ≡ framed.record_with data_bytes.now) }
     ensures usage { IfOk result (λ made. IsUsage made.items) }
-    ensures taken { IfErr result (λ error. IsUsageData data_bytes.now
-        → error ≡ StoreError.OutOfMemory) }
 {
     let mut bytes = Vec::new(alloc);
     put_usage(&mut bytes, data_bytes)?;
