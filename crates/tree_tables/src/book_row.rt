@@ -1,6 +1,6 @@
 //! The one row of the book.
 
-ghost use Rattle.std.specs.Prelude.{◌≡◌, ◌<◌, ◌^◌, IfErr, IfOk, OnOk, pos};
+ghost use Rattle.std.specs.Prelude.{◌≡◌, ◌<◌, ◌^◌, IfOk, OnOk, pos};
 ghost use Rattle.sqlite_value.specs.Order.{column};
 ghost use Rattle.sqlite_value.specs.declared.value.Value.TheVariants.{Int};
 ghost use Rattle.tree_tables.specs.Columns.{book_columns};
@@ -58,7 +58,6 @@ fn book_row(row: &mut Row, book: &StoredBook) -> Result<(), StoreError>
     requires held { book.now.held < 2 ^ 63 }
     requires amount { book.now.amount < 2 ^ 63 }
     ensures made { OnOk result (row.new ≡ book_columns (book_entry book.now)) }
-    ensures memory { IfErr result (λ error. error ≡ StoreError.OutOfMemory) }
 {
     make_row(
         row,

@@ -1,6 +1,6 @@
 //! The charged record of an identity, found by its mark.
 
-ghost use Rattle.std.specs.Prelude.{◌≡◌, IfErr, OnOk};
+ghost use Rattle.std.specs.Prelude.{◌≡◌, OnOk};
 ghost use Rattle.tree_tables.specs.Columns.{charged_part};
 
 use crate::column_values::hash_at;
@@ -19,7 +19,6 @@ use tree_rows::find_row;
 /// The first columns of the marks of charged records that have an identity.
 fn charged_key(key: &mut Row, identity: &[u8]) -> Result<(), StoreError>
     ensures made { OnOk result (key.new ≡ charged_part identity.now) }
-    ensures memory { IfErr result (λ error. error ≡ StoreError.OutOfMemory) }
 {
     number_key(key, IS_CHARGED)?;
     key.push(ValueRef::Blob(identity))?;

@@ -1,7 +1,7 @@
 //! Columns that are read into types of the books. A column that does not fit is an error:
 //! `Corrupt`.
 
-ghost use Rattle.std.specs.Prelude.{◌≡◌, ◌<◌, ◌+◌, ◌++◌, ◌^◌, IfErr, IfOk, IfSome, OnOk, map, pos};
+ghost use Rattle.std.specs.Prelude.{◌≡◌, ◌<◌, ◌+◌, ◌++◌, ◌^◌, IfOk, IfSome, OnOk, map, pos};
 ghost use Rattle.std.specs.Prelude.{slice_set, string_bytes};
 ghost use Rattle.sqlite_value.specs.Order.{column};
 ghost use Rattle.sqlite_value.specs.Value.{owned};
@@ -193,7 +193,6 @@ pub fn name_at(row: &Row, at: usize) -> Result<Name, StoreError>
 /// Values join a row.
 pub(crate) fn push_all(row: &mut Row, values: &[ValueRef<'_>]) -> Result<(), StoreError>
     ensures made { OnOk result (row.new ≡ row.old ++ map owned values.now) }
-    ensures memory { IfErr result (λ error. error ≡ StoreError.OutOfMemory) }
 {
     for value in values {
         row.push(*value)?;
@@ -204,7 +203,6 @@ pub(crate) fn push_all(row: &mut Row, values: &[ValueRef<'_>]) -> Result<(), Sto
 /// Makes a row of values.
 pub(crate) fn make_row(row: &mut Row, values: &[ValueRef<'_>]) -> Result<(), StoreError>
     ensures made { OnOk result (row.new ≡ map owned values.now) }
-    ensures memory { IfErr result (λ error. error ≡ StoreError.OutOfMemory) }
 {
     row.clear();
     push_all(row, values)

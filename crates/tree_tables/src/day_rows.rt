@@ -1,7 +1,6 @@
 //! Charge rows by period and place.
 
-ghost use Rattle.std.specs.Prelude.{◌≡◌, ◌==◌, ◌∷◌, ◌+ℤ◌, [], ℕ, IfErr, IfOk, IsTrue, OnOk, map};
-ghost use Rattle.std.specs.Prelude.{pos};
+ghost use Rattle.std.specs.Prelude.{◌≡◌, ◌==◌, ◌∷◌, ◌+ℤ◌, [], ℕ, IfOk, IsTrue, OnOk, map, pos};
 ghost use Rattle.sqlite_value.specs.Order.{column};
 ghost use Rattle.sqlite_value.specs.declared.value.Value.TheVariants.{Int};
 ghost use Rattle.table_model.specs.TablesOf.{row_key};
@@ -167,7 +166,6 @@ impl ReadRow for StoredDay {
 /// The charge rows that were read.
 fn charges(days: &[StoredDay], alloc: Global) -> Result<Vec<ChargeRow>, StoreError>
     ensures made { IfOk result (λ list. list.items ≡ map (λ day. day.charge) days.now) }
-    ensures memory { IfErr result (λ error. error ≡ StoreError.OutOfMemory) }
 {
     let mut list = Vec::new(alloc);
     for day in days {

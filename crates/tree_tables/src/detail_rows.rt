@@ -1,6 +1,6 @@
 //! The records that are counted, as details show them, in the order of details.
 
-ghost use Rattle.std.specs.Prelude.{◌≡◌, ◌++◌, ◌∷◌, [], IfErr, IfOk, OnOk};
+ghost use Rattle.std.specs.Prelude.{◌≡◌, ◌++◌, ◌∷◌, [], IfOk, OnOk};
 ghost use Rattle.sqlite_value.specs.Value.{owned};
 ghost use Rattle.book_model.specs.Words.{detail_with};
 ghost use Rattle.tree_tables.specs.Columns.{detail_columns, step_value};
@@ -121,7 +121,6 @@ pub(crate) fn bytes_after(name: &[u8; 32]) -> [u8; 33]
 /// The first columns of the details after one.
 fn after_key(key: &mut Row, last: &Detail) -> Result<(), StoreError>
     ensures made { OnOk result (key.new ≡ start_columns (DetailStart.After last.now)) }
-    ensures memory { IfErr result (λ error. error ≡ StoreError.OutOfMemory) }
 {
     number_key(key, i64::from(last.priced.day))?;
     key.push(ValueRef::Text(last.priced.centre.text().as_bytes()))?;
@@ -134,7 +133,6 @@ fn after_key(key: &mut Row, last: &Detail) -> Result<(), StoreError>
 /// The first columns of the details from a start on.
 fn start_key(key: &mut Row, start: &DetailStart) -> Result<(), StoreError>
     ensures made { OnOk result (key.new ≡ start_columns start.now) }
-    ensures memory { IfErr result (λ error. error ≡ StoreError.OutOfMemory) }
 {
     match start {
         DetailStart::First => {

@@ -1,6 +1,6 @@
 //! Identities of records that are not charged, one after another, and all records of one.
 
-ghost use Rattle.std.specs.Prelude.{◌≡◌, IfErr, IfOk, OnOk};
+ghost use Rattle.std.specs.Prelude.{◌≡◌, IfOk, OnOk};
 ghost use Rattle.tree_tables.specs.Columns.{uncharged_part};
 ghost use Rattle.tree_tables.specs.Stored.{SaysUncharged};
 
@@ -20,7 +20,6 @@ use tree_rows::{first_from, list_run};
 /// The first columns of the marks of records that are not charged and have an identity.
 fn uncharged_key(key: &mut Row, identity: &[u8]) -> Result<(), StoreError>
     ensures made { OnOk result (key.new ≡ uncharged_part identity.now) }
-    ensures memory { IfErr result (λ error. error ≡ StoreError.OutOfMemory) }
 {
     number_key(key, NOT_CHARGED)?;
     key.push(ValueRef::Blob(identity))?;

@@ -1,6 +1,6 @@
 //! Keys as they are looked for: the first columns of rows.
 
-ghost use Rattle.std.specs.Prelude.{◌≡◌, ◌∷◌, [], IfErr, OnOk, pos};
+ghost use Rattle.std.specs.Prelude.{◌≡◌, ◌∷◌, [], OnOk, pos};
 ghost use Rattle.sqlite_value.specs.declared.value.Value.TheVariants.{Blob, Int};
 
 use sqlite_trees::error::StoreError;
@@ -16,7 +16,6 @@ pub(crate) const IS_CHARGED: i64 = 1;
 /// A number as a key.
 pub(crate) fn number_key(key: &mut Row, number: i64) -> Result<(), StoreError>
     ensures made { OnOk result (key.new ≡ Int number ∷ []) }
-    ensures memory { IfErr result (λ error. error ≡ StoreError.OutOfMemory) }
 {
     key.clear();
     key.push(ValueRef::Int(number))?;
@@ -33,7 +32,6 @@ pub(crate) fn day_key(key: &mut Row, day: i32) -> Result<(), StoreError>
 /// A period as a key.
 pub(crate) fn period_key(key: &mut Row, period: u16) -> Result<(), StoreError>
     ensures made { OnOk result (key.new ≡ Int (pos period) ∷ []) }
-    ensures memory { IfErr result (λ error. error ≡ StoreError.OutOfMemory) }
 {
     number_key(key, i64::from(period))
 }
@@ -41,7 +39,6 @@ pub(crate) fn period_key(key: &mut Row, period: u16) -> Result<(), StoreError>
 /// The number of a choice as a key.
 pub(crate) fn choice_key(key: &mut Row, number: u32) -> Result<(), StoreError>
     ensures made { OnOk result (key.new ≡ Int (pos number) ∷ []) }
-    ensures memory { IfErr result (λ error. error ≡ StoreError.OutOfMemory) }
 {
     number_key(key, i64::from(number))
 }
@@ -49,7 +46,6 @@ pub(crate) fn choice_key(key: &mut Row, number: u32) -> Result<(), StoreError>
 /// Bytes as a key.
 pub(crate) fn bytes_key(key: &mut Row, bytes: &[u8]) -> Result<(), StoreError>
     ensures made { OnOk result (key.new ≡ Blob bytes.now ∷ []) }
-    ensures memory { IfErr result (λ error. error ≡ StoreError.OutOfMemory) }
 {
     key.clear();
     key.push(ValueRef::Blob(bytes))?;

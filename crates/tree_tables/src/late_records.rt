@@ -1,7 +1,7 @@
 //! The records that a later tariff may be for, one after another: those that are not charged, and
 //! then those that are counted from a day on. No other record is read.
 
-ghost use Rattle.std.specs.Prelude.{◌≡◌, IfErr, IfOk, OnOk};
+ghost use Rattle.std.specs.Prelude.{◌≡◌, IfOk, OnOk};
 ghost use Rattle.tree_tables.specs.LateRecords.{SaysUnchargedName, mark_start, start_after};
 
 use crate::column_values::{hash_at, mark_at};
@@ -44,7 +44,6 @@ fn next_start(last: &Option<LateRecord>) -> Option<DetailStart>
 /// The first columns of the marks of records that are not charged, after one or from the first on.
 fn mark_key(key: &mut Row, last: &Option<LateRecord>) -> Result<(), StoreError>
     ensures made { OnOk result (key.new ≡ mark_start last.now) }
-    ensures memory { IfErr result (λ error. error ≡ StoreError.OutOfMemory) }
 {
     number_key(key, NOT_CHARGED)?;
     let Some(late) = last else {

@@ -1,6 +1,6 @@
 //! Adjustment lines by period and name.
 
-ghost use Rattle.std.specs.Prelude.{◌≡◌, ◌∷◌, [], ℕ, IfErr, IfOk, List, OnOk, pos};
+ghost use Rattle.std.specs.Prelude.{◌≡◌, ◌∷◌, [], ℕ, IfOk, List, OnOk, pos};
 ghost use Rattle.sqlite_value.specs.declared.value.Value.TheVariants.{Blob, Int};
 ghost use Rattle.book_model.specs.Words.{line_with, record_with};
 ghost use Rattle.table_model.specs.Tables.{RecordRow};
@@ -45,7 +45,6 @@ pub struct StoredLine {
 /// The key of a line.
 fn line_key(key: &mut Row, spot: &LineKey<'_>) -> Result<(), StoreError>
     ensures made { OnOk result (key.new ≡ Int (pos spot.now.period) ∷ Blob spot.now.name.now ∷ []) }
-    ensures memory { IfErr result (λ error. error ≡ StoreError.OutOfMemory) }
 {
     number_key(key, i64::from(spot.period))?;
     key.push(ValueRef::Blob(spot.name))?;

@@ -1,8 +1,7 @@
 //! Walks and passes over all records, by name; and what a close posts, in such a walk or one record
 //! at a time.
 
-ghost use Rattle.std.specs.Prelude.{◌≡◌, ◌∷◌, [], IfErr, IfOk, OnErr, OnOk};
-ghost use Rattle.std.specs.Prelude.{slice_set};
+ghost use Rattle.std.specs.Prelude.{◌≡◌, ◌∷◌, [], IfOk, OnErr, OnOk, slice_set};
 ghost use Rattle.sqlite_trees.specs.View.{IsClean, KeepsSchema};
 ghost use Rattle.sqlite_value.specs.Order.{column};
 ghost use Rattle.table_model.specs.RowChanges.{post_by};
@@ -59,7 +58,6 @@ pub(crate) fn column_key(key: &mut Row, row: &Row, at: usize) -> Result<(), Stor
 /// The key of the name that a walk has come to, with no columns before the first.
 fn walk_key(key: &mut Row, last: Option<[u8; 32]>) -> Result<(), StoreError>
     ensures made { OnOk result (key.new ≡ last_name_key last) }
-    ensures memory { IfErr result (λ error. error ≡ StoreError.OutOfMemory) }
 {
     match last {
         None => {
