@@ -94,7 +94,7 @@ fn read_cost(row: &Row) -> Result<Priced, StoreError>
 }
 
 /// What a row of details says.
-pub fn read_detail(row: &Row) -> Result<Detail, StoreError>
+fn read_detail(row: &Row) -> Result<Detail, StoreError>
     ensures read { IfOk result (λ detail. (shown : Detail)
         → row.now ≡ detail_columns (shown, tt) → detail ≡ shown) }
 {

@@ -40,7 +40,7 @@ pub use column_values::{
 pub use day_rows::{DayKey, DayRow};
 pub use detail_changes::{DetailScratch, count_in};
 pub use detail_fill::{closes_in, lines_in, next_record_in, start_records};
-pub use detail_rows::{DetailStart, read_detail};
+pub use detail_rows::DetailStart;
 pub use forms::THIS_FORM;
 pub use found_names::FoundName;
 pub use late_records::LateRecord;
