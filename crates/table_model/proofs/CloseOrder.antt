@@ -1,9 +1,9 @@
 -- Days that rise, with a later one after them.
-use Rattle.std.proofs.Common.{◌≡◌, List, [], ◌∷◌, ◌++◌, sym, Option, Some, None, arith, refl, true}
-use Rattle.std.proofs.Common.{ℤ, ◌<ℤ◌, MatchOption, int_lt, int_cmp, Less}
+use Rattle.std.proofs.Common.{◌≡◌, List, [], ◌∷◌, ◌++◌, sym, Some, None, arith}
+use Rattle.std.proofs.Common.{ℤ, ◌<ℤ◌, MatchOption, int_cmp, Less}
 use Rattle.std.specs.Cmp.{int_cmp_is, int_ranked}
 use Rattle.std.specs.List.Sorted.{IsStrictlySortedBy}
-use Rattle.book_model.proofs.Std.{AllByRecursion, last_or, option_map_or, ints}
+use Rattle.book_model.proofs.Std.{AllByRecursion, last_or, ints}
 
 -- a day is later than another if it compares so
 pub earlier : (one other : ℤ) → int_cmp one other ≡ Less → one <ℤ other
@@ -38,16 +38,3 @@ rise_behind (first ∷ next ∷ days) day rising later =
         → AllByRecursion (λ other. int_cmp first other ≡ Less) (others ++ day ∷ [])
     all_less [] less last = (last, tt)
     all_less (other ∷ others) less last = (less.0, all_less others less.1 last)
-
--- days that are later than one, if there is one
-abbrev pub Behind : Option ℤ → List ℤ → Type 0
-Behind None days = Unit {0}
-Behind (Some last) days = AllByRecursion (λ day. int_cmp last day ≡ Less) days
-
--- the first of them is
-pub late_first : (last : Option ℤ) (day : ℤ) (days : List ℤ) → Behind last (day ∷ days)
-    → option_map_or (λ last. int_lt last day) last true ≡ true
-late_first None day days behind = refl
-late_first (Some last) day days behind =
-    let less : last <ℤ day = earlier last day behind.0 in
-    grind (arith, ints)

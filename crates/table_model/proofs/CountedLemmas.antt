@@ -2,10 +2,9 @@
 use Rattle.std.proofs.Common.{◌≡◌, ℕ, suc, ◌-◌, ◌≤◌, List, [], ◌∷◌, map, length, sym, ap, ◌∙◌}
 use Rattle.std.proofs.Common.{subst, true, Bool, ◌&&◌, Option, Some, arith, filter, filter_map}
 use Rattle.std.proofs.Common.{length-append, map-id}
-use Rattle.book_model.proofs.Std.{entries, nat_list_cmp_total, length-map, length_permutation}
-use Rattle.book_model.proofs.Std.{count_by-le-length, length-filter, exact_bytes, slice_get_within}
-use Rattle.book_model.proofs.Std.{map-map}
-use Rattle.book_model.specs.Words.{Priced, AreAmong, Book, Naming, Period, Terms, all_periods}
+use Rattle.book_model.proofs.Std.{entries, nat_list_cmp_total, length_permutation}
+use Rattle.book_model.proofs.Std.{exact_bytes, map-map, slice_get_within}
+use Rattle.book_model.specs.Words.{Priced, AreAmong, Book, Naming, Period, all_periods}
 use Rattle.book_model.specs.Words.{by_bytes, charged_of, has, members, most_held, name_of, no_event}
 use Rattle.book_model.specs.Words.{open_by, open_period, period_of, price_by, price_in}
 use Rattle.book_model.specs.Words.{rows_if_room, set_of, those, what_if_answer, is_day_of}
@@ -110,16 +109,6 @@ few_rows naming book whole =
     let given = given_few (entry naming book whole.sound) (members book.held) in
     let held = whole.limits.held in
     omega (arith, same, given, held)
-
--- there are no more costs of those that pass a test than rows
-pub few_costs : (terms : Terms) (test : List ℕ × RecordRow → Bool)
-    (rows : List (List ℕ × RecordRow)) → length (row_costs terms (filter test rows)) ≤ length rows
-few_costs terms test rows =
-    let mapped = length-map (filter test rows)
-    (λ (row : List ℕ × RecordRow). price_by terms (row_record row.1)) in
-    let passed = length-filter test rows in
-    let some = count_by-le-length test rows in
-    omega (arith, mapped, passed, some)
 
 -- the law
 pub counted_follows : CountedFollows
