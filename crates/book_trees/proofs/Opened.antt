@@ -1,6 +1,6 @@
 -- From what the files held to what an opened store shows.
 use Rattle.std.proofs.Common.{◌≡◌, ◌≢◌, List, [], true, false, true≢false, IsTrue}
-use Rattle.std.proofs.Common.{refl, sym, subst, ap, ◌∙◌, inl, inr, arith}
+use Rattle.std.proofs.Common.{refl, sym, subst, ap, ◌∙◌, ◌⊎◌, inl, inr, arith}
 use Rattle.std.proofs.Math.Logic.{∥∥₁_elim, ∥∥₁_map}
 use Rattle.sqlite_disk.specs.declared.Disk.{Ghosts}
 use Rattle.sqlite_pages.specs.PageMap.{PageMap}
@@ -25,11 +25,11 @@ use Rattle.book_trees.proofs.BlankFiles.{blank_unsound}
 use Rattle.book_trees.proofs.FormLemmas.{first_is_not_this}
 use Rattle.book_trees.proofs.ListingLemmas.{books_listed, first_listed}
 use Rattle.book_trees.proofs.Trees.{has_trees}
-use Rattle.book_trees.specs.LedgerFiles.{page_size, AreLeft, HoldsBooks, HoldsFirstBooks}
+use Rattle.book_trees.specs.LedgerFiles.{page_size, HoldsBooks, HoldsFirstBooks, HoldsNothing}
 use Rattle.book_trees.specs.LedgerFiles.{HoldsTables, trees_held}
 use Rattle.book_trees.specs.Listing.{lists_books, lists_first_books}
 use Rattle.book_trees.specs.Schema.{books_schema, first_schema}
-use Rattle.book_trees.specs.StoreView.{IsOpen, ListsBooks, ShowsBooks}
+use Rattle.book_trees.specs.StoreView.{AreLeft, IsOpen, ListsBooks, ShowsBooks}
 
 -- an empty list of rows does not list books
 none_listed : lists_books [] ≡ true → ⊥
@@ -106,7 +106,8 @@ module _ {D : Type 0} {g : Ghosts D} (old mid : Unopened D g) (rows : List Row)
       blank_unsound (image old) listed.pages found_old sound blank
 
   -- files that a ledger left and that list books are those of books,
-  holds_books : lists_books rows ≡ true → (state_of mid).page_size ≡ page_size → AreLeft (image old)
+  holds_books : lists_books rows ≡ true → (state_of mid).page_size ≡ page_size
+      → HoldsNothing (image old) ⊎ (HoldsBooks (image old) ⊎ HoldsFirstBooks (image old))
       → HoldsBooks (image old)
   holds_books books size (inl (inl blank)) = absurd (never_blank size blank)
   holds_books books size (inl (inr none)) =
@@ -145,7 +146,7 @@ module _ {D : Type 0} {g : Ghosts D} (old mid : Unopened D g) (rows : List Row)
   pub has_file : lists_books rows ≡ true → AreLeft (image old)
       → (state_of mid).page_size ≡ page_size → wanted_by mid ≡ books_schema → HasFile mid
   has_file books left size schema =
-      held_file (holds_books books size left) size schema
+      held_file (holds_books books size (left.left (lists_here books))) size schema
 
   -- what is then committed are the pages that were listed,
   pub committed_listed : (pages : PageMap) → (state_of mid).page_size ≡ page_size

@@ -61,11 +61,6 @@ pub record HoldsNone (image : Image) : Type 0 where
 abbrev pub HoldsNothing : Image → Type 0
 HoldsNothing image = IsBlankFile page_size image ⊎ HoldsNone image
 
--- The files are empty, or a ledger left them, if one of the first form. A stop inside the making of
--- books leaves a part of the first page, or a database that was begun.
-abbrev pub AreLeft : Image → Type 0
-AreLeft image = HoldsNothing image ⊎ (HoldsBooks image ⊎ HoldsFirstBooks image)
-
 -- no table has a row
 abbrev pub AreEmptyTables : Trees → Type 0
 AreEmptyTables trees = (tree : ℕ) → tree < 2 ^ 32 → trees tree ≡ []

@@ -2,9 +2,9 @@ use Rattle.std.proofs.Common.{◌≡◌, subst, sym}
 use Rattle.sqlite_store.specs.FileStore.{view}
 use Rattle.sqlite_wal.specs.Recovery.{Image}
 use Rattle.book_trees.specs.Forms.{HoldNoNewer}
-use Rattle.book_trees.specs.LedgerFiles.{AreLeft, HoldsBooks, trees_held}
+use Rattle.book_trees.specs.LedgerFiles.{HoldsBooks, trees_held}
 use Rattle.book_trees.specs.Schema.{books_schema}
-use Rattle.book_trees.specs.StoreView.{ShowsBooks}
+use Rattle.book_trees.specs.StoreView.{AreLeft, ShowsBooks}
 use Rattle.book_trees.proofs.FreshFiles.{as_found, fresh_image, fresh_images}
 use Rattle.book_trees.proofs.opening.open_at.Goals as goal
 

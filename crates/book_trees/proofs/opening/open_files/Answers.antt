@@ -7,9 +7,9 @@ use Rattle.book_trees.proofs.FileParts.{store_honest, store_kept}
 use Rattle.book_trees.proofs.FormNumbers.{newer_refused, none_newer}
 use Rattle.book_trees.proofs.ToldCauses.{told_cause}
 use Rattle.book_trees.specs.Forms.{HoldsThisForm}
-use Rattle.book_trees.specs.LedgerFiles.{image_of, AreLeft, HoldsBooks}
+use Rattle.book_trees.specs.LedgerFiles.{image_of, HoldsBooks}
 use Rattle.book_trees.specs.Refusals.{faults_in, AreFull}
-use Rattle.book_trees.specs.StoreView.{ShowsBooks}
+use Rattle.book_trees.specs.StoreView.{AreLeft, ShowsBooks}
 use Rattle.book_trees.proofs.opening.open_files.Goals as goal
 
 pub open_left-requires-clause-left : goal.open_left-requires-clause-left
