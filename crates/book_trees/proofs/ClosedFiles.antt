@@ -1,34 +1,30 @@
 -- What may be found of the files of books that were closed.
-use Rattle.std.proofs.Common.{◌≡◌, ◌≢◌, ◌≤◌, ◌<◌, ◌+◌, Bool, true, false, IsTrue, List, ℕ}
+use Rattle.std.proofs.Common.{◌≡◌, ◌≢◌, ◌≤◌, ◌<◌, Bool, true, false, IsTrue, List, ℕ}
 use Rattle.std.proofs.Common.{Result, Ok, Err, length, true≢false}
 use Rattle.std.proofs.Common.{refl, sym, ap, subst, ◌∙◌, inl, inr, arith}
 use Rattle.std.proofs.Math.Logic.{∥∥₁_map}
-use Rattle.std.proofs.lemmas.Bool.{cases_lt}
-use Rattle.std.specs.Prelude.{◌&&◌, IfErr, IsOk, OnOk}
-use Rattle.sqlite_disk.specs.Disk.{MoreFaults}
+use Rattle.std.specs.Prelude.{◌&&◌, IsOk, OnOk}
 use Rattle.sqlite_disk.specs.declared.Disk.{Ghosts}
 use Rattle.sqlite_disk.specs.declared.files.Files.{Files}
-use Rattle.sqlite_store.specs.FileStore.{faults, state, view, files, log_frames, recovers}
-use Rattle.sqlite_store.specs.Limits.{times_met}
+use Rattle.sqlite_store.specs.FileStore.{state, view, files, log_frames, recovers}
 use Rattle.sqlite_store.specs.declared.catalog.Wanted.{Wanted}
 use Rattle.sqlite_store.specs.declared.store.FileStore.{FileStore}
 use Rattle.sqlite_trees.specs.Tree.{Trees}
-use Rattle.sqlite_trees.specs.View.{doubt, IsClean}
+use Rattle.sqlite_trees.specs.View.{doubt}
 use Rattle.sqlite_trees.specs.declared.error.StoreError.{StoreError}
 use Rattle.sqlite_trees.proofs.Doubt.{clean_of, no_doubt}
 use Rattle.sqlite_wal.specs.Reads.{AreClean, are_clean}
 use Rattle.sqlite_wal.specs.Reads.{IsClean as IsCleanFile}
 use Rattle.sqlite_wal.specs.Recovery.{Image}
 use Rattle.book_trees.proofs.EachLeft.{left_by, rows_by}
-use Rattle.book_trees.proofs.FileParts.{clean_is, faults_are, left_by_files, named}
+use Rattle.book_trees.proofs.FileParts.{clean_is, left_by_files, named}
 use Rattle.book_trees.proofs.UnusedLogs.{rows_alone, short_alone}
-use Rattle.book_trees.specs.Closing.{HasSchema, HaveFailed, IsStuckFor, IsWithoutLog}
-use Rattle.book_trees.specs.Closing.{LeavesLog, LeavesRows, MayBeFound}
+use Rattle.book_trees.specs.Closing.{HasSchema, IsWithoutLog, LeavesLog, LeavesRows, MayBeFound}
 use Rattle.book_trees.specs.declared.closing.LogLeft.{LogLeft}
 use Rattle.book_trees.specs.declared.closing.LogLeft.TheVariants.{Short, Emptied, Kept, Unmoved}
 use Rattle.book_trees.specs.LedgerFiles.{HoldsFile, HoldsTables, rows_held, shortest_log}
 use Rattle.book_trees.specs.LedgerFiles.{trees_held, without_log}
-use Rattle.book_trees.specs.Refusals.{faults_in, MayLeave}
+use Rattle.book_trees.specs.Refusals.{MayLeave}
 
 -- both are true
 pub both_true : (a b : Bool) → IsTrue a → IsTrue b → IsTrue (a && b)
@@ -50,25 +46,6 @@ second_true false false both = both
 on_ok : {T E : Type 0} (result : Result T E) (P : Type 0) → OnOk result P → IsOk result → P
 on_ok (Ok value) P holds good = holds
 on_ok (Err error) P holds good = absurd (true≢false (sym good))
-
--- where no limit was met, a count that is not 0 is that of the disks
-still_more : (was disks met last : ℕ) → MoreFaults 0 was → was ≤ disks + met → disks ≤ last
-    → met ≤ 0 → MoreFaults 0 last
-still_more was disks met last more later less none = omega arith
-
--- what failed before a store was closed is counted in its files, or it had met a limit
-pub files_failed : {D : Type 0} {g : Ghosts D} (store end : FileStore D g) (given : Files D) (log : D)
-    → (given.log, given.db) ≡ files end → faults store ≤ faults end
-    → g.faults given.log ≤ g.faults log → MoreFaults 0 (faults store)
-    → HaveFailed g (record { log = log; db = given.db })
-files_failed {D = D} {g = g} store end given log back counts less more =
-    let same : (state end).faults ≡ faults_in g given =
-    faults_are end.pool ∙ ap (λ (p : D × D). faults_in g (named p)) (sym back) in
-    elim (cases_lt 0 (times_met end.limits)) [
-      | inl met ↦ ∣ inr (end, record { log = given.log; back = back }, met) ∣₁
-      | inr none ↦ ∣ inl (still_more (faults store) (state end).faults (times_met end.limits)
-          (g.faults log + g.faults given.db) more counts (omega (arith, same, less)) none) ∣₁
-    ]
 
 -- A store was closed, and the length of its log was asked.
 module _ {D : Type 0} {g : Ghosts D} (store end : FileStore D g) (given : Files D) (log : D)
@@ -153,28 +130,16 @@ module _ {D : Type 0} {g : Ghosts D} (store end : FileStore D g) (given : Files 
 
     -- what is left of the log, by what became of its pages
     pub log_leaves : (moved : Result (Unit {0}) StoreError)
-        → OnOk moved (IsTrue (view store).is_open → log_frames end ≡ 0)
-        → (IsClean (view end) → IsTrue (view store).is_open
-        → IfErr moved (IsStuckFor (faults store) (faults end)))
-        → (left : LogLeft)
+        → OnOk moved (IsTrue (view store).is_open → log_frames end ≡ 0) → (left : LogLeft)
         → (left ≡ Short → IsCleanFile g log → length (g.seen log) < shortest_log)
-        → (left ≡ Emptied → IsOk moved)
-        → ((error : StoreError) → left ≡ Kept error → moved ≡ Err error) → left ≢ Unmoved
-        → LeavesLog g store last left
-    log_leaves moved emptied cause Short short was stuck tried =
+        → (left ≡ Emptied → IsOk moved) → left ≢ Unmoved → LeavesLog g store last left
+    log_leaves moved emptied Short short was tried =
         λ honest. short refl (first_true _ _ honest)
-    log_leaves moved emptied cause Emptied short was stuck tried =
+    log_leaves moved emptied Emptied short was tried =
         λ is_open. ∣ (
           end,
           record { log = given.log; back = back },
           on_ok moved _ emptied (was refl) is_open,
         ) ∣₁
-    log_leaves moved emptied cause (Kept error) short was stuck tried =
-        λ is_open honest. ∣ (
-          end,
-          record { log = given.log; back = back },
-          subst (λ (moved : Result (Unit {0}) StoreError).
-              IfErr moved (IsStuckFor (faults store) (faults end)))
-              (stuck error refl) (cause (no_doubt _ (end_clean honest)) is_open),
-        ) ∣₁
-    log_leaves moved emptied cause Unmoved short was stuck tried = tried refl
+    log_leaves moved emptied (Kept error) short was tried = tt
+    log_leaves moved emptied Unmoved short was tried = tried refl

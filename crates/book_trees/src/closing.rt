@@ -1,17 +1,15 @@
 //! The log of books is moved into their file, as is done before they are closed.
 
 ghost use Rattle.std.specs.Prelude.{◌≡◌, ◌≢◌, ◌≤◌, ◌<◌, ◌↔◌, ℕ, List, length};
-ghost use Rattle.std.specs.Prelude.{IfErr, IfOk, IsOk, IsTrue, None, OnOk, map};
-ghost use Rattle.sqlite_disk.specs.Disk.{MoreFaults};
+ghost use Rattle.std.specs.Prelude.{IfOk, IsOk, IsTrue, None, OnOk, map};
 ghost use Rattle.sqlite_store.specs.Catalog.{wanted_of};
-ghost use Rattle.sqlite_store.specs.FileStore.{faults, files as files_of, log_frames};
+ghost use Rattle.sqlite_store.specs.FileStore.{files as files_of, log_frames};
 ghost use Rattle.sqlite_store.specs.FileStore.{recovers, schema_of, state, view};
 ghost use Rattle.sqlite_trees.specs.Tree.{Trees};
-ghost use Rattle.sqlite_trees.specs.View.{doubt, IsClean};
+ghost use Rattle.sqlite_trees.specs.View.{doubt};
 ghost use Rattle.sqlite_wal.specs.Reads.{AreClean, IsClean as IsCleanFile};
 ghost use Rattle.sqlite_wal.specs.Recovery.{Image};
-ghost use Rattle.book_trees.specs.Closing.{HasSchema, HaveFailed, IsStuckFor, LeavesLog};
-ghost use Rattle.book_trees.specs.Closing.{LeavesRows, MayBeFound};
+ghost use Rattle.book_trees.specs.Closing.{HasSchema, LeavesLog, LeavesRows, MayBeFound};
 ghost use Rattle.book_trees.specs.LedgerFiles.{page_size, shortest_log, HoldsAlone, HoldsBooks};
 ghost use Rattle.book_trees.specs.LedgerFiles.{HoldsFirstBooks, HoldsTables, trees_held};
 ghost use Rattle.book_trees.specs.Schema.{books_schema};
@@ -30,9 +28,6 @@ use std::alloc::AllocError;
 /// within it, no trees can be found but those that might have been found before.
 pub fn checkpoint_log<D: Disk>(store: &mut FileStore<D>) -> Result<(), StoreError>
     ensures moved { OnOk result (IsTrue (view store.old).is_open → log_frames store.new ≡ 0) }
-    ensures cause { IsClean (view store.new) → IsTrue (view store.old).is_open
-        → IfErr result (IsStuckFor (faults store.old) (faults store.new)) }
-    ensures counts { faults store.old ≤ faults store.new }
     ensures outcomes { (trees : Trees) → recovers store.new trees → recovers store.old trees }
     ensures clean { doubt (view store.old).is_clean ≤ doubt (view store.new).is_clean }
 {
@@ -67,7 +62,6 @@ pub struct Closed<D: Disk> {
 pub fn is_short<D: Disk>(log: &mut D) -> bool
     ensures short { IsTrue result → IsCleanFile D.Disk log.new
         → length (D.Disk.seen log.new) < shortest_log }
-    ensures counts { D.Disk.faults log.old ≤ D.Disk.faults log.new }
     ensures clean { IsCleanFile D.Disk log.new → IsCleanFile D.Disk log.old }
     ensures crash { (c : List ℕ) → D.Disk.may_leave log.new c → D.Disk.may_leave log.old c }
 {
@@ -92,10 +86,8 @@ pub fn close_books<D: Disk>(store: FileStore<D>) -> Closed<D>
         → ∥ ((held : HoldsBooks image) × recovers store (trees_held held)) ∥₁ }
     // So it is with their rows, also where no memory was left to see which tables the files have.
     ensures rows { LeavesRows D.Disk store result.files }
-    // A log that is not short holds no page, or a call failed as its pages were moved.
+    // A log that is not short holds no page, or its pages could not be moved.
     ensures log { LeavesLog D.Disk store result.files result.log }
-    // No fault of the store is forgotten.
-    ensures counts { MoreFaults 0 (faults store) → HaveFailed D.Disk result.files }
 {
     close_moved(store, &books_objects())
 }
@@ -108,7 +100,6 @@ pub fn close_first<D: Disk>(store: FileStore<D>) -> Closed<D>
         → ∥ ((held : HoldsFirstBooks image) × recovers store (trees_held held)) ∥₁ }
     ensures rows { LeavesRows D.Disk store result.files }
     ensures log { LeavesLog D.Disk store result.files result.log }
-    ensures counts { MoreFaults 0 (faults store) → HaveFailed D.Disk result.files }
 {
     close_moved(store, first_objects(&books_objects()))
 }
@@ -122,7 +113,6 @@ fn close_moved<D: Disk>(store: FileStore<D>, objects: &[Object<'_>]) -> Closed<D
         × recovers store (trees_held held)) ∥₁ }
     ensures rows { LeavesRows D.Disk store result.files }
     ensures log { LeavesLog D.Disk store result.files result.log }
-    ensures counts { MoreFaults 0 (faults store) → HaveFailed D.Disk result.files }
 {
     let mut store = store;
     let moved = checkpoint_log(&mut store);
@@ -192,7 +182,6 @@ fn log_left<D: Disk>(log: &mut D, moved: Result<(), StoreError>) -> LogLeft
     ensures emptied { result ≡ LogLeft.Emptied → IsOk moved }
     ensures kept { (error : StoreError) → result ≡ LogLeft.Kept error → moved ≡ Err error }
     ensures tried { result ≢ LogLeft.Unmoved }
-    ensures counts { D.Disk.faults log.old ≤ D.Disk.faults log.new }
     ensures clean { IsCleanFile D.Disk log.new → IsCleanFile D.Disk log.old }
     ensures crash { (c : List ℕ) → D.Disk.may_leave log.new c → D.Disk.may_leave log.old c }
 {

@@ -1,5 +1,4 @@
-use Rattle.book_trees.proofs.ClosedFiles.{files_failed, found_rows, found_whole, log_leaves}
-use Rattle.book_trees.proofs.ClosedFiles.{store_clean}
+use Rattle.book_trees.proofs.ClosedFiles.{found_rows, found_whole, log_leaves, store_clean}
 use Rattle.book_trees.proofs.closing.close_moved.Goals as goal
 
 pub returns-clause-honest : goal.returns-clause-honest
@@ -15,9 +14,9 @@ returns-clause-log g c =
     c.close_over-closed.result.files c.log_left-closed.new.log g.met.D.Disk.seen_may_stay
     c.checkpoint_log-moved.ensures.outcomes c.checkpoint_log-moved.ensures.clean
     c.close_over-closed.ensures.files c.log_left-closed.ensures.clean c.log_left-closed.ensures.crash
-    c.checkpoint_log-moved.result c.checkpoint_log-moved.ensures.moved
-    c.checkpoint_log-moved.ensures.cause c.log_left-closed.result c.log_left-closed.ensures.short
-    c.log_left-closed.ensures.emptied c.log_left-closed.ensures.kept c.log_left-closed.ensures.tried
+    c.checkpoint_log-moved.result c.checkpoint_log-moved.ensures.moved c.log_left-closed.result
+    c.log_left-closed.ensures.short c.log_left-closed.ensures.emptied
+    c.log_left-closed.ensures.tried
 
 pub returns-clause-left : goal.returns-clause-left
 returns-clause-left g c kept =
@@ -33,10 +32,3 @@ returns-clause-rows g c =
     c.close_over-closed.result.files c.log_left-closed.new.log g.met.D.Disk.seen_may_stay
     c.checkpoint_log-moved.ensures.outcomes c.checkpoint_log-moved.ensures.clean
     c.close_over-closed.ensures.files c.log_left-closed.ensures.clean c.log_left-closed.ensures.crash
-
-pub returns-clause-counts : goal.returns-clause-counts
-returns-clause-counts g c =
-    files_failed c.args.store c.checkpoint_log-moved.new.store
-    c.close_over-closed.result.files c.log_left-closed.new.log
-    c.close_over-closed.ensures.files c.checkpoint_log-moved.ensures.counts
-    c.log_left-closed.ensures.counts
