@@ -22,7 +22,6 @@ use Rattle.tree_tables.specs.Forms.{this_form}
 use Rattle.book_trees.specs.Forms.{AreNewer, HoldNoNewer, SayForm}
 use Rattle.book_trees.specs.LedgerFiles.{image_of, HoldsTables, trees_held}
 use Rattle.book_trees.proofs.FileParts.{shows_given, store_honest}
-use Rattle.book_trees.specs.Copies.{IsOnlyRead}
 
 -- the number in a value, if it is one
 number_of : Value → ℕ
@@ -83,10 +82,3 @@ none_newer {g = g} old store first given ready found other clean held =
       | inl above ↦ absurd (other sure (ready.is_open sure) (version_in held.pages, form, above))
       | inr within ↦ within
     ]
-
--- The file of books was read alone: what was honest is, no fault is forgotten, and a stop leaves
--- nothing new.
-module _ {D : Type 0} {g : Ghosts D} (first : Files D) (db : D) (read : IsOnlyRead g first.db db)
-  where
-    abbrev last : Files D
-    last = record { log = first.log; db = db }

@@ -1,20 +1,15 @@
 -- A log of which recovery takes nothing: the file alone holds the same tables.
-use Rattle.std.proofs.Common.{◌≡◌, ◌∙◌, ◌==◌, ◌<◌, ◌↔◌, [], IsTrue, List, ap, arith, inl, inr, length}
-use Rattle.std.proofs.Common.{Err, Ok, Result, refl, subst, sym, true≢false, ℕ, Bool}
+use Rattle.std.proofs.Common.{◌≡◌, ◌∙◌, ◌==◌, ◌<◌, ◌↔◌, [], IsTrue, List, ap, arith, inl, length}
+use Rattle.std.proofs.Common.{Err, Ok, Result, refl, subst, sym, ℕ, Bool}
 use Rattle.std.specs.Prelude.{IfOk}
 use Rattle.sqlite_wal.proofs.FileLemmas.{pages_without_frames}
 use Rattle.sqlite_wal.proofs.RecoveryLemmas.{replays_once}
 use Rattle.sqlite_pool.specs.Stored.{stored_size, Recovers}
 use Rattle.sqlite_store.specs.declared.catalog.Wanted.{Wanted}
-use Rattle.sqlite_wal.specs.Opening.{RefusesLog}
-use Rattle.sqlite_wal.specs.Outcome as wal
 use Rattle.sqlite_wal.specs.Recovery as raw
 use Rattle.sqlite_wal.specs.Recovery.{Image, Pages, Replays, pages_after}
-use Rattle.sqlite_wal.specs.declared.error.Error.{Error}
-use Rattle.sqlite_wal.specs.declared.error.Error.TheVariants.{Corrupt}
 use Rattle.book_trees.specs.LedgerFiles.{page_size, shortest_log, without_log}
 use Rattle.book_trees.specs.LedgerFiles.{HoldsAlone, HoldsFile, HoldsTables, rows_held, trees_held}
-use Rattle.book_trees.specs.Refusals.{probe_answer, HasCause}
 
 -- the file alone stands for the same pages
 recovers_alone : (size : ℕ) (image : Image) (pages : Pages) → Replays size image.log 0
@@ -92,17 +87,3 @@ lists_none size log numbers many is told same replays = (
       let once = replays_once size log (length numbers) 0 replays none in
       grind (arith, told, once, same),
 )
-
--- what an error of recovery says of a log, where no disk lied
-module _ (Clean : Type 0) (old new : ℕ) (log : List ℕ) where
-  -- a log that recovery refuses it does not pass over
-  pub none_refused : (error : Error) → (Clean → wal.HasCause old new (RefusesLog page_size log) error)
-      → IfOk (probe_answer error) (λ is. Clean → (IsTrue is ↔ Replays page_size log 0))
-  none_refused Corrupt cause = λ clean. (
-    λ is. absurd (true≢false (sym is)),
-    λ none. elim (cause clean) [
-      | inl refused ↦ absurd (refused.1 0 none)
-      | inr full ↦ absurd (let same = full.0 in cc)
-    ],
-  )
-  none_refused other cause = tt
