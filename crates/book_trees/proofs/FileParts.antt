@@ -1,6 +1,5 @@
 -- What the state of a store says about its two files.
-use Rattle.std.proofs.Common.{◌≡◌, ◌≤◌, ℕ, IsTrue, List, refl, sym, ap, subst, subst₂, ◌∙◌, inl, inr}
-use Rattle.std.proofs.Common.{arith}
+use Rattle.std.proofs.Common.{◌≡◌, IsTrue, List, refl, sym, ap, subst, subst₂, ◌∙◌, inl, inr}
 use Rattle.sqlite_disk.specs.declared.Disk.{Ghosts}
 use Rattle.sqlite_disk.specs.declared.files.Files.{Files}
 use Rattle.sqlite_pool.specs.Pool.{state, files}
@@ -15,9 +14,7 @@ use Rattle.sqlite_wal.specs.Files.{seen_image}
 use Rattle.sqlite_wal.specs.Reads.{are_clean, AreClean}
 use Rattle.sqlite_wal.specs.Recovery.{Image}
 use Rattle.book_trees.specs.LedgerFiles.{image_of, page_size, HoldsTables, trees_held}
-use Rattle.book_trees.proofs.Refused.{cause_for}
-use Rattle.book_trees.specs.Refusals.{faults_in, AreKept, HasCause, MayLeave}
-use Rattle.book_trees.specs.declared.faults.OpenFault.{OpenFault}
+use Rattle.book_trees.specs.Refusals.{AreKept, MayLeave}
 
 -- the two by their names
 abbrev pub named : {D : Type 0} → D × D → Files D
@@ -29,11 +26,6 @@ module _ {D : Type 0} {g : Ghosts D} where
       → IsTrue (state pool).is_clean
   unfolding state
   clean_if_left pool left may = may.0
-
-  -- the faults are those of the files
-  pub faults_are : (pool : Pool D g) → (state pool).faults ≡ faults_in g (named (files pool))
-  unfolding state files
-  faults_are pool = refl
 
   -- the files are honest if the state is
   pub clean_is : (pool : Pool D g)
@@ -57,7 +49,6 @@ module _ {D : Type 0} {g : Ghosts D} where
   pub opened_files : (old : Unopened D g) (new : Pool D g) → (state_of old).page_size ≡ page_size
       → Opens old (state new) → AreKept g (named (files_of old)) (named (files new))
   opened_files old new size opens = record {
-    counts = omega (arith, opens.counts, faults_are old.pool, faults_are new);
     crash = λ left may. elim ((opens.crash left (left_by_files new left may)).same) [
       | inl was ↦ inl (left_by_state old.pool left was)
       | inr same ↦ inr (subst (λ s. RecoversAs s (image old) left) size same)
@@ -68,11 +59,10 @@ module _ {D : Type 0} {g : Ghosts D} where
   }
 
   -- files that were kept, of which a stop leaves no more after what was done then
-  pub kept_still : (first mid last : Files D) → faults_in g mid ≤ faults_in g last
+  pub kept_still : (first mid last : Files D)
       → ((left : Image) → MayLeave g last left → MayLeave g mid left) → AreKept g first mid
       → AreKept g first last
-  kept_still first mid last counts crash kept = record {
-    counts = omega (arith, kept.counts, counts);
+  kept_still first mid last crash kept = record {
     crash = λ left may. kept.crash left (crash left may);
     unread = λ unreadable left may. kept.unread unreadable left (crash left may);
   }
@@ -101,18 +91,6 @@ module _ {D : Type 0} {g : Ghosts D} (old end : Unopened D g) (first last : File
     files_kept size opens =
         subst₂ (AreKept g) (ap named given) (ap named (sym back))
         (opened_files old end.pool size opens)
-
-    -- a fault has its cause by the files
-    pub file_cause : (Limit Limit' Held Held' : Type 0) → (Limit → Limit') → (Held' → Held)
-        → (fault : OpenFault)
-        → HasCause (state_of old).faults (state_of end).faults Limit Held fault
-        → HasCause (faults_in g first) (faults_in g last) Limit' Held' fault
-    file_cause Limit Limit' Held Held' wider so fault cause =
-        subst₂ (λ (m n : ℕ). HasCause m n Limit' Held' fault)
-        (faults_are old.pool ∙ ap (λ (p : D × D). faults_in g (named p)) given)
-        (faults_are end.pool ∙ ap (λ (p : D × D). faults_in g (named p)) (sym back))
-        (cause_for (state_of old).faults (state_of end).faults (state_of old).faults
-        (state_of end).faults Limit Limit' Held Held' (λ more. more) wider so fault cause)
 
 -- a store was honest, if the files that it is closed to are
 pub store_honest : {D : Type 0} {g : Ghosts D} (store : FileStore D g) (last : Files D)

@@ -1,5 +1,5 @@
--- The lemmas: the trees of books; the list that a sound file has, and that of the first form; why an
--- open fails, and a look; what the state of a store says of its files; what refused files say; files
+-- The lemmas: the trees of books; the list that a sound file has, and that of the first form; what is
+-- told of refused files; what the state of a store says of its files; what refused files say; files
 -- that hold no database yet; files that a ledger left, and what an open shows of them; that books
 -- can be made; what a store over books leaves; logs of which recovery takes nothing; files that were
 -- just opened; files that were closed; what they say of their form; what a stop within the making of
@@ -9,7 +9,7 @@ pub mod ListingLemmas
 pub mod FormLemmas
 pub mod Refused
 pub mod FileParts
-pub mod ToldCauses
+pub mod ToldLemmas
 pub mod FirstTrees
 pub mod BlankFiles
 pub mod Opened

@@ -1,17 +1,15 @@
 -- What a copy of a file, or of the two files of books, holds.
-use Rattle.std.specs.Prelude.{◌≡◌, ◌⊎◌, ◌+◌, ◌<◌, ℕ, List, length, slice_index, IsTrue}
-use Rattle.std.specs.IoError.{error_kind}
-use Rattle.std.specs.declared.io.Error.{Error}
+use Rattle.std.specs.Prelude.{◌≡◌, ◌<◌, ℕ, List, length, slice_index, IsTrue}
 use Rattle.std.specs.declared.io.ErrorKind.{ErrorKind}
 use Rattle.std.specs.declared.io.ErrorKind.TheVariants.{OutOfMemory}
-use Rattle.sqlite_disk.specs.Disk.{MoreFaults, Only}
+use Rattle.sqlite_disk.specs.Disk.{Only}
 use Rattle.sqlite_disk.specs.declared.Disk.{Ghosts}
 use Rattle.sqlite_disk.specs.declared.files.Files.{Files}
 use Rattle.sqlite_wal.specs.Reads.{AreClean}
 use Rattle.book_trees.specs.Forms.{HoldsThisForm}
 use Rattle.book_trees.specs.LedgerFiles.{image_of}
-use Rattle.book_trees.specs.Looks.{HasLookCause}
-use Rattle.book_trees.specs.Refusals.{faults_in, AreFull}
+use Rattle.book_trees.specs.Looks.{look_opening}
+use Rattle.book_trees.specs.Refusals.{IsRefusedWithout}
 use Rattle.book_trees.specs.declared.faults.OpenFault.{OpenFault}
 use Rattle.book_trees.specs.declared.faults.OpenFault.TheVariants.{Memory, Store}
 use Rattle.book_trees.specs.declared.integrity.LookFault.{LookFault}
@@ -45,21 +43,15 @@ pub record AreCopiesOf {A B : Type 0} (one : Ghosts A) (two : Ghosts B) (origina
   pub log : IsCopyOf one two original.log copy.log
   pub db : IsCopyOf one two original.db copy.db
 
--- why a copy failed, by how often calls on its files had failed before and have now: memory ran out,
--- or one failed meanwhile
-abbrev pub StopsCopy : ℕ → ℕ → Error → Type 0
-StopsCopy old new error = (error_kind error ≡ OutOfMemory) ⊎ MoreFaults old new
-
--- the fault that such a failure stands for
+-- the fault that the failure of a copy stands for
 abbrev pub copy_fault_for : ErrorKind → OpenFault
 copy_fault_for OutOfMemory = Memory
 copy_fault_for _ = Store
 
--- Files that were as the first were read, and a copy was begun in others: why there is none, where
--- no disk lied. A call on either may have failed.
-abbrev pub IsCopyRefusedFor : {A B : Type 0} (one : Ghosts A) (two : Ghosts B) → Files A → Files A
-    → LookFault → Files B → Type 0
-IsCopyRefusedFor one two first original fault copy =
-    AreClean one original.log original.db → AreClean two copy.log copy.db
-    → HasLookCause (faults_in one first) (faults_in one original + faults_in two copy)
-    (AreFull two copy) (HoldsThisForm (image_of one first)) fault
+-- Files that were as the first were read, and a copy of them was begun in others, which are given
+-- back: where no disk lied, this fault is told only where the first hold no books of this form.
+abbrev pub IsCopyRefusedWithout : {A B : Type 0} (one : Ghosts A) (two : Ghosts B) → Files A
+    → Files A → LookFault → Files B → Type 0
+IsCopyRefusedWithout one two first original fault copy =
+    AreClean one original.log original.db
+    → IsRefusedWithout two (HoldsThisForm (image_of one first)) (look_opening fault) copy

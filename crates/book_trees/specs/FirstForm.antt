@@ -16,7 +16,7 @@ use Rattle.sqlite_wal.specs.Recovery.{Image}
 use Rattle.tree_tables.specs.Forms.{this_form}
 use Rattle.book_trees.specs.Forms.{IsToldOf}
 use Rattle.book_trees.specs.LedgerFiles.{page_size, HoldsFirstBooks}
-use Rattle.book_trees.specs.Refusals.{fault_for, HasCause, IsRefusedFor, IsUnopened}
+use Rattle.book_trees.specs.Refusals.{fault_for, IsUnopened}
 use Rattle.book_trees.specs.Schema.{first_schema}
 use Rattle.book_trees.specs.StoreView.{IsOpenAs}
 use Rattle.book_trees.specs.declared.faults.OpenFault.{OpenFault}
@@ -39,17 +39,12 @@ first_fault_for store.OutOfMemory = Open (fault_for store.OutOfMemory)
 first_fault_for store.Io = Open (fault_for store.Io)
 first_fault_for store.Full = Open (fault_for store.Full)
 
--- the fault of an opening that comes for the same causes: files that are of this form already, and
+-- the fault of an opening that says as much of files: those that are of this form already, and
 -- those whose pages are wrong, hold no books of the first
 abbrev pub first_opening : FirstFault → OpenFault
 first_opening Already = NotBooks
 first_opening Pages = NotBooks
 first_opening (Open fault) = fault
-
--- A fault has its cause: files of the first form are not of this one already, and their pages are not
--- wrong; any other fault is that of an opening.
-abbrev pub HasFirstCause : ℕ → ℕ → Type 0 → Type 0 → FirstFault → Type 0
-HasFirstCause old new AtLimit Held fault = HasCause old new AtLimit Held (first_opening fault)
 
 -- what is told of files that list the tables of this form: they are of it, or of a newer one
 abbrev pub IsToldThis : FirstFault → Type 0
@@ -67,12 +62,6 @@ abbrev pub IsUnopenedFirst : FirstFault → Type 0
 IsUnopenedFirst Already = ⊥
 IsUnopenedFirst Pages = ⊥
 IsUnopenedFirst (Open fault) = IsUnopened fault
-
-module _ {D : Type 0} (g : Ghosts D) where
-  -- files were there, and held this: why they were not opened as books of the first form
-  abbrev pub IsFirstRefusedFor : Type 0 → (Files D → Type 0) → FirstFault → Files D → Type 0
-  IsFirstRefusedFor Held AtLimit fault files =
-      IsRefusedFor g Held AtLimit (first_opening fault) files
 
 -- A store shows the trees of books of the first form, and may have one more.
 pub record HasFirstTrees (view : View) : Type 0 where

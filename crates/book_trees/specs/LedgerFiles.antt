@@ -1,5 +1,5 @@
 -- What a ledger leaves of its two files.
-use Rattle.std.specs.Prelude.{◌≡◌, ◌⊎◌, ◌+◌, ◌<◌, ◌≤◌, ◌^◌, [], List, length, ℕ}
+use Rattle.std.specs.Prelude.{◌≡◌, ◌⊎◌, ◌+◌, ◌<◌, ◌^◌, [], List, length, ℕ}
 use Rattle.sqlite_disk.specs.declared.Disk.{Ghosts}
 use Rattle.sqlite_disk.specs.declared.files.Files.{Files}
 use Rattle.sqlite_pages.specs.PageMap.{PageMap}
@@ -11,7 +11,7 @@ use Rattle.sqlite_store.specs.Opening.{IsEmptyFile}
 use Rattle.sqlite_store.specs.declared.catalog.Wanted.{Wanted}
 use Rattle.sqlite_trees.specs.Tree.{Trees}
 use Rattle.sqlite_wal.specs.Files.{seen_image}
-use Rattle.sqlite_wal.specs.Recovery.{frame_at, Image, Replays}
+use Rattle.sqlite_wal.specs.Recovery.{Image, Replays}
 use Rattle.book_trees.specs.Schema.{books_schema, first_schema}
 
 -- what reads of two files return
@@ -91,7 +91,3 @@ closed_log = 32 + 9
 -- A log is longer than that, and recovery takes none of its frames.
 abbrev pub IsUnused : List ℕ → Type 0
 IsUnused log = (closed_log < length log) × Replays page_size log 0
-
--- 32-bit numbers are not enough for the frames of a log
-abbrev pub IsHugeLog : List ℕ → Type 0
-IsHugeLog log = frame_at page_size 0xffff_fffe ≤ length log

@@ -1,11 +1,10 @@
--- Why files are not looked through.
-use Rattle.std.specs.Prelude.{◌≡◌, ℕ}
-use Rattle.sqlite_disk.specs.declared.Disk.{Ghosts}
+-- What is told of files that are not looked through.
+use Rattle.std.specs.Prelude.{◌≡◌}
 use Rattle.sqlite_disk.specs.declared.files.Files.{Files}
 use Rattle.sqlite_store.specs.declared.error.OpenError.{OpenError}
 use Rattle.sqlite_store.specs.declared.error.OpenError.TheVariants as store
 use Rattle.book_trees.specs.Forms.{IsToldOf}
-use Rattle.book_trees.specs.Refusals.{fault_for, HasCause, IsRefusedFor, IsUnopened}
+use Rattle.book_trees.specs.Refusals.{fault_for, IsUnopened}
 use Rattle.book_trees.specs.declared.faults.OpenFault.{OpenFault}
 use Rattle.book_trees.specs.declared.faults.OpenFault.TheVariants.{NotBooks}
 use Rattle.book_trees.specs.declared.integrity.LookFault.{LookFault}
@@ -19,15 +18,10 @@ look_fault_for store.OutOfMemory = Open (fault_for store.OutOfMemory)
 look_fault_for store.Io = Open (fault_for store.Io)
 look_fault_for store.Full = Open (fault_for store.Full)
 
--- the fault of an opening that comes for the same causes: pages are wrong where there are no books
+-- the fault of an opening that says as much of files: pages are wrong where there are no books
 abbrev pub look_opening : LookFault → OpenFault
 look_opening Pages = NotBooks
 look_opening (Open fault) = fault
-
--- A fault has its cause: pages are wrong only in files that do not hold what they have to; any other
--- fault is that of an opening.
-abbrev pub HasLookCause : ℕ → ℕ → Type 0 → Type 0 → LookFault → Type 0
-HasLookCause old new AtLimit Held fault = HasCause old new AtLimit Held (look_opening fault)
 
 -- what is told of files that were not looked through
 abbrev pub IsToldLook : {D : Type 0} → LookFault → Files D → LookFault → Files D → Type 0
@@ -39,9 +33,3 @@ IsToldLook (Open fault) files told last =
 abbrev pub IsUnopenedLook : LookFault → Type 0
 IsUnopenedLook Pages = ⊥
 IsUnopenedLook (Open fault) = IsUnopened fault
-
-module _ {D : Type 0} (g : Ghosts D) where
-  -- files were there, and held this: why they were not looked through
-  abbrev pub IsLookRefusedFor : Type 0 → (Files D → Type 0) → LookFault → Files D → Type 0
-  IsLookRefusedFor Held AtLimit fault files =
-      IsRefusedFor g Held AtLimit (look_opening fault) files

@@ -1,19 +1,17 @@
 //! The two files of books are copied, byte for byte, while nobody else has them.
 
-ghost use Rattle.std.specs.Prelude.{◌≡◌, ◌+◌, ◌<◌, ◌≤◌, length, IfErr, IfOk, IsTrue, MatchOption};
-ghost use Rattle.std.specs.Prelude.{OnErr, OnOk};
+ghost use Rattle.std.specs.Prelude.{◌≡◌, ◌<◌, ◌≤◌, length, IfErr, IfOk, IsTrue, MatchOption, OnOk};
 ghost use Rattle.std.specs.IoError.{error_kind};
-ghost use Rattle.sqlite_disk.specs.Disk.{MoreFaults};
 ghost use Rattle.sqlite_store.specs.FileStore.{state, view, schema_of, IsReady};
 ghost use Rattle.sqlite_wal.specs.Files.{image_at};
 ghost use Rattle.sqlite_wal.specs.Reads.{AreClean};
 ghost use Rattle.sqlite_wal.specs.Recovery.{Image};
 ghost use Rattle.book_trees.specs.Copies.{copy_fault_for, AreCopiesOf, AreOnlyRead, BeginsAs};
-ghost use Rattle.book_trees.specs.Copies.{IsCopyOf, IsCopyRefusedFor, IsOnlyRead, StopsCopy};
+ghost use Rattle.book_trees.specs.Copies.{IsCopyOf, IsCopyRefusedWithout, IsOnlyRead};
 ghost use Rattle.book_trees.specs.Forms.{HoldNoNewer};
 ghost use Rattle.book_trees.specs.LedgerFiles.{image_of, page_size, HoldsBooks, trees_held};
 ghost use Rattle.book_trees.specs.Looks.{IsUnopenedLook};
-ghost use Rattle.book_trees.specs.Refusals.{faults_in, IsUnopened, MayLeave};
+ghost use Rattle.book_trees.specs.Refusals.{IsUnopened, MayLeave};
 ghost use Rattle.book_trees.specs.Schema.{books_schema};
 ghost use Rattle.tree_tables.specs.Holds.{HasShapes};
 
@@ -47,10 +45,6 @@ fn copy_bytes<A: Disk, B: Disk>(
     ensures to { IsTrue (B.Disk.is_usable to.new) }
     ensures copied { OnOk result (IsTrue (A.Disk.is_clean from.new)
         → BeginsAs len len (A.Disk.seen from.old) (B.Disk.seen to.new)) }
-    ensures counts { A.Disk.faults from.old + B.Disk.faults to.old
-        ≤ A.Disk.faults from.new + B.Disk.faults to.new }
-    ensures cause { OnErr result (MoreFaults (A.Disk.faults from.old + B.Disk.faults to.old)
-        (A.Disk.faults from.new + B.Disk.faults to.new)) }
 {
     let mut done = 0;
     while done < len {
@@ -71,10 +65,6 @@ fn copy_file<A: Disk, B: Disk>(alloc: Global, from: &mut A, to: &mut B) -> io::R
     ensures from { IsTrue (A.Disk.is_usable from.new) }
     ensures copied { OnOk result (IsCopyOf A.Disk B.Disk from.new to.new) }
     ensures to { OnOk result (IsTrue (B.Disk.is_usable to.new)) }
-    ensures counts { A.Disk.faults from.old + B.Disk.faults to.old
-        ≤ A.Disk.faults from.new + B.Disk.faults to.new }
-    ensures cause { IfErr result (StopsCopy (A.Disk.faults from.old + B.Disk.faults to.old)
-        (A.Disk.faults from.new + B.Disk.faults to.new)) }
 {
     let mut buffer = vec![in alloc; 0u8; PIECE]?;
     let len = from.len()?;
@@ -98,12 +88,6 @@ pub fn copy_files<A: Disk, B: Disk>(
     ensures copied { OnOk result (AreCopiesOf A.Disk B.Disk from.new to.new) }
     ensures log { OnOk result (IsTrue (B.Disk.is_usable to.new.log)) }
     ensures db { OnOk result (IsTrue (B.Disk.is_usable to.new.db)) }
-    ensures counts { faults_in A.Disk from.old + faults_in B.Disk to.old
-        ≤ faults_in A.Disk from.new + faults_in B.Disk to.new }
-
-    // It fails only because of memory and the disks.
-    ensures cause { IfErr result (StopsCopy (faults_in A.Disk from.old + faults_in B.Disk to.old)
-        (faults_in A.Disk from.new + faults_in B.Disk to.new)) }
 {
     copy_file(alloc, &mut from.log, &mut to.log)?;
     copy_file(alloc, &mut from.db, &mut to.db)
@@ -148,9 +132,9 @@ pub fn copy_to<D: Disk, T: Start>(
     ensures books { IfOk result (λ store. IsTrue (state store).is_clean
         → AreClean D.Disk from.new.log from.new.db → ∥ HoldsBooks (image_of D.Disk from.old) ∥₁) }
 
-    // Of files that hold books of this form there is no copy only because of memory and the disks.
-    ensures cause { IfErr result (λ refusal. MatchOption refusal.1 (IsUnopenedLook refusal.0)
-        (IsCopyRefusedFor D.Disk ⟦<FileFrom<T> as Disk>⟧ from.old from.new refusal.0)) }
+    // Where there is no copy, nothing is told of it that is not so of the files.
+    ensures there { IfErr result (λ refusal. MatchOption refusal.1 (IsUnopenedLook refusal.0)
+        (IsCopyRefusedWithout D.Disk ⟦<FileFrom<T> as Disk>⟧ from.old from.new refusal.0)) }
 {
     let mut files = match open(rt, path, held) {
         Ok(files) => files,
@@ -180,7 +164,7 @@ pub fn lock_at<S: Start>(
     // A stop leaves what they hold.
     ensures kept { IfOk result (λ files. (left : Image)
         → MayLeave ⟦<FileFrom<S> as Disk>⟧ files left → left ≡ image_at S.Start) }
-    ensures cause { IfErr result IsUnopened }
+    ensures unopened { IfErr result IsUnopened }
 {
     match open(rt, path, start) {
         Ok(files) => Ok(files),

@@ -1,6 +1,6 @@
 //! Books of the first form are opened, to be brought to this one.
 
-ghost use Rattle.std.specs.Prelude.{◌≡◌, ◌≢◌, ◌≤◌, IfErr, IfOk, IfSome, IsTrue, MatchOption};
+ghost use Rattle.std.specs.Prelude.{◌≡◌, ◌≢◌, IfErr, IfOk, IfSome, IsTrue, MatchOption};
 ghost use Rattle.std.specs.Prelude.{OnErr, OnOk};
 ghost use Rattle.sqlite_store.specs.FileStore.{state, view, schema_of, IsReady};
 ghost use Rattle.sqlite_store.specs.Unopened.{image, state_of, wanted_by, AreUsable, Opens};
@@ -8,15 +8,15 @@ ghost use Rattle.sqlite_trees.specs.View.{IsClean};
 ghost use Rattle.sqlite_wal.specs.Files.{image_at};
 ghost use Rattle.sqlite_wal.specs.Reads.{AreClean};
 ghost use Rattle.sqlite_wal.specs.Recovery.{Image};
-ghost use Rattle.book_trees.specs.FirstForm.{first_fault_for, HasFirstCause, HoldsFirstForm};
-ghost use Rattle.book_trees.specs.FirstForm.{AddsDetails, HasFirstTrees, IsFirstRefusedFor};
-ghost use Rattle.book_trees.specs.FirstForm.{IsOpenFirst, IsToldFirst, IsToldThis, IsUnopenedFirst};
+ghost use Rattle.book_trees.specs.FirstForm.{first_fault_for, first_opening, AddsDetails};
+ghost use Rattle.book_trees.specs.FirstForm.{HasFirstTrees, HoldsFirstForm, IsOpenFirst};
+ghost use Rattle.book_trees.specs.FirstForm.{IsToldFirst, IsToldThis, IsUnopenedFirst};
 ghost use Rattle.book_trees.specs.Forms.{HoldNoNewer};
 ghost use Rattle.tree_rows.specs.Calls.{CommitsNothing, LeavesCommitted};
 ghost use Rattle.book_trees.specs.LedgerFiles.{image_of, page_size, HoldsBooks, HoldsFirstBooks};
 ghost use Rattle.book_trees.specs.LedgerFiles.{trees_held};
-ghost use Rattle.book_trees.specs.Refusals.{faults_in, AreFull, AreKept, IsAsFound, IsRefusal};
-ghost use Rattle.book_trees.specs.Refusals.{IsRefusalOf, MayLeave};
+ghost use Rattle.book_trees.specs.Refusals.{AreKept, IsAsFound, IsRefusedWithout, IsToldWithout};
+ghost use Rattle.book_trees.specs.Refusals.{MayLeave};
 ghost use Rattle.book_trees.specs.Schema.{first_schema};
 ghost use Rattle.book_trees.specs.StoreView.{ListsBooks};
 
@@ -73,12 +73,13 @@ fn open_first<D: Disk>(files: Unopened<D>) -> Result<FileStore<D>, (FirstFault, 
     ensures held { IfOk result (λ store. IsTrue (state store).is_clean
         → ∥ HoldsFirstBooks (image files) ∥₁) }
     ensures kept { IfOk result (λ store. IsTrue (state store).is_clean → Opens files (state store)) }
-    ensures cause { IfErr result
-        (IsRefusalOf D.Disk HasFirstCause files (HoldsFirstForm (image files))) }
+    ensures there { IfErr result (λ refusal. IsTrue (state_of refusal.1).is_clean
+        → IsToldWithout (HoldsFirstForm (image files)) (first_opening refusal.0)) }
 
-    // Books of this form are told to be so, or are not read only because of memory and the disk.
+    // Books of this form are told to be so, or nothing is told of them.
     ensures this { IfErr result (λ refusal. refusal.0 ≢ FirstFault.Already
-        → IsRefusalOf D.Disk HasFirstCause files (HoldsBooks (image files)) refusal) }
+        → IsTrue (state_of refusal.1).is_clean
+        → IsToldWithout (HoldsBooks (image files)) (first_opening refusal.0)) }
     ensures listed { IfErr result (λ refusal. refusal.0 ≡ FirstFault.Already
         → IsTrue (state_of refusal.1).is_clean → ListsBooks (image files)) }
     ensures unharmed { IfErr result (λ refusal. IsTrue (state_of refusal.1).is_clean
@@ -121,14 +122,14 @@ pub fn open_first_files<D: Disk>(
     ensures form { IfOk result (λ store. IsTrue (state store).is_clean
         → HoldNoNewer first_schema (image_of D.Disk files)) }
 
-    // Files of the first form are not opened only because of memory and the disk.
-    ensures cause { IfErr result (IsRefusal D.Disk HasFirstCause files
-        (HoldsFirstForm (image_of D.Disk files)) (AreFull D.Disk)) }
+    // Of files of the first form nothing else is told.
+    ensures there { IfErr result (λ refusal. IsRefusedWithout D.Disk
+        (HoldsFirstForm (image_of D.Disk files)) (first_opening refusal.0) refusal.1) }
 
-    // So it is with books of this form, which are told to be of it, or of a newer one.
+    // So it is with books of this form, but that they are told to be of it, or of a newer one.
     ensures this { IfErr result (λ refusal. (¬ IsToldThis refusal.0)
-        → IsRefusal D.Disk HasFirstCause files (HoldsBooks (image_of D.Disk files))
-        (AreFull D.Disk) refusal) }
+        → IsRefusedWithout D.Disk (HoldsBooks (image_of D.Disk files)) (first_opening refusal.0)
+        refusal.1) }
 
     // Files are told to be of this form already only where they list the tables of books.
     ensures listed { IfErr result (λ refusal. refusal.0 ≡ FirstFault.Already
@@ -154,7 +155,6 @@ pub fn open_first_files<D: Disk>(
 fn told_first<D: Disk>(fault: FirstFault, files: Files<D>) -> (FirstFault, Files<D>)
     ensures told { IsToldFirst fault files result.0 result.1 }
     ensures clean { AreClean D.Disk result.1.log result.1.db → AreClean D.Disk files.log files.db }
-    ensures counts { faults_in D.Disk files ≤ faults_in D.Disk result.1 }
     ensures crash { (left : Image) → MayLeave D.Disk result.1 left → MayLeave D.Disk files left }
 {
     match fault {
@@ -171,7 +171,6 @@ fn told_first<D: Disk>(fault: FirstFault, files: Files<D>) -> (FirstFault, Files
 fn told_already<D: Disk>(files: Files<D>) -> (FirstFault, Files<D>)
     ensures other { IsToldThis result.0 }
     ensures clean { AreClean D.Disk result.1.log result.1.db → AreClean D.Disk files.log files.db }
-    ensures counts { faults_in D.Disk files ≤ faults_in D.Disk result.1 }
     ensures crash { (left : Image) → MayLeave D.Disk result.1 left → MayLeave D.Disk files left }
 {
     match told_newer(OpenFault::NotBooks, files) {
@@ -204,12 +203,12 @@ pub fn open_first_at<S: Start>(
         → HoldNoNewer first_schema (image_at S.Start)) }
 
     // What a stop leaves of files that were not opened is what they held, or stands for the same.
-    ensures cause { IfErr result (λ refusal. MatchOption refusal.1 (IsUnopenedFirst refusal.0)
-        (IsFirstRefusedFor ⟦<FileFrom<S> as Disk>⟧ (HoldsFirstForm (image_at S.Start))
-        (AreFull ⟦<FileFrom<S> as Disk>⟧) refusal.0)) }
+    ensures there { IfErr result (λ refusal. MatchOption refusal.1 (IsUnopenedFirst refusal.0)
+        (IsRefusedWithout ⟦<FileFrom<S> as Disk>⟧ (HoldsFirstForm (image_at S.Start))
+        (first_opening refusal.0))) }
     ensures this { IfErr result (λ refusal. (¬ IsToldThis refusal.0) → IfSome refusal.1
-        (IsFirstRefusedFor ⟦<FileFrom<S> as Disk>⟧ (HoldsBooks (image_at S.Start))
-        (AreFull ⟦<FileFrom<S> as Disk>⟧) refusal.0)) }
+        (IsRefusedWithout ⟦<FileFrom<S> as Disk>⟧ (HoldsBooks (image_at S.Start))
+        (first_opening refusal.0))) }
     ensures listed { IfErr result (λ refusal. refusal.0 ≡ FirstFault.Already
         → IfSome refusal.1 (λ files. AreClean ⟦<FileFrom<S> as Disk>⟧ files.log files.db
         → ListsBooks (image_at S.Start))) }

@@ -1,6 +1,6 @@
 //! The form of books, which their file says by SQLite's user version.
 
-ghost use Rattle.std.specs.Prelude.{◌≡◌, ◌≢◌, ◌⊎◌, ◌≤◌, ◌<◌, IsTrue, OnErr, OnOk, false};
+ghost use Rattle.std.specs.Prelude.{◌≡◌, ◌≢◌, ◌⊎◌, ◌<◌, IsTrue, OnErr, OnOk, false};
 ghost use Rattle.sqlite_store.specs.FileStore.{view};
 ghost use Rattle.sqlite_trees.specs.Objects.{with_version};
 ghost use Rattle.sqlite_trees.specs.View.{IsClean};
@@ -12,7 +12,7 @@ ghost use Rattle.tree_tables.specs.Holds.{HasShapes};
 ghost use Rattle.book_trees.specs.Copies.{IsOnlyRead};
 ghost use Rattle.tree_tables.specs.Forms.{this_form};
 ghost use Rattle.book_trees.specs.Forms.{AreNewer, form_in, IsSaid, IsToldOf};
-ghost use Rattle.book_trees.specs.Refusals.{faults_in, MayLeave};
+ghost use Rattle.book_trees.specs.Refusals.{MayLeave};
 
 use crate::faults::OpenFault;
 use sqlite_disk::{Disk, Files};
@@ -41,7 +41,6 @@ fn is_newer<D: Disk>(db: &mut D) -> bool
     ensures newer { IsTrue result → IsCleanFile D.Disk db.new
         → this_form < form_in (D.Disk.seen db.old) }
     ensures read { IsOnlyRead D.Disk db.old db.new }
-    ensures counts { D.Disk.faults db.old ≤ D.Disk.faults db.new }
 {
     if !db.may_be_used() {
         return false;
@@ -61,7 +60,6 @@ pub(crate) fn told_newer<D: Disk>(otherwise: OpenFault, files: Files<D>) -> (Ope
         → this_form < form_in (D.Disk.seen files.db) }
     ensures other { (result.0 ≡ OpenFault.NewForm) ⊎ (result.0 ≡ otherwise) }
     ensures clean { AreClean D.Disk result.1.log result.1.db → AreClean D.Disk files.log files.db }
-    ensures counts { faults_in D.Disk files ≤ faults_in D.Disk result.1 }
     ensures crash { (left : Image) → MayLeave D.Disk result.1 left → MayLeave D.Disk files left }
 {
     let mut files = files;
@@ -76,7 +74,6 @@ pub(crate) fn told_newer<D: Disk>(otherwise: OpenFault, files: Files<D>) -> (Ope
 pub(crate) fn told<D: Disk>(fault: OpenFault, files: Files<D>) -> (OpenFault, Files<D>)
     ensures told { IsToldOf fault files result.0 result.1 }
     ensures clean { AreClean D.Disk result.1.log result.1.db → AreClean D.Disk files.log files.db }
-    ensures counts { faults_in D.Disk files ≤ faults_in D.Disk result.1 }
     ensures crash { (left : Image) → MayLeave D.Disk result.1 left → MayLeave D.Disk files left }
 {
     match fault {

@@ -1,6 +1,6 @@
 //! Files of books are looked through, whatever they hold.
 
-ghost use Rattle.std.specs.Prelude.{◌≡◌, ◌≤◌, IfErr, IfOk, IfSome, IsTrue, MatchOption};
+ghost use Rattle.std.specs.Prelude.{◌≡◌, IfErr, IfOk, IfSome, IsTrue, MatchOption};
 ghost use Rattle.sqlite_store.specs.FileStore.{state, view, schema_of, IsReady};
 ghost use Rattle.sqlite_store.specs.Unopened.{image, state_of, wanted_by, AreUsable, Opens};
 ghost use Rattle.sqlite_wal.specs.Files.{image_at};
@@ -8,10 +8,9 @@ ghost use Rattle.sqlite_wal.specs.Reads.{AreClean};
 ghost use Rattle.sqlite_wal.specs.Recovery.{Image};
 ghost use Rattle.book_trees.specs.Forms.{HoldNoNewer, HoldsThisForm};
 ghost use Rattle.book_trees.specs.LedgerFiles.{image_of, page_size, HoldsBooks, trees_held};
-ghost use Rattle.book_trees.specs.Looks.{look_fault_for, HasLookCause, IsLookRefusedFor};
-ghost use Rattle.book_trees.specs.Looks.{IsToldLook, IsUnopenedLook};
-ghost use Rattle.book_trees.specs.Refusals.{faults_in, AreFull, AreKept, IsAsFound, IsRefusal};
-ghost use Rattle.book_trees.specs.Refusals.{IsRefusalOf, MayLeave};
+ghost use Rattle.book_trees.specs.Looks.{look_fault_for, look_opening, IsToldLook, IsUnopenedLook};
+ghost use Rattle.book_trees.specs.Refusals.{AreKept, IsAsFound, IsRefusedWithout, IsToldWithout};
+ghost use Rattle.book_trees.specs.Refusals.{MayLeave};
 ghost use Rattle.book_trees.specs.Schema.{books_schema};
 ghost use Rattle.book_trees.specs.StoreView.{IsOpen, ListsBooks};
 ghost use Rattle.tree_tables.specs.Holds.{HasShapes};
@@ -60,8 +59,8 @@ fn look_through_all<D: Disk>(files: Unopened<D>) -> Result<FileStore<D>, (LookFa
     ensures held { IfOk result (λ store. IsTrue (state store).is_clean
         → ∥ HoldsBooks (image files) ∥₁) }
     ensures kept { IfOk result (λ store. IsTrue (state store).is_clean → Opens files (state store)) }
-    ensures cause { IfErr result
-        (IsRefusalOf D.Disk HasLookCause files (HoldsBooks (image files))) }
+    ensures there { IfErr result (λ refusal. IsTrue (state_of refusal.1).is_clean
+        → IsToldWithout (HoldsBooks (image files)) (look_opening refusal.0)) }
     ensures listed { IfErr result (λ refusal. refusal.0 ≡ LookFault.Pages
         → IsTrue (state_of refusal.1).is_clean → ListsBooks (image files)) }
     ensures unharmed { IfErr result (λ refusal. IsTrue (state_of refusal.1).is_clean
@@ -99,10 +98,9 @@ pub fn look_through<D: Disk>(
     ensures form { IfOk result (λ store. IsTrue (state store).is_clean
         → HoldNoNewer books_schema (image_of D.Disk files)) }
 
-    // Files that hold books of this form are not looked through only because of memory and the
-    // disk.
-    ensures cause { IfErr result (IsRefusal D.Disk HasLookCause files
-        (HoldsThisForm (image_of D.Disk files)) (AreFull D.Disk)) }
+    // Of files that hold books of this form nothing else is told.
+    ensures there { IfErr result (λ refusal. IsRefusedWithout D.Disk
+        (HoldsThisForm (image_of D.Disk files)) (look_opening refusal.0) refusal.1) }
 
     // Their pages are called wrong only of files that list the tables of books.
     ensures listed { IfErr result (λ refusal. refusal.0 ≡ LookFault.Pages
@@ -132,7 +130,6 @@ pub fn look_through<D: Disk>(
 fn told_look<D: Disk>(fault: LookFault, files: Files<D>) -> (LookFault, Files<D>)
     ensures told { IsToldLook fault files result.0 result.1 }
     ensures clean { AreClean D.Disk result.1.log result.1.db → AreClean D.Disk files.log files.db }
-    ensures counts { faults_in D.Disk files ≤ faults_in D.Disk result.1 }
     ensures crash { (left : Image) → MayLeave D.Disk result.1 left → MayLeave D.Disk files left }
 {
     match fault {
@@ -163,9 +160,9 @@ pub fn look_through_at<S: Start>(
 
     // What a stop leaves of files that were not looked through is what they held, or stands for the
     // same.
-    ensures cause { IfErr result (λ refusal. MatchOption refusal.1 (IsUnopenedLook refusal.0)
-        (IsLookRefusedFor ⟦<FileFrom<S> as Disk>⟧ (HoldsThisForm (image_at S.Start))
-        (AreFull ⟦<FileFrom<S> as Disk>⟧) refusal.0)) }
+    ensures there { IfErr result (λ refusal. MatchOption refusal.1 (IsUnopenedLook refusal.0)
+        (IsRefusedWithout ⟦<FileFrom<S> as Disk>⟧ (HoldsThisForm (image_at S.Start))
+        (look_opening refusal.0))) }
     ensures listed { IfErr result (λ refusal. refusal.0 ≡ LookFault.Pages
         → IfSome refusal.1 (λ files. AreClean ⟦<FileFrom<S> as Disk>⟧ files.log files.db
         → ListsBooks (image_at S.Start))) }

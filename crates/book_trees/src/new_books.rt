@@ -7,8 +7,8 @@ ghost use Rattle.sqlite_wal.specs.Reads.{AreClean};
 ghost use Rattle.sqlite_wal.specs.Recovery.{Image};
 ghost use Rattle.book_trees.specs.LedgerFiles.{image_of, page_size, HoldsBooks, trees_held};
 ghost use Rattle.book_trees.specs.LedgerFiles.{AreEmptyTables, HoldsNothing};
-ghost use Rattle.book_trees.specs.Refusals.{AreKept, HasCause, IsAsFound, IsBegun, IsRefusal};
-ghost use Rattle.book_trees.specs.Refusals.{IsRefusedFor, IsUnopened, MayLeave, StopCreating};
+ghost use Rattle.book_trees.specs.Refusals.{AreKept, IsAsFound, IsBegun, IsRefusedWithout};
+ghost use Rattle.book_trees.specs.Refusals.{IsUnopened, MayLeave};
 ghost use Rattle.book_trees.specs.Schema.{books_schema};
 ghost use Rattle.book_trees.specs.StoreView.{IsOpen};
 ghost use Rattle.tree_tables.specs.Holds.{HasShapes};
@@ -49,9 +49,9 @@ pub fn create_files<D: Disk>(
         → (left : Image) → MayLeave D.Disk refusal.1 left
         → MayLeave D.Disk files left ⊎ IsBegun left) }
 
-    // Files that hold nothing are refused only because of memory and the disk.
-    ensures cause { IfErr result (IsRefusal D.Disk HasCause files
-        (HoldsNothing (image_of D.Disk files)) (StopCreating D.Disk)) }
+    // Of files that hold nothing it is not told that they hold something.
+    ensures there { IfErr result (λ refusal. IsRefusedWithout D.Disk
+        (HoldsNothing (image_of D.Disk files)) refusal.0 refusal.1) }
     ensures unharmed { IfErr result (λ refusal. AreClean D.Disk refusal.1.log refusal.1.db
         → (¬ HoldsNothing (image_of D.Disk files)) → AreKept D.Disk files refusal.1) }
 {
@@ -92,9 +92,8 @@ pub fn create_at<S: Start>(
     ensures begun_refused { IfErr result (λ refusal. HoldsNothing (image_at S.Start)
         → IfSome refusal.1 (λ files. (left : Image)
         → MayLeave ⟦<FileFrom<S> as Disk>⟧ files left → IsBegun left)) }
-    ensures cause { IfErr result (λ refusal. MatchOption refusal.1 (IsUnopened refusal.0)
-        (IsRefusedFor ⟦<FileFrom<S> as Disk>⟧ (HoldsNothing (image_at S.Start))
-        (StopCreating ⟦<FileFrom<S> as Disk>⟧) refusal.0)) }
+    ensures there { IfErr result (λ refusal. MatchOption refusal.1 (IsUnopened refusal.0)
+        (IsRefusedWithout ⟦<FileFrom<S> as Disk>⟧ (HoldsNothing (image_at S.Start)) refusal.0)) }
 
     // What a stop leaves of files that held something is what they held, or stands for the same.
     ensures kept { IfErr result (λ refusal. (¬ HoldsNothing (image_at S.Start))

@@ -4,8 +4,8 @@ ghost use Rattle.std.specs.Prelude.{◌≡◌, ◌↔◌, IfErr, IfOk, IsTrue, �
 ghost use Rattle.sqlite_wal.specs.Reads.{IsClean};
 ghost use Rattle.sqlite_wal.specs.Recovery.{Image, Replays};
 ghost use Rattle.book_trees.specs.Copies.{IsOnlyRead};
-ghost use Rattle.book_trees.specs.LedgerFiles.{page_size, HoldsAlone, IsHugeLog, IsUnused};
-ghost use Rattle.book_trees.specs.Refusals.{probe_answer, HasCause};
+ghost use Rattle.book_trees.specs.LedgerFiles.{page_size, HoldsAlone, IsUnused};
+ghost use Rattle.book_trees.specs.Refusals.{probe_answer, IsToldWithout};
 
 use crate::faults::OpenFault;
 use crate::unopened::size_of_a_page;
@@ -32,9 +32,7 @@ fn has_no_frame<D: Disk>(alloc: Global, log: &mut D) -> Result<bool, OpenFault>
     requires { IsTrue (D.Disk.is_usable log.old) }
     ensures none { IfOk result (λ is. IsClean D.Disk log.new
         → (IsTrue is ↔ Replays page_size (D.Disk.seen log.old) 0)) }
-    ensures cause { IfErr result (λ fault. IsClean D.Disk log.new
-        → HasCause (D.Disk.faults log.old) (D.Disk.faults log.new)
-        (IsHugeLog (D.Disk.seen log.old)) ⊤ fault) }
+    ensures kinds { IfErr result (IsToldWithout ⊤) }
     ensures read { IsOnlyRead D.Disk log.old log.new }
 {
     match probe_frames(alloc, log, size_of_a_page()) {
@@ -52,10 +50,8 @@ pub fn is_unused<D: Disk>(alloc: Global, log: &mut D) -> Result<bool, OpenFault>
     ensures alone { IfOk result (λ is. IsClean D.Disk log.new → IsTrue is → (image : Image)
         → image.log ≡ D.Disk.seen log.old → HoldsAlone image) }
 
-    // It has no answer only because of memory and the disk.
-    ensures cause { IfErr result (λ fault. IsClean D.Disk log.new
-        → HasCause (D.Disk.faults log.old) (D.Disk.faults log.new)
-        (IsHugeLog (D.Disk.seen log.old)) ⊤ fault) }
+    // That there are no books is never told of a log.
+    ensures kinds { IfErr result (IsToldWithout ⊤) }
     ensures read { IsOnlyRead D.Disk log.old log.new }
 {
     let len = match log.len() {

@@ -35,5 +35,4 @@ loop-done-preserved g c =
           (c.in_ok-read_at.ensures.read clean (grind (arith, common_steps))))
           (c.in_ok-write_at.ensures.written filled)
           c.write_at.ensures.others inside (held.6 (c.read_at.ensures.clean clean))),
-      omega (arith, held.7, c.in_ok-read_at.ensures.faults, c.in_ok-write_at.ensures.faults),
     )

@@ -1,4 +1,4 @@
-use Rattle.std.proofs.Common.{◌≡◌, ◌+◌, ◌-◌, ◌<◌, ◌≤◌, length, IsTrue}
+use Rattle.std.proofs.Common.{◌≡◌, ◌-◌, ◌<◌, ◌≤◌, length, IsTrue}
 use Rattle.book_trees.specs.Copies.{BeginsAs, IsOnlyRead}
 use Rattle.book_trees.proofs.copying.copy_bytes.Given as goal
 
@@ -13,8 +13,6 @@ invariant-loop-done g l =
     × (length (g.B.Disk.seen l.to) ≡ l.len)
     × (IsTrue (g.A.Disk.is_clean l.from)
     → BeginsAs l.done l.len (g.A.Disk.seen l.initial.from) (g.B.Disk.seen l.to))
-    × (g.A.Disk.faults l.initial.from + g.B.Disk.faults l.initial.to
-    ≤ g.A.Disk.faults l.from + g.B.Disk.faults l.to)
 
 abbrev pub decreases-loop-done : goal.decreases-loop-done
 decreases-loop-done g l = l.len - l.done

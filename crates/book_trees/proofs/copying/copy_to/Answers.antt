@@ -1,15 +1,11 @@
-use Rattle.std.proofs.Common.{◌≡◌, ◌+◌, arith, subst, sym}
-use Rattle.sqlite_disk.specs.contracts.modelled.ModelledDisk.TheImpl as modelled
-use Rattle.sqlite_std_file.specs.contracts.host.Host.{the_row}
-use Rattle.sqlite_std_file.specs.contracts.host.HostCalls.TheImpl as host
+use Rattle.std.proofs.Common.{◌≡◌, subst}
 use Rattle.sqlite_store.specs.FileStore.{view}
 use Rattle.sqlite_wal.specs.Recovery.{Image}
 use Rattle.book_trees.proofs.CopyLemmas.{copied_image}
-use Rattle.book_trees.proofs.Refused.{cause_for}
 use Rattle.book_trees.specs.Forms.{HoldNoNewer, HoldsThisForm}
-use Rattle.book_trees.specs.LedgerFiles.{image_of, HoldsBooks, trees_held}
+use Rattle.book_trees.specs.LedgerFiles.{HoldsBooks, trees_held}
 use Rattle.book_trees.specs.Looks.{look_opening}
-use Rattle.book_trees.specs.Refusals.{faults_in, AreFull}
+use Rattle.book_trees.specs.Refusals.{IsToldWithout}
 use Rattle.book_trees.specs.Schema.{books_schema}
 use Rattle.book_trees.proofs.copying.copy_to.Goals as goal
 
@@ -35,19 +31,10 @@ returns-in-Ok-look_through-clause-books g c clean honest =
     c.copy_files.ensures.read c.in-Ok-copy_files.ensures.copied honest)
     (c.in-Ok-look_through.ensures.held clean)
 
-pub returns-in-Err-look_through-clause-cause : goal.returns-in-Err-look_through-clause-cause
-returns-in-Err-look_through-clause-cause g c = λ honest clean.
-    let disk = modelled.ghosts the_row g.row.T host.ghosts host.dict g.T.Start g.T.Start-dict
-    g.T.Destruct-dict in
-    let first = c.args.from.now in
-    let last = c.copy_files.new.from in
-    let copy = c.copy_files.new.to in
-    let files = c.in-Err-look_through.files in
-    let same = copied_image first last copy c.copy_files.ensures.read
-    c.in-Ok-copy_files.ensures.copied honest in
-    cause_for (faults_in disk copy) (faults_in disk files) (faults_in g.D.Disk first)
-    (faults_in g.D.Disk last + faults_in disk files) (AreFull disk files) (AreFull disk files)
-    (HoldsThisForm (image_of disk copy)) (HoldsThisForm (image_of g.D.Disk first))
-    (λ more. omega (arith, more, c.copy_files.ensures.counts)) (λ full. full)
-    (subst HoldsThisForm (sym same)) (look_opening c.in-Err-look_through.fault)
-    (c.in-Err-look_through.ensures.cause clean)
+pub returns-in-Err-look_through-clause-there : goal.returns-in-Err-look_through-clause-there
+returns-in-Err-look_through-clause-there g c = λ honest clean.
+    subst (λ (i : Image). IsToldWithout (HoldsThisForm i)
+    (look_opening c.in-Err-look_through.fault))
+    (copied_image c.args.from.now c.copy_files.new.from c.copy_files.new.to
+    c.copy_files.ensures.read c.in-Ok-copy_files.ensures.copied honest)
+    (c.in-Err-look_through.ensures.there clean)

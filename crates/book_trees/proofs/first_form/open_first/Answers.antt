@@ -5,19 +5,18 @@ use Rattle.sqlite_trees.proofs.Doubt.{clean_of}
 use Rattle.book_trees.proofs.Opened.{held_first_listed, held_first_only, held_listed, held_ours}
 use Rattle.book_trees.proofs.Opened.{holds_shown, lists_here, opens_twice, shows_held}
 use Rattle.book_trees.proofs.Opened.{unlisted_none}
-use Rattle.book_trees.proofs.Refused.{cause_since, first_cause_of, never_already}
-use Rattle.book_trees.proofs.Refused.{unlisted_refused}
+use Rattle.book_trees.proofs.Refused.{first_error_told, never_already, unlisted_refused}
 use Rattle.book_trees.proofs.Trees.{has_first_trees}
-use Rattle.book_trees.specs.FirstForm.{first_fault_for, first_opening, HasFirstCause}
-use Rattle.book_trees.specs.FirstForm.{HoldsFirstForm}
+use Rattle.book_trees.specs.FirstForm.{first_opening, HoldsFirstForm}
 use Rattle.book_trees.specs.LedgerFiles.{HoldsBooks}
 use Rattle.book_trees.specs.Listing.{lists_books, lists_first_books}
+use Rattle.book_trees.specs.Refusals.{IsToldWithout}
 use Rattle.book_trees.specs.declared.first_form.FirstFault.{FirstFault}
 use Rattle.book_trees.proofs.first_form.open_first.Goals as goal
 
 -- files of the first form do not list the tables of this one
-pub returns-then-lists_books-clause-cause : goal.returns-then-lists_books-clause-cause
-returns-then-lists_books-clause-cause g c clean first =
+pub returns-then-lists_books-clause-there : goal.returns-then-lists_books-clause-there
+returns-then-lists_books-clause-there g c clean first =
     let books : lists_books c.in-Ok.listed.items ≡ true =
     ap lists_books (sym c.as_slice.ensures.value) ∙ sym c.lists_books.ensures
     ∙ c.if-lists_books.true in
@@ -36,14 +35,13 @@ pub returns-clause-listed : goal.returns-clause-listed
 returns-clause-listed g c is clean =
     absurd (never_already c.in-Err-open_numbered.error (sym c.first_fault.ensures ∙ is))
 
-pub returns-then-not-lists_first_books-clause-cause :
-    goal.returns-then-not-lists_first_books-clause-cause
-returns-then-not-lists_first_books-clause-cause g c clean =
+pub returns-then-not-lists_first_books-clause-there :
+    goal.returns-then-not-lists_first_books-clause-there
+returns-then-not-lists_first_books-clause-there g c clean =
     let old = c.args.files in
     let mid = c.read_catalog.new.self in
     let rows = c.in-Ok.listed.items in
-    unlisted_refused (state_of old).faults (state_of mid).faults (IsFullFile mid)
-    (HoldsFirstForm (image old)) lists_first_books rows c.as_slice-2.result.now
+    unlisted_refused (HoldsFirstForm (image old)) lists_first_books rows c.as_slice-2.result.now
     (λ first. held_first_listed old mid rows (c.in-Ok.ensures.ok clean) c.requires.size first.held)
     c.as_slice-2.ensures.value
     (sym c.lists_first_books.ensures ∙ c.if-not-lists_first_books.true) _ _
@@ -56,8 +54,7 @@ returns-then-not-lists_first_books-clause-this g c other clean =
     let old = c.args.files in
     let mid = c.read_catalog.new.self in
     let rows = c.in-Ok.listed.items in
-    unlisted_refused (state_of old).faults (state_of mid).faults (IsFullFile mid)
-    (HoldsBooks (image old)) lists_books rows c.as_slice.result.now
+    unlisted_refused (HoldsBooks (image old)) lists_books rows c.as_slice.result.now
     (held_listed old mid rows (c.in-Ok.ensures.ok clean) c.requires.size)
     c.as_slice.ensures.value (sym c.lists_books.ensures ∙ c.if-lists_books.false) _ _
     c.unlisted_fault.ensures
@@ -121,23 +118,20 @@ returns-clause-unharmed g c clean =
     (c.in-Ok.ensures.ok then) c.requires.size (state_of c.in-Err-open_numbered.files)
     (c.read_catalog.ensures.kept then) (c.in-Err-open_numbered.ensures.unharmed clean)
 
-pub returns-clause-cause : goal.returns-clause-cause
-returns-clause-cause g c clean =
+pub returns-clause-there : goal.returns-clause-there
+returns-clause-there g c clean =
     let then = c.in-Err-open_numbered.ensures.falls clean in
     let old = c.args.files in
     let mid = c.read_catalog.new.self in
     let end = c.in-Err-open_numbered.files in
     let size = (c.read_catalog.ensures.kept then).size ∙ c.requires.size in
     let schema = c.read_catalog.ensures.schema ∙ c.requires.schema in
-    let why = first_cause_of (state_of mid).faults (state_of end).faults (IsFullFile end)
+    subst (λ (fault : FirstFault). IsToldWithout (HoldsFirstForm (image old)) (first_opening fault))
+    (sym c.first_fault.ensures)
+    (first_error_told (state_of mid).faults (state_of end).faults (IsFullFile end)
     (HasFileAs mid true) (HoldsFirstForm (image old)) (λ first. held_ours old mid
     c.in-Ok.listed.items (c.in-Ok.ensures.ok then) c.requires.size first.held first.numbered size
-    schema) c.in-Err-open_numbered.error (c.in-Err-open_numbered.ensures.cause clean) in
-    subst (λ (fault : FirstFault). HasFirstCause (state_of old).faults (state_of end).faults
-    (IsFullFile end) (HoldsFirstForm (image old)) fault) (sym c.first_fault.ensures)
-    (cause_since (state_of old).faults (state_of mid).faults (state_of end).faults
-    (IsFullFile end) (HoldsFirstForm (image old)) (c.read_catalog.ensures.kept then).counts
-    (first_opening (first_fault_for c.in-Err-open_numbered.error)) why)
+    schema) c.in-Err-open_numbered.error (c.in-Err-open_numbered.ensures.cause clean))
 
 pub returns-clause-this : goal.returns-clause-this
 returns-clause-this g c other clean =
@@ -145,14 +139,11 @@ returns-clause-this g c other clean =
     let old = c.args.files in
     let mid = c.read_catalog.new.self in
     let end = c.in-Err-open_numbered.files in
-    let why = first_cause_of (state_of mid).faults (state_of end).faults (IsFullFile end)
+    subst (λ (fault : FirstFault). IsToldWithout (HoldsBooks (image old)) (first_opening fault))
+    (sym c.first_fault.ensures)
+    (first_error_told (state_of mid).faults (state_of end).faults (IsFullFile end)
     (HasFileAs mid true) (HoldsBooks (image old)) (λ held. absurd (unlisted_none old mid
     c.in-Ok.listed.items (c.in-Ok.ensures.ok then) c.requires.size
     (ap lists_books (sym c.as_slice.ensures.value) ∙ sym c.lists_books.ensures
     ∙ c.if-lists_books.false) held))
-    c.in-Err-open_numbered.error (c.in-Err-open_numbered.ensures.cause clean) in
-    subst (λ (fault : FirstFault). HasFirstCause (state_of old).faults (state_of end).faults
-    (IsFullFile end) (HoldsBooks (image old)) fault) (sym c.first_fault.ensures)
-    (cause_since (state_of old).faults (state_of mid).faults (state_of end).faults
-    (IsFullFile end) (HoldsBooks (image old)) (c.read_catalog.ensures.kept then).counts
-    (first_opening (first_fault_for c.in-Err-open_numbered.error)) why)
+    c.in-Err-open_numbered.error (c.in-Err-open_numbered.ensures.cause clean))

@@ -1,14 +1,13 @@
 use Rattle.std.proofs.Common.{inr, refl, sym, subst}
-use Rattle.sqlite_store.specs.Unopened.{image, IsFullFile}
+use Rattle.sqlite_store.specs.Unopened.{image}
 use Rattle.sqlite_wal.specs.Recovery.{Image}
-use Rattle.book_trees.proofs.FileParts.{end_honest, file_cause, files_kept, first_image}
-use Rattle.book_trees.proofs.FileParts.{honest_given, kept_still, shows_given, store_honest}
-use Rattle.book_trees.proofs.FileParts.{store_kept}
+use Rattle.book_trees.proofs.FileParts.{end_honest, files_kept, first_image, honest_given}
+use Rattle.book_trees.proofs.FileParts.{kept_still, shows_given, store_honest, store_kept}
 use Rattle.book_trees.proofs.FormNumbers.{newer_refused, none_newer}
-use Rattle.book_trees.proofs.ToldCauses.{first_told_cause, told_already, told_not_this}
+use Rattle.book_trees.proofs.Refused.{told_so}
+use Rattle.book_trees.proofs.ToldLemmas.{first_still_told, told_already, told_not_this}
 use Rattle.book_trees.specs.FirstForm.{first_opening, HoldsFirstForm}
 use Rattle.book_trees.specs.LedgerFiles.{image_of, HoldsBooks, HoldsFirstBooks}
-use Rattle.book_trees.specs.Refusals.{faults_in, AreFull}
 use Rattle.book_trees.specs.StoreView.{ListsBooks}
 use Rattle.book_trees.proofs.first_form.open_first_files.Goals as goal
 
@@ -46,8 +45,8 @@ returns-clause-held g c clean =
     (c.in-Ok-open_first.ensures.held clean)
 
 -- files of the first form do not say that they are of a newer one
-pub returns-then-says_newer-clause-cause : goal.returns-then-says_newer-clause-cause
-returns-then-says_newer-clause-cause g c clean first =
+pub returns-then-says_newer-clause-there : goal.returns-then-says_newer-clause-there
+returns-then-says_newer-clause-there g c clean first =
     newer_refused c.in-Ok.files c.in-Ok-open_first.store c.args.files c.close-then-says_newer.result
     c.in-Ok.ensures.files c.close-then-says_newer.ensures c.in-Ok-open_first.ensures.opened.ready
     c.in-Ok-open_first.ensures.found (c.says_newer.ensures.newer c.if-says_newer.true) clean
@@ -64,21 +63,19 @@ returns-then-says_newer-clause-unharmed g c clean =
     c.close-then-says_newer.ensures c.in-Ok.ensures.size (c.in-Ok-open_first.ensures.kept
     (store_honest store c.close-then-says_newer.result c.close-then-says_newer.ensures clean))
 
-pub returns-in-Err-open_first-clause-cause : goal.returns-in-Err-open_first-clause-cause
-returns-in-Err-open_first-clause-cause g c clean =
+pub returns-in-Err-open_first-clause-there : goal.returns-in-Err-open_first-clause-there
+returns-in-Err-open_first-clause-there g c clean =
     let old = c.in-Ok.files in
     let end = c.in-Err-open_first.files in
     let given = c.in-Ok.ensures.files in
     let back = c.close.ensures in
     let same = first_image old end c.args.files c.close.result given back in
-    first_told_cause g.D.Disk (faults_in g.D.Disk c.args.files) (AreFull g.D.Disk)
-    (HoldsFirstForm (image_of g.D.Disk c.args.files)) c.close.result c.told_first.result.1
-    c.in-Err-open_first.fault c.told_first.result.0 c.told_first.ensures.told
-    (file_cause old end c.args.files c.close.result given back (IsFullFile end)
-    (AreFull g.D.Disk c.close.result) (HoldsFirstForm (image old))
-    (HoldsFirstForm (image_of g.D.Disk c.args.files)) (λ full. ∣ (end, back, full) ∣₁)
+    first_still_told (HoldsFirstForm (image_of g.D.Disk c.args.files)) c.close.result
+    c.told_first.result.1 c.in-Err-open_first.fault c.told_first.result.0
+    c.told_first.ensures.told
+    (told_so (HoldsFirstForm (image old)) (HoldsFirstForm (image_of g.D.Disk c.args.files))
     (subst HoldsFirstForm (sym same)) (first_opening c.in-Err-open_first.fault)
-    (c.in-Err-open_first.ensures.cause
+    (c.in-Err-open_first.ensures.there
     (end_honest old end c.args.files c.close.result given back
     (c.told_first.ensures.clean clean))))
 
@@ -89,12 +86,10 @@ returns-in-Err-open_first-clause-this g c other clean =
     let given = c.in-Ok.ensures.files in
     let back = c.close.ensures in
     let same = first_image old end c.args.files c.close.result given back in
-    told_not_this g.D.Disk (faults_in g.D.Disk c.args.files) (AreFull g.D.Disk)
-    (HoldsBooks (image_of g.D.Disk c.args.files)) c.close.result c.told_first.result.1
-    c.in-Err-open_first.fault c.told_first.result.0 c.told_first.ensures.told
-    (λ apart. file_cause old end c.args.files c.close.result given back (IsFullFile end)
-    (AreFull g.D.Disk c.close.result) (HoldsBooks (image old))
-    (HoldsBooks (image_of g.D.Disk c.args.files)) (λ full. ∣ (end, back, full) ∣₁)
+    told_not_this (HoldsBooks (image_of g.D.Disk c.args.files)) c.close.result
+    c.told_first.result.1 c.in-Err-open_first.fault c.told_first.result.0
+    c.told_first.ensures.told
+    (λ apart. told_so (HoldsBooks (image old)) (HoldsBooks (image_of g.D.Disk c.args.files))
     (subst HoldsBooks (sym same)) (first_opening c.in-Err-open_first.fault)
     (c.in-Err-open_first.ensures.this apart
     (end_honest old end c.args.files c.close.result given back
@@ -119,8 +114,7 @@ returns-in-Err-open_first-clause-unharmed g c clean =
     let end = c.in-Err-open_first.files in
     let given = c.in-Ok.ensures.files in
     let back = c.close.ensures in
-    kept_still c.args.files c.close.result c.told_first.result.1 c.told_first.ensures.counts
-    c.told_first.ensures.crash
+    kept_still c.args.files c.close.result c.told_first.result.1 c.told_first.ensures.crash
     (files_kept old end c.args.files c.close.result given back c.in-Ok.ensures.size
     (c.in-Err-open_first.ensures.unharmed
     (end_honest old end c.args.files c.close.result given back

@@ -1,15 +1,15 @@
 use Rattle.std.proofs.Common.{sym, subst}
-use Rattle.sqlite_store.specs.Unopened.{image, state_of, IsFullFile}
+use Rattle.sqlite_store.specs.Unopened.{image}
 use Rattle.sqlite_wal.specs.Recovery.{Image}
-use Rattle.book_trees.proofs.FileParts.{end_honest, file_cause, files_kept, first_image}
-use Rattle.book_trees.proofs.FileParts.{honest_given, kept_still, shows_given, store_honest}
-use Rattle.book_trees.proofs.FileParts.{store_kept}
+use Rattle.book_trees.proofs.FileParts.{end_honest, files_kept, first_image, honest_given}
+use Rattle.book_trees.proofs.FileParts.{kept_still, shows_given, store_honest, store_kept}
 use Rattle.book_trees.proofs.FormNumbers.{newer_refused, none_newer}
-use Rattle.book_trees.proofs.ToldCauses.{look_told_cause, told_pages}
+use Rattle.book_trees.proofs.Refused.{told_so}
+use Rattle.book_trees.proofs.ToldLemmas.{look_still_told, told_pages}
 use Rattle.book_trees.specs.Forms.{HoldsThisForm}
 use Rattle.book_trees.specs.LedgerFiles.{image_of, HoldsBooks}
-use Rattle.book_trees.specs.Looks.{look_opening, HasLookCause}
-use Rattle.book_trees.specs.Refusals.{faults_in, AreFull}
+use Rattle.book_trees.specs.Looks.{look_opening}
+use Rattle.book_trees.specs.Refusals.{IsToldWithout}
 use Rattle.book_trees.specs.StoreView.{ListsBooks}
 use Rattle.book_trees.specs.declared.integrity.LookFault.{LookFault}
 use Rattle.book_trees.proofs.integrity.look_through.Goals as goal
@@ -40,8 +40,8 @@ returns-clause-form g c =
     (c.says_newer.ensures.other c.if-says_newer.false)
 
 -- files that hold books of this form do not say that they are of a newer one
-pub returns-then-says_newer-clause-cause : goal.returns-then-says_newer-clause-cause
-returns-then-says_newer-clause-cause g c clean this =
+pub returns-then-says_newer-clause-there : goal.returns-then-says_newer-clause-there
+returns-then-says_newer-clause-there g c clean this =
     newer_refused c.in-Ok.files c.in-Ok-look_through_all.store c.args.files
     c.close-then-says_newer.result c.in-Ok.ensures.files c.close-then-says_newer.ensures
     c.in-Ok-look_through_all.ensures.opened.ready c.in-Ok-look_through_all.ensures.found
@@ -55,21 +55,19 @@ returns-then-says_newer-clause-unharmed g c clean =
     c.close-then-says_newer.ensures c.in-Ok.ensures.size (c.in-Ok-look_through_all.ensures.kept
     (store_honest store c.close-then-says_newer.result c.close-then-says_newer.ensures clean))
 
-pub returns-in-Err-look_through_all-clause-cause : goal.returns-in-Err-look_through_all-clause-cause
-returns-in-Err-look_through_all-clause-cause g c clean =
+pub returns-in-Err-look_through_all-clause-there : goal.returns-in-Err-look_through_all-clause-there
+returns-in-Err-look_through_all-clause-there g c clean =
     let old = c.in-Ok.files in
     let end = c.in-Err-look_through_all.files in
     let given = c.in-Ok.ensures.files in
     let back = c.close.ensures in
     let same = first_image old end c.args.files c.close.result given back in
-    look_told_cause g.D.Disk (faults_in g.D.Disk c.args.files) (AreFull g.D.Disk)
-    (HoldsThisForm (image_of g.D.Disk c.args.files)) c.close.result c.told_look.result.1
-    c.in-Err-look_through_all.fault c.told_look.result.0 c.told_look.ensures.told
-    (file_cause old end c.args.files c.close.result given back (IsFullFile end)
-    (AreFull g.D.Disk c.close.result) (HoldsBooks (image old))
-    (HoldsThisForm (image_of g.D.Disk c.args.files)) (λ full. ∣ (end, back, full) ∣₁)
+    look_still_told (HoldsThisForm (image_of g.D.Disk c.args.files)) c.close.result
+    c.told_look.result.1 c.in-Err-look_through_all.fault c.told_look.result.0
+    c.told_look.ensures.told
+    (told_so (HoldsBooks (image old)) (HoldsThisForm (image_of g.D.Disk c.args.files))
     (λ this. subst HoldsBooks (sym same) this.held) (look_opening c.in-Err-look_through_all.fault)
-    (c.in-Err-look_through_all.ensures.cause
+    (c.in-Err-look_through_all.ensures.there
     (end_honest old end c.args.files c.close.result given back
     (c.told_look.ensures.clean clean))))
 
@@ -79,8 +77,7 @@ returns-in-Err-look_through_all-clause-unharmed g c clean =
     let end = c.in-Err-look_through_all.files in
     let given = c.in-Ok.ensures.files in
     let back = c.close.ensures in
-    kept_still c.args.files c.close.result c.told_look.result.1 c.told_look.ensures.counts
-    c.told_look.ensures.crash
+    kept_still c.args.files c.close.result c.told_look.result.1 c.told_look.ensures.crash
     (files_kept old end c.args.files c.close.result given back c.in-Ok.ensures.size
     (c.in-Err-look_through_all.ensures.unharmed
     (end_honest old end c.args.files c.close.result given back
@@ -109,8 +106,7 @@ returns-in-Err-look_through_all-clause-wrong g c is clean =
     c.told_look.result.1 c.told_look.ensures.told is in
     subst (λ (i : Image). HoldsBooks i → ⊥)
     (first_image old end c.args.files c.close.result given back)
-    (subst (λ (fault : LookFault). HasLookCause (state_of old).faults (state_of end).faults
-    (IsFullFile end) (HoldsBooks (image old)) fault) met
-    (c.in-Err-look_through_all.ensures.cause
+    (subst (λ (fault : LookFault). IsToldWithout (HoldsBooks (image old)) (look_opening fault)) met
+    (c.in-Err-look_through_all.ensures.there
     (end_honest old end c.args.files c.close.result given back
     (c.told_look.ensures.clean clean))))

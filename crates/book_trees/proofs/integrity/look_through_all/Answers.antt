@@ -3,20 +3,20 @@ use Rattle.sqlite_store.specs.FileStore.{state}
 use Rattle.sqlite_store.specs.Unopened.{state_of, image, HasFile, IsFullFile}
 use Rattle.book_trees.proofs.Opened.{held_file, held_listed, holds_shown, is_open, lists_here}
 use Rattle.book_trees.proofs.Opened.{opens_twice, shows_held}
-use Rattle.book_trees.proofs.Refused.{cause_since, look_cause_of, unlisted_refused}
+use Rattle.book_trees.proofs.Refused.{look_error_told, unlisted_refused}
 use Rattle.book_trees.specs.LedgerFiles.{HoldsBooks}
 use Rattle.book_trees.specs.Listing.{lists_books}
-use Rattle.book_trees.specs.Looks.{look_fault_for, look_opening, HasLookCause}
+use Rattle.book_trees.specs.Looks.{look_opening}
+use Rattle.book_trees.specs.Refusals.{IsToldWithout}
 use Rattle.book_trees.specs.declared.integrity.LookFault.{LookFault}
 use Rattle.book_trees.proofs.integrity.look_through_all.Goals as goal
 
-pub returns-then-not-lists_books-clause-cause : goal.returns-then-not-lists_books-clause-cause
-returns-then-not-lists_books-clause-cause g c clean =
+pub returns-then-not-lists_books-clause-there : goal.returns-then-not-lists_books-clause-there
+returns-then-not-lists_books-clause-there g c clean =
     let old = c.args.files in
     let mid = c.read_catalog.new.self in
     let rows = c.in-Ok.listed.items in
-    unlisted_refused (state_of old).faults (state_of mid).faults (IsFullFile mid)
-    (HoldsBooks (image old)) lists_books rows c.as_slice.result.now
+    unlisted_refused (HoldsBooks (image old)) lists_books rows c.as_slice.result.now
     (held_listed old mid rows (c.in-Ok.ensures.ok clean) c.requires.size)
     c.as_slice.ensures.value (sym c.lists_books.ensures ∙ c.if-not-lists_books.true) _ _
     c.unlisted_fault.ensures
@@ -36,23 +36,20 @@ returns-clause-unharmed g c clean =
     (c.in-Ok.ensures.ok then) c.requires.size (state_of c.in-Err-open.files)
     (c.read_catalog.ensures.kept then) (c.in-Err-open.ensures.unharmed clean)
 
-pub returns-clause-cause : goal.returns-clause-cause
-returns-clause-cause g c clean =
+pub returns-clause-there : goal.returns-clause-there
+returns-clause-there g c clean =
     let then = c.in-Err-open.ensures.falls clean in
     let old = c.args.files in
     let mid = c.read_catalog.new.self in
     let end = c.in-Err-open.files in
     let size = (c.read_catalog.ensures.kept then).size ∙ c.requires.size in
     let schema = c.read_catalog.ensures.schema ∙ c.requires.schema in
-    let why = look_cause_of (state_of mid).faults (state_of end).faults (IsFullFile end)
+    subst (λ (fault : LookFault). IsToldWithout (HoldsBooks (image old)) (look_opening fault))
+    (sym c.look_fault.ensures)
+    (look_error_told (state_of mid).faults (state_of end).faults (IsFullFile end)
     (HasFile mid) (HoldsBooks (image old)) (λ held. held_file old mid c.in-Ok.listed.items
     (c.in-Ok.ensures.ok then) c.requires.size held size schema) c.in-Err-open.error
-    (c.in-Err-open.ensures.cause clean) in
-    subst (λ (fault : LookFault). HasLookCause (state_of old).faults (state_of end).faults
-    (IsFullFile end) (HoldsBooks (image old)) fault) (sym c.look_fault.ensures)
-    (cause_since (state_of old).faults (state_of mid).faults (state_of end).faults
-    (IsFullFile end) (HoldsBooks (image old)) (c.read_catalog.ensures.kept then).counts
-    (look_opening (look_fault_for c.in-Err-open.error)) why)
+    (c.in-Err-open.ensures.cause clean))
 
 pub returns-in-Ok-open-clause-honest : goal.returns-in-Ok-open-clause-honest
 returns-in-Ok-open-clause-honest g c clean =

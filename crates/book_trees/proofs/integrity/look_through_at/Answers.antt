@@ -1,10 +1,11 @@
 use Rattle.std.proofs.Common.{◌≡◌, subst}
 use Rattle.sqlite_store.specs.FileStore.{view}
 use Rattle.sqlite_wal.specs.Recovery.{Image}
-use Rattle.book_trees.proofs.FreshFiles.{as_found, fresh_image}
-use Rattle.book_trees.proofs.FreshFiles.{fresh_images}
-use Rattle.book_trees.specs.Forms.{HoldNoNewer}
+use Rattle.book_trees.proofs.FreshFiles.{as_found, fresh_image, fresh_images}
+use Rattle.book_trees.specs.Forms.{HoldNoNewer, HoldsThisForm}
 use Rattle.book_trees.specs.LedgerFiles.{HoldsBooks, trees_held}
+use Rattle.book_trees.specs.Looks.{look_opening}
+use Rattle.book_trees.specs.Refusals.{IsToldWithout}
 use Rattle.book_trees.specs.Schema.{books_schema}
 use Rattle.book_trees.proofs.integrity.look_through_at.Goals as goal
 
@@ -20,6 +21,14 @@ returns-in-Ok-look_through-clause-form g c clean =
     let fresh = c.in-Ok.ensures.fresh in
     subst (HoldNoNewer books_schema) (fresh_image g.S.Start.log g.S.Start.db fresh.0 fresh.1)
     (c.in-Ok-look_through.ensures.form clean)
+
+pub returns-in-Err-look_through-clause-there : goal.returns-in-Err-look_through-clause-there
+returns-in-Err-look_through-clause-there g c clean =
+    let fresh = c.in-Ok.ensures.fresh in
+    subst (λ (i : Image). IsToldWithout (HoldsThisForm i)
+    (look_opening c.in-Err-look_through.fault))
+    (fresh_image g.S.Start.log g.S.Start.db fresh.0 fresh.1)
+    (c.in-Err-look_through.ensures.there clean)
 
 pub returns-in-Err-look_through-clause-kept : goal.returns-in-Err-look_through-clause-kept
 returns-in-Err-look_through-clause-kept g c left may =

@@ -1,10 +1,10 @@
 use Rattle.std.proofs.Common.{subst, sym}
 use Rattle.std.proofs.Math.Logic.{∥∥₁_map}
+use Rattle.sqlite_wal.specs.Recovery.{Image}
 use Rattle.book_trees.specs.LedgerFiles.{HoldsNothing}
-use Rattle.book_trees.specs.Refusals.{HasCause}
+use Rattle.book_trees.specs.Refusals.{IsToldWithout}
 use Rattle.book_trees.proofs.Begun.{begun_found}
-use Rattle.book_trees.proofs.FreshFiles.{as_found, fresh_cause, fresh_faults, fresh_image}
-use Rattle.book_trees.proofs.FreshFiles.{fresh_images}
+use Rattle.book_trees.proofs.FreshFiles.{as_found, fresh_image, fresh_images}
 use Rattle.book_trees.proofs.new_books.create_at.Goals as goal
 
 pub returns-in-Ok-create_files-clause-started : goal.returns-in-Ok-create_files-clause-started
@@ -29,12 +29,12 @@ returns-in-Err-create_files-clause-begun_refused g c nothing left may =
     fresh.0 fresh.1 left was.1.0 was.1.1)
     (c.in-Err-create_files.ensures.begun_refused (subst HoldsNothing (sym same) nothing) left may)
 
-pub returns-in-Err-create_files-clause-cause : goal.returns-in-Err-create_files-clause-cause
-returns-in-Err-create_files-clause-cause g c clean =
+pub returns-in-Err-create_files-clause-there : goal.returns-in-Err-create_files-clause-there
+returns-in-Err-create_files-clause-there g c clean =
     let fresh = c.in-Ok.ensures.fresh in
-    fresh_cause HasCause HoldsNothing (fresh_image g.S.Start.log g.S.Start.db fresh.0 fresh.1)
-    (fresh_faults g.S.Start.log g.S.Start.db fresh.0 fresh.1)
-    (c.in-Err-create_files.ensures.cause clean)
+    subst (λ (i : Image). IsToldWithout (HoldsNothing i) c.in-Err-create_files.fault)
+    (fresh_image g.S.Start.log g.S.Start.db fresh.0 fresh.1)
+    (c.in-Err-create_files.ensures.there clean)
 
 pub returns-in-Err-create_files-clause-kept : goal.returns-in-Err-create_files-clause-kept
 returns-in-Err-create_files-clause-kept g c something left may =

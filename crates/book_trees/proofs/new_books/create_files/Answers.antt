@@ -2,18 +2,18 @@ use Rattle.std.proofs.Common.{◌≡◌, sym, ap, subst, ◌∙◌}
 use Rattle.std.proofs.Math.Logic.{∥∥₁_map}
 use Rattle.sqlite_store.specs.FileStore.{state, view, schema_of}
 use Rattle.sqlite_store.specs.Laws.{stays_at}
-use Rattle.sqlite_store.specs.Unopened.{image, state_of, CanCreate, Opens, StopsCreating}
+use Rattle.sqlite_store.specs.Unopened.{state_of, CanCreate, Opens, StopsCreating}
 use Rattle.sqlite_trees.proofs.Doubt.{no_doubt}
 use Rattle.sqlite_trees.specs.Tree.{Trees}
 use Rattle.book_trees.proofs.Begun.{begun, begun_files, may_leave_last}
 use Rattle.book_trees.proofs.Buildable.{can_create, holds_nothing}
 use Rattle.book_trees.proofs.EachLeft.{each_found}
-use Rattle.book_trees.proofs.FileParts.{end_honest, file_cause, files_kept, first_honest}
-use Rattle.book_trees.proofs.FileParts.{clean_if_left, first_image}
+use Rattle.book_trees.proofs.FileParts.{clean_if_left, end_honest, files_kept, first_honest}
+use Rattle.book_trees.proofs.FileParts.{first_image}
 use Rattle.book_trees.proofs.Opened.{is_open}
-use Rattle.book_trees.proofs.Refused.{cause_of}
+use Rattle.book_trees.proofs.Refused.{error_told}
 use Rattle.book_trees.specs.LedgerFiles.{image_of, HoldsNothing}
-use Rattle.book_trees.specs.Refusals.{faults_in, HasCause, StopCreating}
+use Rattle.book_trees.specs.Refusals.{IsToldWithout}
 use Rattle.book_trees.specs.Schema.{books_schema}
 use Rattle.book_trees.specs.declared.faults.OpenFault.{OpenFault}
 use Rattle.book_trees.proofs.new_books.create_files.Goals as goal
@@ -54,8 +54,8 @@ returns-in-Ok-create-clause-left g c clean =
       λ tree small. ap (λ (t : Trees). t tree) found.3 ∙ made.empty clean tree small,
     )
 
-pub returns-in-Err-create-clause-cause : goal.returns-in-Err-create-clause-cause
-returns-in-Err-create-clause-cause g c clean =
+pub returns-in-Err-create-clause-there : goal.returns-in-Err-create-clause-there
+returns-in-Err-create-clause-there g c clean =
     let old = c.in-Ok.files in
     let end = c.in-Err-create.files in
     let given = c.in-Ok.ensures.files in
@@ -63,16 +63,13 @@ returns-in-Err-create-clause-cause g c clean =
     let first = c.args.files in
     let last = c.close.result in
     let same = first_image old end first last given back in
-    let why = cause_of (state_of old).faults (state_of end).faults (StopsCreating end)
-    (CanCreate old) (HoldsNothing (image old))
-    (can_create old c.in-Ok.ensures.size c.in-Ok.ensures.schema) c.in-Err-create.error
-    (c.in-Err-create.ensures.cause (end_honest old end first last given back clean)) in
-    subst (λ (fault : OpenFault). HasCause (faults_in g.D.Disk first) (faults_in g.D.Disk last)
-    (StopCreating g.D.Disk last) (HoldsNothing (image_of g.D.Disk first)) fault)
+    subst (λ (fault : OpenFault). IsToldWithout (HoldsNothing (image_of g.D.Disk first)) fault)
     (sym c.fault_of.ensures)
-    (file_cause old end first last given back (StopsCreating end) (StopCreating g.D.Disk last)
-    (HoldsNothing (image old)) (HoldsNothing (image_of g.D.Disk first))
-    (λ stops. ∣ (end, back, stops) ∣₁) (subst HoldsNothing (sym same)) _ why)
+    (error_told (state_of old).faults (state_of end).faults (StopsCreating end) (CanCreate old)
+    (HoldsNothing (image_of g.D.Disk first))
+    (λ nothing. can_create old c.in-Ok.ensures.size c.in-Ok.ensures.schema
+    (subst HoldsNothing (sym same) nothing)) c.in-Err-create.error
+    (c.in-Err-create.ensures.cause (end_honest old end first last given back clean)))
 
 pub returns-in-Err-create-clause-unharmed : goal.returns-in-Err-create-clause-unharmed
 returns-in-Err-create-clause-unharmed g c clean something =

@@ -1,8 +1,9 @@
 use Rattle.std.proofs.Common.{◌≡◌, subst, sym}
 use Rattle.sqlite_store.specs.FileStore.{view}
 use Rattle.sqlite_wal.specs.Recovery.{Image}
-use Rattle.book_trees.specs.Forms.{HoldNoNewer}
+use Rattle.book_trees.specs.Forms.{HoldNoNewer, HoldsThisForm}
 use Rattle.book_trees.specs.LedgerFiles.{HoldsBooks, trees_held}
+use Rattle.book_trees.specs.Refusals.{IsToldWithout}
 use Rattle.book_trees.specs.Schema.{books_schema}
 use Rattle.book_trees.specs.StoreView.{AreLeft, ShowsBooks}
 use Rattle.book_trees.proofs.FreshFiles.{as_found, fresh_image, fresh_images}
@@ -33,6 +34,13 @@ returns-in-Ok-open_files-clause-form g c clean =
     let fresh = c.in-Ok.ensures.fresh in
     subst (HoldNoNewer books_schema) (fresh_image g.S.Start.log g.S.Start.db fresh.0 fresh.1)
     (c.in-Ok-open_files.ensures.form clean)
+
+pub returns-in-Err-open_files-clause-there : goal.returns-in-Err-open_files-clause-there
+returns-in-Err-open_files-clause-there g c clean =
+    let fresh = c.in-Ok.ensures.fresh in
+    subst (λ (i : Image). IsToldWithout (HoldsThisForm i) c.in-Err-open_files.fault)
+    (fresh_image g.S.Start.log g.S.Start.db fresh.0 fresh.1)
+    (c.in-Err-open_files.ensures.there clean)
 
 pub returns-in-Err-open_files-clause-kept : goal.returns-in-Err-open_files-clause-kept
 returns-in-Err-open_files-clause-kept g c left may =

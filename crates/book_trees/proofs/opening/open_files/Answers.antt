@@ -1,14 +1,14 @@
 use Rattle.std.proofs.Common.{◌≡◌, sym, subst}
-use Rattle.sqlite_store.specs.Unopened.{image, IsFullFile}
+use Rattle.sqlite_store.specs.Unopened.{image}
 use Rattle.sqlite_wal.specs.Recovery.{Image}
-use Rattle.book_trees.proofs.FileParts.{end_honest, file_cause, files_kept, first_honest}
-use Rattle.book_trees.proofs.FileParts.{first_image, honest_given, kept_still, shows_given}
-use Rattle.book_trees.proofs.FileParts.{store_honest, store_kept}
+use Rattle.book_trees.proofs.FileParts.{end_honest, files_kept, first_honest, first_image}
+use Rattle.book_trees.proofs.FileParts.{honest_given, kept_still, shows_given, store_honest}
+use Rattle.book_trees.proofs.FileParts.{store_kept}
 use Rattle.book_trees.proofs.FormNumbers.{newer_refused, none_newer}
-use Rattle.book_trees.proofs.ToldCauses.{told_cause}
+use Rattle.book_trees.proofs.Refused.{told_so}
+use Rattle.book_trees.proofs.ToldLemmas.{still_told}
 use Rattle.book_trees.specs.Forms.{HoldsThisForm}
 use Rattle.book_trees.specs.LedgerFiles.{image_of, HoldsBooks}
-use Rattle.book_trees.specs.Refusals.{faults_in, AreFull}
 use Rattle.book_trees.specs.StoreView.{AreLeft, ShowsBooks}
 use Rattle.book_trees.proofs.opening.open_files.Goals as goal
 
@@ -47,8 +47,8 @@ returns-clause-form g c =
     (c.says_newer.ensures.other c.if-says_newer.false)
 
 -- files that hold books of this form do not say that they are of a newer one
-pub returns-then-says_newer-clause-cause : goal.returns-then-says_newer-clause-cause
-returns-then-says_newer-clause-cause g c clean this =
+pub returns-then-says_newer-clause-there : goal.returns-then-says_newer-clause-there
+returns-then-says_newer-clause-there g c clean this =
     newer_refused c.in-Ok.files c.in-Ok-open_left.store c.args.files c.close-then-says_newer.result
     c.in-Ok.ensures.files c.close-then-says_newer.ensures c.in-Ok-open_left.ensures.opened.ready
     c.in-Ok-open_left.ensures.found (c.says_newer.ensures.newer c.if-says_newer.true) clean
@@ -62,21 +62,18 @@ returns-then-says_newer-clause-unharmed g c clean =
     c.close-then-says_newer.ensures c.in-Ok.ensures.size (c.in-Ok-open_left.ensures.kept
     (store_honest store c.close-then-says_newer.result c.close-then-says_newer.ensures clean))
 
-pub returns-in-Err-open_left-clause-cause : goal.returns-in-Err-open_left-clause-cause
-returns-in-Err-open_left-clause-cause g c clean =
+pub returns-in-Err-open_left-clause-there : goal.returns-in-Err-open_left-clause-there
+returns-in-Err-open_left-clause-there g c clean =
     let old = c.in-Ok.files in
     let end = c.in-Err-open_left.files in
     let given = c.in-Ok.ensures.files in
     let back = c.close.ensures in
     let same = first_image old end c.args.files c.close.result given back in
-    told_cause g.D.Disk (faults_in g.D.Disk c.args.files) (AreFull g.D.Disk)
-    (HoldsThisForm (image_of g.D.Disk c.args.files)) c.close.result c.told.result.1
+    still_told (HoldsThisForm (image_of g.D.Disk c.args.files)) c.close.result c.told.result.1
     c.in-Err-open_left.fault c.told.result.0 c.told.ensures.told
-    (file_cause old end c.args.files c.close.result given back (IsFullFile end)
-    (AreFull g.D.Disk c.close.result) (HoldsBooks (image old))
-    (HoldsThisForm (image_of g.D.Disk c.args.files)) (λ full. ∣ (end, back, full) ∣₁)
+    (told_so (HoldsBooks (image old)) (HoldsThisForm (image_of g.D.Disk c.args.files))
     (λ this. subst HoldsBooks (sym same) this.held) c.in-Err-open_left.fault
-    (c.in-Err-open_left.ensures.cause
+    (c.in-Err-open_left.ensures.there
     (end_honest old end c.args.files c.close.result given back (c.told.ensures.clean clean))))
 
 pub returns-in-Err-open_left-clause-unharmed : goal.returns-in-Err-open_left-clause-unharmed
@@ -85,8 +82,7 @@ returns-in-Err-open_left-clause-unharmed g c clean =
     let end = c.in-Err-open_left.files in
     let given = c.in-Ok.ensures.files in
     let back = c.close.ensures in
-    kept_still c.args.files c.close.result c.told.result.1 c.told.ensures.counts
-    c.told.ensures.crash
+    kept_still c.args.files c.close.result c.told.result.1 c.told.ensures.crash
     (files_kept old end c.args.files c.close.result given back c.in-Ok.ensures.size
     (c.in-Err-open_left.ensures.unharmed
     (end_honest old end c.args.files c.close.result given back (c.told.ensures.clean clean))))

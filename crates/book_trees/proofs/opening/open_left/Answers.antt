@@ -3,19 +3,18 @@ use Rattle.sqlite_store.specs.FileStore.{state}
 use Rattle.sqlite_store.specs.Unopened.{state_of, image, IsFullFile}
 use Rattle.book_trees.proofs.Opened.{has_file, held_listed, is_open, opens_twice, shows_held}
 use Rattle.book_trees.proofs.Opened.{shows_listed}
-use Rattle.book_trees.proofs.Refused.{cause_of, cause_since, unlisted_refused}
+use Rattle.book_trees.proofs.Refused.{error_told, unlisted_refused}
 use Rattle.book_trees.specs.LedgerFiles.{HoldsBooks}
 use Rattle.book_trees.specs.Listing.{lists_books}
-use Rattle.book_trees.specs.Refusals.{HasCause}
+use Rattle.book_trees.specs.Refusals.{IsToldWithout}
 use Rattle.book_trees.specs.declared.faults.OpenFault.{OpenFault}
 use Rattle.book_trees.proofs.opening.open_left.Goals as goal
 
-pub returns-then-not-lists_books-clause-cause : goal.returns-then-not-lists_books-clause-cause
-returns-then-not-lists_books-clause-cause g c clean =
+pub returns-then-not-lists_books-clause-there : goal.returns-then-not-lists_books-clause-there
+returns-then-not-lists_books-clause-there g c clean =
     let old = c.args.files in
     let mid = c.read_catalog.new.self in
-    unlisted_refused (state_of old).faults (state_of mid).faults (IsFullFile mid)
-    (HoldsBooks (image old)) lists_books c.in-Ok.listed.items c.as_slice.result.now
+    unlisted_refused (HoldsBooks (image old)) lists_books c.in-Ok.listed.items c.as_slice.result.now
     (held_listed old mid c.in-Ok.listed.items (c.in-Ok.ensures.ok clean) c.requires.size)
     c.as_slice.ensures.value (sym c.lists_books.ensures ∙ c.if-not-lists_books.true) _ _
     c.unlisted_fault.ensures
@@ -80,17 +79,12 @@ returns-clause-unharmed g c clean =
     (c.in-Ok.ensures.ok then) c.requires.size (state_of c.in-Err-open_trusted.files)
     (c.read_catalog.ensures.kept then) (c.in-Err-open_trusted.ensures.unharmed clean)
 
-pub returns-clause-cause : goal.returns-clause-cause
-returns-clause-cause g c clean =
-    let then = c.in-Err-open_trusted.ensures.falls clean in
+pub returns-clause-there : goal.returns-clause-there
+returns-clause-there g c clean =
     let mid = c.read_catalog.new.self in
     let end = c.in-Err-open_trusted.files in
-    let why = cause_of (state_of mid).faults (state_of end).faults (IsFullFile end) _
-    (HoldsBooks (image c.args.files)) (λ _. tt) c.in-Err-open_trusted.error
-    (c.in-Err-open_trusted.ensures.cause clean) in
-    subst (λ (fault : OpenFault). HasCause (state_of c.args.files).faults (state_of end).faults
-    (IsFullFile end) (HoldsBooks (image c.args.files)) fault)
+    subst (λ (fault : OpenFault). IsToldWithout (HoldsBooks (image c.args.files)) fault)
     (sym c.fault_of-in-Err-open_trusted.ensures)
-    (cause_since (state_of c.args.files).faults (state_of mid).faults (state_of end).faults
-    (IsFullFile end) (HoldsBooks (image c.args.files)) (c.read_catalog.ensures.kept then).counts
-    _ why)
+    (error_told (state_of mid).faults (state_of end).faults (IsFullFile end) _
+    (HoldsBooks (image c.args.files)) (λ _. tt) c.in-Err-open_trusted.error
+    (c.in-Err-open_trusted.ensures.cause clean))
