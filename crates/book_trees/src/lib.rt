@@ -28,5 +28,4 @@ pub use integrity::{LookFault, look_through, look_through_at};
 pub use ledger_files::LeftByLedger;
 pub use new_books::{create_at, create_files};
 pub use opening::{CACHE_PAGES, open_at, open_files, open_left};
-pub use schema::books_objects;
 pub use unused_logs::is_unused;

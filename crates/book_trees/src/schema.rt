@@ -64,7 +64,7 @@ pub(crate) fn detail_object() -> Object<'static>
 }
 
 /// What a file of books lists. The tables are numbered in this order, from 0.
-pub fn books_objects() -> [Object<'static>; 11]
+pub(crate) fn books_objects() -> [Object<'static>; 11]
     ensures { map wanted_of result ≡ books_schema }
 {
     [
