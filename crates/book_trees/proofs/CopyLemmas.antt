@@ -2,7 +2,7 @@
 use Rattle.std.proofs.Common.{◌≡◌, ◌<◌, ◌≤◌, ◌+◌, ◌-◌, ℕ, List, length, arith, sym, subst, inl, inr}
 use Rattle.std.proofs.Common.{◌∙◌, ap₂, ext_get_or, IsTrue, Result, Ok, Err}
 use Rattle.std.proofs.lemmas.Bool.{cases_lt}
-use Rattle.std.specs.Prelude.{slice_index, IfErr, OnOk}
+use Rattle.std.specs.Prelude.{slice_index, OnOk}
 use Rattle.sqlite_disk.specs.Disk.{Holds, Only, Torn}
 use Rattle.sqlite_disk.specs.declared.Disk.{Ghosts}
 use Rattle.sqlite_disk.specs.declared.files.Files.{Files}
@@ -80,9 +80,3 @@ copied_image first from to read copied clean =
     ap₂ (λ (log db : List ℕ). let it : Image = record { log = log; db = db } in it)
     (copied.log.seen (first_true _ _ clean) ∙ read.log.seen)
     (copied.db.seen (second_true _ _ clean) ∙ read.db.seen)
-
--- what is said of an error may be said in other words
-pub err_so : {A E : Type 0} {One Other : E → Type 0} (result : Result A E) → IfErr result One
-    → ((error : E) → One error → Other error) → IfErr result Other
-err_so (Ok value) one so = tt
-err_so (Err error) one so = so error one
