@@ -16,9 +16,9 @@ use Rattle.table_model.specs.RulingsRead.{chosen_by, choose_row}
 use Rattle.table_model.proofs.ChoiceLemmas.{choices_follow}
 use Rattle.table_model.proofs.ChoiceReading.{choices_count}
 use Rattle.tree_tables.specs.Answers.{CountsSharing}
-use Rattle.table_ledger.proofs.Words.{View, StoreError, Ruled, Done, FindsRecord, HasCleanDisk}
-use Rattle.table_ledger.proofs.Words.{State, Does, Looks, stored_entry, StoredRecord, Saw}
-use Rattle.table_ledger.proofs.Words.{LeavesBook, IsAt, LeavesOne, MakesOf, StagesBy, opens}
+use Rattle.table_ledger.proofs.Words.{View, StoreError, Ruled, Done, FindsRecord, State, Does}
+use Rattle.table_ledger.proofs.Words.{Looks, stored_entry, StoredRecord, Saw, IsAt, LeavesOne}
+use Rattle.table_ledger.proofs.Words.{MakesOf, StagesBy, opens}
 use Rattle.table_ledger.specs.Premises.{IsNext}
 use Rattle.table_ledger.specs.ChoiceReads.{FindsChoiceEffects}
 use Rattle.table_ledger.specs.declared.summary.Summary.{Summary}
@@ -110,16 +110,6 @@ module _ (naming : Naming) (was : Summary) (name : List ℕ) (view : View) (book
         told (Some row) found.0
         ∙ (λ i. chosen_by (lone i) stored.charged (nat_le most_choices (made i)))
 
-    -- one that is Done changes the book
-    choose_moves : chosen_by (many == 1) stored.charged (nat_le most_choices was.choices) ≡ Ok Done
-        → LeavesBook (choose_outcome naming name) book → ⊥
-    choose_moves tests idle =
-        let done = choose_told ∙ tests in
-        let one = chosen_one naming book name done in
-        let made : Some (RulingGiven (RecordChosen one.0)) ≡ None =
-        sym (ap (if_done (meant_by (record_named naming book.held name))) done ∙ ap meant_by one.1)
-        ∙ idle in cc
-
     -- A choice that is answered Done is an event.
     pub choose_is_event :
         chosen_by (many == 1) stored.charged (nat_le most_choices was.choices) ≡ Ok Done
@@ -160,18 +150,6 @@ module _ (naming : Naming) (was : Summary) (name : List ℕ) (view : View) (book
             total = says.total ∙ ready.remembers.total;
           };
         }
-
--- After tests by which it is Done, a choice changes the book.
-pub tests_move : {first middle : State} {many : ℕ} (naming : Naming) (was : Summary)
-    (name : List ℕ) (stored : StoredRecord)
-    → chosen_by (many == 1) stored.charged (nat_le most_choices was.choices) ≡ Ok Done
-    → Saw first middle (λ tables. FindsRecord name tables (Some stored)
-    × CountsSharing stored.identity.items tables many)
-    → HasCleanDisk middle → (book : Book) → IsAt naming was first.view book
-    → LeavesBook (choose_outcome naming name) book → ⊥
-tests_move {first = first} {many = many} naming was name stored tests saw clean book at idle =
-    let known = (saw.seen clean).known (tables_of naming book) at.kept.holds in
-    choose_moves naming was name first.view book at stored known.0 known.1 tests idle
 
 -- What a choice writes is staged, after the looks that its tests and its effects rest on.
 pub choose_staged : {first second third fourth last : State} {found : Option StoredRecord}

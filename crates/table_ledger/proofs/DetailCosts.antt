@@ -1,11 +1,10 @@
 -- What the records of some days cost by another tariff, where their details are met one after
 -- another: what is summed, and what is still to come. And in the tables of a book these records are
 -- those that a period counts.
-use Rattle.std.proofs.Common.{◌≡◌, ◌∙◌, inl, inr, ◌+◌, ◌-◌, ◌<◌, ◌≤◌, ◌&&◌, ℕ, zero, suc, ℤ, List}
-use Rattle.std.proofs.Common.{[], ◌∷◌, ◌++◌, Bool, true, false, true≢false, not, cond, Option, Some}
-use Rattle.std.proofs.Common.{None, Ok, Err, Vec, length, refl, sym, ap, subst, arith}
-use Rattle.std.proofs.Common.{length-append, filter, if◌then◌else◌, nat_le, sum_by, ◌==◌, Global}
-use Rattle.std.proofs.Common.{is_lt, lt-ltb}
+use Rattle.std.proofs.Common.{◌≡◌, ◌∙◌, inl, inr, ◌+◌, ◌-◌, ◌≤◌, ◌&&◌, ℕ, zero, suc, ℤ, List, []}
+use Rattle.std.proofs.Common.{◌∷◌, ◌++◌, Bool, true, false, true≢false, not, cond, Option, Some}
+use Rattle.std.proofs.Common.{None, Ok, Err, Vec, length, refl, sym, ap, subst, arith, filter}
+use Rattle.std.proofs.Common.{if◌then◌else◌, nat_le, sum_by, ◌==◌, Global, is_lt, lt-ltb}
 use Rattle.std.proofs.Math.Bool.{and-true}
 use Rattle.std.proofs.lemmas.Bool.{and_from, and_right}
 use Rattle.book_model.proofs.Std.{tied_itself, contains_key, entries, get, AllByRecursion}
@@ -16,7 +15,7 @@ use Rattle.book_model.specs.Words.{by_detail, charged_of, comes_after, counted_o
 use Rattle.book_model.specs.Words.{is_dated_in, is_day_of, most_cost, most_held, name_of, open_by}
 use Rattle.book_model.specs.Words.{price_by, rows_of, same_bytes}
 use Rattle.book_model.proofs.Lemmas.{counted_at, by_detail_total, has_those, is_itself}
-use Rattle.book_model.proofs.Lemmas.{same_bytes-by_cmp, SumsAlike, length-alike, length-sum_by}
+use Rattle.book_model.proofs.Lemmas.{same_bytes-by_cmp, SumsAlike, length-alike}
 use Rattle.book_model.proofs.RecordSets.{tests_swap}
 use Rattle.book_model.proofs.RowLemmas.{rows_if_room-alike}
 use Rattle.table_model.specs.Words.{row_record, charged_before_lines, counted_rows, first_line}
@@ -28,7 +27,6 @@ use Rattle.table_model.proofs.CountedHeld.{names_follow}
 use Rattle.table_model.proofs.CountedReading.{counted_back, is_record_counted, its_period}
 use Rattle.table_model.proofs.CountedReading.{period_after}
 use Rattle.table_model.proofs.DetailReading.{in_windows}
-use Rattle.table_model.proofs.PriceSums.{part_within}
 use Rattle.table_model.proofs.RecordReading.{every_row}
 use Rattle.tree_rows.proofs.IndexOrders.{by_bytes_exact}
 use Rattle.tree_rows.proofs.Remaining.{is_less}
@@ -331,22 +329,6 @@ module _ (terms : Terms) (close through : Option ℤ) where
           one_less close through last tables next.detail finds.least
           (λ (entry : NamedRow). part (cost_of entry)) in
           omega (arith, parts, more, own, less)
-
-      -- before it fewer were summed than records may be held
-      pub summed_few : length (entries tables.records) ≤ most_held
-          → length so_far.costs < most_held
-      summed_few few =
-          let all : sum_by (λ (_ : Priced). 1) (so_far.costs ++ next.priced ∷ [])
-          + to_come (λ (_ : Priced). 1) (Some next.detail) tables
-          ≡ to_come (λ (_ : Priced). 1) None tables = with_it (λ (_ : Priced). 1) in
-          let ones = length-sum_by (so_far.costs ++ next.priced ∷ []) in
-          let more = length-append so_far.costs (next.priced ∷ []) in
-          let part : to_come (λ (_ : Priced). 1) None tables
-          ≤ sum_by (λ (_ : NamedRow). 1) (entries tables.records) =
-          part_within (λ (_ : NamedRow). 1) (is_left close through None tables)
-          (entries tables.records) in
-          let rows = length-sum_by (entries tables.records) in
-          omega (arith, all, ones, more, part, rows, few)
 
       module _ (more : RowSums) where
         -- the walk goes on

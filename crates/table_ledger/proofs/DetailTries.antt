@@ -1,15 +1,14 @@
 -- The next detail that is sought, where details are looked for from one start and then from others.
-use Rattle.std.proofs.Common.{◌≡◌, ◌∙◌, ◌-◌, ℕ, ℤ, pos, List, Bool, true, false, not, Option, Some}
-use Rattle.std.proofs.Common.{None, Ok, subst, ◌⊎◌, inl, inr, refl, sym, ap, true≢false, arith}
-use Rattle.std.proofs.Common.{◌&&◌, int_lt, ◌+ℤ◌, int_cmp, is_gt, is_lt, nat_cmp, Ordering, Less}
-use Rattle.std.proofs.Common.{Equal, Greater}
+use Rattle.std.proofs.Common.{◌≡◌, ◌∙◌, ◌-◌, ℕ, ℤ, pos, List, true, false, not, Option, Some, None}
+use Rattle.std.proofs.Common.{Ok, subst, ◌⊎◌, inl, inr, refl, sym, ap, true≢false, arith, ◌&&◌}
+use Rattle.std.proofs.Common.{int_lt, ◌+ℤ◌, int_cmp, is_gt, is_lt, nat_cmp, Ordering, Less, Equal}
+use Rattle.std.proofs.Common.{Greater}
 use Rattle.sqlite_value.proofs.OrderLemmas.{then-Equal}
 use Rattle.book_model.proofs.Std.{get, option_map_or, tied_itself, ordering_reverse, ordering_then}
 use Rattle.book_model.proofs.Std.{and_parts, nat_list_cmp_total, ints, tells_apart}
 use Rattle.book_model.proofs.Lemmas.{by_detail_total, same_bytes-by_cmp}
-use Rattle.book_model.specs.Words.{through_of, IsDay, Naming, Outcome, ShowsDetail, by_bytes}
-use Rattle.book_model.specs.Words.{by_detail, by_key, comes_after, is_asked, key_of}
-use Rattle.book_model.specs.Words.{next_detail_outcome, is_between}
+use Rattle.book_model.specs.Words.{through_of, Naming, Outcome, by_bytes, by_detail, by_key}
+use Rattle.book_model.specs.Words.{comes_after, is_asked, key_of, next_detail_outcome, is_between}
 use Rattle.book_core.specs.Words.{ruled_in}
 use Rattle.table_model.specs.Words.{FindsLeast, IsDetail, detail_shown, is_period, Tables}
 use Rattle.table_model.specs.Words.{tables_of}
@@ -18,8 +17,7 @@ use Rattle.tree_rows.proofs.IndexOrders.{by_bytes_exact, second_equal}
 use Rattle.tree_tables.specs.Details.{FindsDetail, is_reached}
 use Rattle.tree_tables.specs.declared.detail_rows.DetailStart.{DetailStart}
 use Rattle.tree_tables.specs.declared.detail_rows.DetailStart.TheVariants.{Centre}
-use Rattle.tree_tables.proofs.RowsRead.{same_int}
-use Rattle.table_ledger.proofs.Words.{Detail, some_is, State, Saw, seeks, CanBeRead, AttemptsOne}
+use Rattle.table_ledger.proofs.Words.{Detail, some_is, State, Saw, seeks, AttemptsOne}
 use Rattle.table_ledger.specs.DetailReads.{GoesOn}
 use Rattle.table_ledger.specs.declared.details.Sought.{Sought}
 use Rattle.table_ledger.specs.declared.summary.Summary.{Summary}
@@ -256,13 +254,3 @@ module _ (naming : Naming) (summary : Summary) (number : ℕ) (centre : Option (
             (subst (λ test. FindsLeast test (tables_of naming book) found)
             (λ i detail. seeks (sought_by (first i) (end i) centre last) detail) known))
             ∙ of_there number found at.remembers there) refl)
-
--- what is found of records that can be read can be shown
-pub least_shown : (test : Detail → Bool) (tables : Tables) (found : Option Detail) → CanBeRead tables
-    → FindsLeast test tables found → ShowsDetail found
-least_shown test tables None read finds = tt
-least_shown test tables (Some detail) read finds =
-    let is = finds.there in
-    let day = (read.fit.each detail.name is.row is.held).price.day in
-    subst IsDay (sym (same_int is.row.priced.day day.0 day.2)
-    ∙ ap (λ (one : Detail). one.priced.day) is.shown) day.1

@@ -1,7 +1,6 @@
 -- The next identity in dispute, where identities that were settled are passed over, and its dispute.
 use Rattle.std.proofs.Common.{◌≡◌, ◌∙◌, ◌+◌, ℕ, List, [], ◌∷◌, ◌++◌, true, false, not, true≢false}
-use Rattle.std.proofs.Common.{None, Some, Ok, map, sym, ap, subst, All, Err, IsErrAnd, Option}
-use Rattle.std.proofs.Common.{Result}
+use Rattle.std.proofs.Common.{None, Some, Ok, map, sym, ap, subst, All, Option}
 use Rattle.book_model.proofs.Std.{list_any, All-map}
 use Rattle.book_model.specs.Words.{Book, Disputed, IsDay, IsDispute, Naming, Outcome}
 use Rattle.book_model.specs.Words.{dispute_outcome, dispute_shown, is_from}
@@ -11,10 +10,8 @@ use Rattle.table_model.specs.Words.{variant_read, IsReadable}
 use Rattle.table_model.specs.DisputesRead.{IsDisputedFrom, IsNextDisputed}
 use Rattle.table_model.proofs.DisputeLemmas.{disputes_follow}
 use Rattle.tree_tables.specs.Answers.{IsNextUncharged, IsUnchargedFrom}
-use Rattle.table_ledger.proofs.Words.{View, StoreError, OutOfMemory, Dispute, LedgerFault, Variant}
-use Rattle.table_ledger.proofs.Words.{ListsSharing, is_charged, stored_entry, StoredRecord}
-use Rattle.table_ledger.proofs.Words.{HasCleanDisk, State, caused_memory, TriesBut, IsIdentity}
-use Rattle.table_ledger.proofs.Words.{IsShownRow, IsReadyAt, IsAt}
+use Rattle.table_ledger.proofs.Words.{View, Dispute, Variant, ListsSharing, is_charged}
+use Rattle.table_ledger.proofs.Words.{stored_entry, StoredRecord, IsIdentity, IsShownRow, IsAt}
 use Rattle.table_ledger.specs.DisputeReads.{dispute_made}
 use Rattle.table_ledger.specs.declared.summary.Summary.{Summary}
 
@@ -116,15 +113,3 @@ module _ {naming : Naming} {summary : Summary} {view : View} {book : Book}
       (disputes_follow.next naming book from (Some identity) whole next)
       ∙ ap (λ (one : Disputed). Ok (Some one))
       ((λ i. record { identity = identity; members = map variant_read (sym lists i) }) ∙ sym is)
-
--- What fails for want of memory alone is the store's own.
-pub own_memory : {V : Type 0} {naming : Naming} {summary : Summary} {error : StoreError}
-    (old new : State) (Refuses : LedgerFault → Type 0)
-    (result : Result (Result V LedgerFault) StoreError)
-    → IsErrAnd result (λ other. other ≡ error)
-    → (HasCleanDisk new → (book : Book) → IsReadyAt naming summary old.view book
-    → error ≡ OutOfMemory)
-    → TriesBut Refuses naming summary old new result
-own_memory old new Refuses (Err other) is wants =
-    λ clean book ready. caused_memory old new other (is ∙ wants clean book ready)
-own_memory old new Refuses (Ok answer) is wants = absurd is

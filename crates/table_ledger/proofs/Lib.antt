@@ -15,7 +15,6 @@ mod SumLemmas
 mod ServedWork
 mod OneCall
 mod LastChoice
-mod RowsTaken
 mod TariffTries
 mod CloseTries
 mod ChoiceTries
@@ -47,17 +46,9 @@ mod DisputeTries
 mod DetailTries
 mod DetailCosts
 mod PostedDetails
-mod DetailsRead
 mod OpenLemmas
-mod MakingBooks
 mod LoadLemmas
-pub mod OwnBooks
-mod BookRows
-mod BookLists
 mod RulingReads
-mod FinishedLists
-mod IdleCalls
-mod IdleRecords
 mod TraceLemmas
 mod ChosenOrder
 mod TrailTries

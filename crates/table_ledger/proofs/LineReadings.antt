@@ -2,22 +2,13 @@
 use Rattle.std.proofs.Common.{◌≡◌, ◌∙◌, ℕ, Bool, List, [], ◌∷◌, ◌++◌, ◌+◌, ◌<◌, length, take}
 use Rattle.std.proofs.Common.{slice_index_or, Option, Some, None, option_map, sym, ap, filter_map}
 use Rattle.book_model.proofs.Std.{get, cons_option, take_more, filter_map-append}
-use Rattle.book_model.specs.Words.{record_with, job_of, by_line, members, set_of}
+use Rattle.book_model.specs.Words.{by_line, members, set_of}
 use Rattle.table_model.specs.Words.{rows_under, line_read, lines_read, RecordRow, RecordTable}
-use Rattle.table_model.specs.Words.{Tables, NamedRow}
+use Rattle.table_model.specs.Words.{Tables}
 use Rattle.table_ledger.proofs.Words.{Line, ListsLines, FindsRecord, signed_name, stored_entry}
 use Rattle.table_ledger.proofs.Words.{StoredLine, StoredRecord, lines_stored}
 use Rattle.table_ledger.specs.LineReads.{line_stored}
 use Rattle.book_model.proofs.Lemmas.{filter_map-map}
-
--- the line of a stored line, with a row of a record
-abbrev pub line_with : StoredLine → NamedRow → Line
-line_with stored row = record {
-  plus = stored.plus;
-  name = stored.name;
-  job = job_of (record_with row.1.data_bytes);
-  priced = row.1.priced;
-}
 
 -- a record that was found is that of its row
 pub found_row : (name : List ℕ) (stored : StoredRecord) (found : Option RecordRow)

@@ -1,25 +1,25 @@
 -- The summary that is read is that of the tables, and so of their book.
-use Rattle.std.proofs.Common.{◌≡◌, ◌∙◌, ℕ, ℤ, List, [], ◌∷◌, ap, arith, map, refl, subst, sym, None}
+use Rattle.std.proofs.Common.{◌≡◌, ◌∙◌, ℕ, ℤ, List, [], ◌∷◌, ap, arith, map, refl, sym, None}
 use Rattle.std.proofs.Common.{Option, Some, Err, Ok, Result, false, length, All, IfErr, IfOk, ◌==◌}
 use Rattle.std.proofs.Common.{if◌then◌else◌, filter_map}
-use Rattle.book_model.proofs.Std.{AllZip, cons_option, All-cons}
+use Rattle.book_model.proofs.Std.{AllZip, cons_option, entries, All-cons}
 use Rattle.book_model.specs.Words.{no_rulings, IsDay, Book, Naming, Rulings, AcceptedTerms}
 use Rattle.book_model.specs.Words.{second_rule}
 use Rattle.book_core.specs.Words.{IsOpenAt, ruled_in}
 use Rattle.table_model.specs.Words.{BookRow, Tables, tables_of, adopted_read, tariff_read}
 use Rattle.table_model.specs.Words.{IsReadable}
 use Rattle.table_model.proofs.BookLemmas.{book_follows}
+use Rattle.tree_tables.specs.Answers.{last_number}
 use Rattle.tree_tables.specs.declared.book_row.StoredBook.{StoredBook as Stored}
 use Rattle.tree_tables.specs.declared.tariff_rows.StoredTariff.{StoredTariff}
-use Rattle.table_ledger.proofs.Words.{State, HasCleanDisk, LedgerFault, Store, book_entry}
-use Rattle.table_ledger.proofs.Words.{close_entry, tariff_of, Close, Stores, Remembers, IsCloseDay}
-use Rattle.table_ledger.proofs.Words.{SaysRule, SaysTariff, seen_on, LeavesTheLast}
-use Rattle.table_ledger.specs.Loaded.{AreRowsOf, IsLoaded, IsStoreFault, Reads, SummarizesTables}
-use Rattle.table_ledger.specs.Loaded.{SummarizesRows}
+use Rattle.table_ledger.proofs.Words.{State, HasCleanDisk, LedgerFault, book_entry, close_entry}
+use Rattle.table_ledger.proofs.Words.{tariff_of, Close, Stores, Remembers, IsCloseDay, SaysRule}
+use Rattle.table_ledger.proofs.Words.{SaysTariff, seen_on, LeavesTheLast}
+use Rattle.table_ledger.specs.Loaded.{IsLoaded, IsStoreFault, Reads, SummarizesRows}
+use Rattle.table_ledger.specs.Loaded.{SummarizesTables}
 use Rattle.table_ledger.specs.declared.summary.Summary.{Summary}
 use Rattle.table_ledger.proofs.OpenLemmas.{opened}
 use Rattle.table_ledger.proofs.LastChoice.{last_counts}
-use Rattle.table_ledger.proofs.RowsTaken.{AreRowsIn, rows_of}
 use Rattle.table_ledger.proofs.UnchangedStores.{holds_on, rest_on}
 
 -- tariffs that rows give are those that are read from them
@@ -58,6 +58,14 @@ said_rule row closes None says =
 said_rule row closes (Some period) says =
     λ i. if sym says.0 i == second_rule then Some (sym says.1 i) else None
 
+-- rows are those of tables: of the book, of the tariffs and the closes, and of the last choice
+pub record AreRowsIn (tables : Tables) (row : Stored) (texts : List StoredTariff)
+    (days : List Close) (choices : ℕ) : Type 0 where
+  pub book : book_entry row ≡ tables.book
+  pub tariffs : map tariff_of texts ≡ entries tables.tariffs
+  pub closes : map close_entry days ≡ entries tables.closes
+  pub made : choices ≡ last_number tables.choices
+
 -- a summary that rows show is that of the tables that have these rows,
 pub recalled : (summary : Summary) (tables : Tables) (row : Stored) (tariffs : List StoredTariff)
     (closes : List Close) (choices : ℕ) → SummarizesRows row tariffs closes choices summary
@@ -84,18 +92,11 @@ recalled summary tables row tariffs closes choices shows are =
 pub recalled_by : (answer : Result Summary LedgerFault) (tables : Tables) (row : Stored)
     (texts : List StoredTariff) (days : List Close) (choices : ℕ)
     → IfOk answer (SummarizesRows row texts days choices)
-    → IfErr answer IsStoreFault
-    → IfErr answer (λ fault. fault ≡ Store → (rulings : Rulings)
-    → AreRowsOf row texts days choices rulings → ⊥)
-    → AreRowsIn tables row texts days choices → IsLoaded tables answer
-recalled_by (Ok summary) tables row texts days choices shows kinds refused are =
+    → IfErr answer IsStoreFault → AreRowsIn tables row texts days choices
+    → IsLoaded tables answer
+recalled_by (Ok summary) tables row texts days choices shows kinds are =
     recalled summary tables row texts days choices shows are
-recalled_by (Err fault) tables row texts days choices shows kinds refused are = (
-  kinds,
-  λ store naming of readable same.
-      refused store of.rulings (rows_of naming of row texts days choices readable
-      (subst (λ tables. AreRowsIn tables row texts days choices) same are)),
-)
+recalled_by (Err fault) tables row texts days choices shows kinds are = kinds
 
 -- a summary of the tables of a book is one of the book
 pub remembered : (naming : Naming) (book : Book) (summary : Summary) → IsReadable naming book

@@ -1,13 +1,10 @@
 -- The sums in the row of the book, which are written once, after the records that change them.
-use Rattle.std.proofs.Common.{◌≡◌, ◌∙◌, ℕ, List, [], Result, Ok, Err, inl, inr, ap, refl, sym}
-use Rattle.std.proofs.Common.{subst, IsErr}
-use Rattle.book_core.specs.Words.{listed}
-use Rattle.book_model.specs.Words.{Book, Event, Naming, Outcome, after_all}
+use Rattle.std.proofs.Common.{◌≡◌, ℕ, List, Result, Ok, Err, refl, sym, subst, IsErr}
+use Rattle.book_model.specs.Words.{Book, Event, Naming}
 use Rattle.table_model.specs.Words.{set_sums, tables_of}
 use Rattle.tree_tables.specs.Steps.{Changes}
-use Rattle.table_ledger.proofs.Words.{View, StoreError, LedgerFault, Holds, HasCleanDisk, State}
-use Rattle.table_ledger.proofs.Words.{Does, kept_last, only_both, LeavesBook, Remembers, IsAt}
-use Rattle.table_ledger.proofs.Words.{IsAtAs, LeavesOne, StagesBy}
+use Rattle.table_ledger.proofs.Words.{View, StoreError, LedgerFault, Holds, State, Does, kept_last}
+use Rattle.table_ledger.proofs.Words.{only_both, Remembers, IsAt, IsAtAs, StagesBy}
 use Rattle.table_ledger.specs.Premises.{HaveSums}
 use Rattle.table_ledger.specs.declared.summary.Summary.{Summary}
 use Rattle.table_ledger.proofs.Remembered.{remembers_as}
@@ -49,24 +46,6 @@ sums_written {naming = naming} {new = new} {book = book} held amount changes at 
   };
   remembers = at.remembers;
 }
-
--- where a call leaves the book as it is, the sums that are remembered stay
-pub sums_stay : {V A : Type 0} {Made : Result V LedgerFault → Book → List Event → Type 0}
-    {naming : Naming} {was is : Summary} {old middle : State} {answer : Result V LedgerFault}
-    (outcome : Book → Outcome A)
-    → StagesBy (set_sums was.held was.total) (λ answer. answer) Made (LeavesOne outcome) naming was
-    (λ summary. summary ≡ is) old middle (Ok answer)
-    → HasCleanDisk middle → (book : Book) → IsAt naming was old.view book → LeavesBook outcome book
-    → (is.held ≡ was.held) × (is.total ≡ was.total)
-sums_stay {is = is} outcome stages clean book at idle =
-    let staged = stages.found clean book (sums_remembered at) in
-    let none : staged.events ≡ [] = elim staged.leaves [
-      | inl none ↦ none
-      | inr event ↦ event ∙ ap listed idle
-    ] in
-    let same : Remembers is book =
-    subst (λ events. Remembers is (after_all events book)) none (staged.remembers is refl) in
-    (same.held ∙ sym at.remembers.held, same.total ∙ sym at.remembers.total)
 
 -- ---- what is staged before the sums are written
 

@@ -12,7 +12,6 @@ use Rattle.book_core.proofs.RulingLemmas.{done_by, other_by, said_by}
 use Rattle.table_model.specs.Words.{tariff_at, amount_under, Tables, tables_of, IsReadable}
 use Rattle.table_model.proofs.LateRows.{amount_is_read, late_counted}
 use Rattle.table_model.proofs.RulingLemmas.{terms_follow}
-use Rattle.table_ledger.specs.IdleCalls.{NeedsNoPrices}
 use Rattle.table_ledger.proofs.Words.{View, Ruled, Done, Full, CanBeSummed, CostUnder, TakesTariff}
 use Rattle.table_ledger.proofs.Words.{IsAt}
 use Rattle.table_ledger.specs.Repricing.{CountsRecords}
@@ -88,18 +87,6 @@ module _ (summary : Summary) (text : List ℕ) (terms : Terms) where
       -- so it is Full if there is no room
       pub tariff_full : Found None → (tariff_outcome text book).answer ≡ Err Full
       tariff_full known = decided true (no_room cost (known can_be).cost)
-
-      -- so what the records cost is needed
-      pub tariff_moves : NeedsNoPrices text book → ⊥
-      tariff_moves idle = by much refl
-        where
-          by : (found : Bool) → much ≡ found → ⊥
-          by true is = idle.1 (decided true is)
-          by false is =
-              let is_done = decided false is in
-              let made : Some (RulingGiven (TariffAccepted (Some text) terms)) ≡ None =
-              sym (ap (if_done (said_by text (terms_in text))) is_done ∙ ap (said_by text) said)
-              ∙ idle.0 in cc
 
       -- A tariff that is answered Done is an event.
       pub tariff_is_event : (amount : ℕ) → Found (Some amount) → IsUtf8 text

@@ -1,16 +1,15 @@
 -- What is answered to the rows of a period by another tariff, where they were found in the tables.
 use Rattle.std.proofs.Common.{◌≡◌, ◌∙◌, ℕ, Bool, true, List, Some, None, Ok, Err, refl, sym, ap}
-use Rattle.std.proofs.Common.{subst, Vec, arith, filter, if◌then◌else◌, Global}
-use Rattle.book_model.specs.Words.{AreRows, Book, Naming, Outcome, Rulings, Terms, rows_if_room}
+use Rattle.std.proofs.Common.{subst, Vec, filter, if◌then◌else◌, Global}
+use Rattle.book_model.specs.Words.{Book, Naming, Outcome, Rulings, Terms, rows_if_room}
 use Rattle.book_model.specs.Words.{what_if_outcome}
 use Rattle.book_core.specs.Words.{ruled_in}
 use Rattle.book_model.proofs.Std.{entries}
-use Rattle.table_model.specs.Words.{Tables, tables_of, counted_rows, is_row_counted, row_costs}
-use Rattle.table_model.specs.Words.{is_period, IsReadable}
+use Rattle.table_model.specs.Words.{Tables, tables_of, counted_rows, row_costs, is_period}
+use Rattle.table_model.specs.Words.{IsReadable}
 use Rattle.table_model.specs.CountedRead.{what_if_read}
-use Rattle.table_model.proofs.CountedLemmas.{few_costs}
 use Rattle.table_ledger.proofs.Words.{Full, NoSuchPeriod, ChargeRow, View, counted_follows, State}
-use Rattle.table_ledger.proofs.Words.{Saw, IsReadyAt, Remembers, costs_of, AttemptsOne, IsAt}
+use Rattle.table_ledger.proofs.Words.{Saw, Remembers, costs_of, AttemptsOne, IsAt}
 use Rattle.table_ledger.specs.DetailPrices.{CountsByDay, FindsRowsCounted}
 use Rattle.table_ledger.specs.OtherPrices.{IsTestOf}
 use Rattle.table_ledger.specs.declared.count_test.CountTest.{CountTest}
@@ -79,17 +78,3 @@ module _ (naming : Naming) (summary : Summary) (number : ℕ) (terms : Terms) wh
         try_answered (what_if_outcome number terms) saw (record { stored = refl; served = refl })
         (λ book at finds. makes_answer items_of (what_if_outcome number terms book) rows
         (answered book at ∙ (finds (keeps book at.kept.readable at.remembers)).0) refl)
-
-    -- they can be shown
-    pub what_if_shown : {view : View} (rows : Vec ChargeRow Global) (book : Book)
-        → IsReadyAt naming summary view book
-        → FindsRowsCounted number (ruled_in summary.rulings) terms (tables_of naming book)
-        (Some rows)
-        → AreRows rows.items
-    what_if_shown rows book ready finds =
-        let whole = ready.kept.readable in
-        let kept : Tables = tables_of naming book in
-        let few = few_costs terms (is_row_counted number (ruled_in summary.rulings) kept.lines)
-        (entries kept.records) in
-        let most = counted_follows.few naming book whole in
-        (finds (keeps book whole ready.remembers)).1 (omega (arith, few, most))

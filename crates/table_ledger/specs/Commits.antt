@@ -7,7 +7,7 @@ use Rattle.sqlite_trees.specs.declared.store.Store.{Ghosts}
 use Rattle.table_model.specs.Tables.{Tables}
 use Rattle.tree_tables.specs.Holds.{Holds}
 use Rattle.tree_tables.specs.States.{State, HasCleanDisk, Survives, state}
-use Rattle.tree_tables.specs.Steps.{IsCaused, IsUndone, MayCommit, Sees}
+use Rattle.tree_tables.specs.Steps.{IsUndone, MayCommit, Sees}
 
 -- the store is open between two transactions
 pub record IsAtRest (view : View) : Type 0 where
@@ -25,8 +25,8 @@ pub record Stores (view : View) (tables : Tables) : Type 0 where
   pub holds : Holds view.trees tables
   pub rest : IsAtRest view
 
--- What was written is committed, and that is the answer; or the last commit stays, for a cause in
--- the store. Where not all of it was written, nothing is done, and the answer is why.
+-- What was written is committed, and that is the answer; or the last commit stays. Where not all of
+-- it was written, nothing is done, and the answer is why.
 pub record CommitsWritten {S T : Type 0} (ghosts : Ghosts S) (written result : Result T StoreError)
     (old new : S) : Type 0 where
   pub survives : Survives (state ghosts old) (state ghosts new) (MayCommit (ghosts.view old))
@@ -35,7 +35,5 @@ pub record CommitsWritten {S T : Type 0} (ghosts : Ghosts S) (written result : R
       → Commits (ghosts.view old) (ghosts.view new))
   pub refused : OnOk written (OnErr result (IsClean (ghosts.view new)
       → IsUndone (ghosts.view old) (ghosts.view new)))
-  pub cause : OnOk written (IfErr result (λ error. IsClean (ghosts.view new)
-      → IsCaused (state ghosts old) (state ghosts new) error))
   pub left : OnErr written (IsErr result × (new ≡ old))
   pub passed : IfErr written (λ stopped. IsErrAnd result (λ error. error ≡ stopped))

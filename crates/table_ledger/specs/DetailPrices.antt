@@ -7,10 +7,8 @@ use Rattle.book_model.specs.Words.{Priced, Rulings, Terms, is_between, is_day_of
 use Rattle.book_model.specs.declared.row.ChargeRow.{ChargeRow}
 use Rattle.table_model.specs.Words.{row_record, counted_rows, is_row_counted, row_costs, FindsLeast}
 use Rattle.table_model.specs.Words.{IsLeastDetail, NamedRow, RecordRow, Tables}
-use Rattle.tree_tables.specs.Fits.{DaysFit}
 use Rattle.table_ledger.specs.DetailReads.{seeks}
-use Rattle.table_ledger.specs.OtherPrices.{AllLinesFit, AreRowsOf, CanBeWalked}
-use Rattle.table_ledger.specs.RecordReads.{CanBeRead}
+use Rattle.table_ledger.specs.OtherPrices.{AreRowsOf}
 use Rattle.table_ledger.specs.declared.detail_prices.DetailPrice.{DetailPrice}
 use Rattle.table_ledger.specs.declared.details.Sought.{Sought}
 
@@ -19,12 +17,6 @@ abbrev pub CostsNamed : Terms → List ℕ → Tables → Priced → Type 0
 CostsNamed terms name tables priced =
     (row : RecordRow) → get tables.records name ≡ Some row
     → priced ≡ price_by terms (row_record row)
-
--- records can be read, and one has the name
-pub record CanBePriced (name : List ℕ) (tables : Tables) : Type 0 where
-  pub read : CanBeRead tables
-  pub row : RecordRow
-  pub there : get tables.records name ≡ Some row
 
 -- the least of the details that are sought, and what its record costs by a tariff
 pub record IsNextPriced (terms : Terms) (sought : Sought) (tables : Tables) (next : DetailPrice)
@@ -63,9 +55,3 @@ abbrev pub FindsRowsCounted : ℕ → Rulings → Terms → Tables → Option (V
 FindsRowsCounted number rulings terms tables found =
     CountsByDay number rulings tables
     → AreRowsOf (row_costs terms (counted_rows number rulings tables)) found
-
--- all that is read for the charge rows of a period can be read
-pub record CanBeTried (number : ℕ) (rulings : Rulings) (tables : Tables) : Type 0 where
-  pub days : DaysFit number tables
-  pub lines : AllLinesFit rulings tables
-  pub walk : CanBeWalked tables

@@ -1,26 +1,21 @@
 -- What is found out about a period, and about its records by another tariff, in a walk over all
 -- records.
-use Rattle.std.specs.Prelude.{◌≡◌, ◌≤◌, ◌<◌, ◌^◌, ◌++◌, ◌∷◌, [], ℕ, Bool, true, false, ◌&&◌, List}
-use Rattle.std.specs.Prelude.{All, filter, length, MatchOption, Ok, Err, Option, Vec, sum_by}
+use Rattle.std.specs.Prelude.{◌≡◌, ◌≤◌, ◌<◌, ◌++◌, ◌∷◌, [], ℕ, Bool, true, false, ◌&&◌, List, All}
+use Rattle.std.specs.Prelude.{filter, length, MatchOption, Ok, Err, Option, Vec, sum_by}
 use Rattle.std.specs.BTreeMap.{get}
 use Rattle.std.specs.Global.{Global}
-use Rattle.sqlite_trees.specs.declared.error.StoreError.{StoreError}
-use Rattle.sqlite_trees.specs.declared.error.StoreError.TheVariants.{OutOfMemory}
 use Rattle.sqlite_value.specs.Order.{Row}
 use Rattle.book_model.specs.Std.{entries}
 use Rattle.book_model.specs.declared.fault.LedgerFault.TheVariants.{Full}
 use Rattle.book_model.specs.declared.row.ChargeRow.{ChargeRow}
-use Rattle.book_model.specs.Words.{Priced, AreRows, FitSums, IsPriced, Rulings, Terms, by_bytes}
-use Rattle.book_model.specs.Words.{is_between, most_cost, most_held, rows_if_room}
+use Rattle.book_model.specs.Words.{Priced, AreRows, IsPriced, Rulings, Terms, by_bytes, is_between}
+use Rattle.book_model.specs.Words.{most_cost, most_held, rows_if_room}
 use Rattle.book_core.specs.Words.{keyed_rows}
 use Rattle.table_model.specs.Words.{Tables, charged_before_lines, is_row_counted, row_costs}
-use Rattle.table_model.specs.Words.{NamedRow, is_period}
+use Rattle.table_model.specs.Words.{NamedRow}
 use Rattle.tree_tables.specs.Columns.{record_columns}
-use Rattle.tree_tables.specs.Fits.{LinesFit, RecordFits}
 use Rattle.tree_tables.specs.Stored.{mark_of}
-use Rattle.tree_tables.specs.UsageData.{IsUsageData}
 use Rattle.tree_tables.specs.declared.stored_record.RecordMark.{RecordMark}
-use Rattle.table_ledger.specs.RecordReads.{CanBeRead}
 use Rattle.table_ledger.specs.declared.count_test.CountTest.{CountTest}
 use Rattle.table_ledger.specs.declared.row_sums.RowSums.{RowSums}
 
@@ -39,24 +34,9 @@ abbrev pub IsTestOf : ℕ → Rulings → Tables → CountTest → Type 0
 IsTestOf number rulings tables test =
     (entry : NamedRow) → passes test entry ≡ is_row_counted number rulings tables.lines entry
 
--- the lines of each period fit
-abbrev pub AllLinesFit : Rulings → Tables → Type 0
-AllLinesFit rulings tables =
-    (number : ℕ) → is_period number rulings ≡ true → LinesFit number tables
-
--- the rows of records can be read, and there are no more of them than records may be held
-pub record CanBeWalked (tables : Tables) : Type 0 where
-  pub read : CanBeRead tables
-  pub few : length (entries tables.records) ≤ most_held
-
 -- what some records cost
 abbrev pub Costs : Type 0
 Costs = List Priced
-
--- 64 bits hold the number of some costs, and their sums
-pub record CostsFit (costs : List Priced) : Type 0 where
-  pub count : length costs < 2 ^ 64
-  pub sums : FitSums costs
 
 -- the sums are those of what some records cost, each of them what a record may
 pub record AreSumsOf (sums : RowSums) (costs : List Priced) : Type 0 where
@@ -82,15 +62,8 @@ JoinsSums terms test row old new room =
     → SumsUp old (costs_of terms test passed) true
     → SumsUp new (costs_of terms test (passed ++ entry ∷ [])) room
 
--- where the row fits, and no more records passed than may be held, only memory can be wanting for it
-abbrev pub WantsMemory : Terms → CountTest → Row → RowSums → StoreError → Type 0
-WantsMemory terms test row sums error =
-    (passed : List NamedRow) (entry : NamedRow) → row ≡ record_columns entry
-    → SumsUp sums (costs_of terms test passed) true → length passed < most_held
-    → RecordFits row → IsUsageData entry.1.data_bytes → error ≡ OutOfMemory
-
 -- The charge rows of costs, which can be shown where there are no more costs than records may be
--- held; or none where they are too dear. (`AreRowsOf` of Loaded is about what an open reads.)
+-- held; or none where they are too dear.
 abbrev pub AreRowsOf : List Priced → Option (Vec ChargeRow Global) → Type 0
 AreRowsOf costs found =
     MatchOption found (rows_if_room costs ≡ Err Full)

@@ -1,19 +1,15 @@
 -- What is read of the tables for the trail of a record.
-use Rattle.std.specs.Prelude.{◌≡◌, ℕ, Bool, not, List, [], ◌∷◌, filter, map, Some, flat_map}
+use Rattle.std.specs.Prelude.{◌≡◌, ℕ, Bool, not, List, [], ◌∷◌, filter, map, flat_map}
 use Rattle.std.specs.Prelude.{IsPermutation, IsSorted}
-use Rattle.book_model.specs.Std.{entries, get, nat_cmp, Ordering}
+use Rattle.book_model.specs.Std.{entries, nat_cmp, Ordering}
 use Rattle.book_model.specs.declared.trail.NamedChoice.{NamedChoice}
 use Rattle.book_model.specs.declared.trail.Turn.{Turn}
 use Rattle.book_model.specs.Words.{is_charge}
-use Rattle.table_model.specs.Words.{ChoiceRow, RecordRow, Tables, rows_with, variant_read}
-use Rattle.table_model.specs.Words.{choices_with}
+use Rattle.table_model.specs.Words.{ChoiceRow, Tables, rows_with, variant_read, choices_with}
 use Rattle.tree_tables.specs.Answers.{ListsSharing, names_it}
-use Rattle.tree_tables.specs.Fits.{ChosenFit}
 use Rattle.tree_tables.specs.declared.choice_rows.StoredChoice.{StoredChoice}
 use Rattle.tree_tables.specs.declared.stored_record.StoredRecord.{StoredRecord}
 use Rattle.table_ledger.specs.declared.trails.Kin.{Kin}
-use Rattle.table_ledger.specs.DisputeReads.{IsShownRow}
-use Rattle.table_ledger.specs.RecordReads.{CanBeRead}
 
 -- Whether one record was charged before some periods, by what they did with it: before a charge it
 -- was not, and before a reversal it was.
@@ -49,10 +45,3 @@ ListsKinChoices rows tables choices =
 pub record IsKin (identity : List ℕ) (tables : Tables) (kin : Kin) : Type 0 where
   pub members : kin.members.items ≡ map variant_read (rows_with identity tables.records)
   pub choices : kin.choices.items ≡ choices_with identity tables
-
--- records can be read and shown, and the choices fit
-pub record CanBeTraced (tables : Tables) : Type 0 where
-  pub read : CanBeRead tables
-  pub shown : (name : List ℕ) (row : RecordRow) → get tables.records name ≡ Some row
-      → IsShownRow (name, row)
-  pub chosen : ChosenFit tables

@@ -10,7 +10,6 @@ ghost use Rattle.book_core.specs.Submissions.{records_in};
 ghost use Rattle.table_model.specs.Steps.{count_where_row, set_sums};
 ghost use Rattle.tree_tables.specs.Steps.{Does};
 ghost use Rattle.tree_tables.specs.Stored.{IsFree, IsUncounted, new_entry};
-ghost use Rattle.table_ledger.specs.IdleCalls.{FailsIdle, LeavesBook, LeavesEach};
 ghost use Rattle.table_ledger.specs.Premises.{AreRemembered};
 ghost use Rattle.table_ledger.specs.Stages.{AttemptsMany, AttemptsOne, KeepsRulings};
 ghost use Rattle.table_ledger.specs.Stages.{Stages, StagesFirst};
@@ -117,8 +116,6 @@ fn stage_one<S: Store, N: Naming>(
     requires usage { IsUsageRecord bytes.now }
     ensures stages { StagesRecord (N.name_of naming.now) bytes.now summary.old summary.new
         (state_of tables.old) (state_of tables.new) result }
-    ensures own { FailsIdle (LeavesBook (accept_outcome (N.name_of naming.now) bytes.now))
-        (N.name_of naming.now) summary.old (state_of tables.old) (state_of tables.new) result }
     ensures ruled { KeepsRulings summary.old summary.new }
 {
     let name = name_of(naming, bytes);
@@ -151,8 +148,6 @@ fn stage_record<S: Store, N: Naming>(
     ensures stages { Stages (λ accepted. accepted) (N.name_of naming.now) summary.old summary.new
         (state_of tables.old) (state_of tables.new)
         (accept_outcome (N.name_of naming.now) bytes.now) result }
-    ensures own { FailsIdle (LeavesBook (accept_outcome (N.name_of naming.now) bytes.now))
-        (N.name_of naming.now) summary.old (state_of tables.old) (state_of tables.new) result }
     ensures ruled { KeepsRulings summary.old summary.new }
 {
     let (held, total) = (summary.held, summary.total);
@@ -176,8 +171,6 @@ fn stage_each<S: Store, N: Naming>(
     ensures stages { StagesMany (set_sums summary.old.held summary.old.total) (N.name_of naming.now)
         (records_in records.now) summary.old summary.new (state_of tables.old) (state_of tables.new)
         answers.new.items result }
-    ensures own { FailsIdle (LeavesEach (N.name_of naming.now) records.now) (N.name_of naming.now)
-        summary.old (state_of tables.old) (state_of tables.new) result }
     ensures ruled { KeepsRulings summary.old summary.new }
     ensures all { IfOk result (λ told. told ≡ Ok tt
         → length answers.new.items ≡ length records.now) }
@@ -204,8 +197,6 @@ fn stage_many<S: Store, N: Naming>(
     requires usage { All (λ one. IsUsageRecord one.items) records.now }
     ensures stages { StagesFirst (N.name_of naming.now) (records_in records.now) summary.old
         summary.new (state_of tables.old) (state_of tables.new) result }
-    ensures own { FailsIdle (LeavesEach (N.name_of naming.now) records.now) (N.name_of naming.now)
-        summary.old (state_of tables.old) (state_of tables.new) result }
     ensures ruled { KeepsRulings summary.old summary.new }
     ensures some { IfOk result (λ answer. IfOk answer (λ answers. 0 < length answers.items)) }
 {
@@ -234,8 +225,6 @@ pub(crate) fn try_accept_many<S: Store, N: Naming>(
     requires usage { All (λ one. IsUsageRecord one.items) records.now }
     ensures tries { AttemptsMany (N.name_of naming.now) (records_in records.now) summary.old
         summary.new (state_of tables.old) (state_of tables.new) result }
-    ensures own { FailsIdle (LeavesEach (N.name_of naming.now) records.now) (N.name_of naming.now)
-        summary.old (state_of tables.old) (state_of tables.new) result }
     ensures some { IfOk result (λ answer. IfOk answer (λ answers. 0 < length answers.items)) }
 {
     let held = summary.held;
@@ -264,8 +253,6 @@ pub(crate) fn try_accept<S: Store, N: Naming>(
     ensures tries { AttemptsOne (λ accepted. accepted) (N.name_of naming.now) summary.old
         summary.new (state_of tables.old) (state_of tables.new)
         (accept_outcome (N.name_of naming.now) bytes.now) result }
-    ensures own { FailsIdle (LeavesBook (accept_outcome (N.name_of naming.now) bytes.now))
-        (N.name_of naming.now) summary.old (state_of tables.old) (state_of tables.new) result }
 {
     let held = summary.held;
     let total = summary.total;

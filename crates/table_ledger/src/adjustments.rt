@@ -6,10 +6,8 @@ ghost use Rattle.std.specs.Ordering.{is_lt};
 ghost use Rattle.tree_tables.specs.States.{state_of};
 ghost use Rattle.book_model.specs.Words.{IsDay, AreLines, by_line, adjustments_outcome, Naming};
 ghost use Rattle.book_model.specs.Words.{by_bytes, same_bytes, members, set_of};
-ghost use Rattle.tree_tables.specs.Steps.{FailsByStore, Looks};
+ghost use Rattle.tree_tables.specs.Steps.{Looks};
 ghost use Rattle.table_ledger.specs.LineReads.{NamesRise, lines_stored};
-ghost use Rattle.table_ledger.specs.RecordReads.{CanBeRead, HasWideNames};
-ghost use Rattle.table_ledger.specs.Attempts.{TriesItsOwn};
 ghost use Rattle.table_ledger.specs.Stages.{AttemptsOne};
 
 use crate::days::is_day;
@@ -31,7 +29,6 @@ fn read_lines<S: Store>(
 ) -> Result<Vec<Line>, StoreError>
     ensures looks { Looks result (state_of tables.old) (state_of tables.new)
         (λ tables lines. lines.items ≡ lines_stored tables.records found.now) }
-    ensures cause { FailsByStore result (state_of tables.old) (state_of tables.new) CanBeRead }
 {
     let mut lines = Vec::new(alloc);
     for stored in found {
@@ -121,8 +118,6 @@ pub(crate) fn try_adjustments<S: Store>(
         summary.now (state_of tables.old) (state_of tables.new) (adjustments_outcome naming period)
         result }
     ensures shown { IfOk result (λ answer. IfOk answer (λ lines. AreLines lines.items)) }
-    ensures own { (naming : Naming) → HasWideNames naming
-        → TriesItsOwn naming summary.now (state_of tables.old) (state_of tables.new) result }
 {
     if !summary.has_period(period) {
         return Ok(Err(LedgerFault::NoSuchPeriod));

@@ -9,7 +9,6 @@ ghost use Rattle.tree_tables.specs.States.{state_of};
 ghost use Rattle.tree_tables.specs.Steps.{Always, Does, Looks};
 ghost use Rattle.tree_tables.specs.Stored.{IsAsRead};
 ghost use Rattle.table_ledger.specs.Adoptions.{IsLast, charge_where_due};
-ghost use Rattle.table_ledger.specs.IdleCalls.{FailsIdle, LeavesBook};
 ghost use Rattle.table_ledger.specs.Stages.{AttemptsOne};
 
 use crate::choices::charge;
@@ -125,8 +124,6 @@ pub(crate) fn try_adopt<S: Store>(
 ) -> Result<Result<Ruled, LedgerFault>, StoreError>
     ensures tries { (naming : Naming) → AttemptsOne (λ ruled. ruled) naming summary.old summary.new
         (state_of tables.old) (state_of tables.new) (adopt_outcome rule) result }
-    ensures own { (naming : Naming) → FailsIdle (LeavesBook (adopt_outcome rule)) naming summary.old
-        (state_of tables.old) (state_of tables.new) result }
 {
     let answer = summary.rulings.adopt_answer(rule);
     if !is_done(&answer) {

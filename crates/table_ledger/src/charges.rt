@@ -3,7 +3,6 @@
 ghost use Rattle.std.specs.Prelude.{◌≡◌, ◌+◌, IfOk, IfSome, IsTrue, None, false};
 ghost use Rattle.tree_tables.specs.States.{state_of};
 ghost use Rattle.book_model.specs.Words.{IsDay, charges_outcome, Naming, AreRows};
-ghost use Rattle.table_ledger.specs.Attempts.{TriesItsOwn};
 ghost use Rattle.table_ledger.specs.Stages.{AttemptsOne};
 
 use crate::days::is_day;
@@ -86,8 +85,6 @@ pub(crate) fn try_charges<S: Store>(
     ensures tries { (naming : Naming) → AttemptsOne (λ rows. rows.items) naming summary.now
         summary.now (state_of tables.old) (state_of tables.new) (charges_outcome period) result }
     ensures shown { IfOk result (λ answer. IfOk answer (λ rows. AreRows rows.items)) }
-    ensures own { (naming : Naming) → TriesItsOwn naming summary.now (state_of tables.old)
-        (state_of tables.new) result }
 {
     if !summary.has_period(period) {
         return Ok(Err(LedgerFault::NoSuchPeriod));

@@ -9,9 +9,7 @@ ghost use Rattle.tree_tables.specs.States.{state_of};
 ghost use Rattle.tree_tables.specs.Steps.{Always, Does, Looks};
 ghost use Rattle.tree_tables.specs.Stored.{stored_entry};
 ghost use Rattle.table_ledger.specs.ChoiceReads.{FindsChoiceEffects};
-ghost use Rattle.table_ledger.specs.IdleCalls.{FailsIdle, LeavesBook};
 ghost use Rattle.table_ledger.specs.Premises.{IsNext};
-ghost use Rattle.table_ledger.specs.RecordReads.{HasWideNames};
 ghost use Rattle.table_ledger.specs.Stages.{AttemptsOne};
 
 use crate::commits::{commit_written, write_counted, write_effects};
@@ -121,9 +119,6 @@ pub(crate) fn try_choose<S: Store>(
 ) -> Result<Result<Ruled, LedgerFault>, StoreError>
     ensures tries { (naming : Naming) → AttemptsOne (λ ruled. ruled) naming summary.old summary.new
         (state_of tables.old) (state_of tables.new) (choose_outcome naming name) result }
-    ensures own { (naming : Naming) → HasWideNames naming
-        → FailsIdle (LeavesBook (choose_outcome naming name)) naming summary.old
-        (state_of tables.old) (state_of tables.new) result }
 {
     let Some(stored) = tables.find_record(alloc, &name)? else {
         return Ok(Err(LedgerFault::NoSuchRecord));

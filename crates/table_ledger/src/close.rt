@@ -6,7 +6,6 @@ ghost use Rattle.table_model.specs.PostedLaws.{PostsTouched};
 ghost use Rattle.table_model.specs.Steps as step;
 ghost use Rattle.tree_tables.specs.States.{state_of};
 ghost use Rattle.tree_tables.specs.Steps.{Always, Does, Looks};
-ghost use Rattle.table_ledger.specs.IdleCalls.{FailsIdle, LeavesBook};
 ghost use Rattle.table_ledger.specs.Posting.{CanClose, Gathers, RestIsPosted, names_in};
 ghost use Rattle.table_ledger.specs.Stages.{AttemptsOne};
 
@@ -179,9 +178,6 @@ pub(crate) fn try_close<S: Store>(
     ensures tries { (naming : Naming) → AttemptsOne (λ ruled. ruled) naming summary.old summary.new
         (state_of tables.old) (state_of tables.new)
         (close_outcome close.now.period close.now.through) result }
-    ensures own { (naming : Naming)
-        → FailsIdle (LeavesBook (close_outcome close.now.period close.now.through)) naming
-        summary.old (state_of tables.old) (state_of tables.new) result }
 {
     let answer = summary.rulings.close_answer(close.period, close.through);
     if !is_done(&answer) {

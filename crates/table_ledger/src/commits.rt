@@ -1,6 +1,6 @@
 //! What effects write, the sums, and the commit.
 
-ghost use Rattle.std.specs.Prelude.{◌≡◌, IfErr, IsTrue, false};
+ghost use Rattle.std.specs.Prelude.{◌≡◌, IsTrue, false};
 ghost use Rattle.table_model.specs.RowChanges.{change_line, change_mark, uncounted_by};
 ghost use Rattle.table_model.specs.Steps.{count_where_row, set_sums};
 ghost use Rattle.table_model.specs.TableChanges.{apply};
@@ -98,8 +98,6 @@ pub(crate) fn write_sums<S: Store>(
 ) -> Result<(), StoreError>
     ensures does { Does result (state_of tables.old) (state_of tables.new) (HaveSums held total)
         (set_sums summary.now.held summary.now.total) }
-    ensures other { IfErr result (λ error. summary.now.held ≡ held → summary.now.total ≡ total
-        → ⊥) }
 {
     if has_sums(summary, held, total) {
         return Ok(());

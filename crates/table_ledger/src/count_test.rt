@@ -1,15 +1,14 @@
 //! Which records a period counts. What a closed period counted is not stored: it is told by what is
 //! charged now, and by the lines of the later periods.
 
-ghost use Rattle.std.specs.Prelude.{◌≡◌, ◌≤◌, ◌<◌, ◌-◌, ℕ, suc, List, OnOk, map};
+ghost use Rattle.std.specs.Prelude.{◌≡◌, ◌≤◌, ◌-◌, ℕ, suc, List, OnOk, map};
 ghost use Rattle.std.specs.BTreeMap.{get};
 ghost use Rattle.std.specs.FinMap.{find};
 ghost use Rattle.std.specs.Option.{option_or};
 ghost use Rattle.book_model.specs.Words.{by_bytes};
 ghost use Rattle.table_model.specs.CountedRead.{first_line};
-ghost use Rattle.tree_tables.specs.Fits.{LinesFit};
 ghost use Rattle.tree_tables.specs.States.{state_of};
-ghost use Rattle.tree_tables.specs.Steps.{FailsByStore, Looks};
+ghost use Rattle.tree_tables.specs.Steps.{Looks};
 ghost use Rattle.tree_tables.specs.Stored.{signed_name};
 
 use crate::summary::Summary;
@@ -58,8 +57,6 @@ fn first_lines<S: Store>(
     ensures looks { Looks result (state_of tables.old) (state_of tables.new)
         (λ tables lines. (name : List ℕ) → get by_bytes lines name
         ≡ first_line tables.lines name (suc after) (last - after)) }
-    ensures cause { FailsByStore result (state_of tables.old) (state_of tables.new)
-        (λ tables. (number : ℕ) → after < number → number ≤ last → LinesFit number tables) }
 {
     let mut lines = BTreeMap::new(alloc);
     let mut period = after;
@@ -76,8 +73,8 @@ impl CountTest {
     ghost use Rattle.book_core.specs.OfficeRulings.{ruled_in};
     ghost use Rattle.table_model.specs.ListsRead.{is_period};
     ghost use Rattle.tree_tables.specs.States.{state_of};
-    ghost use Rattle.tree_tables.specs.Steps.{FailsByStore, Looks};
-    ghost use Rattle.table_ledger.specs.OtherPrices.{AllLinesFit, IsTestOf, passes_mark};
+    ghost use Rattle.tree_tables.specs.Steps.{Looks};
+    ghost use Rattle.table_ledger.specs.OtherPrices.{IsTestOf, passes_mark};
 
     /// Looks for what tells it of a period.
     pub(crate) fn of_period<S: Store>(
@@ -89,8 +86,6 @@ impl CountTest {
         requires { is_period period (ruled_in summary.now.rulings) ≡ true }
         ensures looks { Looks result (state_of tables.old) (state_of tables.new)
             (IsTestOf period (ruled_in summary.now.rulings)) }
-        ensures cause { FailsByStore result (state_of tables.old) (state_of tables.new)
-            (AllLinesFit (ruled_in summary.now.rulings)) }
     {
         let lines = first_lines(tables, alloc, period, summary.rulings.open_number())?;
         Ok(CountTest {

@@ -4,11 +4,8 @@
 ghost use Rattle.std.specs.Prelude.{IfOk, IfSome};
 ghost use Rattle.book_model.specs.Words.{IsPriced};
 ghost use Rattle.tree_tables.specs.States.{state_of};
-ghost use Rattle.tree_tables.specs.Steps.{FailsByStore, Looks};
-ghost use Rattle.table_ledger.specs.DetailPrices.{CanBePriced, CostsNamed, FindsPriced};
-ghost use Rattle.table_ledger.specs.DetailPrices.{FindsRowsOfDays};
-ghost use Rattle.table_ledger.specs.OtherPrices.{CanBeWalked};
-ghost use Rattle.table_ledger.specs.RecordReads.{CanBeRead};
+ghost use Rattle.tree_tables.specs.Steps.{Looks};
+ghost use Rattle.table_ledger.specs.DetailPrices.{CostsNamed, FindsPriced, FindsRowsOfDays};
 
 use crate::details::{Sought, next_sought};
 use crate::row_sums::RowSums;
@@ -38,8 +35,6 @@ fn price_named<S: Store>(
     ensures looks { Looks result (state_of tables.old) (state_of tables.new)
         (CostsNamed tariff.now name.now) }
     ensures priced { IfOk result IsPriced }
-    ensures cause { FailsByStore result (state_of tables.old) (state_of tables.new)
-        (CanBePriced name.now) }
 {
     let Some(stored) = tables.find_record(alloc, name)? else {
         return Err(StoreError::Corrupt);
@@ -58,7 +53,6 @@ fn next_priced<S: Store>(
     ensures looks { Looks result (state_of tables.old) (state_of tables.new)
         (FindsPriced tariff.now sought.now) }
     ensures priced { IfOk result (λ found. IfSome found (λ next. IsPriced next.priced)) }
-    ensures cause { FailsByStore result (state_of tables.old) (state_of tables.new) CanBeRead }
 {
     let Some(detail) = next_sought(tables, sought)? else {
         return Ok(None);
@@ -78,7 +72,6 @@ pub(crate) fn rows_by_details<S: Store>(
 ) -> Result<Option<Vec<ChargeRow>>, StoreError>
     ensures looks { Looks result (state_of tables.old) (state_of tables.new)
         (FindsRowsOfDays tariff.now close through) }
-    ensures cause { FailsByStore result (state_of tables.old) (state_of tables.new) CanBeWalked }
 {
     let mut sums = RowSums::new(alloc);
     let mut last = None;

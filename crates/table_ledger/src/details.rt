@@ -3,12 +3,9 @@
 ghost use Rattle.std.specs.Prelude.{◌≡◌, IfOk, IsTrue, false};
 ghost use Rattle.book_model.specs.Words.{Naming, ShowsDetail, next_detail_outcome};
 ghost use Rattle.table_model.specs.DetailsRead.{FindsLeast};
-ghost use Rattle.tree_tables.specs.Details.{DetailsFit};
 ghost use Rattle.tree_tables.specs.States.{state_of};
-ghost use Rattle.tree_tables.specs.Steps.{FailsByStore, Looks};
-ghost use Rattle.table_ledger.specs.Attempts.{TriesItsOwn};
+ghost use Rattle.tree_tables.specs.Steps.{Looks};
 ghost use Rattle.table_ledger.specs.DetailReads.{seeks};
-ghost use Rattle.table_ledger.specs.RecordReads.{HasWideNames};
 ghost use Rattle.table_ledger.specs.Stages.{AttemptsOne};
 
 use crate::days::is_day;
@@ -98,7 +95,6 @@ pub(crate) fn next_sought<S: Store>(
 ) -> Result<Option<Detail>, StoreError>
     ensures looks { Looks result (state_of tables.old) (state_of tables.new)
         (FindsLeast (seeks sought.now)) }
-    ensures cause { FailsByStore result (state_of tables.old) (state_of tables.new) DetailsFit }
 {
     let mut start = sought.first();
     'details: for _ in 0..MOST_STEPS {
@@ -140,8 +136,6 @@ pub(crate) fn try_next_detail<S: Store>(
         (state_of tables.old) (state_of tables.new) (next_detail_outcome naming period centre last)
         result }
     ensures shown { IfOk result (λ answer. IfOk answer ShowsDetail) }
-    ensures own { (naming : Naming) → HasWideNames naming
-        → TriesItsOwn naming summary.now (state_of tables.old) (state_of tables.new) result }
 {
     if !summary.has_period(period) {
         return Ok(Err(LedgerFault::NoSuchPeriod));

@@ -1,17 +1,14 @@
 //! Identities that two or more records have, and for which none was chosen.
 
-ghost use Rattle.std.specs.Prelude.{◌≡◌, All, IfErr, IfOk, IsTrue, false, map, option_map};
+ghost use Rattle.std.specs.Prelude.{◌≡◌, All, IfOk, IsTrue, false, map, option_map};
 ghost use Rattle.tree_tables.specs.States.{state_of};
 ghost use Rattle.book_model.specs.Words.{AreDisputes, dispute_shown, disputes_outcome, Naming};
 ghost use Rattle.book_model.specs.Words.{ShowsDispute, dispute_outcome};
 ghost use Rattle.tree_tables.specs.Stored.{stored_entry};
 ghost use Rattle.table_model.specs.DisputesRead.{join_last, dispute_of_one, variant_read};
-ghost use Rattle.tree_tables.specs.Steps.{Always, FailsByStore, Looks};
+ghost use Rattle.tree_tables.specs.Steps.{Looks};
 ghost use Rattle.table_ledger.specs.DisputeReads.{FindsGroups, FindsNext, IsIdentity, IsShownRow};
 ghost use Rattle.table_ledger.specs.DisputeReads.{dispute_made};
-ghost use Rattle.table_ledger.specs.RecordReads.{HasWideNames};
-ghost use Rattle.tree_tables.specs.UsageData.{IsUsageData};
-ghost use Rattle.table_ledger.specs.Attempts.{TriesItsOwn};
 ghost use Rattle.table_ledger.specs.Stages.{AttemptsOne};
 
 use crate::days::is_day;
@@ -56,8 +53,6 @@ pub(crate) fn can_show(rows: &[StoredRecord]) -> bool
 /// A record as the list of disputes shows it.
 fn variant(alloc: Global, stored: &StoredRecord) -> Result<Variant, StoreError>
     ensures read { IfOk result (λ variant. variant ≡ variant_read (stored_entry stored.now)) }
-    ensures taken { IfErr result (λ error. IsUsageData stored.now.data_bytes.items
-        → error ≡ StoreError.OutOfMemory) }
 {
     let bytes = usage_bytes(alloc, &stored.data_bytes)?;
     let usage = Type30::of_usage(&bytes);
@@ -74,8 +69,6 @@ fn variant(alloc: Global, stored: &StoredRecord) -> Result<Variant, StoreError>
 /// A dispute of one record.
 fn single_dispute(alloc: Global, stored: &StoredRecord) -> Result<Dispute, StoreError>
     ensures made { IfOk result (λ made. dispute_shown made ≡ dispute_of_one (stored_entry stored.now)) }
-    ensures taken { IfErr result (λ error. IsUsageData stored.now.data_bytes.items
-        → error ≡ StoreError.OutOfMemory) }
 {
     let member = variant(alloc, stored)?;
     let identity = Vec::from_slice(alloc, &stored.identity)?;
@@ -91,8 +84,6 @@ fn join(alloc: Global, found: &mut Vec<Dispute>, stored: &StoredRecord) -> Resul
     ensures shown { IfOk result (λ joined. IsShownRow (stored_entry stored.now)
         → AreDisputes (map dispute_shown found.old.items)
         → AreDisputes (map dispute_shown found.new.items)) }
-    ensures taken { IfErr result (λ error. IsUsageData stored.now.data_bytes.items
-        → error ≡ StoreError.OutOfMemory) }
 {
     let Some(mut last) = found.pop() else {
         found.push(single_dispute(alloc, stored)?)?;
@@ -120,8 +111,6 @@ fn grouped<S: Store>(
         (λ tables found. FindsGroups (map stored_entry rows.now) tables
         (map dispute_shown found.items)) }
     ensures shown { IfOk result (λ found. AreDisputes (map dispute_shown found.items)) }
-    ensures cause { FailsByStore result (state_of tables.old) (state_of tables.new)
-        (λ tables. All (λ row. IsUsageData row.data_bytes.items) rows.now) }
 {
     let mut found = Vec::new(alloc);
     for stored in rows {
@@ -144,8 +133,6 @@ pub(crate) fn try_disputes<S: Store>(
         (disputes_outcome naming) result }
     ensures shown { IfOk result (λ answer.
         IfOk answer (λ found. AreDisputes (map dispute_shown found.items))) }
-    ensures own { (naming : Naming) → HasWideNames naming
-        → TriesItsOwn naming summary.now (state_of tables.old) (state_of tables.new) result }
 {
     let rows = tables.list_uncharged(alloc)?;
     if !can_show(&rows) {
@@ -162,7 +149,6 @@ fn next_disputed<S: Store>(
     from: &[u8],
 ) -> Result<Option<Vec<u8>>, StoreError>
     ensures looks { Looks result (state_of tables.old) (state_of tables.new) (FindsNext from.now) }
-    ensures cause { FailsByStore result (state_of tables.old) (state_of tables.new) Always }
 {
     let mut reached = Vec::from_slice(alloc, from)?;
     'identities: for _steps in 0..MOST_STEPS {
@@ -184,8 +170,6 @@ fn next_disputed<S: Store>(
 /// Records as the list of disputes shows them.
 pub(crate) fn variants(alloc: Global, rows: &[StoredRecord]) -> Result<Vec<Variant>, StoreError>
     ensures made { IfOk result (λ made. made.items ≡ map variant_read (map stored_entry rows.now)) }
-    ensures taken { IfErr result (λ error. All (λ row. IsUsageData row.data_bytes.items) rows.now
-        → error ≡ StoreError.OutOfMemory) }
 {
     let mut members = Vec::new(alloc);
     for stored in rows {
@@ -202,8 +186,6 @@ fn dispute_of(
     rows: &[StoredRecord],
 ) -> Result<Dispute, StoreError>
     ensures made { IfOk result (λ made. dispute_shown made ≡ dispute_made identity.items rows.now) }
-    ensures taken { IfErr result (λ error. All (λ row. IsUsageData row.data_bytes.items) rows.now
-        → error ≡ StoreError.OutOfMemory) }
 {
     let members = variants(alloc, rows)?;
     Ok(Dispute { identity, members })
@@ -221,8 +203,6 @@ pub(crate) fn try_dispute<S: Store>(
         summary.now summary.now (state_of tables.old) (state_of tables.new)
         (dispute_outcome naming from.now) result }
     ensures shown { IfOk result (λ answer. IfOk answer ShowsDispute) }
-    ensures own { (naming : Naming) → HasWideNames naming
-        → TriesItsOwn naming summary.now (state_of tables.old) (state_of tables.new) result }
 {
     let Some(identity) = next_disputed(tables, alloc, from)? else {
         return Ok(Ok(None));

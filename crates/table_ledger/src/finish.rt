@@ -1,6 +1,6 @@
 //! What becomes of a call that the store refused.
 
-ghost use Rattle.std.specs.Prelude.{◌≡◌, ◌⊎◌, IfErr, IsErrOf, IsTrue, false};
+ghost use Rattle.std.specs.Prelude.{◌≡◌, ◌⊎◌, false};
 ghost use Rattle.sqlite_trees.specs.View.{IsClean};
 ghost use Rattle.tree_tables.specs.States.{Survives, state_of};
 ghost use Rattle.table_ledger.specs.Attempts.{IsRolledBack, Finishes};
@@ -14,11 +14,6 @@ use tree_tables::TreeTables;
 /// if the store still serves; else one of the store.
 pub(crate) fn fault_of<S: Store>(tables: &mut TreeTables<S>, error: StoreError) -> LedgerFault
     ensures kind { (result ≡ LedgerFault.Memory) ⊎ (result ≡ LedgerFault.Store) }
-    ensures told { result ≡ LedgerFault.Memory → error ≡ StoreError.OutOfMemory }
-    ensures served { IsClean (state_of tables.new).view → error ≡ StoreError.OutOfMemory
-        → (state_of tables.new).view.is_broken ≡ false → result ≡ LedgerFault.Memory }
-    ensures mended { IsClean (state_of tables.new).view → IsTrue (state_of tables.new).view.is_open
-        → (state_of tables.new).view.is_broken ≡ false }
     ensures back { IsClean (state_of tables.new).view → result ≡ LedgerFault.Memory
         → IsRolledBack (state_of tables.old).view (state_of tables.new).view }
     ensures survives { Survives (state_of tables.old) (state_of tables.new) (λ trees. ⊥) }
@@ -40,12 +35,6 @@ pub(crate) fn finish<S: Store, V: Drop>(
     requires { must_reopen.old ≡ false }
     ensures settles { Finishes S.Store tables.old.store tables.new.store must_reopen.old
         must_reopen.new tried result }
-    ensures served { IfErr tried (λ error. IsClean (state_of tables.new).view
-        → error ≡ StoreError.OutOfMemory → (state_of tables.new).view.is_broken ≡ false
-        → IsErrOf result LedgerFault.Memory) }
-    ensures mended { IfErr tried (λ error. IsClean (state_of tables.new).view
-        → IsTrue (state_of tables.new).view.is_open
-        → (state_of tables.new).view.is_broken ≡ false) }
 {
     match tried {
         Ok(answer) => answer,

@@ -61,33 +61,18 @@ impl<S: Store, N: Naming + Drop> Ledger for TableLedger<S, N> {
     ghost use Rattle.book_model.specs.Words.{AreDisputes, AreLines, AreRows, IsDay};
     ghost use Rattle.book_model.specs.Words.{adjustments_outcome, charges_outcome, dispute_shown};
     ghost use Rattle.book_model.specs.Words.{disputes_outcome, periods_outcome, IsUsageRecord};
-    ghost use Rattle.book_model.specs.Words.{ShowsDays, ruling_outcome, ruling_shown};
-    ghost use Rattle.book_model.specs.Words.{ShowsDetail, next_detail_outcome};
-    ghost use Rattle.book_model.specs.Words.{ShowsDispute, dispute_outcome, what_if_outcome};
-    ghost use Rattle.book_model.specs.Words.{IsTrail, trail_outcome, trail_shown};
-    ghost use Rattle.book_model.specs.Words.{accept_outcome, adopt_outcome, choose_outcome};
-    ghost use Rattle.book_model.specs.Words.{close_outcome, tariff_outcome};
+    ghost use Rattle.book_model.specs.Words.{ShowsDays, ruling_outcome, ruling_shown, ShowsDetail};
+    ghost use Rattle.book_model.specs.Words.{next_detail_outcome, ShowsDispute, dispute_outcome};
+    ghost use Rattle.book_model.specs.Words.{what_if_outcome, IsTrail, trail_outcome, trail_shown};
     ghost use Rattle.book_core.specs.Calls.{IsCall};
     ghost use Rattle.book_core.specs.Submissions.{Takes, records_in};
     ghost use Rattle.book_core.specs.Transition.{IsTransition};
-    ghost use Rattle.table_ledger.specs.Attempts.{IsNoRecord, IsWhatIfRefusal};
-    ghost use Rattle.table_ledger.specs.IdleCalls.{FailsByDisk, LeavesBook, LeavesEach};
-    ghost use Rattle.table_ledger.specs.IdleCalls.{NeedsNoPrices};
-    ghost use Rattle.table_ledger.specs.Loaded.{FailsAsItsOwn, FailsBut};
-    ghost use Rattle.table_ledger.specs.LedgerState.{seen_in, ledger_state};
+    ghost use Rattle.table_ledger.specs.LedgerState.{seen_in};
     ghost use Rattle.table_ledger.specs.ReadyBooks.{settled_on};
 
     ghost seen = { seen_in N.name_of };
 
-    fn tariff(&mut self, text: &str) -> Result<Ruled, LedgerFault>
-        ensures call { IsCall (λ ruled. ruled) (seen_in N.name_of self.old)
-            (seen_in N.name_of self.new) result (tariff_outcome text.now) }
-
-        // One that is in force already, or is refused for another reason than what the records
-        // would cost under it, is answered by a fault of the store only if the disk fails.
-        ensures own { FailsByDisk (NeedsNoPrices text.now) result (ledger_state N.name_of self.old)
-            (ledger_state N.name_of self.new) }
-    {
+    fn tariff(&mut self, text: &str) -> Result<Ruled, LedgerFault> {
         if self.must_reopen {
             return Err(LedgerFault::Reopen);
         }
@@ -95,15 +80,7 @@ impl<S: Store, N: Naming + Drop> Ledger for TableLedger<S, N> {
         finish(&mut self.tables, &mut self.must_reopen, tried)
     }
 
-    fn close(&mut self, period: u16, through: i32) -> Result<Ruled, LedgerFault>
-        requires { IsDay through }
-        ensures call { IsCall (λ ruled. ruled) (seen_in N.name_of self.old)
-            (seen_in N.name_of self.new) result (close_outcome period through) }
-
-        // One that is refused, or was made already, is such a fault only if the disk fails.
-        ensures own { FailsByDisk (LeavesBook (close_outcome period through)) result
-            (ledger_state N.name_of self.old) (ledger_state N.name_of self.new) }
-    {
+    fn close(&mut self, period: u16, through: i32) -> Result<Ruled, LedgerFault> {
         if self.must_reopen {
             return Err(LedgerFault::Reopen);
         }
@@ -116,13 +93,7 @@ impl<S: Store, N: Naming + Drop> Ledger for TableLedger<S, N> {
         finish(&mut self.tables, &mut self.must_reopen, tried)
     }
 
-    fn choose(&mut self, name: [u8; 32]) -> Result<Ruled, LedgerFault>
-        ensures call { IsCall (λ ruled. ruled) (seen_in N.name_of self.old)
-            (seen_in N.name_of self.new) result
-            (choose_outcome (N.name_of self.old.naming) name) }
-        ensures own { FailsByDisk (LeavesBook (choose_outcome (N.name_of self.old.naming) name))
-            result (ledger_state N.name_of self.old) (ledger_state N.name_of self.new) }
-    {
+    fn choose(&mut self, name: [u8; 32]) -> Result<Ruled, LedgerFault> {
         if self.must_reopen {
             return Err(LedgerFault::Reopen);
         }
@@ -130,12 +101,7 @@ impl<S: Store, N: Naming + Drop> Ledger for TableLedger<S, N> {
         finish(&mut self.tables, &mut self.must_reopen, tried)
     }
 
-    fn adopt_identity(&mut self, rule: u8) -> Result<Ruled, LedgerFault>
-        ensures call { IsCall (λ ruled. ruled) (seen_in N.name_of self.old)
-            (seen_in N.name_of self.new) result (adopt_outcome rule) }
-        ensures own { FailsByDisk (LeavesBook (adopt_outcome rule)) result
-            (ledger_state N.name_of self.old) (ledger_state N.name_of self.new) }
-    {
+    fn adopt_identity(&mut self, rule: u8) -> Result<Ruled, LedgerFault> {
         if self.must_reopen {
             return Err(LedgerFault::Reopen);
         }
@@ -143,17 +109,7 @@ impl<S: Store, N: Naming + Drop> Ledger for TableLedger<S, N> {
         finish(&mut self.tables, &mut self.must_reopen, tried)
     }
 
-    fn accept(&mut self, bytes: &[u8]) -> Result<Accepted, LedgerFault>
-        requires { IsUsageRecord bytes.now }
-        ensures call { IsCall (λ accepted. accepted) (seen_in N.name_of self.old)
-            (seen_in N.name_of self.new) result
-            (accept_outcome (N.name_of self.old.naming) bytes.now) }
-
-        // A record that is not kept is answered by a fault of the store only if the disk fails.
-        ensures own { FailsByDisk
-            (LeavesBook (accept_outcome (N.name_of self.old.naming) bytes.now)) result
-            (ledger_state N.name_of self.old) (ledger_state N.name_of self.new) }
-    {
+    fn accept(&mut self, bytes: &[u8]) -> Result<Accepted, LedgerFault> {
         if self.must_reopen {
             return Err(LedgerFault::Reopen);
         }
@@ -178,8 +134,6 @@ impl<S: Store, N: Naming + Drop> Ledger for TableLedger<S, N> {
         ensures few { IsTransition (seen_in N.name_of self.old) (seen_in N.name_of self.new)
             (Takes (N.name_of self.old.naming) (records_in (take most_in_commit records.now))
             result) }
-        ensures own { FailsByDisk (LeavesEach (N.name_of self.old.naming) records.now) result
-            (ledger_state N.name_of self.old) (ledger_state N.name_of self.new) }
     {
         if self.must_reopen {
             return Err(LedgerFault::Reopen);
@@ -199,10 +153,6 @@ impl<S: Store, N: Naming + Drop> Ledger for TableLedger<S, N> {
         ensures rows { IsCall (λ rows. rows.items) (seen_in N.name_of self.old)
             (seen_in N.name_of self.new) result (charges_outcome period) }
         ensures shown { IfOk result (λ rows. AreRows rows.items) }
-
-        // What fails in books that calls made is the store's own.
-        ensures own { FailsAsItsOwn result (ledger_state N.name_of self.old)
-            (ledger_state N.name_of self.new) }
     {
         if self.must_reopen {
             return Err(LedgerFault::Reopen);
@@ -215,10 +165,6 @@ impl<S: Store, N: Naming + Drop> Ledger for TableLedger<S, N> {
         ensures rows { IsCall (λ rows. rows.items) (seen_in N.name_of self.old)
             (seen_in N.name_of self.new) result (what_if_outcome period tariff.now) }
         ensures shown { IfOk result (λ rows. AreRows rows.items) }
-
-        // It is refused also where the books cannot hold what the records would cost.
-        ensures own { FailsBut IsWhatIfRefusal result (ledger_state N.name_of self.old)
-            (ledger_state N.name_of self.new) }
     {
         if self.must_reopen {
             return Err(LedgerFault::Reopen);
@@ -232,8 +178,6 @@ impl<S: Store, N: Naming + Drop> Ledger for TableLedger<S, N> {
             (seen_in N.name_of self.new) result
             (adjustments_outcome (N.name_of self.old.naming) period) }
         ensures shown { IfOk result (λ lines. AreLines lines.items) }
-        ensures own { FailsAsItsOwn result (ledger_state N.name_of self.old)
-            (ledger_state N.name_of self.new) }
     {
         if self.must_reopen {
             return Err(LedgerFault::Reopen);
@@ -252,8 +196,6 @@ impl<S: Store, N: Naming + Drop> Ledger for TableLedger<S, N> {
             (seen_in N.name_of self.new) result
             (next_detail_outcome (N.name_of self.old.naming) period centre after) }
         ensures shown { IfOk result ShowsDetail }
-        ensures own { FailsAsItsOwn result (ledger_state N.name_of self.old)
-            (ledger_state N.name_of self.new) }
     {
         if self.must_reopen {
             return Err(LedgerFault::Reopen);
@@ -267,8 +209,6 @@ impl<S: Store, N: Naming + Drop> Ledger for TableLedger<S, N> {
             (seen_in N.name_of self.old) (seen_in N.name_of self.new) result
             (disputes_outcome (N.name_of self.old.naming)) }
         ensures shown { IfOk result (λ found. AreDisputes (map dispute_shown found.items)) }
-        ensures own { FailsAsItsOwn result (ledger_state N.name_of self.old)
-            (ledger_state N.name_of self.new) }
     {
         if self.must_reopen {
             return Err(LedgerFault::Reopen);
@@ -282,8 +222,6 @@ impl<S: Store, N: Naming + Drop> Ledger for TableLedger<S, N> {
             (seen_in N.name_of self.old) (seen_in N.name_of self.new) result
             (dispute_outcome (N.name_of self.old.naming) from.now) }
         ensures shown { IfOk result ShowsDispute }
-        ensures own { FailsAsItsOwn result (ledger_state N.name_of self.old)
-            (ledger_state N.name_of self.new) }
     {
         if self.must_reopen {
             return Err(LedgerFault::Reopen);
@@ -296,8 +234,6 @@ impl<S: Store, N: Naming + Drop> Ledger for TableLedger<S, N> {
         ensures days { IsCall (λ days. days.items) (seen_in N.name_of self.old)
             (seen_in N.name_of self.new) result periods_outcome }
         ensures shown { IfOk result (λ days. All IsDay days.items) }
-        ensures own { FailsAsItsOwn result (ledger_state N.name_of self.old)
-            (ledger_state N.name_of self.new) }
     {
         if self.must_reopen {
             return Err(LedgerFault::Reopen);
@@ -311,8 +247,6 @@ impl<S: Store, N: Naming + Drop> Ledger for TableLedger<S, N> {
             (seen_in N.name_of self.old) (seen_in N.name_of self.new) result
             (ruling_outcome (N.name_of self.old.naming) number) }
         ensures shown { IfOk result ShowsDays }
-        ensures own { FailsAsItsOwn result (ledger_state N.name_of self.old)
-            (ledger_state N.name_of self.new) }
     {
         if self.must_reopen {
             return Err(LedgerFault::Reopen);
@@ -325,8 +259,6 @@ impl<S: Store, N: Naming + Drop> Ledger for TableLedger<S, N> {
         ensures trail { IsCall trail_shown (seen_in N.name_of self.old) (seen_in N.name_of self.new)
             result (trail_outcome (N.name_of self.old.naming) name.now) }
         ensures shown { IfOk result (λ trail. IsTrail (trail_shown trail)) }
-        ensures own { FailsBut IsNoRecord result (ledger_state N.name_of self.old)
-            (ledger_state N.name_of self.new) }
     {
         if self.must_reopen {
             return Err(LedgerFault::Reopen);

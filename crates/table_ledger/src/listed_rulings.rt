@@ -4,11 +4,8 @@ ghost use Rattle.std.specs.Prelude.{◌≡◌, ◌<◌, ◌+◌, IfOk, Some, opt
 ghost use Rattle.book_model.specs.Words.{Naming, ShowsDays, HasDays, most_choices, ruling_outcome};
 ghost use Rattle.book_model.specs.Words.{ruling_shown};
 ghost use Rattle.table_model.specs.ListsRead.{choice_read_at};
-ghost use Rattle.tree_tables.specs.Fits.{IsNumbered};
 ghost use Rattle.tree_tables.specs.States.{state_of};
-ghost use Rattle.tree_tables.specs.Steps.{FailsByStore, Looks};
-ghost use Rattle.table_ledger.specs.Attempts.{TriesItsOwn};
-ghost use Rattle.table_ledger.specs.RecordReads.{HasWideNames};
+ghost use Rattle.tree_tables.specs.Steps.{Looks};
 ghost use Rattle.table_ledger.specs.Stages.{AttemptsOne};
 
 use crate::summary::Summary;
@@ -27,8 +24,6 @@ fn look_for_choice<S: Store>(
     ensures looks { Looks result (state_of tables.old) (state_of tables.new)
         (λ tables ruling. choice_read_at (place + 1) tables.choices ≡ Some (ruling_shown ruling)) }
     ensures days { IfOk result (λ ruling. HasDays (ruling_shown ruling)) }
-    ensures cause { FailsByStore result (state_of tables.old) (state_of tables.new)
-        (IsNumbered (place + 1)) }
 {
     let Some(choice) = tables.find_choice(place + 1)? else {
         return Err(StoreError::Corrupt);
@@ -53,8 +48,6 @@ pub(crate) fn try_ruling<S: Store>(
         summary.now summary.now (state_of tables.old) (state_of tables.new)
         (ruling_outcome naming number) result }
     ensures shown { IfOk result (λ answer. IfOk answer ShowsDays) }
-    ensures own { (naming : Naming) → HasWideNames naming
-        → TriesItsOwn naming summary.now (state_of tables.old) (state_of tables.new) result }
 {
     let listed = summary.rulings.listed_at(alloc, summary.choices, number)?;
     match listed {

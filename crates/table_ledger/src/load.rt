@@ -1,17 +1,16 @@
 //! The summary of a book, read from its tables.
 
-ghost use Rattle.std.specs.Prelude.{◌≡◌, ◌⊎◌, ◌<◌, ◌≤◌, IfErr, IfOk, IsTrue, List, None, false, length};
-ghost use Rattle.std.specs.Prelude.{true, ℕ, ℤ, IfSome, Option};
+ghost use Rattle.std.specs.Prelude.{◌≡◌, ◌⊎◌, ◌<◌, ◌≤◌, IfErr, IfOk, IsTrue, None, false, length};
+ghost use Rattle.std.specs.Prelude.{true, ℕ, IfSome, Option};
 ghost use Rattle.std.specs.List.{AllZip, last_or};
 ghost use Rattle.tree_tables.specs.Holds.{has_book};
 ghost use Rattle.tree_tables.specs.States.{HasCleanDisk, state_of};
-ghost use Rattle.book_model.specs.Words.{Rulings, AcceptedTerms, are_rising, last_period, most_cost};
-ghost use Rattle.book_model.specs.Words.{most_choices, most_held};
-ghost use Rattle.tree_tables.specs.Steps.{FailsByStore, IsCaused, Looks};
-ghost use Rattle.table_ledger.specs.Loaded.{AreCloses, AreRowsOf, CanBeListed, IsCloseDay, IsBookRow};
-ghost use Rattle.table_ledger.specs.Loaded.{IsNextClose, IsOpenFault, IsLoaded, IsStoreFault};
-ghost use Rattle.table_ledger.specs.Loaded.{Reads, ReadsItsOwn, SaysRule, SaysTariff, SummarizesRows};
-ghost use Rattle.table_ledger.specs.Loaded.{ReadsByRow, TellsBooks, TellsTariff};
+ghost use Rattle.book_model.specs.Words.{are_rising, last_period, most_choices, most_cost};
+ghost use Rattle.book_model.specs.Words.{most_held};
+ghost use Rattle.tree_tables.specs.Steps.{Looks};
+ghost use Rattle.table_ledger.specs.Loaded.{IsCloseDay, IsBookRow, IsNextClose, IsOpenFault};
+ghost use Rattle.table_ledger.specs.Loaded.{IsLoaded, IsStoreFault, Reads, SaysRule, SaysTariff};
+ghost use Rattle.table_ledger.specs.Loaded.{SummarizesRows, ReadsByRow, TellsBooks};
 
 use crate::days::is_day;
 use crate::finish::fault_of;
@@ -32,8 +31,6 @@ fn tariff_at(alloc: Global, row: &StoredTariff) -> Result<AcceptedTariff, Ledger
     ensures says { IfOk result (λ tariff. SaysTariff row.now tariff) }
     ensures day { IfOk result (λ tariff. tariff.terms.effective ≡ row.now.day) }
     ensures kinds { IfErr result IsStoreFault }
-    ensures refused { IfErr result (λ fault. fault ≡ LedgerFault.Store
-        → (tariff : AcceptedTerms) → ¬ TellsTariff row.now tariff) }
 {
     let tariff = match Tariff::parse(alloc, &row.body) {
         Ok(tariff) => tariff,
@@ -52,9 +49,6 @@ fn tariffs_of(alloc: Global, rows: &[StoredTariff]) -> Result<Vec<AcceptedTariff
     ensures say { IfOk result (λ tariffs. AllZip SaysTariff rows.now tariffs.items) }
     ensures rising { IfOk result (λ tariffs. are_rising tariffs.items ≡ true) }
     ensures kinds { IfErr result IsStoreFault }
-    ensures refused { IfErr result (λ fault. fault ≡ LedgerFault.Store
-        → (tariffs : List AcceptedTerms) → AllZip TellsTariff rows.now tariffs
-        → ¬ (are_rising tariffs ≡ true)) }
 {
     let mut tariffs = Vec::with_capacity(alloc, rows.len())?;
     for row in rows {
@@ -103,8 +97,6 @@ fn next_day(days: &[i32], row: &Close) -> Result<i32, LedgerFault>
 fn days_of(alloc: Global, rows: &[Close]) -> Result<Vec<i32>, LedgerFault>
     ensures have { IfOk result (λ days. AllZip IsCloseDay rows.now days.items) }
     ensures kinds { IfErr result IsStoreFault }
-    ensures refused { IfErr result (λ fault. fault ≡ LedgerFault.Store
-        → (days : List ℤ) → ¬ AreCloses rows.now days) }
 {
     let mut days = Vec::with_capacity(alloc, rows.len())?;
     for row in rows {
@@ -160,8 +152,6 @@ fn summary_of(
 ) -> Result<Summary, LedgerFault>
     ensures shows { IfOk result (SummarizesRows row.now tariffs.now closes.now choices) }
     ensures kinds { IfErr result IsStoreFault }
-    ensures refused { IfErr result (λ fault. fault ≡ LedgerFault.Store
-        → (rulings : Rulings) → ¬ AreRowsOf row.now tariffs.now closes.now choices rulings) }
 {
     let tariffs = tariffs_of(alloc, tariffs)?;
     let closes = days_of(alloc, closes)?;
@@ -186,12 +176,8 @@ fn look_for_summary<S: Store>(
 ) -> Result<Result<Summary, LedgerFault>, StoreError>
     ensures looks { Looks result (state_of tables.old) (state_of tables.new) IsLoaded }
     ensures kinds { IfOk result (λ answer. IfErr answer IsOpenFault) }
-    ensures cause { FailsByStore result (state_of tables.old) (state_of tables.new) CanBeListed }
     ensures tells { IfOk result (λ answer. HasCleanDisk (state_of tables.new)
         → TellsBooks (has_book (state_of tables.old).view.trees) answer) }
-    ensures absent { IfErr result (λ error. HasCleanDisk (state_of tables.new)
-        → has_book (state_of tables.old).view.trees ≡ false
-        → IsCaused (state_of tables.old) (state_of tables.new) error) }
 {
     let Some(row) = tables.find_book()? else {
         return Ok(Err(LedgerFault::NotBooks));
@@ -209,10 +195,8 @@ pub(crate) fn read_summary<S: Store>(
 ) -> Result<Summary, LedgerFault>
     ensures reads { Reads result (state_of tables.old) (state_of tables.new) }
     ensures kinds { IfErr result IsOpenFault }
-    ensures own { ReadsItsOwn result (state_of tables.old) (state_of tables.new) }
     ensures row { HasCleanDisk (state_of tables.new)
-        → ReadsByRow (has_book (state_of tables.old).view.trees) (state_of tables.old)
-        (state_of tables.new) result }
+        → ReadsByRow (has_book (state_of tables.old).view.trees) result }
 {
     match look_for_summary(alloc, tables) {
         Ok(answer) => answer,

@@ -1,17 +1,13 @@
 //! The charge rows that a period would have by another tariff.
 
-ghost use Rattle.std.specs.Prelude.{◌≡◌, IfErr, IfOk, true};
+ghost use Rattle.std.specs.Prelude.{◌≡◌, IfOk, true};
 ghost use Rattle.book_core.specs.OfficeRulings.{ruled_in};
 ghost use Rattle.book_model.specs.Words.{AreRows, Naming, what_if_outcome};
 ghost use Rattle.table_model.specs.ListsRead.{is_period};
-ghost use Rattle.tree_tables.specs.Fits.{DaysFit};
 ghost use Rattle.tree_tables.specs.States.{state_of};
-ghost use Rattle.tree_tables.specs.Steps.{Always, FailsByStore, Looks};
-ghost use Rattle.table_ledger.specs.Attempts.{IsWhatIfRefusal, TriesBut};
-ghost use Rattle.table_ledger.specs.DetailPrices.{CanBeTried, FindsRowsCounted};
-ghost use Rattle.table_ledger.specs.OtherPrices.{CanBeWalked, FindsRowsUnder, JoinsSums};
-ghost use Rattle.table_ledger.specs.OtherPrices.{WantsMemory};
-ghost use Rattle.table_ledger.specs.RecordReads.{HasWideNames};
+ghost use Rattle.tree_tables.specs.Steps.{Always, Looks};
+ghost use Rattle.table_ledger.specs.DetailPrices.{FindsRowsCounted};
+ghost use Rattle.table_ledger.specs.OtherPrices.{FindsRowsUnder, JoinsSums};
 ghost use Rattle.table_ledger.specs.Stages.{AttemptsOne};
 
 use crate::charges::can_show;
@@ -41,7 +37,6 @@ fn add_counted(
     row: &Row,
 ) -> Result<bool, StoreError>
     ensures counted { IfOk result (JoinsSums tariff.now test.now row.now sums.old sums.new) }
-    ensures taken { IfErr result (WantsMemory tariff.now test.now row.now sums.old) }
 {
     // Whether it is counted is told first, so that of a record that is not no data are copied.
     let mark = read_mark(row)?;
@@ -62,7 +57,6 @@ fn rows_under<S: Store>(
 ) -> Result<Option<Vec<ChargeRow>>, StoreError>
     ensures looks { Looks result (state_of tables.old) (state_of tables.new)
         (FindsRowsUnder tariff.now test.now) }
-    ensures cause { FailsByStore result (state_of tables.old) (state_of tables.new) CanBeWalked }
 {
     let mut sums = RowSums::new(alloc);
     let mut row = Row::new(alloc);
@@ -95,8 +89,6 @@ fn rows_by_name<S: Store>(
     requires { is_period period (ruled_in summary.now.rulings) ≡ true }
     ensures looks { Looks result (state_of tables.old) (state_of tables.new)
         (FindsRowsCounted period (ruled_in summary.now.rulings) tariff.now) }
-    ensures cause { FailsByStore result (state_of tables.old) (state_of tables.new)
-        (CanBeTried period (ruled_in summary.now.rulings)) }
 {
     let test = CountTest::of_period(tables, alloc, summary, period)?;
     rows_under(tables, alloc, tariff, &test)
@@ -121,8 +113,6 @@ fn counts_few<S: Store>(
 ) -> Result<bool, StoreError>
     ensures looks { Looks result (state_of tables.old) (state_of tables.new)
         (λ tables few. Always tables) }
-    ensures cause { FailsByStore result (state_of tables.old) (state_of tables.new)
-        (DaysFit period) }
 {
     let rows = tables.list_days(alloc, period)?;
     Ok(count_of(&rows) <= held as u64 / PASSED_MEANWHILE)
@@ -140,8 +130,6 @@ fn rows_counted<S: Store>(
     requires { is_period period (ruled_in summary.now.rulings) ≡ true }
     ensures looks { Looks result (state_of tables.old) (state_of tables.new)
         (FindsRowsCounted period (ruled_in summary.now.rulings) tariff.now) }
-    ensures cause { FailsByStore result (state_of tables.old) (state_of tables.new)
-        (CanBeTried period (ruled_in summary.now.rulings)) }
 {
     let few = counts_few(tables, alloc, summary.held, period)?;
     if few {
@@ -164,9 +152,6 @@ pub(crate) fn try_charges_under<S: Store>(
         summary.now (state_of tables.old) (state_of tables.new) (what_if_outcome period tariff.now)
         result }
     ensures shown { IfOk result (λ answer. IfOk answer (λ rows. AreRows rows.items)) }
-    ensures own { (naming : Naming) → HasWideNames naming
-        → TriesBut IsWhatIfRefusal naming summary.now (state_of tables.old) (state_of tables.new)
-        result }
 {
     if !summary.has_period(period) {
         return Ok(Err(LedgerFault::NoSuchPeriod));

@@ -3,7 +3,6 @@
 ghost use Rattle.std.specs.Prelude.{All, IfOk};
 ghost use Rattle.book_model.specs.Words.{IsDay, periods_outcome, Naming};
 ghost use Rattle.tree_tables.specs.States.{state_of};
-ghost use Rattle.table_ledger.specs.Attempts.{TriesItsOwn};
 ghost use Rattle.table_ledger.specs.Stages.{AttemptsOne};
 
 use crate::summary::Summary;
@@ -22,8 +21,6 @@ pub(crate) fn try_periods<S: Store>(
     ensures tries { (naming : Naming) → AttemptsOne (λ days. days.items) naming summary.now
         summary.now (state_of _tables.now) (state_of _tables.now) periods_outcome result }
     ensures shown { IfOk result (λ answer. IfOk answer (λ days. All IsDay days.items)) }
-    ensures own { (naming : Naming) → TriesItsOwn naming summary.now (state_of _tables.now)
-        (state_of _tables.now) result }
 {
     Ok(Ok(Vec::from_slice(alloc, summary.rulings.closes())?))
 }

@@ -1,8 +1,8 @@
 //! The charge rows of some prices, which come one at a time.
 
-ghost use Rattle.std.specs.Prelude.{◌≡◌, ◌++◌, ◌∷◌, [], IfErr, OnOk};
+ghost use Rattle.std.specs.Prelude.{◌≡◌, ◌++◌, ◌∷◌, [], OnOk};
 ghost use Rattle.book_core.specs.KeyedRows.{keyed_rows};
-ghost use Rattle.table_ledger.specs.OtherPrices.{Costs, CostsFit};
+ghost use Rattle.table_ledger.specs.OtherPrices.{Costs};
 
 use crate::day_write::{first_row, join_price};
 use book_core::{ChargeRow, MAX_COST, RowKey, key_of};
@@ -22,8 +22,6 @@ pub(crate) struct RowSums {
 fn add_price(rows: &mut BTreeMap<RowKey, ChargeRow>, priced: &Priced) -> Result<(), StoreError>
     ensures joined { OnOk result ((costs : Costs) → rows.old.entries ≡ keyed_rows costs
         → rows.new.entries ≡ keyed_rows (costs ++ priced.now ∷ [])) }
-    ensures taken { IfErr result (λ error. (costs : Costs) → rows.old.entries ≡ keyed_rows costs
-        → CostsFit (costs ++ priced.now ∷ []) → error ≡ StoreError.OutOfMemory) }
 {
     let key = key_of(priced);
     // Most prices have a row at their key already: it is looked for once, and changed in place.
@@ -38,8 +36,8 @@ fn add_price(rows: &mut BTreeMap<RowKey, ChargeRow>, priced: &Priced) -> Result<
 }
 
 impl RowSums {
-    ghost use Rattle.std.specs.Prelude.{◌≡◌, ◌<◌, ◌++◌, ◌∷◌, [], IfErr, IfOk, length};
-    ghost use Rattle.book_model.specs.Words.{IsPriced, most_held};
+    ghost use Rattle.std.specs.Prelude.{◌++◌, ◌∷◌, [], IfOk};
+    ghost use Rattle.book_model.specs.Words.{IsPriced};
     ghost use Rattle.table_ledger.specs.OtherPrices.{AreRowsOf, AreSumsOf, Costs, SumsUp};
 
     /// No price yet.
@@ -57,8 +55,6 @@ impl RowSums {
         requires priced { IsPriced priced.now }
         ensures sums { IfOk result (λ room. (costs : Costs) → AreSumsOf self.old costs
             → SumsUp self.new (costs ++ priced.now ∷ []) room) }
-        ensures taken { IfErr result (λ error. (costs : Costs) → AreSumsOf self.old costs
-            → length costs < most_held → error ≡ StoreError.OutOfMemory) }
     {
         // It ends at the first excess: 64 bits need not hold what all of them cost.
         let Some(cost) = self.cost.checked_add(priced.amount) else {

@@ -7,7 +7,6 @@ ghost use Rattle.book_model.specs.Words.{terms_in, tariff_outcome, Naming};
 ghost use Rattle.book_core.specs.OfficeRulings.{HasTariffRoom, ruled_in};
 ghost use Rattle.table_model.specs.Changed.{tariff_at};
 ghost use Rattle.tree_tables.specs.Steps.{Does};
-ghost use Rattle.table_ledger.specs.IdleCalls.{FailsIdle, NeedsNoPrices};
 ghost use Rattle.table_ledger.specs.Repricing.{TakesAndCounts};
 ghost use Rattle.table_ledger.specs.TariffRefusals.{IsNoTariff};
 ghost use Rattle.table_ledger.specs.Stages.{AttemptsOne};
@@ -114,8 +113,6 @@ pub(crate) fn try_tariff<S: Store>(
 ) -> Result<Result<Ruled, LedgerFault>, StoreError>
     ensures tries { (naming : Naming) → AttemptsOne (λ ruled. ruled) naming summary.old summary.new
         (state_of tables.old) (state_of tables.new) (tariff_outcome text.now) result }
-    ensures own { (naming : Naming) → FailsIdle (NeedsNoPrices text.now) naming summary.old
-        (state_of tables.old) (state_of tables.new) result }
 {
     let tariff = match tariff_of(alloc, text) {
         Ok(tariff) => tariff,

@@ -6,16 +6,13 @@ ghost use Rattle.book_core.specs.OfficeRulings.{ruled_in};
 ghost use Rattle.book_model.specs.Words.{IsDay, IsTrail, Naming, trail_outcome, trail_shown};
 ghost use Rattle.book_model.specs.Words.{turn_if};
 ghost use Rattle.table_model.specs.TrailRead.{life_read, line_turn, line_turns};
-ghost use Rattle.tree_tables.specs.Fits.{ChosenFit};
 ghost use Rattle.tree_tables.specs.States.{state_of};
-ghost use Rattle.tree_tables.specs.Steps.{Always, FailsByStore, Looks};
+ghost use Rattle.tree_tables.specs.Steps.{Looks};
 ghost use Rattle.tree_tables.specs.Stored.{choice_entry, stored_entry};
-ghost use Rattle.table_ledger.specs.Attempts.{IsNoRecord, TriesBut};
-ghost use Rattle.table_ledger.specs.RecordReads.{HasWideNames};
 ghost use Rattle.table_ledger.specs.Stages.{AttemptsOne};
 ghost use Rattle.table_ledger.specs.TrailReads as reads;
-ghost use Rattle.table_ledger.specs.TrailReads.{AreInOrder, CanBeTraced, IsKin, ListsKinChoices};
-ghost use Rattle.table_ledger.specs.TrailReads.{choice_told, chosen_of};
+ghost use Rattle.table_ledger.specs.TrailReads.{AreInOrder, IsKin, ListsKinChoices, choice_told};
+ghost use Rattle.table_ledger.specs.TrailReads.{chosen_of};
 
 use crate::disputes::{can_show, variants};
 use crate::summary::Summary;
@@ -56,7 +53,6 @@ fn later_turns<S: Store>(
     ensures looks { Looks result (state_of tables.old) (state_of tables.new)
         (λ tables turns. turns.items ≡ line_turns tables.lines name.now (suc after)
         (last - after)) }
-    ensures cause { FailsByStore result (state_of tables.old) (state_of tables.new) Always }
 {
     let mut turns = Vec::new(alloc);
     let mut period = after;
@@ -107,7 +103,6 @@ fn look_for_life<S: Store>(
     ensures looks { Looks result (state_of tables.old) (state_of tables.new)
         (λ tables life. life.items ≡ life_read (ruled_in summary.now.rulings) tables.lines
         (stored_entry stored.now)) }
-    ensures cause { FailsByStore result (state_of tables.old) (state_of tables.new) Always }
 {
     let own = summary.rulings.period_of_day(&stored.priced.day);
     let last = summary.rulings.open_number();
@@ -125,7 +120,6 @@ fn chosen_among<S: Store>(
 ) -> Result<Vec<StoredChoice>, StoreError>
     ensures looks { Looks result (state_of tables.old) (state_of tables.new)
         (λ tables found. map choice_entry found.items ≡ chosen_of rows.now tables) }
-    ensures cause { FailsByStore result (state_of tables.old) (state_of tables.new) ChosenFit }
 {
     let mut all = Vec::new(alloc);
     for stored in rows {
@@ -166,7 +160,6 @@ fn choices_among<S: Store>(
 ) -> Result<Vec<NamedChoice>, StoreError>
     ensures looks { Looks result (state_of tables.old) (state_of tables.new)
         (λ tables choices. ListsKinChoices rows.now tables choices.items) }
-    ensures cause { FailsByStore result (state_of tables.old) (state_of tables.new) ChosenFit }
 {
     let found = chosen_among(tables, alloc, rows)?;
     let sorted = in_order(found)?;
@@ -189,7 +182,6 @@ fn look_for_kin<S: Store>(
     ensures looks { Looks result (state_of tables.old) (state_of tables.new) (IsKin identity.now) }
     ensures shown { IfOk result (λ kin.
         All (λ member. IsDay member.priced.day) kin.members.items) }
-    ensures cause { FailsByStore result (state_of tables.old) (state_of tables.new) CanBeTraced }
 {
     let rows = tables.list_sharing(alloc, identity)?;
     if !can_show(&rows) {
@@ -211,9 +203,6 @@ pub(crate) fn try_trail_of<S: Store>(
     ensures tries { (naming : Naming) → AttemptsOne trail_shown naming summary.now summary.now
         (state_of tables.old) (state_of tables.new) (trail_outcome naming name.now) result }
     ensures shown { IfOk result (λ answer. IfOk answer (λ trail. IsTrail (trail_shown trail))) }
-    ensures own { (naming : Naming) → HasWideNames naming
-        → TriesBut IsNoRecord naming summary.now (state_of tables.old) (state_of tables.new)
-        result }
 {
     let Some(stored) = tables.find_record(alloc, name)? else {
         return Ok(Err(LedgerFault::NoSuchRecord));

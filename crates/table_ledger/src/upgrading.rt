@@ -2,7 +2,7 @@
 //! count. They are told by the marks and the lines, and written into a tree that was just made.
 
 ghost use Rattle.std.specs.Prelude.{◌≡◌, ◌+◌, ◌∷◌, [], ℕ, pos, IfOk, List, OnErr, OnOk, length};
-ghost use Rattle.std.specs.Prelude.{IfErr, option_copied};
+ghost use Rattle.std.specs.Prelude.{option_copied};
 ghost use Rattle.std.specs.BTreeMap.{get};
 ghost use Rattle.std.specs.FinMap.{entries};
 ghost use Rattle.std.specs.List.Sorted.{IsPermutation};
@@ -11,8 +11,7 @@ ghost use Rattle.sqlite_value.specs.declared.value.Value.TheVariants.{Int};
 ghost use Rattle.book_model.specs.Words.{by_bytes};
 ghost use Rattle.table_model.specs.CountedRead.{charged_before_lines, first_line};
 ghost use Rattle.table_model.specs.Tables.{RecordRow};
-ghost use Rattle.tree_rows.specs.Calls.{CommitsNothing, IsCausedByStore, IsSorted, LeavesCommitted};
-ghost use Rattle.tree_rows.specs.Calls.{OnlyLooks};
+ghost use Rattle.tree_rows.specs.Calls.{CommitsNothing, IsSorted, LeavesCommitted, OnlyLooks};
 ghost use Rattle.tree_tables.specs.Columns.{record_columns};
 ghost use Rattle.tree_tables.specs.Holds.{has_book};
 ghost use Rattle.tree_tables.specs.States.{state};
@@ -63,7 +62,6 @@ pub fn has_book_row<S: Store>(alloc: Global, store: &mut S) -> Result<bool, Stor
     ensures same { OnOk result (OnlyLooks S.Store store.old store.new) }
     ensures schema { KeepsSchema (S.Store.view store.old) (S.Store.view store.new) }
     ensures kept { OnErr result (LeavesCommitted S.Store store.old store.new) }
-    ensures cause { IfErr result (IsCausedByStore S.Store store.old store.new) }
     ensures quiet { CommitsNothing S.Store store.old store.new }
 {
     let key = book_key(alloc)?;

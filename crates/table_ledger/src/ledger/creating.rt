@@ -2,7 +2,7 @@
 
 ghost use Rattle.std.specs.Prelude.{IfErr};
 ghost use Rattle.tree_tables.specs.States.{state_of};
-ghost use Rattle.table_ledger.specs.NewBooks.{FailsToMake, MakesNew, RefusesNew};
+ghost use Rattle.table_ledger.specs.NewBooks.{MakesNew};
 ghost use Rattle.table_ledger.specs.Loaded.{IsStoreFault};
 
 use super::TableLedger;
@@ -18,7 +18,6 @@ use tree_tables::TreeTables;
 /// touched.
 fn write_books<S: Store>(tables: &mut TreeTables<S>) -> Result<(), StoreError>
     ensures makes { MakesNew result (state_of tables.old) (state_of tables.new) }
-    ensures own { FailsToMake result (state_of tables.old) (state_of tables.new) }
 {
     if tables.find_book()?.is_some() {
         return Err(StoreError::Corrupt);
@@ -31,7 +30,6 @@ fn write_books<S: Store>(tables: &mut TreeTables<S>) -> Result<(), StoreError>
 fn make_books<S: Store>(tables: &mut TreeTables<S>) -> Result<(), LedgerFault>
     ensures makes { MakesNew result (state_of tables.old) (state_of tables.new) }
     ensures kinds { IfErr result IsStoreFault }
-    ensures own { IfErr result (RefusesNew (state_of tables.old) (state_of tables.new)) }
 {
     match write_books(tables) {
         Ok(()) => Ok(()),
@@ -44,7 +42,7 @@ impl<S: Store, N: Naming + Drop> TableLedger<S, N> {
     ghost use Rattle.sqlite_trees.specs.View.{IsClean};
     ghost use Rattle.tree_tables.specs.Holds.{HasShapes, has_book};
     ghost use Rattle.tree_tables.specs.States.{HasCleanDisk, Survives, state, state_of};
-    ghost use Rattle.table_ledger.specs.NewBooks.{MayHoldNew, OpensNew, RefusesNew};
+    ghost use Rattle.table_ledger.specs.NewBooks.{MayHoldNew, OpensNew};
     ghost use Rattle.table_ledger.specs.Loaded.{IsStoreFault};
 
     /// New books, in a store that has the trees, without rows. Books that are there already are
@@ -64,11 +62,6 @@ impl<S: Store, N: Naming + Drop> TableLedger<S, N> {
         ensures crash_refused { IfErr result (λ refused. Survives (state S.Store store)
             (state S.Store refused.1) (MayHoldNew (S.Store.view store))) }
         ensures refused { IfErr result (λ refused. IsStoreFault refused.0) }
-
-        // Where the row of a book is not there, they are made, unless memory runs out or the disk
-        // fails.
-        ensures own { IfErr result (λ refused. RefusesNew (state S.Store store)
-            (state S.Store refused.1) refused.0) }
         ensures shaped { IfErr result (λ refused. IsClean (S.Store.view refused.1)
             → HasShapes (S.Store.view refused.1)) }
     {

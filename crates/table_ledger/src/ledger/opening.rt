@@ -8,14 +8,13 @@ use std::alloc::Global;
 use tree_tables::TreeTables;
 
 impl<S: Store, N: Naming + Drop> TableLedger<S, N> {
-    ghost use Rattle.std.specs.Prelude.{◌≡◌, true, IfErr, IfOk};
+    ghost use Rattle.std.specs.Prelude.{◌≡◌, false, true, IfErr, IfOk};
     ghost use Rattle.sqlite_trees.specs.View.{IsClean};
     ghost use Rattle.table_model.specs.Tables.{Tables};
     ghost use Rattle.tree_rows.specs.Rows.{IsUnchanged};
     ghost use Rattle.tree_tables.specs.Holds.{HasShapes, Holds, has_book};
     ghost use Rattle.tree_tables.specs.States.{HasCleanDisk, Survives, state, state_of};
-    ghost use Rattle.table_ledger.specs.Loaded.{IsOpenFault, IsToldBy, OpensStored};
-    ghost use Rattle.table_ledger.specs.Loaded.{RefusesForCause};
+    ghost use Rattle.table_ledger.specs.Loaded.{IsOpenFault, OpensStored};
 
     /// The books that a store holds: those that calls made, and any others that can be read back.
     pub fn open(alloc: Global, store: S, naming: N) -> Result<TableLedger<S, N>, (LedgerFault, S)>
@@ -40,13 +39,8 @@ impl<S: Store, N: Naming + Drop> TableLedger<S, N> {
         // There are books exactly where their row is there.
         ensures there { IfOk result (λ ledger. HasCleanDisk (state_of ledger.tables)
             → has_book (S.Store.view store).trees ≡ true) }
-        ensures told { IfErr result (λ refused. HasCleanDisk (state S.Store refused.1)
-            → IsToldBy (has_book (S.Store.view store).trees) (state S.Store store)
-            (state S.Store refused.1) refused.0) }
-
-        // A book that can be read back is read, unless memory runs out or the disk fails.
-        ensures own { IfErr result (λ refused. RefusesForCause (N.name_of naming)
-            (state S.Store store) (state S.Store refused.1) refused.0) }
+        ensures none { IfErr result (λ refused. HasCleanDisk (state S.Store refused.1)
+            → refused.0 ≡ LedgerFault.NotBooks → has_book (S.Store.view store).trees ≡ false) }
         ensures shaped { IfErr result (λ refused. IsClean (S.Store.view refused.1)
             → HasShapes (S.Store.view refused.1)) }
     {

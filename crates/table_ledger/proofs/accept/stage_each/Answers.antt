@@ -1,13 +1,11 @@
 use Rattle.std.proofs.Common.{drop, ◌≡◌, ◌∙◌, ◌++◌, ◌∷◌, [], ◌+◌, refl, sym, ap, subst, length}
 use Rattle.std.proofs.Common.{length-append}
-use Rattle.table_ledger.proofs.SurvivalLemmas.{clean_before, survives_then}
+use Rattle.table_ledger.proofs.SurvivalLemmas.{survives_then}
 use Rattle.book_core.specs.Words.{records_in}
 use Rattle.table_model.specs.Words.{set_sums}
 use Rattle.table_ledger.proofs.ManyLemmas.{AreTaken, all_taken, step_failed, step_refused}
 use Rattle.table_ledger.proofs.ManyLemmas.{step_taken, step_untold}
-use Rattle.table_ledger.proofs.IdleRecords.{idle_next}
-use Rattle.table_ledger.proofs.SumLemmas.{sums_remembered}
-use Rattle.table_ledger.proofs.Words.{state, err_from_is_err_and, err_on}
+use Rattle.table_ledger.proofs.Words.{state}
 use Rattle.table_ledger.proofs.accept.stage_each.Goals as goal
 
 pub loop-one-preserved : goal.loop-one-preserved
@@ -44,25 +42,6 @@ returns-in_err-fault-clause-stages g c =
     c.one-item.is c.deref.ensures.value c.loop-one.invariant.survives c.loop-one.invariant.taken
     (state g.S.Store c.stage_one.new.tables.store) c.loop-one.answers.items c.from_residual.result c.from_residual.ensures.0
     (c.in_err-fault.ensures.stages c.args.summary.now.held c.args.summary.now.total)
-
--- where none is kept, it has a cause
-pub returns-in_err-fault-clause-own : goal.returns-in_err-fault-clause-own
-returns-in_err-fault-clause-own g c =
-    let sums = c.args.summary.now in
-    let before = c.loop-one.invariant in
-    let call = (c.in_err-fault.ensures.stages sums.held sums.total).survives in
-    err_on _ c.from_residual.result c.from_residual.ensures.1 (λ clean book at idle.
-    idle_next c.args.records.now (state g.S.Store c.stage_one.new.tables.store) _ book at idle
-    (before.taken (clean_before call clean) book (sums_remembered at))
-    c.loop-one.one-index c.one-item.result c.loop-one-test.true c.one-item.is
-    c.deref.ensures.value before.survives c.in_err-fault.ensures.own clean)
-
--- for the answers only memory may run out
-pub returns-in_err-push-in-Ok-clause-own : goal.returns-in_err-push-in-Ok-clause-own
-returns-in_err-push-in-Ok-clause-own g c =
-    let p = err_from_is_err_and c.from_residual-in_err-push-in-Ok.result
-    c.from_residual-in_err-push-in-Ok.ensures.1 in
-    rw (p.1, p.2) (λ clean book at idle. tt)
 
 pub returns-in-Err-clause-stages : goal.returns-in-Err-clause-stages
 returns-in-Err-clause-stages g c =

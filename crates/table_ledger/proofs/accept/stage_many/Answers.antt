@@ -1,31 +1,10 @@
 use Rattle.std.proofs.Common.{◌∙◌, sym, subst, Ok}
 use Rattle.book_core.specs.Words.{records_in}
 use Rattle.book_core.proofs.SubmissionLemmas.{some_in}
-use Rattle.table_ledger.proofs.Words.{state, StagesMany, err_from_is_err_and, any_err, err_on}
+use Rattle.table_ledger.proofs.Words.{state, StagesMany}
 use Rattle.table_ledger.proofs.ManyLemmas.{many_staged, none_left, none_staged}
 use Rattle.table_ledger.proofs.SumLemmas.{sums_staged}
-use Rattle.table_ledger.proofs.IdleRecords.{sums_stay_each}
-use Rattle.table_ledger.proofs.SurvivalLemmas.{clean_before}
 use Rattle.table_ledger.proofs.accept.stage_many.Goals as goal
-
--- for the answers only memory may run out
-pub returns-in_err-answers-clause-own : goal.returns-in_err-answers-clause-own
-returns-in_err-answers-clause-own g c =
-    let p = err_from_is_err_and c.from_residual.result c.from_residual.ensures.1 in
-    rw (p.1, p.2) (λ clean book at idle. tt)
-
-pub returns-in_err-told-clause-own : goal.returns-in_err-told-clause-own
-returns-in_err-told-clause-own g c =
-    err_on _ c.from_residual-in_err-told.result c.from_residual-in_err-told.ensures.1
-    c.in_err-told.ensures.own
-
--- sums that stay are not written
-pub returns-in_err-write_sums-clause-own : goal.returns-in_err-write_sums-clause-own
-returns-in_err-write_sums-clause-own g c =
-    any_err c.from_residual-in_err-write_sums.result (λ error clean book at idle.
-    let same = sums_stay_each c.args.records.now c.in_ok-told.ensures.stages
-    (clean_before c.in_err-write_sums.ensures.does.survives clean) book at idle in
-    absurd (c.in_err-write_sums.ensures.other same.0 same.1))
 
 pub returns-in_default-clause-stages : goal.returns-in_default-clause-stages
 returns-in_default-clause-stages g c =

@@ -1,6 +1,5 @@
 use Rattle.std.proofs.Common.{refl, Err}
 use Rattle.table_ledger.proofs.CommitLemmas.{committed, uncommitted}
-use Rattle.table_ledger.proofs.IdleCalls.{idle_uncommitted}
 use Rattle.table_ledger.proofs.Remembered.{remembers_same}
 use Rattle.table_ledger.proofs.accept.try_accept_many.Goals as goal
 
@@ -13,9 +12,3 @@ returns-in-Err-clause-tries g c =
     let ruled = c.stage_many-staged.ensures.ruled in
     uncommitted g.S.Store _ (Err c.in-Err.error) refl c.stage_many-staged.ensures.stages
     c.in-Err.ensures (remembers_same ruled.rulings ruled.choices refl refl)
-
--- why they were not committed
-pub returns-in-Err-clause-own : goal.returns-in-Err-clause-own
-returns-in-Err-clause-own g c =
-    idle_uncommitted g.S.Store _ _ c.stage_many-staged.ensures.stages
-    c.stage_many-staged.ensures.own c.in-Err.ensures

@@ -1,23 +1,24 @@
 use Rattle.std.proofs.Common.{◌≡◌, ◌∙◌, ◌++◌, [], List, Option, false, refl, slice_index_or, sym}
 use Rattle.std.proofs.Common.{ap, Vec, append-nil, Global, take_all}
 use Rattle.book_model.proofs.Std.{cons_option}
-use Rattle.table_ledger.proofs.Words.{err_from_is_err_and, Line, StoredLine, lines_stored}
+use Rattle.table_ledger.proofs.Words.{Line, StoredLine, lines_stored}
 use Rattle.table_ledger.proofs.LineReadings.{line_more}
 use Rattle.table_ledger.proofs.TryLemmas.{looks_known, saw_found, saw_so, saw_then}
-use Rattle.table_ledger.proofs.OwnBooks.{fails_after_look}
 use Rattle.table_ledger.proofs.Refusals.{looks_failed_after, looks_failed_next}
 use Rattle.table_ledger.proofs.adjustments.read_lines.Goals.{in-Some+in_ok-push, in_default}
 use Rattle.table_ledger.proofs.adjustments.read_lines.Goals as goal
 
-pub returns-in_err-line-clause-looks : goal.returns-in_err-line-clause-looks
-returns-in_err-line-clause-looks g c =
-    looks_failed_next _ c.from_residual.ensures.0 c.loop-stored.invariant.saw
-    c.in_err-line.ensures.looks
+pub returns-in_err-line : goal.returns-in_err-line
+returns-in_err-line g c = record {
+  looks = looks_failed_next _ c.from_residual.ensures.0 c.loop-stored.invariant.saw
+      c.in_err-line.ensures.looks;
+}
 
-pub returns-in_err-push-clause-looks : goal.returns-in_err-push-clause-looks
-returns-in_err-push-clause-looks g c =
-    looks_failed_after _ c.from_residual-in_err-push.ensures.0
-    (saw_then c.loop-stored.invariant.saw (saw_found c.in_ok-line.ensures.looks))
+pub returns-in_err-push : goal.returns-in_err-push
+returns-in_err-push g c = record {
+  looks = looks_failed_after _ c.from_residual-in_err-push.ensures.0
+      (saw_then c.loop-stored.invariant.saw (saw_found c.in_ok-line.ensures.looks));
+}
 
 pub loop-stored-preserved : goal.loop-stored-preserved
 loop-stored-preserved g c =
@@ -43,24 +44,10 @@ loop-stored-preserved g c =
           refl more known.0 known.1);
     }
 
-pub returns-clause-looks : goal.returns-clause-looks
-returns-clause-looks g c =
-    looks_known c.loop-stored.invariant.saw (λ tables known.
-    known
-    ∙ ap (λ (some : List StoredLine). lines_stored tables.records some)
-    (take_all c.loop-stored.stored-index c.args.found.now c.loop-stored-test.false))
-
--- why a line was not read, after the others
-pub returns-in_err-line-clause-cause : goal.returns-in_err-line-clause-cause
-returns-in_err-line-clause-cause g c =
-    fails_after_look _ c.from_residual.ensures.1 c.loop-stored.invariant.saw
-    c.in_err-line.ensures.looks (λ clean tables holds read.
-    c.in_err-line.ensures.cause clean tables holds
-    (record { each = read.fit.each; usage = read.usage }))
-
--- for the list only memory may run out
-pub returns-in_err-push-clause-cause : goal.returns-in_err-push-clause-cause
-returns-in_err-push-clause-cause g c =
-    let p = err_from_is_err_and c.from_residual-in_err-push.result
-    c.from_residual-in_err-push.ensures.1 in
-    rw (p.1, p.2) (λ clean tables holds read. tt)
+pub returns : goal.returns
+returns g c = record {
+  looks = looks_known c.loop-stored.invariant.saw (λ tables known.
+      known
+      ∙ ap (λ (some : List StoredLine). lines_stored tables.records some)
+      (take_all c.loop-stored.stored-index c.args.found.now c.loop-stored-test.false));
+}

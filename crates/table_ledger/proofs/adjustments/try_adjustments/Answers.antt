@@ -1,5 +1,5 @@
 use Rattle.std.proofs.Common.{◌≡◌, ◌∙◌, ap, refl, sym, true, List}
-use Rattle.table_model.specs.Words.{lines_read, is_period, tables_of}
+use Rattle.table_model.specs.Words.{lines_read, is_period}
 use Rattle.table_model.proofs.ListLemmas.{lists_follow}
 use Rattle.table_ledger.proofs.Words.{StoredLine, lines_stored}
 use Rattle.book_core.specs.Words.{ruled_in}
@@ -7,8 +7,6 @@ use Rattle.table_ledger.proofs.LineReadings.{lines_listed}
 use Rattle.table_ledger.proofs.ListReadings.{period_read}
 use Rattle.table_ledger.proofs.GivenUp.{given_up}
 use Rattle.table_ledger.proofs.TryLemmas.{saw_found, saw_none, saw_then, try_refused}
-use Rattle.table_ledger.proofs.OwnBooks.{own_failed}
-use Rattle.table_ledger.proofs.BookLists.{own_lines, own_records, own_rise, own_shown}
 use Rattle.table_ledger.proofs.adjustments.try_adjustments.Goals as goal
 
 pub returns-clause-tries : goal.returns-clause-tries
@@ -26,37 +24,6 @@ returns-clause-tries g c = λ naming.
     (known.1 ∙ ap (λ (some : List StoredLine). lines_stored tables.records some)
     c.deref.ensures.value)
     c.in-Some.ensures.sorted)
-
--- the lines of the period fit
-pub returns-in_err-found-clause-own : goal.returns-in_err-found-clause-own
-returns-in_err-found-clause-own g c = λ naming wide.
-    own_failed _ _ c.from_residual.ensures.1 saw_none c.in_err-found.ensures.looks
-    c.in_err-found.ensures.cause (λ clean book ready.
-    own_lines ready wide c.args.period (sym c.has_period.ensures ∙ c.if-not-has_period.false))
-
--- their records can be read
-pub returns-in_err-lines-clause-own : goal.returns-in_err-lines-clause-own
-returns-in_err-lines-clause-own g c = λ naming wide.
-    own_failed _ _ c.from_residual-in_err-lines.ensures.1
-    (saw_found c.in_ok-found.ensures.looks) c.in_err-lines.ensures.looks
-    c.in_err-lines.ensures.cause (λ clean book ready. own_records ready wide)
-
--- and they can be shown
-pub returns-in_default-clause-own : goal.returns-in_default-clause-own
-returns-in_default-clause-own g c = λ naming wide clean book ready.
-    let number = c.args.period in
-    let there : is_period number (ruled_in c.args.summary.now.rulings) ≡ true =
-    sym c.has_period.ensures ∙ c.if-not-has_period.false in
-    let saw = saw_then (saw_found c.in_ok-found.ensures.looks)
-    (saw_found c.in_ok-lines.ensures.looks) in
-    let known = (saw.seen clean).known (tables_of naming book) ready.kept.holds in
-    let read = known.1 ∙ ap (λ (some : List StoredLine). lines_stored
-    (tables_of naming book).records some) c.deref.ensures.value in
-    let rise = own_rise ready number there c.in_ok-found.found.items c.in_ok-lines.lines.items
-    known.0 read in
-    let shown = own_shown ready number there c.in_ok-found.found.items
-    c.in_ok-lines.lines.items known.0 read in
-    absurd (c.sorted.ensures.refused c.in_default.is rise shown)
 
 -- ---- what is not read leaves all as it was
 

@@ -1,43 +1,37 @@
 use Rattle.std.proofs.Common.{◌∙◌, refl, sym}
 use Rattle.table_ledger.proofs.AdoptTries.{adopt_is_event}
 use Rattle.table_ledger.proofs.CommitLemmas.{committed, uncommitted}
-use Rattle.table_ledger.proofs.IdleCalls.{moves_book}
 use Rattle.table_ledger.proofs.StageLemmas.{stage_steps}
 use Rattle.table_ledger.proofs.TryLemmas.{saw_none}
-use Rattle.tree_tables.proofs.Looking.{any_err}
 use Rattle.table_ledger.proofs.adoption.try_adopt.Goals as goal
 
 -- the commit is refused
-pub returns-in_err-commit_written-clause-tries : goal.returns-in_err-commit_written-clause-tries
-returns-in_err-commit_written-clause-tries g c = λ naming.
-    let done = sym c.adopt_answer-answer.ensures
-    ∙ c.is_done.ensures.done c.if-not-is_done.false in
-    uncommitted g.S.Store _ _ c.from_residual.ensures.0
-    (stage_steps _ saw_none c.write_adoption-written.ensures
-    (λ book at known. adopt_is_event c.args.summary.now c.args.rule done
-    c.open_number-period.result c.last_close.result c.open_number-period.ensures.number
-    c.last_close.ensures book at))
-    c.in_err-commit_written.ensures (λ book same. same)
-
--- an adoption that comes this far changes the book
-pub returns-in_err-commit_written-clause-own : goal.returns-in_err-commit_written-clause-own
-returns-in_err-commit_written-clause-own g c = λ naming.
-    let done = sym c.adopt_answer-answer.ensures
-    ∙ c.is_done.ensures.done c.if-not-is_done.false in
-    any_err c.from_residual.result (λ error clean book at idle.
-    absurd (moves_book (adopt_is_event c.args.summary.now c.args.rule done
-    c.open_number-period.result c.last_close.result c.open_number-period.ensures.number
-    c.last_close.ensures book at) idle))
+pub returns-in_err-commit_written : goal.returns-in_err-commit_written
+returns-in_err-commit_written g c = record {
+  tries =
+      λ naming.
+      let done = sym c.adopt_answer-answer.ensures
+      ∙ c.is_done.ensures.done c.if-not-is_done.false in
+      uncommitted g.S.Store _ _ c.from_residual.ensures.0
+      (stage_steps _ saw_none c.write_adoption-written.ensures
+      (λ book at known. adopt_is_event c.args.summary.now c.args.rule done
+      c.open_number-period.result c.last_close.result c.open_number-period.ensures.number
+      c.last_close.ensures book at))
+      c.in_err-commit_written.ensures (λ book same. same);
+}
 
 -- the second rule is in force
-pub returns-clause-tries : goal.returns-clause-tries
-returns-clause-tries g c = λ naming.
-    let done = sym c.adopt_answer-answer.ensures
-    ∙ c.is_done.ensures.done c.if-not-is_done.false in
-    committed g.S.Store
-    (stage_steps _ saw_none c.write_adoption-written.ensures
-    (λ book at known. adopt_is_event c.args.summary.now c.args.rule done
-    c.open_number-period.result c.last_close.result c.open_number-period.ensures.number
-    c.last_close.ensures book at))
-    c.in_ok-commit_written.ensures
-    (record { rulings = c.adopt.ensures; choices = refl; held = refl; total = refl })
+pub returns : goal.returns
+returns g c = record {
+  tries =
+      λ naming.
+      let done = sym c.adopt_answer-answer.ensures
+      ∙ c.is_done.ensures.done c.if-not-is_done.false in
+      committed g.S.Store
+      (stage_steps _ saw_none c.write_adoption-written.ensures
+      (λ book at known. adopt_is_event c.args.summary.now c.args.rule done
+      c.open_number-period.result c.last_close.result c.open_number-period.ensures.number
+      c.last_close.ensures book at))
+      c.in_ok-commit_written.ensures
+      (record { rulings = c.adopt.ensures; choices = refl; held = refl; total = refl });
+}

@@ -1,11 +1,8 @@
-use Rattle.std.proofs.Common.{◌≡◌, ◌∙◌, refl, sym, subst, true}
-use Rattle.book_model.specs.Words.{AreRows}
-use Rattle.table_model.specs.Words.{rows_read, tables_of, is_period}
+use Rattle.std.proofs.Common.{◌≡◌, ◌∙◌, refl, sym, true}
+use Rattle.table_model.specs.Words.{rows_read, is_period}
 use Rattle.table_model.proofs.ListLemmas.{lists_follow}
 use Rattle.book_core.specs.Words.{ruled_in}
 use Rattle.table_ledger.proofs.ListReadings.{period_read}
-use Rattle.table_ledger.proofs.BookLists.{own_days, own_rows}
-use Rattle.table_ledger.proofs.OwnBooks.{own_failed}
 use Rattle.table_ledger.proofs.GivenUp.{given_up}
 use Rattle.table_ledger.proofs.TryLemmas.{saw_found, saw_none, try_refused}
 use Rattle.table_ledger.proofs.charges.try_charges.Goals as goal
@@ -18,25 +15,6 @@ returns-clause-tries g c = λ naming.
     period_read number (λ tables. rows_read number tables.days)
     (λ book whole. lists_follow.charges naming book number whole) c.in_ok-rows.rows there
     (saw_found c.in_ok-rows.ensures.looks) (λ tables is. sym is)
-
--- the rows of the period fit
-pub returns-in_err-rows-clause-own : goal.returns-in_err-rows-clause-own
-returns-in_err-rows-clause-own g c = λ naming.
-    own_failed _ _ c.from_residual.ensures.1 saw_none c.in_err-rows.ensures.looks
-    c.in_err-rows.ensures.cause (λ clean book ready.
-    own_days ready c.args.period (sym c.has_period.ensures ∙ c.if-not-has_period.false))
-
--- and can be shown
-pub returns-then-not-can_show-clause-own : goal.returns-then-not-can_show-clause-own
-returns-then-not-can_show-clause-own g c = λ naming clean book ready.
-    let number = c.args.period in
-    let there : is_period number (ruled_in c.args.summary.now.rulings) ≡ true =
-    sym c.has_period.ensures ∙ c.if-not-has_period.false in
-    let lists = (c.in_ok-rows.ensures.looks.found clean).known (tables_of naming book)
-    ready.kept.holds in
-    absurd (c.can_show.ensures.refused c.if-not-can_show.true
-    (subst AreRows (sym c.deref.ensures.value)
-    (own_rows ready number c.in_ok-rows.rows.items there lists)))
 
 -- ---- what is not read leaves all as it was
 

@@ -1,123 +1,95 @@
 use Rattle.std.proofs.Common.{◌∙◌, ap, refl, sym, nat_le, ◌==◌}
-use Rattle.book_model.specs.Words.{choose_outcome, if_done, most_choices, record_named}
+use Rattle.book_model.specs.Words.{if_done, most_choices, record_named}
 use Rattle.book_core.proofs.RulingLemmas.{meant_by}
 use Rattle.table_ledger.proofs.AcceptTries.{saw_as}
 use Rattle.table_ledger.proofs.Answering.{ruled_other}
-use Rattle.table_ledger.proofs.BookRows.{can_be_read}
 use Rattle.table_ledger.proofs.ChoiceTries.{choice_plain, choose_none, choose_staged, choose_told}
-use Rattle.table_ledger.proofs.ChoiceTries.{saw_shared, tests_move}
-use Rattle.table_ledger.proofs.Words.{any_err, opens, LeavesBook}
+use Rattle.table_ledger.proofs.ChoiceTries.{saw_shared}
+use Rattle.table_ledger.proofs.Words.{opens}
 use Rattle.table_ledger.proofs.CommitLemmas.{committed, uncommitted}
-use Rattle.table_ledger.proofs.IdleCalls.{idle_failed}
-use Rattle.table_ledger.proofs.SurvivalLemmas.{clean_before}
 use Rattle.table_ledger.proofs.TryLemmas.{saw_found, saw_none}
 use Rattle.table_ledger.proofs.TryLemmas.{saw_then, try_refused}
 use Rattle.table_ledger.proofs.choices.try_choose.Goals as goal
 
--- the record of the name fits, if there is one
-pub returns-in_err-stored-clause-own : goal.returns-in_err-stored-clause-own
-returns-in_err-stored-clause-own g c = λ naming wide.
-    idle_failed (LeavesBook (choose_outcome naming c.args.name)) _ c.from_residual.ensures.1 saw_none c.in_err-stored.ensures.looks
-    c.in_err-stored.ensures.cause
-    (λ book at. (can_be_read naming book at.kept.readable wide).fit.each c.args.name)
-
 -- there is none
-pub returns-in_default-clause-tries : goal.returns-in_default-clause-tries
-returns-in_default-clause-tries g c = λ naming.
-    let name = c.args.name in
-    ruled_other _ refl (opens refl refl) (λ is. cc)
-    (saw_as name c.in_default.is c.in_ok-stored.ensures.looks)
-    (λ book at known. choose_none naming c.args.summary.now name _ book at known)
-    (λ book already. ap (if_done (meant_by (record_named naming book.held name))) already)
-
--- all records fit
-pub returns-in_err-sharing-clause-own : goal.returns-in_err-sharing-clause-own
-returns-in_err-sharing-clause-own g c = λ naming wide.
-    idle_failed (LeavesBook (choose_outcome naming c.args.name)) _ c.from_residual-in_err-sharing.ensures.1
-    (saw_found c.in_ok-stored.ensures.looks) c.in_err-sharing.ensures.looks
-    c.in_err-sharing.ensures.cause
-    (λ book at. (can_be_read naming book at.kept.readable wide).fit)
+pub returns-in_default : goal.returns-in_default
+returns-in_default g c = record {
+  tries =
+      λ naming.
+      let name = c.args.name in
+      ruled_other _ refl (opens refl refl) (λ is. cc)
+      (saw_as name c.in_default.is c.in_ok-stored.ensures.looks)
+      (λ book at known. choose_none naming c.args.summary.now name _ book at known)
+      (λ book already. ap (if_done (meant_by (record_named naming book.held name))) already);
+}
 
 -- the answer is not Done
-pub returns-then-not-is_done-clause-tries : goal.returns-then-not-is_done-clause-tries
-returns-then-not-is_done-clause-tries g c = λ naming.
-    let summary = c.args.summary.now in
-    let name = c.args.name in
-    let stored = c.in-Some.stored in
-    ruled_other _ c.choice_answer-answer.ensures.answer
-    (choice_plain (c.in_ok-sharing.sharing == 1) stored.charged (nat_le most_choices summary.choices))
-    (c.is_done.ensures.other c.if-not-is_done.true)
-    (saw_shared name stored c.in-Some.is c.deref.ensures.value c.in_ok-stored.ensures.looks
-    c.in_ok-sharing.ensures.looks)
-    (λ book at known. choose_told naming summary name _ book at stored known.0 known.1)
-    (λ book already. ap (if_done (meant_by (record_named naming book.held name))) already)
-
--- a choice that comes this far changes the book
-pub returns-in_err-effects-clause-own : goal.returns-in_err-effects-clause-own
-returns-in_err-effects-clause-own g c = λ naming wide.
-    let name = c.args.name in
-    let stored = c.in-Some.stored in
-    let tests = sym c.choice_answer-answer.ensures.answer
-    ∙ c.is_done.ensures.done c.if-not-is_done.false in
-    any_err c.from_residual-in_err-effects.result (λ error clean book at idle.
-    absurd (tests_move naming c.args.summary.now name stored tests
-    (saw_shared name stored c.in-Some.is c.deref.ensures.value c.in_ok-stored.ensures.looks
-    c.in_ok-sharing.ensures.looks)
-    (clean_before c.in_err-effects.ensures.looks.survives clean) book at idle))
+pub returns-then-not-is_done : goal.returns-then-not-is_done
+returns-then-not-is_done g c = record {
+  tries =
+      λ naming.
+      let summary = c.args.summary.now in
+      let name = c.args.name in
+      let stored = c.in-Some.stored in
+      ruled_other _ c.choice_answer-answer.ensures.answer
+      (choice_plain (c.in_ok-sharing.sharing == 1) stored.charged (nat_le most_choices summary.choices))
+      (c.is_done.ensures.other c.if-not-is_done.true)
+      (saw_shared name stored c.in-Some.is c.deref.ensures.value c.in_ok-stored.ensures.looks
+      c.in_ok-sharing.ensures.looks)
+      (λ book at known. choose_told naming summary name _ book at stored known.0 known.1)
+      (λ book already. ap (if_done (meant_by (record_named naming book.held name))) already);
+}
 
 -- the commit is refused
-pub returns-in_err-commit_written-clause-tries : goal.returns-in_err-commit_written-clause-tries
-returns-in_err-commit_written-clause-tries g c = λ naming.
-    let tests = sym c.choice_answer-answer.ensures.answer
-    ∙ c.is_done.ensures.done c.if-not-is_done.false in
-    uncommitted g.S.Store _ _ c.from_residual-in_err-commit_written.ensures.0
-    (choose_staged naming c.args.summary.now c.args.name c.in-Some.stored c.open_number.result
-    c.last_close.result c.in-Some.is c.deref.ensures.value c.in_ok-stored.ensures.looks
-    c.in_ok-sharing.ensures.looks c.in_ok-effects.ensures.looks c.write_choice-written.ensures
-    tests c.open_number.ensures.number c.last_close.ensures)
-    c.in_err-commit_written.ensures (λ book same. same)
-
-pub returns-in_err-commit_written-clause-own : goal.returns-in_err-commit_written-clause-own
-returns-in_err-commit_written-clause-own g c = λ naming wide.
-    let name = c.args.name in
-    let stored = c.in-Some.stored in
-    let tests = sym c.choice_answer-answer.ensures.answer
-    ∙ c.is_done.ensures.done c.if-not-is_done.false in
-    any_err c.from_residual-in_err-commit_written.result (λ error clean book at idle.
-    let written = clean_before c.in_err-commit_written.ensures.survives clean in
-    let before = clean_before c.write_choice-written.ensures.survives written in
-    absurd (tests_move naming c.args.summary.now name stored tests
-    (saw_shared name stored c.in-Some.is c.deref.ensures.value c.in_ok-stored.ensures.looks
-    c.in_ok-sharing.ensures.looks)
-    (clean_before c.in_ok-effects.ensures.looks.survives before) book at idle))
+pub returns-in_err-commit_written : goal.returns-in_err-commit_written
+returns-in_err-commit_written g c = record {
+  tries =
+      λ naming.
+      let tests = sym c.choice_answer-answer.ensures.answer
+      ∙ c.is_done.ensures.done c.if-not-is_done.false in
+      uncommitted g.S.Store _ _ c.from_residual-in_err-commit_written.ensures.0
+      (choose_staged naming c.args.summary.now c.args.name c.in-Some.stored c.open_number.result
+      c.last_close.result c.in-Some.is c.deref.ensures.value c.in_ok-stored.ensures.looks
+      c.in_ok-sharing.ensures.looks c.in_ok-effects.ensures.looks c.write_choice-written.ensures
+      tests c.open_number.ensures.number c.last_close.ensures)
+      c.in_err-commit_written.ensures (λ book same. same);
+}
 
 -- the record is chosen
-pub returns-clause-tries : goal.returns-clause-tries
-returns-clause-tries g c = λ naming.
-    let tests = sym c.choice_answer-answer.ensures.answer
-    ∙ c.is_done.ensures.done c.if-not-is_done.false in
-    committed g.S.Store
-    (choose_staged naming c.args.summary.now c.args.name c.in-Some.stored c.open_number.result
-    c.last_close.result c.in-Some.is c.deref.ensures.value c.in_ok-stored.ensures.looks
-    c.in_ok-sharing.ensures.looks c.in_ok-effects.ensures.looks c.write_choice-written.ensures
-    tests c.open_number.ensures.number c.last_close.ensures)
-    c.in_ok-commit_written.ensures
-    (record { rulings = refl; choices = refl; held = refl; total = refl })
+pub returns : goal.returns
+returns g c = record {
+  tries =
+      λ naming.
+      let tests = sym c.choice_answer-answer.ensures.answer
+      ∙ c.is_done.ensures.done c.if-not-is_done.false in
+      committed g.S.Store
+      (choose_staged naming c.args.summary.now c.args.name c.in-Some.stored c.open_number.result
+      c.last_close.result c.in-Some.is c.deref.ensures.value c.in_ok-stored.ensures.looks
+      c.in_ok-sharing.ensures.looks c.in_ok-effects.ensures.looks c.write_choice-written.ensures
+      tests c.open_number.ensures.number c.last_close.ensures)
+      c.in_ok-commit_written.ensures
+      (record { rulings = refl; choices = refl; held = refl; total = refl });
+}
 
 -- ---- what is not read leaves all as it was
 
-pub returns-in_err-stored-clause-tries : goal.returns-in_err-stored-clause-tries
-returns-in_err-stored-clause-tries g c = λ naming.
-    try_refused _ c.from_residual.ensures.0 saw_none
-    c.in_err-stored.ensures.looks
+pub returns-in_err-stored : goal.returns-in_err-stored
+returns-in_err-stored g c = record {
+  tries = λ naming.
+      try_refused _ c.from_residual.ensures.0 saw_none c.in_err-stored.ensures.looks;
+}
 
-pub returns-in_err-sharing-clause-tries : goal.returns-in_err-sharing-clause-tries
-returns-in_err-sharing-clause-tries g c = λ naming.
-    try_refused _ c.from_residual-in_err-sharing.ensures.0 (saw_found c.in_ok-stored.ensures.looks)
-    c.in_err-sharing.ensures.looks
+pub returns-in_err-sharing : goal.returns-in_err-sharing
+returns-in_err-sharing g c = record {
+  tries = λ naming.
+      try_refused _ c.from_residual-in_err-sharing.ensures.0
+      (saw_found c.in_ok-stored.ensures.looks) c.in_err-sharing.ensures.looks;
+}
 
-pub returns-in_err-effects-clause-tries : goal.returns-in_err-effects-clause-tries
-returns-in_err-effects-clause-tries g c = λ naming.
-    try_refused _ c.from_residual-in_err-effects.ensures.0
-    (saw_then (saw_found c.in_ok-stored.ensures.looks) (saw_found c.in_ok-sharing.ensures.looks))
-    c.in_err-effects.ensures.looks
+pub returns-in_err-effects : goal.returns-in_err-effects
+returns-in_err-effects g c = record {
+  tries = λ naming.
+      try_refused _ c.from_residual-in_err-effects.ensures.0
+      (saw_then (saw_found c.in_ok-stored.ensures.looks) (saw_found c.in_ok-sharing.ensures.looks))
+      c.in_err-effects.ensures.looks;
+}

@@ -5,69 +5,57 @@ use Rattle.book_core.proofs.OpenAnswers.{close_open}
 use Rattle.table_ledger.proofs.Answering.{ruled_other}
 use Rattle.table_ledger.proofs.CloseTries.{close_is_event}
 use Rattle.table_ledger.proofs.CommitLemmas.{committed, uncommitted}
-use Rattle.table_ledger.proofs.IdleCalls.{moves_book}
 use Rattle.table_ledger.proofs.Remembered.{remembers_same}
 use Rattle.table_ledger.proofs.StageLemmas.{stage_steps}
 use Rattle.table_ledger.proofs.TryLemmas.{saw_none}
-use Rattle.tree_tables.proofs.Looking.{any_err}
 use Rattle.book_model.proofs.DayLemmas.{day_kept}
 use Rattle.table_ledger.proofs.close.try_close.Goals as goal
 
-pub returns-then-not-is_done-clause-tries : goal.returns-then-not-is_done-clause-tries
-returns-then-not-is_done-clause-tries g c = λ naming.
-    let close = c.args.close.now in
-    ruled_other _ (rw (day_kept close.through c.requires.day) at c.close_answer-answer.ensures)
-    (close_open (ruled_in c.args.summary.now.rulings) close.period close.through)
-    (c.is_done.ensures.other c.if-not-is_done.true) saw_none
-    (λ book at known.
-    ap (λ rulings. close_answer rulings close.period close.through) (sym at.remembers.rulings))
-    (λ book already. ap (if_done (Some (PeriodClosed close.through))) already)
+pub returns-then-not-is_done : goal.returns-then-not-is_done
+returns-then-not-is_done g c = record {
+  tries =
+      λ naming.
+      let close = c.args.close.now in
+      ruled_other _ (rw (day_kept close.through c.requires.day) at c.close_answer-answer.ensures)
+      (close_open (ruled_in c.args.summary.now.rulings) close.period close.through)
+      (c.is_done.ensures.other c.if-not-is_done.true) saw_none
+      (λ book at known.
+      ap (λ rulings. close_answer rulings close.period close.through) (sym at.remembers.rulings))
+      (λ book already. ap (if_done (Some (PeriodClosed close.through))) already);
+}
 
--- a close that comes this far changes the book
-pub returns-in_err-reserve_close-clause-own : goal.returns-in_err-reserve_close-clause-own
-returns-in_err-reserve_close-clause-own g c = λ naming.
-    let close = c.args.close.now in
-    let is = rw (day_kept close.through c.requires.day) at c.close_answer-answer.ensures in
-    let done = sym is ∙ c.is_done.ensures.done c.if-not-is_done.false in
-    any_err c.from_residual.result (λ error clean book at idle.
-    absurd (moves_book (close_is_event c.args.summary.now close.period close.through
-    c.last_close-last.result c.requires.day done c.last_close-last.ensures book at) idle))
+pub returns-in_err-commit_written : goal.returns-in_err-commit_written
+returns-in_err-commit_written g c = record {
+  tries =
+      λ naming.
+      let close = c.args.close.now in
+      let is = rw (day_kept close.through c.requires.day) at c.close_answer-answer.ensures in
+      let done = sym is ∙ c.is_done.ensures.done c.if-not-is_done.false in
+      uncommitted g.S.Store _ _ c.from_residual-in_err-commit_written.ensures.0
+      (stage_steps _ saw_none c.write_close-written.ensures
+      (λ book at known. close_is_event c.args.summary.now close.period close.through
+      c.last_close-last.result c.requires.day done c.last_close-last.ensures book at))
+      c.in_err-commit_written.ensures
+      (remembers_same c.in_ok-reserve_close.ensures.same refl refl refl);
+}
 
-pub returns-in_err-commit_written-clause-tries : goal.returns-in_err-commit_written-clause-tries
-returns-in_err-commit_written-clause-tries g c = λ naming.
-    let close = c.args.close.now in
-    let is = rw (day_kept close.through c.requires.day) at c.close_answer-answer.ensures in
-    let done = sym is ∙ c.is_done.ensures.done c.if-not-is_done.false in
-    uncommitted g.S.Store _ _ c.from_residual-in_err-commit_written.ensures.0
-    (stage_steps _ saw_none c.write_close-written.ensures
-    (λ book at known. close_is_event c.args.summary.now close.period close.through
-    c.last_close-last.result c.requires.day done c.last_close-last.ensures book at))
-    c.in_err-commit_written.ensures
-    (remembers_same c.in_ok-reserve_close.ensures.same refl refl refl)
-
-pub returns-in_err-commit_written-clause-own : goal.returns-in_err-commit_written-clause-own
-returns-in_err-commit_written-clause-own g c = λ naming.
-    let close = c.args.close.now in
-    let is = rw (day_kept close.through c.requires.day) at c.close_answer-answer.ensures in
-    let done = sym is ∙ c.is_done.ensures.done c.if-not-is_done.false in
-    any_err c.from_residual-in_err-commit_written.result (λ error clean book at idle.
-    absurd (moves_book (close_is_event c.args.summary.now close.period close.through
-    c.last_close-last.result c.requires.day done c.last_close-last.ensures book at) idle))
-
-pub returns-clause-tries : goal.returns-clause-tries
-returns-clause-tries g c = λ naming.
-    let close = c.args.close.now in
-    let day = day_kept close.through c.requires.day in
-    let is = rw day at c.close_answer-answer.ensures in
-    let done = sym is ∙ c.is_done.ensures.done c.if-not-is_done.false in
-    committed g.S.Store
-    (stage_steps _ saw_none c.write_close-written.ensures
-    (λ book at known. close_is_event c.args.summary.now close.period close.through
-    c.last_close-last.result c.requires.day done c.last_close-last.ensures book at))
-    c.in_ok-commit_written.ensures (record {
-      rulings = c.put_close.ensures
-          ∙ (λ i. with_close (day i) (c.in_ok-reserve_close.ensures.same i));
-      choices = refl;
-      held = refl;
-      total = refl;
-    })
+pub returns : goal.returns
+returns g c = record {
+  tries =
+      λ naming.
+      let close = c.args.close.now in
+      let day = day_kept close.through c.requires.day in
+      let is = rw day at c.close_answer-answer.ensures in
+      let done = sym is ∙ c.is_done.ensures.done c.if-not-is_done.false in
+      committed g.S.Store
+      (stage_steps _ saw_none c.write_close-written.ensures
+      (λ book at known. close_is_event c.args.summary.now close.period close.through
+      c.last_close-last.result c.requires.day done c.last_close-last.ensures book at))
+      c.in_ok-commit_written.ensures (record {
+        rulings = c.put_close.ensures
+            ∙ (λ i. with_close (day i) (c.in_ok-reserve_close.ensures.same i));
+        choices = refl;
+        held = refl;
+        total = refl;
+      });
+}

@@ -3,7 +3,6 @@ use Rattle.std.specs.BTreeMap.{get}
 use Rattle.book_model.proofs.Std.{option_or}
 use Rattle.book_model.specs.Words.{by_bytes}
 use Rattle.table_ledger.proofs.CountTestLemmas.{lines_on}
-use Rattle.table_ledger.proofs.OwnBooks.{fails_after_look}
 use Rattle.table_ledger.proofs.TryLemmas.{saw_found, saw_so, saw_then}
 use Rattle.table_ledger.proofs.Words.{find, signed_name}
 use Rattle.table_ledger.proofs.count_test.first_lines.Goals as goal
@@ -19,12 +18,3 @@ loop-period-preserved g c = record {
   since = omega arith;
   until = omega arith;
 }
-
--- the lines of the next period fit
-pub returns-in_err-found-clause-cause : goal.returns-in_err-found-clause-cause
-returns-in_err-found-clause-cause g c =
-    let since = c.loop-period.invariant.since in
-    fails_after_look _ c.from_residual.ensures.1 c.loop-period.invariant.saw
-    c.in_err-found.ensures.looks
-    (λ clean tables holds fit. c.in_err-found.ensures.cause clean tables holds
-    (fit (c.loop-period.period + 1) (omega (arith, since)) (omega (arith, c.loop-period-test.true))))

@@ -1,9 +1,5 @@
 use Rattle.std.proofs.Common.{◌∙◌, refl, sym}
-use Rattle.table_model.specs.TablesOf.{tables_of}
-use Rattle.table_ledger.proofs.BookLists.{own_records}
-use Rattle.table_ledger.proofs.DetailTries.{least_shown, next_found}
-use Rattle.table_ledger.proofs.DetailsRead.{details_fit}
-use Rattle.table_ledger.proofs.OwnBooks.{own_failed}
+use Rattle.table_ledger.proofs.DetailTries.{next_found}
 use Rattle.table_ledger.proofs.GivenUp.{given_up}
 use Rattle.table_ledger.proofs.TryLemmas.{saw_found, saw_none, try_refused}
 use Rattle.table_ledger.proofs.details.try_next_detail.Goals as goal
@@ -14,21 +10,6 @@ returns-clause-tries g c = λ naming.
     c.through_of.result c.through_of-2.result c.in_ok-found.found c.through_of.ensures
     c.through_of-2.ensures (sym c.has_period.ensures ∙ c.if-not-has_period.false)
     (saw_found c.in_ok-found.ensures.looks)
-
--- what details show fits
-pub returns-in_err-found-clause-own : goal.returns-in_err-found-clause-own
-returns-in_err-found-clause-own g c = λ naming wide.
-    own_failed _ _ c.from_residual.ensures.1 saw_none c.in_err-found.ensures.looks
-    c.in_err-found.ensures.cause
-    (λ clean book ready. details_fit (tables_of naming book) (own_records ready wide))
-
--- and can be shown
-pub returns-then-not-can_show-clause-own : goal.returns-then-not-can_show-clause-own
-returns-then-not-can_show-clause-own g c = λ naming wide clean book ready.
-    let known = (c.in_ok-found.ensures.looks.found clean).known (tables_of naming book)
-    ready.kept.holds in
-    absurd (c.can_show.ensures.refused c.if-not-can_show.true
-    (least_shown _ (tables_of naming book) _ (own_records ready wide) known))
 
 -- ---- what is not read leaves all as it was
 

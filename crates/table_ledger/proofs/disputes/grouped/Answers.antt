@@ -6,17 +6,9 @@ use Rattle.table_model.specs.Words.{rows_with, has_none_charged, join_last}
 use Rattle.table_ledger.proofs.Words.{Dispute, is_charged, stored_entry, StoredRecord, IsShownRow}
 use Rattle.table_ledger.proofs.JoinLemmas.{grouped_more}
 use Rattle.table_ledger.proofs.LooksRefused.{look_given_up, look_refused}
-use Rattle.table_ledger.proofs.OwnBooks.{fails_after_look}
 use Rattle.table_ledger.proofs.TryLemmas.{saw_found, saw_so, saw_then}
 use Rattle.table_ledger.proofs.disputes.grouped.Goals.{then-not-branch+in_ok-join, else-not-branch}
 use Rattle.table_ledger.proofs.disputes.grouped.Goals as goal
-
--- why it is not known whether another of the identity is charged, after the earlier rows
-pub returns-in_err-has_charged-clause-cause : goal.returns-in_err-has_charged-clause-cause
-returns-in_err-has_charged-clause-cause g c =
-    fails_after_look _ c.from_residual.ensures.1 c.loop-stored.invariant.saw
-    c.in_err-has_charged.ensures.looks
-    (λ clean tables holds when. c.in_err-has_charged.ensures.cause clean tables holds tt)
 
 -- one more row is left out, or joins the groups
 pub loop-stored-preserved : goal.loop-stored-preserved

@@ -3,9 +3,8 @@ use Rattle.book_model.proofs.Std.{list_any}
 use Rattle.table_model.specs.Words.{rows_with}
 use Rattle.table_ledger.proofs.DisputeTries.{PassedTo, next_is, passed_none, passed_on}
 use Rattle.table_ledger.proofs.LooksRefused.{look_given_up, look_refused}
-use Rattle.table_ledger.proofs.OwnBooks.{fails_after_look}
 use Rattle.table_ledger.proofs.TryLemmas.{looks_known, saw_found, saw_none, saw_so, saw_then}
-use Rattle.table_ledger.proofs.Words.{is_charged, Always}
+use Rattle.table_ledger.proofs.Words.{is_charged}
 use Rattle.table_ledger.proofs.disputes.next_disputed.Goals as goal
 
 -- none is passed at first
@@ -15,29 +14,17 @@ identities-init g c =
     subst (λ reached. PassedTo c.args.from.now reached tables) (sym c.in_ok-reached.ensures.items)
     (passed_none c.args.from.now tables))
 
-pub returns-in_err-identity-clause-cause : goal.returns-in_err-identity-clause-cause
-returns-in_err-identity-clause-cause g c =
-    fails_after_look {When = Always} _ c.from_residual-in_err-identity.ensures.1
-    c.identities.invariant c.in_err-identity.ensures.looks
-    (λ clean tables holds always. c.in_err-identity.ensures.cause clean tables holds tt)
-
-pub returns-in_err-settled-clause-cause : goal.returns-in_err-settled-clause-cause
-returns-in_err-settled-clause-cause g c =
-    fails_after_look {When = Always} _ c.from_residual-in_err-settled.ensures.1
-    (saw_then c.identities.invariant (saw_found c.in_ok-identity.ensures.looks))
-    c.in_err-settled.ensures.looks
-    (λ clean tables holds always. c.in_err-settled.ensures.cause clean tables holds tt)
-
 -- none of its records is charged
-pub returns-then-not-settled-clause-looks : goal.returns-then-not-settled-clause-looks
-returns-then-not-settled-clause-looks g c =
-    looks_known (saw_then (saw_then c.identities.invariant
-    (saw_found (rw c.in-Some.is at c.in_ok-identity.ensures.looks)))
-    (saw_found c.in_ok-settled.ensures.looks))
-    (λ tables known. next_is c.args.from.now c.identities.reached.items tables known.0.0
-    c.in-Some.identity.items (rw c.deref.ensures.value at known.0.1)
-    (ap (λ k. list_any is_charged (rows_with k tables.records)) (sym c.deref-in-identities.ensures.value)
-    ∙ sym known.1 ∙ c.if-not-settled.true))
+pub returns-then-not-settled : goal.returns-then-not-settled
+returns-then-not-settled g c = record {
+  looks = looks_known (saw_then (saw_then c.identities.invariant
+      (saw_found (rw c.in-Some.is at c.in_ok-identity.ensures.looks)))
+      (saw_found c.in_ok-settled.ensures.looks))
+      (λ tables known. next_is c.args.from.now c.identities.reached.items tables known.0.0
+      c.in-Some.identity.items (rw c.deref.ensures.value at known.0.1)
+      (ap (λ k. list_any is_charged (rows_with k tables.records)) (sym c.deref-in-identities.ensures.value)
+      ∙ sym known.1 ∙ c.if-not-settled.true));
+}
 
 -- it was settled, and is passed
 pub identities-preserved : goal.identities-preserved
@@ -53,25 +40,32 @@ identities-preserved g c =
 
 -- ---- a look that fails leaves all as it was
 
-pub returns-in_err-reached-clause-looks : goal.returns-in_err-reached-clause-looks
-returns-in_err-reached-clause-looks g c = look_given_up _ c.from_residual.ensures.0 saw_none
+pub returns-in_err-reached : goal.returns-in_err-reached
+returns-in_err-reached g c = record {
+  looks = look_given_up _ c.from_residual.ensures.0 saw_none;
+}
 
-pub returns-in_err-identity-clause-looks : goal.returns-in_err-identity-clause-looks
-returns-in_err-identity-clause-looks g c =
-    look_refused _ c.from_residual-in_err-identity.ensures.0 c.identities.invariant
-    c.in_err-identity.ensures.looks
+pub returns-in_err-identity : goal.returns-in_err-identity
+returns-in_err-identity g c = record {
+  looks = look_refused _ c.from_residual-in_err-identity.ensures.0 c.identities.invariant
+      c.in_err-identity.ensures.looks;
+}
 
-pub returns-in_err-settled-clause-looks : goal.returns-in_err-settled-clause-looks
-returns-in_err-settled-clause-looks g c =
-    look_refused _ c.from_residual-in_err-settled.ensures.0
-    (saw_then c.identities.invariant (saw_found c.in_ok-identity.ensures.looks))
-    c.in_err-settled.ensures.looks
+pub returns-in_err-settled : goal.returns-in_err-settled
+returns-in_err-settled g c = record {
+  looks = look_refused _ c.from_residual-in_err-settled.ensures.0
+      (saw_then c.identities.invariant (saw_found c.in_ok-identity.ensures.looks))
+      c.in_err-settled.ensures.looks;
+}
 
-pub returns-in_err-push-clause-looks : goal.returns-in_err-push-clause-looks
-returns-in_err-push-clause-looks g c =
-    look_given_up _ c.from_residual-in_err-push.ensures.0
-    (saw_then (saw_then c.identities.invariant (saw_found c.in_ok-identity.ensures.looks))
-    (saw_found c.in_ok-settled.ensures.looks))
+pub returns-in_err-push : goal.returns-in_err-push
+returns-in_err-push g c = record {
+  looks = look_given_up _ c.from_residual-in_err-push.ensures.0
+      (saw_then (saw_then c.identities.invariant (saw_found c.in_ok-identity.ensures.looks))
+      (saw_found c.in_ok-settled.ensures.looks));
+}
 
-pub returns-clause-looks : goal.returns-clause-looks
-returns-clause-looks g c = look_given_up _ refl c.identities.invariant
+pub returns : goal.returns
+returns g c = record {
+  looks = look_given_up _ refl c.identities.invariant;
+}

@@ -1,13 +1,9 @@
-use Rattle.std.proofs.Common.{◌∙◌, sym, ap, subst, List, map, All, filter}
+use Rattle.std.proofs.Common.{◌∙◌, sym, ap, List, map, filter}
 use Rattle.table_model.specs.Words.{disputes_read, grouped, has_none_charged, tables_of}
 use Rattle.table_model.proofs.DisputeLemmas.{disputes_follow}
-use Rattle.table_ledger.proofs.Words.{stored_entry, StoredRecord, IsShownRow, IsUsageData}
+use Rattle.table_ledger.proofs.Words.{stored_entry, StoredRecord}
 use Rattle.table_ledger.proofs.ListReadings.{list_read}
-use Rattle.table_ledger.proofs.OwnBooks.{own_failed}
-use Rattle.table_ledger.proofs.SurvivalLemmas.{clean_before}
 use Rattle.table_ledger.proofs.TryLemmas.{saw_found, saw_none, saw_then}
-use Rattle.table_ledger.proofs.BookLists.{own_records, own_uncharged}
-use Rattle.table_ledger.proofs.BookRows.{taken_shown, taken_usage}
 use Rattle.std.proofs.Common.{refl}
 use Rattle.table_ledger.proofs.GivenUp.{given_up}
 use Rattle.table_ledger.proofs.TryLemmas.{try_refused}
@@ -23,36 +19,6 @@ returns-clause-tries g c = λ naming.
     ∙ sym (known.1
     ∙ ap (λ (rows : List StoredRecord). grouped (filter (has_none_charged records)
     (map stored_entry rows))) c.deref-2.ensures.value))
-
--- the rows of records fit
-pub returns-in_err-rows-clause-own : goal.returns-in_err-rows-clause-own
-returns-in_err-rows-clause-own g c = λ naming wide.
-    own_failed _ _ c.from_residual.ensures.1 saw_none c.in_err-rows.ensures.looks
-    c.in_err-rows.ensures.cause
-    (λ clean book ready. (own_records ready wide).fit)
-
--- and can be shown
-pub returns-then-not-can_show-clause-own : goal.returns-then-not-can_show-clause-own
-returns-then-not-can_show-clause-own g c = λ naming wide clean book ready.
-    let lists = (c.in_ok-rows.ensures.looks.found clean).known (tables_of naming book)
-    ready.kept.holds in
-    let Shown : StoredRecord → Type 0 = λ row. IsShownRow (stored_entry row) in
-    absurd (c.can_show.ensures.refused c.if-not-can_show.true
-    (subst (All Shown) (sym c.deref.ensures.value)
-    (taken_shown _ (own_uncharged ready wide c.in_ok-rows.rows.items lists))))
-
--- why they were not grouped, after the look at them
-pub returns-in_err-grouped-clause-own : goal.returns-in_err-grouped-clause-own
-returns-in_err-grouped-clause-own g c = λ naming wide.
-    let looks = c.in_err-grouped.ensures.looks in
-    own_failed _ _ c.from_residual-in_err-grouped.ensures.1
-    (saw_found c.in_ok-rows.ensures.looks) looks c.in_err-grouped.ensures.cause
-    (λ clean book ready.
-    let lists = (c.in_ok-rows.ensures.looks.found (clean_before looks.survives clean)).known
-    (tables_of naming book) ready.kept.holds in
-    subst (All (λ (row : StoredRecord). IsUsageData row.data_bytes.items))
-    (sym c.deref-2.ensures.value)
-    (taken_usage _ (own_uncharged ready wide c.in_ok-rows.rows.items lists)))
 
 -- ---- what is not read leaves all as it was
 

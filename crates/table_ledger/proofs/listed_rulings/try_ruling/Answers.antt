@@ -1,7 +1,6 @@
 use Rattle.std.proofs.Common.{Ok, ap, refl}
 use Rattle.book_model.specs.Words.{ruling_outcome}
-use Rattle.table_ledger.proofs.OwnBooks.{own_failed}
-use Rattle.table_ledger.proofs.RulingReads.{choice_read, is_one, own_choice}
+use Rattle.table_ledger.proofs.RulingReads.{choice_read}
 use Rattle.table_ledger.proofs.TryLemmas.{saw_found, saw_none, try_answered}
 use Rattle.table_ledger.proofs.GivenUp.{given_up}
 use Rattle.table_ledger.proofs.TryLemmas.{try_refused}
@@ -18,17 +17,6 @@ returns-in_ok-look_for_choice-in-Choice-clause-tries g c = λ naming.
           (rw c.in-Choice.is at c.in_ok-listed.ensures.stands) _ known),
       refl,
     ))
-
--- it is not read
-pub returns-in_err-look_for_choice-in-Choice-clause-own :
-    goal.returns-in_err-look_for_choice-in-Choice-clause-own
-returns-in_err-look_for_choice-in-Choice-clause-own g c = λ naming wide.
-    let stands = rw c.in-Choice.is at c.in_ok-listed.ensures.stands in
-    own_failed _ _ c.from_residual-in_err-look_for_choice-in-Choice.ensures.1 saw_none
-    c.in_err-look_for_choice-in-Choice.ensures.looks
-    c.in_err-look_for_choice-in-Choice.ensures.cause (λ clean book ready.
-    own_choice ready wide c.in-Choice.place
-    (is_one ready.remembers naming c.args.number c.in-Choice.place stands))
 
 -- ---- what is not read leaves all as it was
 

@@ -1,7 +1,6 @@
 use Rattle.std.proofs.Common.{◌≡◌, ◌∙◌, ap, map, sym, option_map}
 use Rattle.table_model.specs.Words.{Tables}
 use Rattle.tree_tables.specs.Stored.{book_entry, close_entry, tariff_of}
-use Rattle.table_ledger.proofs.OwnBooks.{fails_after_look}
 use Rattle.table_ledger.proofs.LoadLemmas.{recalled_by}
 use Rattle.table_ledger.proofs.TryLemmas.{looks_known, saw_found, saw_then}
 use Rattle.table_ledger.proofs.LooksRefused.{look_refused}
@@ -21,36 +20,12 @@ returns-clause-looks g c =
     (λ (tables : Tables) known.
     let found = ap (option_map book_entry) (sym c.in-Some.is) ∙ known.0.0.0 in
     recalled_by c.summary_of.result tables c.in-Some.row texts days c.in_ok-choices.choices
-    c.summary_of.ensures.shows c.summary_of.ensures.kinds c.summary_of.ensures.refused (record {
+    c.summary_of.ensures.shows c.summary_of.ensures.kinds (record {
       book = (let e = found in cc);
       tariffs = ap (map tariff_of) all_texts ∙ known.0.0.1;
       closes = ap (map close_entry) all_days ∙ known.0.1;
       made = known.1;
     }))
-
--- why the tariffs were not listed, after the look at the row of the book
-pub returns-in_err-tariffs-clause-cause : goal.returns-in_err-tariffs-clause-cause
-returns-in_err-tariffs-clause-cause g c =
-    fails_after_look _ c.from_residual-in_err-tariffs.ensures.1
-    (saw_found c.in_ok-row.ensures.looks) c.in_err-tariffs.ensures.looks
-    (λ clean tables holds when. c.in_err-tariffs.ensures.cause clean tables holds when.tariffs)
-
--- why the closes were not, after both
-pub returns-in_err-closes-clause-cause : goal.returns-in_err-closes-clause-cause
-returns-in_err-closes-clause-cause g c =
-    fails_after_look _ c.from_residual-in_err-closes.ensures.1
-    (saw_then (saw_found c.in_ok-row.ensures.looks) (saw_found c.in_ok-tariffs.ensures.looks))
-    c.in_err-closes.ensures.looks
-    (λ clean tables holds when. c.in_err-closes.ensures.cause clean tables holds when.closes)
-
--- why the last choice was not, after all three
-pub returns-in_err-choices-clause-cause : goal.returns-in_err-choices-clause-cause
-returns-in_err-choices-clause-cause g c =
-    fails_after_look _ c.from_residual-in_err-choices.ensures.1
-    (saw_then (saw_then (saw_found c.in_ok-row.ensures.looks)
-    (saw_found c.in_ok-tariffs.ensures.looks)) (saw_found c.in_ok-closes.ensures.looks))
-    c.in_err-choices.ensures.looks
-    (λ clean tables holds when. c.in_err-choices.ensures.cause clean tables holds when.choices)
 
 -- ---- a look that fails leaves all as it was
 

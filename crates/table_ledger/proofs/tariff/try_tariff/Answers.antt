@@ -1,33 +1,27 @@
-use Rattle.std.proofs.Common.{◌≢◌, ◌∙◌, Ok, ap, false, sym}
+use Rattle.std.proofs.Common.{◌≢◌, ◌∙◌, Ok, ap, false}
 use Rattle.book_model.specs.Words.{if_done, terms_in}
 use Rattle.book_core.proofs.OpenAnswers.{terms_open}
 use Rattle.book_core.proofs.RulingLemmas.{said_by}
 use Rattle.book_core.specs.Words.{ruled_in}
 use Rattle.table_ledger.proofs.Answering.{ruled_other}
-use Rattle.table_ledger.proofs.TariffTries.{tariff_moves, tariff_other}
+use Rattle.table_ledger.proofs.TariffTries.{tariff_other}
 use Rattle.table_ledger.proofs.TryLemmas.{saw_none}
-use Rattle.table_ledger.proofs.Words.{Done, any_err}
+use Rattle.table_ledger.proofs.Words.{Done}
 use Rattle.table_ledger.proofs.tariff.try_tariff.Goals as goal
 
-pub returns-then-not-is_done-clause-tries : goal.returns-then-not-is_done-clause-tries
-returns-then-not-is_done-clause-tries g c = λ naming.
-    let summary = c.args.summary.now in
-    let text = c.args.text.now in
-    let terms = c.in-Ok.tariff in
-    let said = c.in-Ok.ensures.said in
-    let is = c.tariff_answer-answer.ensures in
-    let other : c.tariff_answer-answer.result ≢ Ok Done =
-    c.is_done.ensures.other c.if-not-is_done.true in
-    ruled_other _ is (terms_open (ruled_in summary.rulings) false text terms) other saw_none
-    (λ book at known.
-    tariff_other summary text terms said naming _ book at (λ done. other (is ∙ done)))
-    (λ book already. ap (if_done (said_by text (terms_in text))) already)
-
--- a tariff that comes this far needs what the records cost
-pub returns-clause-own : goal.returns-clause-own
-returns-clause-own g c = λ naming.
-    let done = sym c.tariff_answer-answer.ensures
-    ∙ c.is_done.ensures.done c.if-not-is_done.false in
-    any_err c.put_in_force.result (λ error clean book at idle.
-    absurd (tariff_moves c.args.summary.now c.args.text.now c.in-Ok.tariff c.in-Ok.ensures.said
-    naming _ book at done idle))
+pub returns-then-not-is_done : goal.returns-then-not-is_done
+returns-then-not-is_done g c = record {
+  tries =
+      λ naming.
+      let summary = c.args.summary.now in
+      let text = c.args.text.now in
+      let terms = c.in-Ok.tariff in
+      let said = c.in-Ok.ensures.said in
+      let is = c.tariff_answer-answer.ensures in
+      let other : c.tariff_answer-answer.result ≢ Ok Done =
+      c.is_done.ensures.other c.if-not-is_done.true in
+      ruled_other _ is (terms_open (ruled_in summary.rulings) false text terms) other saw_none
+      (λ book at known.
+      tariff_other summary text terms said naming _ book at (λ done. other (is ∙ done)))
+      (λ book already. ap (if_done (said_by text (terms_in text))) already);
+}

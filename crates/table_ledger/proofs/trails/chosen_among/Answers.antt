@@ -1,7 +1,6 @@
 use Rattle.std.proofs.Common.{◌∙◌, ◌++◌, ap}
 use Rattle.table_ledger.proofs.ChosenOrder.{chosen-more}
 use Rattle.table_ledger.proofs.LooksRefused.{look_given_up, look_refused}
-use Rattle.table_ledger.proofs.OwnBooks.{fails_after_look}
 use Rattle.table_ledger.proofs.TryLemmas.{saw_found, saw_so, saw_then}
 use Rattle.table_ledger.proofs.trails.chosen_among.Goals as goal
 
@@ -15,18 +14,15 @@ loop-stored-preserved g c = record {
       ∙ ap (λ some. c.loop-stored.all.items ++ some) c.deref.ensures.value));
 }
 
--- why the choices of one were not listed
-pub returns-in_err-chosen-clause-cause : goal.returns-in_err-chosen-clause-cause
-returns-in_err-chosen-clause-cause g c =
-    fails_after_look _ c.from_residual.ensures.1 c.loop-stored.invariant.saw
-    c.in_err-chosen.ensures.looks c.in_err-chosen.ensures.cause
-
 -- a look that fails leaves all as it was
-pub returns-in_err-chosen-clause-looks : goal.returns-in_err-chosen-clause-looks
-returns-in_err-chosen-clause-looks g c =
-    look_refused _ c.from_residual.ensures.0 c.loop-stored.invariant.saw c.in_err-chosen.ensures.looks
+pub returns-in_err-chosen : goal.returns-in_err-chosen
+returns-in_err-chosen g c = record {
+  looks = look_refused _ c.from_residual.ensures.0 c.loop-stored.invariant.saw
+      c.in_err-chosen.ensures.looks;
+}
 
-pub returns-in_err-extend_from_slice-clause-looks : goal.returns-in_err-extend_from_slice-clause-looks
-returns-in_err-extend_from_slice-clause-looks g c =
-    look_given_up _ c.from_residual-in_err-extend_from_slice.ensures.0
-    (saw_then c.loop-stored.invariant.saw (saw_found c.in_ok-chosen.ensures.looks))
+pub returns-in_err-extend_from_slice : goal.returns-in_err-extend_from_slice
+returns-in_err-extend_from_slice g c = record {
+  looks = look_given_up _ c.from_residual-in_err-extend_from_slice.ensures.0
+      (saw_then c.loop-stored.invariant.saw (saw_found c.in_ok-chosen.ensures.looks));
+}

@@ -1,6 +1,4 @@
 use Rattle.std.proofs.Common.{◌+◌, arith, refl}
-use Rattle.tree_tables.specs.Steps.{Always}
-use Rattle.table_ledger.proofs.OwnBooks.{fails_after_look}
 use Rattle.table_ledger.proofs.TraceLemmas.{turns_on}
 use Rattle.table_ledger.proofs.TryLemmas.{saw_found, saw_so, saw_then}
 use Rattle.table_ledger.proofs.trails.later_turns.Goals as goal
@@ -16,10 +14,3 @@ loop-period-preserved g c = record {
   since = omega arith;
   until = omega arith;
 }
-
--- it is not found
-pub returns-in_err-line-clause-cause : goal.returns-in_err-line-clause-cause
-returns-in_err-line-clause-cause g c =
-    fails_after_look {When = Always} _ c.from_residual.ensures.1 c.loop-period.invariant.saw
-    c.in_err-line.ensures.looks
-    (λ clean tables holds always. c.in_err-line.ensures.cause clean tables holds tt)

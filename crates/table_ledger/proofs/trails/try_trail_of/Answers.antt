@@ -1,4 +1,4 @@
-use Rattle.std.proofs.Common.{◌∙◌, ap, refl, sym, subst}
+use Rattle.std.proofs.Common.{◌∙◌, ap, refl, subst}
 use Rattle.book_core.specs.Words.{ruled_in}
 use Rattle.book_model.specs.declared.trail.Trail.{Trail}
 use Rattle.book_model.specs.Words.{record_with, trail_outcome, trail_shown}
@@ -6,21 +6,11 @@ use Rattle.table_model.specs.Words.{tables_of}
 use Rattle.table_ledger.specs.TrailReads.{IsKin}
 use Rattle.table_ledger.proofs.AcceptTries.{saw_as}
 use Rattle.table_ledger.proofs.Answering.{makes_answer, makes_refused}
-use Rattle.table_ledger.proofs.BookLists.{own_records}
-use Rattle.table_ledger.proofs.DisputeTries.{own_memory}
-use Rattle.table_ledger.proofs.LineReadings.{found_there}
-use Rattle.table_ledger.proofs.OwnBooks.{own_failed}
-use Rattle.table_ledger.proofs.TrailTries.{by_stored, is_trail, no_record, own_traced, reckoned_is}
+use Rattle.table_ledger.proofs.TrailTries.{by_stored, is_trail, no_record, reckoned_is}
 use Rattle.table_ledger.proofs.TryLemmas.{saw_then, saw_found, saw_none, try_answered, try_refused}
-use Rattle.table_ledger.proofs.Words.{FindsRecord, state, stored_entry, IsUsageData, opens}
+use Rattle.table_ledger.proofs.Words.{opens}
 use Rattle.table_ledger.proofs.GivenUp.{given_up}
 use Rattle.table_ledger.proofs.trails.try_trail_of.Goals as goal
-
-pub returns-in_err-stored-clause-own : goal.returns-in_err-stored-clause-own
-returns-in_err-stored-clause-own g c = λ naming wide.
-    own_failed _ _ c.from_residual.ensures.1 saw_none c.in_err-stored.ensures.looks
-    c.in_err-stored.ensures.cause
-    (λ clean book ready. (own_records ready wide).fit.each c.args.name.now)
 
 -- there is none
 pub returns-in_default-clause-tries : goal.returns-in_default-clause-tries
@@ -30,19 +20,6 @@ returns-in_default-clause-tries g c = λ naming.
     (saw_as name c.in_default.is c.in_ok-stored.ensures.looks) (opens refl refl)
     (λ book at known. makes_refused trail_shown (trail_outcome naming name book) _
     (no_record at name known))
-
-pub returns-in_err-bytes-clause-own : goal.returns-in_err-bytes-clause-own
-returns-in_err-bytes-clause-own g c = λ naming wide.
-    let name = c.args.name.now in
-    let stored = c.in-Some.stored in
-    own_memory (state g.S.Store c.args.tables.now.store) (state g.S.Store c.find_record.new.self.store)
-    _ _ c.from_residual-in_err-bytes.ensures.1 (λ clean book ready.
-    let tables = tables_of naming book in
-    let finds = subst (FindsRecord name tables) c.in-Some.is
-    ((c.in_ok-stored.ensures.looks.found clean).known tables ready.kept.holds) in
-    c.in_err-bytes.ensures.taken (subst IsUsageData (sym c.deref.ensures.value)
-    ((own_records ready wide).usage name (stored_entry stored).1
-    (found_there name tables stored finds))))
 
 -- no tariff is in force on its day
 pub returns-in_default-reckon_in-clause-tries : goal.returns-in_default-reckon_in-clause-tries
@@ -64,24 +41,12 @@ returns-in_err-kin-clause-tries g c = λ naming.
     try_refused _ c.from_residual-in_err-kin.ensures.0 (saw_found c.in_ok-stored.ensures.looks)
     c.in_err-kin.ensures.looks
 
-pub returns-in_err-kin-clause-own : goal.returns-in_err-kin-clause-own
-returns-in_err-kin-clause-own g c = λ naming wide.
-    own_failed _ _ c.from_residual-in_err-kin.ensures.1 (saw_found c.in_ok-stored.ensures.looks)
-    c.in_err-kin.ensures.looks c.in_err-kin.ensures.cause
-    (λ clean book ready. own_traced ready wide)
-
 -- its lines are not read
 pub returns-in_err-life-clause-tries : goal.returns-in_err-life-clause-tries
 returns-in_err-life-clause-tries g c = λ naming.
     try_refused _ c.from_residual-in_err-life.ensures.0
     (saw_then (saw_found c.in_ok-stored.ensures.looks) (saw_found c.in_ok-kin.ensures.looks))
     c.in_err-life.ensures.looks
-
-pub returns-in_err-life-clause-own : goal.returns-in_err-life-clause-own
-returns-in_err-life-clause-own g c = λ naming wide.
-    own_failed _ _ c.from_residual-in_err-life.ensures.1
-    (saw_then (saw_found c.in_ok-stored.ensures.looks) (saw_found c.in_ok-kin.ensures.looks))
-    c.in_err-life.ensures.looks c.in_err-life.ensures.cause (λ clean book ready. tt)
 
 -- it is its trail
 pub returns-clause-tries : goal.returns-clause-tries

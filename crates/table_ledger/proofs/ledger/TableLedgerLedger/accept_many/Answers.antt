@@ -1,13 +1,11 @@
-use Rattle.std.proofs.Common.{sym, subst, take, Vec, Global, ℕ, true≢false, All}
+use Rattle.std.proofs.Common.{sym, subst, take, Vec, Global, ℕ, All}
 use Rattle.std.proofs.lemmas.List.Elements.{All-take}
-use Rattle.book_model.specs.Words.{IsUsageRecord, accept_outcome}
+use Rattle.book_model.specs.Words.{IsUsageRecord}
 use Rattle.book_core.specs.Words.{Takes, records_in}
 use Rattle.book_core.proofs.SubmissionLemmas.{takes_part}
 use Rattle.book_core.proofs.TransitionLemmas.{work_as}
-use Rattle.table_ledger.specs.IdleCalls.{LeavesBook, LeavesEach}
-use Rattle.table_ledger.specs.LedgerState.{ledger_state, seen_on}
+use Rattle.table_ledger.specs.LedgerState.{ledger_state}
 use Rattle.table_ledger.specs.Stages.{most_in_commit}
-use Rattle.table_ledger.proofs.IdleCalls.{idle_settled}
 use Rattle.table_ledger.proofs.OneCall.{many_come, many_reopen}
 use Rattle.table_ledger.proofs.ServedWork.{work_settled}
 use Rattle.table_ledger.proofs.ledger.TableLedgerLedger.accept_many.Goals as goal
@@ -54,21 +52,3 @@ returns-clause-few g c =
     c.first_records-first.ensures.first takes)
     (work_settled (many_come names (records_in part)) g.S.Store c.args.self.now.tables.store
     c.if-self.false g.met.S.Store.settled c.finish.ensures.settles c.try_accept_many-tried.ensures.tries).0
-
--- it is answered Reopen
-pub returns-then-self-clause-own : goal.returns-then-self-clause-own
-returns-then-self-clause-own g c = λ blamed clean books idle. absurd (true≢false (sym blamed))
-
--- that the store failed is the disk's fault
-pub returns-clause-own : goal.returns-clause-own
-returns-clause-own g c = λ blamed clean books idle.
-    let names = g.N.Naming.name_of c.args.self.now.naming in
-    let book = (seen_on (ledger_state g.N.Naming.name_of c.args.self.now)).book in
-    let part = c.first_records-first.result.now in
-    idle_settled (LeavesEach names part) g.S.Store c.args.self.now.tables.store
-    c.if-self.false c.finish.ensures.settles c.try_accept_many-tried.ensures.tries
-    c.try_accept_many-tried.ensures.own c.finish.ensures.served c.finish.ensures.mended blamed
-    clean books
-    (subst (λ records. LeavesEach names records book) (sym c.first_records-first.ensures.first)
-    (All-take (λ (one : Vec ℕ Global). LeavesBook (accept_outcome names one.items) book)
-    most_in_commit c.args.records.now idle))

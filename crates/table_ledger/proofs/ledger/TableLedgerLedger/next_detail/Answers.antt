@@ -1,5 +1,4 @@
 use Rattle.table_ledger.specs.LedgerState.{ledger_state}
-use Rattle.table_ledger.proofs.FinishedLists.{own_settled}
 use Rattle.table_ledger.proofs.OneCall.{call_reopen, call_settled}
 use Rattle.table_ledger.proofs.ledger.TableLedgerLedger.next_detail.Goals as goal
 
@@ -11,11 +10,3 @@ pub returns-clause-detail : goal.returns-clause-detail
 returns-clause-detail g c =
     call_settled g.S.Store c.args.self.now.tables.store c.if-self.false g.met.S.Store.settled
     c.finish.ensures.settles (c.try_next_detail-tried.ensures.tries _)
-
--- what fails is the store's own
-pub returns-clause-own : goal.returns-clause-own
-returns-clause-own g c =
-    own_settled _ g.S.Store c.args.self.now.tables.store c.finish.ensures.settles
-    (c.try_next_detail-tried.ensures.tries _)
-    (c.try_next_detail-tried.ensures.own _ (g.met.N.Naming.wide c.args.self.now.naming))
-    c.finish.ensures.served c.finish.ensures.mended
