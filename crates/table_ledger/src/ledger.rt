@@ -57,14 +57,8 @@ fn first_records(records: &[Vec<u8>]) -> &[Vec<u8>]
 }
 
 impl<S: Store, N: Naming + Drop> Ledger for TableLedger<S, N> {
-    ghost use Rattle.std.specs.Prelude.{All, IfOk, map, option_map};
-    ghost use Rattle.book_model.specs.Words.{AreDisputes, AreLines, AreRows, IsDay};
-    ghost use Rattle.book_model.specs.Words.{adjustments_outcome, charges_outcome, dispute_shown};
-    ghost use Rattle.book_model.specs.Words.{disputes_outcome, periods_outcome, IsUsageRecord};
-    ghost use Rattle.book_model.specs.Words.{ShowsDays, ruling_outcome, ruling_shown, ShowsDetail};
-    ghost use Rattle.book_model.specs.Words.{next_detail_outcome, ShowsDispute, dispute_outcome};
-    ghost use Rattle.book_model.specs.Words.{what_if_outcome, IsTrail, trail_outcome, trail_shown};
-    ghost use Rattle.book_core.specs.Calls.{IsCall};
+    ghost use Rattle.std.specs.Prelude.{All, IfOk};
+    ghost use Rattle.book_model.specs.Words.{IsUsageRecord};
     ghost use Rattle.book_core.specs.Submissions.{Takes, records_in};
     ghost use Rattle.book_core.specs.Transition.{IsTransition};
     ghost use Rattle.table_ledger.specs.LedgerState.{seen_in};
@@ -149,11 +143,7 @@ impl<S: Store, N: Naming + Drop> Ledger for TableLedger<S, N> {
         finish(&mut self.tables, &mut self.must_reopen, tried)
     }
 
-    fn charges(&mut self, period: u16) -> Result<Vec<ChargeRow>, LedgerFault>
-        ensures rows { IsCall (λ rows. rows.items) (seen_in N.name_of self.old)
-            (seen_in N.name_of self.new) result (charges_outcome period) }
-        ensures shown { IfOk result (λ rows. AreRows rows.items) }
-    {
+    fn charges(&mut self, period: u16) -> Result<Vec<ChargeRow>, LedgerFault> {
         if self.must_reopen {
             return Err(LedgerFault::Reopen);
         }
@@ -161,11 +151,11 @@ impl<S: Store, N: Naming + Drop> Ledger for TableLedger<S, N> {
         finish(&mut self.tables, &mut self.must_reopen, tried)
     }
 
-    fn charges_under(&mut self, period: u16, tariff: &Tariff) -> Result<Vec<ChargeRow>, LedgerFault>
-        ensures rows { IsCall (λ rows. rows.items) (seen_in N.name_of self.old)
-            (seen_in N.name_of self.new) result (what_if_outcome period tariff.now) }
-        ensures shown { IfOk result (λ rows. AreRows rows.items) }
-    {
+    fn charges_under(
+        &mut self,
+        period: u16,
+        tariff: &Tariff,
+    ) -> Result<Vec<ChargeRow>, LedgerFault> {
         if self.must_reopen {
             return Err(LedgerFault::Reopen);
         }
@@ -173,12 +163,7 @@ impl<S: Store, N: Naming + Drop> Ledger for TableLedger<S, N> {
         finish(&mut self.tables, &mut self.must_reopen, tried)
     }
 
-    fn adjustments(&mut self, period: u16) -> Result<Vec<Line>, LedgerFault>
-        ensures lines { IsCall (λ lines. lines.items) (seen_in N.name_of self.old)
-            (seen_in N.name_of self.new) result
-            (adjustments_outcome (N.name_of self.old.naming) period) }
-        ensures shown { IfOk result (λ lines. AreLines lines.items) }
-    {
+    fn adjustments(&mut self, period: u16) -> Result<Vec<Line>, LedgerFault> {
         if self.must_reopen {
             return Err(LedgerFault::Reopen);
         }
@@ -191,12 +176,7 @@ impl<S: Store, N: Naming + Drop> Ledger for TableLedger<S, N> {
         period: u16,
         centre: Option<Name>,
         after: Option<Detail>,
-    ) -> Result<Option<Detail>, LedgerFault>
-        ensures detail { IsCall (λ found. found) (seen_in N.name_of self.old)
-            (seen_in N.name_of self.new) result
-            (next_detail_outcome (N.name_of self.old.naming) period centre after) }
-        ensures shown { IfOk result ShowsDetail }
-    {
+    ) -> Result<Option<Detail>, LedgerFault> {
         if self.must_reopen {
             return Err(LedgerFault::Reopen);
         }
@@ -204,12 +184,7 @@ impl<S: Store, N: Naming + Drop> Ledger for TableLedger<S, N> {
         finish(&mut self.tables, &mut self.must_reopen, tried)
     }
 
-    fn disputes(&mut self) -> Result<Vec<Dispute>, LedgerFault>
-        ensures disputes { IsCall (λ found. map dispute_shown found.items)
-            (seen_in N.name_of self.old) (seen_in N.name_of self.new) result
-            (disputes_outcome (N.name_of self.old.naming)) }
-        ensures shown { IfOk result (λ found. AreDisputes (map dispute_shown found.items)) }
-    {
+    fn disputes(&mut self) -> Result<Vec<Dispute>, LedgerFault> {
         if self.must_reopen {
             return Err(LedgerFault::Reopen);
         }
@@ -217,12 +192,7 @@ impl<S: Store, N: Naming + Drop> Ledger for TableLedger<S, N> {
         finish(&mut self.tables, &mut self.must_reopen, tried)
     }
 
-    fn dispute_from(&mut self, from: &[u8]) -> Result<Option<Dispute>, LedgerFault>
-        ensures dispute { IsCall (λ found. option_map dispute_shown found)
-            (seen_in N.name_of self.old) (seen_in N.name_of self.new) result
-            (dispute_outcome (N.name_of self.old.naming) from.now) }
-        ensures shown { IfOk result ShowsDispute }
-    {
+    fn dispute_from(&mut self, from: &[u8]) -> Result<Option<Dispute>, LedgerFault> {
         if self.must_reopen {
             return Err(LedgerFault::Reopen);
         }
@@ -230,11 +200,7 @@ impl<S: Store, N: Naming + Drop> Ledger for TableLedger<S, N> {
         finish(&mut self.tables, &mut self.must_reopen, tried)
     }
 
-    fn periods(&mut self) -> Result<Vec<i32>, LedgerFault>
-        ensures days { IsCall (λ days. days.items) (seen_in N.name_of self.old)
-            (seen_in N.name_of self.new) result periods_outcome }
-        ensures shown { IfOk result (λ days. All IsDay days.items) }
-    {
+    fn periods(&mut self) -> Result<Vec<i32>, LedgerFault> {
         if self.must_reopen {
             return Err(LedgerFault::Reopen);
         }
@@ -242,12 +208,7 @@ impl<S: Store, N: Naming + Drop> Ledger for TableLedger<S, N> {
         finish(&mut self.tables, &mut self.must_reopen, tried)
     }
 
-    fn ruling(&mut self, number: u64) -> Result<Option<ListedRuling>, LedgerFault>
-        ensures ruling { IsCall (λ found. option_map ruling_shown found)
-            (seen_in N.name_of self.old) (seen_in N.name_of self.new) result
-            (ruling_outcome (N.name_of self.old.naming) number) }
-        ensures shown { IfOk result ShowsDays }
-    {
+    fn ruling(&mut self, number: u64) -> Result<Option<ListedRuling>, LedgerFault> {
         if self.must_reopen {
             return Err(LedgerFault::Reopen);
         }
@@ -255,11 +216,7 @@ impl<S: Store, N: Naming + Drop> Ledger for TableLedger<S, N> {
         finish(&mut self.tables, &mut self.must_reopen, tried)
     }
 
-    fn trail_of(&mut self, alloc: Global, name: &[u8; 32]) -> Result<Trail, LedgerFault>
-        ensures trail { IsCall trail_shown (seen_in N.name_of self.old) (seen_in N.name_of self.new)
-            result (trail_outcome (N.name_of self.old.naming) name.now) }
-        ensures shown { IfOk result (λ trail. IsTrail (trail_shown trail)) }
-    {
+    fn trail_of(&mut self, alloc: Global, name: &[u8; 32]) -> Result<Trail, LedgerFault> {
         if self.must_reopen {
             return Err(LedgerFault::Reopen);
         }
