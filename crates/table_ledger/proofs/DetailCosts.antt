@@ -3,7 +3,7 @@
 -- those that a period counts.
 use Rattle.std.proofs.Common.{◌≡◌, ◌∙◌, inl, inr, ◌+◌, ◌-◌, ◌≤◌, ◌&&◌, ℕ, zero, suc, ℤ, List, []}
 use Rattle.std.proofs.Common.{◌∷◌, ◌++◌, Bool, true, false, true≢false, not, cond, Option, Some}
-use Rattle.std.proofs.Common.{None, Ok, Err, Vec, length, refl, sym, ap, subst, arith, filter}
+use Rattle.std.proofs.Common.{None, Ok, Err, Vec, length, refl, sym, ap, arith, filter}
 use Rattle.std.proofs.Common.{if◌then◌else◌, nat_le, sum_by, ◌==◌, Global, is_lt, lt-ltb}
 use Rattle.std.proofs.Math.Bool.{and-true}
 use Rattle.std.proofs.lemmas.Bool.{and_from, and_right}
@@ -12,10 +12,10 @@ use Rattle.book_model.proofs.Std.{and_parts, false_from_ne_true, nat_tests, nat_
 use Rattle.book_model.proofs.Std.{filter_agree, fold-map, sum_by_push}
 use Rattle.book_model.specs.Words.{Priced, through_of, Book, Naming, Records, Rulings, Terms}
 use Rattle.book_model.specs.Words.{by_detail, charged_of, comes_after, counted_of, has, is_between}
-use Rattle.book_model.specs.Words.{is_dated_in, is_day_of, most_cost, most_held, name_of, open_by}
-use Rattle.book_model.specs.Words.{price_by, rows_of, same_bytes}
+use Rattle.book_model.specs.Words.{is_dated_in, is_day_of, most_cost, name_of, open_by, price_by}
+use Rattle.book_model.specs.Words.{rows_of, same_bytes}
 use Rattle.book_model.proofs.Lemmas.{counted_at, by_detail_total, has_those, is_itself}
-use Rattle.book_model.proofs.Lemmas.{same_bytes-by_cmp, SumsAlike, length-alike}
+use Rattle.book_model.proofs.Lemmas.{same_bytes-by_cmp, SumsAlike}
 use Rattle.book_model.proofs.RecordSets.{tests_swap}
 use Rattle.book_model.proofs.RowLemmas.{rows_if_room-alike}
 use Rattle.table_model.specs.Words.{row_record, charged_before_lines, counted_rows, first_line}
@@ -47,10 +47,7 @@ use Rattle.table_ledger.proofs.LateCosts.{none_summed}
 rows_alike : (xs ys : List Priced) (found : Option (Vec ChargeRow Global)) → SumsAlike xs ys
     → AreRowsOf xs found → AreRowsOf ys found
 rows_alike xs ys None alike full = sym (rows_if_room-alike alike) ∙ full
-rows_alike xs ys (Some rows) alike are = (
-  sym (rows_if_room-alike alike) ∙ are.0,
-  λ few. are.1 (subst (λ n. n ≤ most_held) (sym (length-alike alike)) few),
-)
+rows_alike xs ys (Some rows) alike are = sym (rows_if_room-alike alike) ∙ are
 
 -- tests that agree on the elements of a list pick the same ones
 filter_where : {E : Type 0} (p q : E → Bool) (es : List E) → AllByRecursion (λ e. p e ≡ q e) es

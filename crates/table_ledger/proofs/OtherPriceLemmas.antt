@@ -10,10 +10,9 @@ use Rattle.std.proofs.lemmas.Map.{lookup-none}
 use Rattle.std.proofs.lemmas.Map.Entries.{none_below_head}
 use Rattle.book_model.proofs.Std.{entries, IsStrictlySortedBy, match_ordering, map-append}
 use Rattle.book_model.proofs.Std.{filter-append, sum_by-append, sorted_tail}
-use Rattle.book_model.specs.Words.{Priced, AreRows, Terms, by_key, most_cost, price_by, rows_of}
+use Rattle.book_model.specs.Words.{Priced, Terms, by_key, most_cost, price_by, rows_of}
 use Rattle.book_model.proofs.Lemmas.{by_key_total}
 use Rattle.book_core.proofs.KeyedRowLemmas.{rows_under_keys}
-use Rattle.book_core.proofs.ListLimits.{priced_shown}
 use Rattle.table_model.specs.Words.{Tables, row_record, row_costs, NamedRow}
 use Rattle.tree_tables.specs.Passes.{HasRecordsLeft, TakesFirst, TakesNext}
 use Rattle.table_ledger.proofs.Words.{lookup, View, Row, Full, ChargeRow, RowKey, record_columns}
@@ -48,7 +47,7 @@ row_at_found key row (first ∷ rows) sorted found =
     by Equal is found later = refl
     by Greater is found later = ap (λ rows. first ∷ rows) (later found)
 
--- the rows of costs that the books hold are answered, and can be shown
+-- the rows of costs that the books hold are answered
 pub rows_summed : {sums : RowSums} (costs : List Priced) (rows : Vec ChargeRow Global)
     → AreSumsOf sums costs
     → rows.items ≡ map (λ (entry : RowKey × ChargeRow). entry.1) sums.rows.entries
@@ -58,11 +57,8 @@ rows_summed {sums} costs rows are is =
     let cost = are.cost in
     let room = le-ltb most_cost (sum_by (λ one. one.amount) costs) (omega arith) in
     let own : rows.items ≡ rows_of costs =
-    is ∙ ap (map (λ (entry : RowKey × ChargeRow). entry.1)) are.rows ∙ rows_under_keys costs in (
-      ap (λ dear. if dear then Err Full else Ok (rows_of costs)) room ∙ ap Ok (sym own),
-      λ few. subst AreRows (sym own)
-          (priced_shown costs are.priced few (omega (arith, small, cost))),
-    )
+    is ∙ ap (map (λ (entry : RowKey × ChargeRow). entry.1)) are.rows ∙ rows_under_keys costs in
+    ap (λ dear. if dear then Err Full else Ok (rows_of costs)) room ∙ ap Ok (sym own)
 
 module _ (terms : Terms) (test : CountTest) where
   -- a row that is passed, and is not counted, adds nothing

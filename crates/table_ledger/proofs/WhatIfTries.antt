@@ -77,4 +77,4 @@ module _ (naming : Naming) (summary : Summary) (number : ℕ) (terms : Terms) wh
     what_if_found rows saw =
         try_answered (what_if_outcome number terms) saw (record { stored = refl; served = refl })
         (λ book at finds. makes_answer items_of (what_if_outcome number terms book) rows
-        (answered book at ∙ (finds (keeps book at.kept.readable at.remembers)).0) refl)
+        (answered book at ∙ finds (keeps book at.kept.readable at.remembers)) refl)

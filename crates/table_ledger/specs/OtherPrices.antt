@@ -1,15 +1,15 @@
 -- What is found out about a period, and about its records by another tariff, in a walk over all
 -- records.
-use Rattle.std.specs.Prelude.{◌≡◌, ◌≤◌, ◌<◌, ◌++◌, ◌∷◌, [], ℕ, Bool, true, false, ◌&&◌, List, All}
-use Rattle.std.specs.Prelude.{filter, length, MatchOption, Ok, Err, Option, Vec, sum_by}
+use Rattle.std.specs.Prelude.{◌≡◌, ◌≤◌, ◌<◌, ◌++◌, ◌∷◌, [], ℕ, Bool, true, false, ◌&&◌, List}
+use Rattle.std.specs.Prelude.{filter, MatchOption, Ok, Err, Option, Vec, sum_by}
 use Rattle.std.specs.BTreeMap.{get}
 use Rattle.std.specs.Global.{Global}
 use Rattle.sqlite_value.specs.Order.{Row}
 use Rattle.book_model.specs.Std.{entries}
 use Rattle.book_model.specs.declared.fault.LedgerFault.TheVariants.{Full}
 use Rattle.book_model.specs.declared.row.ChargeRow.{ChargeRow}
-use Rattle.book_model.specs.Words.{Priced, AreRows, IsPriced, Rulings, Terms, by_bytes, is_between}
-use Rattle.book_model.specs.Words.{most_cost, most_held, rows_if_room}
+use Rattle.book_model.specs.Words.{Priced, Rulings, Terms, by_bytes, is_between, most_cost}
+use Rattle.book_model.specs.Words.{rows_if_room}
 use Rattle.book_core.specs.Words.{keyed_rows}
 use Rattle.table_model.specs.Words.{Tables, charged_before_lines, is_row_counted, row_costs}
 use Rattle.table_model.specs.Words.{NamedRow}
@@ -38,12 +38,11 @@ IsTestOf number rulings tables test =
 abbrev pub Costs : Type 0
 Costs = List Priced
 
--- the sums are those of what some records cost, each of them what a record may
+-- the sums are those of what some records cost
 pub record AreSumsOf (sums : RowSums) (costs : List Priced) : Type 0 where
   pub rows : sums.rows.entries ≡ keyed_rows costs
   pub cost : sums.cost ≡ sum_by (λ one. one.amount) costs
   pub small : sums.cost ≤ most_cost
-  pub priced : All IsPriced costs
 
 -- they are, where there is room; else the costs are too dear
 abbrev pub SumsUp : RowSums → List Priced → Bool → Type 0
@@ -62,12 +61,10 @@ JoinsSums terms test row old new room =
     → SumsUp old (costs_of terms test passed) true
     → SumsUp new (costs_of terms test (passed ++ entry ∷ [])) room
 
--- The charge rows of costs, which can be shown where there are no more costs than records may be
--- held; or none where they are too dear.
+-- the charge rows of costs, or none where they are too dear
 abbrev pub AreRowsOf : List Priced → Option (Vec ChargeRow Global) → Type 0
 AreRowsOf costs found =
-    MatchOption found (rows_if_room costs ≡ Err Full)
-    (λ rows. (rows_if_room costs ≡ Ok rows.items) × (length costs ≤ most_held → AreRows rows.items))
+    MatchOption found (rows_if_room costs ≡ Err Full) (λ rows. rows_if_room costs ≡ Ok rows.items)
 
 -- of the records that pass a test, by a tariff
 abbrev pub FindsRowsUnder : Terms → CountTest → Tables → Option (Vec ChargeRow Global) → Type 0

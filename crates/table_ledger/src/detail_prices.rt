@@ -1,8 +1,6 @@
 //! What records cost by another tariff, where the details of some days lead to them. No other
 //! record is read.
 
-ghost use Rattle.std.specs.Prelude.{IfOk, IfSome};
-ghost use Rattle.book_model.specs.Words.{IsPriced};
 ghost use Rattle.tree_tables.specs.States.{state_of};
 ghost use Rattle.tree_tables.specs.Steps.{Looks};
 ghost use Rattle.table_ledger.specs.DetailPrices.{CostsNamed, FindsPriced, FindsRowsOfDays};
@@ -34,7 +32,6 @@ fn price_named<S: Store>(
 ) -> Result<Priced, StoreError>
     ensures looks { Looks result (state_of tables.old) (state_of tables.new)
         (CostsNamed tariff.now name.now) }
-    ensures priced { IfOk result IsPriced }
 {
     let Some(stored) = tables.find_record(alloc, name)? else {
         return Err(StoreError::Corrupt);
@@ -52,7 +49,6 @@ fn next_priced<S: Store>(
 ) -> Result<Option<DetailPrice>, StoreError>
     ensures looks { Looks result (state_of tables.old) (state_of tables.new)
         (FindsPriced tariff.now sought.now) }
-    ensures priced { IfOk result (λ found. IfSome found (λ next. IsPriced next.priced)) }
 {
     let Some(detail) = next_sought(tables, sought)? else {
         return Ok(None);

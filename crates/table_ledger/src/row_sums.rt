@@ -37,7 +37,6 @@ fn add_price(rows: &mut BTreeMap<RowKey, ChargeRow>, priced: &Priced) -> Result<
 
 impl RowSums {
     ghost use Rattle.std.specs.Prelude.{◌++◌, ◌∷◌, [], IfOk};
-    ghost use Rattle.book_model.specs.Words.{IsPriced};
     ghost use Rattle.table_ledger.specs.OtherPrices.{AreRowsOf, AreSumsOf, Costs, SumsUp};
 
     /// No price yet.
@@ -52,7 +51,6 @@ impl RowSums {
 
     /// One more price, or the answer that with it they are more than the books hold.
     pub(crate) fn add(&mut self, priced: &Priced) -> Result<bool, StoreError>
-        requires priced { IsPriced priced.now }
         ensures sums { IfOk result (λ room. (costs : Costs) → AreSumsOf self.old costs
             → SumsUp self.new (costs ++ priced.now ∷ []) room) }
     {

@@ -1,7 +1,5 @@
 use Rattle.std.proofs.Common.{◌∙◌, sym, refl, arith}
-use Rattle.std.proofs.lemmas.List.Elements.{All-nil}
 use Rattle.book_core.proofs.KeyedRowLemmas.{keyed_rows-none}
-use Rattle.book_model.specs.Words.{IsPriced}
 use Rattle.table_ledger.proofs.row_sums.RowSums.new.Goals as goal
 
 pub returns : goal.returns
@@ -9,5 +7,4 @@ returns c = record {
   rows = c.new.ensures.empty ∙ sym keyed_rows-none;
   cost = refl;
   small = omega arith;
-  priced = All-nil IsPriced;
 }
