@@ -1,15 +1,15 @@
 -- The lines that tell which records a period counts.
 use Rattle.std.proofs.Common.{◌≡◌, ◌∙◌, ℕ, zero, suc, ◌+◌, ◌-◌, ◌≤◌, ◌<◌, List, [], ◌∷◌, map, refl}
 use Rattle.std.proofs.Common.{sym, ap, true, false, Bool, cond, Option, Some, None, arith, length}
-use Rattle.std.proofs.Common.{slice_index_or, take, unwrap_or, ◌++◌, filter, nat_le, not, ◌==◌}
-use Rattle.std.proofs.Common.{◌&&◌, is_eq, nat_cmp, Ordering, Less, Equal, Greater}
+use Rattle.std.proofs.Common.{slice_index_or, take, unwrap_or, ◌++◌, filter, ◌==◌, is_eq, nat_cmp}
+use Rattle.std.proofs.Common.{Ordering, Less, Equal, Greater}
 use Rattle.book_model.proofs.LatestLemmas.{or-none}
 use Rattle.book_model.proofs.Lemmas.{else_find, find-both}
 use Rattle.book_model.proofs.Std.{eq_by_cmp_equiv, nat_list_cmp_total, map-append, take_more}
 use Rattle.book_model.proofs.Std.{exact_bytes, tells_apart, entries, get, get-entries, option_or}
 use Rattle.book_model.proofs.Std.{eq_by_cmp, ordering_then, nat_tests}
-use Rattle.book_model.specs.Words.{Rulings, by_bytes, open_by}
-use Rattle.table_model.specs.Words.{by_period, LineTable, Tables, first_line, is_period}
+use Rattle.book_model.specs.Words.{by_bytes}
+use Rattle.table_model.specs.Words.{by_period, LineTable, Tables, first_line}
 use Rattle.table_ledger.proofs.Words.{find, ListsLines, signed_name, StoredLine}
 
 -- the first of three
@@ -128,11 +128,3 @@ line_joins found i any one name start now next its kept within is so_far joins i
         ∙ find-both by_bytes name (map signed_name (take i found)) (signed_name one ∷ [])
         ∙ or_else (find by_bytes name (map signed_name (take i found)))
         (cond (eq_by_cmp by_bytes name one.name) (Some one.plus) None)
-
--- and each number after it, up to that of the open one, is that of a period
-pub is_later : (number later : ℕ) (rulings : Rulings) (other : ℕ) → number < other → other ≤ later
-    → later ≡ open_by rulings → is_period other rulings ≡ true
-is_later number later rulings other behind within is =
-    let some : (other == 0) ≡ false = grind (arith, nat_tests, behind) in
-    let early : nat_le other (open_by rulings) ≡ true = grind (arith, nat_tests, within, is) in
-    λ i. not (some i) && early i

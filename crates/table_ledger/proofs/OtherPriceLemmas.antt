@@ -1,7 +1,7 @@
 -- What records cost by another tariff, one record at a time.
-use Rattle.std.proofs.Common.{◌≡◌, ◌∙◌, ℕ, ◌+◌, ◌<◌, ◌≤◌, List, [], ◌∷◌, ◌++◌, map, refl, sym, ap}
-use Rattle.std.proofs.Common.{subst, true, false, cond, Some, None, arith, length, true≢false}
-use Rattle.std.proofs.Common.{append-nil, append_assoc, length-append, filter, sum_by, Vec, Ok, Err}
+use Rattle.std.proofs.Common.{◌≡◌, ◌∙◌, ℕ, ◌+◌, ◌≤◌, List, [], ◌∷◌, ◌++◌, map, refl, sym, ap, subst}
+use Rattle.std.proofs.Common.{true, false, cond, Some, None, arith, length, true≢false, append-nil}
+use Rattle.std.proofs.Common.{append_assoc, length-append, filter, sum_by, Vec, Ok, Err}
 use Rattle.std.proofs.Common.{if◌then◌else◌, IsSome, is_some, Ordering, Less, Equal, Greater}
 use Rattle.std.proofs.Common.{Global, is_eq, le-ltb, lt-ltb}
 use Rattle.std.specs.BTreeMap.{insert_entry, is_at}
@@ -117,13 +117,6 @@ module _ (terms : Terms) (test : CountTest) where
     -- those that are passed, it and the others are all
     whole : so_far.passed ++ (entry ∷ others) ≡ entries tables.records
     whole = ap (λ left. so_far.passed ++ left) (sym it.2) ∙ so_far.whole
-
-    -- and fewer are passed than there are
-    pub passed_with : length so_far.passed < length (entries tables.records)
-    passed_with =
-        let both = length-append so_far.passed (entry ∷ others) in
-        let all = ap length whole in
-        omega (arith, both, all)
 
     -- those that are passed with it, and the others, are all
     with_it : (so_far.passed ++ entry ∷ []) ++ others ≡ entries tables.records
