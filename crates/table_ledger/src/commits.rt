@@ -1,6 +1,5 @@
 //! What effects write, the sums, and the commit.
 
-ghost use Rattle.std.specs.Prelude.{◌≡◌, IsTrue, false};
 ghost use Rattle.table_model.specs.RowChanges.{change_line, change_mark, uncounted_by};
 ghost use Rattle.table_model.specs.Steps.{count_where_row, set_sums};
 ghost use Rattle.table_model.specs.TableChanges.{apply};
@@ -81,14 +80,6 @@ pub(crate) fn write_counted<S: Store>(
     }
 }
 
-/// The sums that are remembered are these.
-fn has_sums(summary: &Summary, held: usize, total: u64) -> bool
-    ensures same { IsTrue result → (summary.now.held ≡ held) × (summary.now.total ≡ total) }
-    ensures other { result ≡ false → summary.now.held ≡ held → summary.now.total ≡ total → ⊥ }
-{
-    summary.held == held && summary.total == total
-}
-
 /// Writes the sums that are remembered into the row of the book, unless they were these before.
 pub(crate) fn write_sums<S: Store>(
     tables: &mut TreeTables<S>,
@@ -99,7 +90,7 @@ pub(crate) fn write_sums<S: Store>(
     ensures does { Does result (state_of tables.old) (state_of tables.new) (HaveSums held total)
         (set_sums summary.now.held summary.now.total) }
 {
-    if has_sums(summary, held, total) {
+    if summary.held == held && summary.total == total {
         return Ok(());
     }
     tables.set_sums(&Sums {
