@@ -11,9 +11,8 @@ ghost use Rattle.table_model.specs.Steps.{count_where_row, set_sums};
 ghost use Rattle.tree_tables.specs.Steps.{Does};
 ghost use Rattle.tree_tables.specs.Stored.{IsFree, IsUncounted, new_entry};
 ghost use Rattle.table_ledger.specs.Premises.{AreRemembered};
-ghost use Rattle.table_ledger.specs.Stages.{AttemptsMany, AttemptsOne, KeepsRulings};
-ghost use Rattle.table_ledger.specs.Stages.{Stages, StagesFirst};
-ghost use Rattle.table_ledger.specs.Stages.{StagesMany, StagesRecord, staged_at};
+ghost use Rattle.table_ledger.specs.Stages.{AttemptsMany, AttemptsOne, KeepsRulings, Stages};
+ghost use Rattle.table_ledger.specs.Stages.{StagesFirst, StagesMany, StagesRecord, staged_at};
 
 use crate::commits::{commit_written, write_effects, write_sums};
 use crate::disputes::IDENTITY_LENGTH;

@@ -7,8 +7,7 @@ use Rattle.table_ledger.proofs.ChoiceTries.{choice_plain, choose_none, choose_st
 use Rattle.table_ledger.proofs.ChoiceTries.{saw_shared}
 use Rattle.table_ledger.proofs.Words.{opens}
 use Rattle.table_ledger.proofs.CommitLemmas.{committed, uncommitted}
-use Rattle.table_ledger.proofs.TryLemmas.{saw_found, saw_none}
-use Rattle.table_ledger.proofs.TryLemmas.{saw_then, try_refused}
+use Rattle.table_ledger.proofs.TryLemmas.{saw_found, saw_none, saw_then, try_refused}
 use Rattle.table_ledger.proofs.choices.try_choose.Goals as goal
 
 -- there is none

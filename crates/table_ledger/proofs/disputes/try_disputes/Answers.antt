@@ -1,12 +1,10 @@
-use Rattle.std.proofs.Common.{◌∙◌, sym, ap, List, map, filter}
+use Rattle.std.proofs.Common.{◌∙◌, sym, ap, List, map, filter, refl}
 use Rattle.table_model.specs.Words.{disputes_read, grouped, has_none_charged, tables_of}
 use Rattle.table_model.proofs.DisputeLemmas.{disputes_follow}
 use Rattle.table_ledger.proofs.Words.{stored_entry, StoredRecord}
 use Rattle.table_ledger.proofs.ListReadings.{list_read}
-use Rattle.table_ledger.proofs.TryLemmas.{saw_found, saw_none, saw_then}
-use Rattle.std.proofs.Common.{refl}
+use Rattle.table_ledger.proofs.TryLemmas.{saw_found, saw_none, saw_then, try_refused}
 use Rattle.table_ledger.proofs.GivenUp.{given_up}
-use Rattle.table_ledger.proofs.TryLemmas.{try_refused}
 use Rattle.table_ledger.proofs.disputes.try_disputes.Goals as goal
 
 pub returns-clause-tries : goal.returns-clause-tries

@@ -1,9 +1,8 @@
 use Rattle.std.proofs.Common.{Ok, ap, refl}
 use Rattle.book_model.specs.Words.{ruling_outcome}
 use Rattle.table_ledger.proofs.RulingReads.{choice_read}
-use Rattle.table_ledger.proofs.TryLemmas.{saw_found, saw_none, try_answered}
+use Rattle.table_ledger.proofs.TryLemmas.{saw_found, saw_none, try_answered, try_refused}
 use Rattle.table_ledger.proofs.GivenUp.{given_up}
-use Rattle.table_ledger.proofs.TryLemmas.{try_refused}
 use Rattle.table_ledger.proofs.listed_rulings.try_ruling.Goals as goal
 
 -- it is read

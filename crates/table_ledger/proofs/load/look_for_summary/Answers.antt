@@ -2,9 +2,8 @@ use Rattle.std.proofs.Common.{◌≡◌, ◌∙◌, ap, map, sym, option_map}
 use Rattle.table_model.specs.Words.{Tables}
 use Rattle.tree_tables.specs.Stored.{book_entry, close_entry, tariff_of}
 use Rattle.table_ledger.proofs.LoadLemmas.{recalled_by}
-use Rattle.table_ledger.proofs.TryLemmas.{looks_known, saw_found, saw_then}
+use Rattle.table_ledger.proofs.TryLemmas.{looks_known, saw_found, saw_then, saw_none}
 use Rattle.table_ledger.proofs.LooksRefused.{look_refused}
-use Rattle.table_ledger.proofs.TryLemmas.{saw_none}
 use Rattle.table_ledger.proofs.load.look_for_summary.Goals as goal
 
 pub returns-clause-looks : goal.returns-clause-looks

@@ -1,9 +1,7 @@
-use Rattle.std.proofs.Common.{◌∙◌, sym}
-use Rattle.table_ledger.proofs.TryLemmas.{saw_found, saw_none}
+use Rattle.std.proofs.Common.{◌∙◌, sym, refl}
+use Rattle.table_ledger.proofs.TryLemmas.{saw_found, saw_none, try_refused}
 use Rattle.table_ledger.proofs.WhatIfTries.{what_if_found, what_if_full}
-use Rattle.std.proofs.Common.{refl}
 use Rattle.table_ledger.proofs.GivenUp.{given_up}
-use Rattle.table_ledger.proofs.TryLemmas.{try_refused}
 use Rattle.table_ledger.proofs.other_prices.try_charges_under.Goals as goal
 
 pub returns-in_default-clause-tries : goal.returns-in_default-clause-tries

@@ -1,11 +1,9 @@
-use Rattle.std.proofs.Common.{◌∙◌, ap, map, sym}
+use Rattle.std.proofs.Common.{◌∙◌, ap, map, sym, refl}
 use Rattle.table_model.specs.Words.{variant_read}
 use Rattle.table_ledger.proofs.Words.{stored_entry}
 use Rattle.table_ledger.proofs.TrailTries.{members_dated}
-use Rattle.table_ledger.proofs.TryLemmas.{saw_found}
-use Rattle.std.proofs.Common.{refl}
+use Rattle.table_ledger.proofs.TryLemmas.{saw_found, saw_none}
 use Rattle.table_ledger.proofs.LooksRefused.{look_given_up, look_refused}
-use Rattle.table_ledger.proofs.TryLemmas.{saw_none}
 use Rattle.table_ledger.proofs.trails.look_for_kin.Goals as goal
 
 pub returns-clause-shown : goal.returns-clause-shown
